@@ -1,10 +1,11 @@
 -- What an explanation promises of the outside before it and after it, by how it ended. Of a world's `taken` it tells what the sink's
 -- octets tell of a transcript. The program is this project's own.
-use Rattle.std.specs.Prelude.{ℕ, ◌≡◌, ◌⊎◌, List, Option}
+use Rattle.std.specs.Prelude.{ℕ, ◌≡◌, ◌⊎◌, List, Option, None}
 use Rattle.std.specs.Io.KnownBytes.{Keeps}
 use Rattle.bcast_base.specs.Counts.{Rose}
-use Rattle.explain_command.specs.Rows.{Rows, told_at}
+use Rattle.explain_command.specs.Rows.{Rows, line_row, told_at}
 use Rattle.replay_lines.specs.Heard.{Heard}
+use Rattle.replay_lines.specs.Listening.{Told as LinesTold}
 use Rattle.replay_lines.specs.World.{World}
 use Rattle.unit_outlets.specs.Account.{Account}
 use Rattle.replay_lines.specs.declared.ending.Ending.{Ending}
@@ -26,7 +27,8 @@ abbrev pub EndsSo : Ending → Ending → ℕ → ℕ → Type 0
 EndsSo ran ending writes writes' =
     ((ending ≡ ran) × (writes' ≡ writes)) ⊎ ((ending ≡ WriteFault) × Rose writes writes') ⊎ ((ending ≡ Memory) × (writes' ≡ writes))
 
-pub record Told (old new : World) (ending : Ending) : Type 0 where
+-- `before` and `after` are the rows among the sink's octets that tell lines of the scenario.
+pub record Told (old new : World) (before after : Option (List ℕ)) (ending : Ending) : Type 0 where
   -- how the run of the lines ended
   pub ran : Ending
   -- what the sink was seen to have taken of the transcript then, and its count of faults
@@ -35,6 +37,11 @@ pub record Told (old new : World) (ending : Ending) : Type 0 where
   -- The run did what is promised of a run with a listener: the sink took the transcript of the text, or the part of it that this ending
   -- tells.
   pub run : Heard old (record { left = new.left; reads = new.reads; taken = taken; writes = writes; boxes = new.boxes }) ran
+  -- The rows that tell lines were put for the lines of the text in order, each with its number from 1, up to the line at which the run
+  -- ended; of the line before which it failed a front.
+  pub lines : Option (List ℕ)
+  pub told : LinesTold line_row old.left new.left (record { told = None; rows = before }) (record { told = None; rows = lines }) ran
+  pub lines_kept : Keeps lines after
   -- the notes behind the last line leave that
   pub kept : Keeps taken new.taken
   pub ends : EndsSo ran ending writes new.writes

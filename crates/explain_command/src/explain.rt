@@ -5,6 +5,7 @@ ghost use Rattle.unit_outlets.specs.Account.{Account};
 ghost use Rattle.scenario_history.specs.Airs.{MeetAirs};
 ghost use Rattle.source_machine.specs.Airs.{Airs};
 ghost use Rattle.replay_steps.specs.Untaken.{UntakenBy};
+ghost use Rattle.explain_command.specs.Rows.{lines_at};
 ghost use Rattle.explain_command.specs.Told.{Told, told_world};
 
 use crate::explainer::Explainer;
@@ -23,7 +24,8 @@ const BOXES: usize = 8;
 /// next box of the list. Lines that are too long are not written. What a line brings is written before the next line is read, and its
 /// notes with the next line or at the end.
 ///
-/// The rows of the transcript are those of `replay`, whatever the notes say: where the sink tells its octets, and those that it has are
+/// The rows with a number are the lines of the text that were read, in order and from 1, up to the one at which the run ended. The rows
+/// of the transcript are those of `replay`, whatever the notes say: where the sink tells its octets, and those that it has are
 /// whole rows, they are what `run_text` writes. `Done` and `Refused` come where they come of `run_text`. `ReadFault`, `WriteFault` and
 /// `OutletFault` come only where the count of the source, of the sink or of a box rose. After `WriteFault` and `Memory` a front of
 /// the transcript was written, or all of it.
@@ -34,7 +36,8 @@ pub fn explain<S: ByteSource, W: ByteSink + Drop>(
     outlets: &mut Vec<Box<dyn Outlet>>,
 ) -> Ending
     ensures told { Told (told_world (S.left source.old) (S.faults source.old) W.contents W.faults sink.old (map account outlets.old.items))
-        (told_world (S.left source.new) (S.faults source.new) W.contents W.faults sink.new (map account outlets.new.items)) result }
+        (told_world (S.left source.new) (S.faults source.new) W.contents W.faults sink.new (map account outlets.new.items))
+        (lines_at sink.old.place (W.contents sink.old.inner)) (lines_at sink.new.place (W.contents sink.new.inner)) result }
     // A box that no accepted `sink` line takes stays the same.
     ensures untaken { (text : List ℕ) (airs : Airs) → S.left source.old ≡ Some text → MeetAirs airs
         → UntakenBy airs (map account outlets.old.items) (lines_of true text) outlets.old.items outlets.new.items }
@@ -52,7 +55,8 @@ pub(crate) fn explain_with_tallies<S: ByteSource, W: ByteSink + Drop>(
 ) -> Result<Ending, Memory>
     ensures { IfOk result (λ ending. (starts : List Account) × (ends : List Account) × (length starts ≡ 8)
         × Told (told_world (S.left source.old) (S.faults source.old) W.contents W.faults sink.old starts)
-        (told_world (S.left source.new) (S.faults source.new) W.contents W.faults sink.new ends) ending) }
+        (told_world (S.left source.new) (S.faults source.new) W.contents W.faults sink.new ends)
+        (lines_at sink.old.place (W.contents sink.old.inner)) (lines_at sink.new.place (W.contents sink.new.inner)) ending) }
 {
     let mut outlets: Vec<Box<dyn Outlet>> = Vec::new(alloc);
     'boxes: for _ in 0..BOXES {

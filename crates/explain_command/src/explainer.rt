@@ -1,7 +1,7 @@
 //! What goes along with a run and explains it.
-ghost use Rattle.std.specs.Prelude.{◌≡◌};
+ghost use Rattle.std.specs.Prelude.{◌≡◌, ◌++◌, OnOk};
 ghost use Rattle.std.specs.Io.KnownBytes.{Keeps};
-ghost use Rattle.explain_command.specs.Rows.{told_at};
+ghost use Rattle.explain_command.specs.Rows.{line_row, lines_at, told_at};
 ghost use Rattle.explain_command.specs.Told.{EndsSo};
 
 use crate::rows::ExplainedRows;
@@ -35,8 +35,10 @@ impl Explainer {
         }
     }
 
-    /// Puts a line as it is told: its number and, behind a space, its octets.
-    fn put_line(&mut self, number: u64, line: &[u8]) -> Result<(), Memory> {
+    /// Puts the row that tells a line: its number and, behind a blank, its octets.
+    fn put_line(&mut self, number: u64, line: &[u8]) -> Result<(), Memory>
+        ensures { OnOk result (self.new.rows ≡ self.old.rows ++ line_row number line.now) }
+    {
         if self.lacks_memory {
             return Err(Memory);
         }
@@ -53,6 +55,7 @@ impl Explainer {
         sink: &mut ExplainedRows<W>,
     ) -> Ending
         ensures kept { Keeps (told_at sink.old.place (W.contents sink.old.inner)) (told_at sink.new.place (W.contents sink.new.inner)) }
+        ensures lines { Keeps (lines_at sink.old.place (W.contents sink.old.inner)) (lines_at sink.new.place (W.contents sink.new.inner)) }
         ensures ends { EndsSo ran result (W.faults sink.old.inner) (W.faults sink.new.inner) }
     {
         if self.lacks_memory {
@@ -67,9 +70,16 @@ impl Explainer {
 }
 
 impl<W: ByteSink + Drop> Listener<ExplainedRows<W>> for Explainer {
-    ghost use Rattle.std.specs.Prelude.{true};
+    ghost use Rattle.std.specs.Prelude.{true, None};
+    ghost use Rattle.explain_command.specs.Rows.{line_row, lines_at};
 
     ghost may_fail = { true };
+
+    ghost told = { λ _. None };
+
+    ghost row_of = { line_row };
+
+    ghost rows = { λ rows. lines_at rows.place (W.contents rows.inner) };
 
     fn begin_line(
         &mut self,
@@ -78,12 +88,18 @@ impl<W: ByteSink + Drop> Listener<ExplainedRows<W>> for Explainer {
         machine: &Machine,
         sink: &mut ExplainedRows<W>,
     ) -> Result<(), SinkFault> {
-        if self.put_line(number, line).is_err() || self.notes.begin(line, machine).is_err() {
+        let notes = self.rows.as_slice().len();
+        if self.notes.begin(line, machine).is_err() || self.put_line(number, line).is_err() {
+            self.rows.truncate(notes);
             return Err(SinkFault::Memory);
         }
-        let told = sink.tell(self.rows.as_slice());
+        let told = sink.tell_line(self.rows.as_slice(), notes);
         self.rows.clear();
         told
+    }
+
+    fn write(&self, octets: &[u8], sink: &mut ExplainedRows<W>) -> Result<(), SinkFault> {
+        sink.write_all(octets)
     }
 
     fn end_line(&mut self, line: &[u8], machine: &Machine, text: &Octets, ended: Option<Ending>) {

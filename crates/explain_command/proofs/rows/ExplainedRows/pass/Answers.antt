@@ -1,8 +1,10 @@
-use Rattle.std.proofs.Common.{◌≡◌, ◌∙◌, ◌-◌, refl, sym, subst, drop, length, take, arith}
-use Rattle.std.proofs.lemmas.List.{length-drop, take_rest}
-use Rattle.std.specs.Io.KnownBytes.{Keeps}
-use Rattle.explain_command.specs.Rows.{told_at}
-use Rattle.explain_command.proofs.Telling.{keeps_then, passed_on, silent}
+use Rattle.std.proofs.Common.{◌≡◌, ◌≤◌, ◌∙◌, ◌-◌, List, ℕ, ap, refl, sym, subst, drop, length, take, arith}
+use Rattle.std.proofs.lemmas.Result.{err_from_is_err_and}
+use Rattle.std.proofs.lemmas.List.{length-drop, take_all, take_rest}
+use Rattle.std.specs.Io.KnownBytes.{Appends, Keeps}
+use Rattle.bcast_io.proofs.Citable.{Appends-nothing}
+use Rattle.explain_command.specs.Rows.{lines_at, lines_told, told_at}
+use Rattle.explain_command.proofs.Telling.{keeps_then, lines_cut, lines_on, passed_on, silent}
 use Rattle.explain_command.proofs.rows.ExplainedRows.pass.Goals as goal
 
 pub loop-done-preserved : goal.loop-done-preserved
@@ -26,5 +28,25 @@ loop-done-preserved g c =
       kept = keeps_then (told_at initial first) (told_at place kept) (told_at now kept') c.loop-done.invariant.kept
           (subst (λ p. Keeps (told_at place kept) (told_at p kept')) (sym c.after-self-inside.ensures)
           (silent place kept kept' (take count rest) on.front c.in_ok-count.ensures.bytes));
+      lines = lines_on initial place octets done c.loop-done.invariant.place first kept c.loop-done.invariant.lines now kept' rest count is
+          c.after-self-inside.ensures c.in_ok-count.ensures.bytes;
       none_failed = c.in_ok-count.ensures.ok ∙ c.loop-done.invariant.none_failed;
     }
+
+pub returns-in_err-count-clause-lines : goal.returns-in_err-count-clause-lines
+returns-in_err-count-clause-lines g c =
+    let p = err_from_is_err_and c.from_residual.result c.from_residual.ensures.1 in
+    rw p.1
+    (rw (← c.self.view_is)
+    (lines_cut c.self.inside.place c.loop-done.self-inside.place c.args.octets.now c.loop-done.done c.loop-done.invariant.place
+    (g.W.ByteSink.contents c.self.inside.inner) (g.W.ByteSink.contents c.loop-done.self-inside.inner) c.loop-done.invariant.lines
+    (g.W.ByteSink.contents c.write.new.self) c.in_err-count.ensures.bytes))
+
+pub returns-clause-lines : goal.returns-clause-lines
+returns-clause-lines g c =
+    let whole : take c.loop-done.done c.args.octets.now ≡ c.args.octets.now = take_all c.loop-done.done c.args.octets.now (omega (arith, c.loop-done-test.false)) in
+    let first = g.W.ByteSink.contents c.self.inside.inner in
+    let last = g.W.ByteSink.contents c.loop-done.self-inside.inner in
+    let P : List ℕ → Type 0 =
+    λ l. Appends (lines_at c.self.inside.place first) (lines_at c.loop-done.self-inside.place last) (lines_told c.self.inside.place l) in
+    rw (← c.self.view_is) (subst P whole c.loop-done.invariant.lines)

@@ -1,6 +1,6 @@
 use Rattle.std.proofs.Common.{◌≡◌, ◌≤◌, ◌-◌, [], length, take, drop}
-use Rattle.std.specs.Io.KnownBytes.{Keeps}
-use Rattle.explain_command.specs.Rows.{place_after, told, told_at}
+use Rattle.std.specs.Io.KnownBytes.{Appends, Keeps}
+use Rattle.explain_command.specs.Rows.{lines_at, lines_told, place_after, told, told_at}
 use Rattle.explain_command.proofs.rows.ExplainedRows.pass.Given as goal
 
 abbrev pub invariant-loop-done : goal.invariant-loop-done
@@ -10,6 +10,8 @@ invariant-loop-done g l = record {
   silent : told l.self-inside.place (drop l.done l.octets) ≡ [];
   kept : Keeps (told_at l.initial.self-inside.place (g.W.ByteSink.contents l.initial.self-inside.inner))
       (told_at l.self-inside.place (g.W.ByteSink.contents l.self-inside.inner));
+  lines : Appends (lines_at l.initial.self-inside.place (g.W.ByteSink.contents l.initial.self-inside.inner))
+      (lines_at l.self-inside.place (g.W.ByteSink.contents l.self-inside.inner)) (lines_told l.initial.self-inside.place (take l.done l.octets));
   none_failed : g.W.ByteSink.faults l.self-inside.inner ≡ g.W.ByteSink.faults l.initial.self-inside.inner;
 }
 
