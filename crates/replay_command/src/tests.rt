@@ -1,4 +1,4 @@
-//! What no clause says of `replay` yet: worked rows, whole, and the faults and the limits of the outside.
+//! What neither a clause of `replay` nor a run of the program shows: boxes of the caller, and how often the outside is called and fails.
 
 ghost use Rattle.std.specs.Prelude.{◌≤◌};
 
@@ -6,21 +6,14 @@ mod boxes;
 mod calls;
 mod faults;
 mod limits;
-mod rows;
-mod sink_rows;
-mod word_rows;
 
 use crate::replay::replay;
 use crate::status::Status;
 use bcast_base::Octets;
 use bcast_io::{ByteSink, ByteSource, FaithfulSink, FaithfulSource};
 use replay_words::Words;
-use rows::{ROWS, Row};
-use sink_rows::SINK_ROWS;
 use std::alloc::Global;
-use std::process::Abort;
-use std::test::*;
-use unit_outlets::{Outlet, Tally};
+use unit_outlets::Outlet;
 
 /// The row of one unit that is heard.
 pub const LEAST_PATH: &str =
@@ -30,19 +23,20 @@ pub const LEAST_PATH: &str =
 pub const LEAST_PATH_TRANSCRIPT: &str = "unit 0 1 at 60060 valid 3 0a0b0c\nsum 0 1 3\n";
 
 /// A source that gives a text, so many octets a call.
-pub fn text_source(alloc: Global, text: &str, piece: usize) -> Result<FaithfulSource, Fail>
+pub fn text_source(alloc: Global, text: &str, piece: usize) -> Option<FaithfulSource>
     requires { 1 ≤ piece }
 {
-    Ok(FaithfulSource::new(Octets::copy(alloc, text.as_bytes())?, piece))
+    let octets = Octets::copy(alloc, text.as_bytes()).ok()?;
+    Some(FaithfulSource::new(octets, piece))
 }
 
-/// So many boxes.
-pub fn tallies(alloc: Global, count: usize) -> Result<Vec<Box<dyn Outlet>>, Fail> {
-    let mut outlets: Vec<Box<dyn Outlet>> = Vec::new(alloc);
-    for _ in 0..count {
-        outlets.push(Box::new(alloc, Tally::new())?)?;
+/// The list of these words.
+pub fn words_of(alloc: Global, texts: &[&str]) -> Option<Words> {
+    let mut words = Words::new(alloc);
+    'texts: for text in texts {
+        words.push(String::from_str(alloc, text).ok()?).ok()?;
     }
-    Ok(outlets)
+    Some(words)
 }
 
 /// Runs a scenario, for tests that ask only what it does.
@@ -56,83 +50,24 @@ pub fn run_with<S: ByteSource, K: ByteSink>(
     replay(alloc, words, source, sink, outlets)
 }
 
-/// Runs a text with two boxes.
-pub fn run<S: ByteSource, K: ByteSink>(
-    alloc: Global,
-    source: &mut S,
-    sink: &mut K,
-) -> Result<Status, Fail> {
-    let mut outlets = tallies(alloc, 2)?;
-    Ok(run_with(alloc, &Words::new(alloc), source, sink, &mut outlets))
+/// A run: its words and its text, its exit status, and what it writes.
+#[derive(Clone, Copy)]
+pub struct Run {
+    pub words: &'static [&'static str],
+    pub text: &'static str,
+    pub exit_code: u8,
+    pub transcript: &'static str,
 }
 
-/// Runs a row with a source of so many octets a call.
-fn run_row(rt: &(impl Abort + AllocGlobal), row: Row, piece: usize) -> Result<(), Fail>
-    requires { 1 ≤ piece }
-{
-    let Row {
-        name,
-        boxes,
-        text,
-        transcript,
-        exit_code,
-    } = row;
-    let mut source = text_source(rt.alloc(), text, piece)?;
-    let mut sink = FaithfulSink::new(rt.alloc());
-    let mut outlets = tallies(rt.alloc(), boxes)?;
-    let words = Words::new(rt.alloc());
-    let status = run_with(rt.alloc(), &words, &mut source, &mut sink, &mut outlets);
-    assert!(rt; sink.taken() == transcript.as_bytes(), "{name}");
-    assert!(rt; status.exit_code() == exit_code, "{name}");
-    Ok(())
-}
-
-/// Runs each row of sources and streams with a source of so many octets a call.
-fn run_rows(rt: &(impl Abort + AllocGlobal), piece: usize) -> Result<(), Fail>
-    requires { 1 ≤ piece }
-{
-    for row in ROWS {
-        run_row(rt, row, piece)?;
-    }
-    Ok(())
-}
-
-/// Runs each row of sinks and their assistants so.
-fn run_sink_rows(rt: &(impl Abort + AllocGlobal), piece: usize) -> Result<(), Fail>
-    requires { 1 ≤ piece }
-{
-    for row in SINK_ROWS {
-        run_row(rt, row, piece)?;
-    }
-    Ok(())
-}
-
-#[test]
-fn each_row_writes_its_transcript(rt: HostRuntime) -> Result<(), Fail> {
-    run_rows(&rt, 4_096)
-}
-
-#[test]
-fn each_row_reads_the_same_an_octet_a_call(rt: HostRuntime) -> Result<(), Fail> {
-    run_rows(&rt, 1)
-}
-
-#[test]
-fn each_row_reads_the_same_seven_octets_a_call(rt: HostRuntime) -> Result<(), Fail> {
-    run_rows(&rt, 7)
-}
-
-#[test]
-fn each_row_of_sinks_writes_its_transcript(rt: HostRuntime) -> Result<(), Fail> {
-    run_sink_rows(&rt, 4_096)
-}
-
-#[test]
-fn each_row_of_sinks_reads_the_same_an_octet_a_call(rt: HostRuntime) -> Result<(), Fail> {
-    run_sink_rows(&rt, 1)
-}
-
-#[test]
-fn each_row_of_sinks_reads_the_same_seven_octets_a_call(rt: HostRuntime) -> Result<(), Fail> {
-    run_sink_rows(&rt, 7)
+/// Whether a run over these boxes ends so.
+pub fn ends_so(alloc: Global, run: &Run, outlets: &mut Vec<Box<dyn Outlet>>) -> bool {
+    let (Some(words), Some(mut source)) = (
+        words_of(alloc, run.words),
+        text_source(alloc, run.text, 64),
+    ) else {
+        return false;
+    };
+    let mut sink = FaithfulSink::new(alloc);
+    let status = run_with(alloc, &words, &mut source, &mut sink, outlets);
+    status.exit_code() == run.exit_code && sink.taken() == run.transcript.as_bytes()
 }

@@ -4,9 +4,8 @@
 
 ghost use Rattle.std.specs.Prelude.{◌-◌, ◌^◌, false, None};
 
-use crate::tests::run_with;
+use crate::tests::{run_with, words_of};
 use bcast_io::{ByteSink, ByteSource, Failed, SinkFault};
-use replay_words::Words;
 use std::alloc::Global;
 use std::process::Abort;
 use std::test::*;
@@ -25,11 +24,11 @@ enum Refused {
     Take(OutletFault),
 }
 
-/// A word and a text, what is refused, the exit status, how many reads are made, and how many units the box has then.
+/// Words and a text, what is refused, the exit status, how many reads are made, and how many units the box has then.
 #[derive(Clone, Copy)]
 struct Run {
     name: &'static str,
-    word: &'static str,
+    words: &'static [&'static str],
     text: &'static str,
     refused: Refused,
     exit_code: u8,
@@ -40,7 +39,7 @@ struct Run {
 const RUNS: [Run; 15] = [
     Run {
         name: "to its end",
-        word: "",
+        words: &[],
         text: TEXT,
         refused: Refused::Nothing,
         exit_code: 0,
@@ -49,7 +48,7 @@ const RUNS: [Run; 15] = [
     },
     Run {
         name: "a last line without its end",
-        word: "",
+        words: &[],
         text: "scenario 1\nend",
         refused: Refused::Nothing,
         exit_code: 0,
@@ -58,7 +57,7 @@ const RUNS: [Run; 15] = [
     },
     Run {
         name: "no octet",
-        word: "",
+        words: &[],
         text: "",
         refused: Refused::Nothing,
         exit_code: 1,
@@ -67,7 +66,7 @@ const RUNS: [Run; 15] = [
     },
     Run {
         name: "without `end`",
-        word: "",
+        words: &[],
         text: "scenario 1\n",
         refused: Refused::Nothing,
         exit_code: 1,
@@ -76,7 +75,7 @@ const RUNS: [Run; 15] = [
     },
     Run {
         name: "refused at line 2",
-        word: "",
+        words: &[],
         text: "scenario 1\nscenario 1\nend\n",
         refused: Refused::Nothing,
         exit_code: 1,
@@ -85,7 +84,7 @@ const RUNS: [Run; 15] = [
     },
     Run {
         name: "refused at the first word",
-        word: "",
+        words: &[],
         text: "x\nscenario 1\nend\n",
         refused: Refused::Nothing,
         exit_code: 1,
@@ -94,7 +93,7 @@ const RUNS: [Run; 15] = [
     },
     Run {
         name: "a read fails",
-        word: "",
+        words: &[],
         text: TEXT,
         refused: Refused::Read(20),
         exit_code: 3,
@@ -103,7 +102,7 @@ const RUNS: [Run; 15] = [
     },
     Run {
         name: "the last read fails",
-        word: "",
+        words: &[],
         text: TEXT,
         refused: Refused::Read(141),
         exit_code: 3,
@@ -112,7 +111,7 @@ const RUNS: [Run; 15] = [
     },
     Run {
         name: "a write fails",
-        word: "",
+        words: &[],
         text: TEXT,
         refused: Refused::Write(SinkFault::Failed),
         exit_code: 4,
@@ -121,7 +120,7 @@ const RUNS: [Run; 15] = [
     },
     Run {
         name: "a write wants memory",
-        word: "",
+        words: &[],
         text: TEXT,
         refused: Refused::Write(SinkFault::Memory),
         exit_code: 6,
@@ -130,7 +129,7 @@ const RUNS: [Run; 15] = [
     },
     Run {
         name: "a box fails",
-        word: "",
+        words: &[],
         text: TEXT,
         refused: Refused::Take(OutletFault::Failed),
         exit_code: 5,
@@ -139,7 +138,7 @@ const RUNS: [Run; 15] = [
     },
     Run {
         name: "a box wants memory",
-        word: "",
+        words: &[],
         text: TEXT,
         refused: Refused::Take(OutletFault::Memory),
         exit_code: 6,
@@ -148,7 +147,7 @@ const RUNS: [Run; 15] = [
     },
     Run {
         name: "migrated",
-        word: "--migrate",
+        words: &["--migrate"],
         text: TEXT,
         refused: Refused::Nothing,
         exit_code: 0,
@@ -157,7 +156,7 @@ const RUNS: [Run; 15] = [
     },
     Run {
         name: "migrated until a read fails",
-        word: "--migrate",
+        words: &["--migrate"],
         text: TEXT,
         refused: Refused::Read(20),
         exit_code: 3,
@@ -166,7 +165,7 @@ const RUNS: [Run; 15] = [
     },
     Run {
         name: "words that mean nothing",
-        word: "x",
+        words: &["x"],
         text: TEXT,
         refused: Refused::Nothing,
         exit_code: 2,
@@ -336,15 +335,6 @@ fn boxes(alloc: Global, refused: Refused) -> Option<Vec<Box<dyn Outlet>>> {
     Some(outlets)
 }
 
-/// The list of this word alone, and of none where it has no octet.
-fn words_of(alloc: Global, word: &str) -> Option<Words> {
-    let mut words = Words::new(alloc);
-    if !word.is_empty() {
-        words.push(String::from_str(alloc, word).ok()?).ok()?;
-    }
-    Some(words)
-}
-
 /// Whether the only box took so many units.
 fn has_units(outlets: &Vec<Box<dyn Outlet>>, units: u64) -> bool {
     match outlets.as_slice() {
@@ -355,7 +345,7 @@ fn has_units(outlets: &Vec<Box<dyn Outlet>>, units: u64) -> bool {
 
 /// Whether a run over these boxes ends as it is to, calls what it is to call, and nothing behind that.
 fn ends_into(alloc: Global, run: &Run, outlets: &mut Vec<Box<dyn Outlet>>) -> bool {
-    let Some(words) = words_of(alloc, run.word) else {
+    let Some(words) = words_of(alloc, run.words) else {
         return false;
     };
     let mut source = WatchedSource::new(run.text, run.refused);

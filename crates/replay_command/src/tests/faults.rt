@@ -1,22 +1,29 @@
 //! Each call of the outside fails in turn, in a whole life of a sink.
 
 use crate::status::Status;
-use crate::tests::sink_rows::WHOLE_LIFE;
-use crate::tests::{run_with, text_source};
+use crate::tests::{Run, ends_so, run_with};
 use bcast_base::{Calls, Octets};
-use bcast_io::{FaithfulSink, MemorySink, MemorySource};
+use bcast_io::{MemorySink, MemorySource};
 use replay_words::Words;
 use std::alloc::Global;
-use std::process::Abort;
-use std::test::*;
 use unit_outlets::{FailingTally, Outlet, Tally};
 
-/// Sink 0 relays a stream of source 0 to one of source 1 that takes no unit of more than two octets, and sink 1 hears the stream too.
-const DROPPED: &str =
-    "scenario 2\ngroup unframed 20000 40000 8 10000 4 4 1 1 1 1 0 0 0 1\nsource 1\ngroup framed 70000 40000 8 10884 2 10 1 2 2 1 0 400 0 1\nident 0 000000000000 1 000000\nstart 0\nsource 0\nstart 0\nsink 0 1 1\nsink 1 1 1\ntuned 0 1\ntuned 1 1\nrelay 0 1 1\nunit 1 - aabbcc\nevent\nair 0 0\nair 1 0\nevent\nevent\nend\n";
+/// A source is announced, added, followed, heard, ended and removed.
+const WHOLE_LIFE: &str =
+    "scenario 1\ngroup unframed 20000 40000 8 10000 4 4 1 1 1 1 0 0 0 1\nident 0 665544332211 3 563412\nsubgroup ff01000200 -\nbis 1 -\nsink 0 1 1\npac 0 ff01000200 - -\nstart 0\nadd 0 0 665544332211 3 563412 2 65535 ffffffff -\nserve 0\nannounce 0\nremove 0 0\nserve 0\nunit 1 - aa\nevent\nair 0 0\nterminate 19\ncontrol 0 030401130100\ndrain 0\nshow 0\nmodify 0 0 0 65535\nremove 0 0\ndrain 0\nshow 0\ndrop 0\nend\n";
 
-/// What comes before the unit that sink 1 hands up.
-const BEFORE_ITS_UNIT: &str = "unit 0 1 at 60060 valid 3 aabbcc\nrelay 0 1 dropped UnitTooLong\n";
+/// Its transcript.
+const WHOLE_LIFE_TRANSCRIPT: &str =
+    "reply 0 ok\ntrain 0 17000 06165218563412 11165118409c000101ff0100020000000100 222c6400040821000000000010040000000000102740000000ffffffff3f0000000000\nsink 0 OnGroup 1\nreply 0 fc StillSynced\nunit 0 1 at 60060 valid 1 aa\ncontrol 030401130100\nsink 0 Left\nnotice 0 0 0000665544332211035634120000010000000000\nnotice 0 0 0000665544332211035634120200010100000000\nnotice 0 0 0000665544332211035634120200010000000000\nstate 0 0 0000665544332211035634120200010000000000\nview 0 0 0000665544332211035634120200010000000000\nreply 0 ok\nreply 0 ok\nnotice 0 0 000066554433221103563412000000\nnotice 0 0 -\nstate 0 0 -\nview 0 0 -\nsum 0 1 1\n";
+
+/// Sink 0 relays a stream of source 0 to one of source 1 that takes no unit of more than two octets, and sink 1 hears the stream too. The
+/// box of sink 1 refuses its unit; what comes before that is written.
+const DROPPED: Run = Run {
+    words: &[],
+    text: "scenario 2\ngroup unframed 20000 40000 8 10000 4 4 1 1 1 1 0 0 0 1\nsource 1\ngroup framed 70000 40000 8 10884 2 10 1 2 2 1 0 400 0 1\nident 0 000000000000 1 000000\nstart 0\nsource 0\nstart 0\nsink 0 1 1\nsink 1 1 1\ntuned 0 1\ntuned 1 1\nrelay 0 1 1\nunit 1 - aabbcc\nevent\nair 0 0\nair 1 0\nevent\nevent\nend\n",
+    exit_code: 5,
+    transcript: "unit 0 1 at 60060 valid 3 aabbcc\nrelay 0 1 dropped UnitTooLong\n",
+};
 
 /// More calls than a whole life makes.
 const MANY: u64 = 100;
@@ -30,79 +37,97 @@ enum Failing {
 }
 
 /// The calls that are to fail: this one where `fails`, and else none.
-fn calls_failing(alloc: Global, fails: bool, call: u64) -> Result<Calls, Fail> {
+fn calls_failing(alloc: Global, fails: bool, call: u64) -> Option<Calls> {
     let mut calls = Calls::new(alloc);
     if fails {
-        calls.push(call)?;
+        calls.push(call).ok()?;
     }
-    Ok(calls)
+    Some(calls)
 }
 
-/// Runs the whole life where this call fails, and gives the status. What was written is a front of the transcript.
-fn run_failing(
-    rt: &(impl Abort + AllocGlobal),
+/// The boxes of a run whose only sink takes one that fails at these calls.
+fn failing_box(alloc: Global, takes: Calls) -> Option<Vec<Box<dyn Outlet>>> {
+    let mut outlets: Vec<Box<dyn Outlet>> = Vec::new(alloc);
+    outlets
+        .push(Box::new(alloc, FailingTally::new(takes)).ok()?)
+        .ok()?;
+    Some(outlets)
+}
+
+/// The same behind a box that fails never.
+fn second_failing_box(alloc: Global, takes: Calls) -> Option<Vec<Box<dyn Outlet>>> {
+    let mut outlets: Vec<Box<dyn Outlet>> = Vec::new(alloc);
+    outlets.push(Box::new(alloc, Tally::new()).ok()?).ok()?;
+    outlets
+        .push(Box::new(alloc, FailingTally::new(takes)).ok()?)
+        .ok()?;
+    Some(outlets)
+}
+
+/// Whether a status may come with what was written: a front of the transcript, and all of it at the end.
+fn may_end(status: Status, written: &[u8]) -> bool {
+    let transcript = WHOLE_LIFE_TRANSCRIPT.as_bytes();
+    if status == Status::Done {
+        written == transcript
+    } else {
+        transcript.starts_with(written)
+    }
+}
+
+/// The status of the whole life where this call fails, by the source and the sink. `None` where something else was written.
+fn status_into(
+    alloc: Global,
     failing: Failing,
     call: u64,
-) -> Result<Status, Fail> {
-    let reads = calls_failing(rt.alloc(), failing == Failing::Reads, call)?;
-    let writes = calls_failing(rt.alloc(), failing == Failing::Writes, call)?;
-    let takes = calls_failing(rt.alloc(), failing == Failing::Takes, call)?;
-    let octets = Octets::copy(rt.alloc(), WHOLE_LIFE.text.as_bytes())?;
+    outlets: &mut Vec<Box<dyn Outlet>>,
+) -> Option<Status> {
+    let reads = calls_failing(alloc, failing == Failing::Reads, call)?;
+    let writes = calls_failing(alloc, failing == Failing::Writes, call)?;
+    let octets = Octets::copy(alloc, WHOLE_LIFE.as_bytes()).ok()?;
     let mut source = MemorySource::new(octets, 64, reads);
-    let mut sink = MemorySink::new(rt.alloc(), 16, writes);
-    let mut outlets: Vec<Box<dyn Outlet>> = Vec::new(rt.alloc());
-    outlets.push(Box::new(rt.alloc(), FailingTally::new(takes))?)?;
-    let words = Words::new(rt.alloc());
-    let status = run_with(rt.alloc(), &words, &mut source, &mut sink, &mut outlets);
-    assert!(rt; WHOLE_LIFE.transcript.as_bytes().starts_with(sink.taken()));
-    assert!(rt; status != Status::Done || sink.taken() == WHOLE_LIFE.transcript.as_bytes());
-    Ok(status)
+    let mut sink = MemorySink::new(alloc, 16, writes);
+    let status = run_with(alloc, &Words::new(alloc), &mut source, &mut sink, outlets);
+    may_end(status, sink.taken()).then_some(status)
 }
 
-/// Lets the first call fail, then the second, and so on, until a run makes no such call: each run before it ends so.
-fn each_ends_with(
-    rt: &(impl Abort + AllocGlobal),
-    failing: Failing,
-    end: Status,
-) -> Result<(), Fail> {
-    for call in 1..MANY {
-        let status = run_failing(rt, failing, call)?;
-        if status == Status::Done {
-            assert!(rt; call > 1);
-            return Ok(());
+/// The same, by the box too.
+fn status_of(alloc: Global, failing: Failing, call: u64) -> Option<Status> {
+    let takes = calls_failing(alloc, failing == Failing::Takes, call)?;
+    let mut outlets = failing_box(alloc, takes)?;
+    status_into(alloc, failing, call, &mut outlets)
+}
+
+/// Whether the run ends so where the first call fails, the second, and so on until one makes no such call.
+fn each_ends_with(alloc: Global, failing: Failing, end: Status) -> bool {
+    'calls: for call in 1..MANY {
+        match status_of(alloc, failing, call) {
+            Some(Status::Done) => return call > 1,
+            Some(status) if status == end => continue 'calls,
+            _ => return false,
         }
-        assert!(rt; status == end);
     }
-    assert!(rt; false);
-    Ok(())
+    false
 }
 
 #[test]
-fn each_read_that_fails_is_a_read_fault(rt: HostRuntime) -> Result<(), Fail> {
-    each_ends_with(&rt, Failing::Reads, Status::ReadFault)
+fn each_call_that_fails_is_a_fault_of_its_own(rt: HostRuntime) {
+    assert!(rt; each_ends_with(rt.alloc(), Failing::Reads, Status::ReadFault));
+    assert!(rt; each_ends_with(rt.alloc(), Failing::Writes, Status::WriteFault));
+    assert!(rt; each_ends_with(rt.alloc(), Failing::Takes, Status::OutletFault));
+}
+
+/// Whether the unit of sink 1 is refused behind what the relay dropped.
+fn is_refused_behind_the_relay(alloc: Global) -> bool {
+    let Some(takes) = calls_failing(alloc, true, 1) else {
+        return false;
+    };
+    match second_failing_box(alloc, takes) {
+        Some(mut outlets) => ends_so(alloc, &DROPPED, &mut outlets),
+        None => false,
+    }
 }
 
 #[test]
-fn each_write_that_fails_is_a_write_fault(rt: HostRuntime) -> Result<(), Fail> {
-    each_ends_with(&rt, Failing::Writes, Status::WriteFault)
-}
-
-#[test]
-fn each_take_that_fails_is_an_outlet_fault(rt: HostRuntime) -> Result<(), Fail> {
-    each_ends_with(&rt, Failing::Takes, Status::OutletFault)
-}
-
-#[test]
-fn what_a_relay_drops_comes_before_a_refused_unit(rt: HostRuntime) -> Result<(), Fail> {
-    let takes = calls_failing(rt.alloc(), true, 1)?;
-    let mut outlets: Vec<Box<dyn Outlet>> = Vec::new(rt.alloc());
-    outlets.push(Box::new(rt.alloc(), Tally::new())?)?;
-    outlets.push(Box::new(rt.alloc(), FailingTally::new(takes))?)?;
-    let mut source = text_source(rt.alloc(), DROPPED, 64)?;
-    let mut sink = FaithfulSink::new(rt.alloc());
-    let words = Words::new(rt.alloc());
-    let status = run_with(rt.alloc(), &words, &mut source, &mut sink, &mut outlets);
-    assert!(rt; status == Status::OutletFault);
-    assert!(rt; sink.taken() == BEFORE_ITS_UNIT.as_bytes());
-    Ok(())
+fn what_a_relay_drops_comes_before_a_refused_unit(rt: HostRuntime) {
+    assert!(rt; is_refused_behind_the_relay(rt.alloc()));
 }

@@ -1,14 +1,12 @@
-//! The limits of a line and of a text, and how often a source without an end is read.
+//! How often a source without an end is read.
 
 ghost use Rattle.std.specs.Prelude.{◌≤◌};
 
-use crate::status::Status;
-use crate::tests::run;
+use crate::tests::{run_with, words_of};
 use bcast_base::Octets;
-use bcast_io::{ByteSource, EndlessSource, Failed, FaithfulSink, FaithfulSource};
-use std::process::Abort;
-use std::test::*;
-use transcript_text::Refusal;
+use bcast_io::{ByteSource, EndlessSource, Failed, FaithfulSink};
+use std::alloc::Global;
+use unit_outlets::Outlet;
 
 /// A source without an end that counts its reads.
 #[derive(Drop)]
@@ -26,53 +24,45 @@ impl ByteSource for Counting {
     }
 }
 
-/// Reads a text without an end, so many octets a call: lines of 8,192 octets, each a comment. It makes so many reads: up to octet
-/// 67,108,865, and no more.
-fn read_endless(rt: &(impl Abort + AllocGlobal), piece: usize, reads: u64) -> Result<(), Fail>
+/// A comment of 8,191 octets, without its end.
+fn long_comment(alloc: Global) -> Option<Octets> {
+    let mut line = Octets::copy(alloc, b"#").ok()?;
+    'octets: for _ in 0..8_190 {
+        line.push(b'x').ok()?;
+    }
+    Some(line)
+}
+
+/// How often a text of such lines, which has no end, is read under these words, so many octets a call, until the run refuses them so.
+fn reads_of(alloc: Global, words: &[&str], piece: usize, refused: &str) -> Option<u64>
     requires { 1 ≤ piece }
 {
-    let mut line = Octets::copy(rt.alloc(), b"#")?;
-    for _ in 0..8_190 {
-        line.push(b'x')?;
-    }
-    line.push(b'\n')?;
+    let mut line = long_comment(alloc)?;
+    line.push(b'\n').ok()?;
     let mut source = Counting {
         source: EndlessSource::new(line, piece),
         reads: 0,
     };
-    let mut sink = FaithfulSink::new(rt.alloc());
-    let refused = Status::Refused {
-        line: 8_193,
-        reason: Refusal::TextTooLong,
-    };
-    let status = run(rt.alloc(), &mut source, &mut sink)?;
-    assert!(rt; status == refused);
-    assert!(rt; sink.taken() == b"line 8193: TextTooLong\n".as_slice());
-    assert!(rt; source.reads == reads);
-    Ok(())
+    let mut sink = FaithfulSink::new(alloc);
+    let mut outlets: Vec<Box<dyn Outlet>> = Vec::new(alloc);
+    let status = run_with(
+        alloc,
+        &words_of(alloc, words)?,
+        &mut source,
+        &mut sink,
+        &mut outlets,
+    );
+    (status.exit_code() == 1 && sink.taken() == refused.as_bytes()).then_some(source.reads)
 }
 
 #[test]
-fn a_text_without_end_is_too_long(rt: HostRuntime) -> Result<(), Fail> {
-    read_endless(&rt, 4_096, 16_385)
+fn a_text_without_end_is_read_up_to_its_limit(rt: HostRuntime) {
+    let refused = "line 8193: TextTooLong\n";
+    assert!(rt; reads_of(rt.alloc(), &[], 4_096, refused) == Some(16_385));
+    assert!(rt; reads_of(rt.alloc(), &[], 1, refused) == Some(67_108_865));
 }
 
 #[test]
-fn a_text_without_end_is_too_long_an_octet_a_call(rt: HostRuntime) -> Result<(), Fail> {
-    read_endless(&rt, 1, 67_108_865)
-}
-
-#[test]
-fn a_line_of_9001_octets_is_too_long(rt: HostRuntime) -> Result<(), Fail> {
-    let line = vec![in rt.alloc(); b'#'; 9_001]?;
-    let mut source = FaithfulSource::new(Octets::copy(rt.alloc(), line.as_slice())?, 4_096);
-    let mut sink = FaithfulSink::new(rt.alloc());
-    let refused = Status::Refused {
-        line: 1,
-        reason: Refusal::LineTooLong,
-    };
-    let status = run(rt.alloc(), &mut source, &mut sink)?;
-    assert!(rt; status == refused);
-    assert!(rt; sink.taken() == b"line 1: LineTooLong\n".as_slice());
-    Ok(())
+fn a_document_is_read_in_as_few_reads_as_its_source_allows(rt: HostRuntime) {
+    assert!(rt; reads_of(rt.alloc(), &["--toml"], 4_096, "line 0: TextTooLong\n") == Some(257));
 }
