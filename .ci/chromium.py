@@ -39,7 +39,7 @@ class Browser:
         (theirs, self.writing), (self.reading, answers) = os.pipe(), os.pipe()
         words = [path, *WORDS, f'--user-data-dir={folder}/profile', f'--window-size={width},{height}', 'about:blank']
         # The browser reads what it is asked from descriptor 3, and answers on 4.
-        self.process = subprocess.Popen(['sh', '-c', f'exec "$@" 3<&{theirs} 4>&{answers}', 'sh', *words], pass_fds=(theirs, answers),
+        self.process = subprocess.Popen(['bash', '-c', f'exec "$@" 3<&{theirs} 4>&{answers}', 'bash', *words], pass_fds=(theirs, answers),
                                         stdin=subprocess.DEVNULL, stdout=subprocess.DEVNULL, stderr=subprocess.DEVNULL)
         os.close(theirs)
         os.close(answers)
@@ -53,8 +53,13 @@ class Browser:
         return self
 
     def __exit__(self, *_):
-        self.process.kill()
-        self.process.wait()
+        self.session = None
+        try:
+            self.ask('Browser.close')
+            self.process.wait(timeout=PATIENCE)
+        except (BrowserFault, subprocess.TimeoutExpired):
+            self.process.kill()
+            self.process.wait()
         os.close(self.reading)
         os.close(self.writing)
 

@@ -341,23 +341,22 @@ def pictured(browser, explain, folder, file):
 
 def main():
     words = sys.argv[1:]
-    if not (len(words) == 1 or len(words) == 3 and words[1] == '--picture'):
+    if not (len(words) == 1 or len(words) == 3 and words[1] == '--picture') or not os.access(words[0], os.X_OK):
         print('usage: pages.py EXPLAIN [--picture FILE]', file=sys.stderr)
         return 2
     path = chromium.find()
     if path is None:
         print('skipped: pages of runs in a browser, since no Chromium is here (apt-get install chromium)')
         return 3
-    explain, figures = os.path.abspath(words[0]), {}
-    with tempfile.TemporaryDirectory() as folder, chromium.Browser(path, folder) as browser:
-        if len(words) == 3:
-            print(f'{words[2]}: {pictured(browser, explain, folder, words[2])} octets')
-            return 0
-        failed = []
-        try:
-            failed += over_pages(browser, explain, folder, figures)
-        except (chromium.BrowserFault, subprocess.SubprocessError) as fault:
-            failed.append(('browser', f'{fault}'))
+    explain, figures, failed = os.path.abspath(words[0]), {}, []
+    try:
+        with tempfile.TemporaryDirectory(ignore_cleanup_errors=True) as folder, chromium.Browser(path, folder) as browser:
+            if len(words) == 3:
+                print(f'{words[2]}: {pictured(browser, explain, folder, words[2])} octets')
+                return 0
+            failed.extend(over_pages(browser, explain, folder, figures))
+    except (chromium.BrowserFault, subprocess.SubprocessError) as fault:
+        failed.append(('browser', f'{fault}'))
     for name, it in failed:
         print(f'pages: {name}: {it[:1000]}')
     told, made, octets, first, slowest = (figures.get(it, 0) for it in ('told', 'made', 'octets', 'first', 'next'))
