@@ -28,6 +28,7 @@ from corpus_captures import (  # noqa: E402
 import air_pieces  # noqa: E402
 import capture_in  # noqa: E402
 import capture_out  # noqa: E402
+import given  # noqa: E402
 import link_layer  # noqa: E402
 from anchor_fit import Fit, Heard, Mark  # noqa: E402
 
@@ -292,7 +293,7 @@ def all_results(program, folder, counts):
 
 
 def main():
-    program, counts, failed = os.path.abspath(sys.argv[1]), Counter(), 0
+    [program], counts, failed = given.programs('PROGRAM'), Counter(), 0
     with tempfile.TemporaryDirectory() as folder:
         for name, why in all_results(program, folder, counts):
             counts['cases'] += 1

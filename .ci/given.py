@@ -5,7 +5,7 @@ import sys
 
 def programs(*names):
     """The programs that the command line has, one for each name. For other words it says how the test is called, and ends with 2."""
-    usage = f'usage: {os.path.basename(sys.argv[0])} {" ".join(names)} (built programs)'
+    usage = ' '.join([f'usage: {os.path.basename(sys.argv[0])}', *names, *(['(built programs)'] if names else [])])
     words = sys.argv[1:]
     if words in (['-h'], ['--help']):
         print(usage)

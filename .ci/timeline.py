@@ -13,6 +13,7 @@ import tempfile
 from collections import Counter
 
 sys.dont_write_bytecode = True
+import given  # noqa: E402
 from page_runs import TOP, explained, run_of, rows_of, text_of  # noqa: E402
 import scenarios  # noqa: E402
 from timeline_data import column, data_of, kept_marks, read_run  # noqa: E402
@@ -271,10 +272,7 @@ def page_differs(told, tool, page):
 
 
 def main():
-    if len(sys.argv) != 2:
-        print('usage: timeline.py EXPLAIN', file=sys.stderr)
-        return 2
-    explain = os.path.abspath(sys.argv[1])
+    [explain] = given.programs('EXPLAIN')
     told = {name: explained(explain, text_of(name)) for name in (*UNITS, 'hundred', 'three-seconds', 'gap', 'no-end')}
     runs = {name: run_of(text) for name, text in told.items()}
     failed = list(worked(runs))

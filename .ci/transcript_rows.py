@@ -13,6 +13,7 @@ HERE = os.path.dirname(os.path.abspath(__file__))
 sys.path[:0] = [os.path.join(os.path.dirname(HERE), 'tools'), HERE]
 import run_reading  # noqa: E402
 import scenarios  # noqa: E402
+import given  # noqa: E402
 import printed_rows  # noqa: E402
 
 CHANGED = 20  # rows of each form that are changed
@@ -129,6 +130,7 @@ def changed_rows(examples, counts):
 
 
 def main():
+    given.programs()
     told, examples, counts = list(transcripts()), {}, {'changed': 0}
     wrong = list(tables()) + list(rows_of(told, examples)) + list(drains())
     wrong += [f'no row has the form "{form}"' for form in printed_rows.FORMS if form not in examples]
