@@ -1,14 +1,14 @@
 -- What is promised of a generated run before which memory ran out.
 use Rattle.std.proofs.Common.{ℕ, [], refl}
-use Rattle.bcast_io.proofs.Citable.{AppendsFront-nothing}
-use Rattle.scenario_history.specs.Transcript.{units_of}
+use Rattle.transcript_text.specs.Summary.{counts_of}
+use Rattle.scenario_history.specs.Transcript.{transcript_of, units_of}
 use Rattle.scenario_history.proofs.Citable.{took_all}
-use Rattle.replay_generated.specs.Generated.{GeneratedRun, lines_made, summary_in}
+use Rattle.replay_generated.specs.Generated.{GeneratedRun, lines_made}
+use Rattle.replay_generated.proofs.Citable.{none_written}
 use Rattle.replay_generated.specs.declared.outcome.Outcome.TheVariants as outcomes
 use Rattle.replay_command.specs.declared.status.Status.TheVariants as statuses
 use Rattle.replay_command.specs.Generated.{Generated}
 use Rattle.replay_lines.specs.World.{World}
-use Rattle.replay_command.proofs.Migrating.{keeps_same}
 
 none_run : (seed events : ℕ) (old : World) → GeneratedRun seed events outcomes.Memory old.boxes old.boxes old.taken old.taken old.writes old.writes
 none_run seed events old = record {
@@ -18,7 +18,7 @@ none_run seed events old = record {
   outlet_fault = λ is. absurd cc;
   write_fault = λ is. absurd cc;
   memory = λ is airs meets. record {
-    written = AppendsFront-nothing old.taken old.taken (summary_in airs old.boxes events (lines_made seed events)) (keeps_same old.taken);
+    written = none_written old.taken events (counts_of (transcript_of airs old.boxes (lines_made seed events)));
     done = [];
     rest = units_of airs old.boxes (lines_made seed events);
     split = refl;

@@ -5,6 +5,7 @@ ghost use Rattle.std.specs.Prelude.{◌≤◌};
 mod boxes;
 mod calls;
 mod faults;
+mod kept;
 mod limits;
 
 use crate::replay::replay;

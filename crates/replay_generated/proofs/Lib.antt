@@ -1,3 +1,5 @@
+pub mod Citable
+mod Short
 mod GeneratedText
 mod Comings
 mod EndLines

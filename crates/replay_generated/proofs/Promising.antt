@@ -2,16 +2,16 @@
 use Rattle.std.proofs.Common.{◌≡◌, ◌≢◌, ℕ, ◌+◌, ◌<◌, ◌≤◌, List, [], ◌∷◌, length, reverse, refl, sym, subst, ◌∙◌, Option, None, Some, inl, inr}
 use Rattle.std.proofs.lemmas.List.{append-nil}
 use Rattle.std.proofs.lemmas.Bool.{cases_lt}
-use Rattle.std.specs.Io.KnownBytes.{Appends, Keeps}
+use Rattle.std.specs.Io.KnownBytes.{Appends}
 use Rattle.bcast_base.specs.Counts.{Rose}
 use Rattle.bcast_io.specs.TextLines.{TextLine}
-use Rattle.bcast_io.specs.Writing.{AppendsFront}
-use Rattle.bcast_io.proofs.Citable.{Appends-nothing, AppendsFront-nothing}
+use Rattle.bcast_io.specs.Writing.{AppendsShort}
+use Rattle.bcast_io.proofs.Citable.{Appends-nothing}
 use Rattle.unit_outlets.specs.Account.{Account}
 use Rattle.source_machine.specs.Airs.{airs_of, Airs}
 use Rattle.transcript_text.specs.declared.refusal.Refusal.{Refusal}
 use Rattle.transcript_text.specs.declared.refusal.Refusal.TheVariants.{NoOutlet}
-use Rattle.transcript_text.specs.Summary.{summary, summary_of}
+use Rattle.transcript_text.specs.Summary.{counts_of, summary, summary_of}
 use Rattle.transcript_text.specs.declared.counts.Counts.{Counts}
 use Rattle.scenario_history.specs.Runs.{End, through, refused, Accepted}
 use Rattle.scenario_history.specs.Airs.{MeetAirs}
@@ -27,6 +27,7 @@ use Rattle.replay_generated.specs.declared.outcome.Outcome.{Outcome}
 use Rattle.replay_generated.specs.declared.outcome.Outcome.TheVariants as outcomes
 use Rattle.replay_generated.proofs.Endings.{Reads, made_refused, made_through}
 use Rattle.replay_generated.proofs.Rooms.{no_room}
+use Rattle.replay_generated.proofs.Short.{none_written}
 
 -- ---- over other airs
 
@@ -51,7 +52,7 @@ module _ (airs : Airs) (same : Same airs) (starts ends : List Account) (events :
 
   cut_as : CutShort airs_of starts ends events lines kept kept' → CutShort airs starts ends events lines kept kept'
   cut_as d = record {
-    written = subst (λ (t : List ℕ). AppendsFront kept kept' (summary events t)) (same.octets starts lines) d.written;
+    written = subst (λ (t : List ℕ). AppendsShort kept kept' (summary events t)) (same.octets starts lines) d.written;
     done = d.done;
     rest = d.rest;
     split = sym (same.units starts lines) ∙ d.split;
@@ -82,10 +83,10 @@ module _ (airs : Airs) (same : Same airs) (starts ends : List Account) (events :
 
 module _ (starts ends : List Account) (events : ℕ) (lines : List TextLine) (kept kept' : Option (List ℕ)) (faults faults' : ℕ) where
   -- a front of the summary was written, and the boxes took all units
-  cut_short : (counts : Counts) (end : End Refusal) → Told starts ends lines counts end → AppendsFront kept kept' (summary_of events counts)
+  cut_short : (counts : Counts) (end : End Refusal) → Told starts ends lines counts end → AppendsShort kept kept' (summary_of events counts)
       → CutShort airs_of starts ends events lines kept kept'
   cut_short counts end told front = record {
-    written = subst (λ (c : Counts). AppendsFront kept kept' (summary_of events c)) told.counted front;
+    written = subst (λ (c : Counts). AppendsShort kept kept' (summary_of events c)) told.counted front;
     done = units_of airs_of starts lines;
     rest = [];
     split = sym (append-nil (units_of airs_of starts lines));
@@ -122,10 +123,6 @@ module _ (starts ends : List Account) (events : ℕ) (lines : List TextLine) (ke
         stays = λ is. put.2;
       }
 
-keeps_same : (kept : Option (List ℕ)) → Keeps kept kept
-keeps_same None = tt
-keeps_same (Some xs) = refl
-
 pub failed_ends : (starts ends : List Account) (events : ℕ) (lines : List TextLine) (kept : Option (List ℕ)) (faults : ℕ) → BoxFailed airs_of starts ends lines
     → Ends starts ends events lines kept kept faults faults outcomes.OutletFault
 failed_ends starts ends events lines kept faults failed = record { did = (failed, Appends-nothing kept); rose = λ is. cc; stays = λ is. refl }
@@ -134,7 +131,7 @@ pub memory_ends : (starts ends : List Account) (events : ℕ) (lines : List Text
     → Ends starts ends events lines kept kept faults faults outcomes.Memory
 memory_ends starts ends events lines kept faults front = record {
   did = record {
-    written = AppendsFront-nothing kept kept (summary_in airs_of starts events lines) (keeps_same kept);
+    written = none_written kept events (counts_of (transcript_of airs_of starts lines));
     done = front.done;
     rest = front.rest;
     split = front.split;

@@ -5,7 +5,7 @@ use Rattle.std.specs.Prelude.{ℕ, ◌≡◌, ◌≢◌, ◌<◌, ◌≤◌, tru
 use Rattle.std.specs.Io.KnownBytes.{Appends}
 use Rattle.bcast_base.specs.Counts.{Rose}
 use Rattle.bcast_io.specs.TextLines.{TextLine, lines_of}
-use Rattle.bcast_io.specs.Writing.{AppendsFront}
+use Rattle.bcast_io.specs.Writing.{AppendsShort}
 use Rattle.unit_outlets.specs.Account.{Account}
 use Rattle.transcript_text.specs.declared.refusal.Refusal.{Refusal}
 use Rattle.transcript_text.specs.declared.refusal.Refusal.TheVariants.{NoOutlet}
@@ -36,9 +36,9 @@ pub record Summed (airs : Airs) (starts ends : List Account) (events : ℕ) (lin
   pub written : Appends kept kept' (summary_in airs starts events lines)
   pub boxes : Took starts ends (units_of airs starts lines)
 
--- a front of the summary was written, and the boxes took a front of the units
+-- a front of the summary was written, and not all, and the boxes took a front of the units
 pub record CutShort (airs : Airs) (starts ends : List Account) (events : ℕ) (lines : List TextLine) (kept kept' : Option (List ℕ)) : Type 0 where
-  pub written : AppendsFront kept kept' (summary_in airs starts events lines)
+  pub written : AppendsShort kept kept' (summary_in airs starts events lines)
   pub done : List SinkUnit
   pub rest : List SinkUnit
   pub split : units_of airs starts lines ≡ done ++ rest

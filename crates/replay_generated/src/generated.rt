@@ -21,8 +21,8 @@ use unit_outlets::Outlet;
 ///
 /// `Done` comes where no line is refused. `Refused` has the line, from 1, and the reason. After both the summary was
 /// written. After `OutletFault`, which comes only where the count of a box rose, nothing was written. After `WriteFault`,
-/// which comes only where the sink's count rose, and after `Memory` a front of the summary was written. The boxes that no `sink` line
-/// takes stay the same.
+/// which comes only where the sink's count rose, and after `Memory` a front of the summary was written, and not all. The boxes
+/// that no `sink` line takes stay the same.
 pub fn run_generated<K: ByteSink>(
     alloc: Global,
     seed: u32,

@@ -4,7 +4,7 @@ use Rattle.std.specs.Prelude.{ℕ, ◌≡◌, ◌≢◌, ◌⊎◌, ◌+◌, Lis
 use Rattle.std.specs.Io.KnownBytes.{Appends}
 use Rattle.bcast_base.specs.Counts.{Rose}
 use Rattle.bcast_io.specs.TextLines.{TextLine}
-use Rattle.bcast_io.specs.Writing.{AppendsFront}
+use Rattle.bcast_io.specs.Writing.{AppendsShort}
 use Rattle.unit_outlets.specs.Account.{Account}
 use Rattle.source_machine.specs.Airs.{airs_of}
 use Rattle.transcript_text.specs.declared.refusal.Refusal.{Refusal}
@@ -93,8 +93,8 @@ Ran starts ends lines counts endings.Memory = FrontTaken starts ends lines
 abbrev pub Puts : List ℕ → Outcome → Option (List ℕ) → Option (List ℕ) → ℕ → ℕ → Outcome → Type 0
 Puts octets ended kept kept' faults faults' result =
     ((result ≡ ended) × Appends kept kept' octets × (faults' ≡ faults))
-    ⊎ (((result ≡ outcomes.WriteFault) × AppendsFront kept kept' octets × Rose faults faults')
-    ⊎ ((result ≡ outcomes.Memory) × AppendsFront kept kept' octets × (faults' ≡ faults)))
+    ⊎ (((result ≡ outcomes.WriteFault) × AppendsShort kept kept' octets × Rose faults faults')
+    ⊎ ((result ≡ outcomes.Memory) × AppendsShort kept kept' octets × (faults' ≡ faults)))
 
 -- how a run ended, and what became of the sink's count
 pub record Ends (starts ends : List Account) (events : ℕ) (lines : List TextLine) (kept kept' : Option (List ℕ)) (faults faults' : ℕ) (outcome : Outcome) : Type 0 where

@@ -1,0 +1,134 @@
+//! A box that keeps its newest units, over runs of which two are refused.
+
+ghost use Rattle.std.specs.Prelude.{◌-◌, ◌^◌, false};
+
+use crate::tests::{Run, ends_so};
+use bcast_base::Calls;
+use std::alloc::Global;
+use std::test::*;
+use unit_outlets::{FailingTally, LastUnits, Outlet, OutletFault};
+
+/// How many units the box keeps.
+const KEPT: usize = 2;
+
+/// The units that it is given, over all runs.
+const UNITS: [&[u8]; 5] = [
+    &[0xaa],
+    &[0xbb, 0xbb],
+    &[0xcc, 0xcc, 0xcc],
+    &[0xdd],
+    &[0xee],
+];
+
+/// The second box refuses its first unit behind the third unit of the first box; a line is refused behind the fourth; the last run ends.
+const RUNS: [Run; 3] = [
+    Run {
+        words: &[],
+        text: "scenario 1\ngroup unframed 20000 40000 8 10000 4 4 1 1 1 1 0 0 0 1\nsink 0 1 1\nsink 1 1 1\nstart 0\ntuned 0 1\nunit 1 - aa\nevent\nhear 0 0 1 0\nunit 1 - bbbb\nevent\nhear 0 0 1 0\ntuned 1 1\nunit 1 - cccccc\nevent\nhear 0 0 1 0\nhear 1 0 1 0\nend\n",
+        exit_code: 5,
+        transcript: "unit 0 1 at 60060 valid 1 aa\nunit 0 1 at 70060 valid 2 bbbb\nunit 0 1 at 80060 valid 3 cccccc\n",
+    },
+    Run {
+        words: &[],
+        text: "scenario 1\ngroup unframed 20000 40000 8 10000 4 4 1 1 1 1 0 0 0 1\nsink 0 1 1\nstart 0\ntuned 0 1\nunit 1 - dd\nevent\nhear 0 0 1 0\nevent\nx\n",
+        exit_code: 1,
+        transcript: "unit 0 1 at 60060 valid 1 dd\nline 10: BadLine 0\n",
+    },
+    Run {
+        words: &[],
+        text: "scenario 1\ngroup unframed 20000 40000 8 10000 4 4 1 1 1 1 0 0 0 1\nsink 0 1 1\nstart 0\ntuned 0 1\nunit 1 - ee\nevent\nhear 0 0 1 0\nend\n",
+        exit_code: 0,
+        transcript: "unit 0 1 at 60060 valid 1 ee\nsum 0 5 8\n",
+    },
+];
+
+/// A box that refuses a unit where it doesn't keep the newest units of all before it. Its count of faults stands at its last value.
+#[derive(Drop)]
+struct ComparedBox {
+    last: LastUnits,
+}
+
+impl ComparedBox {
+    /// The i-th unit from the newest, from 0, of those that it is to keep.
+    fn wanted(&self, i: usize) -> Option<&'static [u8]> {
+        if i >= KEPT {
+            return None;
+        }
+        let place = usize::try_from(self.last.units())
+            .ok()?
+            .checked_sub(i)?
+            .checked_sub(1)?;
+        UNITS.get(place).copied()
+    }
+
+    /// Whether it keeps these, and no other.
+    fn keeps_the_newest(&self) -> bool {
+        'places: for i in 0..KEPT + 1 {
+            if !are_same(self.last.last(i), self.wanted(i)) {
+                return false;
+            }
+        }
+        true
+    }
+}
+
+/// Whether both are the same unit, or none.
+fn are_same(kept: Option<&[u8]>, wanted: Option<&[u8]>) -> bool {
+    match (kept, wanted) {
+        (None, None) => true,
+        (Some(kept), Some(wanted)) => kept == wanted,
+        _ => false,
+    }
+}
+
+impl Outlet for ComparedBox {
+    ghost account = { λ b. record b.last { faults = 2 ^ 64 - 1; is_sound = false } };
+
+    fn take(&mut self, octets: &[u8]) -> Result<(), OutletFault> {
+        if !self.keeps_the_newest() {
+            return Err(OutletFault::Failed);
+        }
+        self.last.take(octets)
+    }
+
+    fn units(&self) -> u64 {
+        self.last.units()
+    }
+
+    fn octets(&self) -> u64 {
+        self.last.octets()
+    }
+}
+
+/// That box, and one that refuses its first unit.
+fn boxes(alloc: Global) -> Option<Vec<Box<dyn Outlet>>> {
+    let last = LastUnits::new(alloc, KEPT).ok()?;
+    let mut takes = Calls::new(alloc);
+    takes.push(1).ok()?;
+    let mut outlets: Vec<Box<dyn Outlet>> = Vec::new(alloc);
+    outlets
+        .push(Box::new(alloc, ComparedBox { last }).ok()?)
+        .ok()?;
+    outlets
+        .push(Box::new(alloc, FailingTally::new(takes)).ok()?)
+        .ok()?;
+    Some(outlets)
+}
+
+/// Whether each run ends so, over the boxes of the one before.
+fn each_ends_so(alloc: Global) -> bool {
+    let Some(mut outlets) = boxes(alloc) else {
+        return false;
+    };
+    'runs: for run in RUNS {
+        if !ends_so(alloc, &run, &mut outlets) {
+            return false;
+        }
+    }
+    true
+}
+
+#[test]
+fn the_newest_units_are_kept_whatever_is_refused(rt: HostRuntime) {
+    assert!(rt; each_ends_so(rt.alloc()));
+}
