@@ -15,8 +15,8 @@ sys.dont_write_bytecode = True
 import given  # noqa: E402
 
 TOP = os.path.dirname(os.path.dirname(os.path.abspath(__file__)))
-NAMED = ['replay', 'explain', 'try', 'tools/slim', 'tools/check', 'tools/build.py', 'tools/timeline.py', 'bench/first_run.sh',
-         'bench/run.py', 'bench/trust.py', 'bench/gate_times.py', 'bench/want_of_memory.py']
+NAMED = ['.ci/run', '.ci/tools', 'replay', 'explain', 'try', 'tools/slim', 'tools/check', 'tools/build.py', 'tools/timeline.py',
+         'bench/first_run.sh', 'bench/run.py', 'bench/trust.py', 'bench/gate_times.py', 'bench/want_of_memory.py']
 COPIED = ['replay', 'explain', 'tools/build.py', 'tools/check', 'tools/slim', 'crates.txt']
 WORD = '--no-such-word'
 HELD, USAGE = 70, 2
