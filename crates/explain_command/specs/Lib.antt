@@ -1,3 +1,4 @@
+pub mod Boxes
 pub mod Rows
 pub mod Statuses
 pub mod Told

@@ -1,10 +1,11 @@
 //! The call that the program makes.
-ghost use Rattle.std.specs.Prelude.{◌≡◌, ℕ, List, Some, length, map, true, IfOk};
+ghost use Rattle.std.specs.Prelude.{◌≡◌, ℕ, List, Some, map, true, IfOk};
 ghost use Rattle.bcast_io.specs.TextLines.{lines_of};
 ghost use Rattle.unit_outlets.specs.Account.{Account};
 ghost use Rattle.scenario_history.specs.Airs.{MeetAirs};
 ghost use Rattle.source_machine.specs.Airs.{Airs};
 ghost use Rattle.replay_steps.specs.Untaken.{UntakenBy};
+ghost use Rattle.explain_command.specs.Boxes.{fresh_boxes};
 ghost use Rattle.explain_command.specs.Rows.{lines_at};
 ghost use Rattle.explain_command.specs.Told.{Told, told_world};
 
@@ -53,8 +54,8 @@ pub(crate) fn explain_with_tallies<S: ByteSource, W: ByteSink + Drop>(
     source: &mut S,
     sink: &mut ExplainedRows<W>,
 ) -> Result<Ending, Memory>
-    ensures { IfOk result (λ ending. (starts : List Account) × (ends : List Account) × (length starts ≡ 8)
-        × Told (told_world (S.left source.old) (S.faults source.old) W.contents W.faults sink.old starts)
+    ensures { IfOk result (λ ending. (ends : List Account)
+        × Told (told_world (S.left source.old) (S.faults source.old) W.contents W.faults sink.old fresh_boxes)
         (told_world (S.left source.new) (S.faults source.new) W.contents W.faults sink.new ends)
         (lines_at sink.old.place (W.contents sink.old.inner)) (lines_at sink.new.place (W.contents sink.new.inner)) ending) }
 {

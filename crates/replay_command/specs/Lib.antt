@@ -1,3 +1,4 @@
+pub mod Boxes
 pub mod Statuses
 pub mod FromText
 pub mod FromDocument

@@ -1,7 +1,8 @@
 //! The program over a source and a sink: its words and its boxes.
-ghost use Rattle.std.specs.Prelude.{◌≡◌, List, drop, length, map, string_bytes, IfOk, OnErr};
+ghost use Rattle.std.specs.Prelude.{◌≡◌, List, drop, map, string_bytes, IfOk, OnErr};
 ghost use Rattle.std.specs.Vec.Iter.{into_iter_items};
 ghost use Rattle.unit_outlets.specs.Account.{Account};
+ghost use Rattle.replay_command.specs.Boxes.{fresh_boxes};
 ghost use Rattle.replay_command.specs.ByWords.{PromisedFor};
 ghost use Rattle.replay_lines.specs.World.{world_of};
 
@@ -24,8 +25,8 @@ pub(crate) fn replay_with_tallies<S: ByteSource, K: ByteSink>(
     source: &mut S,
     sink: &mut K,
 ) -> Result<Status, Memory>
-    ensures promised { IfOk result (λ status. (starts : List Account) × (ends : List Account) × (length starts ≡ 8)
-        × (let old = world_of S.left S.faults K.contents K.faults source.old sink.old starts in
+    ensures promised { IfOk result (λ status. (ends : List Account)
+        × (let old = world_of S.left S.faults K.contents K.faults source.old sink.old fresh_boxes in
         let new = world_of S.left S.faults K.contents K.faults source.new sink.new ends in
         PromisedFor (map string_bytes words.now) old new status)) }
     ensures unread { OnErr result (source.new ≡ source.old) }
