@@ -1,5 +1,5 @@
 -- What a generated run promises, by how its lines ended and what was written.
-use Rattle.std.proofs.Common.{◌≡◌, ◌≢◌, ℕ, ◌+◌, ◌<◌, ◌≤◌, List, [], ◌∷◌, length, reverse, refl, sym, subst, ◌∙◌, Option, None, Some, inl, inr}
+use Rattle.std.proofs.Common.{◌≡◌, ◌≢◌, ℕ, ◌+◌, ◌<◌, ◌≤◌, List, [], ◌∷◌, length, reverse, refl, sym, subst, ◌∙◌, Option, inl, inr}
 use Rattle.std.proofs.lemmas.List.{append-nil}
 use Rattle.std.proofs.lemmas.Bool.{cases_lt}
 use Rattle.std.specs.Io.KnownBytes.{Appends}
@@ -21,7 +21,7 @@ use Rattle.scenario_history.specs.Transcript.{transcript_of, transcript_end, uni
 use Rattle.scenario_sinks.specs.Faults.{CountsStay, OneCounts}
 use Rattle.scenario_sinks.specs.Handing.{BoxFails}
 use Rattle.scenario_sinks.proofs.Citable.{failed_one, none_counts, one_then, took_stay}
-use Rattle.replay_generated.specs.Generated.{BoxFailed, CutShort, Did, EndedOver, GeneratedRun, IsDoneOrMemory, Summed, lines_made, summary_in}
+use Rattle.replay_generated.specs.Generated.{BoxFailed, CutShort, Did, EndedOver, GeneratedRun, IsDoneOrMemory, Summed, lines_made}
 use Rattle.replay_generated.specs.State.Between.{Ends, FrontTaken, Puts, Told}
 use Rattle.replay_generated.specs.declared.outcome.Outcome.{Outcome}
 use Rattle.replay_generated.specs.declared.outcome.Outcome.TheVariants as outcomes

@@ -1,5 +1,5 @@
 -- Nothing of a summary was written, and there is something to be written.
-use Rattle.std.proofs.Common.{ℕ, List, [], ◌∷◌, ◌++◌, length, Option, refl, arith, length-append}
+use Rattle.std.proofs.Common.{ℕ, List, [], ◌∷◌, ◌++◌, Option, refl, arith, length-append}
 use Rattle.std.specs.Prelude.{codes, decimal}
 use Rattle.bcast_io.specs.Writing.{AppendsShort}
 use Rattle.bcast_io.proofs.Citable.{Appends-nothing}

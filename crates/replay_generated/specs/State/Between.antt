@@ -1,6 +1,6 @@
 -- What stands between two lines of a generated run: the lines so far are its history, the newest first. Runs and lines are
 -- this project's own.
-use Rattle.std.specs.Prelude.{ℕ, ◌≡◌, ◌≢◌, ◌⊎◌, ◌+◌, List, [], ◌∷◌, ◌++◌, length, reverse, Option, None, Some}
+use Rattle.std.specs.Prelude.{ℕ, ◌≡◌, ◌≢◌, ◌⊎◌, ◌+◌, List, [], ◌∷◌, ◌++◌, length, Option, None, Some}
 use Rattle.std.specs.Io.KnownBytes.{Appends}
 use Rattle.bcast_base.specs.Counts.{Rose}
 use Rattle.bcast_io.specs.TextLines.{TextLine}
@@ -14,12 +14,11 @@ use Rattle.transcript_text.specs.Summary.{counts_of, with_lines}
 use Rattle.transcript_text.specs.declared.counts.Counts.{Counts}
 use Rattle.scenario_history.specs.Runs.{End, through, refused, brought, Accepted}
 use Rattle.scenario_history.specs.Boxes.{SinkUnit, Took}
-use Rattle.scenario_history.specs.Lines.{rules_of, handed_on, steps_of}
+use Rattle.scenario_history.specs.Lines.{rules_of, handed_on}
 use Rattle.scenario_history.specs.Transcript.{transcript_of, transcript_end, units_of}
 use Rattle.scenario_sinks.specs.Handing.{BoxFails, CutShort}
 use Rattle.replay_steps.specs.LineMeets.{LinesStand, refusal_at}
 use Rattle.replay_steps.specs.declared.machine.Machine.{Machine}
-use Rattle.replay_steps.specs.Untaken.{UntakenSame}
 use Rattle.replay_generated.specs.Generated.{BoxFailed, EndedOver}
 use Rattle.replay_generated.specs.declared.outcome.Outcome.{Outcome}
 use Rattle.replay_generated.specs.declared.outcome.Outcome.TheVariants as outcomes

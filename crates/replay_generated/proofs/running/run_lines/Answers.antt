@@ -1,4 +1,4 @@
-use Rattle.std.proofs.Common.{◌+◌, ◌∷◌, ◌∙◌, ap, sym, map, refl, subst, arith, length, Ok}
+use Rattle.std.proofs.Common.{◌+◌, ◌∙◌, ap, sym, map, refl, subst, arith, length, Ok}
 use Rattle.scenario_lines.specs.Generated.{generated_lines}
 use Rattle.replay_generated.specs.Generated.{lines_made}
 use Rattle.replay_generated.specs.State.Comings.{IsComing}
