@@ -1,0 +1,107 @@
+#!/usr/bin/env python3
+"""in_turn.py PROGRAM: gives the built program the lines of a scenario one by one, each once all that the lines before it bring was
+written. So a program that reads a line before it wrote what the line before brings gets none, and the test ends with a fault. It runs
+the worked rows and every fourth scenario of corpus/, but those that a run of the program can't be given a line at a time."""
+import os
+import select
+import subprocess
+import sys
+import time
+
+sys.dont_write_bytecode = True
+sys.path.insert(0, os.path.dirname(os.path.abspath(__file__)))
+import given  # noqa: E402
+import scenarios  # noqa: E402
+
+# Seconds until the program is taken to wait for more than it was given.
+PATIENCE = 20
+# Longer texts are left out, as each line is a write and a read.
+LONGEST = 200_000
+# Who waits so often doesn't write in turn.
+MOST_FAULTS = 3
+
+
+def read_exactly(file, count):
+    """As many octets as are due, or fewer where the program ends or waits."""
+    found, until = b'', time.monotonic() + PATIENCE
+    while len(found) < count:
+        if not select.select([file], [], [], max(0, until - time.monotonic()))[0]:
+            return found
+        piece = os.read(file, count - len(found))
+        if not piece:
+            return found
+        found += piece
+    return found
+
+
+def turns(scenario):
+    """The lines to be given, each with what is due before the next: up to a refusal, behind which no line is read. None stands for the
+    end of the text, which alone brings the refusal that no `end` came."""
+    for line, lines in scenario.steps:
+        is_last = bool(lines) and scenarios.is_refusal(lines[-1])
+        if is_last and line is not None and lines[-1].endswith(b': NoEnd'):
+            yield line, lines[:-1]
+            yield None, lines[-1:]
+        else:
+            yield line, lines
+        if is_last:
+            return
+
+
+def given_line(run, line):
+    """Gives a line, or the end of the text: whether the program still reads."""
+    if line is None:
+        run.stdin.close()
+        return True
+    try:
+        run.stdin.write(line + b'\n')
+    except BrokenPipeError:
+        return False
+    return True
+
+
+def in_turn(program, scenario):
+    """What is wrong with a run, or None."""
+    with subprocess.Popen([program], stdin=subprocess.PIPE, stdout=subprocess.PIPE, stderr=subprocess.DEVNULL, bufsize=0) as run:
+        try:
+            for number, (line, lines) in enumerate(turns(scenario), 1):
+                if not given_line(run, line):
+                    return f'line {number}: the program ended before it'
+                due = b''.join(it + b'\n' for it in lines)
+                found = read_exactly(run.stdout.fileno(), len(due))
+                if found != due:
+                    return f'line {number}: {found!r}, not {due!r}, before the next line was given'
+            if not run.stdin.closed:
+                run.stdin.close()
+            rest = read_exactly(run.stdout.fileno(), 1)
+            return f'{rest!r} behind the transcript' if rest else None
+        finally:
+            run.kill()
+
+
+def is_given_by_lines(scenario):
+    """Whether a run can be given its lines one by one: no words, and a text and a transcript that end with a newline."""
+    text = b''.join(line + b'\n' for line, _ in scenario.steps if line is not None)
+    written = b''.join(line + b'\n' for _, lines in scenario.steps for line in lines)
+    return not scenario.words and scenario.text == text and scenario.transcript == written and len(text) <= LONGEST
+
+
+def main():
+    [program] = given.programs('PROGRAM')
+    some = [*scenarios.rows(), *list(scenarios.corpus())[::4]]
+    some = [it for it in some if is_given_by_lines(it[1])]
+    faults = lines = 0
+    for file, scenario in some:
+        lines += len(scenario.steps)
+        wrong = in_turn(program, scenario)
+        if wrong:
+            faults += 1
+            print(f'{file}: {scenario.name}: {wrong}')
+            if faults == MOST_FAULTS:
+                break
+    print(f'lines in turn: {len(some)} scenarios of {lines} lines, {faults} fail')
+    sys.exit(1 if faults else 0)
+
+
+if __name__ == '__main__':
+    main()
