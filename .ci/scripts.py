@@ -1,7 +1,7 @@
 #!/usr/bin/env python3
 """scripts.py: calls the scripts of the repository with a word that none knows, and prints each that doesn't refuse it, with status 2,
-nothing on standard output and a line on standard error. In a copy of their own it tries what `tools/slim` removes, and that nothing
-is built, checked or removed while a test run holds its lock."""
+nothing on standard output and a line on standard error. Those that people run answer `--help`, `-h` and `--version`. In a copy
+of their own it tries what `tools/slim` removes, and that nothing is built, checked or removed while a test run holds its lock."""
 import concurrent.futures
 import fcntl
 import glob
@@ -15,8 +15,9 @@ sys.dont_write_bytecode = True
 import given  # noqa: E402
 
 TOP = os.path.dirname(os.path.dirname(os.path.abspath(__file__)))
-NAMED = ['.ci/run', '.ci/tools', 'replay', 'explain', 'try', 'tools/slim', 'tools/check', 'tools/build.py', 'tools/timeline.py',
-         'bench/first_run.sh', 'bench/run.py', 'bench/trust.py', 'bench/gate_times.py', 'bench/want_of_memory.py']
+NAMED = ['.ci/run', '.ci/tools', 'replay', 'explain', 'try', 'tools/slim', 'tools/check', 'tools/build.py', 'tools/version',
+         'tools/timeline.py', 'bench/first_run.sh', 'bench/run.py', 'bench/trust.py', 'bench/gate_times.py', 'bench/want_of_memory.py']
+ANSWERING = ['replay', 'explain', 'try', 'tools/slim', 'tools/check', 'tools/build.py', 'tools/version', 'tools/timeline.py']
 COPIED = ['replay', 'explain', 'tools/build.py', 'tools/check', 'tools/slim', 'crates.txt']
 WORD = '--no-such-word'
 HELD, USAGE = 70, 2
@@ -42,6 +43,17 @@ def refuses(script):
     ran = run(TOP, script, WORD)
     is_well = ran.returncode == USAGE and not ran.stdout and ran.stderr and b'Traceback' not in ran.stderr
     return None if is_well else f'{script} {WORD}: status {ran.returncode}, {ran.stdout[:80]!r}, {ran.stderr[-200:]!r}'
+
+
+def answers(script):
+    """What is wrong with what the script answers to each of these words alone, on standard output and with status 0."""
+    with open(os.path.join(TOP, 'VERSION'), encoding='ascii') as file:
+        version = f'vicemint {file.read().strip()} ('.encode()
+    for word, front in (('--help', b''), ('-h', b''), ('--version', version)):
+        ran = run(TOP, script, word)
+        if ran.returncode or ran.stderr or not ran.stdout or not ran.stdout.startswith(front):
+            return f'{script} {word}: status {ran.returncode}, {ran.stdout[:80]!r}, {ran.stderr[-200:]!r}'
+    return None
 
 
 def copied(folder):
@@ -85,12 +97,13 @@ def main():
     given.programs()
     with concurrent.futures.ThreadPoolExecutor(os.cpu_count()) as pool, tempfile.TemporaryDirectory() as folder:
         names = list(scripts())
-        failed = [it for it in pool.map(refuses, names) if it]
+        failed = [it for it in [*pool.map(refuses, names), *pool.map(answers, ANSWERING)] if it]
         copied(folder)
         failed += [*held(folder), *slimmed(folder)]
     for it in failed:
         print(f'scripts: {it}')
-    print(f'scripts: {len(names)} with a word that none knows, 5 beside a test run, slim in 4 ways; {len(failed)} fail')
+    told = f'{len(names)} with a word that none knows, {len(ANSWERING)} with --help and --version, 5 beside a test run, slim in 4 ways'
+    print(f'scripts: {told}; {len(failed)} fail')
     return 1 if failed else 0
 
 

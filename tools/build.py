@@ -47,6 +47,11 @@ def say(text):
     print(f'{TARGET.name}: {text}', file=sys.stderr, flush=True)
 
 
+def tell_version():
+    """Prints the version of the repository: the exit status of what does."""
+    return subprocess.run([f'{TOP}/tools/version'], check=False).returncode
+
+
 def program_file():
     return f'{TOP}/crates/{TARGET.program}/out/{TARGET.program}'
 
@@ -390,6 +395,8 @@ def main(words):
     if words in (['-h'], ['--help']):
         print(USAGE)
         return 0
+    if words == ['--version']:
+        return tell_version()
     if words and words[0] in PROGRAMS:
         TARGET.name, TARGET.program = words[0], PROGRAMS[words[0]]
         words = words[1:]

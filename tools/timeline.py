@@ -8,6 +8,7 @@ import sys
 import time
 
 sys.dont_write_bytecode = True
+from command_words import Version  # noqa: E402
 from timeline_data import data_of, read_run  # noqa: E402
 from timeline_page import page_of  # noqa: E402
 from timeline_reading import OCTETS, RunFault  # noqa: E402
@@ -41,6 +42,7 @@ def words_of(words):
     parser.add_argument('--title', help="what stands above it; else the page's name")
     parser.add_argument('--fold', metavar='MS', type=milliseconds,
                         help='folds each stretch of time in which nothing is for longer than this; else for longer than five ISO intervals')
+    parser.add_argument('--version', action=Version, default=argparse.SUPPRESS, help='prints the version of the repository')
     return parser.parse_args(words)
 
 
