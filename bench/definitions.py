@@ -11,6 +11,7 @@ TOP = os.path.dirname(os.path.dirname(os.path.abspath(__file__)))
 CRATES = os.path.join(TOP, 'crates')
 
 IMPORT = re.compile(r'(?:ghost )?use Rattle\.([\w.]+?)(?:\.\{([^}]*)\})?(?: as (\S+?))?;?$')
+MARK = '-- ---- '
 CODE_IMPORT = re.compile(r'^(?:pub )?use (\w+)::([^;]+);', re.M)
 ANTT_ITEM = re.compile(r'(?:(?:abbrev|unfoldable) )?(?:pub )?(record |data )?(\S+)( :.*|.*)$')
 FIELD = re.compile(r'  (?:pub )?(\S+) : ')
@@ -31,9 +32,15 @@ class Item:
     file: str
     name: str
     kind: str
-    count: int = 0
+    mark: str = ''
+    lines: list = dataclasses.field(default_factory=list)
     text: list = dataclasses.field(default_factory=list)
     members: set = dataclasses.field(default_factory=set)
+
+    @property
+    def count(self):
+        """How many lines it has, without blank ones."""
+        return sum(bool(line) for line in self.lines)
 
 
 def text_of(file):
@@ -64,10 +71,12 @@ def imported(line, scope):
 
 
 class Definitions:
-    """A file of specs/: its scope and its items, by their names and those of their constructors."""
+    """A file of specs/: its head comment, its scope and its items, by their names and those of their constructors. An item has the
+    comment above it, and the mark of its part of the file."""
 
     def __init__(self, file):
-        self.file, self.scope, self.items, self.note, self.current = file, {}, {}, 0, None
+        self.file, self.head, self.scope, self.items, self.current = file, [], {}, {}, None
+        self.notes, self.mark, self.blank = [], '', False
         for line in text_of(file).split('\n'):
             self.read(line)
         for item in list(self.items.values()):
@@ -77,28 +86,43 @@ class Definitions:
     def read(self, line):
         """Takes a line to the item that it is of."""
         text = without_comment(line, '--')
-        if not line or line.startswith('infix'):
-            self.note = 0
+        if not line:
+            self.close_notes()
+            self.blank = True
         elif line.startswith('use '):
+            self.close_notes()
             imported(line, self.scope)
-        elif not text.strip():
-            self.note += 1
-        elif text.startswith(' ') or text.startswith('}') or not self.begins(text):
-            self.current.count += 1 + self.note
-            self.note = 0
+        elif not text.strip() or line.startswith('infix'):
+            self.notes.append(line)
+        elif text.startswith(' ') or text.startswith('}') or not self.begins(text, line):
+            self.current.lines += [''] * self.blank + [*self.notes, line]
+            self.notes, self.blank = [], False
             self.current.text.append(text)
             if self.current.kind == 'data' and FIELD.match(text):
                 self.current.members.add(FIELD.match(text)[1])
 
-    def begins(self, text):
+    def close_notes(self):
+        """Takes a comment that no item follows: that of the file, or the mark of a part."""
+        if not self.notes:
+            return
+        said = [note.removeprefix(MARK).removeprefix('--').strip() for note in self.notes]
+        if self.notes[0].startswith(MARK):
+            self.mark = ' '.join(said)
+        elif not self.items and not self.head:
+            self.head = said
+        else:
+            raise Unread(f'{self.file}: {self.notes[0]}')
+        self.notes = []
+
+    def begins(self, text, line):
         """Whether a line begins an item, which then is the current one."""
         if text.startswith('pub mod '):
             return True
         kind, name, rest = ANTT_ITEM.match(text).groups()
         if kind or rest.startswith(' :'):
-            self.current = Item(self.file, name.strip('◌'), (kind or 'value').strip(), 1 + self.note, [text])
+            self.current = Item(self.file, name.strip('◌'), (kind or 'value').strip(), self.mark, [*self.notes, line], [text])
             self.items[self.current.name] = self.current
-            self.note = 0
+            self.notes, self.blank = [], False
             return True
         if self.current is None or name != self.current.name and f' {self.current.name} ' not in text:
             raise Unread(f'{self.file}: {text}')
@@ -109,7 +133,7 @@ class Code:
     """A file of src/: its scope, and its public types, traits and calls with their contracts."""
 
     def __init__(self, file):
-        self.file, self.scope, self.items, self.whole = file, {}, {}, text_of(file)
+        self.file, self.head, self.scope, self.items, self.whole = file, [], {}, {}, text_of(file)
         for line in self.whole.split('\n'):
             if line.strip().startswith('ghost use '):
                 imported(line.strip(), self.scope)
@@ -130,8 +154,10 @@ class Code:
         if not text.endswith((';', '}')):
             text = re.match(r'(?s).*?\{\}?$' if is_call else r'(?s).*?^\}', self.whole[found.start():], re.M)[0]
         item = self.items.setdefault(name, Item(self.file, name, 'call' if is_call else 'type'))
-        item.count += front[0].count('\n') + len(text.removesuffix('\n{').split('\n'))
-        item.text += [without_comment(line, '//') for line in text.split('\n') if 'ghost use' not in line]
+        lines = [line for line in text.removesuffix('\n{').split('\n') if 'ghost use' not in line]
+        item.text += [without_comment(line, '//') for line in lines]
+        item.lines += [''] * bool(item.lines) + [line for line in front[0].split('\n') if line and not line.startswith('#[')]
+        item.lines += [line for at, line in enumerate(lines) if line or not lines[at - 1].endswith('{')]
 
 
 @functools.cache
@@ -168,10 +194,10 @@ def item_of(module, name):
 
 
 class Scan:
-    """The names that an item uses, with the module of each; a name that is bound before it in the same part is none."""
+    """The words of an item that are names, each with its module and its name there; one that is bound before it is none."""
 
     def __init__(self, item):
-        self.item, self.file, self.used, self.bound = item, opened(item.file), set(), set()
+        self.item, self.file, self.words, self.bound = item, opened(item.file), {}, set()
 
     def meaning(self, word):
         """The module and the name that a word stands for, or None for a variable, a field or a sign."""
@@ -195,8 +221,8 @@ class Scan:
 
     def use(self, word):
         means = self.meaning(word)
-        if means:
-            self.used.add(means)
+        if means and means != (self.item.file, self.item.name):
+            self.words[word] = means
 
     def pattern(self, words):
         """What stands to the left of a clause: constructors are used, all else is bound."""
@@ -236,8 +262,8 @@ class Scan:
                 parts[-1] += '\n' + line
         return parts
 
-    def names(self):
-        """All names that the item uses."""
+    def read(self):
+        """Takes all names that the item uses."""
         if self.item.kind in ('type', 'call'):
             self.body(re.sub(r'[<>&]|\bSelf\b', ' ', '\n'.join(self.item.text)))
         elif self.item.kind == 'value':
@@ -250,7 +276,6 @@ class Scan:
                 self.body(right)
         else:
             self.fields()
-        return {means for means in self.used if means != (self.item.file, self.item.name)}
 
     def fields(self):
         """A record or a data type: each field has its type behind its name, and is bound from then on."""
