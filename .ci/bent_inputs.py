@@ -7,7 +7,7 @@ or with 1 and one line on standard error.
 Besides, each is given words that can't be taken, words that it doesn't know, files that can't be read or written, and `--help`.
 
 The case NUMBER of a tool is drawn by the seed, the tool and the number alone, so that one that fails can be run again; its input is
-kept where the line says. Exit status 1: one fails; 3: scapy is missing, so that only the page of a run was tried."""
+kept where the line says. Exit status 1: one fails; 3: scapy or liblc3-tools is missing, so that some tools weren't tried."""
 import argparse
 import contextlib
 import importlib.util
@@ -27,10 +27,12 @@ sys.dont_write_bytecode = True
 HERE = os.path.dirname(os.path.abspath(__file__))
 TOOLS = os.path.join(os.path.dirname(HERE), 'tools')
 sys.path[:0] = [TOOLS, HERE]
+import bent_sounds  # noqa: E402
 import scenarios  # noqa: E402
 from bending import OF_CAPTURES, OF_TEXTS  # noqa: E402
 
 HAS_SCAPY = importlib.util.find_spec('scapy') is not None
+HAS_CODER = all(map(shutil.which, ('elc3', 'dlc3')))
 TIME_LIMIT, MEMORY_LIMIT = 30, 8 << 30  # seconds and octets that a case may take
 LARGEST = 4000  # octets of a scenario that is bent, so that many can be
 LINES_TOLD = 400  # characters of what was said that are shown
@@ -154,6 +156,11 @@ def captures(program, folder):
             yield {'capture': file.read()}
 
 
+def quiet_audio(words):
+    """Runs audio.py, which says nothing."""
+    outcome(main_of('audio'), words)
+
+
 def tools(program, explain, folder):
     """The tools that can be run here."""
     small = list(small_scenarios())
@@ -163,6 +170,11 @@ def tools(program, explain, folder):
     scenario, transcript, capture, written = map(named, ('scenario', 'transcript', 'capture', 'written'))
     told = [{'standard input': subprocess.run([explain], input=it.text, capture_output=True, check=False).stdout} for it in small[::6]]
     yield Tool('timeline', told, OF_TEXTS, lambda it: [written(it)])
+    if HAS_CODER:
+        wav, runs = named('wav'), list(bent_sounds.sounds(quiet_audio, program, folder))
+        yield Tool('audio out', [{'wav': it['wav']} for it in runs], OF_CAPTURES, lambda it: ['out', wav(it), written(it)])
+        both = [{name: it[name] for name in ('scenario', 'transcript')} for it in runs]
+        yield Tool('audio in', both, OF_TEXTS, lambda it: ['in', scenario(it), transcript(it), written(it), '--sink', '0'])
     if not HAS_SCAPY:
         return
     texts = [{'scenario': it.text} for it in small]
@@ -215,6 +227,9 @@ def hand_cases(program, explain, folder):
         yield f'timeline, {name}', 'timeline', [path], told, 1
     for name, numbers in (('ISO', '0 10000 4 4 1 1 1 1'), ('NUMBIS', '8 10000 4 4 0 1 1 1'), ('NSE', '8 10000 4 4 1 1 0 1')):
         yield f'timeline, {name} 0', 'timeline', [at('v')], told.replace(b'8 10000 4 4 1 1 1 1', numbers.encode()), 1
+    if HAS_CODER:
+        for name, words, status in bent_sounds.cases(list(bent_sounds.sounds(quiet_audio, program, folder)), folder):
+            yield name, 'audio', words, b'', status
     if not HAS_SCAPY:
         return
     run = [at('life.scn'), at('w'), '--program', program]
@@ -239,21 +254,23 @@ def hand_cases(program, explain, folder):
     yield 'a program that is not one', 'capture_out', run[:3] + [at('life.scn')], b'', 1
 
 
-def whole_words(tool, words, *options, is_closed=False):
-    """A tool in a process of its own, whose standard input is empty or closed."""
+def whole_words(tool, words, *options, is_closed=False, path=None):
+    """A tool in a process of its own, whose standard input is empty or closed; with a path on which programs are, where it isn't ours."""
+    places = os.environ if path is None else {**os.environ, 'PATH': path}
     command = [sys.executable, *options, os.path.join(TOOLS, tool + '.py'), *words]
     if is_closed:
         command = ['sh', '-c', 'exec "$@" <&-', 'sh', *command]
-    done = subprocess.run(command, stdin=subprocess.DEVNULL, capture_output=True, check=False, timeout=60)
+    done = subprocess.run(command, stdin=subprocess.DEVNULL, capture_output=True, check=False, timeout=60, env=places)
     return Outcome(done.returncode, done.stdout.decode(), done.stderr.decode())
 
 
 def command_lines(folder):
     """Faults of what each tool says of its words."""
     path = os.path.join(folder, 'nothing')
-    for tool, enough in (('capture_out', [path, path]), ('capture_in', [path, '--out', path]), ('timeline', [path])):
+    of_sound = ['in', path, path, path, '--sink', '0']
+    for tool, enough in (('capture_out', [path, path]), ('capture_in', [path, '--out', path]), ('timeline', [path]), ('audio', of_sound)):
         ended = whole_words(tool, ['--help'])
-        if ended.status != 0 or not ended.output.startswith('usage:') or ended.told and HAS_SCAPY:
+        if ended.status != 0 or not ended.output.startswith('usage:') or ended.told and HAS_SCAPY and HAS_CODER:
             yield f'{tool} --help: status {ended.status}: {ended.told}'
         for words in ([], ['--nothing'], enough + ['--nothing'], enough + ['more', 'words']):
             ended = whole_words(tool, words)
@@ -263,6 +280,9 @@ def command_lines(folder):
             ended = whole_words(tool, enough, is_closed=True)
             if ended.status != 1 or ended.told.count('\n') != 1:
                 yield f'{tool} with standard input closed: status {ended.status}: {ended.told}'
+            continue
+        if tool == 'audio':
+            yield from bent_sounds.command_lines(whole_words, enough)
             continue
         for words, status in ((['--help'], 0), (enough, 1)):  # -S: without the folders in which packages are
             ended = whole_words(tool, words, '-S')
@@ -343,8 +363,9 @@ def main():
         return 1
     if not HAS_SCAPY:
         print('skipped: bent inputs of the tools for captures, since this python3 has no scapy (apt-get install python3-scapy)')
-        return 3
-    return 0
+    if not HAS_CODER:
+        print('skipped: bent inputs of audio.py, since elc3 and dlc3 are missing (apt-get install liblc3-tools)')
+    return 0 if HAS_SCAPY and HAS_CODER else 3
 
 
 if __name__ == '__main__':
