@@ -141,7 +141,7 @@ class Broadcast:
 def least_bn(setting, is_framed, interval, max_pdu):
     """The least BN that carries the units of an event; in an unframed group the only one."""
     if not is_framed:
-        return min(7, max(1, interval // setting.sdu) * -(-setting.octets // max_pdu))
+        return min(7, max(1, interval // setting.sdu) * -(-setting.octets // max(1, max_pdu)))
     units = -(-interval // setting.sdu)
     needed = (bn for bn in range(1, 7) if bn * max_pdu >= units * (setting.octets + 5) + 2 * (bn - 1))
     return next(needed, 7)

@@ -117,13 +117,14 @@ def program_of(named, name):
     return built if os.path.exists(built) else script
 
 
-def programs_of(asked):
-    return sweep_runs.Programs(program_of(asked.program, 'replay'), program_of(asked.explain, 'explain'))
+def programs_of(asked, sweep):
+    """The programs that are needed: `explain` tells of framed groups, and of the runs that a page shows."""
+    is_told = asked.page or any(it.is_framed for it in sweep.groups)
+    return sweep_runs.Programs(program_of(asked.program, 'replay'), program_of(asked.explain, 'explain') if is_told else None)
 
 
-def swept(asked, programs):
-    """Makes the runs of the shard; gives the sweep, its refusals and results, and whether all were made."""
-    sweep = sweep_of(asked)
+def swept(asked, sweep, programs):
+    """Makes the runs of the shard; gives the refusals and results, and whether all were made."""
     refusals = {place: it for place, group in enumerate(sweep.groups) if (it := sweep_runs.refusal_of(group, programs)) is not None}
     jobs = [it for it in sweep.jobs(asked.shard or (1, 1)) if it[1] not in refusals]
     results, is_whole = {}, False
@@ -138,7 +139,7 @@ def swept(asked, programs):
             is_whole = True
         except KeyboardInterrupt:
             print(f'choose: stopped: {len(results)} of {len(jobs)} runs are made', file=sys.stderr)
-    return sweep, refusals, results, is_whole
+    return refusals, results, is_whole
 
 
 def settings():
@@ -156,17 +157,20 @@ def made(asked):
         return 0
     if asked.merge:
         (sweep, refusals, results), is_whole = sweep_files.merged(asked.merge), True
+        programs = programs_of(asked, sweep) if asked.page else None
         missing = sum(place not in refusals for _, place in sweep.jobs()) - len(results)
         if missing:
             print(f'choose: the files lack {missing} runs of the sweep', file=sys.stderr)
     else:
-        sweep, refusals, results, is_whole = swept(asked, programs_of(asked))
+        sweep = sweep_of(asked)
+        programs = programs_of(asked, sweep)
+        refusals, results, is_whole = swept(asked, sweep, programs)
     rows = sweep_figures.rows_of(sweep, results, refusals)
     print('\n'.join(sweep_files.table(sweep, rows)))
     if asked.csv:
         sweep_files.write_csv(asked.csv, rows)
     if asked.page:
-        sweep_page.write(asked.page, sweep, rows, None if not is_whole else programs_of(asked), asked.timeline)
+        sweep_page.write(asked.page, sweep, rows, programs if is_whole else None, asked.timeline)
     return 0 if is_whole else STOPPED
 
 

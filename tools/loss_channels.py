@@ -16,7 +16,7 @@ from dataclasses import dataclass
 CELL = 50  # µs: PDUs that begin in the same cell have the same draw; those of one stream begin at least 198 µs apart
 CELLS = 20000  # cells of a block of draws, which is a second
 CERTAIN = 2 ** 32  # the draws are below this
-MOST_STEPS = 5000000
+MOST_STEPS = 2000000
 KINDS = {  # of each kind what its numbers are
     'independent': ('LOSS',), 'burst': ('LOSS', 'LOSS', 'MS', 'MS'), 'interference': ('LOSS', 'MS', 'PART'),
     'body': ('LOSS', 'LOSS', 'MS', 'MS or 0'),

@@ -50,7 +50,7 @@ def of_setting(asked, named):
     group = broadcast.group({'nse': 3, **choice})
     if not loss_words.is_sendable(group):
         raise ChannelFault(f'no source sends this group: {group.line()}')
-    text, _ = lossy_runs.made_run(group, listeners, asked.seconds or 30, lossy_runs.channels_of(listeners, asked.seed))
+    text, _ = lossy_runs.made_run(group, listeners, asked.seconds or 30, lossy_runs.channels_of(tuple(listeners), asked.seed))
     yield text
 
 

@@ -1,4 +1,5 @@
 """Scenarios with losses: one that is made of a group, and one that is written as if all was heard. losses.py and choose.py use it."""
+import functools
 import re
 from dataclasses import dataclass
 
@@ -97,7 +98,9 @@ def made_run(group, listeners, seconds, channels):
     return ''.join(pieces), ears
 
 
+@functools.lru_cache(maxsize=2)
 def channels_of(listeners, seed):
+    """The channels of listeners, which a choice behind another meets again."""
     return [Channel(it.parts, seed, it.name) for it in listeners]
 
 

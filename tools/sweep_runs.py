@@ -16,7 +16,8 @@ from loss_channels import Part
 UNFRAMED_ROW = re.compile(rb'^unit (\d) (\d+) at \d+ ([vl])', re.MULTILINE)
 TOLD_ROW = re.compile(rb'^  (?:# )?unit (\d) (\d+) at (\d+)(?: ([vl])|: (n)ever begun)', re.MULTILINE)
 COUNTED = re.compile(rb'^  # sink (\d) stream (\d+) of source 0: units (\d+) valid, (\d+) lost, (\d+) never begun, \d+ slots', re.MULTILINE)
-REFUSAL = re.compile(rb'line \d+: ([A-Za-z]+(?: \d+)?)\n?$')
+REFUSAL = re.compile(rb'^(?:  )?line \d+: ([A-Za-z]+(?: \d+)?)$', re.MULTILINE)
+END = 4000  # octets of what a program writes in which its refusal and the notes on it stand
 GAP = re.compile(rb'[ln]+')
 PATIENCE = 600  # seconds that a program may take
 QUIET = 2  # seconds until progress is told
@@ -100,7 +101,7 @@ class Heard:
 class Programs:
     """The built programs."""
     replay: str
-    explain: str
+    explain: str | None
 
 
 def ran(program, text):
@@ -114,10 +115,10 @@ def ran(program, text):
         raise SweepFault(f'{program} ends with {done.returncode}: {said[-1] if said else "it says nothing"}')
     if done.returncode == 0:
         return done.stdout, None
-    found = REFUSAL.search(done.stdout[-100:])
-    if found is None:
+    found = REFUSAL.findall(done.stdout[-END:])
+    if not found:
         raise SweepFault(f'{program} ends with 1 and without a refusal')
-    return done.stdout, found[1].decode()
+    return done.stdout, found[-1].decode()
 
 
 def refusal_of(group, programs):
