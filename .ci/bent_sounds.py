@@ -36,6 +36,7 @@ def cases(runs, folder):
     yield 'a setting of another rate', out + ['--setting', '48_2'], 1
     yield 'a run without a sound', ['in', at('life.scn'), at('life.out'), at('v'), '--sink', '0'], 1
     yield 'a transcript of another run', into[:2] + [at('life.out'), at('v'), '--sink', '0'], 1
+    yield 'earbuds', out + ['--earbuds'], 0
     for sink in ('x', '8', '', '\u00b2', '0,', '2'):
         yield f'audio, --sink {sink}', into + ['--sink', sink], 1
     for words in WRONG_GROUPS:
@@ -49,7 +50,8 @@ def cases(runs, folder):
 
 def command_lines(whole_words, enough):
     """Faults of what audio.py says of its words in each way, and where its programs are missing."""
-    for words in (['out'], ['in'], ['in', *enough[1:4]], ['out', *enough[1:3], '--setting', '48_7'], ['out', *enough[1:3], '--sinks', '9']):
+    for words in (['out'], ['in'], ['in', *enough[1:4]], ['out', *enough[1:3], '--setting', '48_7'], ['out', *enough[1:3], '--sinks', '9'],
+                  ['out', *enough[1:3], '--sinks', '2', '--earbuds']):
         ended = whole_words('audio', words)
         if ended.status != 2 or ended.output:
             yield f'audio {" ".join(words)}: status {ended.status}, not 2: {ended.told}'

@@ -50,7 +50,10 @@ def words_of(words):
     out.add_argument('--setting', metavar='NAME', choices=lc3_coder.SETTINGS,
                      help="a setting of Basic Audio Profile, from 8_1 to 48_6; else the one of the WAV's rate that ends with _2")
     out.add_argument('--group', metavar='WORDS', help='the words of a `group` line behind `group`; else each unit is sent three times')
-    out.add_argument('--sinks', metavar='NUMBER', type=int, choices=range(1, 9), default=1, help='how many sinks there are; else 1')
+    listeners = out.add_mutually_exclusive_group()
+    listeners.add_argument('--sinks', metavar='NUMBER', type=int, choices=range(1, 9), default=1,
+                           help='how many sinks there are, from 1 to 8, each of which takes all channels; else 1')
+    listeners.add_argument('--earbuds', action='store_true', help='two sinks: sink 0 takes the left channel, and sink 1 the right one')
     into = ways.add_parser('in', help='what sinks hand up into a WAV', description='Writes what sinks hand up as a WAV.', **common)
     into.add_argument('scenario', metavar='SCENARIO', help='the scenario that was run, as `audio.py out` wrote it, with any losses')
     into.add_argument('transcript', metavar='TRANSCRIPT', help='what `replay` wrote for it')
@@ -64,7 +67,8 @@ def words_of(words):
 def bring_out(asked):
     """Writes the scenario of a WAV."""
     sound, frames = lc3_coder.encoded(asked.wav, asked.setting)
-    text = audio_scenario.text_of(sound, frames, asked.group, asked.sinks)
+    taken = audio_scenario.taken_streams(sound, asked.sinks, asked.earbuds)
+    text = audio_scenario.text_of(sound, frames, asked.group, taken)
     with open(asked.scenario, 'w', encoding='ascii') as file:
         file.write(text)
     print(f'audio: {sound.name}, {sound.channels} x {len(frames[0])} frames of {sound.setting.octets} octets', file=sys.stderr)

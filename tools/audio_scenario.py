@@ -40,19 +40,28 @@ def group_for(sound, words):
     return group
 
 
-def text_of(sound, frames, words, sinks):
-    """The scenario of the frames of each channel, in which each of so many sinks hears all."""
+def taken_streams(sound, sinks, are_earbuds):
+    """The streams that each of so many sinks takes: all, or of two earbuds one each."""
+    if not are_earbuds:
+        return [range(1, sound.channels + 1)] * sinks
+    if sound.channels != 2:
+        raise AudioFault('--earbuds: the sound has one channel, and earbuds take one each')
+    return [(1,), (2,)]
+
+
+def text_of(sound, frames, words, taken):
+    """The scenario of the frames of each channel, in which each sink hears all of the streams that it takes."""
     group, sides = group_for(sound, words), SIDES if sound.channels == 2 else ()
     streams = range(1, sound.channels + 1)
     lines = ['scenario 2', note_of(sound), group.line(), *HEAD, f'subgroup 0600000000 {sound.setting.configuration}', 'meta 03020400']
     lines += [f'bis {stream} {"0503" + sides[stream - 1] if sides else "-"}' for stream in streams]
-    lines += [f'sink {sink} {sound.channels} 1' for sink in range(sinks)] + ['start 0']
-    lines += [f'tuned {sink} {" ".join(map(str, streams))}' for sink in range(sinks)]
+    lines += [f'sink {sink} {len(those)} 1' for sink, those in enumerate(taken)] + ['start 0']
+    lines += [f'tuned {sink} {" ".join(map(str, those))}' for sink, those in enumerate(taken)]
     for units in units_by_event(sound, group):
         for unit in units:
             time = group.origin + sound.setting.time_of(unit) if group.is_framed else '-'
             lines += [f'unit {stream} {time} {frames[stream - 1][unit].hex()}' for stream in streams]
-        lines += ['event', *(f'air {sink} 0' for sink in range(sinks))]
+        lines += ['event', *(f'air {sink} 0' for sink in range(len(taken)))]
     text = '\n'.join([*lines, 'end', ''])
     if len(text) > MOST_OCTETS:
         seconds = sound.setting.time_of(len(frames[0])) * MOST_OCTETS // len(text) // 1_000_000
