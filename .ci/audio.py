@@ -1,5 +1,6 @@
 #!/usr/bin/env python3
-"""audio.py PROGRAM: takes WAVs of tones out as scenarios, runs them, and takes what sinks hand up in again, with tools/audio.py.
+"""audio.py PROGRAM: takes WAVs of tones out as scenarios, runs them, and takes what sinks hand up in again, with
+tools/audio.py. It runs the commands of docs/simulate.md about sound, too.
 
 With no loss the WAV is the round trip by elc3 and dlc3, octet for octet. With losses it is what an LC3 decoder makes of the frames that the
 transcript has, where it is told of each of the others that it was lost: lc3_decode of liblc3 without a frame. Exit status 1: something
@@ -227,14 +228,32 @@ def values():
 EARLY = 'unframed 20000 40000 8 10000 100 100 2 1 4 2 2 600 2400 1'  # each unit is sent twice 40 ms early
 PAIRS = 'unframed 20000 40000 12 7500 75 75 2 2 4 2 0 500 2000 1'  # two units an event
 SMALL = 'framed 20000 40000 8 10000 60 40 2 2 4 2 0 400 1600 1'  # segments: a unit is in two PDUs
+BLOCK = re.compile(r'```bash\n(.*?)```\n(?:\n```text\n(.*?)```\n)?', re.DOTALL)
 RELAYING = 'group framed 20000 40000 8 10000 100 105 1 1 1 1 0 0 0 1'
 WHOLE = (('48_2', 2, 16), ('48_1', 2, 16), ('441_2', 2, 16), ('16_2', 1, 16), ('32_1', 1, 24), ('48_2', 2, 16, '--group', EARLY),
          ('48_1', 2, 16, '--group', PAIRS), ('24_2', 2, 16, '--group', SMALL))
 LOST = (('48_2', 2, 16), ('48_1', 2, 16), ('441_2', 2, 16), ('24_2', 2, 16, '--group', SMALL))
 
 
+def documented(program, folder):
+    """What the commands of docs/simulate.md tell that doesn't stand behind them there: those of the section about sound."""
+    with open(os.path.join(TOP, 'docs', 'simulate.md'), encoding='utf-8') as file:
+        blocks = BLOCK.findall(file.read().partition('\n## Hear it\n')[2].partition('\n## ')[0])
+    os.symlink(os.path.join(TOP, 'tools'), os.path.join(folder, 'tools'))
+    with open(os.path.join(folder, 'replay'), 'w', encoding='utf-8') as file:
+        file.write(f'#!/bin/sh\nexec "{program}" "$@"\n')
+    os.chmod(file.name, 0o755)
+    for commands, wanted in blocks:
+        done = subprocess.run(['bash', '-euo', 'pipefail', '-c', commands], cwd=folder, capture_output=True, text=True, check=False)
+        if done.returncode != 0 or wanted and done.stdout + done.stderr != wanted:
+            yield f'docs/simulate.md: {commands[:80]!r} ends with {done.returncode} and tells {done.stdout + done.stderr!r}'
+    if len(blocks) < 3 or len({len(read(os.path.join(folder, it))) for it in ('tones.wav', 'heard.wav', 'early.wav')}) != 1:
+        yield 'docs/simulate.md: it has fewer commands, or its WAVs are not equally long'
+
+
 def faults(program, folder):
     """All that differs."""
+    yield from documented(program, folder)
     yield from values()
     yield from concealed()
     for words in WHOLE:
@@ -260,7 +279,7 @@ def main():
         found = []
         try:
             found += faults(program, folder)
-        except ToolFault as fault:
+        except (ToolFault, OSError) as fault:
             found.append(fault)
     for fault in found:
         print(f'audio: {fault}')
