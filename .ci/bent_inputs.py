@@ -27,6 +27,7 @@ sys.dont_write_bytecode = True
 HERE = os.path.dirname(os.path.abspath(__file__))
 TOOLS = os.path.join(os.path.dirname(HERE), 'tools')
 sys.path[:0] = [TOOLS, HERE]
+import bent_losses  # noqa: E402
 import bent_sounds  # noqa: E402
 import scenarios  # noqa: E402
 from bending import OF_CAPTURES, OF_TEXTS  # noqa: E402
@@ -175,6 +176,7 @@ def tools(program, explain, folder):
         yield Tool('audio out', [{'wav': it['wav']} for it in runs], OF_CAPTURES, lambda it: ['out', wav(it), written(it)])
         both = [{name: it[name] for name in ('scenario', 'transcript')} for it in runs]
         yield Tool('audio in', both, OF_TEXTS, lambda it: ['in', scenario(it), transcript(it), written(it), '--sink', '0'])
+    yield from bent_losses.tools(Tool, small, program, explain, folder)
     if not HAS_SCAPY:
         return
     texts = [{'scenario': it.text} for it in small]

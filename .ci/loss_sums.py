@@ -2,7 +2,7 @@
 uses it."""
 import math
 
-BURST_STEPS, PHASES = ('good', 'bad'), 20000
+PHASES = 20000
 
 
 def copies_of(group):
@@ -21,8 +21,8 @@ def product(one, other):
 
 
 def of_burst(numbers, times, length):
-    """Two states: that all PDUs are lost which are sent at these times for so long, by the chain of two states. A PDU has the loss of the bad
-    state where that holds at any moment while it is sent."""
+    """Two states: how likely all PDUs are lost which are sent at these times for so long, by the chain of two states. A PDU has the loss of
+    the bad state where that holds at any moment while it is sent."""
     good, bad, good_time, bad_time = numbers[0], numbers[1], numbers[2] * 1000, numbers[3] * 1000
     of_good, of_bad = good_time / (good_time + bad_time), bad_time / (good_time + bad_time)
 

@@ -55,8 +55,9 @@ CHOICES = (
 )
 SECONDS, RUNS = 12.0, 6
 # Framed choices: of one PDU an event that mostly has one unit, of two PDUs that units cross, and with early copies.
-FRAMED = ({'nse': 3}, {'nse': 4, 'bn': 2, 'max_pdu': 70}, {'nse': 6, 'bn': 2, 'irc': 1, 'pto': 2, 'max_pdu': 80}, {'nse': 6, 'bn': 3, 'iso': 24,
-          'max_pdu': 140})
+FRAMED = ({'nse': 3}, {'nse': 4, 'bn': 2, 'max_pdu': 70}, {'nse': 6, 'bn': 2, 'irc': 1, 'pto': 2, 'max_pdu': 80},
+          {'nse': 6, 'bn': 3, 'iso': 24, 'max_pdu': 140})
+QUANTILES = {(1, 0.95): 12.706, (9, 0.95): 2.262, (9, 0.999): 4.781, (30, 0.95): 2.042, (4, 0.99): 4.604}  # as tables have them
 
 
 def sweep(setting, choices, channel, seconds, runs, streams=2):
@@ -96,7 +97,10 @@ def by_counts(programs):
         result = sweep_runs.result_of(made, programs, 0, place)
         text, _ = made.text(group, 0)
         wanted = [sum(it) for it in zip(*(loss_sums.of_framed(group, text, 0, stream) for stream in (1, 2)))]
-        got = result if isinstance(result, str) else [result[0].units - result[0].lost - result[0].unbegun, result[0].lost, result[0].unbegun]
+        got = result
+        if not isinstance(result, str):
+            [it] = result
+            got = [it.units - it.lost - it.unbegun, it.lost, it.unbegun]
         if got != wanted or not all(wanted[0::2]):
             yield f'framed {FRAMED[place]}: {wanted} are valid, lost and never begun, and told are {got}'
 
@@ -129,7 +133,7 @@ def by_channels(folder):
         yield 'a trace loses other PDUs'
     if every - heard_of(f'trace:{path}', length=444) != {it for it in every if 100000 - 444 <= it < 250700}:
         yield 'a PDU that a loss begins to meet is not lost'
-    for (freedom, confidence), wanted in {(1, 0.95): 12.706, (9, 0.95): 2.262, (9, 0.999): 4.781, (30, 0.95): 2.042, (4, 0.99): 4.604}.items():
+    for (freedom, confidence), wanted in QUANTILES.items():
         if abs(sweep_figures.quantile(confidence, freedom) - wanted) > 0.001:
             yield f"Student's t of {freedom} and {confidence} is {sweep_figures.quantile(confidence, freedom)}"
 
@@ -166,8 +170,8 @@ def tool(name, words, **more):
                           text=True, **more)
 
 
-SWEEP = ('--channel', 'hall=burst:0.02,0.8,200,30', '--sink', 'front=1+2@independent:0.2', '--sink', 'back=2@hall+independent:0.01', '--nse', '2-3',
-         '--irc', '1,2,3', '--pto', '0-1', '--runs', '2', '--seconds', '1')
+SWEEP = ('--channel', 'hall=burst:0.02,0.8,200,30', '--sink', 'front=1+2@independent:0.2', '--sink', 'back=2@hall+independent:0.01',
+         '--nse', '2-3', '--irc', '1,2,3', '--pto', '0-1', '--runs', '2', '--seconds', '1')
 
 
 def by_shards(programs, folder):
@@ -197,23 +201,27 @@ def by_shards(programs, folder):
 SINK, MADE = ['--sink', 'a=1@independent:0.1'], ['--nse', '3', '--seconds', '1', '--runs', '1']
 # The words of each tool, and its exit status.
 WORDS = (
-    ('losses', ['--help'], 0), ('choose', ['--help'], 0), ('choose', ['--settings'], 0), ('losses', [*SINK, '--seconds', '0.1', '--out', '/dev/null'], 0),
+    ('losses', ['--help'], 0), ('choose', ['--help'], 0), ('choose', ['--settings'], 0),
+    ('losses', [*SINK, '--seconds', '0.1', '--out', '/dev/null'], 0),
     *((it, ['--no-such-word'], 2) for it in ('losses', 'choose')), *((it, [], 2) for it in ('losses', 'choose')),
-    *(('losses', [*SINK, '--nse', it], 2) for it in ('x', '32', '-1', '\u00b2', '', '3,4')), ('losses', ['/dev/null', *SINK, '--nse', '3'], 2),
-    *(('choose', [*SINK, '--nse', it], 2) for it in ('x', '32', '1-', '-', '', '\u00b2')), ('choose', SINK, 2), ('choose', ['--nse', '3'], 2),
+    *(('losses', [*SINK, '--nse', it], 2) for it in ('x', '32', '-1', '\u00b2', '', '3,4')),
+    ('losses', ['/dev/null', *SINK, '--nse', '3'], 2),
+    *(('choose', [*SINK, '--nse', it], 2) for it in ('x', '32', '1-', '-', '', '\u00b2')),
+    ('choose', SINK, 2), ('choose', ['--nse', '3'], 2),
     *(('choose', [*SINK, '--big', it], 2) for it in ('x', 'irc=1', 'nse=3,nse=3', 'nse=99', 'nse=3,x=1')),
     *(('choose', [*SINK, *MADE, '--shard', it, '--keep', '/dev/null'], 2) for it in ('0/4', '5/4', '1', 'x/y')),
     ('choose', [*SINK, *MADE, '--shard', '1/2'], 2), ('choose', ['--merge', '/dev/null', '--nse', '3'], 2),
     *(('choose', [*SINK, *MADE, '--confidence', it], 2) for it in ('1', '0', 'x', '0.2')),
     *(('losses', ['--seconds', it, *SINK], 2) for it in ('0', 'x', '-1', '99999', '1e3')),
     *((it, ['--sink', f'a=1@{channel}', *more], 1) for it, more in (('losses', []), ('choose', MADE)) for channel in (
-        'x', '', 'independent', 'independent:', 'independent:2', 'independent:0.1,0.2', 'burst:0,1,0,10', 'body:1,0,10,10', 'trace:/not/there',
-        'trace:', 'trace:/', 'independent:\u00b2', 'independent:0.1+', 'hall.left')),
+        'x', '', 'independent', 'independent:', 'independent:2', 'independent:0.1,0.2', 'burst:0,1,0,10', 'body:1,0,10,10',
+        'trace:/not/there', 'trace:', 'trace:/', 'independent:\u00b2', 'independent:0.1+', 'hall.left')),
     *((it, ['--sink', sink, *more], 1) for it, more in (('losses', []), ('choose', MADE)) for sink in (
         'a', 'a=1', 'a@independent:0.1', 'a=3@independent:0.1', 'a=0@independent:0.1', '=1@independent:0.1')),
     *(('choose', [*SINK, *MADE, '--channel', it], 1) for it in ('x', 'x=', '=independent:0', 'burst=independent:0', 'x=y')),
     ('losses', ['/not/there', '--sink', '0@independent:0.1'], 1), ('losses', ['/dev/null', '--sink', '0@independent:0.1'], 1),
-    ('losses', ['/dev/null', '--sink', '9@independent:0.1'], 1), ('losses', [*SINK, '--out', '/'], 1), ('losses', [*SINK, '--streams', '0'], 1),
+    ('losses', ['/dev/null', '--sink', '9@independent:0.1'], 1), ('losses', [*SINK, '--out', '/'], 1),
+    ('losses', [*SINK, '--streams', '0'], 1),
     ('losses', [*SINK, '--out', '/dev/full'], 1), ('losses', [*SINK, '--irc', '4'], 1), ('losses', [*SINK, '--pdu', '0'], 1),
     ('choose', ['--merge', '/dev/null'], 1), ('choose', ['--merge', '/not/there'], 1), ('choose', ['--merge', '/'], 1),
     ('choose', [*SINK, *MADE, '--program', '/bin/false'], 1), ('choose', [*SINK, *MADE, '--program', '/not/there'], 1),
@@ -252,8 +260,8 @@ def main():
                   *by_shards(paths, folder), *by_words(paths)]
     for it in failed:
         print(f'losses: {it[:600]}')
-    print(f'losses: {len(CHOICES)} choices lose what is worked out, {", ".join(figures)}; {len(FRAMED)} framed ones by counts; shards, channels '
-          f'and a relay; {len(WORDS)} calls; {len(failed)} fail')
+    print(f'losses: {len(CHOICES)} choices lose what is worked out, {", ".join(figures)}; {len(FRAMED)} framed ones by counts; shards, '
+          f'channels and a relay; {len(WORDS)} calls; {len(failed)} fail')
     return 1 if failed else 0
 
 

@@ -16,10 +16,10 @@ import given  # noqa: E402
 
 TOP = os.path.dirname(os.path.dirname(os.path.abspath(__file__)))
 NAMED = ['.ci/run', '.ci/tools', 'replay', 'explain', 'try', 'tools/slim', 'tools/check', 'tools/build.py', 'tools/version',
-         'tools/timeline.py', 'tools/audio.py', 'bench/first_run.sh', 'bench/run.py', 'bench/trust.py', 'bench/gate_times.py',
-         'bench/want_of_memory.py']
+         'tools/timeline.py', 'tools/audio.py', 'tools/losses.py', 'tools/choose.py', 'bench/first_run.sh', 'bench/run.py', 'bench/trust.py',
+         'bench/gate_times.py', 'bench/want_of_memory.py']
 ANSWERING = ['replay', 'explain', 'try', 'tools/slim', 'tools/check', 'tools/build.py', 'tools/version', 'tools/timeline.py',
-             'tools/audio.py']
+             'tools/audio.py', 'tools/losses.py', 'tools/choose.py']
 COPIED = ['replay', 'explain', 'tools/build.py', 'tools/check', 'tools/slim', 'crates.txt']
 WORD = '--no-such-word'
 HELD, USAGE = 70, 2

@@ -120,11 +120,12 @@ class Broadcast:
     phy: int = LE_2M
     packing: str = 'sequential'
     delay: int = 40000
+    is_framed: bool = False
 
     def group(self, choice):
         """The group of a choice: numbers by `iso`, `max_pdu`, `bn`, `nse`, `irc` and `pto`, of which `nse` alone has to be there."""
         setting = SETTINGS[self.setting]
-        is_framed = setting.is_framed or bool(choice.get('framed'))
+        is_framed = setting.is_framed or self.is_framed
         iso = choice.get('iso', setting.sdu // 1250)
         max_pdu = choice.get('max_pdu', min(251, setting.octets + (5 if is_framed else 0)))
         bn = choice.get('bn') or least_bn(setting, is_framed, iso * 1250, max_pdu)

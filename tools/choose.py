@@ -14,11 +14,12 @@ import sweep_figures  # noqa: E402
 import sweep_files  # noqa: E402
 import sweep_page  # noqa: E402
 import sweep_runs  # noqa: E402
+from command_words import Version  # noqa: E402
 from loss_channels import HELP, ChannelFault, named_of  # noqa: E402
 
 TOP = os.path.dirname(os.path.dirname(os.path.abspath(__file__)))
 STOPPED = 130
-MOST_CHOICES, MOST_RUNS = 100000, 10000
+MOST_CHOICES, MOST_RUNS = 100000, sweep_files.MOST_RUNS
 FAULTS = (OSError, ChannelFault, sweep_runs.SweepFault)
 BIG = re.compile('(?:(nse|bn|irc|pto|iso|pdu)=([0-9]{1,4}))')
 
@@ -54,6 +55,7 @@ def words_of(words):
     parser = argparse.ArgumentParser(
         prog='choose.py', allow_abbrev=False, formatter_class=argparse.RawDescriptionHelpFormatter, epilog=HELP,
         description='Compares choices of the parameters of a broadcast by runs over channels with losses. Each choice meets the same ones.')
+    parser.add_argument('--version', action=Version, default=argparse.SUPPRESS, help='prints the version of the repository')
     parser.add_argument('--sink', action='append', default=[], metavar='NAME=STREAMS@CHANNEL',
                         help='a listener, as all=1+2@burst:0,1,200,30')
     loss_words.add_channels(parser)
@@ -75,7 +77,7 @@ def words_of(words):
     parser.add_argument('--program', help='the program replay; else ./replay')
     parser.add_argument('--explain', help='the program explain; else ./explain')
     asked = parser.parse_args(words)
-    of_sweep = ('setting', 'streams', 'phy', 'packing', 'delay', 'seconds', 'runs', 'shard', 'confidence', 'keep', *loss_words.NUMBERS)
+    of_sweep = ('setting', 'framed', 'streams', 'phy', 'packing', 'delay', 'seconds', 'runs', 'shard', 'confidence', 'keep', *loss_words.NUMBERS)
     known = [it for it in of_sweep if getattr(asked, it) is not None]
     if asked.merge and (known or asked.sink or asked.big or asked.channel):
         parser.error('with --merge the words of the sweep are those of the files')
@@ -150,27 +152,38 @@ def settings():
     yield 'Basic Audio Profile 1.0, table 6.4: of retransmissions (RTN) and the transport latency those of its rows NAME_1 and NAME_2'
 
 
+def told(asked, sweep, refusals, results, programs):
+    """Prints the table, and writes the figures and the page that are asked for."""
+    rows = sweep_figures.rows_of(sweep, results, refusals)
+    print('\n'.join(sweep_files.table(sweep, rows)))
+    if asked.csv:
+        sweep_files.write_csv(asked.csv, rows)
+    if asked.page:
+        sweep_page.write(asked.page, sweep, rows, programs, asked.timeline)
+
+
+def merged(asked):
+    """Tells of runs that were kept."""
+    with sweep_files.named_faults():
+        sweep, refusals, results = sweep_files.merged(asked.merge)
+        missing = sweep.runs * (len(sweep.groups) - len(refusals)) - len(results)
+        if missing:
+            print(f'choose: the files lack {missing} runs of the sweep', file=sys.stderr)
+        told(asked, sweep, refusals, results, programs_of(asked, sweep) if asked.page else None)
+
+
 def made(asked):
     """Does what is asked; gives the exit status."""
     if asked.settings:
         print('\n'.join(settings()))
         return 0
     if asked.merge:
-        (sweep, refusals, results), is_whole = sweep_files.merged(asked.merge), True
-        programs = programs_of(asked, sweep) if asked.page else None
-        missing = sum(place not in refusals for _, place in sweep.jobs()) - len(results)
-        if missing:
-            print(f'choose: the files lack {missing} runs of the sweep', file=sys.stderr)
-    else:
-        sweep = sweep_of(asked)
-        programs = programs_of(asked, sweep)
-        refusals, results, is_whole = swept(asked, sweep, programs)
-    rows = sweep_figures.rows_of(sweep, results, refusals)
-    print('\n'.join(sweep_files.table(sweep, rows)))
-    if asked.csv:
-        sweep_files.write_csv(asked.csv, rows)
-    if asked.page:
-        sweep_page.write(asked.page, sweep, rows, programs if is_whole else None, asked.timeline)
+        merged(asked)
+        return 0
+    sweep = sweep_of(asked)
+    programs = programs_of(asked, sweep)
+    refusals, results, is_whole = swept(asked, sweep, programs)
+    told(asked, sweep, refusals, results, programs if is_whole else None)
     return 0 if is_whole else STOPPED
 
 

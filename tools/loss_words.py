@@ -59,6 +59,7 @@ def add_channels(parser):
 
 def add_broadcast(parser):
     parser.add_argument('--setting', choices=big_groups.SETTINGS, help='of LC3, by its name in the Basic Audio Profile; else 48_2')
+    parser.add_argument('--framed', action='store_true', default=None, help='a framed group, as the settings of 44.1 kHz have it in any case')
     parser.add_argument('--streams', type=lambda it: number(it, 31), help='how many streams; else 2')
     parser.add_argument('--phy', choices=('1M', '2M'), help='LE 1M or LE 2M; else 2M')
     parser.add_argument('--packing', choices=('sequential', 'interleaved'), help="how the streams' subevents lie; else sequential")
@@ -84,7 +85,7 @@ def broadcast_of(asked):
     if asked.streams == 0:
         raise ChannelFault('--streams 0: a broadcast has a stream')
     return big_groups.Broadcast(
-        **known, streams=asked.streams or 2, phy=big_groups.LE_1M if asked.phy == '1M' else big_groups.LE_2M,
+        **known, is_framed=bool(asked.framed), streams=asked.streams or 2, phy=big_groups.LE_1M if asked.phy == '1M' else big_groups.LE_2M,
         delay=(40 if asked.delay is None else asked.delay) * 1000)
 
 

@@ -8,6 +8,7 @@ import sys
 sys.dont_write_bytecode = True
 import loss_words  # noqa: E402
 import lossy_runs  # noqa: E402
+from command_words import Version  # noqa: E402
 from loss_channels import HELP, Channel, ChannelFault, named_of, parts_of  # noqa: E402
 
 SINK = re.compile('[0-7]')
@@ -19,6 +20,7 @@ def words_of(words):
         prog='losses.py', allow_abbrev=False, formatter_class=argparse.RawDescriptionHelpFormatter, epilog=HELP,
         description='Writes a scenario with losses: of SCENARIO, in which a sink hears all where a line is `air N 0`, or of a broadcast '
                     'that is made of a setting.')
+    parser.add_argument('--version', action=Version, default=argparse.SUPPRESS, help='prints the version of the repository')
     parser.add_argument('scenario', nargs='?', metavar='SCENARIO', help='a scenario; - is standard input; without it one is made')
     parser.add_argument('--out', metavar='FILE', help='writes it there in place of standard output')
     parser.add_argument('--sink', action='append', default=[], metavar='SINK@CHANNEL',
@@ -63,7 +65,7 @@ def main(words=None):
     parser, asked = words_of(words)
     if not asked.sink:
         parser.error('no --sink is named')
-    of_made = ('setting', 'streams', 'phy', 'packing', 'delay', 'seconds', *loss_words.NUMBERS)
+    of_made = ('setting', 'framed', 'streams', 'phy', 'packing', 'delay', 'seconds', *loss_words.NUMBERS)
     made = [it for it in of_made if getattr(asked, it) is not None]
     if asked.scenario is not None and made:
         parser.error(f'--{made[0].replace("max_pdu", "pdu")} is for a scenario that is made')

@@ -1,4 +1,5 @@
 """The files of a sweep: what its jobs brought, kept so that shards can be merged, and figures as CSV. choose.py uses it."""
+import contextlib
 import csv
 import json
 from dataclasses import asdict
@@ -8,6 +9,7 @@ import sweep_runs
 from sweep_runs import Heard, SweepFault
 
 KIND = 'results of a sweep'
+MOST_RUNS = 10000
 COLUMNS = (
     'choice', 'unbeaten', 'refused', 'nse', 'bn', 'irc', 'pto', 'iso', 'pdu', 'air_percent', 'latency_ms', 'sync_delay_us', 'listener',
     'runs', 'sdus', 'lost', 'never_begun', 'loss', 'loss_low', 'loss_high', 'pdu_loss', 'longest_gap_ms', 'gaps_per_minute', 'gaps')
@@ -51,6 +53,15 @@ def read(path):
         raise SweepFault(f'{path}: it has no results of a sweep: {error!r}'.replace('\n', ' ')) from error
 
 
+@contextlib.contextmanager
+def named_faults():
+    """Each fault that values which no sweep has bring is told as SweepFault."""
+    try:
+        yield
+    except (LookupError, ValueError, AttributeError, TypeError, ArithmeticError) as error:
+        raise SweepFault(f'the values are those of no sweep: {error!r}'.replace('\n', ' ')) from error
+
+
 def check(sweep, results):
     """Refuses values that no sweep has."""
     numbers = [number for group in sweep.groups for name in big_groups.WIDTHS for number in [getattr(group, name)]]
@@ -59,8 +70,8 @@ def check(sweep, results):
     if not all(isinstance(it, int) and 0 <= it < 2 ** 53 for it in numbers + counts + [sweep.runs, sweep.seed]):
         raise SweepFault('a count or a place of a group is no number')
     is_number = isinstance(sweep.confidence, float) and isinstance(sweep.seconds, (int, float))
-    if not is_number or not 0 < sweep.confidence < 1 or not sweep.listeners:
-        raise SweepFault('the confidence, the seconds or the listeners are none')
+    if not is_number or not 0 < sweep.confidence < 1 or not sweep.listeners or sweep.runs > MOST_RUNS:
+        raise SweepFault('the confidence, the seconds, the runs or the listeners are none')
     for (run, place), it in results.items():
         if not 0 <= run < sweep.runs or not 0 <= place < len(sweep.groups) or isinstance(it, list) and len(it) != len(sweep.listeners):
             raise SweepFault(f'run {run} of choice {place} is none of the sweep')
