@@ -16,6 +16,7 @@ import chromium  # noqa: E402
 
 TOP = os.path.dirname(os.path.dirname(os.path.abspath(__file__)))
 DOCUMENT = os.path.join(TOP, 'docs', 'simulate.md')
+USAGE = 'usage: simulate.py PROGRAM EXPLAIN [--write]'
 PATIENCE = 300  # seconds for the commands of a block
 BLOCK = re.compile(r'```sh\n(.*?)```\n(?:(?:\n(?:[^`\n][^\n]*\n)+)?\n```text\n(.*?)```\n)?', re.DOTALL)
 USED = re.compile(r'tools/(?:choose|losses)\.py|\./replay|\./explain')
@@ -119,8 +120,11 @@ def by_pages(folder):
 
 def main():
     words, failed = sys.argv[1:], []
+    if words in (['-h'], ['--help']):
+        print(USAGE)
+        return 0
     if len(words) not in (2, 3) or words[2:] not in ([], ['--write']) or not all(os.access(it, os.X_OK) for it in words[:2]):
-        print('usage: simulate.py PROGRAM EXPLAIN [--write]', file=sys.stderr)
+        print(USAGE, file=sys.stderr)
         return 2
     with open(DOCUMENT, encoding='utf-8') as file:
         text = file.read()
