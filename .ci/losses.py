@@ -53,7 +53,7 @@ CHOICES = (
     ({'nse': 2}, PERIOD, lambda group: loss_sums.of_period(NUMBERS[PERIOD], loss_sums.copies_of(group), group.longest)),
     ({'nse': 2, 'irc': 1, 'pto': 1}, PERIOD, lambda group: loss_sums.of_period(NUMBERS[PERIOD], loss_sums.copies_of(group), group.longest)),
 )
-SECONDS, RUNS = 12.0, 6
+SECONDS, RUNS = 5.0, 16
 # Framed choices: of one PDU an event that mostly has one unit, of two PDUs that units cross, and with early copies.
 FRAMED = ({'nse': 3}, {'nse': 4, 'bn': 2, 'max_pdu': 70}, {'nse': 6, 'bn': 2, 'irc': 1, 'pto': 2, 'max_pdu': 80},
           {'nse': 6, 'bn': 3, 'iso': 24, 'max_pdu': 140})
@@ -88,6 +88,20 @@ def by_sums(programs, figures):
             figures.append(f'{exact:.4f}')
             if got is None or got.low is None or not got.low <= exact <= got.high or got.high - got.low > exact:
                 yield f'{choice} over {channel}: {exact} is lost, and measured is {row}'
+
+
+def by_none(programs):
+    """Each choice of which a unit is lost where no PDU is, or of which not each unit is counted once; and losses of single PDUs."""
+    made = sweep('48_2', [it[0] for it in CHOICES], 'independent:0', 1.2, 1)
+    for place, group in enumerate(made.groups):
+        result = sweep_runs.result_of(made, programs, 0, place)
+        if isinstance(result, str) or (result[0].units, result[0].loss, result[0].gaps) != (240, 0, {}):
+            yield f'{big_groups.label(group)} without losses: {result}'
+    for loss in (0.02, 0.5):
+        at = range(0, 140000000, 700)
+        lost = len(at) - len(heard_of(f'independent:{loss}', seconds=140))
+        if abs(lost - loss * len(at)) > 4 * (len(at) * loss * (1 - loss)) ** 0.5:
+            yield f'of {len(at)} PDUs {lost} are lost by {loss}'
 
 
 def by_counts(programs):
@@ -256,7 +270,7 @@ def main():
     paths = given.programs('PROGRAM', 'EXPLAIN')
     programs, figures = sweep_runs.Programs(*paths), []
     with tempfile.TemporaryDirectory() as folder:
-        failed = [*by_sums(programs, figures), *by_counts(programs), *by_channels(folder), *by_rewriting(paths[0], folder),
+        failed = [*by_sums(programs, figures), *by_none(programs), *by_counts(programs), *by_channels(folder), *by_rewriting(paths[0], folder),
                   *by_shards(paths, folder), *by_words(paths)]
     for it in failed:
         print(f'losses: {it[:600]}')
