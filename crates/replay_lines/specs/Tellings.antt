@@ -1,6 +1,9 @@
 -- What a listener is told of a line. Listeners are this project's own.
 use Rattle.std.specs.Prelude.{ℕ, ◌≡◌, ◌+◌, List, [], ◌∷◌, ◌++◌, length, Option, None, Some}
 use Rattle.bcast_io.specs.TextLines.{TextLine, plain, too_long, past}
+use Rattle.unit_outlets.specs.Account.{Account}
+use Rattle.replay_steps.specs.LineMeets.{LinesStand}
+use Rattle.replay_steps.specs.declared.machine.Machine.{Machine}
 
 -- The line of this number, from 1, is to be run; a line was run, and what it brings was written.
 pub data Telling : Type 0 where
@@ -36,3 +39,12 @@ pub record Listened : Type 0 where
 -- a listener and its sink, by what they tell
 abbrev pub listened : {L K : Type 0} → (L → Option (List Telling)) → (K → Option (List ℕ)) → L → K → Listened
 listened told rows listener sink = record { told = told listener; rows = rows sink }
+
+-- The machine stands for the lines before the one of this number, from 1, so that this line wasn't run: `starts` and `accounts` are the
+-- accounts of the boxes before those lines and behind them.
+pub record StandsBefore (number : ℕ) (machine : Machine) : Type 0 where
+  pub starts : List Account
+  pub accounts : List Account
+  pub lines : List TextLine
+  pub is_next : number ≡ length lines + 1
+  pub stands : LinesStand starts lines machine accounts

@@ -16,7 +16,7 @@ ghost use Rattle.replay_lines.specs.Replayed.{Comes, ReadsAhead, ReadsAtMost, re
 ghost use Rattle.replay_lines.specs.Ended.{Ended};
 ghost use Rattle.replay_lines.specs.Heard.{as_told};
 ghost use Rattle.replay_lines.specs.Listening.{EndsAt, EndsText, HasTold, LineTold, StepTold, Told};
-ghost use Rattle.replay_lines.specs.Tellings.{Listened, listened, tellings};
+ghost use Rattle.replay_lines.specs.Tellings.{Listened, StandsBefore, listened, tellings};
 ghost use Rattle.replay_lines.specs.State.Between.{ReadTo, TextIs, NextIs, RunTo, Refuses, Puts, StepRuns, StepHeard, LineRuns};
 
 use crate::ending::Ending;
@@ -84,6 +84,7 @@ fn run_line<S: ByteSource, K: ByteSink, L: Listener<K>>(
     listener: &mut L,
     outlets: &mut Vec<Box<dyn Outlet>>,
 ) -> Option<Ending>
+    requires before { StandsBefore number machine.old }
     ensures runs { (starts : List Account) (lines : List TextLine) (left kept : Option (List ℕ)) → number ≡ length lines + 1
         → ReadTo left (S.left source.old) lines reader.old
         → RunTo starts lines kept (K.contents sink.old) machine.old (map account outlets.old.items)
@@ -212,6 +213,7 @@ fn hear_step<K: ByteSink, L: Listener<K>>(
     listener: &mut L,
     outlets: &mut Vec<Box<dyn Outlet>>,
 ) -> Option<Ending>
+    requires before { StandsBefore number machine.old }
     ensures runs { (starts : List Account) (lines : List TextLine) (left left' kept : Option (List ℕ)) → number ≡ length lines + 1
         → Comes left left' lines (plain line.now) → ReadsAhead left left' number
         → RunTo starts lines kept (K.contents sink.old) machine.old (map account outlets.old.items)

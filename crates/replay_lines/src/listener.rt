@@ -2,7 +2,7 @@ ghost use Rattle.std.specs.Prelude.{◌≡◌, ℕ, Bool, true, false, List, [],
 ghost use Rattle.std.specs.Io.KnownBytes.{Appends, Keeps};
 ghost use Rattle.bcast_io.specs.Causes.{SinkCause};
 ghost use Rattle.bcast_io.specs.Writing.{AppendsFront, AppendsShort};
-ghost use Rattle.replay_lines.specs.Tellings.{Telling, Tells, begun, was_run};
+ghost use Rattle.replay_lines.specs.Tellings.{StandsBefore, Telling, Tells, begun, was_run};
 
 use crate::ending::Ending;
 use bcast_base::Octets;
@@ -24,7 +24,7 @@ pub trait Listener<K: ByteSink> {
     // The rows of lines that the sink has, where it tells them.
     ghost rows: { K → Option (List ℕ) };
 
-    /// A line, with its number from 1, that will be run on this machine. Its row is put into the sink; what the sink is seen to have
+    /// A line, with its number from 1, that will be run on this machine, which stands for the lines before it. Its row is put into the sink; what the sink is seen to have
     /// taken of the transcript stays the same. The faults are those of a write to the sink; one of either ends the run before the
     /// line, and of the row a front was put.
     fn begin_line(
@@ -34,6 +34,7 @@ pub trait Listener<K: ByteSink> {
         machine: &Machine,
         sink: &mut K,
     ) -> Result<(), SinkFault>
+        requires before { StandsBefore number machine.now }
         ensures told { Tells (told self.old) (told self.new) (begun number line.now ∷ []) }
         ensures shown { MatchResult result (λ _. Appends (rows sink.old) (rows sink.new) (row_of number line.now))
             (λ _. AppendsFront (rows sink.old) (rows sink.new) (row_of number line.now)) }

@@ -113,3 +113,14 @@ returns-in-Some-clause-told g c =
     telling_ends g.L.Listener.row_of (g.S.ByteSource.left c.args.source.now) (g.S.ByteSource.left c.lines.source) (g.S.ByteSource.left c.run_line.new.source)
     start old new c.lines.number c.lines.reader c.run_line.new.reader c.run_line.result c.in-Some.ending c.lines.invariant.telling c.in-Some.is
     (λ lines. c.run_line.ensures.told lines (g.S.ByteSource.left c.args.source.now) start)
+
+pub run_line-requires : goal.run_line-requires
+run_line-requires g c = record {
+  before = record {
+    starts = map (λ b. (goal.Outlet-dyn g (b.vtable, b.value)).account b.value) c.args.outlets.now.items;
+    accounts = map (λ b. (goal.Outlet-dyn g (b.vtable, b.value)).account b.value) c.lines.outlets.items;
+    lines = c.lines.invariant.running.lines;
+    is_next = c.lines.invariant.running.is_next;
+    stands = c.lines.invariant.running.run.stands;
+  };
+}
