@@ -8,10 +8,13 @@ and bad words and files."""
 import contextlib
 import importlib.util
 import io
+import itertools
 import os
+import signal
 import subprocess
 import sys
 import tempfile
+import time
 
 sys.dont_write_bytecode = True
 TOP = os.path.dirname(os.path.dirname(os.path.abspath(__file__)))
@@ -24,7 +27,7 @@ import loss_words  # noqa: E402
 import lossy_runs  # noqa: E402
 import sweep_figures  # noqa: E402
 import sweep_runs  # noqa: E402
-from loss_channels import Channel, named_of, parts_of  # noqa: E402
+from loss_channels import Channel, named_of, own_part, parts_of, steps_of  # noqa: E402
 
 
 
@@ -53,6 +56,7 @@ CHOICES = (
     ({'nse': 2}, PERIOD, lambda group: loss_sums.of_period(NUMBERS[PERIOD], loss_sums.copies_of(group), group.longest)),
     ({'nse': 2, 'irc': 1, 'pto': 1}, PERIOD, lambda group: loss_sums.of_period(NUMBERS[PERIOD], loss_sums.copies_of(group), group.longest)),
 )
+PATIENCE = 120  # seconds
 SECONDS, RUNS = 5.0, 16
 # Framed choices: of one PDU an event that mostly has one unit, of two PDUs that units cross, and with early copies.
 FRAMED = ({'nse': 3}, {'nse': 4, 'bn': 2, 'max_pdu': 70}, {'nse': 6, 'bn': 2, 'irc': 1, 'pto': 2, 'max_pdu': 80},
@@ -140,6 +144,11 @@ def by_channels(folder):
     left, right = (every - heard_of(f'head.{side}', ['head=body:1,0,30,0']) for side in ('left', 'right'))
     if left & right or left | right != every:
         yield 'a body with no time between its shadows leaves a PDU'
+    steps = list(itertools.islice(steps_of(own_part('burst:0,1,50,10'), 1, 'a'), 20001))
+    for loss, mean in ((0, 50000), (1, 10000)):
+        times = [after[0] - before[0] for before, after in zip(steps, steps[1:]) if before[1] == loss]
+        if abs(sum(times) / len(times) - mean) > 4 * mean / len(times) ** 0.5:
+            yield f'a state of {mean} us lasts {sum(times) / len(times)} in the mean'
     path = os.path.join(folder, 'trace.csv')
     with open(path, 'w', encoding='ascii') as file:
         file.write('# ms, loss\n0,0\n100,1\n\n250.7,0\n')
@@ -179,9 +188,9 @@ def by_rewriting(program, folder):
             yield f'a relay with a loss of {loss}: {ended.returncode}, {ended.stderr}, {got}'
 
 
-def tool(name, words, **more):
-    return subprocess.run([sys.executable, os.path.join(TOP, 'tools', f'{name}.py'), *words], capture_output=True, check=False, timeout=120,
-                          text=True, **more)
+def tool(name, words):
+    return subprocess.run([sys.executable, os.path.join(TOP, 'tools', f'{name}.py'), *words], capture_output=True, check=False,
+                          timeout=PATIENCE, text=True)
 
 
 SWEEP = ('--channel', 'hall=burst:0.02,0.8,200,30', '--sink', 'front=1+2@independent:0.2', '--sink', 'back=2@hall+independent:0.01',
@@ -210,6 +219,32 @@ def by_shards(programs, folder):
     both = tool('choose', ['--merge', at('shard1'), at('other')])
     if other.returncode or both.returncode != 1 or both.stderr.count('\n') != 1:
         yield f'two sweeps that are merged: {both.returncode}, {both.stderr}'
+
+
+def lines_of(path):
+    if not os.path.exists(path):
+        return 0
+    with open(path, 'rb') as file:
+        return file.read().count(b'\n')
+
+
+def by_stopping(programs, folder):
+    """Whether a sweep that Ctrl-C ends tells and keeps what was made until then."""
+    path = os.path.join(folder, 'stopped')
+    words = [*SWEEP, '--runs', '5000', '--program', programs[0], '--explain', programs[1], '--keep', path, '--csv', path + '.csv']
+    with subprocess.Popen([sys.executable, os.path.join(TOP, 'tools', 'choose.py'), *words], stdout=subprocess.PIPE, stderr=subprocess.PIPE,
+                          text=True, start_new_session=True) as running:
+        until = time.monotonic() + PATIENCE
+        while lines_of(path) < 5 and time.monotonic() < until:
+            time.sleep(0.05)
+        os.killpg(running.pid, signal.SIGINT)
+        output, told = running.communicate(timeout=PATIENCE)
+    made = lines_of(path) - 2
+    if running.returncode != 130 or f'stopped: {made} of ' not in told or made < 3 or 'Traceback' in told or lines_of(path + '.csv') < 3:
+        yield f'a sweep that is stopped ends with {running.returncode}, {made} runs: {told[-300:]!r}'
+    merged = tool('choose', ['--merge', path])
+    if merged.returncode or merged.stdout != output:
+        yield f'what a stopped sweep kept is not what it told: {merged.stderr}'
 
 
 SINK, MADE = ['--sink', 'a=1@independent:0.1'], ['--nse', '3', '--seconds', '1', '--runs', '1']
@@ -270,8 +305,8 @@ def main():
     paths = given.programs('PROGRAM', 'EXPLAIN')
     programs, figures = sweep_runs.Programs(*paths), []
     with tempfile.TemporaryDirectory() as folder:
-        failed = [*by_sums(programs, figures), *by_none(programs), *by_counts(programs), *by_channels(folder), *by_rewriting(paths[0], folder),
-                  *by_shards(paths, folder), *by_words(paths)]
+        failed = [*by_sums(programs, figures), *by_none(programs), *by_counts(programs), *by_channels(folder),
+                  *by_rewriting(paths[0], folder), *by_shards(paths, folder), *by_stopping(paths, folder), *by_words(paths)]
     for it in failed:
         print(f'losses: {it[:600]}')
     print(f'losses: {len(CHOICES)} choices lose what is worked out, {", ".join(figures)}; {len(FRAMED)} framed ones by counts; shards, '

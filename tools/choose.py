@@ -19,6 +19,7 @@ from loss_channels import HELP, ChannelFault, named_of  # noqa: E402
 
 TOP = os.path.dirname(os.path.dirname(os.path.abspath(__file__)))
 STOPPED = 130
+LINES = 1  # a file that is written line by line, so that what is killed leaves its results
 MOST_CHOICES, MOST_RUNS = 100000, sweep_files.MOST_RUNS
 FAULTS = (OSError, ChannelFault, sweep_runs.SweepFault)
 BIG = re.compile('(?:(nse|bn|irc|pto|iso|pdu)=([0-9]{1,4}))')
@@ -77,7 +78,8 @@ def words_of(words):
     parser.add_argument('--program', help='the program replay; else ./replay')
     parser.add_argument('--explain', help='the program explain; else ./explain')
     asked = parser.parse_args(words)
-    of_sweep = ('setting', 'framed', 'streams', 'phy', 'packing', 'delay', 'seconds', 'runs', 'shard', 'confidence', 'keep', *loss_words.NUMBERS)
+    of_sweep = ('setting', 'framed', 'streams', 'phy', 'packing', 'delay', 'seconds', 'runs', 'shard', 'confidence', 'keep',
+                *loss_words.NUMBERS)
     known = [it for it in of_sweep if getattr(asked, it) is not None]
     if asked.merge and (known or asked.sink or asked.big or asked.channel):
         parser.error('with --merge the words of the sweep are those of the files')
@@ -130,7 +132,7 @@ def swept(asked, sweep, programs):
     refusals = {place: it for place, group in enumerate(sweep.groups) if (it := sweep_runs.refusal_of(group, programs)) is not None}
     jobs = [it for it in sweep.jobs(asked.shard or (1, 1)) if it[1] not in refusals]
     results, is_whole = {}, False
-    with open(asked.keep, 'w', encoding='ascii') if asked.keep else contextlib.nullcontext() as file:
+    with open(asked.keep, 'w', encoding='ascii', buffering=LINES) if asked.keep else contextlib.nullcontext() as file:
         if file:
             file.write(sweep_files.front_line(sweep) + sweep_files.refusals_line(refusals))
         try:
@@ -194,6 +196,9 @@ def main(words=None):
     except FAULTS as error:
         print(f'choose: {error}', file=sys.stderr)
         return 1
+    except KeyboardInterrupt:
+        print('choose: stopped before a run was made', file=sys.stderr)
+        return STOPPED
 
 
 if __name__ == '__main__':

@@ -1,11 +1,13 @@
 """A sweep: its choices, its runs, and what the programs tell of each run. choose.py uses it."""
 import collections
 import concurrent.futures
+import contextlib
 import itertools
 import os
 import re
 import signal
 import subprocess
+import threading
 import time
 from dataclasses import asdict, dataclass, field
 
@@ -20,6 +22,7 @@ REFUSAL = re.compile(rb'^(?:  )?line \d+: ([A-Za-z]+(?: \d+)?)$', re.MULTILINE)
 END = 4000  # octets of what a program writes in which its refusal and the notes on it stand
 GAP = re.compile(rb'[ln]+')
 PATIENCE = 600  # seconds that a program may take
+LOOK = 0.2  # seconds until it is looked whether Ctrl-C came
 QUIET = 2  # seconds until progress is told
 MARGIN = 8  # runs that wait for each processor
 
@@ -209,17 +212,29 @@ class Progress:
             print(50 * ' ', end='\r', file=self.stream, flush=True)
 
 
+@contextlib.contextmanager
+def noted_interrupt():
+    """An event that Ctrl-C sets. It raises nothing, since a KeyboardInterrupt amid the locks of the futures would leave them locked."""
+    asked = threading.Event()
+    before = signal.signal(signal.SIGINT, lambda *_: asked.set())
+    try:
+        yield asked
+    finally:
+        signal.signal(signal.SIGINT, before)
+
+
 def over_processes(function, sweep, programs, jobs, progress):
-    """What the function makes of each job, as they end. With KeyboardInterrupt no further job is begun."""
-    with concurrent.futures.ProcessPoolExecutor(processors(), initializer=begin, initargs=(sweep, programs)) as pool:
+    """What the function makes of each job, as they end. Ctrl-C begins no further job, and comes out as KeyboardInterrupt."""
+    workers = concurrent.futures.ProcessPoolExecutor(processors(), initializer=begin, initargs=(sweep, programs))
+    with noted_interrupt() as asked, workers as pool:
         left, running, done = iter(jobs), set(), 0
         try:
-            while True:
+            while not asked.is_set():
                 for job in itertools.islice(left, MARGIN * processors() - len(running)):
                     running.add(pool.submit(function, job))
                 if not running:
                     return
-                ended, running = concurrent.futures.wait(running, return_when=concurrent.futures.FIRST_COMPLETED)
+                ended, running = concurrent.futures.wait(running, LOOK, concurrent.futures.FIRST_COMPLETED)
                 for it in ended:
                     done += 1
                     yield it.result()
@@ -227,6 +242,7 @@ def over_processes(function, sweep, programs, jobs, progress):
         finally:
             progress.end()
             pool.shutdown(cancel_futures=True)
+    raise KeyboardInterrupt
 
 
 def results(sweep, programs, jobs, progress):
