@@ -136,7 +136,10 @@ function drawTable() {
         }
         row.classList.toggle('chosen', place === chosen);
         for (const [, told] of COLUMNS) row.insertCell().textContent = told(choice);
-        row.addEventListener('click', () => choose(place));
+        row.addEventListener('click', () => {
+            choose(place);
+            document.getElementById('detail').scrollIntoView({ block: 'nearest' });
+        });
     });
     document.getElementById('table').replaceChildren(table);
 }
