@@ -1,4 +1,3 @@
-#!/usr/bin/env python3
 """ends.py PROGRAM: runs the built program to its ends, and prints each whose exit status, output or standard error differs.
 
 These are what `main` does around `replay`: the words go without the program's name, there are eight boxes, a fault of standard input
@@ -6,11 +5,8 @@ or output is one of the source or the sink, and each status has its exit status 
 of memory is in memory.py."""
 import os
 import subprocess
-import sys
+from checks.parts.steps import Faults, step
 
-sys.dont_write_bytecode = True
-sys.path.insert(0, os.path.dirname(os.path.abspath(__file__)))
-import given  # noqa: E402
 
 USAGE = b'usage: replay [--migrate | --toml | --seed N --events M]\n'
 UNIT = b'scenario 1\ngroup unframed 20000 40000 8 10000 4 4 1 1 1 1 0 0 0 1\nsink 0 1 1\nstart 0\ntuned 0 1\nunit 1 - 0a\nevent\nhear 0 0 1 0\nend\n'
@@ -41,36 +37,32 @@ WRITE_FAULTS = [([], UNIT), (['--migrate'], UNIT), (['--seed', '1', '--events', 
                 (['--toml'], b'x')]
 
 
-def run(words, name=None, **more):
-    words = [name or sys.argv[1]] + words
-    return subprocess.run(words, executable=sys.argv[1], stderr=subprocess.PIPE, timeout=60, check=False, **more)
+def run(replay, words, name=None, **more):
+    return subprocess.run([name or replay, *words], executable=replay, stderr=subprocess.PIPE, timeout=60, check=False, **more)
 
 
-def differences():
+def differences(replay):
     """The name of each end, and whether it differs."""
     for name, words, text, written, status, said in ENDS:
         for called in (None, '--migrate', 'x'):
-            ran = run(words, called, input=text, stdout=subprocess.PIPE)
+            ran = run(replay, words, called, input=text, stdout=subprocess.PIPE)
             yield f'{name}, called {called}', (ran.stdout, ran.returncode, ran.stderr) != (written, status, said)
     for words, status, said in READ_FAULTS:
         folder = os.open('/', os.O_RDONLY)
-        ran = run(words, stdin=folder, stdout=subprocess.PIPE)
+        ran = run(replay, words, stdin=folder, stdout=subprocess.PIPE)
         os.close(folder)
         yield f'read fault, words {words}', (ran.stdout, ran.returncode, ran.stderr) != (b'', status, said)
     for words, text in WRITE_FAULTS:
         with open('/dev/full', 'wb') as full:
-            ran = run(words, input=text, stdout=full)
+            ran = run(replay, words, input=text, stdout=full)
         yield f'write fault, words {words}', (ran.returncode, ran.stderr) != (4, b'write fault\n')
 
 
-def main():
-    given.programs('PROGRAM')
-    tried = list(differences())
-    failed = [name for name, differs in tried if differs]
-    for name in failed:
-        print(f'{name}: differs')
-    print(f'{len(tried)} ends, {len(failed)} differ')
-    return 1 if failed else 0
-
-
-sys.exit(main())
+@step(seconds=1)
+def check(replay: str) -> Faults:
+    """The program ends as `main` should do around `replay`: the words go without the program's name, there are eight boxes, a fault of standard
+    input or output is one of the source or the sink, and each status has its exit status and says its text on standard error. The end for
+    want of memory is in allocations."""
+    tried = list(differences(replay))
+    yield from (f'{name}: differs' for name, differs in tried if differs)
+    return f'{len(tried)} ends'

@@ -4,16 +4,11 @@ A run hands its sink some of its PDUs by `hear` lines. A capture of it is bent: 
 train but one packet, the clock is 50 ppm wrong, times jitter, BIG_Offset is in units of 300 us, control PDUs repeat, and other packets
 are put between."""
 import contextlib
-import os
 import struct
-import sys
 from decimal import Decimal
 
-sys.dont_write_bytecode = True
-TOP = os.path.dirname(os.path.dirname(os.path.abspath(__file__)))
-sys.path.insert(0, os.path.join(TOP, 'tools'))
-import link_layer  # noqa: E402
-from scapy.utils import PcapNgWriter, RawPcapReader, RawPcapWriter  # noqa: E402
+import link_layer
+from scapy.utils import PcapNgWriter, RawPcapReader, RawPcapWriter
 
 BEGIN, EPOCH = 1000000, 1700000000 * 1000000  # us: the run's time 0 in a capture that was written, and in one that was bent
 DRIFT, JITTER = 50e-6, 15

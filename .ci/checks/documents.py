@@ -1,16 +1,11 @@
-#!/usr/bin/env python3
 """documents.py PROGRAM: runs the built program with --toml on documents worked by hand, and prints each that differs.
 
 Each document has what is written: the transcript of the lines that it stands for, or the line of its refusal. The first table has whole
 documents, for the forms of TOML and those of the language. The second has the keys of a document that has them all, each of which is
 left out, written twice, of each other type, and of a value that fits no place: that shows which word of which line it becomes."""
-import os
 import subprocess
-import sys
+from checks.parts.steps import Faults, step
 
-sys.dont_write_bytecode = True
-sys.path.insert(0, os.path.dirname(os.path.abspath(__file__)))
-import given  # noqa: E402
 
 NO_TOML = 'line 0: BadToml\n'
 NO_FORM = 'line 0: BadDocument\n'
@@ -300,21 +295,16 @@ def is_refused(written):
     return any(line.startswith('line ') for line in written.splitlines())
 
 
-def differs(document, written):
+def differs(replay, document, written):
     octets = document.encode() if isinstance(document, str) else document
-    ran = subprocess.run([sys.argv[1], '--toml'], input=octets, capture_output=True, timeout=60, check=False)
+    ran = subprocess.run([replay, '--toml'], input=octets, capture_output=True, timeout=60, check=False)
     return (ran.stdout, ran.returncode, ran.stderr) != (written.encode(), int(is_refused(written)), b'')
 
 
-def main():
-    given.programs('PROGRAM')
+@step(seconds=2)
+def check(replay: str) -> Faults:
+    """With --toml the program writes of documents worked by hand what stands beside them: whole ones, for the forms of TOML and of the
+    language, and one with all keys, of which each is left out, written twice, of each other type, and of a value that fits no place."""
     documents = FORMS + [('all keys', spelled(TABLES), ALL)] + list(changed_keys()) + list(changed_tables())
-    failed = [name for name, document, written in documents if differs(document, written)]
-    for name in failed:
-        print(f'{name}: differs')
-    print(f'{len(documents)} documents, {len(failed)} differ')
-    return 1 if failed else 0
-
-
-if __name__ == '__main__':
-    sys.exit(main())
+    yield from (f'{name}: differs' for name, document, written in documents if differs(replay, document, written))
+    return f'{len(documents)} documents'

@@ -1,4 +1,3 @@
-#!/usr/bin/env python3
 """pages.py EXPLAIN: opens pages of runs in a Chromium without a window, clicks, types, drags and turns the wheel there, and prints each
 in which something is wrong. pages.py EXPLAIN --picture FILE: writes a picture of a run with losses, as docs/run.png is.
 
@@ -13,13 +12,13 @@ import tempfile
 import time
 from collections import Counter
 
-sys.dont_write_bytecode = True
-import chromium  # noqa: E402
-from long_run import long_run  # noqa: E402
-from page_runs import TOP, explained, run_of, text_of  # noqa: E402
-from timeline_data import tracks_of  # noqa: E402
-from timeline_page import page_of  # noqa: E402
-from timeline_reading import OCTETS  # noqa: E402
+from checks.parts import chromium
+from checks.parts.long_run import long_run
+from checks.parts.page_runs import TOP, explained, run_of, text_of
+from timeline_data import tracks_of
+from timeline_page import page_of
+from timeline_reading import OCTETS
+from checks.parts.steps import Faults, step
 
 SMALL = ('whole-life', 'two-sources', 'stereo', 'early-copies', 'framed-losses', 'gap', 'often-shown', 'hundred')
 CTRL, SHIFT = 2, 8
@@ -339,31 +338,20 @@ def pictured(browser, explain, folder, file):
     return browser.picture(file)
 
 
-def main():
-    words = sys.argv[1:]
-    if not (len(words) == 1 or len(words) == 3 and words[1] == '--picture') or not os.access(words[0], os.X_OK):
-        print('usage: pages.py EXPLAIN [--picture FILE]', file=sys.stderr)
-        return 2
-    path = chromium.find()
-    if path is None:
-        print('skipped: pages of runs in a browser, since no Chromium is here (apt-get install chromium)')
-        return 3
-    explain, figures, failed = os.path.abspath(words[0]), {}, []
+@step(seconds=60, needs=('chromium',))
+def check(explain: str, *, picture: str = '') -> Faults:
+    """Pages of nine runs show in a Chromium without a window what tools/timeline.py worked out, and what is clicked, typed, dragged and turned
+    there brings what it should. The times of the run of ten minutes are the least of three; where SLOWER=3 is set, they may be three times
+    as long. --picture FILE writes a picture of a run with losses, as docs/run.png is, and tries nothing."""
+    path, figures = chromium.find(), {}
     try:
         with tempfile.TemporaryDirectory(ignore_cleanup_errors=True) as folder, chromium.Browser(path, folder) as browser:
-            if len(words) == 3:
-                print(f'{words[2]}: {pictured(browser, explain, folder, words[2])} octets')
-                return 0
-            failed.extend(over_pages(browser, explain, folder, figures))
+            if picture:
+                return f'{picture}: {pictured(browser, explain, folder, picture)} octets'
+            for name, fault in over_pages(browser, explain, folder, figures):
+                yield f'{name}: {fault}'
     except (chromium.BrowserFault, subprocess.SubprocessError) as fault:
-        failed.append(('browser', f'{fault}'))
-    for name, it in failed:
-        print(f'pages: {name}: {it[:1000]}')
+        yield f'browser: {fault}'
     told, made, octets, first, slowest = (figures.get(it, 0) for it in ('told', 'made', 'octets', 'first', 'next'))
-    print(f'pages: {len(SMALL) + 1} in {chromium.version(path)}; 10 minutes of stereo at two sinks: told in {told:.0f} s, made in '
-          f'{made:.0f} s, {octets / 1e6:.1f} MB, first picture {first:.0f} ms, slowest act {slowest:.0f} ms; {len(failed)} cases fail')
-    return 1 if failed else 0
-
-
-if __name__ == '__main__':
-    sys.exit(main())
+    return (f'{len(SMALL) + 1} in {chromium.version(path)}; 10 minutes of stereo at two sinks: told in {told:.0f} s, made in '
+            f'{made:.0f} s, {octets / 1e6:.1f} MB, first picture {first:.0f} ms, slowest act {slowest:.0f} ms')

@@ -1,14 +1,8 @@
-#!/usr/bin/env python3
 """corpus.py PROGRAM: runs the built program on each scenario of corpus/ and prints each whose transcript or exit status differs."""
-import concurrent.futures
-import os
 import subprocess
-import sys
 
-sys.dont_write_bytecode = True
-sys.path.insert(0, os.path.dirname(os.path.abspath(__file__)))
-import given  # noqa: E402
-import scenarios  # noqa: E402
+from checks.parts import scenarios
+from checks.parts.steps import Faults, step
 
 
 def difference(program, scenario, environment=None):
@@ -26,19 +20,9 @@ def difference(program, scenario, environment=None):
     return f'line {place + 1} of the transcript: {has[place:place + 1]}, not {wanted[place:place + 1]}'
 
 
-def main():
-    [program] = given.programs('PROGRAM')
+@step(seconds=3)
+def check(replay: str) -> Faults:
+    """Each scenario of corpus/ has its transcript and its exit status."""
     found = list(scenarios.corpus())
-    failed = 0
-    with concurrent.futures.ThreadPoolExecutor(os.cpu_count()) as pool:
-        results = pool.map(lambda it: difference(program, it[1]), found)
-        for (file, scenario), result in zip(found, results):
-            if result:
-                failed += 1
-                print(f'corpus/{file}: {scenario.name}: {result[:600]}')
-    print(f'corpus: {len(found)} scenarios, {failed} differ')
-    return 1 if failed or not found else 0
-
-
-if __name__ == '__main__':
-    sys.exit(main())
+    yield from scenarios.each(found, lambda it: difference(replay, it), 'corpus/')
+    return f'{len(found)} scenarios'

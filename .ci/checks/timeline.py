@@ -1,4 +1,3 @@
-#!/usr/bin/env python3
 """timeline.py EXPLAIN: reads runs as tools/timeline.py does, and prints each in which something is wrong.
 
 What the pages of a few runs embed is compared with values worked out by hand. Of each worked row, example and scenario of corpus/ each
@@ -12,14 +11,13 @@ import sys
 import tempfile
 from collections import Counter
 
-sys.dont_write_bytecode = True
-import given  # noqa: E402
-from page_runs import TOP, explained, run_of, rows_of, text_of  # noqa: E402
-import scenarios  # noqa: E402
-from timeline_data import column, data_of, kept_marks, read_run  # noqa: E402
-from timeline_page import page_of  # noqa: E402
-from timeline_reading import OCTETS, RunFault, read_lines  # noqa: E402
-from timeline_run import Mark  # noqa: E402
+from checks.parts.page_runs import TOP, explained, run_of, rows_of, text_of
+from checks.parts import scenarios
+from timeline_data import column, data_of, kept_marks, read_run
+from timeline_page import page_of
+from timeline_reading import OCTETS, RunFault, read_lines
+from timeline_run import Mark
+from checks.parts.steps import Faults, step
 
 MOST_OCTETS = 1000000  # of the page of 3 s of stereo
 HEARD = ('heard', 'injected')
@@ -271,22 +269,18 @@ def page_differs(told, tool, page):
         yield 'the tool writes another page'
 
 
-def main():
-    [explain] = given.programs('EXPLAIN')
+@step(seconds=40)
+def check(explain: str) -> Faults:
+    """Pages of runs have what is worked out: of a few runs by hand, and of each worked row, example and scenario each unit is valid exactly
+    where each payload that carries it was heard in time, as the notes of `explain` tell it. tools/timeline.py is called with good and bad
+    words and texts. What a page shows in a browser, the step pages asks."""
     told = {name: explained(explain, text_of(name)) for name in (*UNITS, 'hundred', 'three-seconds', 'gap', 'no-end')}
     runs = {name: run_of(text) for name, text in told.items()}
-    failed = list(worked(runs))
+    yield from worked(runs)
     wrong, tried = over_all(explain)
-    failed += wrong
+    yield from wrong
     with tempfile.TemporaryDirectory() as folder:
-        failed += by_words(told['whole-life'], folder)
-    for it in failed:
-        print(f'timeline: {it[:1000]}')
+        yield from by_words(told['whole-life'], folder)
     size = len(page_of(runs['three-seconds'][1], '').encode()) // 1000
-    print(f'timeline: {len(runs)} runs by hand, 3 s of stereo are {size} KB; {tried} runs by their notes; '
-          f'{len(WORDS) + len(NO_RUNS)} texts and words; {len(failed)} cases fail')
-    return 1 if failed else 0
-
-
-if __name__ == '__main__':
-    sys.exit(main())
+    return (f'{len(runs)} runs by hand, 3 s of stereo are {size} KB; {tried} runs by their notes; '
+            f'{len(WORDS) + len(NO_RUNS)} texts and words')

@@ -14,8 +14,8 @@ import capture_in
 import capture_out
 import link_layer
 import run_reading
-import scenarios
-from bent_captures import records
+from checks.parts import scenarios
+from checks.parts.bent_captures import records
 
 FIELDS = ('_ws.malformed', '_ws.expert.severity', '_ws.expert.message')
 BETWEEN, WARNING = '^', 0x600000  # between the values of a field, and the least severity that counts
@@ -189,6 +189,8 @@ def has_tshark():
 
 
 def tshark_version():
+    if not has_tshark():
+        return ''
     told = subprocess.run(['tshark', '--version'], capture_output=True, check=False).stdout.decode(errors='replace')
-    return ' '.join(told.split('\n')[0].split(' ')[:1] + [it for it in told.split('\n')[0].split(' ') if it[:1].isdigit()][:1])
+    return ' and ' + ' '.join(told.split('\n')[0].split(' ')[:1] + [it for it in told.split('\n')[0].split(' ') if it[:1].isdigit()][:1])
 

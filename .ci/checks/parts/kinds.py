@@ -1,5 +1,5 @@
 """The kinds of cases that can come: what each is read from, and which cases it has."""
-from cases import LINES, SINK_LINES, SOURCE_LINES
+from checks.parts.cases import LINES, SINK_LINES, SOURCE_LINES
 
 OF_LINKS = ('assist', 'apart', 'awrite', 'aserve', 'atell', 'aread', 'adrain', 'ashow')
 VERSION_2 = OF_LINKS + ('source', 'relay')

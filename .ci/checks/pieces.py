@@ -1,19 +1,14 @@
-#!/usr/bin/env python3
 """pieces.py PROGRAM: runs the built program on the examples, the worked rows, every tenth scenario of corpus/ and every tenth document of
 documents.py, over reads and writes that move at most 1, 7 and 4,096 octets a call, and over those of which each second or third is
 interrupted before it moves any. What is written, and the exit status, are the same whatever the pieces are."""
-import concurrent.futures
 import os
 import subprocess
-import sys
 import tempfile
 
-sys.dont_write_bytecode = True
-sys.path.insert(0, os.path.dirname(os.path.abspath(__file__)))
-import corpus  # noqa: E402
-import documents  # noqa: E402
-import given  # noqa: E402
-import scenarios  # noqa: E402
+from checks import corpus
+from checks import documents
+from checks.parts import scenarios
+from checks.parts.steps import Faults, step
 
 # The most octets a call, and each which call is interrupted: 0 for none.
 TURNS = [(1, 0), (7, 0), (4096, 0), (7, 2), (4096, 3)]
@@ -89,23 +84,18 @@ def are_interrupted(program, scenario, environment):
     return told.stderr.isdigit() and int(told.stderr) > 1
 
 
-def main():
-    [program], found, failed = given.programs('PROGRAM'), chosen(), 0
-    with tempfile.TemporaryDirectory() as folder, concurrent.futures.ThreadPoolExecutor(os.cpu_count()) as pool:
+@step(seconds=15, needs=('cc',))
+def check(replay: str) -> Faults:
+    """The program writes the same of the examples, the worked rows, every tenth scenario of corpus/ and every tenth document over reads and
+    writes that move at most 1, 7 and 4,096 octets a call, and over those of which each second or third is interrupted."""
+    found = chosen()
+    with tempfile.TemporaryDirectory() as folder:
         library = os.path.join(folder, 'pieces.so')
         subprocess.run(['cc', '-shared', '-fPIC', '-x', 'c', '-o', library, '-', '-ldl'], input=SOURCE.encode(), check=True)
         for piece, every in TURNS:
             of = dict(os.environ, LD_PRELOAD=library, OCTETS_A_CALL=str(piece), INTERRUPTED_CALL=str(every))
-            if every and not are_interrupted(program, found[0][1], of):
-                failed += 1
-                print(f'no call is interrupted of each {every}')
-            results = pool.map(lambda it, of=of: corpus.difference(program, it[1], of), found)
-            for (name, scenario), result in zip(found, results):
-                if result:
-                    failed += 1
-                    print(f'{name}: {scenario.name}, {piece} octets a call, each {every} interrupted: {result[:600]}')
-    print(f'pieces: {len(found)} scenarios and documents at {len(TURNS)} kinds of calls, {failed} differ')
-    return 1 if failed or not found else 0
-
-
-sys.exit(main())
+            if every and not are_interrupted(replay, found[0][1], of):
+                yield f'no call is interrupted of each {every}'
+            for fault in scenarios.each(found, lambda it, of=of: corpus.difference(replay, it, of)):
+                yield f'{piece} octets a call, each {every} interrupted: {fault}'
+    return f'{len(found)} scenarios and documents at {len(TURNS)} kinds of calls'

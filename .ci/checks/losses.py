@@ -1,4 +1,3 @@
-#!/usr/bin/env python3
 """losses.py PROGRAM EXPLAIN: measures losses by tools/losses.py and tools/choose.py, and prints each that isn't what is worked out.
 
 What is lost of copies, of several PDUs a unit, in bursts and by a period has to lie within the interval of 99.9 % that the tools state;
@@ -16,18 +15,15 @@ import sys
 import tempfile
 import time
 
-sys.dont_write_bytecode = True
-TOP = os.path.dirname(os.path.dirname(os.path.abspath(__file__)))
-HERE = os.path.dirname(os.path.abspath(__file__))
-sys.path[:0] = [os.path.join(TOP, 'tools'), HERE]
-import big_groups  # noqa: E402
-import given  # noqa: E402
-import loss_sums  # noqa: E402
-import loss_words  # noqa: E402
-import lossy_runs  # noqa: E402
-import sweep_figures  # noqa: E402
-import sweep_runs  # noqa: E402
-from loss_channels import Channel, named_of, own_part, parts_of, steps_of  # noqa: E402
+import big_groups
+from checks import TOP
+from checks.parts import loss_sums
+import loss_words
+import lossy_runs
+import sweep_figures
+import sweep_runs
+from loss_channels import Channel, named_of, own_part, parts_of, steps_of
+from checks.parts.steps import Faults, step
 
 
 
@@ -301,18 +297,20 @@ def by_words(programs):
         yield f'tools in processes of their own end with {whole}'
 
 
-def main():
-    paths = given.programs('PROGRAM', 'EXPLAIN')
-    programs, figures = sweep_runs.Programs(*paths), []
+@step(seconds=60)
+def check(replay: str, explain: str) -> Faults:
+    """Losses that tools/losses.py and tools/choose.py measure are what is worked out: of copies, of several PDUs a unit, in bursts and by a
+    period within the interval of 99.9 % that they state, framed units by counts over the same draws. Sinks that share a part of a channel
+    meet the same states. A sweep in four shards is the whole one, and each tool ends as it should with good and bad words and files."""
+    programs, figures, paths = sweep_runs.Programs(replay, explain), [], [replay, explain]
     with tempfile.TemporaryDirectory() as folder:
-        failed = [*by_sums(programs, figures), *by_none(programs), *by_counts(programs), *by_channels(folder),
-                  *by_rewriting(paths[0], folder), *by_shards(paths, folder), *by_stopping(paths, folder), *by_words(paths)]
-    for it in failed:
-        print(f'losses: {it[:600]}')
-    print(f'losses: {len(CHOICES)} choices lose what is worked out, {", ".join(figures)}; {len(FRAMED)} framed ones by counts; shards, '
-          f'channels and a relay; {len(WORDS)} calls; {len(failed)} fail')
-    return 1 if failed else 0
-
-
-if __name__ == '__main__':
-    sys.exit(main())
+        yield from by_sums(programs, figures)
+        yield from by_none(programs)
+        yield from by_counts(programs)
+        yield from by_channels(folder)
+        yield from by_rewriting(replay, folder)
+        yield from by_shards(paths, folder)
+        yield from by_stopping(paths, folder)
+        yield from by_words(paths)
+    return (f'{len(CHOICES)} choices lose what is worked out, {", ".join(figures)}; {len(FRAMED)} framed ones by counts; shards, '
+            f'channels and a relay; {len(WORDS)} calls')

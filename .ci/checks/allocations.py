@@ -1,19 +1,13 @@
-#!/usr/bin/env python3
 """memory.py PROGRAM: counts the allocations of the built program, and refuses one.
 
 Nothing is allocated by reading a line, by handing a sink a PDU, by closing an event, once the memory is there that a valid unit has
 until it goes to its box, and by laying one, once the streams keep all events that they may, nor by all of it together, from the line of
 a unit to the line that its sink prints: runs that differ only in how often they do so make as many allocations. A run whose first
 allocation is refused ends with status 6, says so and writes nothing."""
-import os
-import sys
 import tempfile
 
-sys.dont_write_bytecode = True
-HERE = os.path.dirname(os.path.abspath(__file__))
-sys.path[:0] = [HERE, os.path.join(HERE, '..', 'bench')]
-import given  # noqa: E402
-from allocations import Allocator  # noqa: E402
+from allocations import Allocator
+from checks.parts.steps import Faults, step
 
 TIMES = [10, 300]
 KEPT = 40  # more events than a stream of these groups keeps
@@ -85,20 +79,18 @@ def differences(allocator):
             yield f'closes of a {name} stream after {heard!r}', [more(times) for times in TIMES]
 
 
-def main():
-    [program], failed = given.programs('PROGRAM'), 0
+@step(seconds=1, needs=('cc',))
+def check(replay: str) -> Faults:
+    """Nothing is allocated by reading a line, by handing a sink a PDU, by closing an event, once the memory is there that a valid unit has
+    until it goes to its box, and by laying one, once the streams keep all events that they may, nor by all of it together: runs that
+    differ only in how often they do so make as many allocations. A run whose first allocation is refused ends with 6 and writes nothing."""
     with tempfile.TemporaryDirectory() as folder:
-        allocator = Allocator(program, folder)
+        allocator, tried = Allocator(replay, folder), 0
         for name, counts in differences(allocator):
+            tried += 1
             if counts[1] != counts[0]:
-                failed += 1
-                print(f'{name}: {counts} allocations for {TIMES} times')
+                yield f'{name}: {counts} allocations for {TIMES} times'
         ran = allocator.refusing(b'scenario 1\nend\n', 1)
         if (ran.returncode, ran.stdout, ran.stderr) != (6, b'', b'no memory\n'):
-            failed += 1
-            print(f'the first allocation refused: {ran}')
-    print(f'allocations: {failed} differ')
-    return 1 if failed else 0
-
-
-sys.exit(main())
+            yield f'the first allocation refused: {ran}'
+    return f'{tried} kinds of runs'

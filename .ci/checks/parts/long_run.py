@@ -1,4 +1,3 @@
-#!/usr/bin/env python3
 """long_run.py [EVENTS [SEED]]: prints a scenario of stereo at two sinks, of 60,000 events of 10 ms where no number is given: 10 minutes.
 
 Each payload is sent three times, once an event ahead. Of most events a sink misses some of the PDUs, and no unit. Now and then it hears

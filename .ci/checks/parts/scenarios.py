@@ -1,13 +1,14 @@
 """Scenarios with their transcripts, from where they stand: the corpus, the worked rows in it, and the examples.
 
 corpus/README.md tells how a file of the corpus is written."""
+import concurrent.futures
 import glob
 import os
 import re
 
-import documents
+from checks import TOP
+from checks import documents
 
-TOP = os.path.dirname(os.path.dirname(os.path.abspath(__file__)))
 REPEATED = re.compile(r'\{([^{}]*)\*(\d+)\}')
 OCTET = re.compile(rb'\\x([0-9a-f]{2})')
 STEP = re.compile(r'(\d*)>(?: (.*))?')
@@ -162,3 +163,13 @@ def everything():
     yield from examples()
     yield from corpus()
     yield from worked_documents()
+
+
+def each(found, difference, place=''):
+    """What differs of each of these scenarios, as many side by side as there are processors."""
+    with concurrent.futures.ThreadPoolExecutor(os.cpu_count()) as pool:
+        for (file, scenario), differs in zip(found, pool.map(lambda it: difference(it[1]), found)):
+            if differs:
+                yield f'{place}{file}: {scenario.name}: {differs}'
+    if not found:
+        yield 'there is no scenario'

@@ -1,18 +1,16 @@
-#!/usr/bin/env python3
 """coverage.py [--all] [--write]: counts how often each case comes in the worked rows, the examples and the corpus, and
 prints a table, or writes it into docs/gate.md. It fails where one that can come never does. With --all every case has its count."""
 import collections
 import os
-import sys
 
-sys.dont_write_bytecode = True
-sys.path.insert(0, os.path.dirname(os.path.abspath(__file__)))
-import cases  # noqa: E402
-import scenarios  # noqa: E402
-from kinds import KINDS  # noqa: E402
+from checks import TOP
+from checks.parts import cases
+from checks.parts import scenarios
+from checks.parts.kinds import KINDS
+from checks.parts.steps import Faults, step
 
 FEW = 24  # so many cases of a kind are printed with their counts
-GATE = os.path.join(scenarios.TOP, 'docs', 'gate.md')
+GATE = os.path.join(TOP, 'docs', 'gate.md')
 HEAD = '| What | Read from | How often |\n|---|---|---|\n'
 
 
@@ -26,7 +24,7 @@ def row_of(kind, source, counts, is_all):
     return f'| {kind} | {source} | {told} |\n'
 
 
-def write(table):
+def write_table(table):
     """Puts the table in the place of the one that docs/gate.md has."""
     with open(GATE, encoding='utf-8') as file:
         before, _, rest = file.read().partition(HEAD)
@@ -35,30 +33,22 @@ def write(table):
         file.write(before + table + after)
 
 
-def main():
-    if set(sys.argv[1:]) - {'--all', '--write'}:
-        print('usage: coverage.py [--all] [--write]', file=sys.stderr)
-        return 2
+@step(seconds=3)
+def check(*, all: bool = False, write: bool = False) -> Faults:
+    """Each case that can come does come somewhere in the worked rows, the examples and the corpus. --all prints each case with how often it
+    comes, --write puts the table into docs/gate.md."""
     counts, number = collections.Counter(), 0
     for _, scenario in scenarios.everything():
         number += 1
         cases.count_cases(counts, scenario)
-    missing = total = 0
-    table = HEAD
+    total, table = 0, HEAD
     for kind, (source, names) in KINDS.items():
         has = {str(name): counts[kind, str(name)] for name in names}
-        table += row_of(kind, source, has, '--all' in sys.argv)
+        table += row_of(kind, source, has, all)
         total += len(has)
-        for name in (it for it in has if not has[it]):
-            missing += 1
-            print(f'never: {kind}: {name}', file=sys.stderr)
-    if '--write' in sys.argv:
-        write(table)
-    else:
+        yield from (f'never: {kind}: {name}' for name in has if not has[name])
+    if all:
         print(table, end='')
-    print(f'coverage: {number} scenarios, {total} cases, {missing} that never come', file=sys.stderr)
-    return 1 if missing else 0
-
-
-if __name__ == '__main__':
-    sys.exit(main())
+    if write:
+        write_table(table)
+    return f'{number} scenarios, {total} cases'

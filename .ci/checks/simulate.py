@@ -1,4 +1,3 @@
-#!/usr/bin/env python3
 """simulate.py PROGRAM EXPLAIN [--write]: runs the commands of docs/simulate.md from its own text, in a folder of their own, compares what
 they print with what stands behind them there, and opens the pages that they make in a Chromium without a window. With --write the document
 gets what they print.
@@ -8,13 +7,12 @@ import glob
 import os
 import re
 import subprocess
-import sys
 import tempfile
 
-sys.dont_write_bytecode = True
-import chromium  # noqa: E402
+from checks import TOP
+from checks.parts import chromium
+from checks.parts.steps import Faults, step
 
-TOP = os.path.dirname(os.path.dirname(os.path.abspath(__file__)))
 DOCUMENT = os.path.join(TOP, 'docs', 'simulate.md')
 USAGE = 'usage: simulate.py PROGRAM EXPLAIN [--write]'
 PATIENCE = 300  # seconds for the commands of a block
@@ -118,37 +116,24 @@ def by_pages(folder):
         yield f'the document makes {len(pages)} pages'
 
 
-def main():
-    words, failed = sys.argv[1:], []
-    if words in (['-h'], ['--help']):
-        print(USAGE)
-        return 0
-    if len(words) not in (2, 3) or words[2:] not in ([], ['--write']) or not all(os.access(it, os.X_OK) for it in words[:2]):
-        print(USAGE, file=sys.stderr)
-        return 2
+@step(seconds=30, wants=('chromium',))
+def check(replay: str, explain: str, *, write: bool = False) -> Faults:
+    """The commands of docs/simulate.md, run from its own text in a folder of their own, print what stands behind them there, and a Chromium
+    without a window opens the pages that they make. With --write the document gets what they print."""
     with open(DOCUMENT, encoding='utf-8') as file:
         text = file.read()
+    failed = []
     with tempfile.TemporaryDirectory() as folder:
-        prepared(folder, list(map(os.path.abspath, words[:2])))
+        prepared(folder, [replay, explain])
         now = by_commands(text, folder, failed)
-        if words[2:]:
+        if write:
             with open(DOCUMENT, 'w', encoding='utf-8') as file:
                 file.write(now)
-            return 0
-        has_browser = chromium.find() is not None
-        if has_browser and not failed:
+            return 'docs/simulate.md is written'
+        yield from failed
+        if chromium.find() is not None and not failed:
             try:
-                failed += by_pages(folder)
+                yield from by_pages(folder)
             except chromium.BrowserFault as fault:
-                failed.append(f'browser: {fault}')
-    for it in failed:
-        print(f'simulate: {it[:1500]}')
-    print(f'simulate: {len(list(blocks(text)))} blocks of commands; {len(failed)} fail')
-    if not has_browser and not failed:
-        print('skipped: the pages of docs/simulate.md, since no Chromium is here (apt-get install chromium)')
-        return 3
-    return 1 if failed else 0
-
-
-if __name__ == '__main__':
-    sys.exit(main())
+                yield f'browser: {fault}'
+    return f'{len(list(blocks(text)))} blocks of commands'

@@ -1,14 +1,11 @@
 """Runs that the tests of pages make: examples, and texts that are made here. timeline.py and pages.py use them."""
 import os
 import subprocess
-import sys
 
-HERE = os.path.dirname(os.path.abspath(__file__))
-TOP = os.path.dirname(HERE)
-sys.path[:0] = [os.path.join(TOP, 'tools'), HERE]
-from long_run import long_run  # noqa: E402
-from timeline_data import data_of, read_run  # noqa: E402
-from timeline_reading import OCTETS  # noqa: E402
+from checks import TOP
+from checks.parts.long_run import long_run
+from timeline_data import data_of, read_run
+from timeline_reading import OCTETS
 
 
 def hundred():

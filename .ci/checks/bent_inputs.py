@@ -1,4 +1,3 @@
-#!/usr/bin/env python3
 """bent_inputs.py PROGRAM EXPLAIN [--count N] [--seed SEED] [--tool NAME] [--case NUMBER]: runs the tools over inputs that are bent: octets
 changed, words changed, lines dropped, doubled and moved, and files cut, for scenarios, transcripts, captures and what `explain` tells. Each
 tool has to take N of them (200; the words `--count 2000` are for a whole trial) without a traceback, within some seconds, and ends with 0,
@@ -8,7 +7,6 @@ Besides, each is given words that can't be taken, words that it doesn't know, fi
 
 The case NUMBER of a tool is drawn by the seed, the tool and the number alone, so that one that fails can be run again; its input is
 kept where the line says. Exit status 1: one fails; 3: scapy or liblc3-tools is missing, so that some tools weren't tried."""
-import argparse
 import contextlib
 import importlib.util
 import io
@@ -23,17 +21,17 @@ import tempfile
 import traceback
 import typing
 
-sys.dont_write_bytecode = True
-HERE = os.path.dirname(os.path.abspath(__file__))
-TOOLS = os.path.join(os.path.dirname(HERE), 'tools')
-sys.path[:0] = [TOOLS, HERE]
-import bent_losses  # noqa: E402
-import bent_sounds  # noqa: E402
-import scenarios  # noqa: E402
-from bending import OF_CAPTURES, OF_TEXTS  # noqa: E402
+from checks import TOP
+from checks.parts import bent_losses
+from checks.parts import bent_sounds
+from checks.parts import scenarios
+from checks.parts.bending import OF_CAPTURES, OF_TEXTS
+from checks.parts.steps import Faults, step
 
+TOOLS = os.path.join(TOP, 'tools')
 HAS_SCAPY = importlib.util.find_spec('scapy') is not None
 HAS_CODER = all(map(shutil.which, ('elc3', 'dlc3')))
+KEPT = os.path.join(tempfile.gettempdir(), 'bent-inputs')  # where inputs that fail are left
 TIME_LIMIT, MEMORY_LIMIT = 30, 8 << 30  # seconds and octets that a case may take
 LARGEST = 4000  # octets of a scenario that is bent, so that many can be
 LINES_TOLD = 400  # characters of what was said that are shown
@@ -133,7 +131,7 @@ def small_scenarios():
 
 def captures(program, folder):
     """Captures as capture_out.py writes them, and as bad sniffers give them."""
-    import bent_captures
+    from checks.parts import bent_captures
     import capture_out
     found = []
     for place, name in enumerate(bent_captures.GROUPS):
@@ -304,7 +302,7 @@ def by_hand(program, explain, folder, counts):
             yield f'{name}: {fault}'
 
 
-def kept(folder, tool, seed, number, files):
+def kept_input(folder, tool, seed, number, files):
     """The folder in which the input of a case that fails is left."""
     place = os.path.join(folder, f'{tool.name.replace(" --", "-")}-{seed}-{number}')
     os.makedirs(place, exist_ok=True)
@@ -314,61 +312,36 @@ def kept(folder, tool, seed, number, files):
     return place
 
 
-def drawn_cases(tool, asked, folder, counts):
-    """The faults of a tool over the cases that are asked for."""
-    numbers = [asked.case] if asked.case is not None else range(asked.count)
+def drawn_cases(tool, seed, numbers, folder, place, counts):
+    """The faults of a tool over the cases of these numbers."""
     for number in numbers:
-        files = tool.inputs(asked.seed, number)
+        files = tool.inputs(seed, number)
         ended = tool.run(folder, files)
         counts[tool.name] += 1
         counts['taken'] += ended.status == 0
         fault = fault_of(ended)
         if fault:
-            where = kept(asked.kept, tool, asked.seed, number, files)
-            yield f'{tool.name}, seed {asked.seed}, case {number}, {where}: {fault}'
+            where = kept_input(place, tool, seed, number, files)
+            yield f'{tool.name}, seed {seed}, case {number}, {where}: {fault}'
 
 
-def words_of():
-    parser = argparse.ArgumentParser(description='Runs the tools over inputs that are bent.', allow_abbrev=False)
-    parser.add_argument('program')
-    parser.add_argument('explain')
-    parser.add_argument('--count', type=int, default=200, help='how many for each tool')
-    parser.add_argument('--seed', type=int, default=1)
-    parser.add_argument('--tool', help='of this tool alone')
-    parser.add_argument('--case', type=int, help='this case alone')
-    parser.add_argument('--kept', default=os.path.join(tempfile.gettempdir(), 'bent-inputs'), help='where inputs that fail are left')
-    return parser.parse_args()
-
-
-def main():
-    asked = words_of()
-    program, explain = os.path.abspath(asked.program), os.path.abspath(asked.explain)
-    resource.setrlimit(resource.RLIMIT_AS, (MEMORY_LIMIT, MEMORY_LIMIT))
-    folder, failed, counts = tempfile.mkdtemp(), 0, dict.fromkeys(('by hand', 'taken'), 0)
-    try:
-        faults = [] if asked.tool or asked.case is not None else by_hand(program, explain, folder, counts)
-        for fault in faults:
-            failed += 1
-            print(f'bent inputs: {fault}', flush=True)
-        for tool in tools(program, explain, folder):
-            if asked.tool in (None, tool.name):
-                counts[tool.name] = 0
-                for fault in drawn_cases(tool, asked, folder, counts):
-                    failed += 1
-                    print(f'bent inputs: {fault}', flush=True)
-    finally:
-        shutil.rmtree(folder, ignore_errors=True)
+@step(seconds=100, wants=('scapy', 'lc3'))
+def check(replay: str, explain: str, *, count: int = 200, seed: int = 1, tool: str = '', case: int = -1, kept: str = KEPT) -> Faults:
+    """Each tool takes inputs that are bent: octets changed, words changed, lines dropped, doubled and moved, and files cut, for scenarios,
+    transcripts, captures and what `explain` tells. It has to take --count N of them without a traceback, within some seconds, and end with
+    0, or with 1 and one line on standard error. Besides, each is given words that can't be taken, files that can't be read or written, and
+    `--help`. Cases are drawn by --seed, the tool and their number alone: --tool NAME --case NUMBER runs one again, whose input --kept
+    keeps."""
+    before = resource.getrlimit(resource.RLIMIT_AS)
+    resource.setrlimit(resource.RLIMIT_AS, (MEMORY_LIMIT, before[1]))
+    counts = dict.fromkeys(('by hand', 'taken'), 0)
+    with tempfile.TemporaryDirectory(ignore_cleanup_errors=True) as folder:
+        if not tool and case < 0:
+            yield from by_hand(replay, explain, folder, counts)
+        for one in tools(replay, explain, folder):
+            if tool in ('', one.name):
+                counts[one.name] = 0
+                yield from drawn_cases(one, seed, [case] if case >= 0 else range(count), folder, kept, counts)
     taken, hand = counts.pop('taken'), counts.pop('by hand')
-    print(f'bent inputs: seed {asked.seed}: {", ".join(f"{number} of {name}" for name, number in counts.items())}; {taken} of them are '
-          f'taken, the others refused in one line; {hand} by hand; {failed} fail')
-    if failed:
-        return 1
-    if not HAS_SCAPY:
-        print('skipped: bent inputs of the tools for captures, since this python3 has no scapy (apt-get install python3-scapy)')
-    if not HAS_CODER:
-        print('skipped: bent inputs of audio.py, since elc3 and dlc3 are missing (apt-get install liblc3-tools)')
-    return 0 if HAS_SCAPY and HAS_CODER else 3
-
-
-if __name__ == '__main__':
-    sys.exit(main())
+    return (f'seed {seed}: {", ".join(f"{number} of {name}" for name, number in counts.items())}; {taken} of them are '
+            f'taken, the others refused in one line; {hand} by hand')

@@ -1,17 +1,13 @@
-#!/usr/bin/env python3
 """in_turn.py PROGRAM: gives the built program the lines of a scenario one by one, each once all that the lines before it bring was
 written. So a program that reads a line before it wrote what the line before brings gets none, and the test ends with a fault. It runs
 the worked rows and every fourth scenario of corpus/, but those that a run of the program can't be given a line at a time."""
 import os
 import select
 import subprocess
-import sys
 import time
 
-sys.dont_write_bytecode = True
-sys.path.insert(0, os.path.dirname(os.path.abspath(__file__)))
-import given  # noqa: E402
-import scenarios  # noqa: E402
+from checks.parts import scenarios
+from checks.parts.steps import Faults, step
 
 # Seconds until the program is taken to wait for more than it was given.
 PATIENCE = 20
@@ -86,22 +82,19 @@ def is_given_by_lines(scenario):
     return not scenario.words and scenario.text == text and scenario.transcript == written and len(text) <= LONGEST
 
 
-def main():
-    [program] = given.programs('PROGRAM')
+@step(seconds=7)
+def check(replay: str) -> Faults:
+    """All that a line brings is written before the next line is read: the program is given the lines of the worked rows and of every fourth
+    scenario of corpus/ one by one, each once all that the lines before it bring was written."""
     some = [*scenarios.rows(), *list(scenarios.corpus())[::4]]
     some = [it for it in some if is_given_by_lines(it[1])]
     faults = lines = 0
     for file, scenario in some:
         lines += len(scenario.steps)
-        wrong = in_turn(program, scenario)
+        wrong = in_turn(replay, scenario)
         if wrong:
             faults += 1
-            print(f'{file}: {scenario.name}: {wrong}')
+            yield f'{file}: {scenario.name}: {wrong}'
             if faults == MOST_FAULTS:
                 break
-    print(f'lines in turn: {len(some)} scenarios of {lines} lines, {faults} fail')
-    sys.exit(1 if faults else 0)
-
-
-if __name__ == '__main__':
-    main()
+    return f'{len(some)} scenarios of {lines} lines'

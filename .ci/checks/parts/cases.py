@@ -5,8 +5,8 @@ kept beside them (phases, slots, places) follows docs/answers.md and docs/refusa
 import collections
 import re
 
-from octet_words import octets, segments
-from sink_cases import SinkCases, where
+from checks.parts.octet_words import octets, segments
+from checks.parts.sink_cases import SinkCases, where
 
 SOURCE_LINES = ('group', 'ident', 'subgroup', 'meta', 'bis', 'cipher', 'start', 'tuned', 'unit', 'event', 'hear', 'air', 'inject', 'sniff',
                 'announce', 'train', 'terminate', 'stop')

@@ -1,4 +1,3 @@
-#!/usr/bin/env python3
 """audio.py PROGRAM: takes WAVs of tones out as scenarios, runs them, and takes what sinks hand up in again, with
 tools/audio.py. It runs the commands of docs/simulate.md about sound, too.
 
@@ -17,11 +16,9 @@ import sys
 import tempfile
 import wave
 
-sys.dont_write_bytecode = True
-TOP = os.path.dirname(os.path.dirname(os.path.abspath(__file__)))
-sys.path.insert(0, os.path.join(TOP, 'tools'))
-import given  # noqa: E402
-import lc3_coder  # noqa: E402
+import lc3_coder
+from checks import TOP
+from checks.parts.steps import Faults, step
 
 TONES = (440, 1330)  # Hz of the left and of the right channel
 TONE_PART, NOISE_PART = 0.4, 0.05  # of the loudest
@@ -270,22 +267,14 @@ def faults(program, folder):
             yield f'{name}: {fault}'
 
 
-def main():
-    program, = given.programs('PROGRAM')
-    if not lc3_coder.is_there():
-        print('skipped: .ci/audio.py, since elc3 and dlc3 are missing (apt-get install liblc3-tools)')
-        return 3
+@step(seconds=20, needs=('lc3',))
+def check(replay: str) -> Faults:
+    """tools/audio.py takes WAVs out as scenarios, and what sinks hand up in again. With no loss the WAV is the round trip by elc3 and dlc3,
+    octet for octet; with losses it is what an LC3 decoder makes of the frames that the transcript has, where it is told of each of the
+    others that it was lost. The commands of docs/simulate.md about sound tell what stands there."""
     with tempfile.TemporaryDirectory() as folder:
-        found = []
         try:
-            found += faults(program, folder)
+            yield from faults(replay, folder)
         except (ToolFault, OSError) as fault:
-            found.append(fault)
-    for fault in found:
-        print(f'audio: {fault}')
-    print(f'audio: {len(lc3_coder.SETTINGS)} settings, {len(WHOLE)} WAVs without a loss and {len(LOST) + 2} with losses; {len(found)} fail')
-    return 1 if found else 0
-
-
-if __name__ == '__main__':
-    sys.exit(main())
+            yield f'{fault}'
+    return f'{len(lc3_coder.SETTINGS)} settings, {len(WHOLE)} WAVs without a loss and {len(LOST) + 2} with losses'

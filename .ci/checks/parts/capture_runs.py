@@ -1,4 +1,3 @@
-#!/usr/bin/env python3
 """captures.py PROGRAM: takes runs out as captures and in again, by tools/capture_out.py and tools/capture_in.py, and prints each that
 differs.
 
@@ -8,29 +7,18 @@ out, and in again where a sink heard all. Where tshark is there, it must find no
 addresses of the streams that it works out itself must be those of the capture.
 
 Exit status 1: something differs; 3: scapy or tshark is missing, so that all or a part was left out."""
-import importlib.util
 import os
 import random
-import sys
-import tempfile
-from collections import Counter
 
-if importlib.util.find_spec('scapy') is None:
-    print('skipped: captures out and in again, since this python3 has no scapy (apt-get install python3-scapy)')
-    sys.exit(3)
-
-sys.dont_write_bytecode = True
-sys.path.insert(0, os.path.dirname(os.path.abspath(__file__)))
-import scapy  # noqa: E402
-from bent_captures import BEGIN, DRIFT, EPOCH, GROUPS, IDENT, JITTER, ORIGIN, SUBGROUP, TOP, Bent, Run, records, write  # noqa: E402
-from corpus_captures import (  # noqa: E402
-    BETWEEN, FIELDS, by_tshark, captures_of_all, has_tshark, malformed_in, replay, said, tshark, tshark_version, units_of)
-import air_pieces  # noqa: E402
-import capture_in  # noqa: E402
-import capture_out  # noqa: E402
-import given  # noqa: E402
-import link_layer  # noqa: E402
-from anchor_fit import Fit, Heard, Mark  # noqa: E402
+from checks import TOP
+from checks.parts.bent_captures import BEGIN, DRIFT, EPOCH, GROUPS, IDENT, JITTER, ORIGIN, SUBGROUP, Bent, Run, records, write
+from checks.parts.corpus_captures import (
+    BETWEEN, FIELDS, by_tshark, captures_of_all, has_tshark, malformed_in, replay, said, tshark, units_of)
+import air_pieces
+import capture_in
+import capture_out
+import link_layer
+from anchor_fit import Fit, Heard, Mark
 
 SHIFT = 20  # us by which a fitted anchor may be wrong
 # The access addresses of control and of stream 1 for the seed 0, by section 2.1.2: 42 is 0101010, 77 is 1001101.
@@ -290,29 +278,3 @@ def all_results(program, folder, counts):
         runs += [it for it in captures if it[0].startswith('examples')]
         yield from guarded('tshark', addresses_by_tshark(folder, runs, counts))
         yield from guarded('tshark', by_tshark(captures, folder, counts))
-
-
-def main():
-    [program], counts, failed = given.programs('PROGRAM'), Counter(), 0
-    with tempfile.TemporaryDirectory() as folder:
-        for name, why in all_results(program, folder, counts):
-            counts['cases'] += 1
-            if why:
-                failed += 1
-                print(f'captures: {name}: {why.strip()}')
-    print(f'captures: with scapy {scapy.__version__}{" and " + tshark_version() if has_tshark() else ""}: {counts["captures"]} out and in '
-          f'again, {counts["deleted"]} PDUs deleted, {counts["put"]} packets put between, {counts["wrong"]} of {counts["units"]} units '
-          f'differ; {counts["scenarios out"]} scenarios out, {counts["refusals named"]} of them with their refusal, '
-          f'{counts["scenarios in again"]} in again with {counts["units of these"]} units, {counts["not taken in"]} not; '
-          f'{counts["packets by tshark"]} packets by tshark, {counts["malformed on purpose"]} malformed on purpose; {counts["cases"]} cases, '
-          f'{failed} fail')
-    if failed:
-        return 1
-    if not has_tshark():
-        print('skipped: the captures as Wireshark reads them, since tshark is missing (apt-get install tshark)')
-        return 3
-    return 0
-
-
-if __name__ == '__main__':
-    sys.exit(main())

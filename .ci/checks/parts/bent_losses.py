@@ -3,9 +3,10 @@ import os
 import subprocess
 import sys
 
-from bending import OF_TEXTS
+from checks import TOP
+from checks.parts.bending import OF_TEXTS
 
-TOOLS = os.path.join(os.path.dirname(os.path.dirname(os.path.abspath(__file__))), 'tools')
+TOOLS = os.path.join(TOP, 'tools')
 CHANNEL = 'burst:0.1,0.9,20,10'
 SWEEP = ('--sink', f'all=1+2@{CHANNEL}', '--nse', '2,3', '--irc', '1,2,3', '--pto', '1', '--runs', '2', '--seconds', '0.5')
 TRACES = (b'# ms, loss\n0,0\n20,0.9\n\n40.5,0\n60,1\n', b'5,0.5\n')

@@ -1,4 +1,3 @@
-#!/usr/bin/env python3
 """transcript_rows.py: compares the table of what a line prints, tools/printed_rows.py, with the words of the language (.ci/words), with
 what the reader of the corpus takes for it (.ci/scenarios.py), and with all rows of the corpus, the worked rows and the examples.
 
@@ -6,15 +5,12 @@ Each row has to have a form of the table and to come where a line brings it, as 
 to come somewhere; and rows that are changed must be refused. It needs neither scapy nor a program."""
 import os
 import random
-import sys
 
-sys.dont_write_bytecode = True
-HERE = os.path.dirname(os.path.abspath(__file__))
-sys.path[:0] = [os.path.join(os.path.dirname(HERE), 'tools'), HERE]
-import run_reading  # noqa: E402
-import scenarios  # noqa: E402
-import given  # noqa: E402
-import printed_rows  # noqa: E402
+import run_reading
+from checks import TOP
+from checks.parts import scenarios
+import printed_rows
+from checks.parts.steps import Faults, step
 
 CHANGED = 20  # rows of each form that are changed
 UNIT = 'unit 0 1 at 5 lost'
@@ -33,7 +29,7 @@ DRAINS = (
 
 
 def words_of_the_language():
-    with open(os.path.join(HERE, 'words'), encoding='ascii') as file:
+    with open(os.path.join(TOP, '.ci', 'words'), encoding='ascii') as file:
         return set(file.read().split())
 
 
@@ -129,19 +125,17 @@ def changed_rows(examples, counts):
                     pass
 
 
-def main():
-    given.programs()
+@step(seconds=6)
+def check() -> Faults:
+    """The table of what a line prints, tools/printed_rows.py, is that of the words of the language (.ci/words), of the reader of the corpus
+    (scenarios.py), and of all rows of the corpus, the worked rows and the examples: each row has a form and comes where a line brings it,
+    each form comes somewhere, and rows that are changed are refused."""
     told, examples, counts = list(transcripts()), {}, {'changed': 0}
-    wrong = list(tables()) + list(rows_of(told, examples)) + list(drains())
-    wrong += [f'no row has the form "{form}"' for form in printed_rows.FORMS if form not in examples]
-    wrong += changed_rows(examples, counts)
-    for one in wrong:
-        print(f'transcript rows: {one}')
+    yield from tables()
+    yield from rows_of(told, examples)
+    yield from drains()
+    yield from (f'no row has the form "{form}"' for form in printed_rows.FORMS if form not in examples)
+    yield from changed_rows(examples, counts)
     rows = sum(map(len, examples.values()))
-    print(f'transcript rows: {len(printed_rows.LINES)} words, {len(printed_rows.FORMS)} forms, {rows} rows of {len(told)} scenarios, '
-          f'{counts["changed"]} changed rows, {len(wrong)} wrong')
-    return 1 if wrong or not rows else 0
-
-
-if __name__ == '__main__':
-    sys.exit(main())
+    return (f'{len(printed_rows.LINES)} words, {len(printed_rows.FORMS)} forms, {rows} rows of {len(told)} scenarios, '
+            f'{counts["changed"]} changed rows')

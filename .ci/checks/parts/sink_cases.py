@@ -1,5 +1,5 @@
 """The cases of the lines that name a sink: its place, its slots, and what waits on its links."""
-from octet_words import is_value, octets, operation, structure
+from checks.parts.octet_words import is_value, octets, operation, structure
 
 LATE = ('NoBase', 'BadBase', 'NoBigInfo', 'BadBigInfo', 'BadGroup', 'NoneTaken')
 

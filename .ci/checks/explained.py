@@ -1,4 +1,3 @@
-#!/usr/bin/env python3
 """explained.py REPLAY EXPLAIN: runs both built programs on the examples, the worked rows and the scenarios of corpus/.
 
 The rows of the transcript in what `explain` writes, without their blanks, are what `replay` writes, the exit status and what is said on
@@ -10,13 +9,10 @@ import math
 import os
 import re
 import subprocess
-import sys
 from collections import Counter
 
-sys.dont_write_bytecode = True
-sys.path.insert(0, os.path.dirname(os.path.abspath(__file__)))
-import given  # noqa: E402
-import scenarios  # noqa: E402
+from checks.parts import scenarios
+from checks.parts.steps import Faults, step
 
 GROUP = 'group unframed 20000 40000 8 10000 100 100 2 1 1 1 0 0 1800 1'
 BASE = ['subgroup 0600000000 02010802020103046400', 'meta 03020400', 'bis 1 050301000000', 'bis 2 050302000000']
@@ -299,19 +295,16 @@ def ends(explain):
         yield f'a full device: {got.returncode} {got.stderr}'
 
 
-def main():
-    replay, explain = given.programs('REPLAY', 'EXPLAIN')
+@step(seconds=12)
+def check(replay: str, explain: str) -> Faults:
+    """Of the examples, the worked rows and the corpus `explain` tells the rows that `replay` writes and each line with its number, and ends as
+    it does; each `unit` row has its notes, the sum in them is its time, and the counts at the end are those of the rows. Mistakes and
+    answers to trains have notes with the words that are meant, and the program's ends are tried."""
     found = list(texts())
     with concurrent.futures.ThreadPoolExecutor(os.cpu_count()) as pool:
         results = list(pool.map(lambda it: difference(replay, explain, it[2]), found))
-    failed = [f'{file}: {name}: {it}' for (file, name, _), it in zip(found, results) if it]
-    failed += [*mistakes(explain), *unit_notes(explain), *ends(explain)]
-    for it in failed:
-        print(it[:1500])
-    tried = f'{len(found)} scenarios, {len(MISTAKES)} mistakes, {len(COMPARED)} trains, {len(UNITS)} runs and {len(ENDS) + 1} ends'
-    print(f'explained: {tried}, {len(failed)} differ')
-    return 1 if failed or not found else 0
-
-
-if __name__ == '__main__':
-    sys.exit(main())
+    yield from (f'{file}: {name}: {it}' for (file, name, _), it in zip(found, results) if it)
+    yield from mistakes(explain)
+    yield from unit_notes(explain)
+    yield from ends(explain)
+    return f'{len(found)} scenarios, {len(MISTAKES)} mistakes, {len(COMPARED)} trains, {len(UNITS)} runs and {len(ENDS) + 1} ends'

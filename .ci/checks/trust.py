@@ -1,0 +1,16 @@
+"""The definitions to trust."""
+import os
+import subprocess
+import sys
+
+from checks import TOP
+from checks.parts.steps import Faults, step
+
+
+@step(seconds=4)
+def check() -> Faults:
+    """The pages of docs/spec/ have the definitions that the promise of `replay` reaches, as the files have them (bench/trust.py --check)."""
+    done = subprocess.run([sys.executable, os.path.join(TOP, 'bench', 'trust.py'), '--check'], stdout=subprocess.PIPE, text=True, check=False)
+    if done.returncode:
+        yield f'bench/trust.py --check ends with {done.returncode}: {done.stdout}'
+    return done.stdout.strip() or 'the pages are what the files say'
