@@ -1,5 +1,5 @@
 """The one table of what a line of a scenario prints: which rows, in which order, and of which forms. All tools that read a transcript go
-by it, and .ci/transcript_rows.py compares it with the words of the language and with all rows of the corpus. docs/scenario-language.md
+by it, and .ci/run transcript_rows compares it with the words of the language and with all rows of the corpus. docs/scenario-language.md
 tells what the rows mean."""
 import re
 import typing
