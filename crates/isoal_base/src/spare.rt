@@ -1,5 +1,5 @@
 //! Memory that is used again.
-ghost use Rattle.std.specs.Prelude.{◌≡◌, ◌<◌, ◌≤◌, ◌+◌, ◌-◌, ◌⊎◌, length, min, MatchResult, OnOk, OnErr};
+ghost use Rattle.std.specs.Prelude.{◌≡◌, ◌<◌, ◌≤◌, ◌+◌, ◌-◌, length, min, MatchResult, OnOk, OnErr};
 
 use bcast_base::{Memory, Octets};
 use std::alloc::Global;
@@ -49,13 +49,15 @@ impl SpareOctets {
         Ok(octets)
     }
 
-    /// Keeps the memory of a string, where fewer than 16 are kept and there is memory for one more in the list of them.
-    pub fn keep(&mut self, octets: Octets)
-        ensures { (self.new ≡ min (self.old + 1) 16) ⊎ (self.new ≡ self.old) }
+    /// Keeps the memory of a string, where fewer than 16 are kept. Memory is wanted for one more in the list of them; the string is
+    /// then given back, and what was kept stays.
+    pub fn keep(&mut self, octets: Octets) -> Result<(), Memory>
+        ensures kept { MatchResult result (λ _. self.new ≡ min (self.old + 1) 16) (λ _. (self.new ≡ self.old) × (self.old < 16)) }
     {
         if self.spares.len() < SPARES {
-            let _ = self.spares.push(octets);
+            self.spares.push(octets)?;
         }
+        Ok(())
     }
 }
 

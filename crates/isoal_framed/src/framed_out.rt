@@ -230,7 +230,7 @@ fn pop_unit(queue: &mut VecDeque<Unit>, spares: &mut SpareOctets)
     ensures { queue.new.items ≡ drop 1 queue.old.items }
 {
     if let Some(unit) = queue.pop_front() {
-        spares.keep(unit.octets);
+        let _ = spares.keep(unit.octets);
     }
 }
 

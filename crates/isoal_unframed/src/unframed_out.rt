@@ -165,6 +165,6 @@ fn pop_unit(waiting: &mut VecDeque<Octets>, spares: &mut SpareOctets)
     ensures { waiting.new.items ≡ drop 1 waiting.old.items }
 {
     if let Some(unit) = waiting.pop_front() {
-        spares.keep(unit);
+        let _ = spares.keep(unit);
     }
 }
