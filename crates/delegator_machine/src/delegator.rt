@@ -1,5 +1,5 @@
 ghost use Rattle.std.specs.Prelude.{◌≡◌, ◌+◌, ◌≤◌, ◌<◌, ◌^◌, ◌&&◌, ◌∷◌, ◌⊎◌, not, List, [], option_map, slice_get, true};
-ghost use Rattle.std.specs.Prelude.{IfOk, IsSome, OnOk, OnErr};
+ghost use Rattle.std.specs.Prelude.{IfOk, IsOk, IsSome, OnOk, OnErr};
 ghost use Rattle.bass_operations.specs.Reading.{op_of};
 ghost use Rattle.delegator_history.specs.Controls.{control_heard};
 ghost use Rattle.delegator_history.specs.Notices.{handed_out, mtu_in, waiting};
@@ -151,6 +151,7 @@ impl Delegator {
         ensures err { OnErr result (self.new ≡ self.old) }
         ensures memory { (setup : Setup) (calls : List Call) → StandsFor setup calls self.old
             → OnErr result (wants_memory (sight_of setup (steps_of calls)) (op_of write.now) ≡ true) }
+        ensures operation { OnErr result (IsOk (op_of write.now)) }
     {
         let was_on_group = self.scan.is_on_group();
         let reply = self.scan.serve(write)?;
