@@ -1,9 +1,4 @@
-"""audio.py PROGRAM: takes WAVs of tones out as scenarios, runs them, and takes what sinks hand up in again, with
-tools/audio.py. It runs the commands of docs/simulate.md about sound, too.
-
-With no loss the WAV is the round trip by elc3 and dlc3, octet for octet. With losses it is what an LC3 decoder makes of the frames that the
-transcript has, where it is told of each of the others that it was lost: lc3_decode of liblc3 without a frame. Exit status 1: something
-differs; 3: liblc3-tools is missing."""
+"""Sound: WAVs that go out as scenarios, and what sinks hand up."""
 import ctypes
 import io
 import math
@@ -12,12 +7,14 @@ import random
 import re
 import shutil
 import subprocess
-import sys
 import tempfile
 import wave
+from collections.abc import Callable, Iterable, Iterator, Sequence
 
 import lc3_coder
 from checks import TOP
+from checks.parts import running
+from checks.parts.files import octets_of, text_of, write
 from checks.parts.steps import Faults, step
 
 TONES = (440, 1330)  # Hz of the left and of the right channel
@@ -34,49 +31,47 @@ class ToolFault(Exception):
 class Trial:
     """A WAV of tones and its scenario, in a folder."""
 
-    def __init__(self, program, folder, name, channels, bits, *more):
+    def __init__(self, program: str, folder: str, choice: 'Choice'):
+        name, channels, bits, more = choice
         self.program, self.folder, self.name, self.setting = program, folder, name, lc3_coder.Setting.of(name)
         self.channels, self.bits, self.told = channels, bits, ''
         lc3_coder.write_wav(self.at('in.wav'), channels, bits // 8, self.setting.rate, tones(self.setting.rate, channels, bits))
         self.tool('out', self.at('in.wav'), self.at('scn'), '--setting', name, *more)
-        with open(self.at('scn'), encoding='ascii') as file:
-            self.lines = file.read().split('\n')
+        self.lines = text_of(self.at('scn')).split('\n')
 
-    def at(self, name):
+    def at(self, name: str) -> str:
         return os.path.join(self.folder, name)
 
-    def tool(self, *words):
-        done = subprocess.run([sys.executable, os.path.join(TOP, 'tools', 'audio.py'), *words], capture_output=True, text=True, check=False)
-        if done.returncode != 0:
-            raise ToolFault(f'{self.name}: audio.py {words[0]} ended with {done.returncode}: {done.stderr.strip()}')
-        return done.stderr
+    def tool(self, *words: str) -> str:
+        done = running.tool('audio', words)
+        if done.status != 0:
+            raise ToolFault(f'{self.name}: audio.py {words[0]} ended with {done.status}: {done.told.strip()}')
+        return done.told
 
-    def heard(self, lines, sink):
+    def heard(self, lines: list[str], sink: str) -> tuple[list[str], bytes]:
         """The transcript of these lines, and the WAV of what the sink hands up."""
-        with open(self.at('scn'), 'w', encoding='ascii') as file:
-            file.write('\n'.join(lines))
-        with open(self.at('scn'), 'rb') as text, open(self.at('out'), 'wb') as rows:
-            subprocess.run([self.program], stdin=text, stdout=rows, check=False)
+        write(self.at('scn'), '\n'.join(lines))
+        rows = running.run(self.program, octets_of(self.at('scn'))).stdout
+        write(self.at('out'), rows)
         self.told = self.tool('in', self.at('scn'), self.at('out'), self.at('out.wav'), '--sink', sink)
-        with open(self.at('out'), encoding='ascii') as rows:
-            return rows.read().split('\n'), read(self.at('out.wav'))
+        return rows.decode().split('\n'), octets_of(self.at('out.wav'))
 
-    def round_trip(self):
+    def round_trip(self) -> tuple[bytes, list[list[bytes]]]:
         """What elc3 and dlc3 make of the WAV, and the frames of each channel between. 44.1 kHz is told them as 48 kHz."""
         plain, coded, back = self.at('plain.wav'), self.at('coded.lc3'), self.at('back.wav')
         shutil.copy(self.at('in.wav'), plain)
         relabel(plain, self.setting.coded_rate)
         octets, duration = self.setting.octets, self.setting.duration
         bit_rate = math.ceil(octets * 8_000_000 / duration) * self.channels
-        for command in (['elc3', '-b', bit_rate, '-m', duration / 1000, plain, coded], ['dlc3', '-b', self.bits, coded, back]):
-            subprocess.run(list(map(str, command)), capture_output=True, check=True)
+        for command in (['elc3', '-b', f'{bit_rate}', '-m', f'{duration / 1000}', plain, coded], ['dlc3', '-b', f'{self.bits}', coded, back]):
+            subprocess.run(command, capture_output=True, check=True)
         relabel(back, self.setting.rate)
-        blocks, size = read(coded)[18:], 2 + octets * self.channels
-        return read(back), [[blocks[at + 2 + octets * channel:at + 2 + octets * (channel + 1)] for at in range(0, len(blocks), size)]
+        blocks, size = octets_of(coded)[18:], 2 + octets * self.channels
+        return octets_of(back), [[blocks[at + 2 + octets * channel:at + 2 + octets * (channel + 1)] for at in range(0, len(blocks), size)]
                             for channel in range(self.channels)]
 
 
-def tones(rate, channels, bits):
+def tones(rate: int, channels: int, bits: int) -> bytes:
     """Samples of a tone in each channel, with noise, so that no two frames are alike."""
     draw, most = random.Random(1), 2 ** (bits - 1) - 1
     loud = (TONE_PART * math.sin(2 * math.pi * TONES[channel] * at / rate) + draw.uniform(-NOISE_PART, NOISE_PART)
@@ -84,12 +79,7 @@ def tones(rate, channels, bits):
     return b''.join(round(most * it).to_bytes(bits // 8, 'little', signed=True) for it in loud)
 
 
-def read(path):
-    with open(path, 'rb') as file:
-        return file.read()
-
-
-def relabel(path, rate):
+def relabel(path: str, rate: int) -> None:
     """Writes another rate into the head of a WAV as `wave` and dlc3 write it."""
     with open(path, 'r+b') as file:
         head = file.read(36)
@@ -100,7 +90,7 @@ def relabel(path, rate):
 class Decoder:
     """The decoder of liblc3 for one channel, which is told of a frame that it was lost by no frame."""
 
-    def __init__(self, setting):
+    def __init__(self, setting: lc3_coder.Setting):
         self.library, self.setting = ctypes.CDLL(LIBRARY), setting
         duration, rate = setting.duration, setting.coded_rate
         self.memory = ctypes.create_string_buffer(self.library.lc3_decoder_size(duration, rate))
@@ -108,25 +98,25 @@ class Decoder:
         self.decoder = ctypes.c_void_p(self.library.lc3_setup_decoder(duration, rate, rate, self.memory))
         self.delay = self.library.lc3_delay_samples(duration, rate)
 
-    def frame(self, octets):
+    def frame(self, octets: bytes | None) -> tuple[int, list[int]]:
         """Whether the frame was concealed, and its samples."""
         samples = (ctypes.c_int16 * self.setting.samples)()
         is_concealed = self.library.lc3_decode(self.decoder, octets, self.setting.octets, S16, samples, 1)
         return is_concealed, list(samples)
 
-    def channel(self, frames):
+    def channel(self, frames: Iterable[bytes | None]) -> list[int]:
         """The samples of frames, of which those that are None were lost."""
         return [it for frame in frames for it in self.frame(frame)[1]][self.delay:]
 
 
-def samples_in(octets):
+def samples_in(octets: bytes) -> tuple[list[list[int]], int]:
     """The channels of a WAV of 16 bits, and its rate."""
     with wave.open(io.BytesIO(octets)) as sound:
         channels, samples = sound.getnchannels(), memoryview(sound.readframes(sound.getnframes())).cast('h')
         return [list(samples[channel::channels]) for channel in range(channels)], sound.getframerate()
 
 
-def without_loss(trial):
+def without_loss(trial: Trial) -> Iterator[str]:
     """What differs from the round trip where nothing was lost."""
     wanted, _ = trial.round_trip()
     rows, found = trial.heard(trial.lines, '0')
@@ -136,7 +126,7 @@ def without_loss(trial):
         yield f'the WAV differs from the round trip, {len(found)} octets and {len(wanted)}'
 
 
-def with_losses(trial, lines, sink):
+def with_losses(trial: Trial, lines: list[str], sink: str) -> Iterator[str]:
     """What differs from the decoder's own where frames were lost."""
     wanted, frames = trial.round_trip()
     rows, found = trial.heard(lines, sink)
@@ -158,7 +148,7 @@ def with_losses(trial, lines, sink):
         yield 'nothing is lost, or it makes no difference'
 
 
-def handed_up(rows, sinks, stream, frames):
+def handed_up(rows: list[str], sinks: list[str], stream: str, frames: list[bytes]) -> list[bytes | None]:
     """The frames that the rows of the first of these sinks that has some hand up, by their octets: no two frames are alike here. Others are
     None."""
     for sink in sinks:
@@ -169,7 +159,7 @@ def handed_up(rows, sinks, stream, frames):
     return [None] * len(frames)
 
 
-def bursts(lines, interval, sink):
+def bursts(lines: Iterable[str], interval: int, sink: int) -> Iterator[str]:
     """The lines with two bursts in which the sink hears nothing, and a loss of one PDU of two in what follows the second one."""
     event, first = -1, 100_000 // interval
     dead = [*range(first, first + BURST // interval), *range(2 * first + BURST // interval, 2 * first + 2 * BURST // interval)]
@@ -183,12 +173,12 @@ def bursts(lines, interval, sink):
             yield line
 
 
-def earbuds(lines):
+def earbuds(lines: Iterable[str]) -> Iterator[str]:
     """The lines with losses of the left one of two earbuds."""
     return bursts(lines, 10_000, 0)
 
 
-def relayed(lines):
+def relayed(lines: Sequence[str]) -> Iterator[str]:
     """The lines with a relay of the left channel: sink 0 hands it on to source 1, on which sink 1 misses each sixth PDU."""
     for line in lines[:-2]:
         if line.startswith('sink 0 '):
@@ -202,7 +192,7 @@ def relayed(lines):
     yield from lines[-2:]
 
 
-def concealed():
+def concealed() -> Iterator[str]:
     """The settings for which a frame of ones is not concealed just as no frame is."""
     for name in lc3_coder.SETTINGS:
         setting = lc3_coder.Setting.of(name)
@@ -213,10 +203,9 @@ def concealed():
                 yield f'{name}: a frame of ones is no lost one'
 
 
-def values():
+def values() -> Iterator[str]:
     """The settings whose configuration differs from that of docs/values.md."""
-    with open(os.path.join(TOP, 'docs', 'values.md'), encoding='utf-8') as file:
-        rows = dict(re.findall(r'^\| ([0-9]+_[0-9]) \|.*?\| `([0-9a-f]+)` \|', file.read(), re.M))
+    rows = dict(re.findall(r'^\| ([0-9]+_[0-9]) \|.*?\| `([0-9a-f]+)` \|', text_of(os.path.join(TOP, 'docs', 'values.md')), re.M))
     for name in lc3_coder.SETTINGS:
         if rows.get(name) != lc3_coder.Setting.of(name).configuration:
             yield f'{name}: the configuration differs from docs/values.md'
@@ -225,44 +214,30 @@ def values():
 EARLY = 'unframed 20000 40000 8 10000 100 100 2 1 4 2 2 600 2400 1'  # each unit is sent twice 40 ms early
 PAIRS = 'unframed 20000 40000 12 7500 75 75 2 2 4 2 0 500 2000 1'  # two units an event
 SMALL = 'framed 20000 40000 8 10000 60 40 2 2 4 2 0 400 1600 1'  # segments: a unit is in two PDUs
-BLOCK = re.compile(r'```bash\n(.*?)```\n(?:\n```text\n(.*?)```\n)?', re.DOTALL)
 RELAYING = 'group framed 20000 40000 8 10000 100 105 1 1 1 1 0 0 0 1'
-WHOLE = (('48_2', 2, 16), ('48_1', 2, 16), ('441_2', 2, 16), ('16_2', 1, 16), ('32_1', 1, 24), ('48_2', 2, 16, '--group', EARLY),
-         ('48_1', 2, 16, '--group', PAIRS), ('24_2', 2, 16, '--group', SMALL))
-LOST = (('48_2', 2, 16), ('48_1', 2, 16), ('441_2', 2, 16), ('24_2', 2, 16, '--group', SMALL))
+Choice = tuple[str, int, int, list[str]]  # a setting, channels, bits, and more words for audio.py
+WHOLE: tuple[Choice, ...] = (
+    ('48_2', 2, 16, []), ('48_1', 2, 16, []), ('441_2', 2, 16, []), ('16_2', 1, 16, []), ('32_1', 1, 24, []),
+    ('48_2', 2, 16, ['--group', EARLY]), ('48_1', 2, 16, ['--group', PAIRS]), ('24_2', 2, 16, ['--group', SMALL]))
+LOST: tuple[Choice, ...] = (
+    ('48_2', 2, 16, []), ('48_1', 2, 16, []), ('441_2', 2, 16, []), ('24_2', 2, 16, ['--group', SMALL]))
+BENT: tuple[tuple[str, Callable[[list[str]], Iterator[str]], str, list[str]], ...] = (
+    ('earbuds', earbuds, '0,1', ['--earbuds']), ('a relay', relayed, '1', []))
 
 
-def documented(program, folder):
-    """What the commands of docs/simulate.md tell that doesn't stand behind them there: those of the section about sound."""
-    with open(os.path.join(TOP, 'docs', 'simulate.md'), encoding='utf-8') as file:
-        blocks = BLOCK.findall(file.read().partition('\n## Hear it\n')[2].partition('\n## ')[0])
-    os.symlink(os.path.join(TOP, 'tools'), os.path.join(folder, 'tools'))
-    with open(os.path.join(folder, 'replay'), 'w', encoding='utf-8') as file:
-        file.write(f'#!/bin/sh\nexec "{program}" "$@"\n')
-    os.chmod(file.name, 0o755)
-    for commands, wanted in blocks:
-        done = subprocess.run(['bash', '-euo', 'pipefail', '-c', commands], cwd=folder, capture_output=True, text=True, check=False)
-        if done.returncode != 0 or wanted and done.stdout + done.stderr != wanted:
-            yield f'docs/simulate.md: {commands[:80]!r} ends with {done.returncode} and tells {done.stdout + done.stderr!r}'
-    if len(blocks) < 3 or len({len(read(os.path.join(folder, it))) for it in ('tones.wav', 'heard.wav', 'early.wav')}) != 1:
-        yield 'docs/simulate.md: it has fewer commands, or its WAVs are not equally long'
-
-
-def faults(program, folder):
+def faults(program: str, folder: str) -> Iterator[str]:
     """All that differs."""
-    yield from documented(program, folder)
     yield from values()
     yield from concealed()
-    for words in WHOLE:
-        for fault in without_loss(Trial(program, folder, *words)):
-            yield f'{words}: {fault}'
-    for words in LOST:
-        trial = Trial(program, folder, *words)
+    for choice in WHOLE:
+        yield from (f'{choice}: {fault}' for fault in without_loss(Trial(program, folder, choice)))
+    for choice in LOST:
+        trial = Trial(program, folder, choice)
         interval = int(trial.lines[2].split(' ')[4]) * 1250
         for fault in with_losses(trial, list(bursts(trial.lines, interval, 0)), '0'):
-            yield f'{words} with losses: {fault}'
-    for name, bent, sink, words in (('earbuds', earbuds, '0,1', ['--earbuds']), ('a relay', relayed, '1', [])):
-        trial = Trial(program, folder, '48_2', 2, 16, *words)
+            yield f'{choice} with losses: {fault}'
+    for name, bent, sink, words in BENT:
+        trial = Trial(program, folder, ('48_2', 2, 16, words))
         for fault in with_losses(trial, list(bent(trial.lines)), sink):
             yield f'{name}: {fault}'
 
@@ -271,7 +246,7 @@ def faults(program, folder):
 def check(replay: str) -> Faults:
     """tools/audio.py takes WAVs out as scenarios, and what sinks hand up in again. With no loss the WAV is the round trip by elc3 and dlc3,
     octet for octet; with losses it is what an LC3 decoder makes of the frames that the transcript has, where it is told of each of the
-    others that it was lost. The commands of docs/simulate.md about sound tell what stands there."""
+    others that it was lost."""
     with tempfile.TemporaryDirectory() as folder:
         try:
             yield from faults(replay, folder)
