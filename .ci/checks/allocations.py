@@ -1,14 +1,11 @@
-"""memory.py PROGRAM: counts the allocations of the built program, and refuses one.
-
-Nothing is allocated by reading a line, by handing a sink a PDU, by closing an event, once the memory is there that a valid unit has
-until it goes to its box, and by laying one, once the streams keep all events that they may, nor by all of it together, from the line of
-a unit to the line that its sink prints: runs that differ only in how often they do so make as many allocations. A run whose first
-allocation is refused ends with status 6, says so and writes nothing."""
+"""The allocations of the built program, which are counted, and of which one is refused."""
 import tempfile
+from collections.abc import Callable, Iterator
 
 from allocations import Allocator
 from checks.parts.steps import Faults, step
 
+Text = Callable[[int], str]  # a text by how often it does something
 TIMES = [10, 300]
 KEPT = 40  # more events than a stream of these groups keeps
 UNFRAMED = 'scenario 1\ngroup unframed 20000 40000 8 10000 8 4 1 2 2 1 0 400 0 1\n{}start 0\n{}'
@@ -17,49 +14,49 @@ SINK = 'sink 0 1 1\n', 'tuned 0 1\n'
 HEAR = 'hear 0 0 1 0\nhear 0 0 1 1\n'
 
 
-def unframed_unit(event):
+def unframed_unit(event: int) -> str:
     return 'unit 1 - 0102030405\nevent\n'
 
 
-def framed_unit(event):
+def framed_unit(event: int) -> str:
     return f'unit 1 {15000 + 10000 * event} 0102030405060708\nevent\n'
 
 
-def lines(line):
+def lines(line: str) -> Text:
     """A text with so many of a line."""
     return lambda times: 'scenario 1\n' + line * times + 'end\n'
 
 
-def hears(group, unit):
+def hears(group: str, unit: Text) -> Text:
     """A text in which a sink hears the PDUs of an event so often."""
     return lambda times: group.format(*SINK) + unit(0) + HEAR * times + 'end\n'
 
 
-def lays(group):
+def lays(group: str) -> Text:
     """A text in which a source lays so many events more than its streams keep."""
     return lambda times: group.format('', '') + 'event\n' * (KEPT + times) + 'end\n'
 
 
-def streams(group, unit):
+def streams(group: str, unit: Text) -> Text:
     """A text in which a source is given a unit, lays it, and a sink hears and hands it up, so often more than its streams keep events."""
-    def text(times):
+    def text(times: int) -> str:
         events = ''.join(unit(event) + 'air 0 0\n' for event in range(KEPT + times))
         return group.format(*SINK) + events + 'end\n'
     return text
 
 
-def closes(count, group, unit, heard):
+def closes(count: Callable[[str], int], group: str, unit: Text, heard: str) -> Callable[[int], int]:
     """How many allocations more so many events take where a sink closes them than where none is there."""
-    def more(times):
+    def more(times: int) -> int:
         events = [unit(event) for event in range(times)]
         alone = group.format('', '') + ''.join(events) + 'end\n'
         return count(group.format(*SINK) + ''.join(event + heard for event in events) + 'end\n') - count(alone)
     return more
 
 
-def differences(allocator):
+def differences(allocator: Allocator) -> Iterator[tuple[str, list[int]]]:
     """What takes more allocations, or fewer, than it should."""
-    def count(text):
+    def count(text: str) -> int:
         return allocator.count(text.encode())
 
     for name, text in [

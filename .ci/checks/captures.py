@@ -13,8 +13,9 @@ def check(replay: str) -> Faults:
     of the streams."""
     import scapy
 
-    from checks.parts.capture_runs import all_results, tshark_version
-    counts = Counter()
+    from checks.parts.capture_runs import all_results
+    from checks.parts.corpus_captures import tshark_version
+    counts: Counter[str] = Counter()
     with tempfile.TemporaryDirectory() as folder:
         for name, why in all_results(replay, folder, counts):
             counts['cases'] += 1

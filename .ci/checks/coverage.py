@@ -1,11 +1,8 @@
-"""coverage.py [--all] [--write]: counts how often each case comes in the worked rows, the examples and the corpus, and
-prints a table, or writes it into docs/gate.md. It fails where one that can come never does. With --all every case has its count."""
-import collections
+"""How often each case comes in the worked rows, the examples and the corpus."""
 import os
 
 from checks import TOP
-from checks.parts import cases
-from checks.parts import scenarios
+from checks.parts import cases, files, scenarios
 from checks.parts.kinds import KINDS
 from checks.parts.steps import Faults, step
 
@@ -14,32 +11,28 @@ GATE = os.path.join(TOP, 'docs', 'gate.md')
 HEAD = '| What | Read from | How often |\n|---|---|---|\n'
 
 
-def row_of(kind, source, counts, is_all):
+def row_of(kind: str, source: str, counts: dict[str, int], is_all: bool) -> str:
     """A row of the table."""
     if is_all or len(counts) <= FEW:
         told = '; '.join(f'{name} {count}' for name, count in counts.items())
     else:
-        least = min(counts, key=counts.get)
+        least = min(counts, key=counts.__getitem__)
         told = f'{len(counts)} cases, from {counts[least]} time{"s" * (counts[least] != 1)} ({least}) to {max(counts.values())}'
     return f'| {kind} | {source} | {told} |\n'
 
 
-def write_table(table):
+def write_table(table: str) -> None:
     """Puts the table in the place of the one that docs/gate.md has."""
-    with open(GATE, encoding='utf-8') as file:
-        before, _, rest = file.read().partition(HEAD)
-    after = rest[rest.index('\n\n') + 1:]
-    with open(GATE, 'w', encoding='utf-8') as file:
-        file.write(before + table + after)
+    before, _, rest = files.text_of(GATE).partition(HEAD)
+    files.write(GATE, before + table + rest[rest.index('\n\n') + 1:])
 
 
 @step(seconds=3)
 def check(*, all: bool = False, write: bool = False) -> Faults:
     """Each case that can come does come somewhere in the worked rows, the examples and the corpus. --all prints each case with how often it
     comes, --write puts the table into docs/gate.md."""
-    counts, number = collections.Counter(), 0
-    for _, scenario in scenarios.everything():
-        number += 1
+    counts, found = cases.Counts(), list(scenarios.everything())
+    for scenario in found:
         cases.count_cases(counts, scenario)
     total, table = 0, HEAD
     for kind, (source, names) in KINDS.items():
@@ -51,4 +44,4 @@ def check(*, all: bool = False, write: bool = False) -> Faults:
         print(table, end='')
     if write:
         write_table(table)
-    return f'{number} scenarios, {total} cases'
+    return f'{len(found)} scenarios, {total} cases'

@@ -1,12 +1,11 @@
-"""ends.py PROGRAM: runs the built program to its ends, and prints each whose exit status, output or standard error differs.
-
-These are what `main` does around `replay`: the words go without the program's name, there are eight boxes, a fault of standard input
-or output is one of the source or the sink, and each status has its exit status and says its text on standard error. The end for want
-of memory is in memory.py."""
+"""The ends of the program: what `main` does around `replay`."""
 import os
 import subprocess
-from checks.parts.steps import Faults, step
+import typing
+from collections.abc import Iterator, Sequence
 
+from checks.parts.running import PATIENCE, Ran
+from checks.parts.steps import Faults, step
 
 USAGE = b'usage: replay [--migrate | --toml | --seed N --events M]\n'
 UNIT = b'scenario 1\ngroup unframed 20000 40000 8 10000 4 4 1 1 1 1 0 0 0 1\nsink 0 1 1\nstart 0\ntuned 0 1\nunit 1 - 0a\nevent\nhear 0 0 1 0\nend\n'
@@ -16,7 +15,8 @@ DOCUMENT = b'version = 1\nsteps = ["end"]\n[[sinks]]\nnumber = 3\nstreams = 1\ns
 SUMS = b''.join(b'sum %d 0 0\n' % sink for sink in range(8))
 
 # a name, the words, the text that is read, what is written, the exit status, and what is said on standard error
-ENDS = [
+Words = list[str | bytes]
+ENDS: list[tuple[str, Words, bytes, bytes, int, bytes]] = [
     ('done', [], UNIT, HEARD, 0, b''),
     ('refused', [], b'scenario 1\nx\n', b'line 2: BadLine 0\n', 1, b''),
     ('eight sinks have boxes', [], EIGHT + b'end\n', SUMS, 0, b''),
@@ -31,17 +31,18 @@ ENDS = [
     ('usage: an empty word', [''], UNIT, b'', 2, USAGE),
 ]
 # the words, and whether they read, for standard input that can't be read: a folder
-READ_FAULTS = [([], 3, b'read fault\n'), (['--migrate'], 3, b'read fault\n'), (['--toml'], 3, b'read fault\n'), (['x'], 2, USAGE)]
+READ_FAULTS: list[tuple[Words, int, bytes]] = [
+    ([], 3, b'read fault\n'), (['--migrate'], 3, b'read fault\n'), (['--toml'], 3, b'read fault\n'), (['x'], 2, USAGE)]
 # the words and the text, for standard output that takes nothing: a device that is full
-WRITE_FAULTS = [([], UNIT), (['--migrate'], UNIT), (['--seed', '1', '--events', '1'], b''), ([], b'x\n'), (['--toml'], DOCUMENT),
-                (['--toml'], b'x')]
+WRITE_FAULTS: list[tuple[Words, bytes]] = [
+    ([], UNIT), (['--migrate'], UNIT), (['--seed', '1', '--events', '1'], b''), ([], b'x\n'), (['--toml'], DOCUMENT), (['--toml'], b'x')]
 
 
-def run(replay, words, name=None, **more):
-    return subprocess.run([name or replay, *words], executable=replay, stderr=subprocess.PIPE, timeout=60, check=False, **more)
+def run(replay: str, words: Sequence[str | bytes], name: str | None = None, **more: typing.Any) -> Ran:
+    return subprocess.run([name or replay, *words], executable=replay, stderr=subprocess.PIPE, timeout=PATIENCE, check=False, **more)
 
 
-def differences(replay):
+def differences(replay: str) -> Iterator[tuple[str, bool]]:
     """The name of each end, and whether it differs."""
     for name, words, text, written, status, said in ENDS:
         for called in (None, '--migrate', 'x'):

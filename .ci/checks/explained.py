@@ -1,17 +1,12 @@
-"""explained.py REPLAY EXPLAIN: runs both built programs on the examples, the worked rows and the scenarios of corpus/.
-
-The rows of the transcript in what `explain` writes, without their blanks, are what `replay` writes, the exit status and what is said on
-standard error are the same, and each line stands there with its number, up to the last that is run. Each `unit` row has its notes, and
-the sum in them is its time; the counts at the ends of sinks and scenarios are those of the rows. Behind them come mistakes, each with
-words that a note has of it, answers to trains with what was compared, runs with all notes of their units, and the ends of the program."""
-import concurrent.futures
+"""The notes of `explain`."""
 import math
-import os
 import re
 import subprocess
 from collections import Counter
+from collections.abc import Iterator
 
-from checks.parts import scenarios
+from checks.parts import comparing, scenarios
+from checks.parts.running import run
 from checks.parts.steps import Faults, step
 
 GROUP = 'group unframed 20000 40000 8 10000 100 100 2 1 1 1 0 0 1800 1'
@@ -22,6 +17,7 @@ HEARD = ['scenario 2', GROUP, *BASE, 'start 0', 'sink 0 2 1']
 SECOND = ['source 1', GROUP.replace('unframed', 'framed'), 'ident 0 010000000000 1 010000', 'start 0']
 OTHER = ['add 0 0 010000000000 1 010000 2 65535 ffffffff -', 'serve 0', 'announce 0', 'end']
 
+LONGEST = 120  # seconds for a text
 # a mistake, its lines, and words of a note of the line that has it
 MISTAKES = [
     ('no record', [*HEARD, *WANTED], 'the sink has no record: no `pac` line names it'),
@@ -105,13 +101,13 @@ COMPARED = [
 ]
 
 
-def slot_note(time, anchor, sync, slot, sdu, delay, told):
+def slot_note(time: int, anchor: int, sync: int, slot: int, sdu: int, delay: int, told: str) -> str:
     """The note of an unframed unit that has the sum of its time, and when it is handed up."""
     return (f'unit 0 1 at {time}: anchor {anchor} + BIG_Sync_Delay {sync} + {slot} x SDU_Interval {sdu} + Presentation_Delay {delay}; '
             f'handed up by {told}')
 
 
-def framed_note(time, own, told):
+def framed_note(time: int, own: int, told: str) -> str:
     """The same of a framed unit of the group below."""
     return (f'unit 0 1 at {time}: unit time {own} + BIG_Sync_Delay 124 + SDU_Interval 10000 + ISO_Interval 10000 + Presentation_Delay 40000; '
             f'handed up by {told}')
@@ -184,7 +180,7 @@ SUMMED = re.compile(rb'  # unit (\d) (\d+) at (\d+): (?:anchor|unit time) (.*); 
 PLACED = re.compile(rb'  # unit (\d) (\d+) at (\d+): source \d')
 COUNTED = re.compile(rb'  # sink (\d) stream (\d+) of source \d: units (\d+) valid, (\d+) lost, \d+ never begun, (\d+) slots')
 # a name, the words, the text, what is written, the exit status, and what is said on standard error
-ENDS = [
+ENDS: list[tuple[str, list[str | bytes], bytes, bytes, int, bytes]] = [
     ('words', ['--toml'], b'scenario 1\nend\n', b'', 2, b'usage: explain\n'),
     ('a word that is no text', [b'\xff'], b'', b'', 2, b'usage: explain\n'),
     ('a mark', [], b'# a note\n\nscenario 1\nend\n', b'1 # a note\n2 \n3 scenario 1\n4 end\n', 0, b''),
@@ -193,32 +189,28 @@ ENDS = [
 ]
 
 
-def run(program, text, words=(), **more):
-    return subprocess.run([program, *words], input=text, stderr=subprocess.PIPE, timeout=120, check=False, **more)
-
-
-def told(octets):
+def told(octets: bytes) -> bytes:
     """The rows of the transcript in an explanation, without their blanks."""
     rows = octets.split(b'\n')
     kept = [it[3:] if it.startswith(b'  ##') else it[2:] for it in rows if it.startswith(b'  ') and not it.startswith(b'  # ')]
     return b'\n'.join(kept) + (b'\n' if kept and octets.endswith(b'\n') else b'')
 
 
-def lines_in(octets):
+def lines_in(octets: bytes) -> list[bytes] | None:
     """The lines in an explanation, without their numbers, or None where the numbers don't count them."""
     rows = [it for it in octets.split(b'\n')[:-1] if not it.startswith(b'  ')]
     numbered = [it.partition(b' ') for it in rows]
     return [it[2] for it in numbered] if [it[0] for it in numbered] == [b'%d' % (place + 1) for place in range(len(rows))] else None
 
 
-def is_sum(time, terms, close, count, word):
+def is_sum(time: bytes, terms: bytes, close: bytes, count: bytes, word: bytes) -> bool:
     """Whether the terms of a note make this time, which is so much before or behind the close."""
     numbers = [[int(it) for it in term.split(b' ') if it.isdigit()] for term in terms.split(b' + ')]
     ahead = int(time) - int(close)
     return sum(map(math.prod, numbers)) == int(time) and (abs(ahead), ahead < 0) == (int(count), word == b'late')
 
 
-def notes_differ(octets, is_done):
+def notes_differ(octets: bytes, is_done: bool) -> str | None:
     """What of the notes of units differs from their rows, or None. Only a run that is done counts all of them."""
     rows = octets.split(b'\n')
     units = [it.split(b' ')[2:7] for it in rows if it.startswith(b'  unit ')]
@@ -231,7 +223,8 @@ def notes_differ(octets, is_done):
     wrong = [it for it in sums if not is_sum(*it[2:])]
     if wrong:
         return f'no sums are {wrong}'
-    wanted, counts = Counter(), Counter()
+    wanted: Counter[tuple[bytes, ...]] = Counter()
+    counts: Counter[tuple[bytes, ...]] = Counter()
     for row in rows:
         words, match = row.split(b' '), COUNTED.match(row)
         if row.startswith(b'  unit '):
@@ -243,56 +236,53 @@ def notes_differ(octets, is_done):
     return f'its counts are {+counts}, not {wanted}' if is_done and +counts != wanted else None
 
 
-def difference(replay, explain, text):
+def difference(replay: str, explain: str, text: bytes) -> str | None:
     """What differs, or None."""
     try:
-        wanted, got = (run(it, text, stdout=subprocess.PIPE) for it in (replay, explain))
+        wanted, got = (run(it, text, patience=LONGEST) for it in (replay, explain))
     except (OSError, subprocess.TimeoutExpired) as error:
         return str(error)
     if (got.returncode, got.stderr) != (wanted.returncode, wanted.stderr):
-        return f'status {got.returncode} {got.stderr}, not {wanted.returncode} {wanted.stderr}'
+        return f'status {got.returncode} {got.stderr!r}, not {wanted.returncode} {wanted.stderr!r}'
     if told(got.stdout) != wanted.stdout:
-        return f'tells {told(got.stdout)[-300:]}, not {wanted.stdout[-300:]}'
+        return f'tells {told(got.stdout)[-300:]!r}, not {wanted.stdout[-300:]!r}'
     lines, lent = lines_in(got.stdout), text.split(b'\n')
     if lines is None or lines != lent[:len(lines)] or wanted.returncode == 0 and lines != lent[:-1] + [it for it in lent[-1:] if it]:
         return 'its lines are not those of the text'
     return notes_differ(got.stdout, wanted.returncode == 0)
 
 
-def texts():
-    """Where each text stands, its name, and the text."""
-    for file, scenario in [*scenarios.rows(), *scenarios.examples(), *scenarios.corpus()]:
-        if not scenario.words and scenario.text:
-            yield file, scenario.name, scenario.text
+def notes_of(explain: str, lines: list[str]) -> list[str]:
+    """The rows that `explain` writes of a scenario."""
+    return run(explain, '\n'.join([*lines, '']).encode()).stdout.decode().split('\n')
 
 
-def mistakes(explain):
+def mistakes(explain: str) -> Iterator[str]:
     """Each mistake that no note names, and each answer to a train of which none has what was compared."""
     for name, lines, words in MISTAKES + COMPARED:
-        got = run(explain, '\n'.join([*lines, '']).encode(), stdout=subprocess.PIPE).stdout.decode()
-        if not any(row.startswith('  # ') and words in row for row in got.split('\n')):
-            yield f'{name}: no note has {words!r}:\n{got}'
+        got = notes_of(explain, lines)
+        if not any(row.startswith('  # ') and words in row for row in got):
+            yield '\n'.join([f'{name}: no note has {words!r}:', *got])
 
 
-def unit_notes(explain):
+def unit_notes(explain: str) -> Iterator[str]:
     """Each run whose notes of units are others."""
     for name, lines, wanted in UNITS:
-        got = run(explain, '\n'.join([*lines, '']).encode(), stdout=subprocess.PIPE).stdout.decode()
-        notes = [row[4:] for row in got.split('\n') if row.startswith(('  # unit ', '  # sink 0 stream '))]
+        notes = [row[4:] for row in notes_of(explain, lines) if row.startswith(('  # unit ', '  # sink 0 stream '))]
         if notes != wanted:
             yield f'{name}: the notes are {notes}'
 
 
-def ends(explain):
+def ends(explain: str) -> Iterator[str]:
     """Each end that differs."""
     for name, words, text, written, status, said in ENDS:
-        got = run(explain, text, words, stdout=subprocess.PIPE)
+        got = run(explain, text, words)
         if (got.stdout, got.returncode, got.stderr) != (written, status, said):
-            yield f'{name}: {got.stdout} {got.returncode} {got.stderr}'
+            yield f'{name}: {got.stdout!r} {got.returncode} {got.stderr!r}'
     with open('/dev/full', 'wb') as full:
-        got = run(explain, b'scenario 1\nend\n', stdout=full)
-    if (got.returncode, got.stderr) != (4, b'write fault\n'):
-        yield f'a full device: {got.returncode} {got.stderr}'
+        filled = subprocess.run([explain], input=b'scenario 1\nend\n', stdout=full, stderr=subprocess.PIPE, timeout=LONGEST, check=False)
+    if (filled.returncode, filled.stderr) != (4, b'write fault\n'):
+        yield f'a full device: {filled.returncode} {filled.stderr!r}'
 
 
 @step(seconds=12)
@@ -300,10 +290,8 @@ def check(replay: str, explain: str) -> Faults:
     """Of the examples, the worked rows and the corpus `explain` tells the rows that `replay` writes and each line with its number, and ends as
     it does; each `unit` row has its notes, the sum in them is its time, and the counts at the end are those of the rows. Mistakes and
     answers to trains have notes with the words that are meant, and the program's ends are tried."""
-    found = list(texts())
-    with concurrent.futures.ThreadPoolExecutor(os.cpu_count()) as pool:
-        results = list(pool.map(lambda it: difference(replay, explain, it[2]), found))
-    yield from (f'{file}: {name}: {it}' for (file, name, _), it in zip(found, results) if it)
+    found = list(scenarios.plain_runs())
+    yield from comparing.each(found, lambda it: difference(replay, explain, it.text))
     yield from mistakes(explain)
     yield from unit_notes(explain)
     yield from ends(explain)

@@ -1,12 +1,13 @@
-"""in_turn.py PROGRAM: gives the built program the lines of a scenario one by one, each once all that the lines before it bring was
-written. So a program that reads a line before it wrote what the line before brings gets none, and the test ends with a fault. It runs
-the worked rows and every fourth scenario of corpus/, but those that a run of the program can't be given a line at a time."""
+"""Lines that are given one by one: a program that reads a line before it wrote what the line before brings gets none."""
 import os
 import select
 import subprocess
 import time
+import typing
+from collections.abc import Iterator
 
 from checks.parts import scenarios
+from checks.parts.scenarios import Scenario
 from checks.parts.steps import Faults, step
 
 # Seconds until the program is taken to wait for more than it was given.
@@ -17,7 +18,7 @@ LONGEST = 200_000
 MOST_FAULTS = 3
 
 
-def read_exactly(file, count):
+def read_exactly(file: int, count: int) -> bytes:
     """As many octets as are due, or fewer where the program ends or waits."""
     found, until = b'', time.monotonic() + PATIENCE
     while len(found) < count:
@@ -30,7 +31,7 @@ def read_exactly(file, count):
     return found
 
 
-def turns(scenario):
+def turns(scenario: Scenario) -> Iterator[tuple[bytes | None, list[bytes]]]:
     """The lines to be given, each with what is due before the next: up to a refusal, behind which no line is read. None stands for the
     end of the text, which alone brings the refusal that no `end` came."""
     for line, lines in scenario.steps:
@@ -44,24 +45,25 @@ def turns(scenario):
             return
 
 
-def given_line(run, line):
+def given_line(given: typing.IO[bytes], line: bytes | None) -> bool:
     """Gives a line, or the end of the text: whether the program still reads."""
     if line is None:
-        run.stdin.close()
+        given.close()
         return True
     try:
-        run.stdin.write(line + b'\n')
+        given.write(line + b'\n')
     except BrokenPipeError:
         return False
     return True
 
 
-def in_turn(program, scenario):
+def in_turn(program: str, scenario: Scenario) -> str | None:
     """What is wrong with a run, or None."""
     with subprocess.Popen([program], stdin=subprocess.PIPE, stdout=subprocess.PIPE, stderr=subprocess.DEVNULL, bufsize=0) as run:
+        assert run.stdin and run.stdout
         try:
             for number, (line, lines) in enumerate(turns(scenario), 1):
-                if not given_line(run, line):
+                if not given_line(run.stdin, line):
                     return f'line {number}: the program ended before it'
                 due = b''.join(it + b'\n' for it in lines)
                 found = read_exactly(run.stdout.fileno(), len(due))
@@ -75,11 +77,10 @@ def in_turn(program, scenario):
             run.kill()
 
 
-def is_given_by_lines(scenario):
+def is_given_by_lines(scenario: Scenario) -> bool:
     """Whether a run can be given its lines one by one: no words, and a text and a transcript that end with a newline."""
-    text = b''.join(line + b'\n' for line, _ in scenario.steps if line is not None)
-    written = b''.join(line + b'\n' for _, lines in scenario.steps for line in lines)
-    return not scenario.words and scenario.text == text and scenario.transcript == written and len(text) <= LONGEST
+    is_whole = scenario.text == scenarios.text_in(scenario.steps) and scenario.transcript == scenarios.transcript_in(scenario.steps)
+    return not scenario.words and is_whole and len(scenario.text) <= LONGEST
 
 
 @step(seconds=7)
@@ -87,14 +88,14 @@ def check(replay: str) -> Faults:
     """All that a line brings is written before the next line is read: the program is given the lines of the worked rows and of every fourth
     scenario of corpus/ one by one, each once all that the lines before it bring was written."""
     some = [*scenarios.rows(), *list(scenarios.corpus())[::4]]
-    some = [it for it in some if is_given_by_lines(it[1])]
+    some = [it for it in some if is_given_by_lines(it)]
     faults = lines = 0
-    for file, scenario in some:
+    for scenario in some:
         lines += len(scenario.steps)
         wrong = in_turn(replay, scenario)
         if wrong:
             faults += 1
-            yield f'{file}: {scenario.name}: {wrong}'
+            yield f'{scenario.title}: {wrong}'
             if faults == MOST_FAULTS:
                 break
     return f'{len(some)} scenarios of {lines} lines'

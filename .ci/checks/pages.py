@@ -1,29 +1,32 @@
-"""pages.py EXPLAIN: opens pages of runs in a Chromium without a window, clicks, types, drags and turns the wheel there, and prints each
-in which something is wrong. pages.py EXPLAIN --picture FILE: writes a picture of a run with losses, as docs/run.png is.
-
-What a page knows of each unit is what tools/timeline.py worked out; what is drawn of it is counted and measured in the document. Scripts
-of a page that throw fail the test. The times of the run of ten minutes are the least of three; where SLOWER=3 is set, they may be three
-times as long. Where no Chromium is, one line tells so, and the exit status is 3."""
+"""Pages of runs in a browser."""
 import os
 import re
 import subprocess
-import sys
 import tempfile
 import time
 from collections import Counter
+from collections.abc import Callable, Iterator
+from typing import Any
 
 from checks.parts import chromium
+from checks.parts.chromium import Browser
 from checks.parts.long_run import long_run
-from checks.parts.page_runs import TOP, explained, run_of, text_of
+from checks.parts.files import write
+from checks.parts.page_runs import Data, explained, run_of, text_of
+from checks.parts.running import tool
+from checks.parts.steps import Faults, step
 from timeline_data import tracks_of
 from timeline_page import page_of
 from timeline_reading import OCTETS
-from checks.parts.steps import Faults, step
+from timeline_run import Run, Unit
 
 SMALL = ('whole-life', 'two-sources', 'stereo', 'early-copies', 'framed-losses', 'gap', 'often-shown', 'hundred')
 CTRL, SHIFT = 2, 8
 FIRST, NEXT = 1000, 300  # ms until the first picture, and until what an act of the reader brings is painted
 MOST_OCTETS = 10000000
+LONGEST = 300  # seconds for the page of ten minutes
+Act = Callable[..., object]  # what a reader does
+Lost = list[tuple[str, int]]  # the lane of each loss, and when it is rendered
 SLOWER = float(os.environ.get('SLOWER', '1'))
 # What a page knows of its units, and what is drawn of them.
 KNOWN = """tracks.map((track) => Array.from(track.at, (at, index) => {
@@ -45,35 +48,35 @@ PDUS = {
 }
 
 
-def number(value):
+def number(value: int | None) -> int:
     return -1 if value is None else value
 
 
-def known_of(run):
+def known_of(run: Run) -> list[list[list[object]]]:
     """What the page should know of each unit, stream by stream."""
-    def known(unit):
-        given = unit.given
+    def known(unit: Unit) -> list[object]:
+        given: Any = unit.given
         is_other = unit.fate == 'valid' and (given is None or (given.octets or '-') != unit.octets)
         return [f'sink {unit.sink}, stream {unit.stream}', unit.at, unit.fate, unit.line, number(unit.event), number(unit.slot),
                 given and given.line, given and given.octets, unit.octets if is_other else None, unit.pdus()]
     return [[known(unit) for unit in track] for track in tracks_of(run.units).values()]
 
 
-def text(browser, name):
+def text(browser: Browser, name: str) -> str:
     return browser.value(f'document.getElementById("{name}").textContent')
 
 
-def told_pdus(browser):
+def told_pdus(browser: Browser) -> list[list[str]]:
     """The table of PDUs that a choice tells."""
     return browser.value('Array.from(document.querySelectorAll("#pdus tr"), (row) => Array.from(row.querySelectorAll("td"), '
                          '(it) => it.textContent)).slice(1)')
 
 
-def cells_of(pdus):
+def cells_of(pdus: list[tuple[Any, ...]]) -> list[list[str]]:
     return [[*map(str, it[:3]), f'{it[3] / 1000:,.3f} ms', it[4]] for it in pdus]
 
 
-def small_page(browser, page, name, run, data):
+def small_page(browser: Browser, page: str, name: str, run: Run, data: Data) -> Iterator[str]:
     """What of the page of a small run is not as it should be, once it is opened and its last unit is clicked on."""
     browser.open(page)
     if browser.value('[document.title, document.querySelector("h1").textContent]') != [name, name]:
@@ -98,7 +101,7 @@ def small_page(browser, page, name, run, data):
         yield 'the unit that was clicked on has no ring'
 
 
-def marks_told(browser, page):
+def marks_told(browser: Browser, page: str) -> Iterator[str]:
     """Whether a click on a mark of whole-life tells of its line, and one on an event of its payload."""
     browser.open(page)
     browser.click_on('#picture .mark.noticed')
@@ -111,7 +114,7 @@ def marks_told(browser, page):
         yield 'the legend has not four kinds of marks'
 
 
-def stacked(browser, page):
+def stacked(browser: Browser, page: str) -> Iterator[str]:
     """Whether marks for which there is no room become one, and a click on it tells all of them."""
     browser.open(page)
     counts = browser.value(MARKS)
@@ -122,7 +125,7 @@ def stacked(browser, page):
         yield f'a click on marks that are drawn together tells {text(browser, "detail")!r}'
 
 
-def pdus_drawn(browser, folder):
+def pdus_drawn(browser: Browser, folder: str) -> Iterator[str]:
     """What of the PDUs is not drawn as it was heard, in the lanes of their own."""
     for name, wanted in PDUS.items():
         browser.open(os.path.join(folder, name + '.html'))
@@ -135,7 +138,7 @@ def pdus_drawn(browser, folder):
         yield f'early-copies: a click on the PDU that was heard tells {told_pdus(browser)}'
 
 
-def losses_of_hundred(browser, page):
+def losses_of_hundred(browser: Browser, page: str) -> Iterator[str]:
     """The run of 100 events: its losses stand where they belong, buttons and keys go from one to the next, and windows show a part."""
     browser.open(page)
     (begin, end), room = browser.value(WINDOW), browser.value('[LABELS, document.getElementById("picture").clientWidth - MARGIN]')
@@ -164,21 +167,24 @@ def losses_of_hundred(browser, page):
         yield f'of a window of three events is told {text(browser, "shown")!r}'
 
 
-def moves_of_hundred(browser, page):
+def moves_of_hundred(browser: Browser, page: str) -> Iterator[str]:
     """Buttons, keys, the wheel and drags: what each makes of a window of 400 ms."""
-    def moved(act, *words):
+    def moved(act: Act, *words: object) -> list[float]:
         browser.open(page, '#from=200000&to=600000')
         act(*words)
         browser.value(chromium.PAINTED)
-        return browser.value(WINDOW)
+        window: list[float] = browser.value(WINDOW)
+        return window
     whole, per_pixel = moved(browser.press, 'a'), 400000 / browser.value('document.getElementById("picture").clientWidth - LABELS - MARGIN')
-    for act, words, wanted in ((browser.click_on, ('#in',), [300000, 500000]), (browser.press, ('+',), [300000, 500000]),
-                               (browser.click_on, ('#out',), [0, 800000]), (browser.press, ('-',), [0, 800000]),
-                               (browser.click_on, ('#earlier',), [100000, 500000]), (browser.press, ('ArrowLeft',), [100000, 500000]),
-                               (browser.click_on, ('#later',), [300000, 700000]), (browser.press, ('ArrowRight',), [300000, 700000]),
-                               (browser.click_on, ('#all',), whole), (browser.wheel, ('#picture', 120), [200000, 600000]),
-                               (browser.wheel, ('#picture', 120, SHIFT), [250000, 650000]),
-                               (browser.drag, ('#picture', -100), [200000 + 100 * per_pixel, 600000 + 100 * per_pixel])):
+    moves: tuple[tuple[Act, tuple[object, ...], list[float]], ...] = (
+        (browser.click_on, ('#in',), [300000, 500000]), (browser.press, ('+',), [300000, 500000]),
+        (browser.click_on, ('#out',), [0, 800000]), (browser.press, ('-',), [0, 800000]),
+        (browser.click_on, ('#earlier',), [100000, 500000]), (browser.press, ('ArrowLeft',), [100000, 500000]),
+        (browser.click_on, ('#later',), [300000, 700000]), (browser.press, ('ArrowRight',), [300000, 700000]),
+        (browser.click_on, ('#all',), whole), (browser.wheel, ('#picture', 120), [200000, 600000]),
+        (browser.wheel, ('#picture', 120, SHIFT), [250000, 650000]),
+        (browser.drag, ('#picture', -100), [200000 + 100 * per_pixel, 600000 + 100 * per_pixel]))
+    for act, words, wanted in moves:
         got, wanted = moved(act, *words), [max(wanted[0], whole[0]), min(wanted[1], whole[1])]
         if any(abs(one - other) > 1 for one, other in zip(got, wanted)):
             yield f'{words} makes of the window {got}, not {wanted}'
@@ -198,7 +204,7 @@ def moves_of_hundred(browser, page):
         yield 'a key that is typed as a number is taken'
 
 
-def looks(browser, page):
+def looks(browser: Browser, page: str) -> Iterator[str]:
     """Light and dark by the reader's setting, and a narrow window."""
     browser.open(page)
     grounds = []
@@ -215,11 +221,12 @@ def looks(browser, page):
     browser.resize(1200, 900)
 
 
-def boxes_differ(browser, lost):
+def boxes_differ(browser: Browser, lost: Lost) -> Iterator[str]:
     """What of the merged boxes is wrong: each loss in the window lies in a box of losses at least 2 px wide, drawn behind all others."""
     begin, end = browser.value(WINDOW)
     boxes = browser.value(DRAWN % ':is(.unit, .part)')
-    spans, is_behind = {}, False
+    spans: dict[str, list[tuple[float, float]]] = {}
+    is_behind = False
     for lane, kind, x, width, *_ in boxes:
         if kind.endswith('lost'):
             is_behind = True
@@ -239,7 +246,7 @@ def boxes_differ(browser, lost):
         yield f'{len(boxes)} boxes are drawn between {begin} and {end}'
 
 
-def merged_of_long(browser, all_units, lost):
+def merged_of_long(browser: Browser, all_units: int, lost: Lost) -> Iterator[str]:
     """The whole run of ten minutes, drawn in boxes of many units."""
     parts = browser.value(DRAWN % '.part')
     units = sum(it[4] for it in parts if it[1] == 'part valid')
@@ -256,11 +263,11 @@ def merged_of_long(browser, all_units, lost):
         yield f'the bars of the loss rate have {sum(bars)} losses'
 
 
-def least_of(browser, act, *words):
+def least_of(browser: Browser, act: Act, *words: object) -> float:
     return min(browser.timed(act, *words) for _ in range(3))
 
 
-def long_page(browser, page, told, figures):
+def long_page(browser: Browser, page: str, told: str, figures: dict[str, float]) -> Iterator[str]:
     """The run of ten minutes: its times, and its losses at every zoom."""
     units = ROW.findall(told)
     lost = [(f'sink {sink}, stream {stream}', int(at)) for sink, stream, at, fate in units if fate == 'lost']
@@ -268,10 +275,12 @@ def long_page(browser, page, told, figures):
     yield from merged_of_long(browser, len(units), lost)
     yield from boxes_differ(browser, lost)
     figures['next'] = 0
-    for act, *words in ((browser.click_on, '#in'), (browser.press, 'ArrowRight'), (browser.press, 'ArrowLeft'),
-                        (browser.wheel, '#picture', -120, CTRL), (browser.drag, '#picture', 200), (browser.click_on, '#next'),
-                        (browser.press, 'p'), (browser.press, '-'), (browser.press, '-'), (browser.press, '-'),
-                        (browser.click_on, '#overview'), (browser.press, 'a'), (browser.wheel, '#picture', -120, CTRL)):
+    acts: tuple[tuple[Act, tuple[object, ...]], ...] = (
+        (browser.click_on, ('#in',)), (browser.press, ('ArrowRight',)), (browser.press, ('ArrowLeft',)),
+        (browser.wheel, ('#picture', -120, CTRL)), (browser.drag, ('#picture', 200)), (browser.click_on, ('#next',)),
+        (browser.press, ('p',)), (browser.press, ('-',)), (browser.press, ('-',)), (browser.press, ('-',)),
+        (browser.click_on, ('#overview',)), (browser.press, ('a',)), (browser.wheel, ('#picture', -120, CTRL)))
+    for act, words in acts:
         taken = least_of(browser, act, *words)
         figures['next'] = max(figures['next'], taken)
         if taken > NEXT * SLOWER:
@@ -286,29 +295,28 @@ def long_page(browser, page, told, figures):
         yield 'the units of a merged box are not shown nearer'
 
 
-def made_long(explain, folder, figures):
+def made_long(explain: str, folder: str, figures: dict[str, float]) -> tuple[str, list[str], str]:
     """The page of the run of ten minutes, by the tool itself; gives what failed, and what was told of the run."""
-    page, tool = os.path.join(folder, 'ten-minutes.html'), os.path.join(TOP, 'tools', 'timeline.py')
+    page = os.path.join(folder, 'ten-minutes.html')
     began = time.monotonic()
     told = explained(explain, text_of('ten-minutes'))
     figures['told'], began = time.monotonic() - began, time.monotonic()
-    done = subprocess.run([sys.executable, tool, page], input=told.encode(OCTETS), capture_output=True, check=True)
+    done = tool('timeline', [page], told.encode(OCTETS), patience=LONGEST)
     figures['made'], figures['octets'] = time.monotonic() - began, os.path.getsize(page)
-    failed = []
+    failed = [f'the tool ends with {done.status}: {done.told}'] if done.status else []
     if figures['octets'] > MOST_OCTETS:
         failed.append(f'ten minutes are a page of {figures["octets"]} octets')
-    if figures['made'] > 4 and b'lines are read' not in done.stderr:
-        failed.append(f'no progress is told: {done.stderr!r}')
+    if figures['made'] > 4 and 'lines are read' not in done.told:
+        failed.append(f'no progress is told: {done.told!r}')
     return page, failed, told
 
 
-def over_pages(browser, explain, folder, figures):
+def over_pages(browser: Browser, explain: str, folder: str, figures: dict[str, float]) -> Iterator[tuple[str, str]]:
     """All that is wrong, by the name of the page."""
     for name in SMALL:
         run, data = run_of(explained(explain, text_of(name)))
         page = os.path.join(folder, name + '.html')
-        with open(page, 'w', encoding='utf-8') as file:
-            file.write(page_of(data, name))
+        write(page, page_of(data, name))
         yield from ((name, it) for it in small_page(browser, page, name, run, data))
     page = os.path.join(folder, 'hundred.html')
     yield from (('whole-life', it) for it in marks_told(browser, os.path.join(folder, 'whole-life.html')))
@@ -322,13 +330,12 @@ def over_pages(browser, explain, folder, figures):
     yield from (('script', it) for it in browser.faults)
 
 
-def pictured(browser, explain, folder, file):
+def pictured(browser: Browser, explain: str, folder: str, file: str) -> int:
     """Writes a picture of 30 s of stereo at two sinks, near its first loss, and gives its octets."""
     name = 'stereo-at-two-sinks'
     _, data = run_of(explained(explain, '\n'.join([*long_run(3000, octets=30), '']).encode()))
     page = os.path.join(folder, name + '.html')
-    with open(page, 'w', encoding='utf-8') as written:
-        written.write(page_of(data, name))
+    write(page, page_of(data, name))
     browser.resize(1100, 900)
     browser.open(page)
     for key in ('n', '+', '+', '+', '+', 'ArrowLeft'):
@@ -343,7 +350,8 @@ def check(explain: str, *, picture: str = '') -> Faults:
     """Pages of nine runs show in a Chromium without a window what tools/timeline.py worked out, and what is clicked, typed, dragged and turned
     there brings what it should. The times of the run of ten minutes are the least of three; where SLOWER=3 is set, they may be three times
     as long. --picture FILE writes a picture of a run with losses, as docs/run.png is, and tries nothing."""
-    path, figures = chromium.find(), {}
+    path = chromium.find()
+    figures: dict[str, float] = {}
     try:
         with tempfile.TemporaryDirectory(ignore_cleanup_errors=True) as folder, chromium.Browser(path, folder) as browser:
             if picture:

@@ -1,13 +1,11 @@
-"""pieces.py PROGRAM: runs the built program on the examples, the worked rows, every tenth scenario of corpus/ and every tenth document of
-documents.py, over reads and writes that move at most 1, 7 and 4,096 octets a call, and over those of which each second or third is
-interrupted before it moves any. What is written, and the exit status, are the same whatever the pieces are."""
+"""Reads and writes in pieces."""
 import os
-import subprocess
 import tempfile
+from collections.abc import Iterable
 
-from checks import corpus
-from checks import documents
-from checks.parts import scenarios
+from checks.parts import comparing, scenarios
+from checks.parts.running import library, run
+from checks.parts.scenarios import Scenario
 from checks.parts.steps import Faults, step
 
 # The most octets a call, and each which call is interrupted: 0 for none.
@@ -54,33 +52,18 @@ ssize_t __write(int file, const void *from, size_t count) { return write(file, f
 '''
 
 
-class Document:
-    """A document with what is written of it, as a scenario has it."""
-
-    words = ['--toml']
-
-    def __init__(self, name, text, written):
-        self.name, self.text, self.transcript = name, text if isinstance(text, bytes) else text.encode(), written.encode()
-        self.exit_code = int(documents.is_refused(written))
-
-
-def every_tenth(found):
+def every_tenth(found: Iterable[Scenario]) -> list[Scenario]:
     return [it for place, it in enumerate(found) if place % 10 == 0]
 
 
-def chosen():
-    """Where each stands, and the scenario."""
-    found = list(scenarios.examples())
-    found += ((f'corpus/rows/{file}', scenario) for file, scenario in scenarios.rows())
-    found += every_tenth((f'corpus/{file}', scenario) for file, scenario in scenarios.corpus())
-    found += every_tenth(('documents.py', Document(*form)) for form in documents.FORMS)
-    return [it for it in found if len(it[1].text) <= LONGEST]
+def chosen() -> list[Scenario]:
+    found = [*scenarios.examples(), *scenarios.rows(), *every_tenth(scenarios.corpus()), *every_tenth(scenarios.worked_documents())]
+    return [it for it in found if len(it.text) <= LONGEST]
 
 
-def are_interrupted(program, scenario, environment):
+def are_interrupted(program: str, scenario: Scenario, environment: dict[str, str]) -> bool:
     """Whether calls of a run are interrupted, as the library tells."""
-    told = subprocess.run([program] + scenario.words, input=scenario.text, capture_output=True, env=dict(environment, TELL_INTERRUPTED='1'),
-                          timeout=60, check=False)
+    told = run(program, scenario.text, scenario.words, {**environment, 'TELL_INTERRUPTED': '1'})
     return told.stderr.isdigit() and int(told.stderr) > 1
 
 
@@ -90,12 +73,11 @@ def check(replay: str) -> Faults:
     writes that move at most 1, 7 and 4,096 octets a call, and over those of which each second or third is interrupted."""
     found = chosen()
     with tempfile.TemporaryDirectory() as folder:
-        library = os.path.join(folder, 'pieces.so')
-        subprocess.run(['cc', '-shared', '-fPIC', '-x', 'c', '-o', library, '-', '-ldl'], input=SOURCE.encode(), check=True)
+        between = library(SOURCE, os.path.join(folder, 'pieces.so'))
         for piece, every in TURNS:
-            of = dict(os.environ, LD_PRELOAD=library, OCTETS_A_CALL=str(piece), INTERRUPTED_CALL=str(every))
-            if every and not are_interrupted(replay, found[0][1], of):
+            env = {**os.environ, 'LD_PRELOAD': between, 'OCTETS_A_CALL': str(piece), 'INTERRUPTED_CALL': str(every)}
+            if every and not are_interrupted(replay, found[0], env):
                 yield f'no call is interrupted of each {every}'
-            for fault in scenarios.each(found, lambda it, of=of: corpus.difference(replay, it, of)):
+            for fault in comparing.differences(replay, found, env):
                 yield f'{piece} octets a call, each {every} interrupted: {fault}'
     return f'{len(found)} scenarios and documents at {len(TURNS)} kinds of calls'

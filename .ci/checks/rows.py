@@ -1,20 +1,17 @@
-"""rows.py PROGRAM: runs the built program on each worked row of corpus/rows/, and prints each that differs.
-
-Behind them two long generated runs: 2,000 events give the same summary twice, and 100,000 events, a text of 44 million
-octets, give the sums that all their units make, in a minute."""
+"""The worked rows, and long generated runs."""
 import subprocess
+from collections.abc import Iterator
 
-from checks import corpus
-from checks.parts import scenarios
+from checks.parts import comparing, scenarios
+from checks.parts.running import run
 from checks.parts.steps import Faults, step
 
 
-def generated(replay, events):
-    words = [replay, '--seed', '1', '--events', str(events)]
-    return subprocess.run(words, stdin=subprocess.DEVNULL, capture_output=True, timeout=60, check=True).stdout.decode()
+def generated(replay: str, events: int) -> str:
+    return run(replay, words=['--seed', '1', '--events', str(events)]).stdout.decode()
 
 
-def long_runs(replay):
+def long_runs(replay: str) -> Iterator[str]:
     """What differs from the summaries that long generated runs have."""
     if generated(replay, 2000) != generated(replay, 2000):
         yield '2000 events: two runs differ'
@@ -33,9 +30,9 @@ def check(replay: str) -> Faults:
     """Each worked row of corpus/rows/ has its transcript. A generated run of 2,000 events gives the same summary twice, and one of 100,000
     events, a text of 44 million octets, the sums that all its units make, in a minute."""
     found = list(scenarios.rows())
-    yield from scenarios.each(found, lambda it: corpus.difference(replay, it), 'corpus/rows/')
+    yield from comparing.differences(replay, found)
     try:
         yield from long_runs(replay)
-    except subprocess.SubprocessError as error:
+    except (subprocess.SubprocessError, ValueError, IndexError) as error:
         yield f'long runs: {error}'
     return f'{len(found)} rows and two long runs'

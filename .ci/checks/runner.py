@@ -15,7 +15,7 @@ import types
 import typing
 
 from checks import TOP
-from checks.parts.steps import TOOLS, Step
+from checks.parts.steps import TOOLS, Step, Tool
 
 STEPS = ('trust', 'scripts', 'examples', 'corpus', 'coverage', 'rows', 'ends', 'documents', 'explained', 'allocations', 'in_turn', 'pieces',
          'timeline', 'pages', 'transcript_rows', 'captures', 'audio', 'losses', 'doc_commands', 'bent_inputs', 'comparison')
@@ -68,8 +68,8 @@ def python_with_scapy() -> str | None:
     return None
 
 
-def tell_skipped(step: Step, lacking: list[str], part: str = '') -> None:
-    for it in (TOOLS[it] for it in lacking):
+def tell_skipped(step: Step, lacking: list[Tool], part: str = '') -> None:
+    for it in lacking:
         print(f'skipped: {part}{step.name}, since {it.lack} (apt-get install {it.packages})')
 
 

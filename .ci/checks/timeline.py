@@ -1,24 +1,26 @@
-"""timeline.py EXPLAIN: reads runs as tools/timeline.py does, and prints each in which something is wrong.
-
-What the pages of a few runs embed is compared with values worked out by hand. Of each worked row, example and scenario of corpus/ each
-unit is valid exactly where each payload that carries it was heard in time, and the notes of `explain` on units and its counts are what is
-worked out of the lines. The tool itself is called with good and bad words and texts. What a page shows in a browser, pages.py asks."""
-import concurrent.futures
+"""Pages of runs, by what they embed."""
 import os
 import re
-import subprocess
-import sys
 import tempfile
 from collections import Counter
+from collections.abc import Iterator
+from typing import Any
 
-from checks.parts.page_runs import TOP, explained, run_of, rows_of, text_of
-from checks.parts import scenarios
+from checks.parts import comparing, scenarios
+from checks.parts.files import text_of as page_text
+from checks.parts.page_runs import Data, explained, rows_of, run_of, text_of
+from checks.parts.running import Outcome, closed_tool, tool
+from checks.parts.scenarios import Scenario
+from checks.parts.steps import Faults, step
 from timeline_data import column, data_of, kept_marks, read_run
 from timeline_page import page_of
 from timeline_reading import OCTETS, RunFault, read_lines
-from timeline_run import Mark
-from checks.parts.steps import Faults, step
+from timeline_run import Mark, Run, Unit
 
+Pdus = list[tuple[Any, ...]]  # payload, event, subevent, when it is sent, and what it was to the sink
+Missed = dict[int, list[tuple[int, ...]]]  # the events and subevents in which a payload was sent
+Told = tuple[int, ...]  # the line that told a unit, its sink, its stream and its time
+Counts = Counter[tuple[int, int, int, str]]  # by sink, source, stream and fate
 MOST_OCTETS = 1000000  # of the page of 3 s of stereo
 HEARD = ('heard', 'injected')
 MISSED = re.compile(r'unit (\d) (\d+) at (\d+): payload (\d+) was not heard, sent in event (.*)')
@@ -91,20 +93,20 @@ MARKS = {
 }
 
 
-def units_of(run):
+def units_of(run: Run) -> Iterator[tuple[object, ...]]:
     for unit in run.units:
         pdus = [tuple(it) for it in unit.pdus()]
         yield f'{unit.sink}, stream {unit.stream}', unit.at, unit.fate, unit.given.line, pdus
 
 
-def marks_of(data):
-    lanes = {}
+def marks_of(data: Data) -> dict[str, list[str]]:
+    lanes: dict[str, list[str]] = {}
     for mark in data['marks']:
         lanes.setdefault(data['lanes'][mark['lane']], []).append(mark['kind'])
     return lanes
 
 
-def worked(runs):
+def worked(runs: dict[str, tuple[Run, Data]]) -> Iterator[str]:
     """Each value that isn't the one that was worked out."""
     for name, (run, data) in runs.items():
         if name in UNITS and list(units_of(run)) != UNITS[name]:
@@ -136,7 +138,7 @@ def worked(runs):
         yield f'a column is {column([5, 15, 25, 25, None])}'
 
 
-def differs_from_pdus(run):
+def differs_from_pdus(run: Run) -> str | None:
     """A unit whose fate is not the one that what was heard of its PDUs gives, or None."""
     for unit in run.units:
         pdus = unit.pdus()
@@ -145,22 +147,23 @@ def differs_from_pdus(run):
         numbers, heard = {it[0] for it in pdus}, heard_in(pdus)
         begun = pdus and min(numbers) in heard
         if (unit.fate == 'valid') != (numbers == heard) or unit.fate == 'unbegun' and begun:
-            return unit
+            return f'{unit}'
     return None
 
 
-def is_injected(pdus):
+def is_injected(pdus: Pdus) -> bool:
     return any(it[4] == 'injected' for it in pdus)
 
 
-def heard_in(pdus):
+def heard_in(pdus: Pdus) -> set[int]:
     return {it[0] for it in pdus if it[4] in HEARD}
 
 
-def told_of(told):
+def told_of(told: str) -> tuple[dict[Told, Missed], Counts]:
     """What the notes tell: of each unit, by the line that told it, its sink, its stream and its time, the payloads that were missed with
     their places, and the counts of units."""
-    missed, counts = {}, Counter()
+    missed: dict[Told, Missed] = {}
+    counts: Counts = Counter()
     for line in read_lines(rows_of(told)):
         for note in line.notes:
             found = MISSED.fullmatch(note)
@@ -174,10 +177,10 @@ def told_of(told):
     return missed, counts
 
 
-def notes_differ(run, told):
+def notes_differ(run: Run, told: str) -> str | None:
     """What of the notes on units and of the counts is not what is worked out here, or None."""
     missed, counts = told_of(told)
-    wanted = Counter()
+    wanted: Counts = Counter()
     for unit in run.units:
         wanted[unit.sink, unit.stay.source.number, unit.stream, unit.fate] += 1
         if unit.fate in ('lost', 'unbegun') and not is_injected(unit.pdus()):
@@ -187,35 +190,29 @@ def notes_differ(run, told):
     return f'the counts are {+counts}, not {wanted}' if not run.refusal and +counts != wanted else None
 
 
-def missed_in(unit):
+def missed_in(unit: Unit) -> Missed:
     """The payloads of a unit that weren't heard, each with the events and subevents in which it was sent: of a framed one the first."""
-    heard, missed = heard_in(unit.pdus()), {}
+    heard = heard_in(unit.pdus())
+    missed: Missed = {}
     for number, event, subevent, *_ in unit.pdus():
         if number not in heard:
             missed.setdefault(number, []).append((event, subevent))
     return missed if unit.slot is not None else dict(sorted(missed.items())[:1])
 
 
-def over_all(explain):
-    """Each text of the repository whose page can't be made, or has a unit that its PDUs don't bear out; and how many were tried."""
-    found = [(f'{file}: {it.name}', it.text) for file, it in [*scenarios.rows(), *scenarios.examples(), *scenarios.corpus()]
-             if not it.words and it.text]
-
-    def tried(case):
-        try:
-            told = explained(explain, case[1])
-            run, _ = run_of(told)
-        except RunFault as fault:
-            return f'{case[0]}: {fault}'
-        wrong = differs_from_pdus(run) or notes_differ(run, told)
-        return wrong and f'{case[0]}: {wrong}'
-    with concurrent.futures.ThreadPoolExecutor(os.cpu_count()) as pool:
-        return [it for it in pool.map(tried, found) if it], len(found)
+def tried(explain: str, scenario: Scenario) -> str | None:
+    """Why the page of a text can't be made, or a unit that its PDUs don't bear out, or None."""
+    try:
+        told = explained(explain, scenario.text)
+        run, _ = run_of(told)
+    except RunFault as fault:
+        return f'{fault}'
+    return differs_from_pdus(run) or notes_differ(run, told)
 
 
 # What the tool is called with behind the page, the text on its standard input, its exit status, and what it says. A run's text is changed
 # by one replacement.
-WORDS = (
+WORDS: tuple[tuple[list[str], tuple[str, str] | None, int, str], ...] = (
     ([], None, 0, ''),
     (['--title', 'a <run> & more'], None, 0, ''),
     (['--fold', '5'], None, 0, ''),
@@ -234,16 +231,18 @@ WORDS = (
 NO_RUNS = (('no run\n', 'row 1 is not what'), ('', 'no run is told'), ('\n', 'row 1 is not what'), ('2 end\n', 'row 1 is not what'))
 
 
-def by_words(told, folder):
-    """Each end of the tool that isn't the one that its words and its text should bring."""
-    tool, page = os.path.join(TOP, 'tools', 'timeline.py'), os.path.join(folder, 'page.html')
+def fault_of(words: list[str], ended: Outcome, status: int, said: str) -> Iterator[str]:
+    """What is wrong with how the tool ended with these words."""
+    if ended.status != status or said not in ended.told or 'Traceback' in ended.told or status == 1 and ended.told.count('\n') != 1:
+        yield f'the tool with {words} ends with {ended.status} and says {ended.told!r}'
 
-    def ends(words, text, status, said, **more):
-        more = {'input': text.encode(OCTETS), 'capture_output': True, **more}
-        done = subprocess.run([sys.executable, tool, *words], check=False, timeout=60, **more)
-        errors = done.stderr.decode(errors='replace')
-        if done.returncode != status or said not in errors or 'Traceback' in errors or status == 1 and errors.count('\n') != 1:
-            yield f'the tool with {words} ends with {done.returncode} and says {errors!r}'
+
+def by_words(told: str, folder: str) -> Iterator[str]:
+    """Each end of the tool that isn't the one that its words and its text should bring."""
+    page = os.path.join(folder, 'page.html')
+
+    def ends(words: list[str], text: str, status: int, said: str) -> Iterator[str]:
+        yield from fault_of(words, tool('timeline', words, text.encode(OCTETS)), status, said)
 
     for words, change, status, said in WORDS:
         yield from ends([page, *words], told.replace(*change) if change else told, status, said)
@@ -253,19 +252,15 @@ def by_words(told, folder):
         yield from ends([unwritten], told, 1, 'timeline: [Errno')
     yield from ends(['--help'], '', 0, '')
     yield from ends([], '', 2, 'required')
-    closed = subprocess.run(['sh', '-c', 'exec "$@" <&-', 'sh', sys.executable, tool, page], capture_output=True, check=False, timeout=60)
-    if closed.returncode != 1 or closed.stderr != b'timeline: standard input is closed\n':
-        yield f'the tool without standard input ends with {closed.returncode} and says {closed.stderr!r}'
-    yield from page_differs(told, tool, page)
+    yield from fault_of([page], closed_tool('timeline', [page]), 1, 'timeline: standard input is closed\n')
+    yield from page_differs(told, page)
 
 
-def page_differs(told, tool, page):
+def page_differs(told: str, page: str) -> Iterator[str]:
     """Whether the tool writes another page than its parts, or a name that isn't taken as text."""
     name = '</title><script>0</script>'
-    subprocess.run([sys.executable, tool, page, '--title', name], input=told.encode(OCTETS), check=True)
-    with open(page, encoding='utf-8') as file:
-        written = file.read()
-    if written != page_of(data_of(read_run(rows_of(told)), None), name) or name in written:
+    ended, written = tool('timeline', [page, '--title', name], told.encode(OCTETS)), page_text(page)
+    if ended.status or written != page_of(data_of(read_run(rows_of(told)), None), name) or name in written:
         yield 'the tool writes another page'
 
 
@@ -277,10 +272,10 @@ def check(explain: str) -> Faults:
     told = {name: explained(explain, text_of(name)) for name in (*UNITS, 'hundred', 'three-seconds', 'gap', 'no-end')}
     runs = {name: run_of(text) for name, text in told.items()}
     yield from worked(runs)
-    wrong, tried = over_all(explain)
-    yield from wrong
+    found = list(scenarios.plain_runs())
+    yield from comparing.each(found, lambda it: tried(explain, it))
     with tempfile.TemporaryDirectory() as folder:
         yield from by_words(told['whole-life'], folder)
     size = len(page_of(runs['three-seconds'][1], '').encode()) // 1000
-    return (f'{len(runs)} runs by hand, 3 s of stereo are {size} KB; {tried} runs by their notes; '
+    return (f'{len(runs)} runs by hand, 3 s of stereo are {size} KB; {len(found)} runs by their notes; '
             f'{len(WORDS) + len(NO_RUNS)} texts and words')

@@ -1,15 +1,14 @@
-"""transcript_rows.py: compares the table of what a line prints, tools/printed_rows.py, with the words of the language (.ci/words), with
-what the reader of the corpus takes for it (.ci/scenarios.py), and with all rows of the corpus, the worked rows and the examples.
-
-Each row has to have a form of the table and to come where a line brings it, as tools/run_reading.py reads them; each form of the table has
-to come somewhere; and rows that are changed must be refused. It needs neither scapy nor a program."""
+"""The rows of transcripts, by the table of tools/printed_rows.py."""
 import os
 import random
+import typing
+from collections.abc import Iterable, Iterator
 
+import printed_rows
 import run_reading
 from checks import TOP
 from checks.parts import scenarios
-import printed_rows
+from checks.parts.files import text_of
 from checks.parts.steps import Faults, step
 
 CHANGED = 20  # rows of each form that are changed
@@ -28,30 +27,40 @@ DRAINS = (
 )
 
 
-def words_of_the_language():
-    with open(os.path.join(TOP, '.ci', 'words'), encoding='ascii') as file:
-        return set(file.read().split())
+def words_of_the_language() -> set[str]:
+    return set(text_of(os.path.join(TOP, '.ci', 'words')).split())
 
 
-def transcripts():
-    """The scenarios whose transcripts are whole: a name, the text, the transcript, and whether the text is a document."""
-    for file, scenario in scenarios.everything():
-        whole = scenario.transcript.endswith(b'\n') or not scenario.transcript
-        if whole and scenario.words in ([], ['--toml']) and scenario.exit_code in (0, 1):
-            yield f'{file}: {scenario.name}', scenario.text, scenario.transcript.decode(run_reading.OCTETS), '--toml' in scenario.words
+class Example(typing.NamedTuple):
+    """A row, with the text and the rows among which it stands, and whether that is a document."""
+    row: str
+    text: bytes
+    rows: list[str]
+    is_document: bool
 
 
-def read(lines, rows):
+Examples = dict[str, list[Example]]  # of each form
+
+
+def whole_transcripts() -> Iterator[scenarios.Scenario]:
+    """The scenarios whose transcripts are whole."""
+    for it in scenarios.everything():
+        is_whole = it.transcript.endswith(b'\n') or not it.transcript
+        if is_whole and it.words in ([], ['--toml']) and it.exit_code in (0, 1):
+            yield it
+
+
+def read(lines: list[str], rows: list[str]) -> list[run_reading.Step]:
     """The steps of a scenario, each with what it printed."""
     return list(run_reading.Reading(lines, rows))
 
 
-def lines_of(text):
+def lines_of(text: bytes) -> list[str]:
     """The lines of a text. A line ends with 0x0A alone."""
     return [line + '\n' for line in text.decode(run_reading.OCTETS).split('\n')]
 
 
-def tables():
+def tables() -> Iterator[str]:
     """Where the tables differ."""
     words, lines = words_of_the_language(), set(printed_rows.LINES)
     if words != lines:
@@ -60,42 +69,43 @@ def tables():
     theirs = {word: set(kinds) for word, kinds in scenarios.PRINTS.items()}
     for word in sorted(ours.keys() | theirs.keys()):
         if ours.get(word) != theirs.get(word):
-            yield f'{word}: the table has {ours.get(word)}, .ci/scenarios.py {theirs.get(word)}'
+            yield f'{word}: the table has {ours.get(word)}, scenarios.py {theirs.get(word)}'
     printed = set().union(*ours.values()) | {printed_rows.REFUSAL}
     if printed != set(printed_rows.KINDS):
         yield f'rows: of no line {sorted(set(printed_rows.KINDS) - printed)}, of no form {sorted(printed - set(printed_rows.KINDS))}'
 
 
-def rows_of(told, examples):
+def rows_of(told: Iterable[scenarios.Scenario], examples: Examples) -> Iterator[str]:
     """The rows that have no form, and the scenarios that can't be read with their rows. `examples` becomes for each form rows of it."""
-    for name, text, transcript, is_document in told:
-        rows = transcript.split('\n')[:-1]
+    for scenario in told:
+        rows, is_document = scenario.transcript.decode(run_reading.OCTETS).split('\n')[:-1], '--toml' in scenario.words
         for row in rows:
             form = printed_rows.form_of(row)
             if form is None:
-                yield f'{name}: the row "{run_reading.shown(row)}" has no form'
+                yield f'{scenario.title}: the row "{run_reading.shown(row)}" has no form'
             else:
-                examples.setdefault(form, []).append((row, text, rows, is_document))
+                examples.setdefault(form, []).append(Example(row, scenario.text, rows, is_document))
         if is_document:
             continue
         try:
-            read(lines_of(text), rows)
+            read(lines_of(scenario.text), rows)
         except run_reading.RunFault as fault:
-            yield f'{name}: {fault}'
+            yield f'{scenario.title}: {fault}'
 
 
-def drains():
+def drains() -> Iterator[str]:
     """The drains whose rows are read otherwise."""
     for lines, rows, expected in DRAINS:
         try:
             got = [len(step.printed) for step in read([line + '\n' for line in lines + ['end']], rows)][:-1]
         except run_reading.RunFault as fault:
-            got = fault
+            yield f'{lines} with {rows}: {fault}'
+            continue
         if got != expected:
             yield f'{lines} with {rows}: {got}, not {expected}'
 
 
-def changes_of(row, draw):
+def changes_of(row: str, draw: random.Random) -> Iterator[str]:
     """The row as another release might print it."""
     words = row.split(' ')
     place = draw.randrange(len(words))
@@ -106,7 +116,7 @@ def changes_of(row, draw):
     yield row.upper() if words[-1] == '-' or words[0] == 'line' else ' '.join(words[:-1])
 
 
-def changed_rows(examples, counts):
+def changed_rows(examples: Examples, counts: dict[str, int]) -> Iterator[str]:
     """The rows that are changed, and read all the same."""
     draw = random.Random(1)
     for form, found in examples.items():
@@ -130,12 +140,14 @@ def check() -> Faults:
     """The table of what a line prints, tools/printed_rows.py, is that of the words of the language (.ci/words), of the reader of the corpus
     (scenarios.py), and of all rows of the corpus, the worked rows and the examples: each row has a form and comes where a line brings it,
     each form comes somewhere, and rows that are changed are refused."""
-    told, examples, counts = list(transcripts()), {}, {'changed': 0}
+    told = list(whole_transcripts())
+    examples: Examples = {}
+    counts = {'changed': 0}
     yield from tables()
     yield from rows_of(told, examples)
     yield from drains()
     yield from (f'no row has the form "{form}"' for form in printed_rows.FORMS if form not in examples)
     yield from changed_rows(examples, counts)
-    rows = sum(map(len, examples.values()))
+    rows = sum(len(it) for it in examples.values())
     return (f'{len(printed_rows.LINES)} words, {len(printed_rows.FORMS)} forms, {rows} rows of {len(told)} scenarios, '
             f'{counts["changed"]} changed rows')

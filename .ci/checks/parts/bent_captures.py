@@ -4,12 +4,17 @@ A run hands its sink some of its PDUs by `hear` lines. A capture of it is bent: 
 train but one packet, the clock is 50 ppm wrong, times jitter, BIG_Offset is in units of 300 us, control PDUs repeat, and other packets
 are put between."""
 import contextlib
+import random
 import struct
+from collections.abc import Iterable, Iterator, Sequence
 from decimal import Decimal
+from typing import Any
 
 import link_layer
 from scapy.utils import PcapNgWriter, RawPcapReader, RawPcapWriter
 
+Packet = tuple[int, bytes]  # when it was received in us, and its octets
+Record = tuple[int, bytes, str]  # with its comment
 BEGIN, EPOCH = 1000000, 1700000000 * 1000000  # us: the run's time 0 in a capture that was written, and in one that was bent
 DRIFT, JITTER = 50e-6, 15
 CHECKED, VALID = 0x0400, 0x0800
@@ -18,7 +23,7 @@ IDENT = 'ident 1 665544332211 3 563412'
 SUBGROUP = 'subgroup 0600000000 02010802020103046400'
 # What follows the delay in a `group` line, the first event, how many events, and the units of an event and the PDUs of a unit, or
 # None where it is framed.
-GROUPS = {
+GROUPS: dict[str, tuple[str, str, int, int, tuple[int, int] | None]] = {
     'early copies': ('unframed', '8 10000 100 100 2 1 3 2 1 600 1800 1', 0, 80, (1, 1)),
     'two units an event, two PDUs a unit': ('unframed', '8 5000 40 20 2 4 8 2 0 300 2400 1', 7, 50, (2, 2)),
     'framed, interleaved': ('framed', '8 7500 60 40 2 2 6 2 1 1200 600 0', 1000000, 70, None),
@@ -29,15 +34,15 @@ GROUPS = {
 class Run:
     """A run by `hear` lines, drawn: its text, and the units that the streams hand up where that can be worked out here."""
 
-    def __init__(self, name, draw):
+    def __init__(self, name: str, draw: random.Random):
         framing, numbers, self.first, self.events, self.units = GROUPS[name]
         self.name, self.is_ended = name, name.endswith('ended')
         words = [int(it) for it in numbers.split(' ')]
         (_, self.sdu, self.max_sdu, self.max_pdu, self.streams, self.bn, self.nse, self.irc, self.pto, self.sub, self.spacing,
          _) = words
         self.ahead = self.pto * (self.nse // self.bn - self.irc)
-        self.given = {stream: [] for stream in range(1, self.streams + 1)}
-        self.heard = set()
+        self.given: dict[int, list[bytes]] = {stream: [] for stream in range(1, self.streams + 1)}
+        self.heard: set[tuple[int, int]] = set()
         lines = ['scenario 2', f'group {framing} {ORIGIN} 40000 {numbers}', IDENT, SUBGROUP] + [f'bis {it} -' for it in self.given]
         lines += [f'start {self.first}', 'sink 0 31 1', 'tuned 0 ' + ' '.join(map(str, self.given))]
         for event in range(self.events):
@@ -47,21 +52,22 @@ class Run:
             lines += ['terminate 19', f'control 0 03040113{instant}']
         self.text = '\n'.join(lines + ['end']) + '\n'
 
-    def unit_lines(self, event, draw):
+    def unit_lines(self, event: int, draw: random.Random) -> list[str]:
         """Enough units for all events that are laid with this one."""
-        lines = []
+        lines: list[str] = []
         for stream, given in self.given.items():
             while len(given) < (event + self.ahead + 1) * (self.units[0] if self.units else 2):
-                time = '-' if self.units else ORIGIN - 4000 + len(given) * self.sdu
+                time = ORIGIN - 4000 + len(given) * self.sdu
                 if not self.units and time > ORIGIN + (event + self.ahead) * ISO:
                     break
                 given.append(draw.randbytes(draw.randrange(self.max_sdu + 1)))
-                lines.append(f'unit {stream} {time} {given[-1].hex() or "-"}')
+                lines.append(f'unit {stream} {"-" if self.units else time} {given[-1].hex() or "-"}')
         return lines
 
-    def hear_lines(self, event, draw):
+    def hear_lines(self, event: int, draw: random.Random) -> list[str]:
         """Four of five PDUs; all of the first and the last event, so that the capture begins and ends with the run."""
-        is_all, lines = event in (0, self.events - 1), []
+        is_all = event in (0, self.events - 1)
+        lines: list[str] = []
         places = [(stream, subevent) for stream in self.given for subevent in range(self.nse)]
         for stream, subevent in sorted(places, key=lambda it: (it[0] - 1) * self.spacing + it[1] * self.sub):
             if is_all or draw.random() < 0.8:
@@ -71,10 +77,11 @@ class Run:
                 self.heard.add((stream, (event + later) * self.bn + place))
         return lines
 
-    def worked(self):
+    def worked(self) -> Iterator[tuple[str, str]]:
         """The units by slot: valid where all payloads that carry the unit were heard. A copy comes no later than its event."""
         for event in range(self.events):
             for stream, given in self.given.items():
+                assert self.units
                 for slot in range(self.units[0]):
                     octets = given[event * self.units[0] + slot]
                     number = event * self.bn + slot * self.units[1]
@@ -83,13 +90,13 @@ class Run:
                     yield str(stream), f'valid {len(octets)} {octets.hex() or "-"}' if is_heard else 'lost'
 
 
-def records(path):
+def records(path: str) -> list[Record]:
     """The packets of a pcapng as times in us, octets and comments."""
     with contextlib.closing(RawPcapReader(path)) as reader:
         return [((about.tshigh << 32) + about.tslow, octets, (about.comment or b'').decode()) for octets, about in reader]
 
 
-def write(path, packets, link_type=link_layer.LINK_TYPE, is_old=False):
+def write(path: str, packets: Iterable[Sequence[Any]], link_type: int = link_layer.LINK_TYPE, is_old: bool = False) -> None:
     writer = RawPcapWriter(path, linktype=link_type) if is_old else PcapNgWriter(path)
     writer.linktype = link_type
     writer.write_header(None)
@@ -101,12 +108,12 @@ def write(path, packets, link_type=link_layer.LINK_TYPE, is_old=False):
     writer.close()
 
 
-def flagged(octets, clear, put=0):
+def flagged(octets: bytes, clear: int, put: int = 0) -> bytes:
     flags = int.from_bytes(octets[8:10], 'little') & ~clear | put
     return octets[:8] + flags.to_bytes(2, 'little') + octets[10:]
 
 
-def long_offset(time, octets, draw):
+def long_offset(time: int, octets: bytes, draw: random.Random) -> Packet:
     """The announcement earlier by less than 300 us, with its offset in units of 300 us."""
     place = octets.index(b'\x22\x2c') + 2
     numbers = int.from_bytes(octets[place:place + 2], 'little')
@@ -117,8 +124,9 @@ def long_offset(time, octets, draw):
 class Bent:
     """A capture as a bad sniffer gives it, with what was deleted of it and what was put between."""
 
-    def __init__(self, written, draw, train):
-        self.deleted, self.put, self.draw, trains, kept = 0, 0, draw, 0, []
+    def __init__(self, written: list[Record], draw: random.Random, train: int):
+        self.deleted, self.put, self.draw, trains = 0, 0, draw, 0
+        kept: list[Packet] = []
         for time, octets, comment in written:
             if 'heard by no sink' in comment:
                 self.deleted += 1
@@ -135,10 +143,10 @@ class Bent:
                 kept.append((time, flagged(octets, CHECKED | VALID) if is_unchecked else octets))
         self.packets = sorted((self.moved(time), octets) for time, octets in kept + list(self.others(kept)))
 
-    def moved(self, time):
+    def moved(self, time: int) -> int:
         return EPOCH + round((time - BEGIN) * (1 + DRIFT) + self.draw.uniform(-JITTER, JITTER))
 
-    def others(self, kept):
+    def others(self, kept: list[Packet]) -> Iterator[Packet]:
         """Packets of others, and of the source with a wrong CRC."""
         streams = [it for it in kept if flagged(it[1], 0)[9] & 3 == 3]
         for number in range(60):

@@ -1,31 +1,29 @@
-"""captures.py PROGRAM: takes runs out as captures and in again, by tools/capture_out.py and tools/capture_in.py, and prints each that
-differs.
+"""Runs that go out as captures and come in again, by tools/capture_out.py and tools/capture_in.py, whose packages have to be there.
 
 What is read of a capture that was bent must bring the program to the units of the run by its `hear` lines. Where no unit depends on
-framing, these are also worked out here, by the payloads that were heard. All scenarios of corpus/, of the worked rows and of examples/ go
-out, and in again where a sink heard all. Where tshark is there, it must find nothing malformed in what was written, and the access
-addresses of the streams that it works out itself must be those of the capture.
-
-Exit status 1: something differs; 3: scapy or tshark is missing, so that all or a part was left out."""
+framing, these are also worked out here, by the payloads that were heard."""
 import os
 import random
+from collections.abc import Iterable, Iterator
 
-from checks import TOP
-from checks.parts.bent_captures import BEGIN, DRIFT, EPOCH, GROUPS, IDENT, JITTER, ORIGIN, SUBGROUP, Bent, Run, records, write
-from checks.parts.corpus_captures import (
-    BETWEEN, FIELDS, by_tshark, captures_of_all, has_tshark, malformed_in, replay, said, tshark, units_of)
 import air_pieces
-import capture_in
-import capture_out
 import link_layer
 from anchor_fit import Fit, Heard, Mark
+from checks import TOP
+from checks.parts import files
+from checks.parts.bent_captures import (
+    BEGIN, DRIFT, EPOCH, GROUPS, IDENT, JITTER, ORIGIN, SUBGROUP, Bent, Record, Run, records, write)
+from checks.parts.corpus_captures import (
+    BETWEEN, FIELDS, Captures, Counts, Units, by_tshark, captures_of_all, malformed_in, replay, said, tshark, units_of)
+from checks.parts.steps import TOOLS
 
+Results = Iterator[tuple[str, str | None]]  # what was tried, and what is wrong with it
 SHIFT = 20  # us by which a fitted anchor may be wrong
 # The access addresses of control and of stream 1 for the seed 0, by section 2.1.2: 42 is 0101010, 77 is 1001101.
 WORKED_ADDRESSES = {0: 0x02A40000, 1: 0xFD060000}
 
 
-def register_crc(pdu, start):
+def register_crc(pdu: bytes, start: int) -> bytes:
     """The CRC by the register of volume 6 part B, section 3.1: x^24 + x^10 + x^9 + x^6 + x^4 + x^3 + x + 1, octets from their least bit
     on, and the CRC from its greatest."""
     register = start
@@ -35,7 +33,7 @@ def register_crc(pdu, start):
     return bytes(sum((register >> 23 - place - 8 * octet & 1) << place for place in range(8)) for octet in range(3))
 
 
-def wrong_crcs(written):
+def wrong_crcs(written: list[Record]) -> int:
     """How many packets of streams and of their control have another CRC than BaseCRCInit and the number of their stream give."""
     octets = next(octets for _, octets, _ in written if b'\x22\x2c' in octets)
     place = octets.index(b'\x22\x2c') + 2
@@ -45,25 +43,23 @@ def wrong_crcs(written):
     return sum(register_crc(octets[14:-3], base << 8 | number) != octets[-3:] for octets, number in numbers)
 
 
-def taken_out(program, text, path, *words):
-    with open(path + '.scn', 'w', encoding='ascii') as file:
-        file.write(text)
-    status, told = said(capture_out, [path + '.scn', path, '--program', program, *words])
+def taken_out(program: str, text: str, path: str, *words: str) -> list[Record]:
+    files.write(path + '.scn', text)
+    status, told = said('capture_out', [path + '.scn', path, '--program', program, *words])
     if status:
         raise RuntimeError(told)
     return records(path)
 
 
-def taken_in(path, *words):
+def taken_in(path: str, *words: str) -> tuple[str | None, str]:
     """The scenario of a capture, or what was said instead."""
-    status, told = said(capture_in, [path, '--out', path + '.in', *words])
+    status, told = said('capture_in', [path, '--out', path + '.in', *words])
     if status:
         return None, told
-    with open(path + '.in', encoding='ascii') as file:
-        return file.read(), told
+    return files.text_of(path + '.in'), told
 
 
-def different(run, expected, got, base):
+def different(run: Run, expected: Units, got: Units, base: int) -> tuple[int, str | None]:
     """In how many units what was read of a bent capture differs, and what else is wrong with it."""
     wrong = sum(one[::2] != other[::2] for one, other in zip(expected, got)) + abs(len(expected) - len(got))
     shifts = {other[1] - one[1] for one, other in zip(expected, got)}
@@ -76,11 +72,11 @@ def different(run, expected, got, base):
     return wrong, None
 
 
-def base_of(text):
+def base_of(text: str) -> int:
     return int(text.split('\n')[1].split(' ')[3])
 
 
-def bent_runs(program, folder, counts):
+def bent_runs(program: str, folder: str, counts: Counts) -> Results:
     """Each group out, bent, and in again, as it is, without repeats, and with the announcement followed."""
     for place, name in enumerate(GROUPS):
         draw = random.Random(place)
@@ -112,14 +108,14 @@ def bent_runs(program, folder, counts):
             yield from missing(program, folder, written)
 
 
-def circles(program, folder, path, counts):
+def circles(program: str, folder: str, path: str, counts: Counts) -> Results:
     """What was read of a capture, written as a capture of what its sink heard, is read as the same."""
     text, _ = taken_in(path)
     again = os.path.join(folder, 'again')
     taken_out(program, text or '', again, '--ear', '0')
     other, told = taken_in(again, '--base', str(BEGIN))
     counts['captures'] += 1
-    is_same = None not in (text, other) and other.split('\n')[2:] == text.split('\n')[2:]
+    is_same = text is not None and other is not None and other.split('\n')[2:] == text.split('\n')[2:]
     yield 'in, out and in again', None if is_same else told or 'the scenarios differ'
     for place, octets in enumerate((234, 236)):
         meta = f'meta {octets + 1:02x}03{"41" * octets}'
@@ -131,25 +127,25 @@ def circles(program, folder, path, counts):
         yield 'a BASE that is continued', None if text and meta in text.split('\n') else told or 'the BASE differs'
 
 
-def by_transcript(program, folder):
+def by_transcript(program: str, folder: str) -> Results:
     """An example whose `sniff` lines print all PDUs is the same capture by its transcript as by a run."""
     example, path = os.path.join(TOP, 'examples', 'framed'), os.path.join(folder, 'again')
-    said(capture_out, [example + '.scn', path, '--program', program])
+    said('capture_out', [example + '.scn', path, '--program', program])
     by_run = records(path)
-    status, told = said(capture_out, [example + '.scn', path, '--transcript', example + '.out'])
+    status, told = said('capture_out', [example + '.scn', path, '--transcript', example + '.out'])
     yield 'a transcript', None if status == 0 and records(path) == by_run else told or 'it differs'
-    status, _ = said(capture_out, [example + '.scn', path, '--transcript', os.path.join(TOP, 'examples', 'stereo.out')])
+    status, _ = said('capture_out', [example + '.scn', path, '--transcript', os.path.join(TOP, 'examples', 'stereo.out')])
     yield 'the transcript of another scenario', None if status == 1 else 'it is not refused'
 
 
-def missing(program, folder, written):
+def missing(program: str, folder: str, written: list[Record]) -> Results:
     """What can't be taken is named."""
     path = os.path.join(folder, 'missing')
 
-    def changed(old, new):
+    def changed(old: str, new: str) -> list[Record]:
         return [(time, octets.replace(bytes.fromhex(old), bytes.fromhex(new)), comment) for time, octets, comment in written]
 
-    def without(words):
+    def without(words: str) -> list[Record]:
         return [it for it in written if words not in it[2]]
 
     cases = [
@@ -165,12 +161,11 @@ def missing(program, folder, written):
     yield 'of another link type', None if 'of link type 251' in taken_in(path)[1] else 'it is not named'
     yield 'no capture', None if 'neither pcap' in taken_in(os.path.join(folder, 'run0.scn'))[1] else 'it is not named'
     for example, told in (('encrypted', 'is encrypted'), ('two-sources', 'choose one')):
-        with open(os.path.join(TOP, 'examples', example + '.scn'), encoding='ascii') as file:
-            taken_out(program, file.read(), path)
+        taken_out(program, files.text_of(os.path.join(TOP, 'examples', example + '.scn')), path)
         yield example, None if told in taken_in(path)[1] else 'it is not named'
 
 
-def in_pieces(program, folder):
+def in_pieces(program: str, folder: str) -> Results:
     """A text that has no room for the `sniff` lines of all its PDUs is the same capture by several runs; without any room it goes out
     too, and what is left out is counted."""
     draw, path = random.Random(9), os.path.join(folder, 'pieces')
@@ -186,13 +181,13 @@ def in_pieces(program, folder):
                 air_pieces.GREATEST_TEXT = cut
         cut, air_pieces.GREATEST_TEXT = air_pieces.GREATEST_TEXT, lines // 2
         try:
-            status, told = said(capture_out, [path + '.scn', path, '--program', program])
+            status, told = said('capture_out', [path + '.scn', path, '--program', program])
         finally:
             air_pieces.GREATEST_TEXT = cut
         yield f'{name}, without room', None if status == 0 and 'has no room' in told else told
 
 
-def greatest_group(program, folder):
+def greatest_group(program: str, folder: str) -> Results:
     """31 streams of 31 subevents, whose `sniff` lines have no room in one text: each PDU goes out, and all are placed again."""
     path, events = os.path.join(folder, 'greatest'), 6
     lines = ['scenario 2', f'group unframed {ORIGIN} 40000 200 250000 1 1 31 1 31 15 1 250 7750 1', IDENT, SUBGROUP]
@@ -208,7 +203,7 @@ def greatest_group(program, folder):
     yield 'the greatest group', None if pdus == placed == events * 31 * 31 else f'{pdus} PDUs are out, and {placed} in again: {told}'
 
 
-def addresses_by_tshark(folder, captures, counts):
+def addresses_by_tshark(folder: str, captures: Captures, counts: Counts) -> Results:
     """The access addresses of the streams that tshark works out from each BIGInfo are those of the capture. Behind all packets comes one
     that is broken, which tshark must find."""
     path, packets, addresses = os.path.join(folder, 'all'), [], set()
@@ -229,7 +224,7 @@ def addresses_by_tshark(folder, captures, counts):
     counts['packets by tshark'] += len(packets)
 
 
-def fits():
+def fits() -> Results:
     """PDUs that are placed by their times alone: none wrong, and none left out, with gaps of 20 and 40 s and a clock that jumps."""
     cases = [
         ('a gap of 40 s', {'iso': 8, 'nse': 3, 'sub': 600, 'spacing': 1800}, 4800, (400, 4400), {100}, 0),
@@ -256,7 +251,7 @@ def fits():
         yield name, f'of {len(places)} PDUs {wrong} are in a wrong place, {left} in none' if wrong or left else None
 
 
-def guarded(name, results):
+def guarded(name: str, results: Iterable[tuple[str, str | None]]) -> Results:
     """The results; a step that fails is one more, and what comes behind it goes on."""
     try:
         yield from results
@@ -264,16 +259,16 @@ def guarded(name, results):
         yield name, f'{type(error).__name__}: {error}'
 
 
-def all_results(program, folder, counts):
+def all_results(program: str, folder: str, counts: Counts) -> Results:
     is_right = all(link_layer.stream_address(0, number) == address for number, address in WORKED_ADDRESSES.items())
     yield 'access addresses', None if is_right else 'they are not those of the standard'
-    captures = []
+    captures: Captures = []
     yield from guarded('fits', fits())
     yield from guarded('bent runs', bent_runs(program, folder, counts))
     yield from guarded('in pieces', in_pieces(program, folder))
     yield from guarded('the greatest group', greatest_group(program, folder))
     yield from guarded('all scenarios', captures_of_all(program, folder, counts, captures))
-    if has_tshark():
+    if TOOLS['tshark'].is_there():
         runs = [(f'run{place}', os.path.join(folder, f'run{place}')) for place in [*range(len(GROUPS)), 9]]
         runs += [it for it in captures if it[0].startswith('examples')]
         yield from guarded('tshark', addresses_by_tshark(folder, runs, counts))

@@ -2,11 +2,13 @@
 
 A case is a pair of its kind and its name. It is read from the lines of the scenario and of its transcript alone; the state that is
 kept beside them (phases, slots, places) follows docs/answers.md and docs/refusals.md."""
-import collections
 import re
+from collections import Counter
+from collections.abc import Iterable, Iterator, Mapping
 
-from checks.parts.octet_words import octets, segments
-from checks.parts.sink_cases import SinkCases, where
+from checks.parts.octet_words import Segment, octets, segments
+from checks.parts.scenarios import Scenario
+from checks.parts.sink_cases import Printed, SinkCases, Words, where
 
 SOURCE_LINES = ('group', 'ident', 'subgroup', 'meta', 'bis', 'cipher', 'start', 'tuned', 'unit', 'event', 'hear', 'air', 'inject', 'sniff',
                 'announce', 'train', 'terminate', 'stop')
@@ -24,16 +26,22 @@ LINES = {
 }
 
 
+Counts = Counter[tuple[str, str]]  # how often each case comes: its kind and its name
+Numbers = dict[str, int]  # those of a `group` line, by their names
+
+
 class Source:
-    """A source: its group by the numbers of its line, its identity, and its phase."""
+    """A source: its group by the words of its line, its identity, and its phase."""
 
-    def __init__(self):
-        self.group, self.ident, self.subgroups, self.first, self.performed = None, ('0', '0', '000000'), [], 0, 0
+    def __init__(self) -> None:
+        self.group: Words = []
+        self.ident, self.first, self.performed = ('0', '0', '000000'), 0, 0
+        self.subgroups: list[int] = []
         self.is_ciphered = self.is_started = self.is_open = False
-        self.end = None
+        self.end = ''
 
-    def phase(self):
-        if self.group is None:
+    def phase(self) -> str:
+        if not self.group:
             return 'no group'
         if not self.is_started:
             return 'a subgroup without a stream' if self.subgroups[-1:] == [0] else 'a group'
@@ -41,14 +49,18 @@ class Source:
             return 'encrypted and ended' if self.end else 'encrypted'
         return self.end or ('an event is open' if self.is_open else 'started')
 
-    def numbers(self):
+    def numbers(self) -> Numbers:
         names = ('origin', 'delay', 'iso', 'sdu', 'max_sdu', 'max_pdu', 'num_bis', 'bn', 'nse', 'irc', 'pto', 'sub', 'spacing', 'phy')
-        numbers = dict(zip(names, map(int, self.group[2:])), framing=self.group[1])
+        numbers = dict(zip(names, map(int, self.group[2:])))
         numbers['horizon'] = numbers['pto'] * (numbers['nse'] // max(1, numbers['bn']) - numbers['irc'])
         return numbers
 
+    @property
+    def framing(self) -> str:
+        return self.group[1]
 
-def numbers_of(has):
+
+def numbers_of(has: Numbers, framing: str) -> Iterator[str]:
     """What the numbers of a group are counted by."""
     horizon, streams, k = has['horizon'], has['num_bis'], has['iso'] * 1250 // has['sdu']
     yield f'BN {has["bn"]}'
@@ -57,11 +69,11 @@ def numbers_of(has):
     yield f'NSE {"31" if has["nse"] == 31 else "below 31"}'
     yield '1 stream' if streams == 1 else '31 streams' if streams == 31 else '2 to 30 streams'
     yield f'horizon {horizon if horizon in (0, 15, 30) else "1 to 14" if horizon < 15 else "16 to 29"}'
-    if has['framing'] == 'unframed':
+    if framing == 'unframed':
         yield 'a PDU a unit' if has['max_sdu'] <= has['max_pdu'] else 'several PDUs a unit'
 
 
-def segment_cases(found):
+def segment_cases(found: list[Segment]) -> dict[str, bool]:
     """What the segments of a PDU are counted by."""
     starts = [it for it in found if it.starts]
     return {
@@ -78,23 +90,25 @@ def segment_cases(found):
 class Walk(SinkCases):
     """Walks through the lines of a scenario, and counts its cases."""
 
-    def __init__(self, counts):
+    def __init__(self, counts: Counts) -> None:
         self.counts = counts
-        self.version, self.chosen, self.sources, self.sinks, self.numbers = 0, 0, (Source(), Source()), {}, set()
-        self.relays = set()
+        super().__init__()
+        self.version = 0
+        self.sources = Source(), Source()
+        self.relays: set[str] = set()
 
-    def count(self, kind, name):
+    def count(self, kind: str, name: object) -> None:
         self.counts[kind, str(name)] += 1
 
-    def count_those(self, kind, names):
+    def count_those(self, kind: str, names: Mapping[str, bool]) -> None:
         for name, holds in names.items():
             if holds:
                 self.count(kind, name)
 
-    def line(self, line, printed):
+    def line(self, line: bytes | None, lines: Iterable[bytes]) -> None:
         """A line of the text, without its end, and what it brings."""
         words = (line or b'').decode('ascii', 'replace').split(' ')
-        printed = [it.decode('ascii', 'replace').split(' ') for it in printed]
+        printed = [it.decode('ascii', 'replace').split(' ') for it in lines]
         refusal = printed[-1] if printed and printed[-1][0] == 'line' else None
         if refusal and refusal[2] in ('LineTooLong', 'TextTooLong', 'NoEnd'):
             self.count('refusals', refusal[2])
@@ -104,7 +118,7 @@ class Walk(SinkCases):
         if not line or line.startswith(b'#'):
             return
         if refusal:
-            self.refuse(words, refusal[2], refusal[3] if len(refusal) > 3 else None)
+            self.refuse(words, refusal[2], refusal[3] if len(refusal) > 3 else '')
             return
         if not self.version:
             self.version = int(words[1])
@@ -121,12 +135,12 @@ class Walk(SinkCases):
         if len(words) > 1 and words[1] in self.sinks and words[0] in SINK_LINES and words[0] not in SOURCE_LINES:
             self.links(words, printed)
 
-    def nothing(self, words, source, printed):
+    def nothing(self, words: Words, source: Source, printed: Printed) -> None:
         pass
 
     # Refusals.
 
-    def refuse(self, words, name, number):
+    def refuse(self, words: Words, name: str, number: str) -> None:
         self.count('refusals', name)
         source, word = self.sources[self.chosen], words[0]
         if name == 'BadLine':
@@ -135,65 +149,65 @@ class Walk(SinkCases):
             self.count('Order', f'{word}, {source.phase()}' if word in SOURCE_LINES and self.version else word)
         elif name == 'BadGroup':
             self.count('BadGroup at a start', number)
-            self.count('BadGroup at a start, by framing', f'{number} {source.group[1]}')
+            self.count('BadGroup at a start, by framing', f'{number} {source.framing}')
         else:
             self.count('refusals of a line', f'{name}, {word}')
         if name == 'CounterEnds':
-            self.count('the payload counter', f'{word} refused, {source.group[1]}')
+            self.count('the payload counter', f'{word} refused, {source.framing}')
         if name == 'LinkTwice':
             self.count('links', f'{words[2]} joined twice')
         if name == 'TimeOrder':
             self.count('TimeOrder', self.time_order(words, source))
 
-    def bad_line(self, words, number):
+    def bad_line(self, words: Words, number: int) -> str:
         if number == 0:
             return f'0 {words[0]}, version {self.version or 1}' if words[0] in LINES else '0 other, none'
         return f'{number} {words[0]}, {"missing" if number == len(words) else "not fitting"}'
 
-    def time_order(self, words, source):
-        if source.group[1] == 'unframed':
+    def time_order(self, words: Words, source: Source) -> str:
+        if source.framing == 'unframed':
             return 'a time, unframed'
         return 'no time, framed' if words[2] == '-' else f'framed, version {self.version}'
 
     # Sources.
 
-    def do_source(self, words, _source, _printed):
+    def do_source(self, words: Words, _source: Source, _printed: Printed) -> None:
         self.chosen = int(words[1])
         self.count('sources', words[1])
 
-    def do_group(self, words, source, _printed):
+    def do_group(self, words: Words, source: Source, _printed: Printed) -> None:
         source.group = words
 
-    def do_ident(self, words, source, _printed):
+    def do_ident(self, words: Words, source: Source, _printed: Printed) -> None:
         source.ident = (words[1], words[3], words[4].lower())
 
-    def do_cipher(self, _words, source, _printed):
+    def do_cipher(self, _words: Words, source: Source, _printed: Printed) -> None:
         source.is_ciphered = True
 
-    def do_subgroup(self, _words, source, _printed):
+    def do_subgroup(self, _words: Words, source: Source, _printed: Printed) -> None:
         source.subgroups.append(0)
 
-    def do_bis(self, _words, source, _printed):
+    def do_bis(self, _words: Words, source: Source, _printed: Printed) -> None:
         source.subgroups[-1] += 1
 
-    def do_start(self, words, source, _printed):
+    def do_start(self, words: Words, source: Source, _printed: Printed) -> None:
         source.is_started, source.first = True, int(words[1])
         self.count('sources', f'started with {sum(it.is_started for it in self.sources)}')
         has, subgroups = source.numbers(), len(source.subgroups)
-        for name in numbers_of(has):
-            self.count('groups', f'{has["framing"]}, {name}')
+        for name in numbers_of(has, source.framing):
+            self.count('groups', f'{source.framing}, {name}')
         self.count('BASE', f'{subgroups if subgroups < 3 else "3 or more"} subgroups')
         greatest = {'961 PDUs an event': has['num_bis'] * has['nse'] == 961,
                     '217 payloads in a window': (has['horizon'] + 1) * has['bn'] == 217, '24 subgroups of a BASE': subgroups == 24}
         self.count_those('greatest numbers', greatest)
 
-    def do_event(self, _words, source, printed):
+    def do_event(self, _words: Words, source: Source, printed: Printed) -> None:
         has = source.numbers()
         number = source.first + source.performed
         source.performed += 1
         source.is_open = True
         if (number + has['horizon'] + 2) * has['bn'] > 1 << 39:
-            self.count('the payload counter', f'the last event, {has["framing"]}')
+            self.count('the payload counter', f'the last event, {source.framing}')
         if source.performed > 32:
             self.count('sources', 'more than 32 events')
         left_out = [line[1] for line in printed if line[0] == 'stale']
@@ -203,40 +217,40 @@ class Walk(SinkCases):
             self.count('greatest numbers', '16 units of a stream left out at once')
         self.units(printed)
 
-    def do_stop(self, words, source, printed):
+    def do_stop(self, words: Words, source: Source, printed: Printed) -> None:
         source.end, source.is_open = 'stopped' if words[0] == 'stop' else 'terminated', False
         self.units(printed)
 
     do_terminate = do_stop
 
-    def do_end(self, _words, _source, printed):
+    def do_end(self, _words: Words, _source: Source, printed: Printed) -> None:
         self.count('sources', f'open at the end: {sum(it.is_open for it in self.sources)}')
         if any(line[0] == 'relay' for line in printed):
             self.count('relays', 'a unit dropped at the end')
         self.units(printed)
         self.chosen = 0
 
-    def do_relay(self, words, _source, _printed):
+    def do_relay(self, words: Words, _source: Source, _printed: Printed) -> None:
         self.relays.add(words[1])
         self.count('relays', 'made while an event is open' if self.sources[0].is_open else 'made')
         if len(self.relays) == 2:
             self.count('relays', 'two at once')
 
-    def do_drop(self, words, source, printed):
+    def do_drop(self, words: Words, source: Source, printed: Printed) -> None:
         if words[1] in self.relays:
             self.relays.remove(words[1])
             self.count('relays', 'ended by `drop`')
         super().do_drop(words, source, printed)
 
-    def do_unit(self, words, source, _printed):
+    def do_unit(self, words: Words, source: Source, _printed: Printed) -> None:
         has, length = source.numbers(), len(octets(words[3]))
-        if has['framing'] == 'framed':
+        if source.framing == 'framed':
             ahead = int(words[2]) > has['origin'] + source.performed * has['iso'] * 1250
             self.count('framed units', 'given past the next anchor' if ahead else 'given for the next anchor or before')
         much = 'no octet' if not length else 'MAXSDU' if length == has['max_sdu'] else 'between'
-        self.count('units given', f'{has["framing"]}, {much}')
+        self.count('units given', f'{source.framing}, {much}')
 
-    def units(self, printed):
+    def units(self, printed: Printed) -> None:
         for words in printed:
             if words[0] == 'relay':
                 self.count('units dropped', words[4])
@@ -244,7 +258,7 @@ class Walk(SinkCases):
                 continue
             sink = self.sinks[words[1]]
             source = self.sources[sink.source]
-            framing = sink.framing or source.group[1]
+            framing = sink.framing or source.framing
             kind = f'{framing} units'
             if words[5] == 'lost':
                 self.count(kind, 'lost')
@@ -256,21 +270,21 @@ class Walk(SinkCases):
 
     # What is on the air.
 
-    def do_sniff(self, words, source, printed):
-        framing, payload = source.group[1], octets(printed[0][4])
+    def do_sniff(self, words: Words, source: Source, printed: Printed) -> None:
+        framing, payload = source.framing, octets(printed[0][4])
         self.count('PDUs on the air', f'{framing}, {"padding" if payload in (bytes([1, 0]), bytes([2, 0])) else "more"}')
         if words[1] == '31':
             self.count('sources', 'the event 31 before the last')
         if framing == 'framed':
             self.count_those('framed PDUs on the air', segment_cases(list(segments(payload[2:]))))
 
-    def do_inject(self, words, source, printed):
+    def do_inject(self, words: Words, source: Source, printed: Printed) -> None:
         answer = ' '.join(printed[0][2:])
         self.count('answers to a PDU', answer)
-        self.count('answers to a PDU, by framing', f'{answer}, {source.group[1]}')
+        self.count('answers to a PDU, by framing', f'{answer}, {source.framing}')
 
 
-def count_cases(counts, scenario):
+def count_cases(counts: Counts, scenario: Scenario) -> None:
     """Counts the cases of a scenario."""
     walk = Walk(counts)
     if scenario.words:
@@ -280,7 +294,7 @@ def count_cases(counts, scenario):
             counts['refusals', scenario.transcript.splitlines()[-1].split(b' ')[2].decode()] += 1
         return
     for place, (line, printed) in enumerate(scenario.steps):
-        walk.counts = collections.Counter() if place < scenario.counted_from else counts
+        walk.counts = Counts() if place < scenario.counted_from else counts
         walk.line(line, printed)
         if printed and printed[-1].startswith(b'line '):
             return

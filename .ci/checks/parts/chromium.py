@@ -7,8 +7,11 @@ import select
 import shutil
 import subprocess
 import time
+from collections.abc import Callable
+from typing import Any
 
-NAMES = ('chromium', 'chromium-browser', 'google-chrome')
+from checks.parts.steps import CHROMIUM
+
 WORDS = ('--headless=new', '--no-sandbox', '--disable-gpu', '--no-first-run', '--disable-extensions', '--disable-component-update',
          '--disable-background-networking', '--hide-scrollbars', '--force-device-scale-factor=1', '--remote-debugging-pipe')
 PATIENCE = 60  # seconds for an answer
@@ -20,12 +23,12 @@ class BrowserFault(Exception):
     """The browser doesn't start, doesn't answer, or refuses what it was asked."""
 
 
-def find():
-    """The path of a Chromium, or None."""
-    return next(filter(None, map(shutil.which, NAMES)), None)
+def find() -> str:
+    """The path of a Chromium, or no word."""
+    return next(filter(None, map(shutil.which, CHROMIUM)), '')
 
 
-def version(path):
+def version(path: str) -> str:
     """Its name and version in a few words."""
     told = subprocess.run([path, '--version'], capture_output=True, check=False, timeout=PATIENCE).stdout.decode()
     return (re.findall(r'[\w ]+ [\d.]+', told) or ['a browser'])[0]
@@ -34,8 +37,10 @@ def version(path):
 class Browser:
     """A browser with one page. `faults` has what its scripts threw and what it logged as errors."""
 
-    def __init__(self, path, folder, width=1200, height=900):
-        self.faults, self.events, self.number, self.rest, self.session = [], [], 0, b'', None
+    def __init__(self, path: str, folder: str, width: int = 1200, height: int = 900):
+        self.faults: list[str] = []
+        self.events: list[str] = []
+        self.number, self.rest, self.session = 0, b'', ''
         (theirs, self.writing), (self.reading, answers) = os.pipe(), os.pipe()
         words = [path, *WORDS, f'--user-data-dir={folder}/profile', f'--window-size={width},{height}', 'about:blank']
         # The browser reads what it is asked from descriptor 3, and answers on 4.
@@ -49,11 +54,11 @@ class Browser:
             self.ask(f'{domain}.enable')
         self.resize(width, height)
 
-    def __enter__(self):
+    def __enter__(self) -> 'Browser':
         return self
 
-    def __exit__(self, *_):
-        self.session = None
+    def __exit__(self, *_: object) -> None:
+        self.session = ''
         try:
             self.ask('Browser.close')
             self.process.wait(timeout=PATIENCE)
@@ -63,7 +68,7 @@ class Browser:
         os.close(self.reading)
         os.close(self.writing)
 
-    def take(self, until):
+    def take(self, until: float) -> dict[str, Any]:
         """The next message of the browser."""
         while b'\0' not in self.rest:
             ready, _, _ = select.select([self.reading], [], [], max(0, until - time.monotonic()))
@@ -72,9 +77,10 @@ class Browser:
                 raise BrowserFault('the browser does not answer' if self.process.poll() is None else 'the browser has ended')
             self.rest += piece
         message, _, self.rest = self.rest.partition(b'\0')
-        return json.loads(message)
+        told: dict[str, Any] = json.loads(message)
+        return told
 
-    def note(self, message):
+    def note(self, message: dict[str, Any]) -> None:
         """Keeps an event, and what of it is a fault."""
         self.events.append(message['method'])
         told = message['params']
@@ -83,7 +89,7 @@ class Browser:
         elif message['method'] == 'Log.entryAdded' and told['entry']['level'] == 'error':
             self.faults.append(told['entry']['text'])
 
-    def ask(self, method, **params):
+    def ask(self, method: str, **params: object) -> dict[str, Any]:
         """Asks for something, and gives the answer."""
         self.number += 1
         asked = {'id': self.number, 'method': method, 'params': params, **({'sessionId': self.session} if self.session else {})}
@@ -99,9 +105,10 @@ class Browser:
             elif message['id'] == self.number:
                 if 'error' in message:
                     raise BrowserFault(f'{method}: {message["error"]["message"]}')
-                return message['result']
+                result: dict[str, Any] = message['result']
+                return result
 
-    def open(self, page, address=''):
+    def open(self, page: str, address: str = '') -> float:
         """Opens a page, and gives how many ms passed until it was loaded and painted."""
         self.events.clear()
         began = time.monotonic()
@@ -114,35 +121,35 @@ class Browser:
         self.value(PAINTED)
         return 1000 * (time.monotonic() - began)
 
-    def until_loaded(self):
+    def until_loaded(self) -> None:
         until = time.monotonic() + PATIENCE
         while 'Page.loadEventFired' not in self.events:
             message = self.take(until)
             if 'method' in message:
                 self.note(message)
 
-    def value(self, expression):
+    def value(self, expression: str) -> Any:
         """The value of an expression in the page."""
         told = self.ask('Runtime.evaluate', expression=expression, returnByValue=True, awaitPromise=True)
         if 'exceptionDetails' in told:
             raise BrowserFault(f'{expression[:200]}: {told["exceptionDetails"].get("exception", {}).get("description")}')
         return told['result'].get('value')
 
-    def timed(self, act, *words):
+    def timed(self, act: Callable[..., object], *words: object) -> float:
         """How many ms pass from an act of the reader until what it does is painted."""
         began = time.monotonic()
         act(*words)
         self.value(PAINTED)
         return 1000 * (time.monotonic() - began)
 
-    def mouse(self, kind, x, y, **more):
+    def mouse(self, kind: str, x: float, y: float, **more: object) -> None:
         self.ask('Input.dispatchMouseEvent', type=kind, x=x, y=y, **more)
 
-    def click(self, x, y):
+    def click(self, x: float, y: float) -> None:
         for kind in ('mousePressed', 'mouseReleased'):
             self.mouse(kind, x, y, button='left', clickCount=1)
 
-    def place_of(self, selector):
+    def place_of(self, selector: str) -> tuple[float, float]:
         """The middle of the first element that a selector finds, once it is scrolled into the window."""
         place = self.value(f"""(() => {{
             const found = document.querySelector({json.dumps(selector)});
@@ -153,36 +160,37 @@ class Browser:
         }})()""")
         if place is None:
             raise BrowserFault(f'the page has no {selector}')
-        return place
+        x, y = place
+        return x, y
 
-    def click_on(self, selector):
+    def click_on(self, selector: str) -> None:
         self.click(*self.place_of(selector))
 
-    def drag(self, selector, by):
+    def drag(self, selector: str, by: float) -> None:
         x, y = self.place_of(selector)
         self.mouse('mousePressed', x, y, button='left', clickCount=1)
         for step in (0.5, 1):
             self.mouse('mouseMoved', x + by * step, y, button='left', buttons=1)
         self.mouse('mouseReleased', x + by, y, button='left', clickCount=1)
 
-    def wheel(self, selector, turned, modifiers=0):
+    def wheel(self, selector: str, turned: float, modifiers: int = 0) -> None:
         x, y = self.place_of(selector)
         self.mouse('mouseWheel', x, y, deltaX=0, deltaY=turned, modifiers=modifiers)
 
-    def press(self, key):
+    def press(self, key: str) -> None:
         code = KEYS.get(key, ord(key.upper()[0]))
         text = {} if key in KEYS else {'text': key}
         self.ask('Input.dispatchKeyEvent', type='keyDown', key=key, windowsVirtualKeyCode=code, **text)
         self.ask('Input.dispatchKeyEvent', type='keyUp', key=key, windowsVirtualKeyCode=code)
 
-    def resize(self, width, height):
+    def resize(self, width: int, height: int) -> None:
         self.ask('Emulation.setDeviceMetricsOverride', width=width, height=height, deviceScaleFactor=1, mobile=False)
 
-    def prefer(self, scheme):
+    def prefer(self, scheme: str) -> None:
         """Light or dark, as the reader's setting says."""
         self.ask('Emulation.setEmulatedMedia', features=[{'name': 'prefers-color-scheme', 'value': scheme}])
 
-    def picture(self, file):
+    def picture(self, file: str) -> int:
         """Writes what is shown as a PNG."""
         shown = base64.b64decode(self.ask('Page.captureScreenshot', format='png', optimizeForSpeed=False)['data'])
         with open(file, 'wb') as picture:

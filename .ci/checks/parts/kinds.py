@@ -1,4 +1,6 @@
 """The kinds of cases that can come: what each is read from, and which cases it has."""
+from collections.abc import Iterable
+
 from checks.parts.cases import LINES, SINK_LINES, SOURCE_LINES
 
 OF_LINKS = ('assist', 'apart', 'awrite', 'aserve', 'atell', 'aread', 'adrain', 'ashow')
@@ -42,23 +44,23 @@ WAITED = [str(it) for it in range(9)] + ['9 or more']
 UP_TO_2 = ('0', '1', '2', '3 or more')
 
 
-def each(names, others):
+def each(names: Iterable[str], others: Iterable[object]) -> list[str]:
     """Each name with each other."""
     return [f'{name}, {other}' for name in names for other in others]
 
 
-def many(name, numbers):
+def many(name: str, numbers: Iterable[object]) -> list[str]:
     """The name with each number."""
     return [f'{name} {number}' for number in numbers]
 
 
-def allowed():
+def allowed() -> list[str]:
     """The lines of a source in the phases in which they do something. Before the first event nothing is on the air."""
     return [f'{word}, {phase}' for phase, refused in REFUSED.items() for word in SOURCE_LINES
             if word not in refused and not (phase == 'started' and word in ON_AIR)]
 
 
-def refused_lines():
+def refused_lines() -> list[str]:
     return (each(['NoSuchSink'], SINK_LINES + ('relay',)) + each(['NoSuchLink'], OF_LINKS[1:])
             + each(['NothingWaiting'], ('serve', 'tell', 'read', 'aserve', 'atell', 'aread'))
             + each(['NoSuchBis'], ('bis', 'tuned', 'unit', 'hear', 'inject', 'sniff', 'relay'))
@@ -68,7 +70,7 @@ def refused_lines():
                'RecordsTooLong, pac', 'BaseTooLong, start', 'IdentTwice, start', 'RelayTaken, relay', 'Relayed, unit'])
 
 
-def bad_lines():
+def bad_lines() -> list[str]:
     """K and the first word of the line, for each word that may not fit, be missing or be too many."""
     found = ['0 other, none'] + [f'0 {word}, version 1' for word in VERSION_2]
     for word, count in LINES.items():
@@ -77,42 +79,42 @@ def bad_lines():
     return found + each(('9 add', '6 modify'), ('not fitting', 'missing')) + ['70 add, not fitting', '67 modify, not fitting']
 
 
-def bad_groups():
+def bad_groups() -> list[str]:
     either = [k for k in range(1, 14) if k not in (8, 9, 10)]
     return [f'{k} {framing}' for k in either for framing in FRAMINGS] + ['8 framed', '9 unframed', '10 unframed']
 
 
-def replies():
+def replies() -> list[str]:
     return (['Empty, none', 'Opcode, none', 'NoDecrypt, Code', 'Known, Add', 'NoRoom, Add', 'ValueTooLong, Modify', 'StillSynced, Remove']
             + each(('Rfu', 'BisTwice'), ('Add', 'Modify')) + each(['SourceUnknown'], ('Modify', 'Code', 'Remove'))
             + each(['ok'], [it for it in OPERATIONS if it != 'Code']) + each(['Length'], OPERATIONS))
 
 
-def places():
+def places() -> list[str]:
     """What is answered or done at each place of a sink."""
     return (each(('tuned', 'lose', 'NoBroadcastId', 'NotWanted', 'Known'), PLACES) + each(LATER_ANSWERS, PLACES[:2])
             + each(['OtherTrain'], PLACES[1:]) + each(('Left', 'MapIgnored'), PLACES[2:]) + each(['StillSynced'], HELD)
             + ['AlreadyOnGroup, on the group of a slot', 'a code is required'])
 
 
-def slots():
+def slots() -> list[str]:
     told = ('notice', 'read', 'state', 'view', 'anotice', 'aread', 'aview', 'forged', 'filled', 'emptied')
     return [f'{it} {slot}' for it in told for slot in range(8)] + many('no room in', (1, 4, 8))
 
 
-def links():
+def links() -> list[str]:
     return ([f'{it} {link}' for it in OF_LINKS for link in range(it in ('assist', 'apart'), 4)]
             + [f'{link} joined twice' for link in range(4)] + many('joined at once:', (2, 3, 4)) + ['parted', 'parted with a write'])
 
 
-def sinks():
+def sinks() -> list[str]:
     return (many('number', range(8)) + many('slots:', range(1, 9)) + many('living:', range(1, 9))
             + many('MTU', ('none', '23', '185', '517', 'of another number')) + each(['dropped'], PLACES)
             + ['a stream at most', 'some streams at most', '31 streams at most', 'tuned to a stream', 'tuned to some streams',
                'tuned to 31 streams', 'a number a second time', 'from one source to the other'])
 
 
-def groups():
+def groups() -> list[str]:
     numbers = (many('BN', range(1, 8)) + many('horizon', ('0', '1 to 14', '15', '16 to 29', '30')) + many('PHY', (0, 1))
                + ['k 1', 'k above 1', 'NSE 31', 'NSE below 31', '1 stream', '2 to 30 streams', '31 streams'])
     return each(FRAMINGS, numbers) + ['framed, k 0', 'unframed, a PDU a unit', 'unframed, several PDUs a unit']
@@ -123,7 +125,7 @@ STEP = 'a line of a scenario that is not refused'
 REPLY = 'a `reply` or `areply` line'
 DRAIN = 'the transcript of a `drain` or `adrain` line'
 
-KINDS = {
+KINDS: dict[str, tuple[str, Iterable[object]]] = {
     'lines of version 1': (STEP, [it for it in LINES if it not in VERSION_2]),
     'lines of version 2': (STEP, LINES),
     'printed lines': ('a line of a transcript', PRINTED),

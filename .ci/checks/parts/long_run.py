@@ -4,6 +4,7 @@ Each payload is sent three times, once an event ahead. Of most events a sink mis
 nothing for up to 12 events, or nothing of stream 2 for up to 5. Which, and the octets of the units, are drawn with the seed."""
 import random
 import sys
+from collections.abc import Iterator
 
 FRONT = ('scenario 1', 'group unframed 20000 40000 8 10000 100 100 2 1 3 2 1 600 1800 1', 'sink 0 2 1', 'sink 1 2 1', 'start 0',
          'tuned 0 1 2', 'tuned 1 1 2')
@@ -14,10 +15,10 @@ FADES, HALVES = 1 / 600, 1 / 900  # how often a sink begins to hear nothing, and
 class Ear:
     """What a sink hears, event by event."""
 
-    def __init__(self, sink, draws):
+    def __init__(self, sink: int, draws: random.Random):
         self.sink, self.draws, self.left, self.is_deaf = sink, draws, 0, False
 
-    def lines(self):
+    def lines(self) -> list[str]:
         if not self.left:
             drawn = self.draws.random()
             self.is_deaf = drawn < FADES
@@ -28,7 +29,7 @@ class Ear:
         return [f'air {self.sink} 1'] if self.is_deaf else [f'hear {self.sink} 0 1 {subevent}' for subevent in SUBEVENTS]
 
 
-def long_run(events=60000, seed=1, octets=100):
+def long_run(events: int = 60000, seed: int = 1, octets: int = 100) -> Iterator[str]:
     draws = random.Random(seed)
     ears = [Ear(sink, draws) for sink in (0, 1)]
     yield from FRONT
@@ -42,7 +43,7 @@ def long_run(events=60000, seed=1, octets=100):
     yield 'end'
 
 
-def main(words):
+def main(words: list[str]) -> int:
     if len(words) > 2 or not all(it.isascii() and it.isdigit() for it in words):
         print('usage: long_run.py [EVENTS [SEED]]', file=sys.stderr)
         return 2

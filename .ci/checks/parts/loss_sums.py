@@ -1,32 +1,36 @@
 """What is lost by sums, and by counts of another kind than the tools make: of copies, of bursts, of a period, of framed units. losses.py
 uses it."""
 import math
+import typing
+from collections.abc import Sequence
 
+Matrix = list[list[float]]
+Group = typing.Any  # of big_groups.py
 PHASES = 20000
 
 
-def copies_of(group):
+def copies_of(group: Group) -> list[int]:
     """When the copies of a payload are sent, by the anchor of its event, where BN is 1."""
     every = range(group.nse)
     return sorted(it * group.sub - max(0, it - group.irc + 1) * group.pto * group.interval for it in every)
 
 
-def of_copies(loss, copies, pdus=1):
+def of_copies(loss: float, copies: int, pdus: int = 1) -> float:
     """Independent losses: a unit of so many PDUs, each sent so often."""
     return 1 - (1 - loss ** copies) ** pdus
 
 
-def product(one, other):
+def product(one: Matrix, other: Matrix) -> Matrix:
     return [[sum(one[i][k] * other[k][j] for k in (0, 1)) for j in (0, 1)] for i in (0, 1)]
 
 
-def of_burst(numbers, times, length):
+def of_burst(numbers: Sequence[float], times: Sequence[int], length: int) -> float:
     """Two states: how likely all PDUs are lost which are sent at these times for so long, by the chain of two states. A PDU has the loss of
     the bad state where that holds at any moment while it is sent."""
     good, bad, good_time, bad_time = numbers[0], numbers[1], numbers[2] * 1000, numbers[3] * 1000
     of_good, of_bad = good_time / (good_time + bad_time), bad_time / (good_time + bad_time)
 
-    def moved(time):
+    def moved(time: float) -> Matrix:
         left = math.exp(-time * (1 / good_time + 1 / bad_time))
         return [[of_good + of_bad * left, of_bad * (1 - left)], [of_good * (1 - left), of_bad + of_good * left]]
     through, stays = moved(length), math.exp(-length / good_time)
@@ -37,7 +41,7 @@ def of_burst(numbers, times, length):
     return of_good * sum(all_lost[0]) + of_bad * sum(all_lost[1])
 
 
-def of_period(numbers, times, length):
+def of_period(numbers: Sequence[float], times: Sequence[int], length: int) -> float:
     """A period, in a part of which each PDU is lost: for which part of the moments at which it may begin all PDUs meet it."""
     loss, period, duty = numbers[0], numbers[1] * 1000, numbers[2]
     found = 0.0
@@ -48,9 +52,10 @@ def of_period(numbers, times, length):
     return found / PHASES
 
 
-def laid(group, units, events):
+def laid(group: Group, units: Sequence[int], events: int) -> list[list[int]]:
     """For each unit of a framed stream, of so many octets at so many times, the numbers of the PDUs that carry it."""
-    numbers, waiting, left = [[] for _ in units], 0, 0
+    numbers: list[list[int]] = [[] for _ in units]
+    waiting = left = 0
     for number in range(events * group.bn):
         anchor, room = group.origin + number // group.bn * group.interval, group.max_pdu
         while True:
@@ -70,9 +75,10 @@ def laid(group, units, events):
     return numbers
 
 
-def heard_numbers(group, text, sink, stream):
+def heard_numbers(group: Group, text: str, sink: int, stream: int) -> tuple[set[int], int]:
     """Which payload numbers of a stream a sink hears by the lines of a scenario."""
-    event, heard = -1, set()
+    event = -1
+    heard: set[int] = set()
     for line in text.split('\n'):
         words = line.split(' ')
         if words[0] == 'event':
@@ -84,12 +90,12 @@ def heard_numbers(group, text, sink, stream):
     return heard, event + 1
 
 
-def payload(group, event, subevent):
+def payload(group: Group, event: int, subevent: int) -> int:
     ahead = max(0, subevent // group.bn - group.irc + 1) * group.pto
     return (event + ahead) * group.bn + subevent % group.bn
 
 
-def of_framed(group, text, sink, stream):
+def of_framed(group: Group, text: str, sink: int, stream: int) -> tuple[int, int, int]:
     """How many framed units of a scenario are valid, lost and never begun."""
     heard, events = heard_numbers(group, text, sink, stream)
     times = [int(it.split(' ')[2]) for it in text.split('\n') if it.startswith(f'unit {stream} ')]

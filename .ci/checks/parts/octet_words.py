@@ -1,14 +1,25 @@
 """Octets that stand in the words of a scenario: operations, values of slots, advertising data, PDUs."""
-import collections
+import typing
+from collections.abc import Iterator
 
 ALL = 0xffffffff
+Pairs = list[tuple[int, bytes]]  # the BIS_Sync value and the metadata of each subgroup
+Train = tuple[str, str, str]  # the type of the address, SID and Broadcast_ID
 
 
-def octets(word):
+class Operation(typing.NamedTuple):
+    """What a line writes: its name, the train that it adds or the Source_ID that it names, PA_Sync, and its subgroups."""
+    name: str
+    key: Train | int
+    pa_sync: int = 0
+    pairs: Pairs | None = None
+
+
+def octets(word: str) -> bytes:
     return bytes.fromhex(word) if word != '-' else b''
 
 
-def structure(ads, kind, front=b''):
+def structure(ads: bytes, kind: int, front: bytes = b'') -> bytes | None:
     """The contents of the first AD structure of a type that begins so, or None."""
     while ads and ads[0]:
         if ads[1:2 + len(front)] == bytes([kind]) + front:
@@ -17,9 +28,10 @@ def structure(ads, kind, front=b''):
     return None
 
 
-def pairs_of(body):
+def pairs_of(body: bytes) -> Pairs | None:
     """The BIS_Sync values and metadata of an operation, or None."""
-    found, count, body = [], body[0] if body else 0, body[1:]
+    found: Pairs = []
+    count, body = body[0] if body else 0, body[1:]
     for _ in range(count):
         if len(body) < 5 or len(body) < 5 + body[4]:
             return None
@@ -28,27 +40,26 @@ def pairs_of(body):
     return None if body else found
 
 
-def operation(words):
-    """What a line writes: its name, the fields that count, and the wishes."""
+def operation(words: list[str]) -> Operation:
     if words[0] == 'add':
         pairs = [(int.from_bytes(octets(a), 'little'), octets(b)) for a, b in zip(words[8::2], words[9::2])]
-        return 'Add', (words[2], words[4], words[5].lower()), int(words[6]), pairs
+        return Operation('Add', (words[2], words[4], words[5].lower()), int(words[6]), pairs)
     if words[0] == 'modify':
         pairs = [(int.from_bytes(octets(a), 'little'), octets(b)) for a, b in zip(words[5::2], words[6::2])]
-        return 'Modify', int(words[2]), int(words[3]), pairs
+        return Operation('Modify', int(words[2]), int(words[3]), pairs)
     if words[0] in ('remove', 'code'):
-        return words[0].capitalize(), int(words[2]), 0, None
+        return Operation(words[0].capitalize(), int(words[2]))
     raw = octets(words[-1])
     if raw[:1] == b'\2' and len(raw) > 15:
-        return 'Add', (str(raw[1]), str(raw[8]), raw[9:12].hex()), raw[12], pairs_of(raw[15:])
+        return Operation('Add', (str(raw[1]), str(raw[8]), raw[9:12].hex()), raw[12], pairs_of(raw[15:]))
     if raw[:1] == b'\3' and len(raw) > 5:
-        return 'Modify', raw[1], raw[2], pairs_of(raw[5:])
+        return Operation('Modify', raw[1], raw[2], pairs_of(raw[5:]))
     names = ('Scan Stopped', 'Scan Started', 'Add', 'Modify', 'Code', 'Remove')
     name = names[raw[0]] if raw and raw[0] < 6 else 'none'
-    return name, raw[1] if len(raw) > 1 else 0, 0, None
+    return Operation(name, raw[1] if len(raw) > 1 else 0)
 
 
-def is_value(value):
+def is_value(value: bytes) -> bool:
     """Whether the octets are the value of a slot."""
     if not value:
         return True
@@ -58,10 +69,15 @@ def is_value(value):
     return pairs is not None and all(bits < 1 << 31 or bits == ALL for bits, _ in pairs)
 
 
-Segment = collections.namedtuple('Segment', 'starts is_complete offset part')
+class Segment(typing.NamedTuple):
+    """A segment of a framed PDU: whether it starts a unit and completes one, the time offset of a start, and its octets."""
+    starts: bool
+    is_complete: bool
+    offset: int | None
+    part: bytes
 
 
-def segments(payload):
+def segments(payload: bytes) -> Iterator[Segment]:
     """The segments of a framed PDU."""
     while len(payload) > 1:
         part, starts, is_complete = payload[2:2 + payload[1]], not payload[0] & 1, bool(payload[0] & 2)

@@ -1,14 +1,17 @@
 """Scenarios with their transcripts, from where they stand: the corpus, the worked rows in it, and the examples.
 
 corpus/README.md tells how a file of the corpus is written."""
-import concurrent.futures
+import dataclasses
 import glob
 import os
 import re
+from collections.abc import Iterable, Iterator
 
 from checks import TOP
-from checks import documents
+from checks.parts import document_forms
+from checks.parts.files import octets_of
 
+Steps = list[tuple[bytes | None, list[bytes]]]
 REPEATED = re.compile(r'\{([^{}]*)\*(\d+)\}')
 OCTET = re.compile(rb'\\x([0-9a-f]{2})')
 STEP = re.compile(r'(\d*)>(?: (.*))?')
@@ -27,30 +30,47 @@ OF_A_LINK = ('areply', 'anotice', 'aread', 'aview')
 OF_A_SINK = ('sum', 'heard', 'train', 'sink', 'reply', 'notice', 'read', 'state', 'view', 'forged') + OF_A_LINK
 
 
+@dataclasses.dataclass(frozen=True)
 class Scenario:
-    """A text, the words of the command line, what the program writes, and its exit status. `steps` are the lines of the text, each
-    with the lines of the transcript that it brings; None stands for no line at all. Those
-    before `counted_from` lead to the others and stand in another scenario too."""
+    """A text, the words of the command line, what the program writes, and its exit status, with where it stands. `steps` are the lines of
+    the text, each with the lines of the transcript that it brings; None stands for no line at all. Those before `counted_from` lead to the
+    others and stand in another scenario too."""
+    where: str
+    name: str
+    text: bytes
+    transcript: bytes
+    exit_code: int
+    words: list[str]
+    steps: Steps
+    counted_from: int = 0
 
-    def __init__(self, name, steps, exit_code, words=(), is_whole=True, is_ended=True, counted_from=0):
-        self.name, self.steps, self.exit_code, self.words = name, steps, exit_code, list(words)
-        self.counted_from = counted_from
-        self.text = b''.join(line + b'\n' for line, _ in steps if line is not None)
-        if not is_whole:
-            self.text = self.text[:-1]
-        self.transcript = b''.join(line + b'\n' for _, lines in steps for line in lines)
-        if not is_ended:
-            self.transcript = self.transcript[:-1]
+    @property
+    def title(self) -> str:
+        return f'{self.where}: {self.name}'
 
 
-def octets_of(line):
+def lines_of(lines: Iterable[bytes], is_whole: bool = True) -> bytes:
+    """The lines as a text, of which the last has no end where it isn't whole."""
+    text = b''.join(line + b'\n' for line in lines)
+    return text if is_whole else text[:-1]
+
+
+def text_in(steps: Steps, is_whole: bool = True) -> bytes:
+    return lines_of((line for line, _ in steps if line is not None), is_whole)
+
+
+def transcript_in(steps: Steps, is_whole: bool = True) -> bytes:
+    return lines_of((line for _, lines in steps for line in lines), is_whole)
+
+
+def plain(line: str) -> bytes:
     """A line of a corpus file without its repetitions and escapes."""
     return OCTET.sub(lambda it: bytes([int(it[1], 16)]), REPEATED.sub(lambda it: it[1] * int(it[2]), line).encode('ascii'))
 
 
-def is_of(step, printed):
+def is_of(step: bytes | None, printed: bytes) -> bool:
     """Whether the step may print the line: it has one of the kinds, and the sink and the link of the step."""
-    words, has = step.split(b' '), printed.split(b' ')
+    words, has = (step or b'').split(b' '), printed.split(b' ')
     word, kind = words[0].decode(errors='replace'), has[0].decode(errors='replace')
     if kind not in PRINTS.get(word, ()):
         return False
@@ -59,68 +79,97 @@ def is_of(step, printed):
     return kind not in OF_A_LINK or has[2:3] == words[2:3]
 
 
-def is_refusal(line):
+def is_refusal(line: bytes) -> bool:
     return re.fullmatch(rb'line \d+: [A-Za-z]+( \d+)?', line) is not None
 
 
-def corpus_file(path):
-    """The scenarios of a file of the corpus."""
-    name, steps, words, is_whole, is_ended = '', [], [], True, True
-    with open(path, encoding='utf-8') as file:
-        for place, line in enumerate(file, 1):
-            line = line.rstrip('\n')
-            step = STEP.fullmatch(line)
-            if line.startswith('## '):
-                name, steps, words, is_whole, is_ended = line[3:], [], [], True, True
-            elif not line or line.startswith('#'):
-                continue
-            elif line.startswith('$ '):
-                words = line[2:].split(' ')
-            elif line.startswith('exit '):
-                yield Scenario(name, steps, int(line[5:]), words, is_whole=is_whole, is_ended=is_ended)
-            elif line.startswith('! '):
-                refusal, _, last = line[2:].partition(': ')
-                number = len(steps) + 1
-                ends = [(octets_of(last), [b'line %d: %s' % (number, refusal.encode())])]
-                yield Scenario(f'{name}: {last[:40]}', steps + ends, 1, counted_from=len(steps))
-            elif step:
-                text = step[2] or ''
-                is_whole = not text.endswith('\\')
-                steps += [(octets_of(text.removesuffix('\\')), []) for _ in range(int(step[1] or 1))]
-            else:
-                many = MANY.fullmatch(line)
-                line = many[2] if many else line
-                is_ended = not line.endswith('\\')
-                printed = octets_of(line.removesuffix('\\'))
-                if not (words or is_refusal(printed) or steps and is_of(steps[-1][0], printed)):
-                    raise ValueError(f'{path}:{place}: the line above does not print this')
-                if not steps:
-                    steps.append((None, []))
-                steps[-1][1].extend([printed] * int(many[1] if many else 1))
+class Reader:
+    """Reads a file of the corpus, line by line."""
+
+    def __init__(self, where: str):
+        self.where = where
+        self.begin('')
+
+    def begin(self, name: str) -> None:
+        self.name, self.is_whole, self.is_ended = name, True, True
+        self.words: list[str] = []
+        self.steps: Steps = []
+
+    def ended(self, status: int) -> Scenario:
+        steps = self.steps_here()
+        return Scenario(self.where, self.name, text_in(steps, self.is_whole), transcript_in(steps, self.is_ended), status, self.words, steps)
+
+    def steps_here(self) -> Steps:
+        """The steps up to here, to which no row is added any more."""
+        return [(line, list(rows)) for line, rows in self.steps]
+
+    def refused(self, refusal: str, last: str) -> Scenario:
+        """The scenario up to here with one line more, which is refused."""
+        steps = self.steps_here() + [(plain(last), [b'line %d: %s' % (len(self.steps) + 1, refusal.encode())])]
+        return Scenario(self.where, f'{self.name}: {last[:40]}', text_in(steps), transcript_in(steps), 1, [], steps, len(self.steps))
+
+    def step(self, times: str, text: str) -> None:
+        self.is_whole = not text.endswith('\\')
+        self.steps += [(plain(text.removesuffix('\\')), []) for _ in range(int(times or 1))]
+
+    def printed(self, line: str) -> None:
+        many = MANY.fullmatch(line)
+        line = many[2] if many else line
+        self.is_ended = not line.endswith('\\')
+        printed = plain(line.removesuffix('\\'))
+        if not (self.words or is_refusal(printed) or self.steps and is_of(self.steps[-1][0], printed)):
+            raise ValueError(f'{self.where}: {self.name}: the line above does not print {line}')
+        if not self.steps:
+            self.steps.append((None, []))
+        self.steps[-1][1].extend([printed] * int(many[1] if many else 1))
+
+    def line(self, line: str) -> Scenario | None:
+        """Takes a line, and gives the scenario that it ends."""
+        step = STEP.fullmatch(line)
+        if line.startswith('## '):
+            self.begin(line[3:])
+        elif line.startswith('$ '):
+            self.words = line[2:].split(' ')
+        elif line.startswith('exit '):
+            return self.ended(int(line[5:]))
+        elif line.startswith('! '):
+            refusal, _, last = line[2:].partition(': ')
+            return self.refused(refusal, last)
+        elif step:
+            self.step(step[1], step[2] or '')
+        elif line and not line.startswith('#'):
+            self.printed(line)
+        return None
 
 
-def files_of(*folders):
+def files_of(folder: str) -> Iterator[Scenario]:
     """The scenarios of the files of a folder."""
-    for path in sorted(glob.glob(os.path.join(TOP, *folders, '*.txt'))):
-        for scenario in corpus_file(path):
-            yield os.path.basename(path), scenario
+    for path in sorted(glob.glob(os.path.join(TOP, folder, '*.txt'))):
+        reader = Reader(os.path.relpath(path, TOP))
+        with open(path, encoding='utf-8') as file:
+            for line in file:
+                if scenario := reader.line(line.rstrip('\n')):
+                    yield scenario
 
 
-def corpus():
+def corpus() -> Iterator[Scenario]:
     return files_of('corpus')
 
 
-def rows():
+def rows() -> Iterator[Scenario]:
     """The worked rows."""
-    return files_of('corpus', 'rows')
+    return files_of('corpus/rows')
 
 
-def steps_of(text, transcript):
+def steps_of(text: bytes, transcript: bytes) -> Steps:
     """The lines of a text, each with the lines of the transcript that it brings, as far as their kinds tell."""
-    slots, steps, printed = {}, [], transcript.split(b'\n')[:-1]
+    slots: dict[bytes, int] = {}
+    steps: Steps = []
+    printed = transcript.split(b'\n')[:-1]
     for line in text.removesuffix(b'\n').split(b'\n') if text else []:
         words = line.split(b' ')
-        word, taken = words[0].decode(errors='replace'), []
+        word = words[0].decode(errors='replace')
+        taken: list[bytes] = []
         if word == 'sink' and len(words) > 3:
             slots[words[1]] = int(words[3])
         kinds = [it.encode() for it in PRINTS.get(word, ())]
@@ -143,33 +192,40 @@ def steps_of(text, transcript):
     return steps
 
 
-def examples():
+def examples() -> Iterator[Scenario]:
     for path in sorted(glob.glob(os.path.join(TOP, 'examples', '*.scn'))):
-        with open(path, 'rb') as text, open(path[:-4] + '.out', 'rb') as transcript:
-            steps = steps_of(text.read(), transcript.read())
-            is_refused = any(is_refusal(line) for _, lines in steps for line in lines)
-            yield 'examples', Scenario(os.path.basename(path), steps, 1 if is_refused else 0)
+        text, transcript = octets_of(path), octets_of(path[:-4] + '.out')
+        yield Scenario('examples', os.path.basename(path), text, transcript, status_of(transcript), [], steps_of(text, transcript))
 
 
-def worked_documents():
-    """The documents of documents.py, of which no line is told, but what is written."""
-    for name, _, written in documents.FORMS:
-        lines = written.encode().splitlines()
-        yield 'documents.py', Scenario(name, [(None, lines)], int(documents.is_refused(written)), ['--toml'])
+def status_of(transcript: bytes) -> int:
+    """The exit status of a run that is done or refused."""
+    return int(any(map(is_refusal, transcript.splitlines())))
 
 
-def everything():
+def of_document(where: str, name: str, text: bytes, transcript: bytes) -> Scenario:
+    """A document, of which no line is told, but what is written."""
+    return Scenario(where, name, text, transcript, status_of(transcript), ['--toml'], [(None, transcript.splitlines())])
+
+
+def example_documents() -> Iterator[Scenario]:
+    for path in sorted(glob.glob(os.path.join(TOP, 'examples', '*.toml'))):
+        yield of_document('examples', os.path.basename(path), octets_of(path), octets_of(path[:-5] + '.out'))
+
+
+def worked_documents() -> Iterator[Scenario]:
+    for name, document, written in document_forms.FORMS:
+        text = document if isinstance(document, bytes) else document.encode()
+        yield of_document('documents', name, text, written.encode())
+
+
+def everything() -> Iterator[Scenario]:
     yield from rows()
     yield from examples()
     yield from corpus()
     yield from worked_documents()
 
 
-def each(found, difference, place=''):
-    """What differs of each of these scenarios, as many side by side as there are processors."""
-    with concurrent.futures.ThreadPoolExecutor(os.cpu_count()) as pool:
-        for (file, scenario), differs in zip(found, pool.map(lambda it: difference(it[1]), found)):
-            if differs:
-                yield f'{place}{file}: {scenario.name}: {differs}'
-    if not found:
-        yield 'there is no scenario'
+def plain_runs() -> Iterator[Scenario]:
+    """All that is a text of the language, which the tools can read: no word stands behind the program's name."""
+    return (it for it in everything() if not it.words and it.text)

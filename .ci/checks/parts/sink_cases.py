@@ -1,19 +1,29 @@
 """The cases of the lines that name a sink: its place, its slots, and what waits on its links."""
-from checks.parts.octet_words import is_value, octets, operation, structure
+import typing
+from collections.abc import Mapping
+
+from checks.parts.octet_words import Operation, is_value, octets, operation, structure
 
 LATE = ('NoBase', 'BadBase', 'NoBigInfo', 'BadBigInfo', 'BadGroup', 'NoneTaken')
+
+
+Words = list[str]
+Printed = list[Words]  # the rows that a line brings
+Place = tuple[str, int | None]  # idle, on a train or on a group; and the slot for which it is there: -1 for none that is known, None for none
 
 
 class Sink:
     """A sink: its links with their writes that wait, its slots by Source_ID, and its place."""
 
-    def __init__(self, words):
+    def __init__(self, words: Words):
         self.slots, self.mtu = int(words[3]), int(words[4]) if len(words) > 4 else None
-        self.links, self.held, self.place, self.source, self.framing = {0: []}, {}, ('idle', None), 0, None
-        self.records = 0
+        self.links: dict[int, list[Operation]] = {0: []}
+        self.held: dict[int, tuple[object, int, list[int]]] = {}  # the train of each slot, PA_Sync and the wanted streams of its subgroups
+        self.place: Place = ('idle', None)
+        self.source, self.framing, self.records = 0, '', 0
 
 
-def where(place):
+def where(place: Place) -> str:
     if place[0] == 'idle':
         return 'idle'
     return 'on the train' if place[0] == 'train' else 'on a group of no slot' if place[1] is None else 'on the group of a slot'
@@ -22,9 +32,20 @@ def where(place):
 class SinkCases:
     """The part of a walk that knows the sinks."""
 
+    def __init__(self) -> None:
+        self.sinks: dict[str, Sink] = {}
+        self.numbers: set[str] = set()
+        self.chosen = 0
+
+    def count(self, kind: str, name: object) -> None:
+        raise NotImplementedError
+
+    def count_those(self, kind: str, names: Mapping[str, bool]) -> None:
+        raise NotImplementedError
+
     # Sinks.
 
-    def do_sink(self, words, _source, _printed):
+    def do_sink(self, words: Words, _source: typing.Any, _printed: Printed) -> None:
         sink = self.sinks[words[1]] = Sink(words)
         self.count('sinks', f'number {words[1]}')
         self.count('sinks', f'slots: {sink.slots}')
@@ -35,32 +56,32 @@ class SinkCases:
             self.count('sinks', 'a number a second time')
         self.numbers.add(words[1])
 
-    def do_drop(self, words, _source, _printed):
+    def do_drop(self, words: Words, _source: typing.Any, _printed: Printed) -> None:
         self.count('sinks', f'dropped, {where(self.sinks.pop(words[1]).place)}')
 
-    def do_pac(self, words, _source, _printed):
+    def do_pac(self, words: Words, _source: typing.Any, _printed: Printed) -> None:
         sink = self.sinks[words[1]]
         sink.records += 1
         if sink.records == 73:
             self.count('greatest numbers', '73 records')
 
-    def of_source(self, sink, framing):
+    def of_source(self, sink: Sink, framing: str) -> None:
         if sink.framing and sink.source != self.chosen:
             self.count('sinks', 'from one source to the other')
         sink.source, sink.framing = self.chosen, framing
 
-    def do_tuned(self, words, source, _printed):
+    def do_tuned(self, words: Words, source: typing.Any, _printed: Printed) -> None:
         sink = self.sinks[words[1]]
         self.count('places', f'tuned, {where(sink.place)}')
         self.count('sinks', f'tuned to {"a stream" if len(words) == 3 else "31 streams" if len(words) == 33 else "some streams"}')
         sink.place = ('group', None)
-        self.of_source(sink, source.group[1])
+        self.of_source(sink, source.framing)
 
-    def do_lose(self, words, _source, _printed):
+    def do_lose(self, words: Words, _source: typing.Any, _printed: Printed) -> None:
         self.count('places', f'lose, {where(self.sinks[words[1]].place)}')
         self.sinks[words[1]].place = ('idle', None)
 
-    def do_control(self, words, _source, printed):
+    def do_control(self, words: Words, _source: typing.Any, printed: Printed) -> None:
         sink, answer = self.sinks[words[1]], ' '.join(printed[0][2:])
         self.count('answers to a control PDU', answer)
         if answer in ('Left', 'MapIgnored'):
@@ -68,17 +89,17 @@ class SinkCases:
         if answer == 'Left':
             sink.place = ('train', sink.place[1]) if sink.place[1] is not None else ('idle', None)
 
-    def do_announce(self, words, source, printed):
+    def do_announce(self, words: Words, source: typing.Any, printed: Printed) -> None:
         self.train(words, source, printed[0][3:6], printed[1])
         has = source.numbers()
         number = source.first + source.performed
         if (number + 1) * has['bn'] >= 1 << 39:
-            self.count('the payload counter', f'the last train, {has["framing"]}')
+            self.count('the payload counter', f'the last train, {source.framing}')
 
-    def do_train(self, words, source, printed):
+    def do_train(self, words: Words, source: typing.Any, printed: Printed) -> None:
         self.train(words, source, words[3:6], printed[0])
 
-    def train(self, words, source, parts, printed):
+    def train(self, words: Words, source: typing.Any, parts: Words, printed: Words) -> None:
         sink, answer = self.sinks[words[1]], printed[2]
         self.count(f'answers to {words[0]}', answer)
         self.count('places', f'{answer}, {where(sink.place)}')
@@ -87,7 +108,7 @@ class SinkCases:
         if answer == 'OnGroup':
             self.count('streams taken', '31' if len(printed) == 34 else '1' if len(printed) == 4 else '2 or more')
         if answer in LATE + ('OnGroup',):
-            key = (source.ident[0], source.ident[1], structure(octets(parts[0]), 0x16, b'\x52\x18')[:3].hex())
+            key = (source.ident[0], source.ident[1], (structure(octets(parts[0]), 0x16, b'\x52\x18') or b'')[:3].hex())
             wanted = [source_id for source_id, held in sink.held.items() if held[0] == key and held[1]]
             sink.place = ('group' if answer == 'OnGroup' else 'train', wanted[0] if wanted else -1)
             info = structure(octets(parts[2]), 0x2c) or b''
@@ -97,7 +118,7 @@ class SinkCases:
 
     # Links.
 
-    def links(self, words, printed):
+    def links(self, words: Words, printed: Printed) -> None:
         sink = self.sinks[words[1]]
         is_linked = words[0] in ('assist', 'apart', 'awrite', 'aserve', 'atell', 'aread', 'adrain', 'ashow')
         link = int(words[2]) if is_linked else 0
@@ -110,14 +131,13 @@ class SinkCases:
             self.count('links', 'parted with a write' if sink.links.pop(link) else 'parted')
         elif words[0] in ('write', 'awrite', 'add', 'modify', 'remove', 'code'):
             sink.links[link].append(operation(words))
-            pairs = sink.links[link][-1][3] or ()
-            if len(pairs) == 99:
+            if len(sink.links[link][-1].pairs or ()) == 99:
                 self.count('greatest numbers', '99 subgroups of a write')
             waiting = len(sink.links[link])
             self.count('writes that wait', waiting if waiting < 9 else '9 or more')
             if words[0] in ('add', 'modify'):
-                pairs = (len(words) - (8 if words[0] == 'add' else 5)) // 2
-                self.count('subgroups wanted', pairs if pairs < 3 else '31' if pairs == 31 else '3 to 30')
+                count = (len(words) - (8 if words[0] == 'add' else 5)) // 2
+                self.count('subgroups wanted', count if count < 3 else '31' if count == 31 else '3 to 30')
         if words[0] == 'forge':
             self.forge(sink, int(words[2]), octets(words[3]), ' '.join(printed[0][2:]))
         for has in printed:
@@ -132,7 +152,7 @@ class SinkCases:
                 if many > 8 or many == 8 and kind == 'read':
                     self.count('long drains', f'{words[0]}: {"more than eight " if many > 8 else "eight "}{name}')
 
-    def told(self, sink, link, has):
+    def told(self, sink: Sink, link: int, has: Words) -> None:
         kind = has[0]
         if kind in ('reply', 'areply') and sink.links[link]:
             self.reply(sink, sink.links[link].pop(0), has[-1])
@@ -148,7 +168,7 @@ class SinkCases:
                 edge = 'no MTU' if sink.mtu is None else 'at MTU - 3' if len(value) >= sink.mtu - 3 else 'below MTU - 3'
                 self.count('notices', edge)
 
-    def forge(self, sink, slot, value, answer):
+    def forge(self, sink: Sink, slot: int, value: bytes, answer: str) -> None:
         self.count('answers to forge', answer)
         if slot < sink.slots:
             self.count('slots', f'forged {slot}')
@@ -160,7 +180,7 @@ class SinkCases:
         elif over == -1:
             self.count('forged values', f'MTU - 4, {"a state" if is_value(value) else "no state"}')
 
-    def reply(self, sink, op, cause):
+    def reply(self, sink: Sink, op: Operation, cause: str) -> None:
         name, key, pa_sync, pairs = op
         self.count('replies', cause)
         self.count('replies to an operation', f'{cause}, {name}')
@@ -176,9 +196,9 @@ class SinkCases:
             self.count('slots', f'filled {source_id}')
             self.count('PA_Sync', f'Add {pa_sync}')
         elif name == 'Remove':
-            sink.held.pop(key, None)
+            sink.held.pop(typing.cast(int, key), None)
             self.count('slots', f'emptied {key}')
-        elif name == 'Modify' and key in sink.held:
+        elif name == 'Modify' and isinstance(key, int) and key in sink.held:
             wishes = [bits for bits, _ in pairs or ()]
             here = where(sink.place) if sink.place[1] == key else 'elsewhere'
             same = 'the same streams' if wishes == sink.held[key][2] else 'others'
