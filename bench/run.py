@@ -36,7 +36,7 @@ def words_of():
     words.programs = [os.path.abspath(it) for it in words.programs]
     for program in words.programs:
         if not words.text and not os.access(program, os.X_OK):
-            parser.error(f'{program} is no program; ./replay builds that of a repository')
+            parser.error(f'{program} is no program; ./prove builds that of a repository')
     return words
 
 

@@ -319,7 +319,10 @@ def others(reached):
             print(file)
 
 
-def main(words):
+def main(words: list[str]) -> None:
+    if words in (['-h'], ['--help']):
+        print(__doc__)
+        return
     if words not in ([], ['--check'], ['--write'], ['--others']):
         print(__doc__, file=sys.stderr)
         sys.exit(2)

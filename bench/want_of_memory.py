@@ -42,7 +42,10 @@ def tried(path, allocator):
         number += 1
 
 
-def main():
+def main() -> int:
+    if sys.argv[1:] in (['-h'], ['--help']):
+        print(__doc__)
+        return 0
     stored = [os.path.join(TOP, 'examples', '*.scn'), os.path.join(CRATE, 'stdin')]
     for path in sys.argv[1:]:
         if not os.path.isfile(path):

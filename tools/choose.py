@@ -75,8 +75,8 @@ def words_of(words):
     parser.add_argument('--shard', metavar='K/N', type=shard, help='makes the runs of part K of N alone, with --keep')
     parser.add_argument('--merge', metavar='FILE', nargs='+', help='takes the runs that --keep wrote, and makes none')
     parser.add_argument('--settings', action='store_true', help='prints the settings of LC3, and does nothing else')
-    parser.add_argument('--program', help='the program replay; else ./replay')
-    parser.add_argument('--explain', help='the program explain; else ./explain')
+    parser.add_argument('--program', help='the program replay; else the one that ./prove built')
+    parser.add_argument('--explain', help='the program explain; else the one that ./prove built')
     asked = parser.parse_args(words)
     of_sweep = ('setting', 'framed', 'streams', 'phy', 'packing', 'delay', 'seconds', 'runs', 'shard', 'confidence', 'keep',
                 *loss_words.NUMBERS)
@@ -107,18 +107,23 @@ def sweep_of(asked):
                             asked.confidence or 0.95)
 
 
-def program_of(named, name):
-    """A program: the one that is named, or the built one, which its script in the repository brings up to date first."""
-    if named:
-        return os.path.abspath(named)
+def is_script(path: str) -> bool:
+    with open(path, 'rb') as file:
+        return file.read(2) == b'#!'
+
+
+def program_of(named: str | None, name: str) -> str:
+    """A program: the one that is named, the one that lies where the script of its name does, or the one that ./prove built of the files as
+    they are. It has to be proved, since a sweep makes many runs."""
     script, built = os.path.join(TOP, name), os.path.join(TOP, 'crates', f'{name}_command', 'out', f'{name}_command')
-    try:
-        done = subprocess.run([script], input=b'scenario 2\nend\n', stdout=subprocess.DEVNULL, check=False)
-    except OSError as error:
-        raise sweep_runs.SweepFault(f'{script}: {error}') from error
+    if named or not is_script(script):
+        return os.path.abspath(named or script)
+    done = subprocess.run([sys.executable, os.path.join(TOP, 'tools', 'build.py'), name, 'state'], stdin=subprocess.DEVNULL,
+                          stdout=subprocess.PIPE, text=True, check=False)
     if done.returncode:
-        raise sweep_runs.SweepFault(f'{script} ends with {done.returncode}')
-    return built if os.path.exists(built) else script
+        why = done.stdout.strip().removeprefix('unproved run').lstrip(',; ')
+        raise sweep_runs.SweepFault(f'{name} is not proved and built of the files as they are: {why or "the Rattle kit is not here"}')
+    return built
 
 
 def programs_of(asked, sweep):
