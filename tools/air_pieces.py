@@ -59,7 +59,7 @@ class Pieces:
                 if word in OF_SOURCES or self.is_relayed and word not in PRINTING_ALONE and not word.startswith(b'#') and word:
                     yield line + b'\n'
 
-    def write(self, file: typing.BinaryIO, done: int) -> int:
+    def write(self, file: typing.IO[bytes], done: int) -> int:
         """Writes the text of a run in which the PDUs behind the first `done` are sniffed, and gives behind how many it ends."""
         size = passed = chosen = 0
         for line in self.kept_lines():

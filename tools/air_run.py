@@ -82,7 +82,7 @@ class Spread:
 class Run:
     """What the steps did, so far."""
 
-    def __init__(self):
+    def __init__(self) -> None:
         self.sources, self.chosen = [Source(0), Source(1)], 0
         self.heard_in: dict[tuple[int, int], array] = defaultdict(lambda: array('I'))
         self.printed: list[dict] = [{}, {}]  # of each source the PDUs of `sniff` lines by their places
@@ -91,8 +91,11 @@ class Run:
         self.control_of: dict[tuple[int, bytes], Control] = {}  # the first one with these octets
         self.injected: list[Injected] = []
         self.links: dict[tuple[str, str], Link] = {}
-        self.sinks, self.waiting, self.source_of = {}, defaultdict(deque), {}
-        self.spread, self.left_out, self.connections, self.is_relayed, self.lines = Spread(), Counter(), 0, False, 0
+        self.sinks: dict[str, tuple[int, int | None]] = {}
+        self.waiting: defaultdict[tuple[str, str], deque[bytes]] = defaultdict(deque)
+        self.source_of: dict[str, Source] = {}
+        self.left_out: Counter[str] = Counter()
+        self.spread, self.connections, self.is_relayed, self.lines = Spread(), 0, False, 0
 
     def take(self, step: run_reading.Step):
         """Takes the next step. One that isn't possible behind those before it is a fault."""
@@ -303,7 +306,7 @@ class Air:
             self.run.left_out[NO_ROOM] += pieces.left
 
     def stream_packets(self, source: Source) -> Iterator[Packet]:
-        together = []
+        together: list[Pdu] = []
         for pdu in self.pdus(source):
             if together and together[0].event != pdu.event:
                 yield from self.event_packets(source, together)
@@ -376,7 +379,7 @@ def write_run(scenario: str, capture: str, program: str, transcript: str | None,
     with contextlib.closing(Run()) as run, run_reading.at_rest(scenario) as path, contextlib.ExitStack() as files:
         if transcript is None:
             text = files.enter_context(open(path, 'rb'))
-            rows = files.enter_context(contextlib.closing(run_reading.program_rows(program, text)))
+            rows: Iterable[str] = files.enter_context(contextlib.closing(run_reading.program_rows(program, text)))
         else:
             rows = run_reading.rows_in(run_reading.text_of(files.enter_context(open(transcript, 'rb'))))
         refusal = read_run(run, path, rows)

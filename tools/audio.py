@@ -4,7 +4,6 @@
 The first codes a WAV by LC3 and makes its frames the units of a scenario. The second takes what sinks handed up when `replay` ran it,
 conceals what was lost as an LC3 decoder does, and writes that as a WAV. README.md in this folder tells more."""
 import argparse
-import os
 import re
 import sys
 

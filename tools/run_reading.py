@@ -8,7 +8,7 @@ import subprocess
 import tempfile
 import typing
 from collections import deque
-from collections.abc import Iterable, Iterator
+from collections.abc import Generator, Iterable, Iterator
 
 import printed_rows
 
@@ -36,7 +36,8 @@ class Ahead:
     """Items that are taken from the front, and of which those behind it can be seen before."""
 
     def __init__(self, items: Iterable):
-        self.items, self.seen = iter(items), deque()
+        self.items = iter(items)
+        self.seen: deque[typing.Any] = deque()
 
     def peek(self, place=0):
         """The item at this place from the front, or None behind the last one."""
@@ -60,7 +61,8 @@ class Reading:
         self.lines, self.rows = Ahead(steps_among(lines)), Ahead(rows)
         self.waiting: dict[tuple[str, str], int] = {}  # of each link the writes that wait
         self.refusal: str | None = None
-        self.last, self.is_ended, self.sinks = 0, False, set()
+        self.last, self.is_ended = 0, False
+        self.sinks: set[str] = set()
 
     def __iter__(self) -> Iterator[Step]:
         while (line := self.lines.peek()) is not None and not self.is_refused(line[0], self.rows.peek()):
@@ -135,7 +137,8 @@ class Reading:
     def drained(self, words: list[str], replies: int) -> Iterator[list[str]]:
         """The rows of a drain. Those that follow may be of later lines, as of a `tell`, which are then refused without them."""
         replied = self.run(words, 'reply', 0, replies)
-        counts, failed = self.counts(words, replied), set()
+        counts = self.counts(words, replied)
+        failed: set[typing.Any] = set()
         fitting = (it for it in counts if len(counts) == 1 or self.fits(0, replied + it, self.waiting, failed))
         for _ in range(replied + next(fitting, 0)):
             row = self.row_of(words, printed_rows.KINDS)
@@ -242,12 +245,12 @@ def rows_in(file: Iterable[str]) -> Iterator[str]:
         yield row[:-1]
 
 
-def text_of(file: typing.BinaryIO) -> Iterable[str]:
+def text_of(file: typing.IO[bytes]) -> Iterable[str]:
     """The lines of a file, with their line ends."""
     return (line.decode(OCTETS) for line in file)
 
 
-def program_rows(program: str, text: typing.BinaryIO) -> Iterator[str]:
+def program_rows(program: str, text: typing.IO[bytes]) -> Generator[str, None, None]:
     """The rows that the program writes for a text, as they come."""
     with tempfile.TemporaryFile() as told:
         try:
@@ -255,6 +258,7 @@ def program_rows(program: str, text: typing.BinaryIO) -> Iterator[str]:
         except (OSError, ValueError) as error:
             raise RunFault(f'{program}: {getattr(error, "strerror", None) or error}') from error
         with process:
+            assert process.stdout
             try:
                 yield from rows_in(text_of(process.stdout))
             except BaseException:

@@ -15,10 +15,10 @@ import types
 import typing
 
 from checks import TOP
-from checks.parts.steps import TOOLS, Step, Tool
+from checks.parts.steps import TOOLS, Step, Tool, python_with
 
-STEPS = ('trust', 'scripts', 'examples', 'corpus', 'coverage', 'rows', 'ends', 'documents', 'explained', 'allocations', 'in_turn', 'pieces',
-         'timeline', 'pages', 'transcript_rows', 'captures', 'audio', 'losses', 'doc_commands', 'bent_inputs', 'comparison')
+STEPS = ('trust', 'scripts', 'lint', 'examples', 'corpus', 'coverage', 'rows', 'ends', 'documents', 'explained', 'allocations', 'in_turn',
+         'pieces', 'timeline', 'pages', 'transcript_rows', 'captures', 'audio', 'losses', 'doc_commands', 'bent_inputs', 'comparison')
 USAGE = 'usage: check [NAME [PROGRAM ..] [OPTION ..] | --list | --help | --version]'
 HELP = f"""{USAGE}
 
@@ -60,14 +60,6 @@ def parsed(step: Step, words: list[str]) -> dict[str, typing.Any]:
     return asked
 
 
-def python_with_scapy() -> str | None:
-    """The first python3 that has scapy: Debian's package serves Debian's own, which need not be the first on the path."""
-    for python in (sys.executable, '/usr/bin/python3'):
-        if os.path.exists(python) and not subprocess.run([python, '-c', 'import scapy'], capture_output=True, check=False).returncode:
-            return python
-    return None
-
-
 def tell_skipped(step: Step, lacking: list[Tool], part: str = '') -> None:
     for it in lacking:
         print(f'skipped: {part}{step.name}, since {it.lack} (apt-get install {it.packages})')
@@ -77,8 +69,7 @@ def run(step: Step, words: list[str]) -> int:
     """Runs a step, and tells how it ends."""
     asked = parsed(step, words)
     if 'scapy' in step.needs + step.wants and not TOOLS['scapy'].is_there():
-        python = python_with_scapy()
-        if python:
+        if python := python_with('scapy'):
             os.execv(python, [python, os.path.join(TOP, '.ci', 'check'), step.name, *words])
     if lacking := step.missing(step.needs):
         tell_skipped(step, lacking)

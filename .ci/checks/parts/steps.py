@@ -1,8 +1,12 @@
 """What a step is, and which tools it may need."""
 import dataclasses
+import functools
 import importlib.util
 import inspect
+import os
 import shutil
+import subprocess
+import sys
 import typing
 from collections.abc import Callable, Generator
 
@@ -24,6 +28,15 @@ def has_all(*names: str) -> Callable[[], bool]:
     return lambda: all(map(shutil.which, names))
 
 
+@functools.cache
+def python_with(module: str) -> str | None:
+    """The first python3 that has a module: Debian's packages serve Debian's own, which need not be the first on the path."""
+    for python in (sys.executable, '/usr/bin/python3'):
+        if os.path.exists(python) and not subprocess.run([python, '-c', f'import {module}'], capture_output=True, check=False).returncode:
+            return python
+    return None
+
+
 CHROMIUM = ('chromium', 'chromium-browser', 'google-chrome')
 TOOLS = {
     'scapy': Tool('no python3 here has scapy', 'python3-scapy', lambda: importlib.util.find_spec('scapy') is not None),
@@ -31,6 +44,9 @@ TOOLS = {
     'chromium': Tool('no Chromium is here', 'chromium', has_any(*CHROMIUM)),
     'cc': Tool('cc, a compiler for C, is missing', 'gcc libc6-dev', has_any('cc')),
     'lc3': Tool('elc3 and dlc3 are missing', 'liblc3-tools', has_all('elc3', 'dlc3')),
+    'mypy': Tool('no python3 here has mypy', 'python3-mypy', lambda: python_with('mypy') is not None),
+    'pyflakes': Tool('no python3 here has pyflakes', 'python3-pyflakes', lambda: python_with('pyflakes') is not None),
+    'shellcheck': Tool('shellcheck is missing', 'shellcheck', has_any('shellcheck')),
 }
 
 
