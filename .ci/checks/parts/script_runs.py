@@ -90,6 +90,21 @@ def proved(copy: Copy) -> typing.Iterator[str | None]:
     yield differs('replay after the change was taken back', ran, 0, b'proved: \n' + TEXT)
 
 
+def tried(copy: Copy) -> typing.Iterator[str | None]:
+    """./try on files, beside built programs."""
+    for name in ('one', 'two'):
+        write(copy.path(name), TEXT.decode())
+    ran = copy.run('try', copy.path('one'), STATUS='1')
+    yield differs('try of a file', ran, 1, b'tried: --\n' + TEXT, b'unproved run, though the program is proved')
+    ran = copy.run('try', copy.path('one'), copy.path('two'))
+    yield differs('try of two files', ran, 0, None, b'nothing is proved')
+    if not ran.stdout.startswith(b'tried: --cases '):
+        yield f'try of two files: {ran.stdout!r}'
+    ran = copy.run('try', copy.path('one'), copy.path('two'), STATUS='6')
+    yield differs('try of two files, of which one has no answer', ran, CANNOT, None, b'1 MiB')
+    yield differs('try of no file', copy.run('try', copy.path('one'), copy.path('none')), USAGE, b'', b'no file that can be read')
+
+
 def held(copy: Copy) -> typing.Iterator[str | None]:
     """What a test run that holds its lock keeps from being built or removed; programs run unproved meanwhile."""
     for name in NAMES:
@@ -119,5 +134,5 @@ def slimmed(copy: Copy) -> typing.Iterator[str | None]:
 
 def faults(folder: str) -> typing.Iterator[str]:
     copy = Copy(folder)
-    for part in (unproved, reads_and_writes, proved, held, slimmed):
+    for part in (unproved, reads_and_writes, proved, tried, held, slimmed):
         yield from filter(None, part(copy))
