@@ -37,16 +37,12 @@ VARYING = [
 
 
 def prepared(folder: str, programs: dict[str, str]) -> None:
-    """The folder has what stands at the top of the repository, with the programs in the place of the scripts that would build them. The
-    words that only a script answers go to the script."""
+    """The folder has what stands at the top of the repository, with the programs in the place of the scripts of their names."""
     for name in os.listdir(TOP):
         if not name.startswith('.') and name not in programs:
             os.symlink(os.path.join(TOP, name), os.path.join(folder, name))
     for name, program in programs.items():
-        path = os.path.join(folder, name)
-        with open(path, 'w', encoding='utf-8') as file:
-            file.write(f'#!/bin/sh\ncase ${{1:-}} in -h | --help | --version) exec "{TOP}/{name}" "$@" ;; esac\nexec "{program}" "$@"\n')
-        os.chmod(path, 0o755)
+        os.symlink(program, os.path.join(folder, name))
 
 
 def constant(text: str) -> str:
@@ -73,11 +69,9 @@ def ran(block: Block, folder: str) -> tuple[int, str]:
     return done.returncode, done.stdout
 
 
-def by_hand(block: Block) -> str | None:
-    """What is wrong with a block that isn't run, or None."""
-    if any(block.text.startswith(it) for it in BY_HAND):
-        return None
-    return f'line {block.line}: {block.text[:60]!r} is by hand, and .ci/checks/doc_commands.py has no reason'
+def reason_of(block: Block) -> str | None:
+    """The entry of BY_HAND that says why a block isn't run, or None."""
+    return next((it for it in BY_HAND if block.text.startswith(it)), None)
 
 
 def part_of(block: Block, path: str) -> str | None:
@@ -89,12 +83,14 @@ def part_of(block: Block, path: str) -> str | None:
 
 
 class Document:
-    """A document, which is run block by block. `faults` has what is wrong, `now` its text with what the commands print."""
+    """A document, which is run block by block. `faults` has what is wrong, `now` its text with what the commands print, and `reasons` the
+    entries of BY_HAND that it needs."""
 
     def __init__(self, path: str, programs: dict[str, str]):
         self.path, self.programs = path, programs
         self.faults: list[str] = []
-        self.count, self.skipped, self.pages = 0, set[str](), 0
+        self.reasons: set[str] = set()
+        self.count = self.pages = 0
         with open(os.path.join(TOP, path), encoding='utf-8') as file:
             self.text = self.now = file.read()
 
@@ -116,7 +112,9 @@ class Document:
         return self
 
     def run_in(self, folder: str, blocks: list[Block]) -> None:
-        pieces, place, printed = [], 0, None
+        pieces: list[str] = []
+        printed: str | None = None
+        place = 0
         for block in blocks:
             if block.language == 'sh':
                 printed = self.commands(block, folder)
@@ -140,11 +138,12 @@ class Document:
     def commands(self, block: Block, folder: str) -> str | None:
         """What the commands of a block print; None where they aren't run, or don't end as they should."""
         if 'by-hand' in block.words:
-            if wrong := by_hand(block):
-                self.fault(wrong)
+            if reason := reason_of(block):
+                self.reasons.add(reason)
+            else:
+                self.fault(f'line {block.line}: {block.text[:60]!r} is by hand, and .ci/checks/doc_commands.py has no reason')
             return None
         if 'needs' in block.words and not TOOLS[block.words['needs']].is_there():
-            self.skipped.add(block.words['needs'])
             return None
         self.count += 1
         wanted = int(block.words.get('status', '0'))
@@ -163,8 +162,8 @@ def paths(named: str) -> Iterator[str]:
 @step(seconds=90, wants=('chromium', 'lc3'))
 def check(replay: str, explain: str, document: str = '', write: bool = False) -> Faults:
     """Each command of README.md and of docs/ is run from the document's own text, in a folder of its own, and prints what stands behind it
-    there; the pages that they make are opened in a Chromium, and their links lead somewhere. CONTRIBUTING.md has the words of a block. --document
-    PATH leaves the other documents out, and --write puts what is printed in the place of what differs."""
+    there; the pages that they make are opened in a Chromium, and their links lead somewhere. CONTRIBUTING.md has the words of a block.
+    --document PATH leaves the other documents out, and --write puts what is printed in the place of what differs."""
     programs = {'replay': replay, 'explain': explain}
     found = [Document(it, programs) for it in paths(document)]
     with concurrent.futures.ThreadPoolExecutor(os.cpu_count()) as pool:
@@ -173,4 +172,7 @@ def check(replay: str, explain: str, document: str = '', write: bool = False) ->
             if write and it.now != it.text:
                 with open(os.path.join(TOP, it.path), 'w', encoding='utf-8') as file:
                     file.write(it.now)
+    if not document:
+        unused = BY_HAND.keys() - {reason for it in found for reason in it.reasons}
+        yield from (f'no document has a block by hand that begins with {it!r}' for it in sorted(unused))
     return f'{sum(it.count for it in found)} blocks of commands in {len(found)} documents, which make {sum(it.pages for it in found)} pages'

@@ -4,7 +4,7 @@ from collections.abc import Iterator
 
 FENCE = '```'
 # For each language the words that may follow it; one that ends with `=` has a value.
-WORDS = {
+WORDS: dict[str, tuple[str, ...]] = {
     'sh': ('by-hand', 'status=', 'needs='),
     'text': ('figure', 'of=', 'file='),
     'toml': ('file=', 'of='),
@@ -47,7 +47,8 @@ def info_of(line: str, number: int) -> tuple[str, dict[str, str]]:
 
 def blocks_of(text: str) -> Iterator[Block]:
     """The blocks in their order. A block of text without words has to stand behind one of commands."""
-    at, opened, has_commands = 0, None, False
+    opened: tuple[str, dict[str, str], int, int] | None = None
+    at, has_commands = 0, False
     for number, line in enumerate(text.splitlines(keepends=True), 1):
         if opened is not None and line.rstrip() == FENCE:
             language, words, begun, begin = opened
