@@ -26,7 +26,7 @@ import time
 
 sys.dont_write_bytecode = True
 from crate_sums import PROGRAMS, SPEAKER, TOP, Kept, built_file, in_order, listed, program_file, write  # noqa: E402
-from kit_rt import CANNOT, is_tested, kit, load, put_back, say, stop_where_tested  # noqa: E402
+from kit_rt import is_tested, kit, load, put_back, say, stop_where_tested  # noqa: E402
 from proof_lanes import SAID, by_lanes  # noqa: E402
 from proof_times import Times, told  # noqa: E402
 

@@ -8,6 +8,7 @@ import os
 import re
 import subprocess
 import sys
+import typing
 
 sys.dont_write_bytecode = True
 TOP = os.path.dirname(os.path.dirname(os.path.realpath(__file__)))
@@ -15,15 +16,28 @@ LANGUAGE, EXPLAINED = 'docs/scenario-language.md', 'docs/explain.md'
 # what roff has in the place of signs that mean something to it, the backslash first
 SIGNS = (('\\', '\\e'), ('-', '\\-'), ('^', '\\(ha'), ('~', '\\(ti'), ("'", '\\(aq'), ('`', '\\(ga'))
 HEADING = re.compile('^(##+) +(.*)')
-# of each page its section, what it is for, how it is called, and the sections of documents that it has, with None for what stands first
+
+
+class Page(typing.NamedTuple):
+    """A page: its section, what it is for, how it is called, and the sections of documents that it has. Of these None is what stands first,
+    and * is all."""
+    number: int
+    what: str
+    synopsis: str
+    parts: list[tuple[str, str | None]]
+    also: str
+
+
 PAGES = {
-    'replay': (1, 'runs a scenario of LE Audio broadcasts, and writes its transcript',
-               '.B replay\n[\n.B \\-\\-migrate\n|\n.B \\-\\-toml\n|\n.BI \\-\\-seed\\  N\n.BI \\-\\-events\\  M\n] <\n.I scenario',
-               [(LANGUAGE, 'The words of the command line'), (LANGUAGE, 'How `replay` ends')], 'explain (1), scenario (5)'),
-    'explain': (1, 'tells each line of a scenario of LE Audio broadcasts, what it brings, and why',
-                '.B explain\n[\n.B \\-\\-toml\n] <\n.I scenario',
-                [(EXPLAINED, None), (EXPLAINED, 'What the notes tell'), (EXPLAINED, 'Units and PDUs')], 'replay (1), scenario (5)'),
-    'scenario': (5, 'the lines of a scenario, what they print, and documents in TOML', '', [(LANGUAGE, '*')], 'replay (1), explain (1)'),
+    'replay': Page(
+        1, 'runs a scenario of LE Audio broadcasts, and writes its transcript',
+        '.B replay\n[\n.B \\-\\-migrate\n|\n.B \\-\\-toml\n|\n.BI \\-\\-seed\\  N\n.BI \\-\\-events\\  M\n] <\n.I scenario',
+        [(LANGUAGE, 'The words of the command line'), (LANGUAGE, 'How `replay` ends')], 'explain (1), scenario (5)'),
+    'explain': Page(
+        1, 'tells each line of a scenario of LE Audio broadcasts, what it brings, and why', '.B explain\n[\n.B \\-\\-toml\n] <\n.I scenario',
+        [(EXPLAINED, None), (EXPLAINED, 'What the notes tell'), (EXPLAINED, 'Units and PDUs')], 'replay (1), scenario (5)'),
+    'scenario': Page(
+        5, 'the lines of a scenario, what they print, and documents in TOML', '', [(LANGUAGE, '*')], 'replay (1), explain (1)'),
 }
 
 
@@ -139,14 +153,15 @@ def of_document(path: str, section: str | None) -> list[tuple[str, list[str]]]:
 
 def page(name: str, version: str) -> str:
     """A page as roff."""
-    number, what, synopsis, parts, also = PAGES[name]
+    number, what, synopsis, parts, others = PAGES[name]
+    also = others.split(', ')
     roff = [f'.TH {name.upper()} {number} "" "vicemint {version}" "Vicemint"', '.SH NAME', f'{name} \\- {what}']
     if synopsis:
         roff += ['.SH SYNOPSIS', synopsis]
     for path, section in parts:
         for heading, lines in of_document(path, section):
             roff += [f'.SH {escaped(inline_text(heading)).upper()}', *body(lines)]
-    roff += ['.SH SEE ALSO', *(f'.BR {it}' + (',' if not it.endswith(also.split(', ')[-1]) else '') for it in also.split(', '))]
+    roff += ['.SH SEE ALSO', *(f'.BR {it},' for it in also[:-1]), f'.BR {also[-1]}']
     return '\n'.join(roff) + '\n'
 
 
@@ -154,11 +169,12 @@ def pages() -> dict[str, str]:
     """The pages by the names of their files."""
     with open(os.path.join(TOP, 'VERSION'), encoding='ascii') as file:
         version = file.read().strip()
-    return {f'{name}.{PAGES[name][0]}': page(name, version) for name in PAGES}
+    return {f'{name}.{PAGES[name].number}': page(name, version) for name in PAGES}
 
 
 def words_of(words: list[str] | None) -> argparse.Namespace:
-    parser = argparse.ArgumentParser(prog='man_pages.py', description='Writes the man pages of what docs/ says.', allow_abbrev=False)
+    parser = argparse.ArgumentParser(prog='man_pages.py', allow_abbrev=False,
+                                     description='Writes the man pages replay.1, explain.1 and scenario.5 of what docs/ says.')
     parser.add_argument('--version', action='store_true', help='prints the version of the repository')
     parser.add_argument('folder', nargs='?', help='where they are written')
     asked = parser.parse_args(words)

@@ -91,7 +91,7 @@ def manual(folder: str) -> typing.Iterator[str]:
         if 'WARNED' in page:
             yield f'{name}: groff warns: {page.partition("WARNED")[2]}'
         said = plain(page)
-        for path, section in man_pages.PAGES[name.partition('.')[0]][3]:
+        for path, section in man_pages.PAGES[name.partition('.')[0]].parts:
             for cell in rows_of(path, section):
                 if plain(cell) not in said:
                     yield f'{name} lacks {cell!r} of {path}'

@@ -40,8 +40,8 @@ def unproved(copy: Copy) -> typing.Iterator[str | None]:
         yield differs(f'replay, unproved, {status}', ran, status, b'tried: -- --toml\n' + TEXT, UNPROVED, b'a line of the program\n')
         if b'run=' in ran.stderr or b'checked:' in ran.stderr:
             yield f'replay, unproved: standard error has lines of rt: {ran.stderr!r}'
-    for status, said in NO_ANSWERS:
-        ran = copy.run('replay', given=TEXT, STATUS=status, SAID=said)
+    for tried_status, said in NO_ANSWERS:
+        ran = copy.run('replay', given=TEXT, STATUS=tried_status, SAID=said)
         yield differs(f'replay, {said}', ran, CANNOT, b'', b'1 MiB', b'60 s', b'./prove builds')
     ran = copy.run('replay', '--seed', '1', '--events', '2', given=TEXT)
     yield differs('replay --seed, unproved', ran, 0, b'tried: -- --seed 1 --events 2\n', UNPROVED)
@@ -126,7 +126,9 @@ def left(folder: str) -> list[str]:
 def slimmed(copy: Copy) -> typing.Iterator[str | None]:
     """What `tools/slim` does beside what it says. The file of the lock is there, and nobody holds it."""
     every, kept = left(copy.folder), ['built', 'built', 'explain_command', 'replay_command']
-    for words, status, stays in ([], USAGE, every), (['--help'], 0, every), (['--yes', 'x'], USAGE, every), (['--yes'], 0, kept):
+    ways: list[tuple[list[str], int, list[str]]] = [
+        ([], USAGE, every), (['--help'], 0, every), (['--yes', 'x'], USAGE, every), (['--yes'], 0, kept)]
+    for words, status, stays in ways:
         ran = copy.run('tools/slim', *words)
         if ran.returncode != status or left(copy.folder) != stays:
             yield f'slim {words}: status {ran.returncode}, left {left(copy.folder)}'
