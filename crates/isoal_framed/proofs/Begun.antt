@@ -1,16 +1,16 @@
 -- The units that begin at a number that is heard, and at one that is not.
-use Rattle.std.proofs.Common.{ℕ, suc, ◌≡◌, ◌+◌, ◌-◌, ◌/◌, ◌<◌, ◌≤◌, inl, inr, true, false, Bool, ◌&&◌, leb, cond, List, [], ◌∷◌, ◌++◌, map}
+use Rattle.std.proofs.Common.{ℕ, suc, ◌≡◌, ◌+◌, ◌-◌, ◌/◌, ◌<◌, ◌≤◌, inl, inr, true, false, Bool, ◌&&◌, cond, List, [], ◌∷◌, ◌++◌, map}
 use Rattle.std.proofs.Common.{length, Option, Some, None, refl, sym, ap, ◌∙◌, subst, arith, length-append}
 use Rattle.std.specs.List.{flat_map}
 use Rattle.std.proofs.lemmas.Bool.{cases_Bool, cases_order, and_from, and_left, cond-true, cond-false, le-leb, and_right}
 use Rattle.std.proofs.lemmas.List.{append-nil}
 use Rattle.std.proofs.lemmas.Option.{none-some}
-use Rattle.unit_outlets.specs.Handed.{valid, lost}
+use Rattle.unit_outlets.specs.Handed.{valid}
 use Rattle.isoal_base.specs.Stays.{Stay}
 use Rattle.isoal_framed.specs.Tokens.{Token, starts, token_of, time_of}
 use Rattle.isoal_framed.specs.Units.{Run}
 use Rattle.isoal_framed.specs.State.Joining.{hands, hands_joined, run_joined}
-use Rattle.isoal_framed.specs.Struck.{Fit, Sent, octets_in, behind, is_last, carried, parts_at, InOrder, entry_of}
+use Rattle.isoal_framed.specs.Struck.{Fit, Sent, octets_in, behind, is_last, parts_at, InOrder, entry_of}
 use Rattle.isoal_framed.proofs.Carried.{carried_here, carried_later, none_here, toks, toks_same, toks_none}
 use Rattle.isoal_framed.proofs.Entries.{scan, scan_run, entry_heard, entry_missed, scan_end}
 
@@ -18,13 +18,7 @@ use Rattle.isoal_framed.proofs.Entries.{scan, scan_run, entry_heard, entry_misse
 pub joined_fits : (max_sdu bis time : ℕ) (octets : List ℕ) → length octets ≤ max_sdu
     → (hands_joined max_sdu bis time true octets ≡ valid bis time octets ∷ []) × (hands_joined max_sdu bis time false octets ≡ [])
     × (run_joined max_sdu time true octets ≡ None) × (run_joined max_sdu time false octets ≡ Some (record { time = time; octets = octets }))
-joined_fits max_sdu bis time octets fits =
-    let yes : leb (length octets) max_sdu ≡ true = le-leb (length octets) max_sdu fits in (
-      cond-true (leb (length octets) max_sdu) (valid bis time octets ∷ []) (lost bis time ∷ []) yes,
-      cond-true (leb (length octets) max_sdu) [] (lost bis time ∷ []) yes,
-      cond-true (leb (length octets) max_sdu) None None yes,
-      cond-true (leb (length octets) max_sdu) (Some (record { time = time; octets = octets })) None yes,
-    )
+joined_fits max_sdu bis time octets fits = search (le-leb, cond-true)
 
 -- what is to show, for so many numbers from here on, up to the closed ones
 unfoldable pub Shown : Stay → (ℕ → Bool) → ℕ → ℕ → ℕ → Type 0
@@ -41,8 +35,7 @@ shown_none : (stay : Stay) (heard : ℕ → Bool) (closed from n : ℕ) (whole :
     → InOrder from closed units → Fit stay.info.max_sdu units
     → hands stay.info.max_sdu stay.bis None (toks stay heard from [] whole units from n) ≡ flat_map (entry_of stay heard closed) units
 unfolding Shown
-shown_none stay heard closed from n whole units shown order fit =
-    shown [] whole None units (λ none. refl) (λ none. order) (λ some. absurd (omega arith)) (λ is some. absurd (omega arith)) (λ r is. absurd (none-some r is)) fit
+shown_none stay heard closed from n whole units shown order fit = grind (arith, none-some)
 
 -- units that begin behind a number are in order from the next one on
 later_order : (from closed : ℕ) (unit : Sent) (units : List Sent) → from < unit.first → InOrder from closed (unit ∷ units) → InOrder (from + 1) closed (unit ∷ units)
@@ -56,32 +49,19 @@ same_none stay heard from from' whole whole' units start n = toks_same stay hear
 -- behind its only number a unit has no segments
 same_single : (stay : Stay) (heard : ℕ → Bool) (from : ℕ) (whole : Bool) (unit : Sent) (units : List Sent) (octets : List ℕ) (n : ℕ) → unit.segments ≡ octets ∷ []
     → unit.first ≡ from → toks stay heard (from + 1) [] whole (unit ∷ units) (from + 1) n ≡ toks stay heard (from + 1) [] whole units (from + 1) n
-same_single stay heard from whole unit units octets n is here =
-    toks_same stay heard (from + 1) (from + 1) [] [] whole whole (unit ∷ units) units (from + 1) n
-    (λ number least. ap (λ parts. parts ++ parts_at units number)
-    (ap (λ segments. carried unit.first (Some unit.offset) segments unit.whole number) is
-    ∙ carried_later unit.first number (Some unit.offset) octets [] unit.whole (omega arith)))
+same_single stay heard from whole unit units octets n is here = grind (arith, toks_same, carried_later)
 
 -- behind its first number a unit goes on
 same_goes_on : (stay : Stay) (heard : ℕ → Bool) (from : ℕ) (whole : Bool) (unit : Sent) (units : List Sent) (octets : List ℕ) (segments : List (List ℕ)) (n : ℕ)
     → unit.segments ≡ octets ∷ segments → unit.first ≡ from
     → toks stay heard (from + 1) [] whole (unit ∷ units) (from + 1) n ≡ toks stay heard (from + 1) segments unit.whole units (from + 1) n
-same_goes_on stay heard from whole unit units octets segments n is here =
-    toks_same stay heard (from + 1) (from + 1) [] segments whole unit.whole (unit ∷ units) units (from + 1) n
-    (λ number least. ap (λ parts. parts ++ parts_at units number)
-    (ap (λ all. carried unit.first (Some unit.offset) all unit.whole number) is
-    ∙ carried_later unit.first number (Some unit.offset) octets segments unit.whole (omega arith)
-    ∙ ap (λ start. carried (start + 1) None segments unit.whole number) here))
+same_goes_on stay heard from whole unit units octets segments n is here = grind (arith, toks_same, carried_later)
 
 -- the segments that a unit has in the PDU of its start
 starts_here : (stay : Stay) (unit : Sent) (units : List Sent) (number : ℕ) (octets : List ℕ) (segments : List (List ℕ)) → unit.segments ≡ octets ∷ segments → unit.first ≡ number
     → map (token_of stay (number / stay.info.bn)) (parts_at (unit ∷ units) number)
     ≡ starts (time_of stay (number / stay.info.bn) unit.offset) (unit.whole && is_last segments) octets ∷ map (token_of stay (number / stay.info.bn)) (parts_at units number)
-starts_here stay unit units number octets segments is here =
-    ap (λ parts. map (token_of stay (number / stay.info.bn)) (parts ++ parts_at units number))
-    (ap (λ all. carried unit.first (Some unit.offset) all unit.whole number) is
-    ∙ ap (λ from. carried from (Some unit.offset) (octets ∷ segments) unit.whole number) here
-    ∙ carried_here number (Some unit.offset) octets segments unit.whole)
+starts_here stay unit units number octets segments is here = cc (carried_here number (Some unit.offset) octets segments unit.whole)
 
 pub run_inj : (r run : Run) → Some run ≡ Some r → run ≡ r
 run_inj r run same = cc
@@ -89,15 +69,11 @@ run_inj r run same = cc
 -- a start that fits and goes on
 hands_start : (max_sdu bis time : ℕ) (octets : List ℕ) (tokens : List Token) → length octets ≤ max_sdu
     → hands max_sdu bis None (starts time false octets ∷ tokens) ≡ hands max_sdu bis (Some (record { time = time; octets = octets })) tokens
-hands_start max_sdu bis time octets tokens fits =
-    ap (λ xs. xs ++ hands max_sdu bis (run_joined max_sdu time false octets) tokens) (joined_fits max_sdu bis time octets fits).1
-    ∙ ap (λ run. hands max_sdu bis run tokens) (joined_fits max_sdu bis time octets fits).3
+hands_start max_sdu bis time octets tokens fits = cc ((joined_fits max_sdu bis time octets fits).1, (joined_fits max_sdu bis time octets fits).3)
 
 whole_start : (max_sdu bis time : ℕ) (octets : List ℕ) (tokens : List Token) → length octets ≤ max_sdu
     → hands max_sdu bis None (starts time true octets ∷ tokens) ≡ valid bis time octets ∷ hands max_sdu bis None tokens
-whole_start max_sdu bis time octets tokens fits =
-    ap (λ xs. xs ++ hands max_sdu bis (run_joined max_sdu time true octets) tokens) (joined_fits max_sdu bis time octets fits).0
-    ∙ ap (λ run. valid bis time octets ∷ hands max_sdu bis run tokens) (joined_fits max_sdu bis time octets fits).2
+whole_start max_sdu bis time octets tokens fits = cc ((joined_fits max_sdu bis time octets fits).0, (joined_fits max_sdu bis time octets fits).2)
 
 -- a unit in one PDU
 single_unit : (stay : Stay) (heard : ℕ → Bool) (closed from n : ℕ) (whole : Bool) (unit : Sent) (units : List Sent) (octets : List ℕ)
@@ -147,9 +123,7 @@ pub goes_shown : (stay : Stay) (heard : ℕ → Bool) (closed from n : ℕ) (who
     → hands stay.info.max_sdu stay.bis run (toks stay heard from (next ∷ segments) whole units from n)
     ≡ scan_run heard closed stay.bis whole run from (next ∷ segments) ++ flat_map (entry_of stay heard closed) units
 unfolding Shown
-goes_shown stay heard closed from n whole run units next segments shown order last fits fit =
-    shown (next ∷ segments) whole run units (λ none. absurd (no_list next segments none)) (λ none. absurd (no_list next segments none))
-    (λ some. order) (λ is some. last is) fits fit
+goes_shown stay heard closed from n whole run units next segments shown order last fits fit = grind (arith, no_list)
 
 -- a unit that begins in a PDU that is heard, by its segments
 begun_unit : (stay : Stay) (heard : ℕ → Bool) (closed from n : ℕ) (whole : Bool) → Shown stay heard closed (from + 1) n → heard from ≡ true → from + suc n ≡ closed
@@ -230,16 +204,13 @@ begun_heard stay heard closed from n whole shown here all (unit ∷ units) order
 ]
 
 -- the units that begin in a PDU that isn't heard, and those behind
-missed_unit : (stay : Stay) (heard : ℕ → Bool) (closed from n : ℕ) (whole : Bool) → Shown stay heard closed (from + 1) n → heard from ≡ false
-    → (unit : Sent) (units : List Sent) → InOrder from closed (unit ∷ units) → Fit stay.info.max_sdu (unit ∷ units) → unit.first ≡ from
-    → (InOrder from closed units → hands stay.info.max_sdu stay.bis None (toks stay heard (from + 1) [] whole units (from + 1) n)
-    ≡ flat_map (entry_of stay heard closed) units)
+missed_unit : (stay : Stay) (heard : ℕ → Bool) (closed from n : ℕ) (whole : Bool) → Shown stay heard closed (from + 1) n
+    → heard from ≡ false → (unit : Sent) (units : List Sent) → InOrder from closed (unit ∷ units) → Fit stay.info.max_sdu (unit ∷ units)
+    → unit.first ≡ from
+    → (InOrder from closed units → hands stay.info.max_sdu stay.bis None (toks stay heard (from + 1) [] whole units (from + 1) n) ≡ flat_map (entry_of stay heard closed) units)
     → (segments : List (List ℕ)) → unit.segments ≡ segments
-    → hands stay.info.max_sdu stay.bis None (toks stay heard (from + 1) [] whole (unit ∷ units) (from + 1) n)
-    ≡ flat_map (entry_of stay heard closed) (unit ∷ units)
-missed_unit stay heard closed from n whole shown gap unit units order fit at others [] is =
-    let some : 1 ≤ length unit.segments = order.1 in
-    absurd (omega (arith, ap length is))
+    → hands stay.info.max_sdu stay.bis None (toks stay heard (from + 1) [] whole (unit ∷ units) (from + 1) n) ≡ flat_map (entry_of stay heard closed) (unit ∷ units)
+missed_unit stay heard closed from n whole shown gap unit units order fit at others [] is = grind arith
 missed_unit stay heard closed from n whole shown gap unit units order fit at others (octets ∷ []) is =
     let behind_is : behind unit ≡ from + 1 = omega (arith, at, ap length is) in
     ap (hands stay.info.max_sdu stay.bis None) (same_single stay heard from whole unit units octets n is at)

@@ -1,6 +1,5 @@
 -- The segments of units at a number, and its tokens.
-use Rattle.std.proofs.Common.{ℕ, zero, suc, ◌≡◌, ◌+◌, ◌-◌, ◌/◌, ◌<◌, ◌≤◌, true, false, Bool, ◌&&◌, eqb, cond, List, [], ◌∷◌, ◌++◌, map}
-use Rattle.std.proofs.Common.{length, Option, Some, None, refl, ap, ◌∙◌, arith}
+use Rattle.std.proofs.Common.{ℕ, zero, suc, ◌≡◌, ◌+◌, ◌-◌, ◌/◌, ◌<◌, ◌≤◌, true, false, Bool, ◌&&◌, eqb, cond, List, [], ◌∷◌, ◌++◌, map, Option, Some, None, refl, arith}
 use Rattle.std.specs.List.{flat_map, range_with_len}
 use Rattle.std.proofs.lemmas.Bool.{cond-true, cond-false, eq-eqb, ne_eqb}
 use Rattle.isoal_base.specs.Stays.{Stay}
@@ -11,31 +10,20 @@ use Rattle.isoal_framed.proofs.Closed.{flat_same}
 -- the segments that a number carries
 pub carried_here : (from : ℕ) (offset : Option ℕ) (octets : List ℕ) (segments : List (List ℕ)) (whole : Bool)
     → carried from offset (octets ∷ segments) whole from ≡ part_with offset (whole && is_last segments) octets ∷ []
-carried_here from offset octets segments whole =
-    cond-true (eqb from from) (part_with offset (whole && is_last segments) octets ∷ []) (carried (from + 1) None segments whole from) (eq-eqb from from refl)
+carried_here from offset octets segments whole = search (cond-true, eq-eqb)
 
 pub carried_later : (from number : ℕ) (offset : Option ℕ) (octets : List ℕ) (segments : List (List ℕ)) (whole : Bool) → from < number
     → carried from offset (octets ∷ segments) whole number ≡ carried (from + 1) None segments whole number
-carried_later from number offset octets segments whole after =
-    cond-false (eqb from number) (part_with offset (whole && is_last segments) octets ∷ []) (carried (from + 1) None segments whole number)
-    (ne_eqb from number (λ same. omega arith))
+carried_later from number offset octets segments whole after = grind (arith, cond-false, ne_eqb)
 
 pub carried_before : (from number : ℕ) (offset : Option ℕ) (segments : List (List ℕ)) (whole : Bool) → number < from → carried from offset segments whole number ≡ []
 carried_before from number offset [] whole before = refl
-carried_before from number offset (octets ∷ segments) whole before =
-    cond-false (eqb from number) (part_with offset (whole && is_last segments) octets ∷ []) (carried (from + 1) None segments whole number)
-    (ne_eqb from number (λ same. omega arith))
-    ∙ carried_before (from + 1) number None segments whole (omega arith)
+carried_before from number offset (octets ∷ segments) whole before = cc (cond-false (eqb from number) (part_with offset (whole && is_last segments) octets ∷ []) (carried (from + 1) None segments whole number) (ne_eqb from number (λ same. omega arith)), carried_before (from + 1) number None segments whole (omega arith))
 
 -- units that begin later have no segment here
 pub none_here : (from laid number : ℕ) (units : List Sent) → InOrder from laid units → number < from → parts_at units number ≡ []
 none_here from laid number [] order before = refl
-none_here from laid number (unit ∷ units) order before =
-    let some : 1 ≤ length unit.segments = order.1 in
-    let least : from ≤ unit.first = order.0 in
-    let behind_is : behind unit ≡ unit.first + length unit.segments = refl in
-    ap (λ parts. parts ++ parts_at units number) (carried_before unit.first number (Some unit.offset) unit.segments unit.whole (omega arith))
-    ∙ none_here (behind unit - 1) laid number units order.3 (omega arith)
+none_here from laid number (unit ∷ units) order before = grind (arith, order.1, order.0, carried_before unit.first number (Some unit.offset) unit.segments unit.whole (omega arith), none_here (behind unit - 1) laid number units order.3 (omega arith))
 
 -- the tokens of a number: of a unit that goes on there, and of units behind it
 unfoldable pub tok : Stay → (ℕ → Bool) → ℕ → List (List ℕ) → Bool → List Sent → ℕ → List Token
@@ -47,33 +35,25 @@ toks stay heard from segments whole units start n = flat_map (tok stay heard fro
 
 -- other units with the same segments from here on
 pub toks_same : (stay : Stay) (heard : ℕ → Bool) (from from' : ℕ) (segments segments' : List (List ℕ)) (whole whole' : Bool) (units units' : List Sent) (start n : ℕ)
-    → ((number : ℕ) → start ≤ number → carried from None segments whole number ++ parts_at units number
-    ≡ carried from' None segments' whole' number ++ parts_at units' number)
+    → ((number : ℕ) → start ≤ number → carried from None segments whole number ++ parts_at units number ≡ carried from' None segments' whole' number ++ parts_at units' number)
     → toks stay heard from segments whole units start n ≡ toks stay heard from' segments' whole' units' start n
 unfolding toks tok
-toks_same stay heard from from' segments segments' whole whole' units units' start n same =
-    flat_same (λ number. cond (heard number) (map (token_of stay (number / stay.info.bn)) (carried from None segments whole number ++ parts_at units number)) (missing ∷ []))
-    (λ number. cond (heard number) (map (token_of stay (number / stay.info.bn)) (carried from' None segments' whole' number ++ parts_at units' number)) (missing ∷ []))
-    start n
-    (λ number least below. ap (λ parts. cond (heard number) (map (token_of stay (number / stay.info.bn)) parts) (missing ∷ [])) (same number least))
+toks_same stay heard from from' segments segments' whole whole' units units' start n same = grind (arith, flat_same)
 
 -- the tokens of a number that is heard, and of one that isn't
 pub tok_heard : (stay : Stay) (heard : ℕ → Bool) (from : ℕ) (segments : List (List ℕ)) (whole : Bool) (units : List Sent) (number : ℕ) → heard number ≡ true
     → tok stay heard from segments whole units number
     ≡ map (token_of stay (number / stay.info.bn)) (carried from None segments whole number ++ parts_at units number)
 unfolding tok
-tok_heard stay heard from segments whole units number is =
-    cond-true (heard number) (map (token_of stay (number / stay.info.bn)) (carried from None segments whole number ++ parts_at units number)) (missing ∷ []) is
+tok_heard stay heard from segments whole units number is = search cond-true
 
 pub tok_missing : (stay : Stay) (heard : ℕ → Bool) (from : ℕ) (segments : List (List ℕ)) (whole : Bool) (units : List Sent) (number : ℕ) → heard number ≡ false
     → tok stay heard from segments whole units number ≡ missing ∷ []
 unfolding tok
-tok_missing stay heard from segments whole units number is =
-    cond-false (heard number) (map (token_of stay (number / stay.info.bn)) (carried from None segments whole number ++ parts_at units number)) (missing ∷ []) is
+tok_missing stay heard from segments whole units number is = search cond-false
 
 pub toks_first : (stay : Stay) (heard : ℕ → Bool) (from : ℕ) (segments : List (List ℕ)) (whole : Bool) (units : List Sent) (start n : ℕ)
-    → toks stay heard from segments whole units start (suc n)
-    ≡ tok stay heard from segments whole units start ++ toks stay heard from segments whole units (start + 1) n
+    → toks stay heard from segments whole units start (suc n) ≡ tok stay heard from segments whole units start ++ toks stay heard from segments whole units (start + 1) n
 unfolding toks
 toks_first stay heard from segments whole units start n = refl
 

@@ -1,20 +1,18 @@
 -- The tokens of the closed events: a hear changes nothing of them, and a close adds those of an event.
-use Rattle.std.proofs.Common.{ℕ, zero, suc, ◌≡◌, ◌+◌, ◌-◌, ◌*◌, ◌/◌, ◌≤◌, ◌<◌, List, [], ◌∷◌, ◌++◌, map, take, drop, length, None, replicate, refl, sym, ap, ◌∙◌, subst, arith, append_assoc}
+use Rattle.std.proofs.Common.{ℕ, zero, suc, ◌≡◌, ◌+◌, ◌-◌, ◌*◌, ◌/◌, ◌≤◌, ◌<◌, List, [], ◌∷◌, ◌++◌, map, take, None, replicate, refl, sym, ap, ◌∙◌, arith, append_assoc}
 use Rattle.std.specs.List.{flat_map, range_with_len}
 use Rattle.std.proofs.Math.Nat.{add-mul, div-lt_iff_lt-mul}
 use Rattle.std.proofs.Math.Seq.{drop-append_seam}
 use Rattle.std.proofs.lemmas.List.{append-nil}
 use Rattle.std.proofs.lemmas.List.Folds.{flat_map-map}
 use Rattle.big_info.specs.Bounds.{Bounds}
-use Rattle.big_info.specs.Schedule.{horizon_of}
-use Rattle.unit_outlets.specs.Handed.{Handed}
 use Rattle.isoal_base.specs.Stays.{Stay, Call, hear, close, opened, window_of}
 use Rattle.isoal_base.specs.Hearing.{read_as}
 use Rattle.isoal_base.proofs.Citable.{heard_same, entry_outside, map_part, stands_new, stands_hear, stands_close}
 use Rattle.isoal_framed.specs.Histories.{heard_in, event_tokens, closed_tokens, decided, gained, undecided_in}
 use Rattle.isoal_framed.specs.Tokens.{segmented, tokens_of}
-use Rattle.isoal_framed.specs.Units.{units, undecided_run}
-use Rattle.isoal_framed.specs.State.Joining.{hands, run_after}
+use Rattle.isoal_framed.specs.Units.{undecided_run}
+use Rattle.isoal_framed.specs.State.Joining.{hands}
 use Rattle.isoal_framed.specs.State.Windows.{Window, Stands, after_hear, after_close, tokens_in, owed}
 use Rattle.isoal_framed.proofs.Joins.{units_more, undecided_more}
 
@@ -22,15 +20,11 @@ use Rattle.isoal_framed.proofs.Joins.{units_more, undecided_more}
 pub flat_same : {A : Type 0} (f g : ℕ → List A) (start n : ℕ) → ((i : ℕ) → start ≤ i → i < start + n → f i ≡ g i)
     → flat_map f (range_with_len start n) ≡ flat_map g (range_with_len start n)
 flat_same f g start zero same = refl
-flat_same f g start (suc n) same =
-    ap (λ xs. xs ++ flat_map f (range_with_len (start + 1) n)) (same start (omega arith) (omega arith))
-    ∙ ap (λ xs. g start ++ xs) (flat_same f g (start + 1) n (λ i least below. same i (omega arith) (omega arith)))
+flat_same f g start (suc n) same = cc (same start (omega arith) (omega arith), flat_same f g (start + 1) n (λ i least below. same i (omega arith) (omega arith)))
 
 pub flat_last : {A : Type 0} (f : ℕ → List A) (start n : ℕ)
     → flat_map f (range_with_len start (n + 1)) ≡ flat_map f (range_with_len start n) ++ f (start + n)
-flat_last f start zero =
-    let none : start + 0 ≡ start = omega arith in
-    append-nil (f start) ∙ ap f (sym none)
+flat_last f start zero = grind (arith, append-nil)
 flat_last f start (suc n) =
     let more : suc n + 1 ≡ suc (n + 1) = omega arith in
     let next : start + 1 + n ≡ start + suc n = omega arith in
@@ -43,15 +37,11 @@ flat_last f start (suc n) =
 pub opened_least : (stay : Stay) (calls : List Call) → stay.first ≤ opened stay calls
 opened_least stay [] = omega arith
 opened_least stay (hear number octets ∷ calls) = opened_least stay calls
-opened_least stay (close ∷ calls) =
-    let before : stay.first ≤ opened stay calls = opened_least stay calls in
-    omega arith
+opened_least stay (close ∷ calls) = grind (arith, opened_least stay calls)
 
 -- the event of a number
 event_below : (bn event number : ℕ) → 1 ≤ bn → number < event * bn + bn → number / bn < event + 1
-event_below bn event number some below =
-    let top : (event + 1) * bn ≡ event * bn + bn = add-mul event 1 bn ∙ omega arith in
-    (div-lt_iff_lt-mul some).1 (subst (λ most. number < most) (sym top) below)
+event_below bn event number some below = grind (arith, add-mul, div-lt_iff_lt-mul)
 
 -- a hear changes nothing of an event before the open one
 hear_event : (stay : Stay) (calls : List Call) (number : ℕ) (octets : List ℕ) (event : ℕ) → event < opened stay calls
@@ -59,30 +49,18 @@ hear_event : (stay : Stay) (calls : List Call) (number : ℕ) (octets : List ℕ
 hear_event stay calls number octets event before =
     flat_same (λ at. tokens_of stay event (heard_in stay (hear number octets ∷ calls) at)) (λ at. tokens_of stay event (heard_in stay calls at))
     (event * stay.info.bn) stay.info.bn
-    (λ at least below. ap (tokens_of stay event) (heard_same (read_as segmented stay.info.max_pdu) stay (hear number octets) calls at
-    (entry_outside (read_as segmented stay.info.max_pdu) stay (opened stay calls) at number octets
-    (λ within.
-    let under : at / stay.info.bn < event + 1 = event_below stay.info.bn event at (omega arith) below in
-    let low : opened stay calls ≤ at / stay.info.bn = within.0 in
-    absurd (omega arith)))))
+    (grind (arith, heard_same, entry_outside, event_below))
 
 pub closed_hear : (stay : Stay) (calls : List Call) (number : ℕ) (octets : List ℕ)
     → closed_tokens stay (hear number octets ∷ calls) ≡ closed_tokens stay calls
-closed_hear stay calls number octets =
-    let first : stay.first ≤ opened stay calls = opened_least stay calls in
-    flat_same (event_tokens stay (hear number octets ∷ calls)) (event_tokens stay calls) stay.first (opened stay calls - stay.first)
-    (λ event least below. hear_event stay calls number octets event (omega arith))
+closed_hear stay calls number octets = grind (arith, opened_least, flat_same, hear_event)
 
 pub decides_nothing : (stay : Stay) (calls : List Call) (number : ℕ) (octets : List ℕ)
     → decided stay (hear number octets ∷ calls) ≡ decided stay calls
-decides_nothing stay calls number octets =
-    ap (units stay.info.max_sdu stay.bis) (closed_hear stay calls number octets)
+decides_nothing stay calls number octets = cc (closed_hear stay calls number octets)
 
 close_event : (stay : Stay) (calls : List Call) (event : ℕ) → event_tokens stay (close ∷ calls) event ≡ event_tokens stay calls event
-close_event stay calls event =
-    flat_same (λ at. tokens_of stay event (heard_in stay (close ∷ calls) at)) (λ at. tokens_of stay event (heard_in stay calls at))
-    (event * stay.info.bn) stay.info.bn
-    (λ at least below. ap (tokens_of stay event) (heard_same (read_as segmented stay.info.max_pdu) stay close calls at refl))
+close_event stay calls event = search (flat_same, heard_same)
 
 pub closed_close : (stay : Stay) (calls : List Call)
     → closed_tokens stay (close ∷ calls) ≡ closed_tokens stay calls ++ event_tokens stay calls (opened stay calls)
@@ -100,8 +78,6 @@ closed_close stay calls =
 pub tokens_are : (window : Window) → 1 ≤ window.stay.info.bn → (calls : List Call) → Stands calls window
     → tokens_in window ≡ event_tokens window.stay calls (opened window.stay calls)
 tokens_are window some calls stands =
-    let events : window_of window.stay.info ≡ horizon_of window.stay.info * window.stay.info.bn + window.stay.info.bn =
-    add-mul (horizon_of window.stay.info) 1 window.stay.info.bn ∙ omega arith in
     let from : window.event * window.stay.info.bn + 0 ≡ window.event * window.stay.info.bn = omega arith in
     ap (λ kept. flat_map (tokens_of window.stay window.event) (take window.stay.info.bn kept)) stands.hearing.kept_is
     ∙ ap (flat_map (tokens_of window.stay window.event))
@@ -120,45 +96,23 @@ new_stands stay =
 
 pub hear_stands : (window : Window) (number : ℕ) (octets : List ℕ) → Bounds window.stay.info
     → (calls : List Call) → Stands calls window → Stands (hear number octets ∷ calls) (after_hear number octets window)
-hear_stands window number octets bounds calls stands = record {
-  hearing = stands_hear segmented window.stay calls window.event window.kept number octets bounds.bn stands.hearing;
-  run = stands.run ∙ ap (undecided_run window.stay.info.max_sdu) (sym (closed_hear window.stay calls number octets));
-}
+hear_stands window number octets bounds calls stands = search (stands_hear, closed_hear)
 
 pub close_stands : (window : Window) → Bounds window.stay.info
     → (calls : List Call) → Stands calls window → Stands (close ∷ calls) (after_close window)
 close_stands window bounds calls stands = record {
   hearing = stands_close (read_as segmented window.stay.info.max_pdu) window.stay calls window.event window.kept bounds.bn stands.hearing;
-  run = ap (run_after window.stay.info.max_sdu window.run) (tokens_are window bounds.bn calls stands)
-      ∙ ap (λ run. run_after window.stay.info.max_sdu run (event_tokens window.stay calls (opened window.stay calls))) stands.run
-      ∙ sym (undecided_more window.stay.info.max_sdu (closed_tokens window.stay calls) (event_tokens window.stay calls (opened window.stay calls)))
-      ∙ ap (undecided_run window.stay.info.max_sdu) (sym (closed_close window.stay calls));
+  run = grind (arith, tokens_are, undecided_more, closed_close);
 }
 
 -- a close adds to the units that are decided
 close_adds : (stay : Stay) (calls : List Call) → decided stay (close ∷ calls)
     ≡ decided stay calls ++ hands stay.info.max_sdu stay.bis (undecided_in stay calls) (event_tokens stay calls (opened stay calls))
-close_adds stay calls =
-    ap (units stay.info.max_sdu stay.bis) (closed_close stay calls)
-    ∙ units_more stay.info.max_sdu stay.bis (closed_tokens stay calls) (event_tokens stay calls (opened stay calls))
+close_adds stay calls = cc (closed_close stay calls, units_more stay.info.max_sdu stay.bis (closed_tokens stay calls) (event_tokens stay calls (opened stay calls)))
 
 pub close_gains : (stay : Stay) (calls : List Call) → decided stay (close ∷ calls) ≡ decided stay calls ++ gained stay calls
-close_gains stay calls =
-    let added : List Handed = hands stay.info.max_sdu stay.bis (undecided_in stay calls) (event_tokens stay calls (opened stay calls)) in
-    close_adds stay calls
-    ∙ ap (λ xs. decided stay calls ++ xs)
-    (sym (ap (drop (length (decided stay calls))) (close_adds stay calls) ∙ drop-append_seam (decided stay calls) added))
-
--- what they gain is what is owed
-owed_added : (window : Window) → Bounds window.stay.info → (calls : List Call) → Stands calls window
-    → hands window.stay.info.max_sdu window.stay.bis (undecided_in window.stay calls) (event_tokens window.stay calls (opened window.stay calls)) ≡ owed window
-owed_added window bounds calls stands =
-    ap (λ run. hands window.stay.info.max_sdu window.stay.bis run (event_tokens window.stay calls (opened window.stay calls))) (sym stands.run)
-    ∙ ap (hands window.stay.info.max_sdu window.stay.bis window.run) (sym (tokens_are window bounds.bn calls stands))
+close_gains stay calls = search (close_adds, drop-append_seam)
 
 pub owed_is : (window : Window) → Bounds window.stay.info → (calls : List Call) → Stands calls window
     → owed window ≡ gained window.stay calls
-owed_is window bounds calls stands =
-    sym (ap (drop (length (decided window.stay calls)))
-    (close_adds window.stay calls ∙ ap (λ xs. decided window.stay calls ++ xs) (owed_added window bounds calls stands))
-    ∙ drop-append_seam (decided window.stay calls) (owed window))
+owed_is window bounds calls stands = grind (arith, close_adds, tokens_are, drop-append_seam)

@@ -19,48 +19,34 @@ pub scan_heard : (heard : ℕ → Bool) (closed bis time : ℕ) (whole : Bool) (
     → number < closed → heard number ≡ true
     → scan heard closed bis time whole octets number (part ∷ segments) ≡ scan heard closed bis time whole octets (number + 1) segments
 unfolding scan
-scan_heard heard closed bis time whole octets number part segments below is =
-    cond-true (ltb number closed) (cond (heard number) (scan heard closed bis time whole octets (number + 1) segments) (lost bis time ∷ [])) [] (lt-ltb number closed below)
-    ∙ cond-true (heard number) (scan heard closed bis time whole octets (number + 1) segments) (lost bis time ∷ []) is
+scan_heard heard closed bis time whole octets number part segments below is = search (cond-true, lt-ltb)
 
 pub scan_missing : (heard : ℕ → Bool) (closed bis time : ℕ) (whole : Bool) (octets : List ℕ) (number : ℕ) (part : List ℕ) (segments : List (List ℕ))
-    → number < closed → heard number ≡ false
-    → scan heard closed bis time whole octets number (part ∷ segments) ≡ lost bis time ∷ []
+    → number < closed → heard number ≡ false → scan heard closed bis time whole octets number (part ∷ segments) ≡ lost bis time ∷ []
 unfolding scan
-scan_missing heard closed bis time whole octets number part segments below is =
-    cond-true (ltb number closed) (cond (heard number) (scan heard closed bis time whole octets (number + 1) segments) (lost bis time ∷ [])) [] (lt-ltb number closed below)
-    ∙ cond-false (heard number) (scan heard closed bis time whole octets (number + 1) segments) (lost bis time ∷ []) is
+scan_missing heard closed bis time whole octets number part segments below is = search (cond-true, lt-ltb, cond-false)
 
 pub scan_open : (heard : ℕ → Bool) (closed bis time : ℕ) (whole : Bool) (octets : List ℕ) (number : ℕ) (part : List ℕ) (segments : List (List ℕ))
     → closed ≤ number → scan heard closed bis time whole octets number (part ∷ segments) ≡ []
 unfolding scan
-scan_open heard closed bis time whole octets number part segments past =
-    cond-false (ltb number closed) (cond (heard number) (scan heard closed bis time whole octets (number + 1) segments) (lost bis time ∷ [])) [] (le-ltb number closed past)
+scan_open heard closed bis time whole octets number part segments past = search (cond-false, le-ltb)
 
 and_true : (a b : Bool) → b ≡ true → (a && b) ≡ a
-and_true true b is = is
-and_true false b is = refl
+and_true a b is = grind arith
 
 none_closed : (stay : Stay) (closed : ℕ) (unit : Sent) → closed ≤ behind unit - 1 → entry_by stay closed unit None ≡ []
-none_closed stay closed unit past =
-    ap (λ test. cond test (valid stay.bis (time_of stay (unit.first / stay.info.bn) unit.offset) (octets_in unit.segments) ∷ []) [])
-    (and_right unit.whole (ltb (behind unit - 1) closed) (le-ltb (behind unit - 1) closed past))
+none_closed stay closed unit past = cc (and_right unit.whole (ltb (behind unit - 1) closed) (le-ltb (behind unit - 1) closed past))
 
 some_open : (stay : Stay) (closed : ℕ) (unit : Sent) (number : ℕ) → closed ≤ number → entry_by stay closed unit (Some number) ≡ []
-some_open stay closed unit number past =
-    cond-false (ltb number closed) (lost stay.bis (time_of stay (unit.first / stay.info.bn) unit.offset) ∷ []) [] (le-ltb number closed past)
+some_open stay closed unit number past = search (cond-false, le-ltb)
 
 -- the entry of a unit of which no number from here on is closed
 open_entry : (stay : Stay) (heard : ℕ → Bool) (closed : ℕ) (unit : Sent) (number : ℕ) (part : List ℕ) (segments : List (List ℕ))
     → number + length (part ∷ segments) ≡ behind unit → closed ≤ number
     → entry_by stay closed unit (first_missing heard number (part ∷ segments)) ≡ []
-open_entry stay heard closed unit number part [] all past = elim (cases_Bool (heard number)) [
-  | inr gap ↦ ap (entry_by stay closed unit) (cond-false (heard number) None (Some number) gap) ∙ some_open stay closed unit number past
-  | inl is ↦ ap (entry_by stay closed unit) (cond-true (heard number) None (Some number) is) ∙ none_closed stay closed unit (omega (arith, all))
-]
+open_entry stay heard closed unit number part [] all past = grind (arith, cases_Bool, cond-false, some_open, cond-true, none_closed)
 open_entry stay heard closed unit number part (next ∷ segments) all past = elim (cases_Bool (heard number)) [
-  | inr gap ↦ ap (entry_by stay closed unit) (cond-false (heard number) (first_missing heard (number + 1) (next ∷ segments)) (Some number) gap)
-      ∙ some_open stay closed unit number past
+  | inr gap ↦ cc (cond-false (heard number) (first_missing heard (number + 1) (next ∷ segments)) (Some number) gap, some_open stay closed unit number past)
   | inl is ↦ ap (entry_by stay closed unit) (cond-true (heard number) (first_missing heard (number + 1) (next ∷ segments)) (Some number) is)
       ∙ open_entry stay heard closed unit (number + 1) next segments (omega (arith, all)) (omega arith)
 ]
@@ -71,19 +57,13 @@ scan_entry : (stay : Stay) (heard : ℕ → Bool) (closed : ℕ) (unit : Sent) (
     → entry_by stay closed unit (first_missing heard number segments)
     ≡ scan heard closed stay.bis (time_of stay (unit.first / stay.info.bn) unit.offset) unit.whole (octets_in unit.segments) number segments
 unfolding scan
-scan_entry stay heard closed unit number [] all some within =
-    let below : behind unit - 1 < closed = omega (arith, all) in
-    ap (λ test. cond test (valid stay.bis (time_of stay (unit.first / stay.info.bn) unit.offset) (octets_in unit.segments) ∷ []) [])
-    (and_true unit.whole (ltb (behind unit - 1) closed) (lt-ltb (behind unit - 1) closed below))
+scan_entry stay heard closed unit number [] all some within = grind (arith, and_true, lt-ltb)
 scan_entry stay heard closed unit number (part ∷ segments) all some within = elim (cases_order number closed) [
   | inl same ↦ open_entry stay heard closed unit number part segments all (omega arith)
       ∙ sym (scan_open heard closed stay.bis (time_of stay (unit.first / stay.info.bn) unit.offset) unit.whole (octets_in unit.segments) number part segments (omega arith))
   | inr (inr past) ↦ absurd (omega arith)
   | inr (inl below) ↦ elim (cases_Bool (heard number)) [
-    | inr gap ↦
-        ap (entry_by stay closed unit) (cond-false (heard number) (first_missing heard (number + 1) segments) (Some number) gap)
-        ∙ cond-true (ltb number closed) (lost stay.bis (time_of stay (unit.first / stay.info.bn) unit.offset) ∷ []) [] (lt-ltb number closed below)
-        ∙ sym (scan_missing heard closed stay.bis (time_of stay (unit.first / stay.info.bn) unit.offset) unit.whole (octets_in unit.segments) number part segments below gap)
+    | inr gap ↦ search (cond-false, cond-true, lt-ltb, scan_missing)
     | inl is ↦
         ap (entry_by stay closed unit) (cond-true (heard number) (first_missing heard (number + 1) segments) (Some number) is)
         ∙ scan_entry stay heard closed unit (number + 1) segments (omega (arith, all)) (omega arith) (omega arith)
@@ -94,26 +74,16 @@ scan_entry stay heard closed unit number (part ∷ segments) all some within = e
 entry_from : (stay : Stay) (heard : ℕ → Bool) (closed : ℕ) (unit : Sent) (segments : List (List ℕ)) → unit.segments ≡ segments → 1 ≤ length segments
     → closed ≤ unit.first → entry_by stay closed unit (first_missing heard unit.first unit.segments) ≡ []
 entry_from stay heard closed unit [] is some past = absurd (omega arith)
-entry_from stay heard closed unit (part ∷ segments) is some past =
-    ap (λ xs. entry_by stay closed unit (first_missing heard unit.first xs)) is
-    ∙ open_entry stay heard closed unit unit.first part segments (ap (λ xs. unit.first + length xs) (sym is)) past
+entry_from stay heard closed unit (part ∷ segments) is some past = cc (open_entry stay heard closed unit unit.first part segments (ap (λ xs. unit.first + length xs) (sym is)) past)
 
 no_entry : (stay : Stay) (heard : ℕ → Bool) (closed : ℕ) (unit : Sent) → 1 ≤ length unit.segments → closed ≤ unit.first → entry_of stay heard closed unit ≡ []
-no_entry stay heard closed unit some past = elim (cases_Bool (heard unit.first)) [
-  | inr gap ↦ cond-false (heard unit.first) (entry_by stay closed unit (first_missing heard unit.first unit.segments)) [] gap
-  | inl is ↦ cond-true (heard unit.first) (entry_by stay closed unit (first_missing heard unit.first unit.segments)) [] is
-      ∙ entry_from stay heard closed unit unit.segments refl some past
-]
+no_entry stay heard closed unit some past = grind (arith, cases_Bool, cond-false, cond-true, entry_from)
 
 -- units of which no number is closed have no entry
 pub no_entries : (stay : Stay) (heard : ℕ → Bool) (closed from laid : ℕ) (units : List Sent) → InOrder from laid units → closed ≤ from
     → flat_map (entry_of stay heard closed) units ≡ []
 no_entries stay heard closed from laid [] order past = refl
-no_entries stay heard closed from laid (unit ∷ units) order past =
-    let least : from ≤ unit.first = order.0 in
-    let some : 1 ≤ length unit.segments = order.1 in
-    ap (λ xs. xs ++ flat_map (entry_of stay heard closed) units) (no_entry stay heard closed unit some (omega arith))
-    ∙ no_entries stay heard closed (behind unit - 1) laid units order.3 (omega arith)
+no_entries stay heard closed from laid (unit ∷ units) order past = grind (arith, order.0, order.1, no_entry stay heard closed unit order.1 (omega arith), no_entries stay heard closed (behind unit - 1) laid units order.3 (omega arith))
 
 -- what becomes of a run whose unit goes on with these segments
 abbrev pub scan_run : (ℕ → Bool) → ℕ → ℕ → Bool → Option Run → ℕ → List (List ℕ) → List Handed
@@ -126,12 +96,7 @@ pub entry_heard : (stay : Stay) (heard : ℕ → Bool) (closed : ℕ) (unit : Se
     → heard unit.first ≡ true → unit.first < closed
     → entry_of stay heard closed unit
     ≡ scan heard closed stay.bis (time_of stay (unit.first / stay.info.bn) unit.offset) unit.whole (octets_in unit.segments) (unit.first + 1) segments
-entry_heard stay heard closed unit octets segments is here below =
-    let all : unit.first + 1 + length segments ≡ behind unit = omega (arith, ap length is) in
-    cond-true (heard unit.first) (entry_by stay closed unit (first_missing heard unit.first unit.segments)) [] here
-    ∙ ap (λ xs. entry_by stay closed unit (first_missing heard unit.first xs)) is
-    ∙ ap (entry_by stay closed unit) (cond-true (heard unit.first) (first_missing heard (unit.first + 1) segments) (Some unit.first) here)
-    ∙ scan_entry stay heard closed unit (unit.first + 1) segments all (omega arith) (omega arith)
+entry_heard stay heard closed unit octets segments is here below = grind (arith, cond-true, scan_entry)
 
 pub entry_missed : (stay : Stay) (heard : ℕ → Bool) (closed : ℕ) (unit : Sent) → heard unit.first ≡ false → entry_of stay heard closed unit ≡ []
 entry_missed stay heard closed unit gap = cond-false (heard unit.first) (entry_by stay closed unit (first_missing heard unit.first unit.segments)) [] gap

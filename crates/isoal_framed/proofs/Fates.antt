@@ -8,17 +8,11 @@ use Rattle.isoal_framed.specs.Units.{Piece, Fate, whole, broken, undecided, None
 goes : (max_sdu : ℕ) (front : List ℕ) (piece : Piece) (run : List Piece) (followed : Bool) → piece.complete ≡ false
     → length (front ++ piece.octets) ≤ max_sdu
     → fate_after max_sdu front (piece ∷ run) followed ≡ fate_after max_sdu (front ++ piece.octets) run followed
-goes max_sdu front piece run followed goes_on fits =
-    cond-true (leb (length (front ++ piece.octets)) max_sdu)
-    (cond piece.complete (whole (front ++ piece.octets)) (fate_after max_sdu (front ++ piece.octets) run followed)) broken
-    (le-leb (length (front ++ piece.octets)) max_sdu fits)
-    ∙ cond-false piece.complete (whole (front ++ piece.octets)) (fate_after max_sdu (front ++ piece.octets) run followed) goes_on
+goes max_sdu front piece run followed goes_on fits = search (cond-true, le-leb, cond-false)
 
 stops : (max_sdu : ℕ) (front : List ℕ) (piece : Piece) (run : List Piece) (followed : Bool) → leb (length (front ++ piece.octets)) max_sdu ≡ false
     → fate_after max_sdu front (piece ∷ run) followed ≡ broken
-stops max_sdu front piece run followed passes =
-    cond-false (leb (length (front ++ piece.octets)) max_sdu)
-    (cond piece.complete (whole (front ++ piece.octets)) (fate_after max_sdu (front ++ piece.octets) run followed)) broken passes
+stops max_sdu front piece run followed passes = search cond-false
 
 behind : (front part rest last : List ℕ) → (front ++ part) ++ (rest ++ last) ≡ front ++ ((part ++ rest) ++ last)
 behind front part rest last = append_assoc front part (rest ++ last) ∙ ap (λ xs. front ++ xs) (sym (append_assoc part rest last))
@@ -29,8 +23,7 @@ front_fits max_sdu front rest fits = omega (arith, length-append front rest)
 whole_after : (max_sdu : ℕ) (front : List ℕ) (before : List Piece) (last : List ℕ) (others : List Piece) (followed : Bool)
     → NoneComplete before → length (front ++ (joined before ++ last)) ≤ max_sdu
     → fate_after max_sdu front (before ++ record { complete = true; octets = last } ∷ others) followed ≡ whole (front ++ (joined before ++ last))
-whole_after max_sdu front [] last others followed first fits =
-    cond-true (leb (length (front ++ last)) max_sdu) (whole (front ++ last)) broken (le-leb (length (front ++ last)) max_sdu fits)
+whole_after max_sdu front [] last others followed first fits = search (cond-true, le-leb)
 whole_after max_sdu front (piece ∷ before) last others followed first fits =
     let same : (front ++ piece.octets) ++ (joined before ++ last) ≡ front ++ ((piece.octets ++ joined before) ++ last) =
     behind front piece.octets (joined before) last in
@@ -43,8 +36,7 @@ whole_after max_sdu front (piece ∷ before) last others followed first fits =
 long_after : (max_sdu : ℕ) (front : List ℕ) (before : List Piece) (last : Piece) (others : List Piece) (followed : Bool)
     → NoneComplete before → max_sdu < length (front ++ (joined before ++ last.octets))
     → fate_after max_sdu front (before ++ last ∷ others) followed ≡ broken
-long_after max_sdu front [] last others followed first passes =
-    stops max_sdu front last others followed (lt-leb (length (front ++ last.octets)) max_sdu passes)
+long_after max_sdu front [] last others followed first passes = cc (stops max_sdu front last others followed (lt-leb (length (front ++ last.octets)) max_sdu passes))
 long_after max_sdu front (piece ∷ before) last others followed first passes =
     elim (cases_Bool (leb (length (front ++ piece.octets)) max_sdu)) [
       | inl fits ↦
@@ -105,8 +97,7 @@ more_told max_sdu front piece run followed broken goes_on (inl long) = inl (reco
   passes = subst (λ xs. max_sdu < length xs) (behind front piece.octets (joined long.before) long.last.octets) long.passes;
 })
 more_told max_sdu front piece run followed broken goes_on (inr cut) = inr ((goes_on, cut.0), cut.1)
-more_told max_sdu front piece run followed (undecided octets) goes_on told =
-    (told.0 ∙ append_assoc front piece.octets (joined run), told.1)
+more_told max_sdu front piece run followed (undecided octets) goes_on told = grind (arith, append_assoc)
 
 tells : (max_sdu : ℕ) (front : List ℕ) (run : List Piece) (followed : Bool) → Tells max_sdu front run followed (fate_after max_sdu front run followed)
 tells max_sdu front [] true = inr (tt, refl)
@@ -142,14 +133,10 @@ tells max_sdu front (piece ∷ run) followed = elim (cases_Bool (leb (length (fr
 ]
 
 is_whole : (max_sdu : ℕ) (run : List Piece) (followed : Bool) (octets : List ℕ) → IsWhole max_sdu run octets → fate_of max_sdu run followed ≡ whole octets
-is_whole max_sdu run followed octets is =
-    ap (λ xs. fate_of max_sdu xs followed) is.run_is
-    ∙ whole_after max_sdu [] is.before is.last is.others followed is.first (subst (λ xs. length xs ≤ max_sdu) is.octets_are is.fits)
-    ∙ ap whole (sym is.octets_are)
+is_whole max_sdu run followed octets is = grind (arith, whole_after)
 
 is_long : (max_sdu : ℕ) (run : List Piece) (followed : Bool) → IsTooLong max_sdu run → fate_of max_sdu run followed ≡ broken
-is_long max_sdu run followed is =
-    ap (λ xs. fate_of max_sdu xs followed) is.run_is ∙ long_after max_sdu [] is.before is.last is.others followed is.first is.passes
+is_long max_sdu run followed is = cc (is.run_is, long_after max_sdu [] is.before is.last is.others followed is.first is.passes)
 
 is_cut : (max_sdu : ℕ) (run : List Piece) (followed : Bool) → IsCut run followed → fate_of max_sdu run followed ≡ broken
 is_cut max_sdu run followed is = ap (fate_of max_sdu run) is.1 ∙ cut_after max_sdu [] run is.0
@@ -162,23 +149,8 @@ apart_broken octets is = cc
 
 told_is : (max_sdu : ℕ) (run : List Piece) (followed : Bool) (fate : Fate) → fate_of max_sdu run followed ≡ fate
     → Tells max_sdu [] run followed fate → FateIs max_sdu run followed fate
-told_is max_sdu run followed (whole octets) is told = record {
-  before = told.before;
-  last = told.last;
-  others = told.others;
-  run_is = told.run_is;
-  first = told.first;
-  octets_are = told.octets_are;
-  fits = told.fits;
-}
-told_is max_sdu run followed broken is (inl long) = inl (record {
-  before = long.before;
-  last = long.last;
-  others = long.others;
-  run_is = long.run_is;
-  first = long.first;
-  passes = long.passes;
-})
+told_is max_sdu run followed (whole octets) is told = search
+told_is max_sdu run followed broken is (inl long) = grind arith
 told_is max_sdu run followed broken is (inr cut) = inr cut
 told_is max_sdu run followed (undecided octets) is told = (
   λ unit other. apart_whole unit octets (sym (is_whole max_sdu run followed unit other) ∙ is),
@@ -188,8 +160,7 @@ told_is max_sdu run followed (undecided octets) is told = (
 )
 
 pub fate_is : (max_sdu : ℕ) (run : List Piece) (followed : Bool) (fate : Fate) → fate_of max_sdu run followed ≡ fate → FateIs max_sdu run followed fate
-fate_is max_sdu run followed fate is =
-    told_is max_sdu run followed fate is (subst (Tells max_sdu [] run followed) is (tells max_sdu [] run followed))
+fate_is max_sdu run followed fate is = grind (arith, told_is, tells)
 
 undecided_else : (max_sdu : ℕ) (run : List Piece) (followed : Bool) (octets : List ℕ) (fate : Fate) → FateIs max_sdu run followed (undecided octets)
     → FateIs max_sdu run followed fate → fate ≡ undecided octets
@@ -202,5 +173,4 @@ pub is_fate : (max_sdu : ℕ) (run : List Piece) (followed : Bool) (fate : Fate)
 is_fate max_sdu run followed (whole octets) is = is_whole max_sdu run followed octets is
 is_fate max_sdu run followed broken (inl long) = is_long max_sdu run followed long
 is_fate max_sdu run followed broken (inr cut) = is_cut max_sdu run followed cut
-is_fate max_sdu run followed (undecided octets) is =
-    undecided_else max_sdu run followed octets (fate_of max_sdu run followed) is (fate_is max_sdu run followed (fate_of max_sdu run followed) refl)
+is_fate max_sdu run followed (undecided octets) is = search (undecided_else, fate_is)

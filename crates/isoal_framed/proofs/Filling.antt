@@ -1,14 +1,14 @@
 -- An event that is filled act by act ends all its PDUs: each act ends one, fills one that then ends, or is done with a unit.
-use Rattle.std.proofs.Common.{ℕ, zero, suc, ◌≡◌, ◌+◌, ◌*◌, ◌<◌, ◌≤◌, ◌⊎◌, inl, inr, true, false, eqb, List, [], ◌∷◌, ◌++◌, length, Some, refl, sym, ap, ◌∙◌, subst, arith}
+use Rattle.std.proofs.Common.{ℕ, zero, suc, ◌≡◌, ◌+◌, ◌*◌, ◌<◌, ◌≤◌, ◌⊎◌, inl, inr, true, false, eqb, List, [], ◌∷◌, ◌++◌, length, Some, refl, sym, ◌∙◌, subst, arith}
 use Rattle.std.specs.List.{slice_get}
 use Rattle.std.proofs.lemmas.Bool.{cases_Bool, cond-true, cond-false, eqb-true, eq-eqb, false≢true}
 use Rattle.std.proofs.lemmas.Option.{slice_get_within}
 use Rattle.circular_buffer.proofs.Places.{slice_get-append_left}
 use Rattle.big_info.specs.declared.info.BigInfo.{BigInfo}
-use Rattle.isoal_framed.specs.Air.{AllCome, pdus_ended, IsEvent, event_of, begun_by, IsAirOf, IsFramedAir}
+use Rattle.isoal_framed.specs.Air.{AllCome, pdus_ended, IsEvent, IsAirOf, IsFramedAir}
 use Rattle.isoal_framed.specs.Calls.{Call, accept, lay, Timed, accepted}
 use Rattle.isoal_framed.specs.Filling.{next_act, filled, event_acts, acts_of, framed_air}
-use Rattle.isoal_framed.specs.Places.{Act, carries, leaves_out, ends, place_of, Comes, done, sent, room, overhead, least_room}
+use Rattle.isoal_framed.specs.Places.{Act, carries, leaves_out, ends, place_of, Comes, done, sent, room, least_room}
 use Rattle.isoal_framed.proofs.Greedy.{Partly, cases_low, same_due, strictly, least_over}
 use Rattle.isoal_framed.proofs.Packings.{comes_act}
 use Rattle.isoal_framed.proofs.Senders.{done_come, done_within}
@@ -18,14 +18,7 @@ abbrev DueIsLeft : List Timed → List Act → Type 0
 DueIsLeft units acts = 1 ≤ sent acts → (unit : Timed) × (slice_get units (done acts) ≡ Some unit) × (sent acts < length unit.octets)
 
 due_partly : (units : List Timed) (acts : List Act) → DueIsLeft units acts → (unit : Timed) → slice_get units (done acts) ≡ Some unit → Partly (sent acts) unit
-due_partly units acts is_left unit due = elim (cases_low 1 (sent acts)) [
-  | inl some ↦
-      let left : (unit : Timed) × (slice_get units (done acts) ≡ Some unit) × (sent acts < length unit.octets) = is_left some in
-      let same : left.0 ≡ unit = same_due (slice_get units (done acts)) unit left.0 due left.1 in
-      let less : sent acts < length unit.octets = subst (λ u. sent acts < length u.octets) same left.2 in
-      record { within = omega arith; less = λ is. less }
-  | inr none ↦ record { within = omega arith; less = λ is. absurd (omega arith) }
-]
+due_partly units acts is_left unit due = grind (arith, cases_low, same_due)
 
 next_comes : (max_pdu : ℕ) (units : List Timed) (anchor : ℕ) (acts : List Act) → DueIsLeft units acts
     → Comes (place_of max_pdu units anchor acts) (next_act max_pdu units anchor acts)
@@ -34,31 +27,15 @@ next_comes max_pdu units anchor acts is_left = comes_act (place_of max_pdu units
 left_behind : (max_pdu : ℕ) (units : List Timed) (anchor : ℕ) (acts : List Act) (act : Act) → Comes (place_of max_pdu units anchor acts) act
     → DueIsLeft units acts → DueIsLeft units (act ∷ acts)
 left_behind max_pdu units anchor acts (carries count true) comes is_left = λ some. absurd (omega arith)
-left_behind max_pdu units anchor acts (carries count false) (unit, turn, not_stale, segment) is_left = λ some. (
-  unit,
-  turn.due,
-  strictly (sent acts + count) (length unit.octets) segment.within (λ all. false≢true (segment.complete_is.1 all)),
-)
+left_behind max_pdu units anchor acts (carries count false) (unit, turn, not_stale, segment) is_left = grind (arith, strictly, false≢true)
 left_behind max_pdu units anchor acts leaves_out comes is_left = λ some. absurd (omega arith)
 left_behind max_pdu units anchor acts ends comes is_left = is_left
 
 left_more : (units : List Timed) (last : Timed) (acts : List Act) → DueIsLeft units acts → DueIsLeft (units ++ last ∷ []) acts
-left_more units last acts is_left some =
-    let left : (unit : Timed) × (slice_get units (done acts) ≡ Some unit) × (sent acts < length unit.octets) = is_left some in
-    let within : done acts < length units = slice_get_within units (done acts) left.0 left.1 in
-    (left.0, slice_get-append_left units (last ∷ []) (done acts) within ∙ left.1, left.2)
-
-overhead_some : (sent_now : ℕ) → 2 ≤ overhead sent_now
-overhead_some sent_now = elim (cases_Bool (eqb sent_now 0)) [
-  | inl fresh ↦ (let is : overhead sent_now ≡ 5 = cond-true (eqb sent_now 0) 5 2 fresh in omega arith)
-  | inr partly ↦ (let is : overhead sent_now ≡ 2 = cond-false (eqb sent_now 0) 5 2 partly in omega arith)
-]
+left_more units last acts is_left some = grind (arith, slice_get_within, slice_get-append_left)
 
 least_some : (sent_now count : ℕ) → 2 ≤ least_room sent_now count
-least_some sent_now count =
-    let over : overhead sent_now ≤ least_room sent_now count = least_over sent_now count in
-    let some : 2 ≤ overhead sent_now = overhead_some sent_now in
-    omega arith
+least_some sent_now count = grind (arith, least_over, cases_Bool, cond-true, cond-false)
 
 -- some acts of an event, whose last PDU has ended with the last of them or not yet
 record Filling (info : BigInfo) (units : List Timed) (anchor : ℕ) (earlier own : List Act) : Type 0 where
@@ -70,50 +47,14 @@ record Filling (info : BigInfo) (units : List Timed) (anchor : ℕ) (earlier own
 
 no_acts : (info : BigInfo) (units : List Timed) (anchor : ℕ) (earlier : List Act) → 1 ≤ info.bn → DueIsLeft units earlier
     → Filling info units anchor earlier []
-no_acts info units anchor earlier some is_left = record {
-  come = tt;
-  is_left = is_left;
-  whole = inl (omega arith);
-  count = omega arith;
-  roomy = λ roomy. omega arith;
-}
+no_acts info units anchor earlier some is_left = grind arith
 
 one_act : (info : BigInfo) (units : List Timed) (anchor : ℕ) (earlier own : List Act) (act : Act) → 2 ≤ info.max_pdu → Filling info units anchor earlier own
     → pdus_ended own < info.bn → Comes (place_of info.max_pdu units anchor (own ++ earlier)) act → Filling info units anchor earlier (act ∷ own)
-one_act info units anchor earlier own (carries count true) most filling going comes =
-    let least : 2 ≤ least_room (sent (own ++ earlier)) (length comes.0.octets) = least_some (sent (own ++ earlier)) (length comes.0.octets) in
-    let fits : least_room (sent (own ++ earlier)) (length comes.0.octets) ≤ room info.max_pdu (own ++ earlier) = comes.1.room in
-    let before : length own ≤ 2 * pdus_ended own + done (own ++ earlier) = filling.roomy (omega arith) in
-    record {
-      come = (filling.come, comes);
-      is_left = left_behind info.max_pdu units anchor (own ++ earlier) (carries count true) comes filling.is_left;
-      whole = inl going;
-      count = omega arith;
-      roomy = λ roomy. omega arith;
-    }
-one_act info units anchor earlier own (carries count false) most filling going comes =
-    let least : 2 ≤ least_room (sent (own ++ earlier)) (length comes.0.octets) = least_some (sent (own ++ earlier)) (length comes.0.octets) in
-    let fits : least_room (sent (own ++ earlier)) (length comes.0.octets) ≤ room info.max_pdu (own ++ earlier) = comes.1.room in
-    let fills : overhead (sent (own ++ earlier)) + count ≡ room info.max_pdu (own ++ earlier) = comes.3.fills refl in
-    let before : length own ≤ 2 * pdus_ended own + done (own ++ earlier) = filling.roomy (omega arith) in
-    record {
-      come = (filling.come, comes);
-      is_left = left_behind info.max_pdu units anchor (own ++ earlier) (carries count false) comes filling.is_left;
-      whole = inl going;
-      count = omega arith;
-      roomy = λ roomy. absurd (omega arith);
-    }
-one_act info units anchor earlier own leaves_out most filling going comes =
-    let before : length own ≤ 2 * pdus_ended own + done (own ++ earlier) + 1 = filling.count in
-    record {
-      come = (filling.come, comes);
-      is_left = left_behind info.max_pdu units anchor (own ++ earlier) leaves_out comes filling.is_left;
-      whole = inl going;
-      count = omega arith;
-      roomy = λ roomy. (let now : length own ≤ 2 * pdus_ended own + done (own ++ earlier) = filling.roomy roomy in omega arith);
-    }
+one_act info units anchor earlier own (carries count true) most filling going comes = grind (arith, least_some, left_behind)
+one_act info units anchor earlier own (carries count false) most filling going comes = grind (arith, least_some, left_behind)
+one_act info units anchor earlier own leaves_out most filling going comes = grind (arith, left_behind)
 one_act info units anchor earlier own ends most filling going comes =
-    let before : length own ≤ 2 * pdus_ended own + done (own ++ earlier) + 1 = filling.count in
     record {
       come = (filling.come, comes);
       is_left = left_behind info.max_pdu units anchor (own ++ earlier) ends comes filling.is_left;
@@ -134,16 +75,9 @@ one_more : (info : BigInfo) (units : List Timed) (anchor : ℕ) (earlier own : L
     → Filled info units anchor earlier (suc n) (next_act info.max_pdu units anchor (own ++ earlier) ∷ own)
 one_more info units anchor earlier own n most (filling, count) going =
     let not_all : pdus_ended own ≡ info.bn → ⊥ = (λ all. false≢true (sym going ∙ eq-eqb (pdus_ended own) info.bn all)) in
-    let less : pdus_ended own < info.bn = elim filling.whole [
-      | inl less ↦ less
-      | inr whole ↦ absurd (not_all whole.2)
-    ] in (
-      one_act info units anchor earlier own (next_act info.max_pdu units anchor (own ++ earlier)) most filling less
-          (next_comes info.max_pdu units anchor (own ++ earlier) filling.is_left),
-      elim count [
-        | inl is ↦ inl (ap suc is)
-        | inr all ↦ absurd (not_all all)
-      ],
+    let less : pdus_ended own < info.bn = grind arith in (
+      search (one_act, next_comes),
+      grind arith,
     )
 
 filled_is : (info : BigInfo) (units : List Timed) (anchor : ℕ) (earlier : List Act) (n : ℕ) → 1 ≤ info.bn → 2 ≤ info.max_pdu → DueIsLeft units earlier
@@ -153,9 +87,7 @@ filled_is info units anchor earlier (suc n) some most is_left =
     let own : List Act = filled info units anchor earlier n in
     let before : Filled info units anchor earlier n own = filled_is info units anchor earlier n some most is_left in
     elim (cases_Bool (eqb (pdus_ended own) info.bn)) [
-      | inl all ↦ subst (Filled info units anchor earlier (suc n))
-          (sym (cond-true (eqb (pdus_ended own) info.bn) own (next_act info.max_pdu units anchor (own ++ earlier) ∷ own) all))
-          (before.0, inr (eqb-true (pdus_ended own) info.bn all))
+      | inl all ↦ grind (arith, cond-true, eqb-true)
       | inr going ↦ subst (Filled info units anchor earlier (suc n))
           (sym (cond-false (eqb (pdus_ended own) info.bn) own (next_act info.max_pdu units anchor (own ++ earlier) ∷ own) going))
           (one_more info units anchor earlier own n most before going)
@@ -171,20 +103,10 @@ event_is info units anchor earlier some most is_left within =
     let own : List Act = filled info units anchor earlier bound in
     let is : Filled info units anchor earlier bound own = filled_is info units anchor earlier bound some most is_left in
     let done_now : done (own ++ earlier) ≤ length units = done_come info.max_pdu units anchor earlier own is.0.come within in
-    let count : length own ≤ 2 * pdus_ended own + done (own ++ earlier) + 1 = is.0.count in
-    let whole : (rest : List Act) × (own ≡ ends ∷ rest) × (pdus_ended own ≡ info.bn) = elim is.0.whole [
-      | inr whole ↦ whole
-      | inl less ↦ elim is.1 [
-        | inl long ↦ absurd (omega arith)
-        | inr all ↦ absurd (omega arith)
-      ]
-    ] in (
+    let whole : (rest : List Act) × (own ≡ ends ∷ rest) × (pdus_ended own ≡ info.bn) = grind arith in (
       whole.0,
       whole.1,
-      record {
-        come = subst (AllCome info.max_pdu units anchor earlier) whole.1 is.0.come;
-        all = ap pdus_ended (sym whole.1) ∙ whole.2;
-      },
+      grind arith,
       is.0.is_left,
     )
 
@@ -200,21 +122,8 @@ air_and_left info (lay anchor ∷ calls) some most =
     air_and_left info calls some most in
     let event : (own : List Act) × (event_acts info (accepted calls) anchor (acts_of info calls) ≡ ends ∷ own)
     × IsEvent info (accepted calls) anchor (acts_of info calls) own
-    × DueIsLeft (accepted calls) (event_acts info (accepted calls) anchor (acts_of info calls) ++ acts_of info calls) =
-    event_is info (accepted calls) anchor (acts_of info calls) some most before.1
-    (done_within info calls (acts_of info calls) (framed_air info calls) before.0) in (
-      (
-        acts_of info calls,
-        framed_air info calls,
-        event.0,
-        before.0,
-        event.2,
-        ap (λ own. own ++ acts_of info calls) event.1,
-        ap (λ own. record {
-          event = event_of (accepted calls) anchor (acts_of info calls) own;
-          begun = begun_by (acts_of info (lay anchor ∷ calls));
-        } ∷ framed_air info calls) event.1,
-      ),
+    × DueIsLeft (accepted calls) (event_acts info (accepted calls) anchor (acts_of info calls) ++ acts_of info calls) = grind (arith, event_is, done_within) in (
+      grind arith,
       event.3,
     )
 

@@ -1,5 +1,5 @@
 -- What the tokens hand one by one is what the list of them decides.
-use Rattle.std.proofs.Common.{ℕ, ◌≡◌, ◌≤◌, true, false, leb, cond, Bool, List, [], ◌∷◌, ◌++◌, length, Option, Some, None, refl, sym, ap, ◌∙◌, ◌+◌, take, arith, append_assoc, length-append}
+use Rattle.std.proofs.Common.{ℕ, ◌≡◌, ◌≤◌, true, cond, Bool, List, [], ◌∷◌, ◌++◌, length, Option, Some, None, refl, ap, ◌+◌, take, arith, append_assoc, length-append}
 use Rattle.std.proofs.lemmas.Bool.{cond-true, le-leb}
 use Rattle.std.proofs.lemmas.List.{length-take}
 use Rattle.std.specs.Option.{option_or}
@@ -26,9 +26,7 @@ hands_piece : (max_sdu bis time : ℕ) (octets : List ℕ) (later : Fate) (token
     → handed_of bis time (cond fits (cond complete (whole octets) later) broken) ++ rest
     ≡ cond fits (cond complete (valid bis time octets ∷ []) []) (lost bis time ∷ [])
     ++ hands max_sdu bis (cond fits (cond complete None (Some (record { time = time; octets = octets }))) None) tokens
-hands_piece max_sdu bis time octets later tokens rest none some true true = ap (λ xs. valid bis time octets ∷ xs) none
-hands_piece max_sdu bis time octets later tokens rest none some true false = some
-hands_piece max_sdu bis time octets later tokens rest none some false complete = ap (λ xs. lost bis time ∷ xs) none
+hands_piece max_sdu bis time octets later tokens rest none some fits complete = grind arith
 
 run_piece : (max_sdu time : ℕ) (octets : List ℕ) (later : Fate) (tokens : List Token) (rest : Option Run)
     → rest ≡ run_after max_sdu None tokens
@@ -36,17 +34,10 @@ run_piece : (max_sdu time : ℕ) (octets : List ℕ) (later : Fate) (tokens : Li
     → (fits complete : Bool)
     → option_or (run_of time (cond fits (cond complete (whole octets) later) broken)) rest
     ≡ run_after max_sdu (cond fits (cond complete None (Some (record { time = time; octets = octets }))) None) tokens
-run_piece max_sdu time octets later tokens rest none some true true = none
-run_piece max_sdu time octets later tokens rest none some true false = some
-run_piece max_sdu time octets later tokens rest none some false complete = none
+run_piece max_sdu time octets later tokens rest none some fits complete = grind arith
 
 joins : (max_sdu bis : ℕ) (tokens : List Token) → Joins max_sdu bis tokens
-joins max_sdu bis [] = record {
-  none = refl;
-  none_run = refl;
-  some = λ time octets. refl;
-  some_run = λ time octets. refl;
-}
+joins max_sdu bis [] = search
 joins max_sdu bis (missing ∷ tokens) =
     let all : Joins max_sdu bis tokens = joins max_sdu bis tokens in
     record {
@@ -60,21 +51,13 @@ joins max_sdu bis (goes_on complete part ∷ tokens) =
     record {
       none = all.none;
       none_run = all.none_run;
-      some = λ time octets. hands_piece max_sdu bis time (octets ++ part)
-          (fate_after max_sdu (octets ++ part) (run_on tokens) (is_followed tokens)) tokens (units max_sdu bis tokens)
-          all.none (all.some time (octets ++ part)) (leb (length (octets ++ part)) max_sdu) complete;
-      some_run = λ time octets. run_piece max_sdu time (octets ++ part)
-          (fate_after max_sdu (octets ++ part) (run_on tokens) (is_followed tokens)) tokens (undecided_run max_sdu tokens)
-          all.none_run (all.some_run time (octets ++ part)) (leb (length (octets ++ part)) max_sdu) complete;
+      some = grind (arith, hands_piece);
+      some_run = grind (arith, run_piece);
     }
 joins max_sdu bis (starts begun complete part ∷ tokens) =
     let all : Joins max_sdu bis tokens = joins max_sdu bis tokens in
-    let here : units max_sdu bis (starts begun complete part ∷ tokens) ≡ hands max_sdu bis None (starts begun complete part ∷ tokens) =
-    hands_piece max_sdu bis begun part (fate_after max_sdu part (run_on tokens) (is_followed tokens)) tokens (units max_sdu bis tokens)
-    all.none (all.some begun part) (leb (length part) max_sdu) complete in
-    let here_run : undecided_run max_sdu (starts begun complete part ∷ tokens) ≡ run_after max_sdu None (starts begun complete part ∷ tokens) =
-    run_piece max_sdu begun part (fate_after max_sdu part (run_on tokens) (is_followed tokens)) tokens (undecided_run max_sdu tokens)
-    all.none_run (all.some_run begun part) (leb (length part) max_sdu) complete in
+    let here : units max_sdu bis (starts begun complete part ∷ tokens) ≡ hands max_sdu bis None (starts begun complete part ∷ tokens) = grind (arith, hands_piece) in
+    let here_run : undecided_run max_sdu (starts begun complete part ∷ tokens) ≡ run_after max_sdu None (starts begun complete part ∷ tokens) = grind (arith, run_piece) in
     record {
       none = here;
       none_run = here_run;
@@ -83,23 +66,16 @@ joins max_sdu bis (starts begun complete part ∷ tokens) =
     }
 
 pub units_are : (max_sdu bis : ℕ) (tokens : List Token) → units max_sdu bis tokens ≡ hands max_sdu bis None tokens
-units_are max_sdu bis tokens =
-    let all : Joins max_sdu bis tokens = joins max_sdu bis tokens in
-    all.none
+units_are max_sdu bis tokens = grind (arith, joins)
 
 pub undecided_is : (max_sdu : ℕ) (tokens : List Token) → undecided_run max_sdu tokens ≡ run_after max_sdu None tokens
-undecided_is max_sdu tokens =
-    let all : Joins max_sdu 0 tokens = joins max_sdu 0 tokens in
-    all.none_run
+undecided_is max_sdu tokens = grind (arith, joins max_sdu 0 tokens, (joins max_sdu 0 tokens).none_run)
 
 -- tokens in two parts
 pub hands_append : (max_sdu bis : ℕ) (run : Option Run) (xs ys : List Token)
     → hands max_sdu bis run (xs ++ ys) ≡ hands max_sdu bis run xs ++ hands max_sdu bis (run_after max_sdu run xs) ys
 hands_append max_sdu bis run [] ys = refl
-hands_append max_sdu bis run (x ∷ xs) ys =
-    ap (λ rest. hands_at max_sdu bis run x ++ rest) (hands_append max_sdu bis (run_at max_sdu run x) xs ys)
-    ∙ sym (append_assoc (hands_at max_sdu bis run x) (hands max_sdu bis (run_at max_sdu run x) xs)
-    (hands max_sdu bis (run_after max_sdu (run_at max_sdu run x) xs) ys))
+hands_append max_sdu bis run (x ∷ xs) ys = cc (hands_append max_sdu bis (run_at max_sdu run x) xs ys, append_assoc (hands_at max_sdu bis run x) (hands max_sdu bis (run_at max_sdu run x) xs) (hands max_sdu bis (run_after max_sdu (run_at max_sdu run x) xs) ys))
 
 pub run_append : (max_sdu : ℕ) (run : Option Run) (xs ys : List Token)
     → run_after max_sdu run (xs ++ ys) ≡ run_after max_sdu (run_after max_sdu run xs) ys
@@ -109,29 +85,17 @@ run_append max_sdu run (x ∷ xs) ys = run_append max_sdu (run_at max_sdu run x)
 -- more tokens: what they add
 pub units_more : (max_sdu bis : ℕ) (xs ys : List Token)
     → units max_sdu bis (xs ++ ys) ≡ units max_sdu bis xs ++ hands max_sdu bis (undecided_run max_sdu xs) ys
-units_more max_sdu bis xs ys =
-    units_are max_sdu bis (xs ++ ys) ∙ hands_append max_sdu bis None xs ys
-    ∙ ap (λ zs. zs ++ hands max_sdu bis (run_after max_sdu None xs) ys) (sym (units_are max_sdu bis xs))
-    ∙ ap (λ run. units max_sdu bis xs ++ hands max_sdu bis run ys) (sym (undecided_is max_sdu xs))
+units_more max_sdu bis xs ys = cc (units_are max_sdu bis (xs ++ ys), hands_append max_sdu bis None xs ys, units_are max_sdu bis xs, undecided_is max_sdu xs)
 
-pub undecided_more : (max_sdu : ℕ) (xs ys : List Token)
-    → undecided_run max_sdu (xs ++ ys) ≡ run_after max_sdu (undecided_run max_sdu xs) ys
-undecided_more max_sdu xs ys =
-    undecided_is max_sdu (xs ++ ys) ∙ run_append max_sdu None xs ys
-    ∙ ap (λ run. run_after max_sdu run ys) (sym (undecided_is max_sdu xs))
+pub undecided_more : (max_sdu : ℕ) (xs ys : List Token) → undecided_run max_sdu (xs ++ ys) ≡ run_after max_sdu (undecided_run max_sdu xs) ys
+undecided_more max_sdu xs ys = cc (undecided_is max_sdu (xs ++ ys), run_append max_sdu None xs ys, undecided_is max_sdu xs)
 
 -- a start ends the run before it
 pub start_hands : (max_sdu bis : ℕ) (run : Option Run) (time : ℕ) (complete : Bool) (octets : List ℕ)
     → hands_at max_sdu bis run (starts time complete octets) ≡ hands_at max_sdu bis run missing ++ hands_joined max_sdu bis time complete octets
-start_hands max_sdu bis None time complete octets = refl
-start_hands max_sdu bis (Some run) time complete octets = refl
+start_hands max_sdu bis run time complete octets = grind arith
 
 -- the last segment of a run that fits
 pub joined_valid : (max_sdu bis time at : ℕ) (items part all : List ℕ) (complete : Bool) → all ≡ take at items ++ part → at + length part ≤ max_sdu
     → complete ≡ true → hands_joined max_sdu bis time complete (take at items ++ part) ≡ valid bis time all ∷ []
-joined_valid max_sdu bis time at items part all complete is room last =
-    let fits : length (take at items ++ part) ≤ max_sdu = omega (arith, length-append (take at items) part, length-take at items) in
-    cond-true (leb (length (take at items ++ part)) max_sdu) (cond complete (valid bis time (take at items ++ part) ∷ []) []) (lost bis time ∷ [])
-    (le-leb (length (take at items ++ part)) max_sdu fits)
-    ∙ cond-true complete (valid bis time (take at items ++ part) ∷ []) [] last
-    ∙ ap (λ octets. valid bis time octets ∷ []) (sym is)
+joined_valid max_sdu bis time at items part all complete is room last = grind (arith, length-append, length-take, cond-true, le-leb)

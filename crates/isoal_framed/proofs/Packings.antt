@@ -1,5 +1,5 @@
 -- An event that is filled act by act.
-use Rattle.std.proofs.Common.{ℕ, zero, suc, ◌≡◌, ◌+◌, ◌-◌, ◌<◌, ◌≤◌, true, false, Bool, List, [], ◌∷◌, ◌++◌, length, drop, Option, Some, None, ◌⊎◌, inl, inr, refl, sym, ap, ◌∙◌, subst, arith}
+use Rattle.std.proofs.Common.{ℕ, zero, suc, ◌≡◌, ◌+◌, ◌-◌, ◌<◌, ◌≤◌, true, false, Bool, List, [], ◌∷◌, ◌++◌, length, drop, Option, Some, None, ◌⊎◌, refl, sym, ap, ◌∙◌, subst, arith}
 use Rattle.std.specs.List.{slice_get}
 use Rattle.std.proofs.lemmas.Bool.{false≢true}
 use Rattle.std.proofs.lemmas.Option.{none-some, slice_get_past, same_Some}
@@ -7,9 +7,9 @@ use Rattle.iso_pdu.specs.Layout.{framed}
 use Rattle.iso_pdu.specs.State.Packing.{room_in}
 use Rattle.iso_pdu.specs.Spelling.{pdu}
 use Rattle.isoal_base.proofs.Citable.{cases_option}
-use Rattle.isoal_framed.specs.Air.{pdus_ended, open_parts, pdus_of, stale_of, part_of, time_in}
+use Rattle.isoal_framed.specs.Air.{pdus_ended}
 use Rattle.isoal_framed.specs.Calls.{Timed}
-use Rattle.isoal_framed.specs.Places.{Act, carries, leaves_out, ends, Place, place_of, Comes, done, sent, room, overhead}
+use Rattle.isoal_framed.specs.Places.{Act, carries, leaves_out, ends, Place, place_of, Comes, done, sent, room}
 use Rattle.isoal_framed.specs.Greedy.{act_for, act_of}
 use Rattle.isoal_framed.specs.State.Packings.{Carried, Changes, Placed}
 use Rattle.isoal_framed.specs.State.Senders.{Going, IsPartly}
@@ -29,10 +29,7 @@ get_behind (x ∷ items) (suc n) i =
 
 pub comes_act : (place : Place) → ((unit : Timed) → place.due ≡ Some unit → Partly place.sent unit)
     → Comes place (act_of place.anchor place.room place.sent place.due)
-comes_act place partly = elim (cases_option place.due) [
-  | inl none ↦ subst (Comes place) (ap (act_of place.anchor place.room place.sent) (sym none)) (comes_none place none)
-  | inr unit ↦ subst (Comes place) (ap (act_of place.anchor place.room place.sent) (sym unit.1)) (comes_for place unit.0 unit.1 (partly unit.0 unit.1))
-]
+comes_act place partly = grind (arith, cases_option, comes_none, comes_for)
 
 -- where a packing stands
 abbrev stands_at : ℕ → List Timed → Packing → Place
@@ -50,24 +47,15 @@ At max_pdu units anchor earlier acts pdus packing =
 due_is : (max_pdu : ℕ) (units queue : List Timed) (anchor : ℕ) (earlier acts : List Act) (pdus : List (List ℕ)) (old : Packing)
     → queue ≡ drop (done earlier) units → At max_pdu units anchor earlier acts pdus old
     → slice_get queue old.past ≡ slice_get units (done (acts ++ earlier))
-due_is max_pdu units queue anchor earlier acts pdus old queue_is going =
-    ap (λ items. slice_get items old.past) queue_is ∙ get_behind units (done earlier) old.past ∙ ap (slice_get units) going.past_is
+due_is max_pdu units queue anchor earlier acts pdus old queue_is going = cc (get_behind units (done earlier) old.past, going.past_is)
 
 at_place : (max_pdu : ℕ) (units queue : List Timed) (anchor : ℕ) (earlier acts : List Act) (pdus : List (List ℕ)) (old : Packing)
     → queue ≡ drop (done earlier) units → At max_pdu units anchor earlier acts pdus old
     → stands_at anchor queue old ≡ place_of max_pdu units anchor (acts ++ earlier)
-at_place max_pdu units queue anchor earlier acts pdus old queue_is going =
-    ap (λ n. record { anchor = anchor; room = n; due = slice_get queue old.past; sent = old.sent }) going.room_is
-    ∙ ap (λ due. record { anchor = anchor; room = room max_pdu (acts ++ earlier); due = due; sent = old.sent })
-    (due_is max_pdu units queue anchor earlier acts pdus old queue_is going)
-    ∙ ap (λ n. record { anchor = anchor; room = room max_pdu (acts ++ earlier); due = slice_get units (done (acts ++ earlier)); sent = n }) going.sent_is
+at_place max_pdu units queue anchor earlier acts pdus old queue_is going = grind (arith, due_is)
 
 pub partly_at : (queue : List Timed) (past sent_now : ℕ) → IsPartly sent_now (drop past queue) → (unit : Timed) → slice_get queue past ≡ Some unit → Partly sent_now unit
-partly_at queue past sent_now partly unit due =
-    let at : past + 0 ≡ past = omega arith in
-    let both : (sent_now ≤ length unit.octets) × (1 ≤ sent_now → sent_now < length unit.octets) =
-    partly.first unit (get_behind queue past 0 ∙ ap (slice_get queue) at ∙ due) in
-    record { within = both.0; less = both.1 }
+partly_at queue past sent_now partly unit due = grind (arith, get_behind)
 
 comes_here : (max_pdu : ℕ) (units queue : List Timed) (anchor : ℕ) (earlier acts : List Act) (pdus : List (List ℕ)) (old : Packing)
     → queue ≡ drop (done earlier) units → IsPartly old.sent (drop old.past queue) → At max_pdu units anchor earlier acts pdus old
@@ -82,54 +70,11 @@ changed : (max_pdu : ℕ) (units : List Timed) (anchor : ℕ) (earlier acts : Li
     → Comes (place_of max_pdu units anchor (acts ++ earlier)) act → Changes anchor due act old new goes_on → goes_on ≡ true
     → At max_pdu units anchor earlier (act ∷ acts) pdus new × (pdus_ended (act ∷ acts) ≡ pdus_ended acts)
 changed max_pdu units anchor earlier acts pdus old new goes_on None (carries count complete) due going comes changes on = absurd changes
-changed max_pdu units anchor earlier acts pdus old new goes_on (Some unit) (carries count true) due going comes changes on = (
-  record {
-    come = (going.come, comes);
-    past_is = (let was : done earlier + old.past ≡ done (acts ++ earlier) = going.past_is in
-        let now : new.past ≡ old.past + 1 = changes.0.past in omega arith);
-    sent_is = changes.0.sent;
-    room_is = changes.0.room ∙ ap (λ n. n - (overhead old.sent + count)) going.room_is
-        ∙ ap (λ n. room max_pdu (acts ++ earlier) - (overhead n + count)) going.sent_is;
-    parts_are = changes.0.parts ∙ ap (λ parts. parts ++ part_of anchor old.sent (Some unit) count true ∷ []) going.parts_are
-        ∙ ap (λ n. open_parts units anchor earlier acts ++ part_of anchor n (Some unit) count true ∷ []) going.sent_is
-        ∙ ap (λ item. open_parts units anchor earlier acts ++ part_of anchor (sent (acts ++ earlier)) item count true ∷ []) due;
-    pdus_are = going.pdus_are;
-    stale_are = changes.0.stale ∙ going.stale_are;
-  },
-  refl,
-)
-changed max_pdu units anchor earlier acts pdus old new goes_on (Some unit) (carries count false) due going comes changes on = (
-  record {
-    come = (going.come, comes);
-    past_is = ap (λ n. done earlier + n) changes.0.past ∙ going.past_is;
-    sent_is = changes.0.sent ∙ ap (λ n. n + count) going.sent_is;
-    room_is = changes.0.room ∙ ap (λ n. n - (overhead old.sent + count)) going.room_is
-        ∙ ap (λ n. room max_pdu (acts ++ earlier) - (overhead n + count)) going.sent_is;
-    parts_are = changes.0.parts ∙ ap (λ parts. parts ++ part_of anchor old.sent (Some unit) count false ∷ []) going.parts_are
-        ∙ ap (λ n. open_parts units anchor earlier acts ++ part_of anchor n (Some unit) count false ∷ []) going.sent_is
-        ∙ ap (λ item. open_parts units anchor earlier acts ++ part_of anchor (sent (acts ++ earlier)) item count false ∷ []) due;
-    pdus_are = going.pdus_are;
-    stale_are = changes.0.stale ∙ going.stale_are;
-  },
-  refl,
-)
+changed max_pdu units anchor earlier acts pdus old new goes_on (Some unit) (carries count true) due going comes changes on = grind arith
+changed max_pdu units anchor earlier acts pdus old new goes_on (Some unit) (carries count false) due going comes changes on = search
 changed max_pdu units anchor earlier acts pdus old new goes_on None leaves_out due going comes changes on = absurd changes
-changed max_pdu units anchor earlier acts pdus old new goes_on (Some unit) leaves_out due going comes changes on = (
-  record {
-    come = (going.come, comes);
-    past_is = (let was : done earlier + old.past ≡ done (acts ++ earlier) = going.past_is in
-        let now : new.past ≡ old.past + 1 = changes.0.past in omega arith);
-    sent_is = changes.0.sent ∙ going.sent_is ∙ comes.2.0;
-    room_is = ap room_in changes.0.pdu ∙ going.room_is;
-    parts_are = ap (λ packed. packed.parts) changes.0.pdu ∙ going.parts_are;
-    pdus_are = going.pdus_are;
-    stale_are = changes.0.stale ∙ ap (λ times. times ++ unit.time ∷ []) going.stale_are
-        ∙ ap (λ item. stale_of units earlier acts ++ time_in item) due;
-  },
-  refl,
-)
-changed max_pdu units anchor earlier acts pdus old new goes_on due ends due_is going comes changes on =
-    absurd (false≢true (sym changes.1 ∙ on))
+changed max_pdu units anchor earlier acts pdus old new goes_on (Some unit) leaves_out due going comes changes on = grind arith
+changed max_pdu units anchor earlier acts pdus old new goes_on due ends due_is going comes changes on = search false≢true
 
 pub goes_on_is : (max_pdu : ℕ) (units queue : List Timed) (anchor : ℕ) (earlier acts : List Act) (pdus : List (List ℕ)) (old new : Packing)
     → queue ≡ drop (done earlier) units → IsPartly old.sent (drop old.past queue) → At max_pdu units anchor earlier acts pdus old
@@ -156,22 +101,7 @@ pub ended_is : (max_pdu : ℕ) (units queue : List Timed) (anchor : ℕ) (earlie
     → queue ≡ drop (done earlier) units → IsPartly old.sent (drop old.past queue) → At max_pdu units anchor earlier acts pdus old
     → Placed anchor queue old new false → octets ≡ pdu (framed new.pdu.parts)
     → Going max_pdu units anchor earlier (ends ∷ acts) new.past new.sent max_pdu [] (pdus ++ octets ∷ []) new.stale
-ended_is max_pdu units queue anchor earlier acts pdus octets old new queue_is partly going placed octets_are =
-    let both : (act_of anchor (room_in old.pdu) old.sent (slice_get queue old.past) ≡ ends) × (new ≡ old) =
-    stopped anchor (slice_get queue old.past) (act_of anchor (room_in old.pdu) old.sent (slice_get queue old.past)) old new placed in
-    let comes : Comes (place_of max_pdu units anchor (acts ++ earlier)) ends =
-    subst (Comes (place_of max_pdu units anchor (acts ++ earlier))) both.0 (comes_here max_pdu units queue anchor earlier acts pdus old queue_is partly going) in
-    let here : At max_pdu units anchor earlier acts pdus new = subst (At max_pdu units anchor earlier acts pdus) (sym both.1) going in
-    record {
-      come = (here.come, comes);
-      past_is = here.past_is;
-      sent_is = here.sent_is;
-      room_is = refl;
-      parts_are = refl;
-      pdus_are = ap (λ all. all ++ octets ∷ []) here.pdus_are
-          ∙ ap (λ last. pdus_of units anchor earlier acts ++ last ∷ []) (octets_are ∙ ap (λ parts. pdu (framed parts)) here.parts_are);
-      stale_are = here.stale_are;
-    }
+ended_is max_pdu units queue anchor earlier acts pdus octets old new queue_is partly going placed octets_are = grind (arith, stopped, comes_here)
 
 -- no event, or whole PDUs
 abbrev pub EndsWhole : List Act → Type 0
@@ -181,66 +111,46 @@ EndsWhole own = (own ≡ []) ⊎ ((rest : List Act) × (own ≡ ends ∷ rest))
 pub placed_by : (anchor : ℕ) (queue : List Timed) (old new : Packing) (goes_on : Bool) (unit : Timed) (act : Act)
     → slice_get queue old.past ≡ Some unit → act ≡ act_for anchor (room_in old.pdu) old.sent unit
     → Changes anchor (Some unit) act old new goes_on → Placed anchor queue old new goes_on
-placed_by anchor queue old new goes_on unit act due is changes =
-    subst (λ item. Changes anchor item (act_of anchor (room_in old.pdu) old.sent item) old new goes_on) (sym due)
-    (subst (λ a. Changes anchor (Some unit) a old new goes_on) is changes)
+placed_by anchor queue old new goes_on unit act due is changes = grind arith
 
 -- what is left of the units behind a segment
 pub partly_left : (anchor : ℕ) (queue : List Timed) (old new : Packing) (unit : Timed) (count : ℕ) (complete : Bool)
     → slice_get queue old.past ≡ Some unit → Carried anchor unit count complete old new → (complete ≡ false → old.sent + count < length unit.octets)
     → IsPartly new.sent (drop new.past queue)
-partly_left anchor queue old new unit count true due carried part =
-    subst (λ n. IsPartly n (drop new.past queue)) (sym carried.sent) (record {
-      none = λ nothing. refl;
-      first = λ other is. (omega arith, λ some. absurd (omega arith));
-    })
+partly_left anchor queue old new unit count true due carried part = grind arith
 partly_left anchor queue old new unit count false due carried part =
     let less : old.sent + count < length unit.octets = part refl in
     let at : old.past + 0 ≡ old.past = omega arith in
     let here : slice_get (drop old.past queue) 0 ≡ Some unit = get_behind queue old.past 0 ∙ ap (slice_get queue) at ∙ due in
     subst (λ n. IsPartly n (drop new.past queue)) (sym carried.sent)
-    (subst (λ n. IsPartly (old.sent + count) (drop n queue)) (sym carried.past) (record {
-      none = λ nothing. absurd (none-some unit (ap (λ items. slice_get items 0) (sym nothing) ∙ here));
-      first = λ other is. (let same : Some other ≡ Some unit = sym is ∙ here in
-          let fewer : old.sent + count < length other.octets = subst (λ o. old.sent + count < length o.octets) (same_Some unit other (sym same)) less in
-          (omega arith, λ some. fewer));
-    }))
+    (grind (arith, none-some, same_Some))
 
 part_of_it : (anchor room sent_now : ℕ) (unit : Timed) (count : ℕ) (complete : Bool) → complete ≡ false
     → Comes (record { anchor = anchor; room = room; due = Some unit; sent = sent_now }) (carries count complete) → sent_now + count < length unit.octets
-part_of_it anchor room sent_now unit count complete whole (other, turn, not_stale, segment) =
-    let same : other ≡ unit = sym (same_Some unit other turn.due) in
-    let within : sent_now + count ≤ length unit.octets = subst (λ o. sent_now + count ≤ length o.octets) same segment.within in
-    strictly (sent_now + count) (length unit.octets) within
-    (λ all. false≢true (sym whole ∙ segment.complete_is.1 (all ∙ ap (λ o. length o.octets) (sym same))))
+part_of_it anchor room sent_now unit count complete whole (other, turn, not_stale, segment) = grind (arith, same_Some, strictly, false≢true)
 
 -- a segment that isn't complete leaves octets of its unit
 pub part_left : (anchor room sent_now : ℕ) (unit : Timed) (count : ℕ) (complete : Bool) → Partly sent_now unit
     → carries count complete ≡ act_for anchor room sent_now unit → complete ≡ false → sent_now + count < length unit.octets
 part_left anchor room sent_now unit count complete partly is whole =
-    let comes : Comes (record { anchor = anchor; room = room; due = Some unit; sent = sent_now }) (carries count complete) =
-    subst (Comes (record { anchor = anchor; room = room; due = Some unit; sent = sent_now })) (sym is)
-    (comes_for (record { anchor = anchor; room = room; due = Some unit; sent = sent_now }) unit refl partly) in
+    let comes : Comes (record { anchor = anchor; room = room; due = Some unit; sent = sent_now }) (carries count complete) = grind (arith, comes_for (record { anchor = anchor; room = room; due = Some unit; sent = sent_now }) unit refl partly) in
     part_of_it anchor room sent_now unit count complete whole comes
 
 within_of_it : (anchor room sent_now : ℕ) (unit : Timed) (count : ℕ) (complete : Bool)
     → Comes (record { anchor = anchor; room = room; due = Some unit; sent = sent_now }) (carries count complete) → sent_now + count ≤ length unit.octets
-within_of_it anchor room sent_now unit count complete (other, turn, not_stale, segment) =
-    subst (λ o. sent_now + count ≤ length o.octets) (sym (same_Some unit other turn.due)) segment.within
+within_of_it anchor room sent_now unit count complete (other, turn, not_stale, segment) = grind (arith, same_Some)
 
 -- a segment has octets of its unit alone
 pub part_within : (anchor room sent_now : ℕ) (unit : Timed) (count : ℕ) (complete : Bool) → Partly sent_now unit
     → carries count complete ≡ act_for anchor room sent_now unit → sent_now + count ≤ length unit.octets
 part_within anchor room sent_now unit count complete partly is =
     within_of_it anchor room sent_now unit count complete
-    (subst (Comes (record { anchor = anchor; room = room; due = Some unit; sent = sent_now })) (sym is)
-    (comes_for (record { anchor = anchor; room = room; due = Some unit; sent = sent_now }) unit refl partly))
+    (grind (arith, comes_for (record { anchor = anchor; room = room; due = Some unit; sent = sent_now }) unit refl partly))
 
 -- what comes where this unit is due, and where none is
 pub comes_known : (max_pdu : ℕ) (units : List Timed) (anchor : ℕ) (acts : List Act) (act : Act) (unit : Timed) → slice_get units (done acts) ≡ Some unit
     → Partly (sent acts) unit → act_for anchor (room max_pdu acts) (sent acts) unit ≡ act → Comes (place_of max_pdu units anchor acts) act
-comes_known max_pdu units anchor acts act unit due partly is =
-    subst (Comes (place_of max_pdu units anchor acts)) is (comes_for (place_of max_pdu units anchor acts) unit due partly)
+comes_known max_pdu units anchor acts act unit due partly is = grind (arith, comes_for (place_of max_pdu units anchor acts) unit due partly)
 
 pub comes_nothing : (max_pdu : ℕ) (units : List Timed) (anchor : ℕ) (acts : List Act) → slice_get units (done acts) ≡ None
     → Comes (place_of max_pdu units anchor acts) ends

@@ -20,9 +20,7 @@ nothing_read max_pdu octets none = ap (read_as segmented max_pdu) none ∙ empty
 
 -- an item is put behind others that leave room for it
 pub kept_last : {A : Type 0} (items : List A) (item : A) (capacity : ℕ) → length items < capacity → keep_last capacity (items ++ item ∷ []) ≡ items ++ item ∷ []
-kept_last items item capacity room =
-    let none : length (items ++ item ∷ []) - capacity ≡ 0 = omega (arith, length-append items (item ∷ [])) in
-    ap (λ n. drop n (items ++ item ∷ [])) none
+kept_last items item capacity room = grind (arith, length-append)
 
 pub filled_more : {A B : Type 0} (entry : A → Option B) (items : List A) (item : A) (capacity n : ℕ) → map entry items ≡ replicate n None
     → n < capacity → entry item ≡ None → map entry (keep_last capacity (items ++ item ∷ [])) ≡ replicate (n + 1) None
@@ -39,12 +37,7 @@ filled_count entry items n is = sym (length-map items entry) ∙ ap length is �
 
 pub turned : {A B : Type 0} (entry : A → Option B) (items : List A) (item : A) (capacity : ℕ) → length items ≡ capacity → 0 < capacity → entry item ≡ None
     → map entry (keep_last capacity (drop 1 items ++ item ∷ [])) ≡ drop 1 (map entry items) ++ None ∷ []
-turned entry items item capacity full some here =
-    let shorter : length (drop 1 items) ≡ length items - 1 = length-drop 1 items in
-    ap (map entry) (kept_last (drop 1 items) item capacity (omega arith))
-    ∙ map-append entry (drop 1 items) (item ∷ [])
-    ∙ ap (λ x. map entry (drop 1 items) ++ x ∷ []) here
-    ∙ ap (λ xs. xs ++ None ∷ []) (sym (drop-map entry 1 items))
+turned entry items item capacity full some here = grind (arith, length-drop, kept_last, map-append, drop-map)
 
 -- after several turns
 pub turned_more : {A : Type 0} (was now next : List (Option A)) (n count : ℕ) → now ≡ drop n was ++ replicate n None → n < length was
@@ -60,8 +53,7 @@ turned_more was now next n count before below after =
 -- the first of what is left
 pub first_left : {A : Type 0} (was now : List (Option A)) (n : ℕ) → now ≡ drop n was ++ replicate n None → n < length was
     → get_or now 0 None ≡ get_or was n None
-first_left was now n before below =
-    ap (λ xs. get_or xs 0 None) (before ∙ ap (λ xs. xs ++ replicate n None) (drop-cons was n None below))
+first_left was now n before below = cc (drop-cons was n None below)
 
 -- what is left to take, from its first on
 pub left_more : {A B : Type 0} (tokens : Option A → List B) (was : List (Option A)) (n count left : ℕ) → n < length was → count ≡ left + 1

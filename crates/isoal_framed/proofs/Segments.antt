@@ -1,5 +1,5 @@
 -- What an act adds to the units that were sent: a start, a further segment, a unit left out, the end of a PDU.
-use Rattle.std.proofs.Common.{ℕ, ◌≡◌, ◌+◌, ◌-◌, ◌*◌, ◌<◌, ◌≤◌, inl, inr, true, false, Bool, eqb, cond, List, [], ◌∷◌, ◌++◌, length, take, drop}
+use Rattle.std.proofs.Common.{ℕ, ◌≡◌, ◌+◌, ◌-◌, ◌*◌, ◌<◌, ◌≤◌, inr, true, false, Bool, List, [], ◌∷◌, ◌++◌, length, take, drop}
 use Rattle.std.proofs.Common.{Option, Some, None, refl, sym, ap, ◌∙◌, subst, arith, length-append}
 use Rattle.std.specs.List.{slice_get}
 use Rattle.std.proofs.lemmas.Bool.{cond-true, cond-false, eq-eqb, ne_eqb, false≢true}
@@ -12,7 +12,7 @@ use Rattle.isoal_framed.specs.Air.{part_of}
 use Rattle.isoal_framed.specs.Calls.{Laying, Timed}
 use Rattle.isoal_framed.specs.Places.{Act, carries, leaves_out, ends, Comes, IsSegment, place_of, overhead, least_room, done, sent, room}
 use Rattle.isoal_framed.specs.Sends.{IsTimed, AreOf}
-use Rattle.isoal_framed.specs.Struck.{Sent, octets_in, behind, carried, parts_at}
+use Rattle.isoal_framed.specs.Struck.{Sent, octets_in, behind, parts_at}
 use Rattle.isoal_framed.proofs.Stays.{carried_past}
 use Rattle.isoal_framed.proofs.Carried.{carried_before, carried_here}
 use Rattle.isoal_framed.proofs.Sendings.{chain_more, Open, are_more, are_snoc, take_next, octets_snoc, get_same, taken_before, Sending, at_least}
@@ -21,25 +21,16 @@ use Rattle.isoal_framed.proofs.Sendings.{Stable, parts_last, fit_more, snoc_befo
 -- a start
 new_part : (units : List Timed) (anchor : ℕ) (acts : List Act) (count : ℕ) (complete : Bool) (unit : Timed) → slice_get units (done acts) ≡ Some unit → sent acts ≡ 0
     → part_of anchor (sent acts) (slice_get units (done acts)) count complete ≡ start (anchor - unit.time) complete (take count unit.octets)
-new_part units anchor acts count complete unit due fresh =
-    ap (λ item. part_of anchor (sent acts) item count complete) due
-    ∙ cond-true (eqb (sent acts) 0) (start (anchor - unit.time) complete (take count unit.octets)) (more complete (take count (drop (sent acts) unit.octets)))
-    (eq-eqb (sent acts) 0 fresh)
+new_part units anchor acts count complete unit due fresh = search (cond-true, eq-eqb)
 
 new_here : (number offset : ℕ) (octets : List ℕ) (complete : Bool) (closed : List Sent) (parts : List Part) (part : Part) → parts ≡ parts_at closed number
     → part ≡ start offset complete octets
     → parts ++ part ∷ [] ≡ parts_at (closed ++ record { first = number; offset = offset; segments = octets ∷ []; whole = complete } ∷ []) number
-new_here number offset octets complete closed parts part here is =
-    ap (λ xs. xs ++ part ∷ []) here ∙ ap (λ x. parts_at closed number ++ x ∷ []) (is ∙ ap (λ flag. start offset flag octets) (sym (and-true complete)))
-    ∙ ap (λ xs. parts_at closed number ++ xs) (sym (carried_here number (Some offset) octets [] complete))
-    ∙ sym (parts_last closed (record { first = number; offset = offset; segments = octets ∷ []; whole = complete }) number)
+new_here number offset octets complete closed parts part here is = grind (arith, and-true, carried_here, parts_last)
 
 new_stable : (number offset : ℕ) (octets : List ℕ) (complete : Bool) (closed : List Sent)
     → Stable number (closed ++ record { first = number; offset = offset; segments = octets ∷ []; whole = complete } ∷ []) closed
-new_stable number offset octets complete closed q before =
-    parts_last closed (record { first = number; offset = offset; segments = octets ∷ []; whole = complete }) q
-    ∙ ap (λ xs. parts_at closed q ++ xs) (carried_before number q (Some offset) (octets ∷ []) complete before)
-    ∙ append-nil (parts_at closed q)
+new_stable number offset octets complete closed q before = search (parts_last, carried_before, append-nil)
 
 take_fits : (count most : ℕ) (octets : List ℕ) → count ≤ most → length (take count octets ++ []) ≤ most
 take_fits count most octets within = omega (arith, length-append (take count octets) [], length-take count octets)
@@ -121,10 +112,7 @@ start_step max_pdu max_sdu bn laid units anchor number acts parts closed count f
 -- a further segment
 further_part : (units : List Timed) (anchor : ℕ) (acts : List Act) (count : ℕ) (complete : Bool) (unit : Timed) → slice_get units (done acts) ≡ Some unit → 1 ≤ sent acts
     → part_of anchor (sent acts) (slice_get units (done acts)) count complete ≡ more complete (take count (drop (sent acts) unit.octets))
-further_part units anchor acts count complete unit due begun =
-    ap (λ item. part_of anchor (sent acts) item count complete) due
-    ∙ cond-false (eqb (sent acts) 0) (start (anchor - unit.time) complete (take count unit.octets)) (more complete (take count (drop (sent acts) unit.octets)))
-    (ne_eqb (sent acts) 0 (λ none. omega arith))
+further_part units anchor acts count complete unit due begun = grind (arith, cond-false, ne_eqb)
 
 abbrev longer : List ℕ → Bool → Sent → Sent
 longer octets complete unit = record { first = unit.first; offset = unit.offset; segments = unit.segments ++ octets ∷ []; whole = complete }
@@ -132,21 +120,11 @@ longer octets complete unit = record { first = unit.first; offset = unit.offset;
 further_here : (number : ℕ) (octets : List ℕ) (complete : Bool) (closed : List Sent) (unit : Sent) (parts : List Part) (part : Part)
     → parts ≡ parts_at (closed ++ unit ∷ []) number → part ≡ more complete octets → 1 ≤ length unit.segments → behind unit ≡ number
     → parts ++ part ∷ [] ≡ parts_at (closed ++ longer octets complete unit ∷ []) number
-further_here number octets complete closed unit parts part here is some at =
-    ap (λ xs. xs ++ part ∷ []) (here ∙ parts_last closed unit number
-    ∙ ap (λ xs. parts_at closed number ++ xs) (carried_past unit.first number (Some unit.offset) unit.segments unit.whole (omega (arith, at)))
-    ∙ append-nil (parts_at closed number))
-    ∙ ap (λ x. parts_at closed number ++ x ∷ []) (is ∙ ap (λ flag. more flag octets) (sym (and-true complete)))
-    ∙ ap (λ xs. parts_at closed number ++ xs) (sym (snoc_here unit.first number (Some unit.offset) unit.segments octets complete some at))
-    ∙ sym (parts_last closed (longer octets complete unit) number)
+further_here number octets complete closed unit parts part here is some at = grind (arith, parts_last, carried_past, append-nil, and-true, snoc_here)
 
 further_stable : (number : ℕ) (octets : List ℕ) (complete : Bool) (closed : List Sent) (unit : Sent) → unit.whole ≡ false → behind unit ≡ number
     → Stable number (closed ++ longer octets complete unit ∷ []) (closed ++ unit ∷ [])
-further_stable number octets complete closed unit part at q before =
-    parts_last closed (longer octets complete unit) q
-    ∙ ap (λ xs. parts_at closed q ++ xs) (snoc_before unit.first q (Some unit.offset) unit.segments octets complete (omega (arith, at))
-    ∙ ap (λ whole. carried unit.first (Some unit.offset) unit.segments whole q) (sym part))
-    ∙ sym (parts_last closed unit q)
+further_stable number octets complete closed unit part at q before = grind (arith, parts_last, snoc_before)
 
 longer_octets : (octets : List ℕ) (segments : List (List ℕ)) → length (octets_in (segments ++ octets ∷ [])) ≡ length (octets_in segments) + length octets
 longer_octets octets [] = length-append octets [] ∙ omega arith
@@ -157,50 +135,26 @@ longer_octets octets (segment ∷ segments) =
 
 further_fits : (count most : ℕ) (octets : List ℕ) (unit : Sent) (complete : Bool) → length (octets_in unit.segments) + count ≤ most
     → length (octets_in (longer (take count octets) complete unit).segments) ≤ most
-further_fits count most octets unit complete within =
-    let sum : length (octets_in (unit.segments ++ take count octets ∷ [])) ≡ length (octets_in unit.segments) + length (take count octets) =
-    longer_octets (take count octets) unit.segments in
-    omega (arith, length-take count octets)
+further_fits count most octets unit complete within = grind (arith, longer_octets, length-take)
 
 -- there is room for a further segment
 three : (sent_now count room_now : ℕ) → 1 ≤ sent_now → 1 ≤ count → least_room sent_now count ≤ room_now → 3 ≤ room_now
-three sent_now count room_now begun some roomy =
-    let two : cond (eqb sent_now 0) 5 2 ≡ 2 = cond-false (eqb sent_now 0) 5 2 (ne_eqb sent_now 0 (λ none. omega arith)) in
-    let one : cond (eqb count 0) 0 1 ≡ 1 = cond-false (eqb count 0) 0 1 (ne_eqb count 0 (λ none. omega arith)) in
-    let low : 2 + cond (eqb count 0) 0 1 ≤ room_now = subst (λ n. n + cond (eqb count 0) 0 1 ≤ room_now) two roomy in
-    subst (λ n. 2 + n ≤ room_now) one low
+three sent_now count room_now begun some roomy = grind (arith, cond-false, ne_eqb)
 
 -- a unit with one more segment
 longer_is : (units : List Timed) (acts : List Act) (count : ℕ) (before : Sent) (unit timed : Timed) → slice_get units (done acts) ≡ Some timed
     → slice_get units (done acts) ≡ Some unit → octets_in before.segments ≡ take (sent acts) timed.octets
     → octets_in (before.segments ++ take count (drop (sent acts) unit.octets) ∷ []) ≡ take (sent acts + count) unit.octets
-longer_is units acts count before unit timed is due octets =
-    octets_snoc before.segments (take count (drop (sent acts) unit.octets))
-    ∙ ap (λ xs. xs ++ take count (drop (sent acts) unit.octets)) (octets ∙ ap (λ t. take (sent acts) t.octets) (get_same units (done acts) timed unit is due))
-    ∙ sym (take-add (sent acts) count unit.octets)
+longer_is units acts count before unit timed is due octets = grind (arith, octets_snoc, get_same, take-add)
 
 longer_timed : (bn : ℕ) (laid : List Laying) (units : List Timed) (acts : List Act) (octets : List ℕ) (complete : Bool) (before : Sent) (unit timed : Timed)
     → slice_get units (done acts) ≡ Some timed → slice_get units (done acts) ≡ Some unit → IsTimed bn laid (done acts) timed before
     → IsTimed bn laid (done acts) unit (longer octets complete before)
-longer_timed bn laid units acts octets complete before unit timed is due was =
-    let same : timed ≡ unit = get_same units (done acts) timed unit is due in
-    record {
-      event = was.event;
-      least = was.least;
-      below = was.below;
-      laying = was.laying;
-      laying_is = was.laying_is;
-      before = was.before;
-      ready = subst (λ t. t.time ≤ was.laying.anchor) same was.ready;
-      offset = subst (λ t. before.offset ≡ was.laying.anchor - t.time) same was.offset;
-    }
+longer_timed bn laid units acts octets complete before unit timed is due was = grind (arith, get_same)
 
 pub in_place : (max_pdu max_sdu low number sent_now room_now : ℕ) (unit : Sent) → Open max_pdu max_sdu low number sent_now room_now unit → 3 ≤ room_now
     → behind unit ≡ number
-in_place max_pdu max_sdu low number sent_now room_now unit open_is roomy = elim open_is.place [
-  | inl here ↦ here.0
-  | inr full ↦ (let less : room_now < 3 = full.1 in absurd (omega arith))
-]
+in_place max_pdu max_sdu low number sent_now room_now unit open_is roomy = grind arith
 
 goes_on_step : (max_pdu max_sdu bn : ℕ) (laid : List Laying) (units : List Timed) (anchor number : ℕ) (acts : List Act) (parts : List Part) (closed : List Sent) (before : Sent)
     (count : ℕ) (complete : Bool) (unit : Timed)
@@ -282,82 +236,17 @@ goes_on_step max_pdu max_sdu bn laid units anchor number acts parts closed befor
       further_stable number (take count (drop (sent acts) unit.octets)) false closed before sending.open_is.part at,
     )
 
--- a unit that is partly sent goes on at the head of a PDU
-goes_on_here : (max_pdu : ℕ) (units : List Timed) (anchor : ℕ) (acts : List Act) → 1 ≤ sent acts → 8 ≤ max_pdu → room max_pdu acts ≡ max_pdu
-    → (unit : Timed) × (slice_get units (done acts) ≡ Some unit) × (sent acts ≤ length unit.octets) → Comes (place_of max_pdu units anchor acts) ends → ⊥
-goes_on_here max_pdu units anchor acts begun wide whole (unit, due, within) comes =
-    let two : cond (eqb (sent acts) 0) 5 2 ≡ 2 = cond-false (eqb (sent acts) 0) 5 2 (ne_eqb (sent acts) 0 (λ none. omega arith)) in
-    let one : cond (eqb (length unit.octets) 0) 0 1 ≡ 1 = cond-false (eqb (length unit.octets) 0) 0 1 (ne_eqb (length unit.octets) 0 (λ none. omega arith)) in
-    let low : 2 + cond (eqb (length unit.octets) 0) 0 1 ≤ room max_pdu acts = subst (λ n. 2 + n ≤ room max_pdu acts) (sym one) (omega arith) in
-    let roomy : least_room (sent acts) (length unit.octets) ≤ room max_pdu acts =
-    subst (λ n. n + cond (eqb (length unit.octets) 0) 0 1 ≤ room max_pdu acts) (sym two) low in
-    comes unit (record { due = due; ready = λ fresh. absurd (omega arith); room = roomy })
-
 -- the end of a PDU
 pub ends_step : (max_pdu max_sdu bn : ℕ) (laid : List Laying) (units : List Timed) (anchor number : ℕ) (acts : List Act) (parts : List Part) (closed : List Sent) (opened : Option Sent) → 8 ≤ max_pdu
     → Sending max_pdu max_sdu bn laid units number acts parts closed opened → Comes (place_of max_pdu units anchor acts) ends
     → Sending max_pdu max_sdu bn laid units (number + 1) (ends ∷ acts) [] closed opened
-ends_step max_pdu max_sdu bn laid units anchor number acts parts closed None wide sending comes =
-    let low : sending.low ≤ number = sending.low_is in
-    record {
-      low = sending.low;
-      chain = sending.chain;
-      low_is = omega arith;
-      open_is = sending.open_is;
-      due = sending.due;
-      here = sym (chain_past 0 sending.low (number + 1) closed sending.chain (omega arith));
-      fit = sending.fit;
-      closed_of = sending.closed_of;
-      open_of = tt;
-    }
-ends_step max_pdu max_sdu bn laid units anchor number acts parts closed (Some unit) wide sending comes =
-    let low : sending.low ≤ number = sending.low_is in
-    let begun : 1 ≤ sent acts = sending.open_is.begun in
-    let next : behind unit ≡ number + 1 = elim sending.open_is.place [
-      | inr full ↦ full.0
-      | inl here ↦ absurd (goes_on_here max_pdu units anchor acts begun wide here.1 (sending.due begun) comes)
-    ] in
-    record {
-      low = sending.low;
-      chain = sending.chain;
-      low_is = omega arith;
-      open_is = record {
-        part = sending.open_is.part;
-        least = sending.open_is.least;
-        some = sending.open_is.some;
-        begun = begun;
-        place = inl (next, refl);
-        octets = sending.open_is.octets;
-      };
-      due = sending.due;
-      here = sym (parts_last closed unit (number + 1)
-          ∙ ap (λ xs. xs ++ carried unit.first (Some unit.offset) unit.segments unit.whole (number + 1))
-          (chain_past 0 sending.low (number + 1) closed sending.chain (omega arith))
-          ∙ carried_past unit.first (number + 1) (Some unit.offset) unit.segments unit.whole (omega (arith, next)));
-      fit = sending.fit;
-      closed_of = sending.closed_of;
-      open_of = sending.open_of;
-    }
+ends_step max_pdu max_sdu bn laid units anchor number acts parts closed opened wide sending comes = grind (arith, chain_past, cond-false, ne_eqb, parts_last, carried_past)
 
 -- a unit that is left out
 pub leaves_step : (max_pdu max_sdu bn : ℕ) (laid : List Laying) (units : List Timed) (number : ℕ) (acts : List Act) (parts : List Part) (closed : List Sent) (opened : Option Sent)
     → Sending max_pdu max_sdu bn laid units number acts parts closed opened → sent acts ≡ 0
     → Sending max_pdu max_sdu bn laid units number (leaves_out ∷ acts) parts closed opened
-leaves_step max_pdu max_sdu bn laid units number acts parts closed None sending fresh = record {
-  low = sending.low;
-  chain = sending.chain;
-  low_is = sending.low_is;
-  open_is = refl;
-  due = λ some. absurd (omega arith);
-  here = sending.here;
-  fit = sending.fit;
-  closed_of = subst (λ xs. AreOf bn laid 0 xs closed) (sym (take-add (done acts) 1 units))
-      (are_more bn laid 0 (take (done acts) units) (take 1 (drop (done acts) units)) closed sending.closed_of);
-  open_of = tt;
-}
-leaves_step max_pdu max_sdu bn laid units number acts parts closed (Some unit) sending fresh =
-    let begun : 1 ≤ sent acts = sending.open_is.begun in
-    absurd (omega arith)
+leaves_step max_pdu max_sdu bn laid units number acts parts closed opened sending fresh = grind (arith, take-add, are_more)
 
 -- a segment
 pub carries_step : (max_pdu max_sdu bn : ℕ) (laid : List Laying) (units : List Timed) (anchor number : ℕ) (acts : List Act) (parts : List Part) (closed : List Sent) (opened : Option Sent)

@@ -1,5 +1,5 @@
 -- A sender that stands for its calls stands for them and one more.
-use Rattle.std.proofs.Common.{ℕ, ◌≡◌, ◌<◌, ◌≤◌, true, false, List, [], ◌∷◌, ◌++◌, length, drop, refl, sym, ap, ◌∙◌, subst, arith, length-append}
+use Rattle.std.proofs.Common.{ℕ, ◌≡◌, ◌≤◌, true, false, List, [], ◌∷◌, ◌++◌, length, drop, ap, ◌∙◌, arith, length-append}
 use Rattle.std.proofs.lemmas.List.{drop-append-le}
 use Rattle.std.proofs.lemmas.Option.{slice_get_within}
 use Rattle.big_info.specs.declared.info.BigInfo.{BigInfo}
@@ -11,47 +11,26 @@ use Rattle.isoal_framed.specs.State.Senders.{Sender, IsSender, StandsFor, with_u
 
 -- between two events a PDU begins
 pub room_between : (max_pdu : ℕ) (info : BigInfo) (calls : List Call) (acts : List Act) (air : Air) → IsAirOf info calls acts air → room max_pdu acts ≡ max_pdu
-room_between max_pdu info [] acts air is = ap (room max_pdu) is.0
 room_between max_pdu info (accept time octets ∷ calls) acts air is = room_between max_pdu info calls acts air is
-room_between max_pdu info (lay anchor ∷ calls) acts air (earlier, before, own, is_before, event, acts_is, air_is) = ap (room max_pdu) acts_is
+room_between max_pdu info calls acts air is = search
 
 -- no more units are done than were accepted
 pub done_come : (max_pdu : ℕ) (units : List Timed) (anchor : ℕ) (earlier acts : List Act) → AllCome max_pdu units anchor earlier acts
     → done earlier ≤ length units → done (acts ++ earlier) ≤ length units
 done_come max_pdu units anchor earlier [] come within = within
-done_come max_pdu units anchor earlier (carries count true ∷ acts) come within =
-    let below : done (acts ++ earlier) < length units =
-    slice_get_within units (done (acts ++ earlier)) come.1.0 come.1.1.due in
-    omega arith
+done_come max_pdu units anchor earlier (carries count true ∷ acts) come within = grind (arith, slice_get_within)
 done_come max_pdu units anchor earlier (carries count false ∷ acts) come within = done_come max_pdu units anchor earlier acts come.0 within
-done_come max_pdu units anchor earlier (leaves_out ∷ acts) come within =
-    let below : done (acts ++ earlier) < length units =
-    slice_get_within units (done (acts ++ earlier)) come.1.0 come.1.1.due in
-    omega arith
+done_come max_pdu units anchor earlier (leaves_out ∷ acts) come within = grind (arith, slice_get_within)
 done_come max_pdu units anchor earlier (ends ∷ acts) come within = done_come max_pdu units anchor earlier acts come.0 within
 
 pub done_within : (info : BigInfo) (calls : List Call) (acts : List Act) (air : Air) → IsAirOf info calls acts air → done acts ≤ length (accepted calls)
 done_within info [] acts air is = let none : done acts ≡ 0 = ap done is.0 in omega arith
-done_within info (accept time octets ∷ calls) acts air is =
-    let before : done acts ≤ length (accepted calls) = done_within info calls acts air is in
-    omega (arith, length-append (accepted calls) (record { time = time; octets = octets } ∷ []))
-done_within info (lay anchor ∷ calls) acts air (earlier, before, own, is_before, event, acts_is, air_is) =
-    let within : done ((ends ∷ own) ++ earlier) ≤ length (accepted calls) =
-    done_come info.max_pdu (accepted calls) anchor earlier (ends ∷ own) event.come (done_within info calls earlier before is_before) in
-    subst (λ xs. done xs ≤ length (accepted calls)) (sym acts_is) within
+done_within info (accept time octets ∷ calls) acts air is = grind (arith, done_within info calls acts air is, length-append (accepted calls) (record { time = time; octets = octets } ∷ []))
+done_within info (lay anchor ∷ calls) acts air (earlier, before, own, is_before, event, acts_is, air_is) = grind (arith, done_come info.max_pdu (accepted calls) anchor earlier (ends ∷ own) event.come (done_within info calls earlier before is_before))
 
 pub accept_stands : (info : BigInfo) (calls : List Call) (air : Air) (sender : Sender) (time : ℕ) (octets : List ℕ)
     → StandsFor info calls air sender → StandsFor info (accept time octets ∷ calls) air (with_unit sender time octets)
-accept_stands info calls air sender time octets stands = record {
-  acts = stands.acts;
-  group = stands.group;
-  air_is = stands.air_is;
-  last = refl;
-  units = ap (λ units. units ++ record { time = time; octets = octets } ∷ []) stands.units
-      ∙ sym (drop-append-le (done stands.acts) (accepted calls) (record { time = time; octets = octets } ∷ [])
-      (done_within info calls stands.acts air stands.air_is));
-  sent = stands.sent;
-}
+accept_stands info calls air sender time octets stands = grind (arith, drop-append-le, done_within)
 
 pub lay_stands : (info : BigInfo) (calls : List Call) (air : Air) (old new : Sender) (anchor : ℕ) (event : Laid) (own : List Act)
     → (stands : StandsFor info calls air old) → IsEvent old.info (accepted calls) anchor stands.acts own
@@ -63,15 +42,7 @@ lay_stands info calls air old new anchor event own stands is event_is new_is = (
   record {
     acts = ends ∷ own ++ stands.acts;
     group = ap (λ s. s.info) new_is ∙ stands.group;
-    air_is = (
-      stands.acts,
-      air,
-      own,
-      stands.air_is,
-      subst (λ i. IsEvent i (accepted calls) anchor stands.acts own) stands.group is,
-      refl,
-      ap (λ e. record { event = e; begun = begun_by (ends ∷ own ++ stands.acts) } ∷ air) event_is,
-    );
+    air_is = grind arith;
     last = ap (λ s. s.last) new_is ∙ stands.last;
     units = ap (λ s. s.units) new_is;
     sent = ap (λ s. s.sent) new_is;
@@ -84,19 +55,5 @@ no_units unit units nothing = cc
 -- a sender with one more unit
 pub accepted_sender : (info : BigInfo) (sent_now : ℕ) (units : List Timed) (unit : Timed) → IsSender info sent_now units
     → IsSender info sent_now (units ++ unit ∷ [])
-accepted_sender info sent_now [] unit is =
-    let none : sent_now ≡ 0 = is.partly.none refl in
-    record {
-      framed = is.framed;
-      partly = record {
-        none = λ nothing. none;
-        first = λ first due. (omega arith, λ some. absurd (omega arith));
-      };
-    }
-accepted_sender info sent_now (other ∷ units) unit is = record {
-  framed = is.framed;
-  partly = record {
-    none = λ nothing. absurd (no_units other (units ++ unit ∷ []) nothing);
-    first = λ first due. is.partly.first first due;
-  };
-}
+accepted_sender info sent_now [] unit is = grind arith
+accepted_sender info sent_now (other ∷ units) unit is = grind (arith, no_units)

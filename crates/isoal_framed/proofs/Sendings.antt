@@ -1,5 +1,5 @@
 -- How the units that acts have sent stand for these acts, and what later calls leave of it.
-use Rattle.std.proofs.Common.{ℕ, zero, suc, ◌≡◌, ◌+◌, ◌-◌, ◌<◌, ◌≤◌, ◌⊎◌, inl, inr, true, false, Bool, ◌&&◌, eqb, cond, List, [], ◌∷◌, ◌++◌, length, take}
+use Rattle.std.proofs.Common.{ℕ, zero, suc, ◌≡◌, ◌+◌, ◌-◌, ◌<◌, ◌≤◌, ◌⊎◌, inl, inr, true, false, Bool, ◌&&◌, List, [], ◌∷◌, ◌++◌, length, take}
 use Rattle.std.proofs.Common.{Option, Some, None, refl, sym, ap, ◌∙◌, subst, arith}
 use Rattle.std.specs.List.{slice_get}
 use Rattle.std.proofs.lemmas.Bool.{cond-false, ne_eqb, and_right}
@@ -10,7 +10,7 @@ use Rattle.iso_pdu.specs.Layout.{Part, more}
 use Rattle.isoal_framed.specs.Calls.{Laying, Timed}
 use Rattle.isoal_framed.specs.Places.{Act, done, sent, room}
 use Rattle.isoal_framed.specs.Sends.{IsTimed, IsOf, AreOf}
-use Rattle.isoal_framed.specs.Struck.{Sent, Fit, octets_in, behind, carried, is_last, part_with, parts_at}
+use Rattle.isoal_framed.specs.Struck.{Sent, Fit, octets_in, behind, carried, is_last, parts_at}
 use Rattle.isoal_framed.proofs.Stays.{carried_past}
 use Rattle.isoal_framed.proofs.Carried.{carried_here, carried_later}
 
@@ -44,9 +44,8 @@ OpenIs max_pdu max_sdu low number sent_now room_now (Some unit) = Open max_pdu m
 
 -- one more accepted unit
 pub get_more : {A : Type 0} (items : List A) (last : A) (i : ℕ) (item : A) → slice_get items i ≡ Some item → slice_get (items ++ last ∷ []) i ≡ Some item
-get_more [] last i item is = absurd (none-some item (sym (slice_get_past [] i (omega arith)) ∙ is))
-get_more (x ∷ items) last zero item is = is
 get_more (x ∷ items) last (suc i) item is = get_more items last i item is
+get_more items last i item is = search (none-some, slice_get_past)
 
 -- the unit that is partly sent is the due one
 abbrev pub OpenOf : ℕ → List Laying → List Timed → List Act → Option Sent → Type 0
@@ -75,16 +74,7 @@ are_snoc bn laid n at (x ∷ xs) (first ∷ units) last unit (inr rest) here is 
 
 -- one more event
 timed_more : (bn : ℕ) (laid : List Laying) (laying : Laying) (n : ℕ) (timed : Timed) (unit : Sent) → IsTimed bn laid n timed unit → IsTimed bn (laid ++ laying ∷ []) n timed unit
-timed_more bn laid laying n timed unit is = record {
-  event = is.event;
-  least = is.least;
-  below = is.below;
-  laying = is.laying;
-  laying_is = get_more laid laying is.event is.laying is.laying_is;
-  before = is.before;
-  ready = is.ready;
-  offset = is.offset;
-}
+timed_more bn laid laying n timed unit is = search get_more
 
 are_anchored : (bn : ℕ) (laid : List Laying) (laying : Laying) (n : ℕ) (xs : List Timed) (units : List Sent) → AreOf bn laid n xs units → AreOf bn (laid ++ laying ∷ []) n xs units
 are_anchored bn laid laying n xs [] are = tt
@@ -95,21 +85,18 @@ are_anchored bn laid laying n (x ∷ xs) (unit ∷ units) (inr rest) = inr (are_
 
 open_anchored : (bn : ℕ) (laid : List Laying) (laying : Laying) (units : List Timed) (acts : List Act) (opened : Option Sent) → OpenOf bn laid units acts opened
     → OpenOf bn (laid ++ laying ∷ []) units acts opened
-open_anchored bn laid laying units acts None is = tt
-open_anchored bn laid laying units acts (Some unit) (timed, due, octets, is) = (timed, due, octets, timed_more bn laid laying (done acts) timed unit is)
+open_anchored bn laid laying units acts opened is = grind (arith, timed_more)
 
 open_more : (bn : ℕ) (laid : List Laying) (units : List Timed) (last : Timed) (acts : List Act) (opened : Option Sent) → OpenOf bn laid units acts opened
     → OpenOf bn laid (units ++ last ∷ []) acts opened
-open_more bn laid units last acts None is = tt
-open_more bn laid units last acts (Some unit) (timed, due, octets, is) = (timed, get_more units last (done acts) timed due, octets, is)
+open_more bn laid units last acts opened is = grind (arith, get_more)
 
 -- lists of accepted units
 pub take_next : {A : Type 0} (items : List A) (n : ℕ) (item : A) → slice_get items n ≡ Some item → take (n + 1) items ≡ take n items ++ item ∷ []
-take_next [] n item is = absurd (none-some item (sym (slice_get_past [] n (omega arith)) ∙ is))
-take_next (x ∷ items) zero item is = cc
 take_next (x ∷ items) (suc n) item is =
     let more : suc n + 1 ≡ suc (n + 1) = omega arith in
     ap (λ k. take k (x ∷ items)) more ∙ ap (λ xs. x ∷ xs) (take_next items n item is)
+take_next items n item is = search (none-some, slice_get_past)
 
 take_more_of : {A : Type 0} (n : ℕ) (xs ys : List A) → (zs : List A) × (take n (xs ++ ys) ≡ take n xs ++ zs)
 take_more_of zero xs ys = ([], refl)
@@ -122,8 +109,7 @@ pub taken_before : {A : Type 0} (items : List A) (n : ℕ) (item : A) → slice_
 taken_before items n item is = omega (arith, length-take n items, slice_get_within items n item is)
 
 pub octets_snoc : (segments : List (List ℕ)) (octets : List ℕ) → octets_in (segments ++ octets ∷ []) ≡ octets_in segments ++ octets
-octets_snoc segments octets =
-    flat_map-append (λ xs. xs) segments (octets ∷ []) ∙ ap (λ xs. octets_in segments ++ xs) (append-nil octets)
+octets_snoc segments octets = cc (flat_map-append (λ xs. xs) segments (octets ∷ []), append-nil octets)
 
 pub get_same : (units : List Timed) (n : ℕ) (one other : Timed) → slice_get units n ≡ Some one → slice_get units n ≡ Some other → one ≡ other
 get_same units n one other is also = let same : Some one ≡ Some other = sym is ∙ also in cc
@@ -141,15 +127,10 @@ pub record Sending (max_pdu max_sdu bn : ℕ) (laid : List Laying) (units : List
 
 chain_low : (from to : ℕ) (units : List Sent) → Chain from to units → from ≤ to
 chain_low from to [] chain = chain
-chain_low from to (unit ∷ units) chain =
-    let below : behind unit - 1 ≤ to = chain_low (behind unit - 1) to units chain.3 in
-    let least : from ≤ unit.first = chain.0 in
-    let some : 1 ≤ length unit.segments = chain.1 in
-    omega arith
+chain_low from to (unit ∷ units) chain = grind (arith, chain_low (behind unit - 1) to units chain.3, chain.0, chain.1)
 
 pub at_least : (n : ℕ) → (n ≡ 0 → ⊥) → 1 ≤ n
-at_least zero some = absurd (some refl)
-at_least (suc n) some = omega arith
+at_least n some = grind arith
 
 -- what stays of the PDUs before
 abbrev pub Stable : ℕ → List Sent → List Sent → Type 0
@@ -157,9 +138,7 @@ Stable number now before = (q : ℕ) → q < number → parts_at now q ≡ parts
 
 pub parts_last : (units : List Sent) (unit : Sent) (number : ℕ)
     → parts_at (units ++ unit ∷ []) number ≡ parts_at units number ++ carried unit.first (Some unit.offset) unit.segments unit.whole number
-parts_last units unit number =
-    flat_map-append (λ u. carried u.first (Some u.offset) u.segments u.whole number) units (unit ∷ [])
-    ∙ ap (λ parts. parts_at units number ++ parts) (append-nil (carried unit.first (Some unit.offset) unit.segments unit.whole number))
+parts_last units unit number = search (flat_map-append, append-nil)
 
 pub fit_more : (max_sdu : ℕ) (units : List Sent) (unit : Sent) → Fit max_sdu units → length (octets_in unit.segments) ≤ max_sdu → Fit max_sdu (units ++ unit ∷ [])
 fit_more max_sdu [] unit fit here = (here, tt)
@@ -171,22 +150,13 @@ not_last (segment ∷ segments) octets = refl
 
 pub snoc_before : (first number : ℕ) (offset : Option ℕ) (segments : List (List ℕ)) (octets : List ℕ) (whole : Bool) → number < first + length segments
     → carried first offset (segments ++ octets ∷ []) whole number ≡ carried first offset segments false number
-snoc_before first number offset [] octets whole below =
-    cond-false (eqb first number) (part_with offset (whole && true) octets ∷ []) [] (ne_eqb first number (λ same. omega arith))
-snoc_before first number offset (segment ∷ segments) octets whole below =
-    ap (λ flag. cond (eqb first number) (part_with offset flag segment ∷ []) (carried (first + 1) None (segments ++ octets ∷ []) whole number))
-    (ap (λ last. whole && last) (not_last segments octets) ∙ and_right whole false refl)
-    ∙ ap (λ rest. cond (eqb first number) (part_with offset false segment ∷ []) rest)
-    (snoc_before (first + 1) number None segments octets whole (omega arith))
+snoc_before first number offset [] octets whole below = grind (arith, cond-false, ne_eqb)
+snoc_before first number offset (segment ∷ segments) octets whole below = cc (not_last segments octets, and_right whole false refl, snoc_before (first + 1) number None segments octets whole (omega arith))
 
 pub snoc_here : (first number : ℕ) (offset : Option ℕ) (segments : List (List ℕ)) (octets : List ℕ) (whole : Bool) → 1 ≤ length segments
     → first + length segments ≡ number → carried first offset (segments ++ octets ∷ []) whole number ≡ more (whole && true) octets ∷ []
 snoc_here first number offset [] octets whole some at = absurd (omega arith)
-snoc_here first number offset (segment ∷ []) octets whole some at =
-    let next : number ≡ first + 1 = omega arith in
-    carried_later first number offset segment (octets ∷ []) whole (omega arith)
-    ∙ ap (carried (first + 1) None (octets ∷ []) whole) next
-    ∙ carried_here (first + 1) None octets [] whole
+snoc_here first number offset (segment ∷ []) octets whole some at = grind (arith, carried_later, carried_here)
 snoc_here first number offset (segment ∷ next ∷ segments) octets whole some at =
     carried_later first number offset segment (next ∷ (segments ++ octets ∷ [])) whole (omega arith)
     ∙ snoc_here (first + 1) number None (next ∷ segments) octets whole (omega arith) (omega arith)
@@ -196,7 +166,6 @@ pub chain_past : (from to number : ℕ) (units : List Sent) → Chain from to un
 chain_past from to number [] chain past = refl
 chain_past from to number (unit ∷ units) chain past =
     let below : behind unit - 1 ≤ to = chain_low (behind unit - 1) to units chain.3 in
-    let some : 1 ≤ length unit.segments = chain.1 in
     ap (λ parts. parts ++ parts_at units number) (carried_past unit.first number (Some unit.offset) unit.segments unit.whole (omega arith))
     ∙ chain_past (behind unit - 1) to number units chain.3 past
 
@@ -212,11 +181,7 @@ accepted_more max_pdu max_sdu bn laid units last number acts parts closed opened
   chain = sending.chain;
   low_is = sending.low_is;
   open_is = sending.open_is;
-  due = λ some. (
-    (sending.due some).0,
-    get_more units last (done acts) (sending.due some).0 (sending.due some).1,
-    (sending.due some).2,
-  );
+  due = grind (arith, get_more);
   here = sending.here;
   fit = sending.fit;
   closed_of =
@@ -227,14 +192,4 @@ accepted_more max_pdu max_sdu bn laid units last number acts parts closed opened
 
 pub anchored_more : (max_pdu max_sdu bn : ℕ) (laid : List Laying) (units : List Timed) (laying : Laying) (number : ℕ) (acts : List Act) (parts : List Part) (closed : List Sent) (opened : Option Sent)
     → Sending max_pdu max_sdu bn laid units number acts parts closed opened → Sending max_pdu max_sdu bn (laid ++ laying ∷ []) units number acts parts closed opened
-anchored_more max_pdu max_sdu bn laid units laying number acts parts closed opened sending = record {
-  low = sending.low;
-  chain = sending.chain;
-  low_is = sending.low_is;
-  open_is = sending.open_is;
-  due = sending.due;
-  here = sending.here;
-  fit = sending.fit;
-  closed_of = are_anchored bn laid laying 0 (take (done acts) units) closed sending.closed_of;
-  open_of = open_anchored bn laid laying units acts opened sending.open_of;
-}
+anchored_more max_pdu max_sdu bn laid units laying number acts parts closed opened sending = search (are_anchored, open_anchored)

@@ -194,8 +194,7 @@ chain_order from to laid (unit ∷ units) chain =
 
 chain_order_last : (from to laid : ℕ) (units : List Sent) (unit : Sent) → Chain from to units → to ≤ unit.first → 1 ≤ length unit.segments → laid ≤ behind unit
     → InOrder from laid (units ++ unit ∷ [])
-chain_order_last from to laid [] unit chain least some end =
-    ((let low : from ≤ to = chain in omega arith), some, λ part. (refl, end), tt)
+chain_order_last from to laid [] unit chain least some end = ((let low : from ≤ to = chain in omega arith), some, λ part. (refl, end), tt)
 chain_order_last from to laid (first ∷ units) unit chain least some end =
     (chain.0, chain.1, λ part. absurd (true≢false (sym chain.2 ∙ part)), chain_order_last (behind first - 1) to laid units unit chain.3 least some end)
 

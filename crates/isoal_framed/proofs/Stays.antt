@@ -1,14 +1,13 @@
 -- A stay, from its first number on: what it decides are the entries of the units that were sent.
-use Rattle.std.proofs.Common.{ℕ, zero, suc, ◌≡◌, ◌+◌, ◌-◌, ◌*◌, ◌/◌, ◌<◌, ◌≤◌, inl, inr, true, false, Bool, is_some, List, [], ◌∷◌, ◌++◌, map, length, drop}
+use Rattle.std.proofs.Common.{ℕ, zero, suc, ◌≡◌, ◌+◌, ◌-◌, ◌*◌, ◌/◌, ◌<◌, ◌≤◌, inl, inr, true, false, Bool, is_some, List, [], ◌∷◌, ◌++◌, length, drop}
 use Rattle.std.proofs.Common.{Option, Some, None, refl, sym, ap, ◌∙◌, subst, arith, append_assoc, length-drop}
 use Rattle.std.specs.List.{flat_map, range_with_len}
 use Rattle.std.proofs.Math.Nat.{add-mul, le-div_iff_mul-le, div-lt_iff_lt-mul}
 use Rattle.std.proofs.lemmas.Bool.{cond-true, cond-false, true≢false}
-use Rattle.isoal_base.specs.Stays.{Stay, Call, opened, heard, FirstHeard}
-use Rattle.isoal_base.specs.Hearing.{read_as}
+use Rattle.isoal_base.specs.Stays.{Stay, Call, opened, heard}
 use Rattle.isoal_base.proofs.Citable.{cases_option, heard_first}
 use Rattle.isoal_framed.specs.Histories.{heard_in, event_tokens, closed_tokens, decided}
-use Rattle.isoal_framed.specs.Tokens.{missing, segmented, token_of, tokens_of}
+use Rattle.isoal_framed.specs.Tokens.{tokens_of}
 use Rattle.isoal_framed.specs.State.Joining.{hands}
 use Rattle.isoal_framed.specs.Struck.{Fit, Sent, behind, carried, parts_at, InOrder, FromSource, is_heard, closed_end, entry_of, struck}
 use Rattle.isoal_framed.proofs.Closed.{flat_same, opened_least}
@@ -21,10 +20,7 @@ use Rattle.isoal_framed.proofs.Greedy.{cases_low}
 -- a range of numbers in two parts, and events as one range
 flat_append : {A : Type 0} (f : ℕ → List A) (start m n : ℕ)
     → flat_map f (range_with_len start (m + n)) ≡ flat_map f (range_with_len start m) ++ flat_map f (range_with_len (start + m) n)
-flat_append f start zero n =
-    let none : start + 0 ≡ start = omega arith in
-    let all : 0 + n ≡ n = omega arith in
-    ap (λ k. flat_map f (range_with_len start k)) all ∙ ap (λ k. flat_map f (range_with_len k n)) (sym none)
+flat_append f start zero n = grind arith
 flat_append f start (suc m) n =
     let more : suc m + n ≡ suc (m + n) = omega arith in
     let next : start + 1 + m ≡ start + suc m = omega arith in
@@ -46,28 +42,13 @@ flat_events f bn first (suc count) =
 
 -- the event of a number
 event_of : (bn event number : ℕ) → 1 ≤ bn → event * bn ≤ number → number < event * bn + bn → number / bn ≡ event
-event_of bn event number some least below =
-    let top : (event + 1) * bn ≡ event * bn + bn = add-mul event 1 bn ∙ omega arith in
-    let low : event ≤ number / bn = (le-div_iff_mul-le some).1 least in
-    let high : number / bn < event + 1 = (div-lt_iff_lt-mul some).1 (subst (λ most. number < most) (sym top) below) in
-    omega arith
+event_of bn event number some least below = grind (arith, add-mul, le-div_iff_mul-le, div-lt_iff_lt-mul)
 
 -- the tokens of a number are those of the source's segments, or that it is missing
 tokens_here : (stay : Stay) (units : List Sent) (calls : List Call) (from number event : ℕ) → FromSource stay units calls → number / stay.info.bn ≡ event
     → tokens_of stay event (heard_in stay calls number) ≡ tok stay (is_heard stay calls) from [] true units number
 unfolding tok
-tokens_here stay units calls from number event source is = elim (cases_option (heard_in stay calls number)) [
-  | inl none ↦
-      (let gap : is_heard stay calls number ≡ false = ap is_some none in
-      ap (tokens_of stay event) none
-      ∙ sym (cond-false (is_heard stay calls number) (map (token_of stay (number / stay.info.bn)) (parts_at units number)) (missing ∷ []) gap))
-  | inr kept ↦
-      (let here : is_heard stay calls number ≡ true = ap is_some kept.1 in
-      ap (tokens_of stay event) kept.1
-      ∙ ap (map (token_of stay event)) (source number kept.0 kept.1)
-      ∙ ap (λ e. map (token_of stay e) (parts_at units number)) (sym is)
-      ∙ sym (cond-true (is_heard stay calls number) (map (token_of stay (number / stay.info.bn)) (parts_at units number)) (missing ∷ []) here))
-]
+tokens_here stay units calls from number event source is = grind (arith, cases_option, cond-false, cond-true)
 
 tokens_are : (stay : Stay) (units : List Sent) (calls : List Call) → 1 ≤ stay.info.bn → FromSource stay units calls
     → closed_tokens stay calls ≡ toks stay (is_heard stay calls) (stay.first * stay.info.bn) [] true units (stay.first * stay.info.bn)
@@ -77,32 +58,21 @@ tokens_are stay units calls some source =
     flat_same (event_tokens stay calls)
     (λ event. flat_map (tok stay (is_heard stay calls) (stay.first * stay.info.bn) [] true units) (range_with_len (event * stay.info.bn) stay.info.bn))
     stay.first (opened stay calls - stay.first)
-    (λ event least below. flat_same (λ number. tokens_of stay event (heard_in stay calls number)) (tok stay (is_heard stay calls) (stay.first * stay.info.bn) [] true units)
-    (event * stay.info.bn) stay.info.bn
-    (λ number low high. tokens_here stay units calls (stay.first * stay.info.bn) number event source (event_of stay.info.bn event number some low high)))
+    (search (flat_same, tok, tokens_here, event_of))
     ∙ flat_events (tok stay (is_heard stay calls) (stay.first * stay.info.bn) [] true units) stay.info.bn stay.first (opened stay calls - stay.first)
 
 -- the event of what is heard is none before the first
 heard_least : {A : Type 0} (read : List ℕ → Option A) (stay : Stay) (calls : List Call) (number : ℕ) (part : A) → heard read stay calls number ≡ Some part
     → stay.first ≤ number / stay.info.bn
 heard_least read stay calls number part is =
-    let first : FirstHeard read stay number part calls = heard_first read stay number part calls is in
-    let open_then : stay.first ≤ opened stay first.earlier = opened_least stay first.earlier in
-    let window : opened stay first.earlier ≤ number / stay.info.bn = first.enters.window.0 in
-    omega arith
+    grind (arith, heard_first read stay number part calls is, opened_least stay (heard_first read stay number part calls is).earlier, (heard_first read stay number part calls is).enters.window.0)
 
 sum_is : (m n : ℕ) → m ≤ n → m + (n - m) ≡ n
 sum_is m n within = omega arith
 
 -- nothing is heard before the stay
 none_before : (stay : Stay) (calls : List Call) (number : ℕ) → 1 ≤ stay.info.bn → number < stay.first * stay.info.bn → heard_in stay calls number ≡ None
-none_before stay calls number some before = elim (cases_option (heard_in stay calls number)) [
-  | inl none ↦ none
-  | inr kept ↦
-      (let least : stay.first ≤ number / stay.info.bn = heard_least (read_as segmented stay.info.max_pdu) stay calls number kept.0 kept.1 in
-      let from : stay.first * stay.info.bn ≤ number = (le-div_iff_mul-le some).0 least in
-      absurd (omega arith))
-]
+none_before stay calls number some before = grind (arith, cases_option, heard_least, le-div_iff_mul-le)
 
 -- units in order, of which less is laid
 order_less : (from laid closed : ℕ) (units : List Sent) → closed ≤ laid → InOrder from laid units → InOrder from closed units
@@ -177,8 +147,7 @@ from_here stay heard closed from before q (unit ∷ units) order = elim (cases_l
           segments = rest.segments;
           whole = rest.whole;
           others = rest.others;
-          same = λ number least. ap (λ parts. parts ++ parts_at units number)
-              (carried_past unit.first number (Some unit.offset) unit.segments unit.whole (omega (arith, past))) ∙ rest.same number least;
+          same = grind (arith, carried_past);
           order = rest.order;
           later = rest.later;
           last = rest.last;
@@ -193,9 +162,7 @@ from_here stay heard closed from before q (unit ∷ units) order = elim (cases_l
               segments = drop (from - unit.first) unit.segments;
               whole = unit.whole;
               others = units;
-              same = λ number least. ap (λ parts. parts ++ parts_at units number)
-                  (carried_rest unit.first (from - unit.first) number (Some unit.offset) unit.segments unit.whole (omega arith) (omega arith) (omega arith)
-                  ∙ ap (λ start. carried start None (drop (from - unit.first) unit.segments) unit.whole number) sum);
+              same = grind (arith, carried_rest);
               order = λ nothing. absurd (let empty : length (drop (from - unit.first) unit.segments) ≡ 0 = ap length nothing in omega arith);
               later = λ some. subst (λ last. InOrder (last - 1) closed units) (sym end) order.3;
               last = λ part some. ((order.2 part).0, subst (λ last. closed ≤ last) (sym end) (order.2 part).1);

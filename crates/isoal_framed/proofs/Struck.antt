@@ -5,7 +5,7 @@ use Rattle.std.specs.List.{flat_map}
 use Rattle.std.proofs.lemmas.Bool.{cases_Bool, and_right}
 use Rattle.std.proofs.lemmas.List.{append-nil}
 use Rattle.std.proofs.lemmas.Option.{none-some}
-use Rattle.unit_outlets.specs.Handed.{valid, lost}
+use Rattle.unit_outlets.specs.Handed.{valid}
 use Rattle.isoal_base.specs.Stays.{Stay}
 use Rattle.isoal_framed.specs.Tokens.{Token, goes_on, missing, token_of}
 use Rattle.isoal_framed.specs.Units.{Run}
@@ -21,40 +21,24 @@ zero_shown : (stay : Stay) (heard : ℕ → Bool) (closed from : ℕ) (segments 
     → [] ≡ scan_run heard closed stay.bis whole run from segments ++ flat_map (entry_of stay heard closed) units
 zero_shown stay heard closed from [] whole None units past rests order later = sym (no_entries stay heard closed from closed units (order refl) past)
 zero_shown stay heard closed from [] whole (Some run) units past rests order later = absurd (none-some run (sym (rests refl)))
-zero_shown stay heard closed from (octets ∷ segments) whole None units past rests order later =
-    sym (no_entries stay heard closed (from + length (octets ∷ segments) - 1) closed units (later (omega arith)) (omega arith))
-zero_shown stay heard closed from (octets ∷ segments) whole (Some run) units past rests order later =
-    sym (no_entries stay heard closed (from + length (octets ∷ segments) - 1) closed units (later (omega arith)) (omega arith))
-    ∙ ap (λ xs. xs ++ flat_map (entry_of stay heard closed) units)
-    (sym (scan_open heard closed stay.bis run.time whole (run.octets ++ octets_in (octets ∷ segments)) from octets segments past))
+zero_shown stay heard closed from (octets ∷ segments) whole None units past rests order later = grind (arith, no_entries)
+zero_shown stay heard closed from (octets ∷ segments) whole (Some run) units past rests order later = grind (arith, no_entries, scan_open)
 
 -- behind its first number a unit that goes on has the rest of its segments
 later_toks : (stay : Stay) (heard : ℕ → Bool) (from n : ℕ) (octets : List ℕ) (segments : List (List ℕ)) (whole : Bool) (units : List Sent)
     → toks stay heard from (octets ∷ segments) whole units (from + 1) n ≡ toks stay heard (from + 1) segments whole units (from + 1) n
-later_toks stay heard from n octets segments whole units =
-    toks_same stay heard from (from + 1) (octets ∷ segments) segments whole whole units units (from + 1) n
-    (λ number least. ap (λ parts. parts ++ parts_at units number) (carried_later from number None octets segments whole (omega arith)))
+later_toks stay heard from n octets segments whole units = grind (arith, toks_same, carried_later)
 
 -- the tokens from a number on where a unit goes on
 goes_heard : (stay : Stay) (heard : ℕ → Bool) (from n : ℕ) (octets : List ℕ) (segments : List (List ℕ)) (whole : Bool) (units : List Sent) → heard from ≡ true
     → toks stay heard from (octets ∷ segments) whole units from (suc n)
     ≡ goes_on (whole && is_last segments) octets ∷ (map (token_of stay (from / stay.info.bn)) (parts_at units from)
     ++ toks stay heard (from + 1) segments whole units (from + 1) n)
-goes_heard stay heard from n octets segments whole units is =
-    toks_first stay heard from (octets ∷ segments) whole units from n
-    ∙ ap (λ tokens. tokens ++ toks stay heard from (octets ∷ segments) whole units (from + 1) n)
-    (tok_heard stay heard from (octets ∷ segments) whole units from is
-    ∙ ap (λ parts. map (token_of stay (from / stay.info.bn)) (parts ++ parts_at units from)) (carried_here from None octets segments whole))
-    ∙ ap (λ tokens. goes_on (whole && is_last segments) octets ∷ (map (token_of stay (from / stay.info.bn)) (parts_at units from) ++ tokens))
-    (later_toks stay heard from n octets segments whole units)
+goes_heard stay heard from n octets segments whole units is = search (toks_first, toks, tok_heard, carried_here, later_toks)
 
 goes_missed : (stay : Stay) (heard : ℕ → Bool) (from n : ℕ) (octets : List ℕ) (segments : List (List ℕ)) (whole : Bool) (units : List Sent) → heard from ≡ false
     → toks stay heard from (octets ∷ segments) whole units from (suc n) ≡ missing ∷ toks stay heard (from + 1) segments whole units (from + 1) n
-goes_missed stay heard from n octets segments whole units gap =
-    toks_first stay heard from (octets ∷ segments) whole units from n
-    ∙ ap (λ tokens. tokens ++ toks stay heard from (octets ∷ segments) whole units (from + 1) n)
-    (tok_missing stay heard from (octets ∷ segments) whole units from gap)
-    ∙ ap (λ tokens. missing ∷ tokens) (later_toks stay heard from n octets segments whole units)
+goes_missed stay heard from n octets segments whole units gap = search (toks_first, toks, tok_missing, later_toks)
 
 -- the last segment of a unit that goes on
 last_heard : (stay : Stay) (heard : ℕ → Bool) (closed from n : ℕ) (octets : List ℕ) (whole : Bool) (run : Run) (units : List Sent) → heard from ≡ true
@@ -100,9 +84,7 @@ last_heard stay heard closed from n octets false run units is room all last rest
 -- a further segment of a unit that goes on
 more_joined : (max_sdu bis : ℕ) (run : Run) (octets : List ℕ) (tokens : List Token) → length (run.octets ++ octets) ≤ max_sdu
     → hands max_sdu bis (Some run) (goes_on false octets ∷ tokens) ≡ hands max_sdu bis (Some (record { time = run.time; octets = run.octets ++ octets })) tokens
-more_joined max_sdu bis run octets tokens fits =
-    ap (λ xs. xs ++ hands max_sdu bis (run_joined max_sdu run.time false (run.octets ++ octets)) tokens) (joined_fits max_sdu bis run.time (run.octets ++ octets) fits).1
-    ∙ ap (λ next. hands max_sdu bis next tokens) (joined_fits max_sdu bis run.time (run.octets ++ octets) fits).3
+more_joined max_sdu bis run octets tokens fits = grind (arith, joined_fits)
 
 -- the last segment, whether the run stands or not
 last_run : (stay : Stay) (heard : ℕ → Bool) (closed from n : ℕ) (octets : List ℕ) (whole : Bool) (run : Option Run) (units : List Sent) → heard from ≡ true
@@ -114,20 +96,14 @@ last_run : (stay : Stay) (heard : ℕ → Bool) (closed from n : ℕ) (octets : 
     → hands stay.info.max_sdu stay.bis run (goes_on (whole && true) octets
     ∷ (map (token_of stay (from / stay.info.bn)) (parts_at units from) ++ toks stay heard (from + 1) [] whole units (from + 1) n))
     ≡ scan_run heard closed stay.bis whole run from (octets ∷ []) ++ flat_map (entry_of stay heard closed) units
-last_run stay heard closed from n octets whole None units is fits all last rest = rest
-last_run stay heard closed from n octets whole (Some run) units is fits all last rest =
-    last_heard stay heard closed from n octets whole run units is (fits run refl) all last rest
+last_run stay heard closed from n octets whole run units is fits all last rest = grind (arith, last_heard)
 
 -- a missing number
 gap_run : (stay : Stay) (heard : ℕ → Bool) (closed from : ℕ) (octets : List ℕ) (segments : List (List ℕ)) (whole : Bool) (run : Option Run) (units : List Sent) (tokens : List Token)
     → heard from ≡ false → from < closed → hands stay.info.max_sdu stay.bis None tokens ≡ flat_map (entry_of stay heard closed) units
     → hands stay.info.max_sdu stay.bis run (missing ∷ tokens)
     ≡ scan_run heard closed stay.bis whole run from (octets ∷ segments) ++ flat_map (entry_of stay heard closed) units
-gap_run stay heard closed from octets segments whole None units tokens gap below rest = rest
-gap_run stay heard closed from octets segments whole (Some run) units tokens gap below rest =
-    ap (λ xs. lost stay.bis run.time ∷ xs) rest
-    ∙ ap (λ xs. xs ++ flat_map (entry_of stay heard closed) units)
-    (sym (scan_missing heard closed stay.bis run.time whole (run.octets ++ octets_in (octets ∷ segments)) from octets segments below gap))
+gap_run stay heard closed from octets segments whole run units tokens gap below rest = grind (arith, scan_missing)
 
 -- a further segment, whether the run stands or not
 more_run : (stay : Stay) (heard : ℕ → Bool) (closed from n : ℕ) (octets next : List ℕ) (segments : List (List ℕ)) (whole : Bool) (run : Option Run) (units : List Sent)
@@ -171,19 +147,7 @@ more_shown stay heard closed n from all shown [] whole None units rests order la
       ∙ ap (λ tokens. missing ∷ tokens) (same_none stay heard from (from + 1) whole whole units (from + 1) n))
       ∙ begun_missed stay heard closed from n whole shown gap units (order refl) fit
 ]
-more_shown stay heard closed n from all shown (octets ∷ []) whole run units rests order later last fits fit =
-    let one : from + 1 - 1 ≡ from = omega arith in
-    let here : InOrder from closed units = subst (λ first. InOrder first closed units) one (later (omega arith)) in
-    elim (cases_Bool (heard from)) [
-      | inl is ↦
-          ap (hands stay.info.max_sdu stay.bis run) (goes_heard stay heard from n octets [] whole units is)
-          ∙ last_run stay heard closed from n octets whole run units is fits all (λ part. last part (omega arith))
-          (begun_heard stay heard closed from n whole shown is all units here fit)
-      | inr gap ↦
-          ap (hands stay.info.max_sdu stay.bis run) (goes_missed stay heard from n octets [] whole units gap)
-          ∙ gap_run stay heard closed from octets [] whole run units (toks stay heard (from + 1) [] whole units (from + 1) n) gap (omega arith)
-          (begun_missed stay heard closed from n whole shown gap units here fit)
-    ]
+more_shown stay heard closed n from all shown (octets ∷ []) whole run units rests order later last fits fit = grind (arith, cases_Bool, goes_heard, last_run, begun_heard, goes_missed, gap_run, toks, begun_missed)
 more_shown stay heard closed n from all shown (octets ∷ next ∷ segments) whole run units rests order later last fits fit =
     let step : from + length (octets ∷ next ∷ segments) - 1 ≡ from + 1 + length (next ∷ segments) - 1 = omega arith in
     let order' : InOrder (from + 1 + length (next ∷ segments) - 1) closed units = subst (λ first. InOrder first closed units) step (later (omega arith)) in
@@ -194,21 +158,12 @@ more_shown stay heard closed n from all shown (octets ∷ next ∷ segments) who
           ∙ gap_run stay heard closed from octets (next ∷ segments) whole run units (toks stay heard (from + 1) (next ∷ segments) whole units (from + 1) n) gap (omega arith)
           (goes_shown stay heard closed (from + 1) n whole None units next segments shown order'
           (λ part. ((last part (omega arith)).0, subst (λ end. closed ≤ end) longer (last part (omega arith)).1)) (λ r same. absurd (none-some r same)) fit)
-      | inl is ↦
-          ap (hands stay.info.max_sdu stay.bis run) (goes_heard stay heard from n octets (next ∷ segments) whole units is
-          ∙ ap (λ flag. goes_on flag octets ∷ (map (token_of stay (from / stay.info.bn)) (parts_at units from) ++ toks stay heard (from + 1) (next ∷ segments) whole units (from + 1) n))
-          (and_right whole false refl)
-          ∙ ap (λ parts. goes_on false octets ∷ (map (token_of stay (from / stay.info.bn)) parts ++ toks stay heard (from + 1) (next ∷ segments) whole units (from + 1) n))
-          (none_here (from + 1 + length (next ∷ segments) - 1) closed from units order' (omega arith)))
-          ∙ more_run stay heard closed from n octets next segments whole run units shown is (omega arith) order'
-          (λ part. ((last part (omega arith)).0, subst (λ end. closed ≤ end) longer (last part (omega arith)).1)) fits fit
+      | inl is ↦ grind (arith, goes_heard, toks, and_right, none_here, more_run)
     ]
 
 all_shown : (stay : Stay) (heard : ℕ → Bool) (closed n from : ℕ) → from + n ≡ closed → Shown stay heard closed from n
 unfolding Shown
-all_shown stay heard closed zero from all = λ segments whole run units rests order later last fits fit.
-    ap (hands stay.info.max_sdu stay.bis run) (toks_none stay heard from segments whole units from)
-    ∙ zero_shown stay heard closed from segments whole run units (omega arith) rests order later
+all_shown stay heard closed zero from all = grind (arith, toks_none, zero_shown)
 all_shown stay heard closed (suc n) from all = λ segments whole run units rests order later last fits fit.
     more_shown stay heard closed n from all (all_shown stay heard closed n (from + 1) (omega arith)) segments whole run units rests order later last fits fit
 
@@ -218,5 +173,4 @@ pub shown_from : (stay : Stay) (heard : ℕ → Bool) (closed n from : ℕ) → 
     → (whole ≡ false → 1 ≤ length segments → (units ≡ []) × (closed ≤ from + length segments)) → Fit stay.info.max_sdu units
     → hands stay.info.max_sdu stay.bis None (toks stay heard from segments whole units from n) ≡ flat_map (entry_of stay heard closed) units
 unfolding Shown
-shown_from stay heard closed n from all segments whole units order later last fit =
-    all_shown stay heard closed n from all segments whole None units (λ none. refl) order later last (λ r same. absurd (none-some r same)) fit
+shown_from stay heard closed n from all segments whole units order later last fit = grind (arith, all_shown, none-some)

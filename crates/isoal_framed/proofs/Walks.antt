@@ -1,5 +1,5 @@
 -- Tokens that are taken one behind the other: those taken so far, and the rest.
-use Rattle.std.proofs.Common.{ℕ, ◌≡◌, List, [], ◌∷◌, ◌++◌, Option, Result, sym, ap, ◌∙◌, subst, append_assoc}
+use Rattle.std.proofs.Common.{ℕ, ◌≡◌, List, [], ◌∷◌, ◌++◌, Option, Result, sym, subst, append_assoc, arith}
 use Rattle.std.proofs.lemmas.List.{append-nil}
 use Rattle.unit_outlets.specs.Handed.{Handed, Counts}
 use Rattle.unit_outlets.specs.declared.fault.TakerFault.{TakerFault}
@@ -24,17 +24,8 @@ pub walked_more : (max_sdu bis : ℕ) (first now next : Option Run) (all rest to
     → rest ≡ tokens ++ others → next ≡ run_after max_sdu now tokens
     → HandsOn (hands max_sdu bis now tokens) handed now_calls new result → CausedOn handed middle after result
     → Walked max_sdu bis first next all others so_far result old new before after
-walked_more max_sdu bis first now next all rest tokens others so_far handed result old now_calls new before middle after walked is run_is step cause = record {
-  runs = ap (λ run. run_after max_sdu run others) run_is ∙ sym (run_append max_sdu now tokens others) ∙ ap (run_after max_sdu now) (sym is) ∙ walked.runs;
-  taken = walked.taken ++ hands max_sdu bis now tokens;
-  units = ap (λ run. (walked.taken ++ hands max_sdu bis now tokens) ++ hands max_sdu bis run others) run_is
-      ∙ append_assoc walked.taken (hands max_sdu bis now tokens) (hands max_sdu bis (run_after max_sdu now tokens) others)
-      ∙ ap (λ xs. walked.taken ++ xs) (sym (hands_append max_sdu bis now tokens others))
-      ∙ ap (λ xs. walked.taken ++ hands max_sdu bis now xs) (sym is)
-      ∙ walked.units;
-  hands_on = hands_then walked.taken (hands max_sdu bis now tokens) old now_calls new so_far handed result walked.hands_on step;
-  cause = caused_then before middle after so_far handed result walked.cause cause;
-}
+walked_more max_sdu bis first now next all rest tokens others so_far handed result old now_calls new before middle after walked is run_is step cause =
+    grind (arith, run_append, append_assoc, hands_append, hands_then, caused_then)
 
 pub walked_token : (max_sdu bis : ℕ) (first now next : Option Run) (all rest others : List Token) (token : Token)
     (so_far handed result : Result (Unit {0}) TakerFault) (old now_calls new : List Handed) (before middle after : Counts)

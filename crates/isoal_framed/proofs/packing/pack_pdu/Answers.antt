@@ -1,9 +1,8 @@
-use Rattle.std.proofs.Common.{◌≡◌, ◌∷◌, [], List, length, length-append, ◌∙◌, ap, sym, subst, true, false}
+use Rattle.std.proofs.Common.{◌≡◌, List, length, length-append, ◌∙◌, ap, subst, true, false, arith}
 use Rattle.std.proofs.lemmas.Result.{on_ok_weaker}
 use Rattle.isoal_framed.specs.Air.{pdus_ended}
-use Rattle.isoal_framed.specs.Places.{Act, ends}
+use Rattle.isoal_framed.specs.Places.{Act}
 use Rattle.isoal_framed.specs.State.Packings.{Placed}
-use Rattle.isoal_framed.specs.State.Senders.{Going}
 use Rattle.isoal_framed.proofs.Packings.{At, goes_on_is, ended_is}
 use Rattle.isoal_framed.proofs.packing.pack_pdu.Goals as goal
 
@@ -33,11 +32,4 @@ returns-clause-packed c units earlier acts queue_is start =
     let was : (own : List Act) × (pdus_ended own ≡ pdus_ended acts) × At c.args.max_pdu units c.args.anchor earlier own c.args.pdus.now c.acts.packing =
     c.acts.invariant.going units earlier acts c.args.pdus.now queue_is start in
     on_ok_weaker c.push.result
-    (λ is. (
-      was.0,
-      was.1,
-      subst (λ pdus. Going c.args.max_pdu units c.args.anchor earlier (ends ∷ was.0) c.put_next.new.packing.past c.put_next.new.packing.sent c.args.max_pdu []
-          pdus c.put_next.new.packing.stale) (sym is)
-          (ended_is c.args.max_pdu units c.args.queue.now.items c.args.anchor earlier was.0 c.args.pdus.now c.as_slice.result.now c.acts.packing c.put_next.new.packing
-          queue_is c.acts.invariant.partly was.2 placed c.as_slice.ensures),
-    )) c.push.ensures.ok
+    (grind (arith, ended_is)) c.push.ensures.ok

@@ -1,11 +1,7 @@
-use Rattle.std.proofs.Common.{◌≡◌, ◌++◌, ◌∷◌, [], sym, subst}
-use Rattle.isoal_framed.specs.State.Senders.{IsSender}
+use Rattle.std.proofs.Common.{arith}
 use Rattle.isoal_framed.proofs.Senders.{accepted_sender}
 use Rattle.isoal_framed.proofs.framed_out.FramedOut.accept.Goals as goal
 
 pub invariant_of-self-2 : goal.invariant_of-self-2
 invariant_of-self-2 c =
-    let pushed : c.push_back.new.self.items ≡ c.self.inside.queue.items ++ record { time = c.args.time; octets = c.in_ok-copy.field-0 } ∷ [] = c.in_ok-push_back.ensures.items in
-    subst (IsSender c.self.inside.group.info c.self.inside.sent) (sym pushed)
-    (accepted_sender c.self.inside.group.info c.self.inside.sent c.self.inside.queue.items (record { time = c.args.time; octets = c.in_ok-copy.field-0 })
-    c.self.invariant)
+    grind (arith, c.in_ok-push_back.ensures.items, accepted_sender c.self.inside.group.info c.self.inside.sent c.self.inside.queue.items (record { time = c.args.time; octets = c.in_ok-copy.field-0 }) c.self.invariant)

@@ -1,4 +1,4 @@
-use Rattle.std.proofs.Common.{ℕ, ◌≡◌, ◌++◌, ◌∷◌, List, drop, sym}
+use Rattle.std.proofs.Common.{ℕ, ◌≡◌, ◌++◌, ◌∷◌, List, drop, sym, arith}
 use Rattle.std.proofs.lemmas.Result.{IfOk-weaker}
 use Rattle.isoal_framed.specs.Air.{IsEvent, event_of}
 use Rattle.isoal_framed.specs.Calls.{lay, accepted}
@@ -17,5 +17,4 @@ returns-clause-laid c info calls air stands =
     (record { event = record { pdus = c.pack_next_in.new.pdus; stale = stale }; begun = begun } ∷ air) c.pack_next_in.new.self)
     (λ stale laid. lay_stands info calls air c.args.self.now c.pack_next_in.new.self c.args.anchor
     (record { pdus = c.pack_next_in.new.pdus; stale = stale }) laid.0 stands laid.1 (sym laid.2) laid.3)
-    (c.pack_next_in.ensures.laid (accepted calls) stands.acts stands.units stands.sent
-    (room_between c.args.self.now.info.max_pdu info calls stands.acts air stands.air_is))
+    (grind (arith, room_between))
