@@ -1,6 +1,6 @@
 -- Where a sink is that `announce` puts on a group: where the group's source is for its next event (Basic Audio Profile 1.0,
 -- sections 3.7.2 and 6.5).
-use Rattle.std.proofs.Common.{ℕ, ◌≡◌, ◌<◌, ◌≤◌, ◌^◌, ◌∷◌, [], Bool, List, None, Some, refl, ◌∙◌, ap}
+use Rattle.std.proofs.Common.{ℕ, ◌≡◌, ◌<◌, ◌≤◌, ◌^◌, ◌∷◌, [], Bool, List, None, Some, refl, ◌∙◌, ap, arith}
 use Rattle.std.specs.Prelude.{unwrap_or}
 use Rattle.std.proofs.lemmas.Option.{none-some}
 use Rattle.base_grammar.specs.declared.subgroup.Subgroup.{Subgroup}
@@ -12,11 +12,10 @@ use Rattle.announcement_train.specs.Told.{Tells}
 use Rattle.delegator_history.specs.Announced.{IsOnGroup, heard_as, numbers_alone}
 use Rattle.delegator_history.specs.Octets.{MayAnnounce, train_of}
 use Rattle.delegator_history.specs.Sights.{Sight}
-use Rattle.delegator_history.specs.Trains.{Brought, Settings, Setup as SinkSetup, brought_by, heard, ignored, taken, joining_in}
+use Rattle.delegator_history.specs.Trains.{Brought, Settings, Setup as SinkSetup, brought_by, taken, joining_in}
 use Rattle.sync_reference.specs.Joining.{Joining}
 use Rattle.delegator_machine.specs.Groups.{by_numbers}
 use Rattle.source_machine.specs.Calls.{next_anchor_of, next_of}
-use Rattle.source_machine.specs.Ciphers.{with_cipher}
 use Rattle.scenario_text.specs.declared.step.Step.{Step}
 use Rattle.scenario_text.specs.declared.step.Step.TheVariants as steps
 use Rattle.sink_history.specs.Lives.{own_train}
@@ -53,9 +52,7 @@ record Taken (brought : Brought) (joining : Joining) : Type 0 where
   is : brought ≡ taken slot bits encrypted joining
 
 it_was_taken : (brought : Brought) (joining : Joining) → joining_in brought ≡ Some joining → Taken brought joining
-it_was_taken (ignored answer) joining is = absurd (none-some joining is)
-it_was_taken (heard slot answer encrypted) joining is = absurd (none-some joining is)
-it_was_taken (taken slot bits encrypted other) joining is = record { slot = slot; bits = bits; encrypted = encrypted; is = ap (λ found. taken slot bits encrypted (unwrap_or found other)) is }
+it_was_taken brought joining is = grind (arith, none-some)
 
 -- the BASE has the delay of the group
 base_delay : (group : GroupLine) (subgroups : List Subgroup) → (base_from group subgroups).delay ≡ group.delay
@@ -64,9 +61,7 @@ base_delay group (subgroup ∷ others) = refl
 
 -- the numbers of a group that isn't encrypted
 its_numbers : (own : List Step) → Settled own → Tellable own → (checked_info own).cipher ≡ None → numbers_alone (checked_info own) ≡ (setup_of own).info
-its_numbers own is tells plain =
-    ap (λ cipher. numbers_alone (with_cipher (unwrap_or (group_of own) no_group).info cipher)) plain
-    ∙ ap numbers_alone is.uncoded ∙ tells.bare
+its_numbers own is tells plain = cc (plain, is.uncoded, tells.bare)
 
 abbrev tuning_with : BigInfo → (which first anchor delay : ℕ) → Joining
 tuning_with info which first anchor delay = record { info = info; which = which; first = first; anchor = anchor; delay = delay }

@@ -31,9 +31,9 @@ use Rattle.scenario_history.specs.Bases.{base_lines, base_of, has_bis, has_subgr
 use Rattle.scenario_history.specs.Refusals.{group_refusal, train_ends}
 use Rattle.sink_history.specs.Refusals.{refuse_if}
 use Rattle.sink_history.specs.Lives.{horizon_in}
-use Rattle.scenario_history.specs.Source.{Phase, absent, checked_info, cipher_of, described, group_of, identity_of, is_absent_at, is_described_at, is_sending, is_sending_at, is_started}
+use Rattle.scenario_history.specs.Source.{Phase, checked_info, cipher_of, group_of, identity_of, is_absent_at, is_described_at, is_sending, is_sending_at, is_started}
 use Rattle.source_machine.specs.Airs.{Airs}
-use Rattle.scenario_history.specs.Source.{GroupLine, no_group, phase_of, sending, setup_of, source_calls, stopped}
+use Rattle.scenario_history.specs.Source.{GroupLine, no_group, phase_of, setup_of, source_calls}
 use Rattle.scenario_laws.proofs.Bases.{is_base}
 use Rattle.scenario_laws.proofs.Legals.{fails_not, neither}
 use Rattle.scenario_laws.proofs.Sources.{Allowed, Lawful, Settled, bounds_in, not_yet, sends, settled, true_not_false}
@@ -54,16 +54,10 @@ pub record Tellable (own : List Step) : Type 0 where
   pub short : is_started own ≡ true → is_base_too_long own ≡ false
 
 there_then : (p : Phase) → not (is_described_at p) ≡ false → is_absent_at p ≡ false
-there_then absent is = absurd (false≢true (sym is))
-there_then described is = refl
-there_then sending is = refl
-there_then stopped is = refl
+there_then p is = grind (arith, false≢true)
 
 sends_then : (p : Phase) → not (is_sending_at p) ≡ false → is_absent_at p ≡ false
-sends_then absent is = absurd (false≢true (sym is))
-sends_then described is = absurd (false≢true (sym is))
-sends_then sending is = refl
-sends_then stopped is = absurd (false≢true (sym is))
+sends_then p is = grind (arith, false≢true)
 
 -- ---- a line of its BASE
 
@@ -77,8 +71,7 @@ opens_next own codec config before ranged full delay width =
     (λ reads. are_read config ranged.4 ranged.2) refl tt (full_then (is_last_bare own) full)
 
 some_there : (subgroups : List Subgroup) → not (is_some (last_of subgroups)) ≡ false → Refuses (metadata_fault subgroups) (Ok tt)
-some_there [] is = absurd (false≢true (sym is))
-some_there (subgroup ∷ others) is = tt
+some_there subgroups is = grind (arith, false≢true)
 
 describes_next : (own : List Step) (metadata : List ℕ) → Tellable own → IsInRange (steps.Meta metadata) → not (has_subgroup own) ≡ false
     → (delay : ℕ) → delay < 2 ^ 24 → IsDraft (endpoint delay (subgroups_of (steps.Meta metadata ∷ own)))
@@ -87,8 +80,7 @@ describes_next own metadata before ranged some delay width =
     (describes_last metadata (base_lines own)) tt (some_there (subgroups_of own) some)
 
 new_there : (subgroups : List Subgroup) (bis : ℕ) → not (is_some (last_of subgroups)) ≡ false → stands_in (indices subgroups) bis ≡ false → Refuses (entry_fault subgroups bis) (Ok tt)
-new_there [] bis is none = absurd (false≢true (sym is))
-new_there (subgroup ∷ others) bis is none = subst (λ b. Refuses (cond b (Some faults.IndexTwice) None) (Ok tt)) (sym none) tt
+new_there subgroups bis is none = grind (arith, false≢true)
 
 adds_next : (own : List Step) (bis : ℕ) (config : List ℕ) → Tellable own → IsInRange (steps.Bis bis config) → not (has_subgroup own) ≡ false → has_bis own bis ≡ false
     → (delay : ℕ) → delay < 2 ^ 24 → IsDraft (endpoint delay (subgroups_of (steps.Bis bis config ∷ own)))
@@ -251,12 +243,10 @@ widths_with info cipher widths = record {
 }
 
 no_train_end : (fault : Option AnnounceFault) → train_ends fault ≡ None → fault ≡ None
-no_train_end None none = refl
-no_train_end (Some fault) none = absurd (none-some _ (sym none))
+no_train_end fault none = grind (arith, none-some)
 
 counts : (b : Bool) (fault : AnnounceFault) → cond b (Some fault) None ≡ None → b ≡ false
-counts true fault none = absurd (none-some fault (sym none))
-counts false fault none = refl
+counts b fault none = grind (arith, none-some)
 
 pub may_announce : (airs : Airs) (own : List Step) → Lawful airs own → not (is_sending own) ≡ false → train_ends (announce_fault (setup_of own) (source_calls own)) ≡ None
     → MayAnnounce (identity_of own).broadcast_id (base_of own) (checked_info own) (next_of (setup_of own) (source_calls own)) (next_anchor_of (setup_of own) (source_calls own))

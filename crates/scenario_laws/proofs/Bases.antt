@@ -1,6 +1,6 @@
 -- The BASE of a source that was started can be announced: each field of it meets its row (Basic Audio Profile 1.0, section
 -- 3.7.2.2).
-use Rattle.std.proofs.Common.{ℕ, zero, suc, ◌≡◌, ◌<◌, ◌≤◌, ◌+◌, ◌^◌, ◌||◌, cond, eqb, ltb, Bool, false, List, [], ◌∷◌, ◌++◌, length, map, Some, None, refl, sym, ◌∙◌, ap, subst, arith}
+use Rattle.std.proofs.Common.{ℕ, zero, suc, ◌≡◌, ◌<◌, ◌≤◌, ◌+◌, ◌^◌, ◌||◌, cond, eqb, ltb, Bool, false, List, [], ◌∷◌, ◌++◌, length, map, Some, None, refl, sym, ◌∙◌, ap, arith}
 use Rattle.std.specs.List.{AllByRecursion, range_with_len}
 use Rattle.std.proofs.lemmas.Bool.{ltb-false, ne_eqb}
 use Rattle.std.proofs.lemmas.List.{append-nil}
@@ -12,7 +12,7 @@ use Rattle.base_grammar.specs.declared.fault.DraftFault.TheVariants as faults
 use Rattle.base_grammar.specs.declared.subgroup.Subgroup.{Subgroup}
 use Rattle.base_grammar.specs.Layout.{AreNew, EntryFits, IsBase, SubgroupFits, bis_of, endpoint, is_lc3, lc3, spelling, stands_in}
 use Rattle.base_grammar.proofs.Drafts.{draft_done, finish_is}
-use Rattle.announcement_train.specs.PlainBase.{plain_base_of, plain_entries, plain_entry, plain_subgroup}
+use Rattle.announcement_train.specs.PlainBase.{plain_base_of, plain_entry, plain_subgroup}
 use Rattle.announcement_train.proofs.Citable.{plain_is_small}
 use Rattle.scenario_history.specs.Source.{GroupLine}
 use Rattle.scenario_history.specs.Bases.{base_from}
@@ -52,21 +52,12 @@ plain_fits n most = record {
 }
 
 plain_is_base : (delay n : ℕ) → delay < 2 ^ 24 → 1 ≤ n → n ≤ 31 → IsBase (plain_base_of delay n)
-plain_is_base delay n width least most = record {
-  delay = width;
-  some = omega arith;
-  streams = (omega (arith, least, length-map-range_with_len plain_entry 1 n), tt);
-  fits = (plain_fits n most, tt);
-  once = subst (AreNew []) (sym (append-nil (map bis_of (plain_entries n)))) (all_new [] 1 n (λ other greater. refl));
-  small = ltb-false 252 (length (spelling (plain_base_of delay n))) (plain_is_small delay n most);
-}
+plain_is_base delay n width least most = search (length-map-range_with_len, plain_fits, append-nil, all_new, ltb-false, plain_is_small)
 
 -- ---- the BASE of lines
 
 finishes : (last : Bool) (octets : ℕ) → last ≡ false → ltb 252 octets ≡ false → size_fault (cond last (Some faults.NoBis) None) octets ≡ None
-finishes last octets some short =
-    ap (λ b. size_fault (cond b (Some faults.NoBis) None) octets) some
-    ∙ ap (λ b. cond b (Some faults.TooLong) None) short
+finishes last octets some short = cc (some, short)
 
 pub is_base : (group : GroupLine) (subgroups : List Subgroup) → group.delay < 2 ^ 24 → 1 ≤ group.info.num_bis → group.info.num_bis ≤ 31
     → IsDraft (endpoint group.delay subgroups) → is_empty_last (last_of subgroups) ≡ false → ltb 252 (length (spelling (base_from group subgroups))) ≡ false

@@ -83,15 +83,11 @@ later_within None calls next next' more within = omega arith
 later_within (Some tuning) calls next next' more within = omega (arith, more, within)
 
 stay_moves : (mine : Bool) (calls : List Call) (next next' : ℕ) → next ≤ next' → front mine calls next ≤ next → Moves mine calls next [] mine calls next'
-stay_moves mine calls next next' more within = record {
-  climbs_on = later_next (stay_if mine calls) calls next next' more;
-  within = later_within (stay_if mine calls) calls next next' more within;
-}
+stay_moves mine calls next next' more within = search (later_next, later_within)
 
 gone_moves : (s : ℕ) (gone : Bool) (calls : List Call) (source : Option ℕ) (next next' : ℕ) → next ≤ next' → front (is_of s source) calls next ≤ next
     → Moves (is_of s source) calls next [] (is_of s (cond gone None source)) (cond gone [] calls) next'
-gone_moves s true calls source next next' more within = record { climbs_on = omega (arith, within, more); within = omega arith }
-gone_moves s false calls source next next' more within = stay_moves (is_of s source) calls next next' more within
+gone_moves s gone calls source next next' more within = grind (arith, stay_moves)
 
 on_moves : (mine its : Bool) (on : Joining) (calls : List Call) (next next' : ℕ) → next ≤ next' → (its ≡ true → on.first ≡ next) → front mine calls next ≤ next
     → Moves mine calls next [] its (tune on ∷ calls) next'
@@ -101,8 +97,7 @@ on_moves mine false on calls next next' more is within = record { climbs_on = om
 put_moves : (s : ℕ) (put : Bool) (on : Joining) (chosen : ℕ) (calls : List Call) (source : Option ℕ) (next next' : ℕ) → next ≤ next' → ((chosen == s) ≡ true → on.first ≡ next)
     → front (is_of s source) calls next ≤ next
     → Moves (is_of s source) calls next [] (is_of s (cond put (Some chosen) source)) (cond put (tune on ∷ calls) calls) next'
-put_moves s true on chosen calls source next next' more is within = on_moves (is_of s source) (chosen == s) on calls next next' more is within
-put_moves s false on chosen calls source next next' more is within = stay_moves (is_of s source) calls next next' more within
+put_moves s put on chosen calls source next next' more is within = grind (arith, on_moves, stay_moves)
 
 -- calls that neither put the sink anywhere nor close an event
 front_again : (calls more : List Call) (next : ℕ) (p : Option Joining) → ((tuning : Joining) → closes tuning more ≡ closes tuning calls)
@@ -112,16 +107,11 @@ front_again calls more next (Some tuning) same = ap (λ count. tuning.first + co
 
 same_front : (mine : Bool) (calls more : List Call) (next : ℕ) → place more ≡ place calls → ((tuning : Joining) → closes tuning more ≡ closes tuning calls)
     → front mine more next ≡ front mine calls next
-same_front mine calls more next there same =
-    ap (λ p. front_of (cond mine p None) more next) there ∙ front_again calls more next (stay_if mine calls) same
+same_front mine calls more next there same = cc (there, front_again calls more next (stay_if mine calls) same)
 
 more_moves : (mine hit : Bool) (more calls : List Call) (next next' : ℕ) → next ≤ next' → place more ≡ place calls → ((tuning : Joining) → closes tuning more ≡ closes tuning calls)
     → front mine calls next ≤ next → Moves mine calls next [] mine (cond hit more calls) next'
-more_moves mine true more calls next next' later there same within =
-    let is : front mine more next' ≡ front mine calls next' = same_front mine calls more next' there same in
-    let moved : Moves mine calls next [] mine calls next' = stay_moves mine calls next next' later within in
-    record { climbs_on = omega (arith, is, moved.climbs_on); within = omega (arith, is, moved.within) }
-more_moves mine false more calls next next' later there same within = stay_moves mine calls next next' later within
+more_moves mine hit more calls next next' later there same within = grind (arith, same_front, stay_moves)
 
 lost_closes : (gone : Bool) (event bis subevent : ℕ) (octets : List ℕ) (calls : List Call) (tuning : Joining)
     → closes tuning (unless_lost gone (hear event bis subevent octets) calls) ≡ closes tuning calls
@@ -159,38 +149,24 @@ closed_one : (tuning : Joining) (calls : List Call) (event next next' : ℕ) (ov
     → (Climb (tuning.first + closes tuning calls) (map event_of (cond over (record { event = tuning.first + closes tuning calls; which = tuning.which } ∷ []) []))
     (tuning.first + cond over (closes tuning calls + 1) (closes tuning calls)))
     × (tuning.first + cond over (closes tuning calls + 1) (closes tuning calls) ≤ next')
-closed_one tuning calls event next next' true is past more within =
-    let least : tuning.first + closes tuning calls ≤ event = leb-true (tuning.first + closes tuning calls) event is in
-    ((omega arith, omega arith), omega (arith, least, past, more))
-closed_one tuning calls event next next' false is past more within = (omega arith, omega (arith, within, more))
+closed_one tuning calls event next next' over is past more within = grind (arith, leb-true)
 
 tick_on_moves : (p : Option Joining) (calls : List Call) (event next next' : ℕ) → place calls ≡ p → event < next → next ≤ next' → front_of p calls next ≤ next
     → Climb (front_of p calls next) (map event_of (closed_in p calls event)) (front_of p (tick event ∷ calls) next') × (front_of p (tick event ∷ calls) next' ≤ next')
-tick_on_moves None calls event next next' is past more within = (more, omega arith)
-tick_on_moves (Some tuning) calls event next next' is past more within =
-    closed_one tuning calls event next next' (leb (tuning.first + closes tuning calls) event) refl past more within
+tick_on_moves p calls event next next' is past more within = grind (arith, closed_one)
 
 tick_moves : (last_open : Option ℕ) (calls : List Call) (next next' : ℕ) → ((event : ℕ) → last_open ≡ Some event → event < next) → next ≤ next' → front true calls next ≤ next
     → Moves true calls next (closed_at calls last_open) true (ticked last_open calls) next'
-tick_moves None calls next next' past more within = stay_moves true calls next next' more within
-tick_moves (Some event) calls next next' past more within =
-    let moved = tick_on_moves (place calls) calls event next next' refl (past event refl) more within in
-    record { climbs_on = moved.0; within = moved.1 }
+tick_moves last_open calls next next' past more within = grind (arith, stay_moves, tick_on_moves)
 
 -- a close of an event of the source, or of another
 close_moves : (mine its : Bool) (last_open : Option ℕ) (calls calls' : List Call) (next next' : ℕ) → ((event : ℕ) → last_open ≡ Some event → event < next) → next ≤ next'
     → front mine calls next ≤ next → (mine ≡ true → calls' ≡ cond its (ticked last_open calls) calls)
     → Moves mine calls next (cond its (closed_if mine calls last_open) []) mine calls' next'
-close_moves true true last_open calls calls' next next' past more within is =
-    subst (λ cs. Moves true calls next (closed_at calls last_open) true cs next') (sym (is refl)) (tick_moves last_open calls next next' past more within)
-close_moves true false last_open calls calls' next next' past more within is =
-    subst (λ cs. Moves true calls next [] true cs next') (sym (is refl)) (stay_moves true calls next next' more within)
-close_moves false true last_open calls calls' next next' past more within is = record { climbs_on = more; within = omega arith }
-close_moves false false last_open calls calls' next next' past more within is = record { climbs_on = more; within = omega arith }
+close_moves mine its last_open calls calls' next next' past more within is = grind (arith, tick_moves, stay_moves)
 
 pub open_if : (shut : Bool) (last event : ℕ) → cond shut None (Some last) ≡ Some event → (shut ≡ false) × (last ≡ event)
-open_if true last event is = absurd (none-some event is)
-open_if false last event is = (refl, same_Some last event is)
+open_if shut last event is = grind (arith, none-some, same_Some)
 
 -- the open event of a source is before its next one
 pub open_before : (own : List Step) (event : ℕ) → open_event own ≡ Some event → event < next_in own
@@ -291,14 +267,11 @@ pub moved : Announcing → (airs : Airs) (boxes s n : ℕ) (step : Step) (earlie
     → its_front airs s n earlier ≤ next_in (steps_of_source s earlier)
     → Moves (mine_in s n earlier) (sink_calls airs n earlier) (next_in (steps_of_source s earlier)) (closed_by airs s n earlier step)
     (mine_in s n (step ∷ earlier)) (sink_calls airs n (step ∷ earlier)) (next_in (steps_of_source s (step ∷ earlier)))
-moved laws airs boxes s n step earlier legal ungiven least within =
-    moves_by laws airs boxes s n step earlier (next_in (steps_of_source s (step ∷ earlier))) legal.0 (permitted airs boxes earlier step legal.1) ungiven least
-    (next_rises airs boxes s earlier step legal) within
+moved laws airs boxes s n step earlier legal ungiven least within = search (moves_by, next_in, permitted, next_rises)
 
 -- a sink that was just made
 pub made_nothing : (airs : Airs) (n : ℕ) (step : Step) (earlier : List Step) → is_made n earlier step ≡ true → sink_calls airs n (step ∷ earlier) ≡ []
-made_nothing airs n (steps.Sink sink streams slots mtu) earlier made = ap (λ b. cond b [] (sink_calls airs n earlier)) made
-made_nothing airs n _ earlier made = absurd (false≢true made)
+made_nothing airs n step earlier made = grind (arith, false≢true)
 
 closing_anew : (airs : Airs) (s n : ℕ) (step : Step) (earlier : List Step) → is_made n earlier step ≡ true → Closing airs s n (step ∷ earlier)
 closing_anew airs s n step earlier made =
@@ -311,9 +284,7 @@ closing_anew airs s n step earlier made =
 
 climbs_further : (again : Bool) (before now : List Closed) (low high : ℕ) → again ≡ false → Climb 0 (map event_of before) low → Climb low (map event_of now) high
     → Climb 0 (map event_of (cond again [] (before ++ now))) high
-climbs_further true before now low high on first rest = absurd (false≢true (sym on))
-climbs_further false before now low high on first rest =
-    subst (λ xs. Climb 0 xs high) (sym (map_on event_of before now)) (climb_on 0 (map event_of before) low (map event_of now) high first rest)
+climbs_further again before now low high on first rest = grind (arith, false≢true, map_on, climb_on)
 
 closing_on : Announcing → (airs : Airs) (boxes s n : ℕ) (step : Step) (earlier : List Step) → Legal airs boxes (step ∷ earlier) → is_given n step ≡ false → s ≤ 1 → is_made n earlier step ≡ false
     → Closing airs s n earlier → Closing airs s n (step ∷ earlier)
@@ -342,10 +313,7 @@ closes_rise laws airs boxes s n made legal ungiven least =
 -- ---- the open event of one stay
 
 pub stay_front : (airs : Airs) (s n : ℕ) (made : List Step) (tuning : Joining) → IsOn airs s n made tuning → its_front airs s n made ≡ tuning.first + closes tuning (sink_calls airs n made)
-stay_front airs s n made tuning is =
-    ap (λ source. front (is_of s source) (sink_calls airs n made) (next_in (steps_of_source s made))) is.source_is
-    ∙ ap (λ b. front b (sink_calls airs n made) (next_in (steps_of_source s made))) (eq-eqb s s refl)
-    ∙ ap (λ p. front_of p (sink_calls airs n made) (next_in (steps_of_source s made))) is.place_is
+stay_front airs s n made tuning is = cc (is.source_is, eq-eqb s s refl, is.place_is)
 
 -- the open event of a stay is at most the source's next one
 pub stay_within : Announcing → (airs : Airs) (boxes s n : ℕ) (made : List Step) (tuning : Joining) → Legal airs boxes made → s ≤ 1 → IsOn airs s n made tuning

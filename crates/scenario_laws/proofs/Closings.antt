@@ -1,25 +1,24 @@
 -- Of all that is handed up by a step, what is of one sink and one source.
 use Rattle.std.proofs.Common.{ℕ, zero, suc, ◌≡◌, ◌≢◌, ◌≤◌, ◌+◌, ◌==◌, ◌&&◌, cond, eqb, not, Bool, true, false, List, [], ◌∷◌, ◌++◌, map, Option, None, Some, refl, sym, ◌∙◌, ap, arith, inl, inr}
 use Rattle.std.specs.Prelude.{is_some}
-use Rattle.std.specs.List.{filter, flat_map, range_with_len}
+use Rattle.std.specs.List.{flat_map, range_with_len}
 use Rattle.std.proofs.lemmas.Bool.{cases_eq, cond-false, cond-true, eq-eqb, ne_eqb, eqb-true, false≢true, and_right, and_left, not-false}
 use Rattle.std.proofs.lemmas.List.{append-nil, map-append}
 use Rattle.std.proofs.lemmas.List.Elements.{filter-append}
 use Rattle.std.proofs.lemmas.Option.{none-some}
 use Rattle.unit_outlets.specs.Handed.{Handed}
-use Rattle.group_sink.specs.Calls.{Call, tune, hear, place}
+use Rattle.group_sink.specs.Calls.{Call, tune, place}
 use Rattle.sync_reference.specs.Joining.{Joining}
-use Rattle.group_sink.specs.Handing.{handed_at, handed_by as ticked_by}
+use Rattle.group_sink.specs.Handing.{handed_at}
 use Rattle.scenario_text.specs.declared.step.Step.{Step}
 use Rattle.scenario_text.specs.declared.step.Step.TheVariants as steps
 use Rattle.transcript_text.specs.declared.refusal.Refusal.TheVariants.{NoSuchSink}
 use Rattle.delegator_history.specs.Trains.{Settings}
-use Rattle.sink_history.specs.Lives.{made_of, named_by}
-use Rattle.scenario_history.specs.Steps.{chosen_of, chosen_steps, sinks_made, steps_of_source}
-use Rattle.scenario_history.specs.Source.{event_back, open_event, pdu_in}
+use Rattle.sink_history.specs.Lives.{made_of}
+use Rattle.scenario_history.specs.Steps.{chosen_of, sinks_made, steps_of_source}
+use Rattle.scenario_history.specs.Source.{open_event}
 use Rattle.source_machine.specs.Airs.{Airs}
-use Rattle.scenario_history.specs.Sinks.{heard_on_air, is_of, reaches, sink_calls, source_of, spots_of, with_sink_call}
-use Rattle.scenario_history.specs.Worlds.{joining_on}
+use Rattle.scenario_history.specs.Sinks.{is_of, sink_calls, source_of, with_sink_call}
 use Rattle.scenario_history.specs.Boxes.{SinkUnit, box_after, box_of, closing, closing_at, closing_by, closing_in, handed_by, sink_numbers}
 use Rattle.scenario_history.specs.Refusals.{no_sink}
 use Rattle.scenario_laws.specs.Laws.{of_sink}
@@ -35,18 +34,14 @@ gone_housed true box calls before none = refl
 gone_housed false box calls before none = before none
 
 made_housed : (again : Bool) (count : ℕ) (box : Option ℕ) (calls : List Call) → (box ≡ None → place calls ≡ None) → cond again (Some count) box ≡ None → place (cond again [] calls) ≡ None
-made_housed true count box calls before none = absurd (none-some count (sym none))
-made_housed false count box calls before none = before none
+made_housed again count box calls before none = grind (arith, none-some)
 
 is_none : (box : Option ℕ) → is_some box ≡ true → box ≡ None → ⊥
-is_none None has none = false≢true has
-is_none (Some box) has none = none-some box (sym none)
+is_none box has none = grind (arith, false≢true, none-some)
 
 put_housed : (n sink : ℕ) (on : Joining) (earlier : List Step) (calls : List Call) → is_some (box_of sink earlier) ≡ true → (box_of n earlier ≡ None → place calls ≡ None)
     → box_of n earlier ≡ None → (put : Bool) → eqb sink n ≡ put → place (cond put (tune on ∷ calls) calls) ≡ None
-put_housed n sink on earlier calls has before none true is =
-    absurd (is_none (box_of sink earlier) has (ap (λ m. box_of m earlier) (eqb-true sink n is) ∙ none))
-put_housed n sink on earlier calls has before none false is = before none
+put_housed n sink on earlier calls has before none put is = grind (arith, is_none, eqb-true)
 
 made_as : (gone : Bool) (box : Option ℕ) (made : Option Settings) → (box ≡ None → made ≡ None) → cond gone None box ≡ None
     → cond gone None made ≡ None
@@ -55,8 +50,7 @@ made_as false box made before none = before none
 
 made_anew : (again : Bool) (count : ℕ) (anew : Settings) (box : Option ℕ) (made : Option Settings) → (box ≡ None → made ≡ None)
     → cond again (Some count) box ≡ None → cond again (Some anew) made ≡ None
-made_anew true count anew box made before none = absurd (none-some count (sym none))
-made_anew false count anew box made before none = before none
+made_anew again count anew box made before none = grind (arith, none-some)
 
 -- a sink without a box doesn't live
 unmade : (n : ℕ) (made : List Step) → box_of n made ≡ None → made_of n made ≡ None
@@ -70,27 +64,8 @@ has_box sink earlier none = not-false (is_some (box_of sink earlier)) (fails_not
 
 housed_after : (airs : Airs) (boxes n : ℕ) (step : Step) (earlier : List Step) (calls : List Call) → Permitted airs boxes earlier step → (box_of n earlier ≡ None → place calls ≡ None)
     → box_after n step earlier (box_of n earlier) ≡ None → place (with_sink_call airs n step earlier calls) ≡ None
-housed_after airs boxes n (steps.Sink sink streams slots mtu) earlier calls permits before none = made_housed (sink == n) (sinks_made earlier) (box_of n earlier) calls before none
-housed_after airs boxes n (steps.Drop sink) earlier calls permits before none = gone_housed (sink == n) (box_of n earlier) calls before none
-housed_after airs boxes n (steps.Tuned sink which) earlier calls permits before none =
-    put_housed n sink (joining_on (chosen_steps earlier) which) earlier calls (has_box sink earlier permits.by_sinks) before none (sink == n) refl
-housed_after airs boxes n (steps.Hear sink back bis subevent) earlier calls permits before none =
-    same_place (reaches sink n earlier)
-    (hear (event_back (chosen_steps earlier) back) bis subevent (pdu_in airs (chosen_steps earlier) (event_back (chosen_steps earlier) back) bis subevent) ∷ calls) calls refl ∙ before none
-housed_after airs boxes n (steps.Air sink lose) earlier calls permits before none =
-    same_place (reaches sink n earlier) (heard_on_air airs (chosen_steps earlier) lose (spots_of (chosen_steps earlier)) calls) calls
-    (air_place airs (chosen_steps earlier) lose (spots_of (chosen_steps earlier)) calls) ∙ before none
-housed_after airs boxes n (steps.Inject sink back bis subevent octets) earlier calls permits before none =
-    same_place (reaches sink n earlier) (hear (event_back (chosen_steps earlier) back) bis subevent octets ∷ calls) calls refl ∙ before none
-housed_after airs boxes n steps.Event earlier calls permits before none =
-    tick_if_place (is_of (chosen_of earlier) (source_of n earlier)) (open_event (chosen_steps earlier)) calls ∙ before none
-housed_after airs boxes n steps.Stop earlier calls permits before none =
-    tick_if_place (is_of (chosen_of earlier) (source_of n earlier)) (open_event (chosen_steps earlier)) calls ∙ before none
-housed_after airs boxes n (steps.Terminate reason) earlier calls permits before none =
-    tick_if_place (is_of (chosen_of earlier) (source_of n earlier)) (open_event (chosen_steps earlier)) calls ∙ before none
-housed_after airs boxes n steps.End earlier calls permits before none =
-    end_place (is_of 1 (source_of n earlier)) (is_of 0 (source_of n earlier)) (open_event (steps_of_source 1 earlier)) (open_event (steps_of_source 0 earlier)) calls ∙ before none
-housed_after airs boxes n step earlier calls permits before none = ap place (unmoved n (named_by step) step earlier calls (unmade n earlier none)) ∙ before none
+housed_after airs boxes n step earlier calls permits before none =
+    grind (arith, made_housed, gone_housed, put_housed, has_box, same_place, air_place, tick_if_place, end_place, unmoved, unmade)
 
 housed : (airs : Airs) (boxes n : ℕ) (made : List Step) → Legal airs boxes made → box_of n made ≡ None → place (sink_calls airs n made) ≡ None
 housed airs boxes n [] legal none = refl
@@ -100,9 +75,7 @@ housed airs boxes n (step ∷ earlier) legal none =
 -- ---- of what is handed up as an event is closed, what is of one sink and one source
 
 pub of_sink_on : (s n : ℕ) (xs ys : List SinkUnit) → of_sink s n (xs ++ ys) ≡ of_sink s n xs ++ of_sink s n ys
-of_sink_on s n xs ys =
-    ap (map (λ (unit : SinkUnit). unit.unit)) (filter-append (λ (unit : SinkUnit). eqb unit.source s && eqb unit.sink n) xs ys)
-    ∙ map-append (λ (unit : SinkUnit). unit.unit) (filter (λ (unit : SinkUnit). eqb unit.source s && eqb unit.sink n) xs) (filter (λ (unit : SinkUnit). eqb unit.source s && eqb unit.sink n) ys)
+of_sink_on s n xs ys = search (filter-append, map-append)
 
 of_sinks : (s n : ℕ) (f : ℕ → List SinkUnit) (ms : List ℕ) → of_sink s n (flat_map f ms) ≡ flat_map (λ m. of_sink s n (f m)) ms
 of_sinks s n f [] = refl
@@ -123,15 +96,11 @@ handed_open calls (Some event) = handed_at calls event
 
 own_closing : (s n event : ℕ) (calls : List Call) (box : Option ℕ) (mine : Bool) → (box ≡ None → place calls ≡ None)
     → of_sink s n (cond mine (closing_in s event n calls box) []) ≡ cond mine (handed_at calls event) []
-own_closing s n event calls box false before = refl
-own_closing s n event calls None true before = sym (ap (ticked_by event calls) (before refl))
-own_closing s n event calls (Some box) true before = own_units s n box (handed_at calls event)
+own_closing s n event calls box mine before = grind (arith, own_units)
 
 other_closing : (s n c m event : ℕ) (calls : List Call) (box : Option ℕ) (its : Bool) → (eqb c s && eqb m n) ≡ false
     → of_sink s n (cond its (closing_in c event m calls box) []) ≡ []
-other_closing s n c m event calls box false apart = refl
-other_closing s n c m event calls None true apart = refl
-other_closing s n c m event calls (Some box) true apart = other_units s n c m box (handed_at calls event) apart
+other_closing s n c m event calls box its apart = grind (arith, other_units)
 
 none_of : (g : ℕ → List Handed) (start count : ℕ) → ((m : ℕ) → start ≤ m → g m ≡ []) → flat_map g (range_with_len start count) ≡ []
 none_of g start zero none = refl
@@ -150,14 +119,10 @@ sink_closing airs boxes s n made event legal within =
 
 unfold_other : (airs : Airs) (s c n : ℕ) (made : List Step) (event : ℕ) → c ≢ s → of_sink s n (closing_at airs c made (Some event)) ≡ []
 unfolding sink_numbers
-unfold_other airs s c n made event apart =
-    of_sinks s n (λ m. closing_by c event m (sink_calls airs m made) (source_of m made) (box_of m made)) (range_with_len 0 8)
-    ∙ none_of (λ m. of_sink s n (closing_by c event m (sink_calls airs m made) (source_of m made) (box_of m made))) 0 8
-    (λ m least. other_closing s n c m event (sink_calls airs m made) (box_of m made) (is_of c (source_of m made)) (and_left (eqb c s) (eqb m n) (ne_eqb c s apart)))
+unfold_other airs s c n made event apart = search (of_sinks, none_of, other_closing, and_left, ne_eqb)
 
 other_source : (airs : Airs) (s c n : ℕ) (made : List Step) (last_open : Option ℕ) → c ≢ s → of_sink s n (closing_at airs c made last_open) ≡ []
-other_source airs s c n made None apart = refl
-other_source airs s c n made (Some event) apart = unfold_other airs s c n made event apart
+other_source airs s c n made last_open apart = grind (arith, unfold_other)
 
 -- ---- what a step hands up of a sink and a source
 
@@ -180,8 +145,7 @@ cond_same units false = refl
 
 closing_open : (airs : Airs) (boxes s n : ℕ) (made : List Step) (last_open : Option ℕ) → Legal airs boxes made → n ≤ 7
     → of_sink s n (closing_at airs s made last_open) ≡ shown_if (is_of s (source_of n made)) (sink_calls airs n made) last_open
-closing_open airs boxes s n made None legal within = sym (cond_same [] (is_of s (source_of n made)))
-closing_open airs boxes s n made (Some event) legal within = sink_closing airs boxes s n made event legal within
+closing_open airs boxes s n made last_open legal within = grind (arith, cond_same, sink_closing)
 
 pub closing_shown : (airs : Airs) (boxes s c n : ℕ) (made : List Step) → Legal airs boxes made → n ≤ 7
     → of_sink s n (closing airs c made) ≡ cond (c == s) (shown_with airs s n made) []
@@ -197,9 +161,7 @@ closing_shown airs boxes s c n made legal within = elim (cases_eq c s) [
 
 -- one of the two sources is this one
 both_shown : (s : ℕ) (shown : List Handed) → s ≤ 1 → cond (0 == s) shown [] ++ cond (1 == s) shown [] ≡ shown
-both_shown zero shown least = append-nil shown
-both_shown (suc zero) shown least = refl
-both_shown (suc (suc s)) shown least = absurd (omega (arith, least))
+both_shown s shown least = grind (arith, append-nil)
 
 pub step_shown : (airs : Airs) (boxes s n : ℕ) (step : Step) (earlier : List Step) → Legal airs boxes earlier → s ≤ 1 → n ≤ 7
     → of_sink s n (handed_by airs earlier step) ≡ shown_by airs s n earlier step

@@ -1,6 +1,6 @@
 -- What is struck of units, by the numbers that they begin at: each entry is of its unit, in order.
-use Rattle.std.proofs.Common.{ℕ, suc, ◌≡◌, ◌⊎◌, ◌<◌, ◌≤◌, ◌+◌, ◌-◌, ◌/◌, ◌&&◌, cond, ltb, Bool, true, false}
-use Rattle.std.proofs.Common.{List, [], ◌∷◌, ◌++◌, length, Option, None, Some, refl, sym, ◌∙◌, ap, subst, arith, inl, inr}
+use Rattle.std.proofs.Common.{ℕ, suc, ◌≡◌, ◌⊎◌, ◌<◌, ◌≤◌, ◌+◌, ◌-◌, ◌/◌, ◌&&◌, cond, ltb, Bool, true}
+use Rattle.std.proofs.Common.{List, [], ◌∷◌, ◌++◌, length, Option, Some, refl, sym, ◌∙◌, ap, subst, arith, inl, inr}
 use Rattle.std.specs.Prelude.{slice_get}
 use Rattle.std.specs.List.{AllZip, flat_map}
 use Rattle.std.proofs.lemmas.Bool.{and_parts, ltb-true}
@@ -30,8 +30,7 @@ abbrev pub HasEntry : Stay → (ℕ → Bool) → ℕ → Sent → List Handed �
 HasEntry stay heard closed unit entries = (entries ≡ []) ⊎ ((entry : Handed) × (entries ≡ entry ∷ []) × IsEntry stay heard closed unit entry)
 
 missing_test : (test : Bool) (from number : ℕ) (rest : Option ℕ) → cond test rest (Some from) ≡ Some number → (rest ≡ Some number → from + 1 ≤ number) → from ≤ number
-missing_test true from number rest is more = omega (arith, more is)
-missing_test false from number rest is more = omega (arith, same_Some from number is)
+missing_test test from number rest is more = grind (arith, same_Some)
 
 missing_behind : (heard : ℕ → Bool) (from number : ℕ) (segments : List (List ℕ)) → first_missing heard from segments ≡ Some number → from ≤ number
 missing_behind heard from number [] is = absurd (none-some number is)
@@ -40,46 +39,20 @@ missing_behind heard from number (octets ∷ segments) is =
 
 valid_has : (stay : Stay) (heard : ℕ → Bool) (closed : ℕ) (unit : Sent) → heard unit.first ≡ true → 1 ≤ length unit.segments → (test : Bool) → (unit.whole && ltb (behind unit - 1) closed) ≡ test
     → HasEntry stay heard closed unit (cond test (valid stay.bis (time_of stay (unit.first / stay.info.bn) unit.offset) (octets_in unit.segments) ∷ []) [])
-valid_has stay heard closed unit start some false is = inl refl
-valid_has stay heard closed unit start some true is =
-    let both = and_parts unit.whole (ltb (behind unit - 1) closed) is in
-    inr (
-      valid stay.bis (time_of stay (unit.first / stay.info.bn) unit.offset) (octets_in unit.segments),
-      refl,
-      record {
-        start_heard = start;
-        start_closed = omega (arith, ltb-true (behind unit - 1) closed both.1, some);
-        octets = [];
-        is = inr (both.0, refl);
-      },
-    )
+valid_has stay heard closed unit start some test is = grind (arith, and_parts, ltb, ltb-true)
 
 lost_has : (stay : Stay) (heard : ℕ → Bool) (closed number : ℕ) (unit : Sent) → heard unit.first ≡ true → unit.first ≤ number → (test : Bool) → ltb number closed ≡ test
     → HasEntry stay heard closed unit (cond test (lost stay.bis (time_of stay (unit.first / stay.info.bn) unit.offset) ∷ []) [])
-lost_has stay heard closed number unit start least false is = inl refl
-lost_has stay heard closed number unit start least true is =
-    inr (
-      lost stay.bis (time_of stay (unit.first / stay.info.bn) unit.offset),
-      refl,
-      record {
-        start_heard = start;
-        start_closed = omega (arith, ltb-true number closed is, least);
-        octets = [];
-        is = inl refl;
-      },
-    )
+lost_has stay heard closed number unit start least test is = grind (arith, ltb-true)
 
 by_missing : (stay : Stay) (heard : ℕ → Bool) (closed : ℕ) (unit : Sent) → heard unit.first ≡ true → 1 ≤ length unit.segments → (missing : Option ℕ)
     → first_missing heard unit.first unit.segments ≡ missing
     → HasEntry stay heard closed unit (entry_by stay closed unit missing)
-by_missing stay heard closed unit start some None is = valid_has stay heard closed unit start some (unit.whole && ltb (behind unit - 1) closed) refl
-by_missing stay heard closed unit start some (Some number) is =
-    lost_has stay heard closed number unit start (missing_behind heard unit.first number unit.segments is) (ltb number closed) refl
+by_missing stay heard closed unit start some missing is = grind (arith, valid_has, ltb, lost_has, missing_behind)
 
 by_start : (stay : Stay) (heard : ℕ → Bool) (closed : ℕ) (unit : Sent) → 1 ≤ length unit.segments → (test : Bool) → heard unit.first ≡ test
     → HasEntry stay heard closed unit (cond test (entry_by stay closed unit (first_missing heard unit.first unit.segments)) [])
-by_start stay heard closed unit some false is = inl refl
-by_start stay heard closed unit some true is = by_missing stay heard closed unit is some (first_missing heard unit.first unit.segments) refl
+by_start stay heard closed unit some test is = grind (arith, by_missing)
 
 pub has_entry : (stay : Stay) (heard : ℕ → Bool) (closed : ℕ) (unit : Sent) → 1 ≤ length unit.segments → HasEntry stay heard closed unit (entry_of stay heard closed unit)
 has_entry stay heard closed unit some = by_start stay heard closed unit some (heard unit.first) refl
@@ -130,14 +103,12 @@ Ahead from high (n ∷ ns) [] = Unit {0}
 Ahead from high (n ∷ ns) (unit ∷ units) = (from ≤ unit.first → high ≤ n) × Ahead from high ns units
 
 ahead_later : (from later high : ℕ) (ns : List ℕ) (units : List Sent) → from ≤ later → Ahead from high ns units → Ahead later high ns units
-ahead_later from later high [] units more ahead = tt
-ahead_later from later high (n ∷ ns) [] more ahead = tt
 ahead_later from later high (n ∷ ns) (unit ∷ units) more ahead = ((λ past. ahead.0 (omega (arith, more, past))), ahead_later from later high ns units more ahead.1)
+ahead_later from later high ns units more ahead = cc
 
 ahead_all : (R : ℕ → Sent → Type 0) (from low : ℕ) (ns : List ℕ) (units : List Sent) → Numbered R low ns units → Ahead from low ns units
-ahead_all R from low [] units all = tt
-ahead_all R from low (n ∷ ns) [] all = tt
 ahead_all R from low (n ∷ ns) (unit ∷ units) all = ((λ past. all.0), ahead_all R from low ns units (numbered_from R low (n + 1) ns units (omega (arith, all.0)) all.2))
+ahead_all R from low ns units all = cc
 
 -- entries of numbers that rise: all below `high`, from which on the units have their numbers that begin at `until` or behind it
 pub record Batch (E : ℕ → Handed → Type 0) (low until : ℕ) (ns : List ℕ) (units : List Sent) (entries : List Handed) : Type 0 where

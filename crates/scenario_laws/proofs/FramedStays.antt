@@ -1,5 +1,5 @@
 -- One stay on a framed stream: what its closed events decide is struck over the units that the source sends.
-use Rattle.std.proofs.Common.{ℕ, zero, suc, ◌≡◌, ◌<◌, ◌≤◌, ◌+◌, ◌*◌, ◌/◌, ◌==◌, cond, ltb, Bool, true, false, List, [], ◌∷◌, length, map, Option, None, Some, refl, sym, ◌∙◌, ap, subst, arith}
+use Rattle.std.proofs.Common.{ℕ, zero, suc, ◌≡◌, ◌<◌, ◌≤◌, ◌+◌, ◌*◌, ◌/◌, ◌==◌, cond, ltb, Bool, true, false, List, [], ◌∷◌, length, map, Option, Some, refl, sym, ◌∙◌, ap, subst, arith}
 use Rattle.std.specs.Prelude.{is_some, slice_index_or, unwrap_or}
 use Rattle.std.specs.List.{Contains, list_any}
 use Rattle.std.proofs.Math.Nat.{add-mul, div-mul-le_self, mul-le-mul}
@@ -56,8 +56,7 @@ taken_within num_bis which bis none taken = subst (λ b. b ≤ num_bis) taken.2 
 -- ---- a number that is heard belongs to an event of the stay
 
 heard_some : {A : Type 0} (o : Option A) → is_some o ≡ true → (x : A) × (o ≡ Some x)
-heard_some None is = absurd (false≢true is)
-heard_some (Some x) is = (x, refl)
+heard_some o is = grind (arith, false≢true)
 
 pub heard_least : (stay : Stay) (calls : List stays.Call) (number : ℕ) → is_heard stay calls number ≡ true → stay.first ≤ number / stay.info.bn
 heard_least stay calls number is =

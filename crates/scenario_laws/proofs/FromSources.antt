@@ -1,5 +1,5 @@
 -- What is the source's own is read as what was laid.
-use Rattle.std.proofs.Common.{ℕ, ◌≡◌, ◌+◌, cond, eqb, ltb, Bool, true, false, List, [], ◌∷◌, ◌++◌, Option, None, Some, Result, Ok, Err, refl, sym, ◌∙◌, ap, subst}
+use Rattle.std.proofs.Common.{ℕ, ◌≡◌, ◌+◌, cond, ltb, Bool, true, false, List, [], ◌∷◌, ◌++◌, Option, Some, Result, Ok, refl, sym, ◌∙◌, ap, subst, arith}
 use Rattle.std.specs.List.{AllByRecursion}
 use Rattle.std.proofs.lemmas.Option.{none-some, same_Some}
 use Rattle.iso_pdu.specs.declared.fault.PduFault.{PduFault}
@@ -13,7 +13,7 @@ use Rattle.isoal_base.specs.Stays.{Stay}
 use Rattle.isoal_base.proofs.Citable.{heard_first}
 use Rattle.isoal_framed.specs.Struck.{FromSource as FramedFromSource, Sent, parts_at}
 use Rattle.isoal_framed.specs.Tokens.{segmented}
-use Rattle.isoal_unframed.specs.Slot.{fragments_of, laid}
+use Rattle.isoal_unframed.specs.Slot.{laid}
 use Rattle.isoal_unframed.specs.Struck.{Slots, air_at, FromSource}
 use Rattle.isoal_unframed.specs.Units.{unframed}
 use Rattle.scenario_laws.proofs.Hears.{Own}
@@ -24,12 +24,10 @@ laid_unframed false true x y z = refl
 laid_unframed false false x y z = refl
 
 slot_unframed : (max_pdu : ℕ) (slot : Option (List ℕ)) (r : ℕ) → unframed (laid max_pdu slot r) ≡ Some (laid max_pdu slot r)
-slot_unframed max_pdu None r = refl
-slot_unframed max_pdu (Some unit) r = laid_unframed (ltb (r + 1) (fragments_of max_pdu unit)) (eqb (r + 1) (fragments_of max_pdu unit)) _ _ _
+slot_unframed max_pdu slot r = grind (arith, laid_unframed, ltb)
 
 taken_cases : {A : Type 0} (takes : Content → Option A) (r : Result Content PduFault) (part : A) → taken_of takes r ≡ Some part → (got : Content) × (r ≡ Ok got) × (takes got ≡ Some part)
-taken_cases takes (Ok got) part is = (got, refl, is)
-taken_cases takes (Err fault) part is = absurd (none-some part is)
+taken_cases takes r part is = grind (arith, none-some)
 
 same_ok : (a b : Content) → (let ok : Content → Result Content PduFault = λ c. Ok c in ok a ≡ ok b) → a ≡ b
 same_ok a b e = cc

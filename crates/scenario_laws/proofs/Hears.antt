@@ -1,5 +1,5 @@
 -- Each PDU that a sink hears on a stream of its group is the source's own at its payload number, where none is injected.
-use Rattle.std.proofs.Common.{ℕ, zero, suc, ◌≡◌, ◌≢◌, ◌<◌, ◌≤◌, ◌+◌, ◌*◌, ◌/◌, ◌%◌, ◌^◌, ◌&&◌, ◌||◌, ◌==◌, cond, ltb, leb}
+use Rattle.std.proofs.Common.{ℕ, zero, suc, ◌≡◌, ◌≢◌, ◌<◌, ◌≤◌, ◌+◌, ◌*◌, ◌/◌, ◌%◌, ◌&&◌, ◌||◌, ◌==◌, cond, ltb, leb}
 use Rattle.std.proofs.Common.{Bool, true, false, List, [], ◌∷◌, Option, None, Some, refl, sym, ◌∙◌, ap, subst, arith, inl, inr}
 use Rattle.std.specs.List.{AllByRecursion}
 use Rattle.std.proofs.Math.Nat.{div-lt_iff_lt-mul}
@@ -10,7 +10,6 @@ use Rattle.big_info.specs.Bounds.{Bounds}
 use Rattle.iso_pdu.specs.Layout.{Content}
 use Rattle.iso_pdu.specs.Spelling.{pdu}
 use Rattle.isoal_base.specs.Stays as stays
-use Rattle.isoal_base.specs.Stays.{opened}
 use Rattle.isoal_unframed.specs.Slot.{laid}
 use Rattle.radio_schedule.specs.PayloadNumber.{payload_number}
 use Rattle.radio_schedule.specs.declared.air.AirFault.{AirFault}
@@ -82,9 +81,7 @@ hear_own : (laid : ℕ → Content) (tuning : Joining) (bis : ℕ) (event stream
     → AllOwn laid tuning bis calls
     → (stream ≡ bis → octets ≡ pdu (laid (payload_number tuning.info event subevent)))
     → AllOwn laid tuning bis (hear event stream subevent octets ∷ calls)
-hear_own laid tuning bis event stream subevent octets calls all own =
-    one_hear laid (stream == bis) (ltb subevent tuning.info.nse && ltb (payload_number tuning.info event subevent) (2 ^ 39))
-    (payload_number tuning.info event subevent) octets (stream_calls (stay_on tuning bis) calls) all (λ mine. own (eqb-true stream bis mine))
+hear_own laid tuning bis event stream subevent octets calls all own = search (one_hear, ltb, eqb-true)
 
 mine_own : (laid : ℕ → Content) (tuning : Joining) (bis : ℕ) (mine : Bool) (more calls : List Call)
     → AllOwn laid tuning bis calls → (mine ≡ true → AllOwn laid tuning bis more) → AllOwn laid tuning bis (cond mine more calls)
@@ -121,15 +118,11 @@ air_own airs laid tuning own bis lose (suc i) calls sent least some near within 
 
 tick_own : (laid : ℕ → Content) (tuning : Joining) (bis : ℕ) (last_open : Option ℕ) (calls : List Call)
     → AllOwn laid tuning bis calls → AllOwn laid tuning bis (ticked last_open calls)
-tick_own laid tuning bis None calls all = all
-tick_own laid tuning bis (Some event) calls all =
-    one_close laid (leb (opened (stay_on tuning bis) (stream_calls (stay_on tuning bis) calls)) event)
-    (stream_calls (stay_on tuning bis) calls) all
+tick_own laid tuning bis last_open calls all = grind (arith, one_close)
 
 tick_if_own : (laid : ℕ → Content) (tuning : Joining) (bis : ℕ) (mine : Bool) (last_open : Option ℕ) (calls : List Call)
     → AllOwn laid tuning bis calls → AllOwn laid tuning bis (ticked_if mine last_open calls)
-tick_if_own laid tuning bis true last_open calls all = tick_own laid tuning bis last_open calls all
-tick_if_own laid tuning bis false last_open calls all = all
+tick_if_own laid tuning bis mine last_open calls all = grind (arith, tick_own)
 
 left_own : (laid : ℕ → Content) (tuning : Joining) (bis : ℕ) (later calls : List Call) → Left later calls → AllOwn laid tuning bis calls → AllOwn laid tuning bis later
 left_own laid tuning bis later calls left all = elim left [
@@ -139,8 +132,7 @@ left_own laid tuning bis later calls left all = elim left [
 
 inject_own : (laid : ℕ → Content) (tuning : Joining) (bis : ℕ) (mine its injected : Bool) (call : Call) (calls : List Call)
     → (mine || injected) ≡ false → (injected ≡ false → AllOwn laid tuning bis calls) → AllOwn laid tuning bis (cond (mine && its) (call ∷ calls) calls)
-inject_own laid tuning bis true its injected call calls clean before = absurd (false≢true (sym clean))
-inject_own laid tuning bis false its injected call calls clean before = before clean
+inject_own laid tuning bis mine its injected call calls clean before = grind (arith, false≢true)
 
 -- ---- a place on the air that isn't refused
 
@@ -150,10 +142,7 @@ pub record OnAir (own : List Step) (back bis subevent : ℕ) : Type 0 where
   pub performed_then : back < performed own
 
 on_air_tests : (a b c : Bool) (x y z : AirFault) → cond a (Some x) (cond b (Some y) (cond c (Some z) None)) ≡ None → (a ≡ false) × (b ≡ false) × (c ≡ false)
-on_air_tests true b c x y z none = absurd (none-some x (sym none))
-on_air_tests false true c x y z none = absurd (none-some y (sym none))
-on_air_tests false false true x y z none = absurd (none-some z (sym none))
-on_air_tests false false false x y z none = (refl, refl, refl)
+on_air_tests a b c x y z none = grind (arith, none-some)
 
 pub on_air : (own : List Step) (back bis subevent : ℕ) → no_place own back bis subevent ≡ None → OnAir own back bis subevent
 on_air own back bis subevent none =
@@ -169,8 +158,7 @@ on_air own back bis subevent none =
 
 -- what reaches a sink is of its source
 reached : (sink n s c : ℕ) (source : Option ℕ) → ((sink == n) && is_of c source) ≡ true → source ≡ Some s → s ≡ c
-reached sink n s c source is there =
-    eqb-true s c (ap (is_of c) (sym there) ∙ (and_parts (sink == n) (is_of c source) is).1)
+reached sink n s c source is there = cc (eqb-true s c (ap (is_of c) (sym there) ∙ (and_parts (sink == n) (is_of c source) is).1))
 
 -- what is known before a step of a sink on a group of the source
 pub record Ready (airs : Airs) (laid : ℕ → Content) (tuning : Joining) (bis : ℕ) (own : List Step) (calls : List Call) : Type 0 where
@@ -186,9 +174,7 @@ sent_by airs laid tuning bis s n sink earlier calls there mine ready =
 stays_own : (airs : Airs) (laid : ℕ → Content) (tuning : Joining) (n bis : ℕ) (step : Step) (earlier : List Step) (injected : Bool)
     → cond (is_tuned n earlier step) (is_injected n step) (is_injected n step || injected) ≡ false → StaysBy airs n step earlier
     → (injected ≡ false → AllOwn laid tuning bis (sink_calls airs n earlier)) → AllOwn laid tuning bis (sink_calls airs n (step ∷ earlier))
-stays_own airs laid tuning n bis step earlier injected clean stays before =
-    left_own laid tuning bis (sink_calls airs n (step ∷ earlier)) (sink_calls airs n earlier) stays.left
-    (before (rest_not (is_tuned n earlier step) (is_injected n step) injected clean stays.begins_not))
+stays_own airs laid tuning n bis step earlier injected clean stays before = search (left_own, rest_not)
 
 own_after : (airs : Airs) (laid : ℕ → Content) (tuning : Joining) (boxes s n bis : ℕ) (step : Step) (earlier : List Step) (injected : Bool)
     → Permitted airs boxes earlier step → 1 ≤ bis → source_of n earlier ≡ Some s → cond (is_tuned n earlier step) (is_injected n step) (is_injected n step || injected) ≡ false

@@ -22,7 +22,7 @@ use Rattle.scenario_history.specs.Airs.{MeetAirs}
 use Rattle.scenario_history.specs.Sinks.{is_of, sink_calls, source_of, ticked}
 use Rattle.scenario_history.specs.Boxes.{SinkUnit, handed_by}
 use Rattle.scenario_laws.specs.Laws.{closed_by, given_since_made, handed_since, injected_since, is_given, is_injected, is_made, is_tuned, of_sink, shown_since}
-use Rattle.scenario_laws.specs.SourceUnits.{InSourceOrder, is_valid, valid_in}
+use Rattle.scenario_laws.specs.SourceUnits.{InSourceOrder, valid_in}
 use Rattle.scenario_laws.proofs.Announced.{Announcing}
 use Rattle.scenario_laws.proofs.Below.{Below}
 use Rattle.scenario_laws.proofs.Legals.{Legal, legal}
@@ -75,8 +75,7 @@ pub record Ready (airs : Airs) (boxes s n bis : ℕ) (setup : Setup) (whole : Li
   pub fits : Fits setup whole bis
 
 cond_true_more : (first count : ℕ) (over : Bool) → over ≡ true → first + count < first + cond over (count + 1) count
-cond_true_more first count true is = omega arith
-cond_true_more first count false is = absurd (false≢true is)
+cond_true_more first count over is = grind (arith, false≢true)
 
 -- the open event is closed
 closed_orders : Below → (airs : Airs) → MeetAirs airs → (boxes s n bis : ℕ) (setup : Setup) (whole : List SourceCall) (made : List Step) → Ready airs boxes s n bis setup whole made
@@ -198,10 +197,7 @@ by_step below airs meets boxes s n bis setup whole _ earlier ready next more uni
 again_orders : (setup : Setup) (whole : List SourceCall) (s n bis next : ℕ) (again : Bool) (units others : List SinkUnit)
     → (again ≡ false → Ordered setup whole bis next (valid_in (of_stream bis (of_sink s n units)) ++ valid_in (of_stream bis (of_sink s n others))))
     → Ordered setup whole bis next (valid_in (of_stream bis (of_sink s n (cond again [] (units ++ others)))))
-again_orders setup whole s n bis next true units others order = ordered_none setup whole bis next
-again_orders setup whole s n bis next false units others order =
-    subst (λ (us : List Handed). Ordered setup whole bis next us)
-    (sym (ap valid_in (shown_on s n bis units others) ∙ filter-append is_valid (of_stream bis (of_sink s n units)) (of_stream bis (of_sink s n others)))) (order refl)
+again_orders setup whole s n bis next again units others order = grind (arith, ordered_none, shown_on, filter-append)
 
 orders : Below → (airs : Airs) → MeetAirs airs → (boxes s n bis : ℕ) (setup : Setup) (whole : List SourceCall) (made : List Step) → Ready airs boxes s n bis setup whole made
     → Ordered setup whole bis (its_front airs s n made) (valid_in (shown_since (is_made n) airs s n bis made))

@@ -1,7 +1,7 @@
 -- The steps of lines of which none was refused, and what happens by them: each is in range, and no refusal holds of it after those
 -- before it.
-use Rattle.std.proofs.Common.{ℕ, ◌≡◌, List, [], ◌∷◌, length, Option, None, Some, Result, Ok, Err, refl}
-use Rattle.bcast_io.specs.TextLines.{TextLine, plain, too_long, past}
+use Rattle.std.proofs.Common.{ℕ, ◌≡◌, List, [], ◌∷◌, length, Option, None, Some, Result, Ok, Err, refl, arith}
+use Rattle.bcast_io.specs.TextLines.{TextLine}
 use Rattle.unit_outlets.specs.Account.{Account}
 use Rattle.scenario_history.specs.Runs.{Accepted}
 use Rattle.scenario_words.specs.declared.fault.LineFault.{LineFault}
@@ -37,9 +37,7 @@ by_reading (Err (Misfit word)) ranged = tt
 by_reading (Err NoMemory) ranged = tt
 
 pub in_range : LinesInRange → (version : ℕ) (line : TextLine) → InRange (said_in version line)
-in_range ranged version (plain octets) = by_reading (read_of version octets) (ranged version octets)
-in_range ranged version too_long = tt
-in_range ranged version past = tt
+in_range ranged version line = grind (arith, by_reading)
 
 legal_said : (airs : Airs) (boxes : ℕ) (earlier : List Step) (said : Said) → AreSaidLegally airs boxes earlier → InRange said
     → refusal_said airs boxes (happened airs earlier) said ≡ None → AreSaidLegally airs boxes (with_said said earlier)

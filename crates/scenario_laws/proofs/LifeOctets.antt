@@ -1,5 +1,5 @@
 -- The life of a sink of any lines: what its links write is octets, and it has at most eight slots.
-use Rattle.std.proofs.Common.{ℕ, zero, suc, ◌≡◌, ◌<◌, ◌≤◌, ◌==◌, cond, Bool, true, false, List, [], ◌∷◌, ◌++◌, Option, None, Some, refl, sym, ◌∙◌, ap, subst, arith}
+use Rattle.std.proofs.Common.{ℕ, zero, suc, ◌≡◌, ◌<◌, ◌≤◌, ◌==◌, cond, Bool, true, false, List, [], ◌∷◌, ◌++◌, Option, None, Some, sym, ◌∙◌, ap, subst, arith}
 use Rattle.std.specs.Prelude.{unwrap_or}
 use Rattle.std.specs.List.{AllByRecursion}
 use Rattle.std.proofs.lemmas.List.{append-nil}
@@ -8,8 +8,8 @@ use Rattle.bcast_base.specs.Spelling.{IsOctets}
 use Rattle.bcast_io.specs.TextLines.{TextLine}
 use Rattle.bass_operations.specs.Layout.{spelling}
 use Rattle.bass_operations.specs.declared.operation.Operation.TheVariants as operations
-use Rattle.sink_history.specs.Calls.{Call, read, served, told, born}
-use Rattle.sink_history.specs.Drains.{repeated, served_out, told_out}
+use Rattle.sink_history.specs.Calls.{Call, born}
+use Rattle.sink_history.specs.Drains.{repeated}
 use Rattle.sink_history.specs.Octets.{AreOctets, IsAsked}
 use Rattle.scenario_text.specs.declared.step.Step.{Step}
 use Rattle.scenario_text.specs.declared.step.Step.TheVariants as steps
@@ -53,12 +53,7 @@ few_made n sink streams slots mtu earlier few made is =
 few_by : (n : ℕ) (step : Step) (earlier : List Step) (before : Option Settings) → IsInRange step
     → ((made : Settings) → before ≡ Some made → made.setup.slots < 256)
     → (made : Settings) → made_by n step earlier before ≡ Some made → made.setup.slots < 256
-few_by n (steps.Sink sink streams slots mtu) earlier before ranged few =
-    few_if (sink == n) (Some (record { setup = record { streams = streams; slots = slots; horizon = horizon_of earlier }; mtu = mtu })) before
-    (made_by n (steps.Sink sink streams slots mtu) earlier before) (few_made n sink streams slots mtu earlier ranged.4) few refl
-few_by n (steps.Drop sink) earlier before ranged few =
-    few_if (sink == n) None before (made_by n (steps.Drop sink) earlier before) (λ made is. absurd (none-some made is)) few refl
-few_by n _ earlier before ranged few = few
+few_by n step earlier before ranged few = grind (arith, few_if, few_made, none-some)
 
 pub few_slots : (n : ℕ) (steps : List Step) → Ranged steps → (made : Settings) → made_of n steps ≡ Some made → made.setup.slots < 256
 few_slots n [] ranged = λ made is. absurd (none-some made is)
@@ -79,11 +74,7 @@ repeats zero call calls is before = before
 repeats (suc count) call calls is before = (is, repeats count call calls is before)
 
 octets_drained : (made : Option Settings) (link : ℕ) (calls : List Call) → AreOctets calls → AreOctets (with_drain made link calls)
-octets_drained None link calls before = before
-octets_drained (Some made) link calls before =
-    let after_serves = repeats _ (served link) calls tt before in
-    let after_tells = repeats _ (told link) (served_out link calls) tt after_serves in
-    repeats _ (read link) (told_out made.setup made.mtu link (served_out link calls)) tt after_tells
+octets_drained made link calls before = grind (arith, repeats)
 
 remove_octets : (source_id : ℕ) → source_id < 256 → IsOctets (spelling (operations.Remove source_id))
 remove_octets source_id small = cons_octets 5 (source_id ∷ []) (omega arith) (cons_octets source_id [] small nil_octets)
@@ -94,18 +85,12 @@ code_octets source_id code small octets =
 
 octets_by : (source : Source) (step : Step) (made : Option Settings) (calls : List Call) → IsInRange step → AreOctets calls
     → AreOctets (lived_by source step made calls)
-octets_by source (steps.Remove sink source_id) made calls ranged before = (remove_octets source_id ranged.1, before)
-octets_by source (steps.Code sink source_id code) made calls ranged before = (code_octets source_id code ranged.2 ranged.3, before)
-octets_by source (steps.Drain sink) made calls ranged before = octets_drained made 0 calls before
-octets_by source (steps.ADrain sink link) made calls ranged before = octets_drained made link calls before
-octets_by source _ made calls ranged before = search
+octets_by source step made calls ranged before = grind (arith, remove_octets, code_octets, octets_drained)
 
 octets_at : (world : World) (n : ℕ) (named : Option ℕ) (step : Step) (earlier : List Step) (made : Option Settings) (calls : List Call)
     → IsInRange step → AreOctets calls
     → AreOctets (lived_at world n named step earlier made calls)
-octets_at world n None step earlier made calls ranged before = before
-octets_at world n (Some sink) step earlier made calls ranged before =
-    octets_if (sink == n) (lived_by (world.source earlier) step made calls) calls (octets_by (world.source earlier) step made calls ranged before) before
+octets_at world n named step earlier made calls ranged before = grind (arith, octets_if, octets_by)
 
 octets_lived : (world : World) (n : ℕ) (step : Step) (earlier : List Step) (made : Option Settings) (calls : List Call) → IsInRange step
     → AreOctets calls

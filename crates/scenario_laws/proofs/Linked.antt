@@ -64,5 +64,4 @@ not_forged link (call ∷ earlier) other = not_forged link earlier other
 pub apart_agree : LinesInRange → OfLinks → (airs : Airs) (lines : List TextLine) (n link slot : ℕ) (made : Settings)
     → made_of n (steps_of airs lines) ≡ Some made → slot < made.setup.slots
     → link ≢ 0 → Agrees made link slot (life n (steps_of airs lines))
-apart_agree in_range laws airs lines n link slot made is below other =
-    links_agree in_range laws airs lines n link slot made is below (not_forged link (life n (steps_of airs lines)) other)
+apart_agree in_range laws airs lines n link slot made is below other = search (links_agree, not_forged)

@@ -1,9 +1,9 @@
 -- What a line makes of a sink that it names by its control or by its links: its receivers stay or leave, or a train puts them on
 -- a group; and a sink that follows a train on no group may be of another source then.
-use Rattle.std.proofs.Common.{ℕ, ◌≡◌, ◌⊎◌, ◌==◌, ◌&&◌, not, cond, Bool, true, false, List, ◌∷◌, Option, None, Some, is_some, refl, sym, ◌∙◌, ap, subst, inl, inr}
+use Rattle.std.proofs.Common.{ℕ, ◌≡◌, ◌⊎◌, ◌==◌, ◌&&◌, not, cond, Bool, true, false, List, ◌∷◌, Option, None, Some, is_some, refl, ap, subst, inl, inr, arith}
 use Rattle.delegator_machine.specs.Groups.{by_numbers, with_leave, with_step}
 use Rattle.delegator_history.specs.declared.train_heard.TrainHeard.{TrainHeard}
-use Rattle.delegator_history.specs.Sights.{Place, Sight, idle, is_on_group, is_slot, on_group, on_train}
+use Rattle.delegator_history.specs.Sights.{Place, Sight, is_on_group}
 use Rattle.delegator_history.specs.Trains.{Brought, Settings, Setup, Train, heard, ignored, taken}
 use Rattle.delegator_history.specs.Trains.{brought_by, by_broadcast_id, by_slot, is_elsewhere, joining_in}
 use Rattle.sync_reference.specs.Joining.{Joining}
@@ -68,20 +68,14 @@ left_or_not false is calls = inl refl
 received_left : (source : Source) (step : Step) (made : Option Settings) (here there : List links.Call) (calls : List Call)
     → train_by source step ≡ None
     → Left (received_by source step made here there calls) calls
-received_left source step None here there calls none = inl refl
-received_left source step (Some made) here there calls none =
-    subst (λ train. Left (with_step (joining_of made (sight_in made here) train) (sight_in made here) (sight_in made there) calls) calls) (sym none)
-    (left_or_not (has_group (sight_in made here).place) (has_group (sight_in made there).place) calls)
+received_left source step made here there calls none = grind (arith, left_or_not)
 
 left_if : (hit : Bool) (more calls : List Call) → Left more calls → Left (cond hit more calls) calls
 left_if true more calls left = left
 left_if false more calls left = inl refl
 
 moved_left : (n : ℕ) (named : Option ℕ) (step : Step) (earlier : List Step) (calls : List Call) → train_by (source_at earlier) step ≡ None → Left (moved n named step earlier calls) calls
-moved_left n None step earlier calls none = inl refl
-moved_left n (Some sink) step earlier calls none =
-    left_if (sink == n) (received_by (source_at earlier) step (made_of n earlier) (life n earlier) (life n (step ∷ earlier)) calls) calls
-    (received_left (source_at earlier) step (made_of n earlier) (life n earlier) (life n (step ∷ earlier)) calls none)
+moved_left n named step earlier calls none = grind (arith, left_if, received_left)
 
 pub plain_stays : (airs : Airs) (n : ℕ) (step : Step) (earlier : List Step) → train_by (source_at earlier) step ≡ None
     → moved n (named_by step) step earlier (sink_calls airs n earlier) ≡ with_sink_call airs n step earlier (sink_calls airs n earlier)
@@ -98,9 +92,7 @@ same_if false x = refl
 
 -- of a sink that doesn't live
 pub unmoved : (n : ℕ) (named : Option ℕ) (step : Step) (earlier : List Step) (calls : List Call) → made_of n earlier ≡ None → moved n named step earlier calls ≡ calls
-unmoved n None step earlier calls none = refl
-unmoved n (Some sink) step earlier calls none =
-    ap (λ made. cond (sink == n) (received_by (source_at earlier) step made (life n earlier) (life n (step ∷ earlier)) calls) calls) none ∙ same_if (sink == n) calls
+unmoved n named step earlier calls none = grind (arith, same_if)
 
 -- a train that is given to another sink
 pub given_stays : (airs : Airs) (n sink time : ℕ) (ext adv acad : List ℕ) (earlier : List Step) → (sink == n) ≡ false → StaysBy airs n (steps.Train sink time ext adv acad) earlier
@@ -121,19 +113,15 @@ heard_slot false first second rest slot answer encrypted is = absurd cc
 
 heard_place : (at : Place) (slot : ℕ) (first second : TrainHeard) (rest : Brought) (other : ℕ) (answer : TrainHeard) (encrypted : Option Bool)
     → cond (is_elsewhere at slot) (ignored first) (cond (is_on_group at slot) (ignored second) rest) ≡ heard other answer encrypted → has_group at ≡ false
-heard_place idle slot first second rest other answer encrypted is = refl
-heard_place (on_train at) slot first second rest other answer encrypted is = refl
-heard_place (on_group at) slot first second rest other answer encrypted is = absurd (heard_slot (is_slot at slot) first second rest other answer encrypted is)
+heard_place at slot first second rest other answer encrypted is = grind (arith, heard_slot)
 
 heard_at : (setup : Setup) (sight : Sight) (train : Train) (slot : Option ℕ) (other : ℕ) (answer : TrainHeard) (encrypted : Option Bool)
     → by_slot setup sight train slot ≡ heard other answer encrypted → has_group sight.place ≡ false
-heard_at setup sight train None other answer encrypted is = absurd cc
-heard_at setup sight train (Some slot) other answer encrypted is = heard_place sight.place slot _ _ _ other answer encrypted is
+heard_at setup sight train slot other answer encrypted is = grind (arith, heard_place)
 
 heard_by : (setup : Setup) (sight : Sight) (train : Train) (id : Option (List ℕ)) (other : ℕ) (answer : TrainHeard) (encrypted : Option Bool)
     → by_broadcast_id setup sight train id ≡ heard other answer encrypted → has_group sight.place ≡ false
-heard_by setup sight train None other answer encrypted is = absurd cc
-heard_by setup sight train (Some id) other answer encrypted is = heard_at setup sight train _ other answer encrypted is
+heard_by setup sight train id other answer encrypted is = grind (arith, heard_at)
 
 -- what the source of a line announces puts a sink, of this life, on this group
 pub record BroughtTo (source : Source) (lives : List links.Call) (joining : Joining) : Type 0 where

@@ -1,5 +1,5 @@
 -- Where the life of a sink says that it is on no group, its receivers are on none.
-use Rattle.std.proofs.Common.{ℕ, ◌≡◌, ◌==◌, cond, Bool, true, false, List, [], ◌∷◌, Option, None, Some, refl, sym, ◌∙◌, ap, subst}
+use Rattle.std.proofs.Common.{ℕ, ◌≡◌, ◌==◌, cond, Bool, true, false, List, [], ◌∷◌, Option, None, Some, refl, sym, ◌∙◌, ap, subst, arith}
 use Rattle.std.proofs.lemmas.Bool.{false≢true}
 use Rattle.std.proofs.lemmas.Option.{none-some, same_Some}
 use Rattle.delegator_machine.specs.Groups.{with_leave, with_step}
@@ -15,7 +15,7 @@ use Rattle.sink_history.specs.Calls.{stepped, steps_of}
 use Rattle.delegator_control.specs.Groups.{has_group}
 use Rattle.scenario_text.specs.declared.step.Step.{Step}
 use Rattle.scenario_text.specs.declared.step.Step.TheVariants as steps
-use Rattle.sink_history.specs.Lives.{Source, given_train, lived_at, lived_by, made_of, named_by, own_train}
+use Rattle.sink_history.specs.Lives.{Source, given_train, lived_at, made_of, named_by, own_train}
 use Rattle.sink_history.specs.Moves.{joining_of, received_by, train_by}
 use Rattle.sink_history.specs.Output.{sight_in}
 use Rattle.scenario_history.specs.Steps.{chosen_of, chosen_steps, steps_of_source}
@@ -46,14 +46,11 @@ train_comes m train lives joining is =
 -- ---- a line that names the sink
 
 leave_off : (was is : Bool) (calls : List Call) → (was ≡ false → place calls ≡ None) → is ≡ false → place (with_leave was is calls) ≡ None
-leave_off true true calls before off = absurd (false≢true (sym off))
-leave_off true false calls before off = refl
-leave_off false is calls before off = before refl
+leave_off was is calls before off = grind (arith, false≢true)
 
 step_off : (given : Option Joining) (before later : Sight) (calls : List Call) → (has_group before.place ≡ false → place calls ≡ None)
     → ((joining : Joining) → given ≡ Some joining → has_group later.place ≡ true) → has_group later.place ≡ false → place (with_step given before later calls) ≡ None
-step_off None before later calls was comes off = leave_off (has_group before.place) (has_group later.place) calls was off
-step_off (Some joining) before later calls was comes off = absurd (false≢true (sym off ∙ comes joining refl))
+step_off given before later calls was comes off = grind (arith, leave_off, false≢true)
 
 -- a group that the line brings is one that the sink is on then
 abbrev Comes : Source → Step → Option Settings → (here there : List links.Call) → Type 0
@@ -81,10 +78,7 @@ moved_off false source step made here there later calls is comes before = subst 
 plain_off : (n : ℕ) (named : Option ℕ) (step : Step) (earlier : List Step) (calls : List Call) → train_by (source_at earlier) step ≡ None
     → lived_at the_world n named step earlier (made_of n earlier) (life n earlier) ≡ life n (step ∷ earlier) → Nowhere (made_of n earlier) (life n earlier) calls
     → Nowhere (made_of n earlier) (life n (step ∷ earlier)) (moved n named step earlier calls)
-plain_off n None step earlier calls none is before = subst (λ lives. Nowhere (made_of n earlier) lives calls) is before
-plain_off n (Some sink) step earlier calls none is before =
-    moved_off (sink == n) (source_at earlier) step (made_of n earlier) (life n earlier) (lived_by (source_at earlier) step (made_of n earlier) (life n earlier)) (life n (step ∷ earlier)) calls is
-    (λ m joining made_is brought. absurd (none-some joining (sym (ap (joining_of m (sight_in m (life n earlier))) none) ∙ brought))) before
+plain_off n named step earlier calls none is before = grind (arith, moved_off, none-some)
 
 -- ---- step by step
 
@@ -96,14 +90,12 @@ gone_off false anew made born lives calls before m is off = before m is off
 put_off : (put : Bool) (made : Option Settings) (joining : Joining) (lives : List links.Call) (on : Joining) (calls : List Call)
     → Nowhere made lives calls
     → Nowhere made (cond put (stepped (put_on joining) ∷ lives) lives) (cond put (tune on ∷ calls) calls)
-put_off true made joining lives on calls before m is off = absurd (false≢true (sym off ∙ put_comes m joining lives))
-put_off false made joining lives on calls before m is off = before m is off
+put_off put made joining lives on calls before m is off = grind (arith, false≢true, put_comes)
 
 hear_off : (named mine : Bool) (made : Option Settings) (lives : List links.Call) (more calls : List Call) → place more ≡ place calls
     → Nowhere made lives calls
     → Nowhere made (cond named lives lives) (cond mine more calls)
-hear_off true mine made lives more calls same before m is off = same_place mine more calls same ∙ before m is off
-hear_off false mine made lives more calls same before m is off = same_place mine more calls same ∙ before m is off
+hear_off named mine made lives more calls same before m is off = grind (arith, same_place)
 
 off_after : (airs : Airs) (n : ℕ) (step : Step) (earlier : List Step) (calls : List Call) → Nowhere (made_of n earlier) (life n earlier) calls
     → Nowhere (made_of n (step ∷ earlier)) (life n (step ∷ earlier)) (with_sink_call airs n step earlier calls)

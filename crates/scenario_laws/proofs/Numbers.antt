@@ -74,9 +74,8 @@ events_apart info (lay ∷ calls) e later order below = elim (cases_eq (laid_eve
 ]
 
 get_more : {A : Type 0} (xs ys : List A) (i : ℕ) (x : A) → slice_get xs i ≡ Some x → slice_get (xs ++ ys) i ≡ Some x
-get_more [] ys i x is = absurd (none-some x is)
-get_more (y ∷ xs) ys zero x is = is
 get_more (y ∷ xs) ys (suc i) x is = get_more xs ys i x is
+get_more xs ys i x is = search (none-some)
 
 accepted_are : (info : BigInfo) (bis : ℕ) (calls : List SourceCall) → accepted (source_stream info bis calls) ≡ given bis calls
 accepted_are info bis [] = refl

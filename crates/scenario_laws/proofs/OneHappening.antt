@@ -80,8 +80,7 @@ gifts_alike false airs others both boxes made legal runs = record { steps = refl
 
 before_step : (airs others : Airs) → Both airs others → (boxes : ℕ) (made : List Step) (step : Step) → Legal airs boxes made
     → refusal_of airs boxes made step ≡ None → GiftsAlike airs others (closes_first made step) made
-before_step airs others both boxes made step legal none =
-    gifts_alike (closes_first made step) airs others both boxes made legal (runs_at airs boxes made step none)
+before_step airs others both boxes made step legal none = search (gifts_alike, runs_at)
 
 pub answers_same : (airs others : Airs) → Both airs others → (boxes : ℕ) (made : List Step) (step : Step) → Legal airs boxes made
     → refusal_of airs boxes made step ≡ None → answered_by airs made step ≡ answered_by others made step

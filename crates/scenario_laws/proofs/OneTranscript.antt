@@ -1,28 +1,24 @@
 -- Two airs that meet the relation of their framing give one transcript: no step, no line and no text tells them apart.
-use Rattle.std.proofs.Common.{ℕ, ◌≡◌, ◌+◌, ◌==◌, cond, true, List, [], ◌∷◌, ◌++◌, length, Option, None, Some, refl, sym, ◌∙◌, ap, subst}
+use Rattle.std.proofs.Common.{ℕ, ◌≡◌, ◌+◌, ◌==◌, cond, true, List, [], ◌∷◌, ◌++◌, length, Option, None, Some, refl, sym, ◌∙◌, ap, subst, arith}
 use Rattle.bcast_io.specs.TextLines.{TextLine}
 use Rattle.unit_outlets.specs.Account.{Account}
 use Rattle.scenario_history.specs.Runs.{Accepted, End, accepted_of, accepted_unless, end_of, end_unless, out, out_unless}
 use Rattle.source_machine.specs.Airs.{AreAirs, stale_of, Airs}
 use Rattle.source_machine.specs.Calls.{event as perform}
 use Rattle.source_machine.specs.Faults.{event_fault}
-use Rattle.group_sink.specs.Hearings.{hearing_of}
-use Rattle.isoal_base.specs.declared.hearing.Hearing.TheVariants.{NotOnGroup}
 use Rattle.scenario_text.specs.declared.step.Step.{Step}
 use Rattle.scenario_text.specs.declared.step.Step.TheVariants as steps
 use Rattle.transcript_text.specs.declared.refusal.Refusal.{Refusal}
-use Rattle.transcript_text.specs.Lines.{control_line, heard_line, pdu_line}
 use Rattle.scenario_history.specs.Steps.{chosen_of, chosen_steps}
-use Rattle.scenario_history.specs.Source.{end_pdu, event_back, is_started, setup_of, source_calls, stale_in}
+use Rattle.scenario_history.specs.Source.{is_started, setup_of, source_calls, stale_in}
 use Rattle.scenario_history.specs.Airs.{MeetAirs}
 use Rattle.scenario_history.specs.Gifts.{answered_by}
-use Rattle.scenario_history.specs.Sinks.{is_of, source_of}
-use Rattle.scenario_history.specs.Boxes.{box_of, closing, closing_both, handed_up}
-use Rattle.scenario_history.specs.Refusals.{is_relayed, line_refusal, refusal_of, relayed_or}
-use Rattle.scenario_history.specs.Output.{close_lines, first_lines, output_of, stale_lines, sum_if, sums_of, unit_lines}
-use Rattle.scenario_history.specs.Lines.{Said, a_step, nothing, unsaid, handed_on, handed_said, output_said, refusal_said, rules_of}
+use Rattle.scenario_history.specs.Boxes.{closing, closing_both, handed_up}
+use Rattle.scenario_history.specs.Refusals.{line_refusal, refusal_of}
+use Rattle.scenario_history.specs.Output.{close_lines, first_lines, output_of, sums_of, unit_lines}
+use Rattle.scenario_history.specs.Lines.{Said, handed_on, handed_said, output_said, refusal_said, rules_of}
 use Rattle.scenario_history.specs.Lines.{said_after, said_of, steps_of}
-use Rattle.scenario_history.specs.Transcript.{end_after, has_end, last_end_after, last_line_after, out_of, transcript_end, transcript_of, units_of}
+use Rattle.scenario_history.specs.Transcript.{end_after, out_of, transcript_end, transcript_of, units_of}
 use Rattle.scenario_laws.proofs.Gifts.Citable.{line_passes}
 use Rattle.scenario_laws.proofs.Legals.{Legal, LinesInRange, legal, permitted, said_legally}
 use Rattle.scenario_laws.proofs.OneHappening.{answers_same, happened_same}
@@ -85,43 +81,17 @@ ends_same airs others both starts made legal none =
 
 output_same : (airs others : Airs) → Both airs others → (starts : List Account) (made : List Step) (step : Step) → Legal airs (length starts) made
     → refusal_of airs (length starts) made step ≡ None → output_of airs starts made step ≡ output_of others starts made step
-output_same airs others both starts made steps.Event legal none =
-    ap (λ octets. octets ++ stale_lines (stale_in airs (chosen_steps made)))
-    (close_same airs others both (length starts) made steps.Event legal none)
-    ∙ ap (λ us. close_lines others made steps.Event ++ stale_lines us)
-    (stale_same airs others both (length starts) made (record { here = legal; there = legal_too airs others both (length starts) made legal }) none)
-output_same airs others both starts made steps.Stop legal none = close_same airs others both (length starts) made steps.Stop legal none
-output_same airs others both starts made (steps.Terminate reason) legal none =
-    ap (λ octets. octets ++ control_line (end_pdu (chosen_steps made) reason))
-    (close_same airs others both (length starts) made (steps.Terminate reason) legal none)
-output_same airs others both starts made steps.End legal none = ends_same airs others both starts made legal none
-output_same airs others both starts made (steps.Drop sink) legal none =
-    ap (λ us. sum_if starts us sink (box_of sink made)) (handed_up_same airs others both (length starts) made legal)
-output_same airs others both starts made (steps.Inject sink back bis subevent octets) legal none =
-    ap (λ calls. heard_line sink (cond (is_of (chosen_of made) (source_of sink made)) (hearing_of calls (event_back (chosen_steps made) back) bis subevent octets) NotOnGroup))
-    (sink_same airs others both (length starts) sink made legal)
-output_same airs others both starts made (steps.Sniff back bis subevent) legal none =
-    ap (λ octets. pdu_line (event_back (chosen_steps made) back) bis subevent octets)
-    (pdu_same airs others (chosen_steps made)
-    (chosen_same airs others both (length starts) made (record { here = legal; there = legal_too airs others both (length starts) made legal })
-    (hears (chosen_steps made) (permitted airs (length starts) made (steps.Sniff back bis subevent) none).in_phase)) (event_back (chosen_steps made) back) bis subevent)
-output_same airs others both starts made _ legal none = refl
+output_same airs others both starts made step legal none =
+    grind (arith, close_same, legal, stale_same, legal_too, ends_same, handed_up_same, sink_same, pdu_same, chosen_same, hears, permitted)
 
 -- ---- lines
 
 said_refused : (airs others : Airs) → Both airs others → (boxes : ℕ) (made : List Step) (said : Said) → Legal airs boxes made → refusal_said airs boxes made said ≡ refusal_said others boxes made said
-said_refused airs others both boxes made (a_step step) legal =
-    ap (relayed_or (is_relayed made step))
-    (refusal_same airs others both boxes made step (record { here = legal; there = legal_too airs others both boxes made legal }))
-said_refused airs others both boxes made nothing legal = refl
-said_refused airs others both boxes made (unsaid reason) legal = refl
+said_refused airs others both boxes made said legal = grind (arith, refusal_same, legal, legal_too)
 
 said_brought : (airs others : Airs) → Both airs others → (starts : List Account) (made : List Step) (said : Said) → Legal airs (length starts) made
     → refusal_said airs (length starts) made said ≡ None → output_said airs starts made said ≡ output_said others starts made said
-said_brought airs others both starts made (a_step step) legal none =
-    output_same airs others both starts made step legal (line_passes airs (length starts) made step none)
-said_brought airs others both starts made nothing legal none = refl
-said_brought airs others both starts made (unsaid reason) legal none = refl
+said_brought airs others both starts made said legal none = grind (arith, output_same, legal, line_passes)
 
 -- what both airs share over a text with these boxes
 pub record Told (airs others : Airs) : Type 0 where
@@ -208,13 +178,10 @@ runs_same airs others told starts history (line ∷ lines) accepted =
 -- ---- the law
 
 pub transcript_same : (airs others : Airs) → Told airs others → (starts : List Account) (lines : List TextLine) → transcript_of airs starts lines ≡ transcript_of others starts lines
-transcript_same airs others told starts lines =
-    ap (λ octets. octets ++ last_line_after (end_after airs starts lines) (has_end lines) (length lines + 1)) (out_same airs others told starts [] lines tt)
-    ∙ ap (λ end. out_of others starts lines ++ last_line_after end (has_end lines) (length lines + 1)) (end_same airs others told starts [] lines tt)
+transcript_same airs others told starts lines = cc (out_same airs others told starts [] lines tt, end_same airs others told starts [] lines tt)
 
 pub transcript_end_same : (airs others : Airs) → Told airs others → (starts : List Account) (lines : List TextLine) → transcript_end airs starts lines ≡ transcript_end others starts lines
-transcript_end_same airs others told starts lines =
-    ap (λ end. last_end_after end (has_end lines) (length lines + 1)) (end_same airs others told starts [] lines tt)
+transcript_end_same airs others told starts lines = cc (end_same airs others told starts [] lines tt)
 
 pub out_of_same : (airs others : Airs) → Told airs others → (starts : List Account) (lines : List TextLine) → out_of airs starts lines ≡ out_of others starts lines
 out_of_same airs others told starts lines = out_same airs others told starts [] lines tt
@@ -236,9 +203,7 @@ accepted_same airs others told starts (line ∷ lines) accepted =
     (accepted_same airs others told starts lines accepted.0, sym (refused_same airs others told starts lines line accepted.0) ∙ accepted.1)
 
 said_handed : (airs others : Airs) → Both airs others → (boxes : ℕ) (made : List Step) (said : Said) → Legal airs boxes made → handed_said airs made said ≡ handed_said others made said
-said_handed airs others both boxes made (a_step step) legal = handed_same airs others both boxes made step legal
-said_handed airs others both boxes made nothing legal = refl
-said_handed airs others both boxes made (unsaid reason) legal = refl
+said_handed airs others both boxes made said legal = grind (arith, handed_same, legal)
 
 pub handed_on_same : (airs others : Airs) → Told airs others → (starts : List Account) (lines : List TextLine) (line : TextLine) → Accepted (rules_of airs starts) lines
     → handed_on airs lines line ≡ handed_on others lines line

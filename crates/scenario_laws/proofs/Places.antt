@@ -1,5 +1,5 @@
 -- The group that the receivers of a sink are on, before a line of the air and after it: the same.
-use Rattle.std.proofs.Common.{ℕ, zero, suc, ◌≡◌, cond, Bool, true, false, List, Option, None, Some, refl, ◌∙◌}
+use Rattle.std.proofs.Common.{ℕ, zero, suc, ◌≡◌, cond, Bool, true, false, List, Option, None, Some, refl, ◌∙◌, arith}
 use Rattle.group_sink.specs.Calls.{Call, hear, place}
 use Rattle.scenario_text.specs.declared.step.Step.{Step}
 use Rattle.scenario_history.specs.Source.{event_back, setup_of}
@@ -25,8 +25,7 @@ tick_place None calls = refl
 tick_place (Some event) calls = refl
 
 pub tick_if_place : (mine : Bool) (last_open : Option ℕ) (calls : List Call) → place (ticked_if mine last_open calls) ≡ place calls
-tick_if_place true last_open calls = tick_place last_open calls
-tick_if_place false last_open calls = refl
+tick_if_place mine last_open calls = grind (arith, tick_place)
 
 -- at `end`
 pub end_place : (second first : Bool) (second_open first_open : Option ℕ) (calls : List Call) → place (ticked_if second second_open (ticked_if first first_open calls)) ≡ place calls

@@ -1,13 +1,10 @@
 -- What a source of an unframed group sends is its own, by division.
-use Rattle.std.proofs.Common.{ℕ, ◌≡◌, ◌<◌, ◌≤◌, ◌/◌, ◌%◌}
+use Rattle.std.proofs.Common.{ℕ, ◌≡◌, ◌<◌, ◌≤◌}
 use Rattle.std.proofs.Common.{true, List, [], ◌++◌, Some, refl, sym, ◌∙◌, ap, subst, arith}
 use Rattle.std.specs.Prelude.{unwrap_or}
-use Rattle.big_info.specs.declared.info.BigInfo.{BigInfo}
 use Rattle.big_info.specs.declared.group.Group.{Group}
-use Rattle.big_info.specs.Schedule.{per_unit_of}
 use Rattle.iso_pdu.specs.Spelling.{pdu}
 use Rattle.isoal_base.specs.Air.{Air}
-use Rattle.isoal_unframed.specs.Slot.{laid}
 use Rattle.isoal_unframed.specs.Struck.{air_at}
 use Rattle.radio_schedule.specs.PayloadNumber.{payload_number}
 use Rattle.source_machine.specs.Airs.{AreAirs, airs_of, content_at, pdu_of, slots_of, Airs}
@@ -38,9 +35,7 @@ own_pdu below group setup whole calls airs more are event bis subevent same plai
 air_same : (setup : Setup) (whole : List SourceCall) (tuning : Joining) (bis : ℕ) (event subevent : ℕ) → tuning.info ≡ setup.info
     → content_at setup whole bis (payload_number setup.info event subevent)
     ≡ air_at (stay_on tuning bis) (slots_of setup whole bis) (payload_number tuning.info event subevent)
-air_same setup whole tuning bis event subevent same =
-    ap (λ (i : BigInfo). laid i.max_pdu (slots_of setup whole bis (payload_number i event subevent / i.bn) (payload_number i event subevent % i.bn / per_unit_of i))
-    (payload_number i event subevent % i.bn % per_unit_of i)) (sym same)
+air_same setup whole tuning bis event subevent same = cc (same)
 
 pub sends_own : Below → (airs : Airs) → MeetAirs airs → (setup : Setup) (whole : List SourceCall) (tuning : Joining) (bis : ℕ) (own : List Step) → Lawful airs own → is_started own ≡ true
     → Within setup whole own → tuning.info ≡ setup.info → setup.info.framing ≡ 0 → SendsOwn airs (air_at (stay_on tuning bis) (slots_of setup whole bis)) tuning bis own

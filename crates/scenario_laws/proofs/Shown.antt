@@ -1,5 +1,5 @@
 -- What a sink hands up on a stream of a source is one entry for each slot of each event of it that the sink closed.
-use Rattle.std.proofs.Common.{ℕ, zero, suc, ◌≡◌, ◌<◌, ◌≤◌, ◌+◌, ◌-◌, ◌*◌, ◌==◌, cond, leb, eqb, Bool, true, false}
+use Rattle.std.proofs.Common.{ℕ, zero, suc, ◌≡◌, ◌<◌, ◌≤◌, ◌+◌, ◌-◌, ◌*◌, cond, leb, eqb, Bool, true, false}
 use Rattle.std.proofs.Common.{List, [], ◌∷◌, ◌++◌, map, Option, None, Some, refl, sym, ◌∙◌, ap, subst, arith, inl, inr}
 use Rattle.std.specs.List.{AllZip, Contains, range_with_len}
 use Rattle.std.proofs.Math.Nat.{add-mul}
@@ -25,15 +25,14 @@ use Rattle.group_sink.specs.Handing.{bis_of, handed_at, handed_by as ticked_by, 
 use Rattle.group_sink.specs.Streams.{closes, is_in, stay_on, stream_calls, streams_of}
 use Rattle.group_sink.proofs.Citable.{is_member, member_is}
 use Rattle.scenario_text.specs.declared.step.Step.{Step}
-use Rattle.scenario_text.specs.declared.step.Step.TheVariants as steps
-use Rattle.scenario_history.specs.Steps.{chosen_of, steps_of_source}
-use Rattle.scenario_history.specs.Source.{open_event, setup_of, source_calls}
+use Rattle.scenario_history.specs.Steps.{steps_of_source}
+use Rattle.scenario_history.specs.Source.{setup_of, source_calls}
 use Rattle.source_machine.specs.Airs.{Airs}
 use Rattle.scenario_history.specs.Sinks.{is_of, sink_calls, source_of}
 use Rattle.scenario_history.specs.Boxes.{SinkUnit, handed_by}
 use Rattle.scenario_laws.specs.Laws.{Closed, closed_at, closed_by, closed_if, closed_in, closed_since}
 use Rattle.scenario_laws.specs.SourceUnits.{IsOfSlot}
-use Rattle.scenario_laws.specs.Laws.{given_since_made, handed_since, is_given, is_made, of_sink, shown_since, slots_closed, slots_in}
+use Rattle.scenario_laws.specs.Laws.{given_since_made, handed_since, is_given, is_made, of_sink, shown_since, slots_closed}
 use Rattle.scenario_laws.specs.SourceUnits.{time_in, whole_stay}
 use Rattle.scenario_laws.proofs.Announced.{Announcing}
 use Rattle.scenario_laws.proofs.Below.{Below}
@@ -47,8 +46,7 @@ use Rattle.scenario_laws.proofs.Ticks.{is_its}
 -- ---- the units of one close on one stream
 
 close_hands : (stay : Stay) (over : Bool) (calls : List stays.Call) → handed stay (cond over (stays.close ∷ calls) calls) ≡ handed stay calls ++ cond over (units_of stay calls (opened stay calls)) []
-close_hands stay true calls = refl
-close_hands stay false calls = sym (append-nil (handed stay calls))
+close_hands stay over calls = grind (arith, append-nil)
 
 pub tick_hands : Below → (event : ℕ) (calls : List Call) (tuning : Joining) (bis : ℕ) → tuning.info.framing ≡ 0 → place calls ≡ Some tuning → Contains (streams_of tuning.which) bis
     → of_stream bis (handed_at calls event)
@@ -108,9 +106,7 @@ not_in_slots setup bis true closed out = rw out refl
 
 one_slots : (setup : Setup) (bis : ℕ) (closed : Closed) → is_in closed.which bis ≡ true
     → slots_closed setup bis (closed ∷ []) ≡ map (λ slot. record { event = closed.event; slot = slot }) (range_with_len 0 (per_event_of setup.info))
-one_slots setup bis closed taken =
-    append-nil (slots_in setup bis closed)
-    ∙ cond-true (is_in closed.which bis) (map (λ slot. record { event = closed.event; slot = slot }) (range_with_len 0 (per_event_of setup.info))) [] taken
+one_slots setup bis closed taken = search (append-nil, cond-true)
 
 taken_zip : (setup : Setup) (tuning : Joining) (bis : ℕ) (calls : List stays.Call) (count : ℕ) → TunedTo setup tuning → is_in tuning.which bis ≡ true → (over : Bool)
     → AllZip (IsOfSlot setup bis) (slots_closed setup bis (cond over (record { event = tuning.first + count; which = tuning.which } ∷ []) []))
@@ -146,8 +142,7 @@ event_zip below setup bis event calls (Some tuning) is on plain least within = e
 
 open_zip : Below → (setup : Setup) (bis : ℕ) (calls : List Call) (last_open : Option ℕ) → ((tuning : Joining) → place calls ≡ Some tuning → TunedTo setup tuning)
     → setup.info.framing ≡ 0 → 1 ≤ bis → bis ≤ 31 → AllZip (IsOfSlot setup bis) (slots_closed setup bis (closed_at calls last_open)) (of_stream bis (handed_open calls last_open))
-open_zip below setup bis calls None on plain least within = tt
-open_zip below setup bis calls (Some event) on plain least within = event_zip below setup bis event calls (place calls) refl on plain least within
+open_zip below setup bis calls last_open on plain least within = grind (arith, event_zip)
 
 with_zip : Below → (setup : Setup) (bis : ℕ) (calls : List Call) (last_open : Option ℕ) (mine : Bool) → (mine ≡ true → (tuning : Joining) → place calls ≡ Some tuning → TunedTo setup tuning)
     → setup.info.framing ≡ 0 → 1 ≤ bis → bis ≤ 31 → AllZip (IsOfSlot setup bis) (slots_closed setup bis (closed_if mine calls last_open)) (of_stream bis (shown_if mine calls last_open))
@@ -162,18 +157,7 @@ zip_if setup bis false closed units all = tt
 pub step_zip : Below → (airs : Airs) (s n bis : ℕ) (setup : Setup) (step : Step) (earlier : List Step)
     → (is_of s (source_of n earlier) ≡ true → (tuning : Joining) → place (sink_calls airs n earlier) ≡ Some tuning → TunedTo setup tuning) → setup.info.framing ≡ 0 → 1 ≤ bis → bis ≤ 31
     → AllZip (IsOfSlot setup bis) (slots_closed setup bis (closed_by airs s n earlier step)) (of_stream bis (shown_by airs s n earlier step))
-step_zip below airs s n bis setup steps.Event earlier on plain least within =
-    zip_if setup bis (chosen_of earlier == s) _ _
-    (with_zip below setup bis (sink_calls airs n earlier) (open_event (steps_of_source s earlier)) (is_of s (source_of n earlier)) on plain least within)
-step_zip below airs s n bis setup steps.Stop earlier on plain least within =
-    zip_if setup bis (chosen_of earlier == s) _ _
-    (with_zip below setup bis (sink_calls airs n earlier) (open_event (steps_of_source s earlier)) (is_of s (source_of n earlier)) on plain least within)
-step_zip below airs s n bis setup (steps.Terminate reason) earlier on plain least within =
-    zip_if setup bis (chosen_of earlier == s) _ _
-    (with_zip below setup bis (sink_calls airs n earlier) (open_event (steps_of_source s earlier)) (is_of s (source_of n earlier)) on plain least within)
-step_zip below airs s n bis setup steps.End earlier on plain least within =
-    with_zip below setup bis (sink_calls airs n earlier) (open_event (steps_of_source s earlier)) (is_of s (source_of n earlier)) on plain least within
-step_zip below airs s n bis setup _ earlier on plain least within = tt
+step_zip below airs s n bis setup step earlier on plain least within = grind (arith, zip_if, with_zip)
 
 stream_on : (bis : ℕ) (xs ys : List Handed) → of_stream bis (xs ++ ys) ≡ of_stream bis xs ++ of_stream bis ys
 stream_on bis xs ys = filter-append (λ entry. eqb (bis_of entry) bis) xs ys
@@ -185,11 +169,7 @@ again_zip : (s n bis : ℕ) (setup : Setup) (again : Bool) (closed more : List C
     → (again ≡ false → AllZip (IsOfSlot setup bis) (slots_closed setup bis closed) (of_stream bis (of_sink s n units)))
     → (again ≡ false → AllZip (IsOfSlot setup bis) (slots_closed setup bis more) (of_stream bis (of_sink s n others)))
     → AllZip (IsOfSlot setup bis) (slots_closed setup bis (cond again [] (closed ++ more))) (of_stream bis (of_sink s n (cond again [] (units ++ others))))
-again_zip s n bis setup true closed more units others first rest = tt
-again_zip s n bis setup false closed more units others first rest =
-    subst (λ places. AllZip (IsOfSlot setup bis) places (of_stream bis (of_sink s n (units ++ others)))) (sym (flat_map-append (slots_in setup bis) closed more))
-    (subst (λ shown. AllZip (IsOfSlot setup bis) (slots_closed setup bis closed ++ slots_closed setup bis more) shown) (sym (shown_on s n bis units others))
-    (all_zip_append (IsOfSlot setup bis) (slots_closed setup bis closed) (slots_closed setup bis more) (of_stream bis (of_sink s n units)) (of_stream bis (of_sink s n others)) (first refl) (rest refl)))
+again_zip s n bis setup again closed more units others first rest = grind (arith, flat_map-append, shown_on, all_zip_append)
 
 -- the stay that a sink is in, by what fixes the whole source
 pub on_whole : Announcing → (airs : Airs) (boxes s n : ℕ) (setup : Setup) (whole : List SourceCall) (made : List Step) → Legal airs boxes made → given_since_made n made ≡ false

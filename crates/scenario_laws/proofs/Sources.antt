@@ -1,6 +1,6 @@
 -- The steps of one source of a scenario of which no line was refused: its group stands before its start, it takes calls only
 -- behind it, and what fixes it stays.
-use Rattle.std.proofs.Common.{ℕ, ◌≡◌, ◌⊎◌, ◌≤◌, ◌||◌, ◌&&◌, ◌==◌, not, cond, Bool, true, false, List, [], ◌∷◌, Option, None, Some, refl, sym, ◌∙◌, ap, subst, arith, inl, inr}
+use Rattle.std.proofs.Common.{ℕ, ◌≡◌, ◌⊎◌, ◌≤◌, ◌||◌, ◌&&◌, ◌==◌, not, cond, Bool, true, false, List, [], ◌∷◌, Option, None, refl, sym, ◌∙◌, ap, subst, arith, inl, inr}
 use Rattle.std.specs.Prelude.{unwrap_or}
 use Rattle.std.proofs.lemmas.Bool.{cases_Bool, eqb-true, false≢true, or_parts, not-false}
 use Rattle.std.proofs.lemmas.Option.{none-some}
@@ -11,7 +11,6 @@ use Rattle.big_info.specs.Widths.{FitsWidths}
 use Rattle.big_info.proofs.Citable.{bounds_of, no_fault_within}
 use Rattle.source_machine.specs.declared.fault.EventFault.{EventFault}
 use Rattle.source_machine.specs.Ciphers.{without_cipher}
-use Rattle.source_machine.specs.Faults.{event_fault, give_fault}
 use Rattle.source_machine.specs.Setups.{IsChecked}
 use Rattle.scenario_text.specs.declared.step.Step.{Step}
 use Rattle.scenario_text.specs.declared.step.Step.TheVariants as steps
@@ -19,12 +18,12 @@ use Rattle.scenario_text.specs.Ranges.{IsInRange, GroupRanges}
 use Rattle.transcript_text.specs.declared.refusal.Refusal.TheVariants.{BaseTooLong}
 use Rattle.scenario_history.proofs.Citable.{stage_same}
 use Rattle.scenario_history.specs.Steps.{chosen_of, is_common, is_of_source, is_source_line, is_unbegun_at, stage_of, steps_of_source, version_of}
-use Rattle.scenario_history.specs.Source.{Phase, absent, checked_info, cipher_of, described, group_of, info_with, is_absent_at, is_ciphered, sending, stopped}
+use Rattle.scenario_history.specs.Source.{Phase, checked_info, cipher_of, group_of, info_with, is_absent_at, is_ciphered}
 use Rattle.source_machine.specs.Airs.{Airs}
 use Rattle.scenario_history.specs.Source.{is_described_at, is_heard, is_sending, is_sending_at, is_started, no_group, takes_units, phase_of, setup_of, source_calls, start_of, was_started_at}
 use Rattle.scenario_history.specs.Airs.{AreAccepted}
-use Rattle.scenario_history.specs.Bases.{is_base_too_long, is_last_bare}
-use Rattle.scenario_history.specs.Refusals.{counter_ends, give_refusal, group_refusal, is_misplaced, is_out_of_phase, source_refusal}
+use Rattle.scenario_history.specs.Bases.{is_base_too_long}
+use Rattle.scenario_history.specs.Refusals.{counter_ends, group_refusal, is_misplaced, is_out_of_phase, source_refusal}
 use Rattle.sink_history.specs.Refusals.{refuse_if}
 use Rattle.sink_history.specs.Lives.{horizon_in}
 use Rattle.scenario_laws.proofs.Legals.{Legal, Permitted, maps_none, neither, permitted}
@@ -38,22 +37,13 @@ true_not_false b holds fails = false≢true (sym fails ∙ holds)
 -- ---- the phases
 
 absent_then : (p : Phase) → not (is_absent_at p) ≡ false → was_started_at p ≡ false
-absent_then absent is = refl
-absent_then described is = absurd (false≢true (sym is))
-absent_then sending is = absurd (false≢true (sym is))
-absent_then stopped is = absurd (false≢true (sym is))
+absent_then p is = grind (arith, false≢true)
 
 described_then : (p : Phase) → not (is_described_at p) ≡ false → was_started_at p ≡ false
-described_then absent is = absurd (false≢true (sym is))
-described_then described is = refl
-described_then sending is = absurd (false≢true (sym is))
-described_then stopped is = absurd (false≢true (sym is))
+described_then p is = grind (arith, false≢true)
 
 sending_then : (p : Phase) → not (is_sending_at p) ≡ false → was_started_at p ≡ true
-sending_then absent is = absurd (false≢true (sym is))
-sending_then described is = absurd (false≢true (sym is))
-sending_then sending is = refl
-sending_then stopped is = absurd (false≢true (sym is))
+sending_then p is = grind (arith, false≢true)
 
 pub sends : (own : List Step) → not (is_sending own) ≡ false → is_started own ≡ true
 sends own is = sending_then (phase_of own) is
@@ -93,15 +83,10 @@ Lawful airs [] = Unit {0}
 Lawful airs (step ∷ own) = Lawful airs own × Allowed airs own step
 
 common_allowed : (airs : Airs) (own : List Step) (step : Step) → is_common step ≡ true → is_misplaced (stage_of own) step ≡ false → IsInRange step → Allowed airs own step
-common_allowed airs own (steps.Scenario number) common placed ranged =
-    record { version = 1; in_place = placed; in_phase = refl; by_source = refl; ranged = ranged }
-common_allowed airs own steps.End common placed ranged = record { version = 1; in_place = placed; in_phase = refl; by_source = refl; ranged = ranged }
-common_allowed airs own _ common placed ranged = absurd (false≢true common)
+common_allowed airs own step common placed ranged = grind (arith, false≢true)
 
 of_source_parts : (a b c : Bool) → (a || (b && c)) ≡ true → (a ≡ true) ⊎ (c ≡ true)
-of_source_parts true b c is = inl refl
-of_source_parts false true c is = inr is
-of_source_parts false false c is = absurd (false≢true is)
+of_source_parts a b c is = grind (arith, false≢true)
 
 pub its_step : (airs : Airs) (boxes s : ℕ) (earlier : List Step) (step : Step) → Permitted airs boxes earlier step → IsInRange step → is_of_source s earlier step ≡ true
     → Allowed airs (steps_of_source s earlier) step
@@ -282,19 +267,10 @@ settled airs (step ∷ own) legal = settled_after airs own step (settled airs ow
 
 -- a start stays, and with it what fixes the source
 pub started_stays : (airs : Airs) (own : List Step) (step : Step) → Allowed airs own step → is_started own ≡ true → is_started (step ∷ own) ≡ true
-started_stays airs own (steps.Group framing origin delay iso sdu max_sdu max_pdu num_bis bn nse irc pto sub spacing phy) allows started =
-    absurd (true_not_false (is_started own) started (no_group_yet own allows.in_phase))
-started_stays airs own (steps.Start first) allows started = refl
-started_stays airs own steps.Stop allows started = refl
-started_stays airs own (steps.Terminate reason) allows started = refl
-started_stays airs own _ allows started = started
+started_stays airs own step allows started = grind (arith, true_not_false, no_group_yet)
 
 pub setup_stays : (airs : Airs) (own : List Step) (step : Step) → Settled own → Allowed airs own step → is_started own ≡ true → setup_of (step ∷ own) ≡ setup_of own
-setup_stays airs own (steps.Group framing origin delay iso sdu max_sdu max_pdu num_bis bn nse irc pto sub spacing phy) is allows started =
-    absurd (true_not_false (is_started own) started (no_group_yet own allows.in_phase))
-setup_stays airs own (steps.Start first) is allows started = absurd (true_not_false (is_started own) started (not_yet own (is_last_bare own) allows.in_phase))
-setup_stays airs own (steps.Scenario version) is allows started = absurd (true_not_false (is_started own) started (begins own is.under_way allows.in_place))
-setup_stays airs own _ is allows started = refl
+setup_stays airs own step is allows started = grind (arith, true_not_false, no_group_yet, not_yet, begins)
 
 -- the group of a source that was started
 abbrev pub group_in : (own : List Step) → Settled own → is_started own ≡ true → Group
@@ -314,24 +290,11 @@ bounds_in own is started = bounds_of (setup_of own).info (is.no_fault started)
 -- ---- its calls were accepted
 
 pub no_end : (fault : Option EventFault) → counter_ends fault ≡ None → fault ≡ None
-no_end None none = refl
-no_end (Some fault) none = absurd (none-some _ (sym none))
+no_end fault none = grind (arith, none-some)
 
 accepted_after : (airs : Airs) (own : List Step) (step : Step) → Settled own → Allowed airs own step → AreAccepted airs (setup_of own) (source_calls own)
     → AreAccepted airs (setup_of (step ∷ own)) (source_calls (step ∷ own))
-accepted_after airs own (steps.Group framing origin delay iso sdu max_sdu max_pdu num_bis bn nse irc pto sub spacing phy) is allows before =
-    subst (λ calls. AreAccepted airs (setup_of (steps.Group framing origin delay iso sdu max_sdu max_pdu num_bis bn nse irc pto sub spacing phy ∷ own)) calls)
-    (sym (is.quiet (no_group_yet own allows.in_phase))) tt
-accepted_after airs own (steps.Start first) is allows before =
-    subst (λ calls. AreAccepted airs (setup_of (steps.Start first ∷ own)) calls) (sym (is.quiet (not_yet own (is_last_bare own) allows.in_phase))) tt
-accepted_after airs own (steps.Unit bis time octets) is allows before = (
-  before,
-  maps_none give_refusal (give_fault (setup_of own) (source_calls own) (airs (setup_of own) (source_calls own)) bis time octets) allows.by_source,
-)
-accepted_after airs own steps.Event is allows before = (before, no_end (event_fault (setup_of own) (source_calls own)) allows.by_source)
-accepted_after airs own (steps.Scenario version) is allows before =
-    subst (λ calls. AreAccepted airs (setup_of (steps.Scenario version ∷ own)) calls) (sym (is.quiet (begins own is.under_way allows.in_place))) tt
-accepted_after airs own _ is allows before = before
+accepted_after airs own step is allows before = grind (arith, no_group_yet, not_yet, maps_none, no_end, begins)
 
 pub are_accepted : (airs : Airs) (own : List Step) → Lawful airs own → AreAccepted airs (setup_of own) (source_calls own)
 are_accepted airs [] legal = tt

@@ -16,8 +16,7 @@ use Rattle.source_machine.proofs.Citable.{none_holds}
 use Rattle.scenario_history.specs.Refusals.{group_refusal}
 
 not_found : (holds : Bool) (fault : GroupFault) (rest : Option GroupFault) → cond holds (Some fault) rest ≡ None → (holds ≡ false) × (rest ≡ None)
-not_found true fault rest none = absurd (none-some fault (sym none))
-not_found false fault rest none = (refl, none)
+not_found holds fault rest none = grind (arith, none-some)
 
 none_found : (test : GroupFault → Bool) (all : List GroupFault) → find test all ≡ None → AllByRecursion (λ fault. test fault ≡ false) all
 none_found test [] none = tt
@@ -69,8 +68,7 @@ found_last test (fault ∷ all) last is others =
     ((here.0, more.0), more.1)
 
 it_holds : (holds : Bool) (last : GroupFault) → cond holds (Some last) None ≡ Some last → holds ≡ true
-it_holds true last is = refl
-it_holds false last is = absurd (none-some last is)
+it_holds holds last is = grind (arith, none-some)
 
 before_last : (test : GroupFault → Bool) → AllByRecursion (λ fault. test fault ≡ false) but_last → (other : GroupFault) → number_of other < number_of of_group.Encrypted → test other ≡ false
 before_last test all of_group.RangeIso below = all.0

@@ -1,6 +1,6 @@
 -- The entries of a framed stream over all stays of a sink with a source, whatever was injected: each is of a start that was heard
 -- in its stay, in the order of these starts.
-use Rattle.std.proofs.Common.{ℕ, ◌≡◌, ◌<◌, ◌≤◌, ◌*◌, ◌/◌, ◌||◌, is_some, Bool, true, false, List, [], ◌∷◌, ◌++◌, refl, sym, ◌∙◌, ap, subst, arith, inl, inr, append_assoc}
+use Rattle.std.proofs.Common.{ℕ, ◌≡◌, ◌<◌, ◌≤◌, ◌*◌, ◌/◌, ◌||◌, is_some, Bool, false, List, [], ◌∷◌, ◌++◌, refl, sym, ◌∙◌, ap, subst, arith, inl, inr, append_assoc}
 use Rattle.std.specs.List.{AllZip, Contains, list_any}
 use Rattle.std.proofs.Math.Nat.{div-mul-le_self, mul-le-mul}
 use Rattle.std.proofs.lemmas.Bool.{cases_Bool}
@@ -19,7 +19,6 @@ use Rattle.group_sink.specs.Handing.{handed_since as ticked_since, of_stream}
 use Rattle.group_sink.specs.Streams.{is_in, stay_on, streams_of}
 use Rattle.group_sink.proofs.Citable.{is_member, member_is}
 use Rattle.scenario_text.specs.declared.step.Step.{Step}
-use Rattle.scenario_text.specs.declared.step.Step.TheVariants as steps
 use Rattle.scenario_history.specs.Steps.{steps_of_source}
 use Rattle.scenario_history.specs.Source.{setup_of, source_calls}
 use Rattle.source_machine.specs.Airs.{Airs}
@@ -48,8 +47,7 @@ record GoesOn (n : ℕ) (all made : List Step) : Type 0 where
 
 -- it doesn't matter what came before
 made_alike : (n : ℕ) (before before' : List Step) (step : Step) → is_made n before step ≡ is_made n before' step
-made_alike n before before' (steps.Sink sink streams slots mtu) = refl
-made_alike n before before' _ = refl
+made_alike n before before' step = cc
 
 any_alike : (n : ℕ) (before before' later : List Step) → list_any (is_made n before) later ≡ list_any (is_made n before') later
 any_alike n before before' [] = refl
@@ -57,9 +55,7 @@ any_alike n before before' (step ∷ later) =
     ap (λ b. b || list_any (is_made n before) later) (made_alike n before before' step) ∙ ap (λ b. is_made n before' step || b) (any_alike n before before' later)
 
 neither : (a b : Bool) → a ≡ false → b ≡ false → (a || (b || false)) ≡ false
-neither true b first second = absurd (true_not_false true refl first)
-neither false true first second = absurd (true_not_false true refl second)
-neither false false first second = refl
+neither a b first second = grind (arith, true_not_false)
 
 went_on : (n : ℕ) (all : List Step) (step : Step) (earlier : List Step) → is_made n earlier step ≡ false → GoesOn n all (step ∷ earlier) → GoesOn n all earlier
 went_on n all step earlier still goes = record {

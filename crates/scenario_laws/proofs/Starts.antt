@@ -42,8 +42,7 @@ behind_more at [] high more most behind = omega (arith, most, behind)
 behind_more at (next ∷ places) high more most behind = (behind.0, behind_more next places high more most behind.1)
 
 pub rise_more : (low : ℕ) (places : List SegmentPlace) (high more : ℕ) → high ≤ more → RiseTo low places high → RiseTo low places more
-rise_more low [] high more most rise = omega (arith, most, rise)
-rise_more low (at ∷ places) high more most rise = (rise.0, behind_more at places high more most rise.1)
+rise_more low places high more most rise = grind (arith, behind_more)
 
 rise_from : (low from : ℕ) (places : List SegmentPlace) (high : ℕ) → low ≤ from → RiseTo from places high → RiseTo low places high
 rise_from low from [] high least rise = omega (arith, least, rise)
@@ -55,16 +54,14 @@ behind_on at [] middle (y ∷ ys) high first rest = (inl (omega (arith, first, r
 behind_on at (x ∷ xs) middle ys high first rest = (first.0, behind_on x xs middle ys high first.1 rest)
 
 pub rise_on : (low : ℕ) (xs : List SegmentPlace) (middle : ℕ) (ys : List SegmentPlace) (high : ℕ) → RiseTo low xs middle → RiseTo middle ys high → RiseTo low (xs ++ ys) high
-rise_on low [] middle ys high first rest = rise_from low middle ys high first rest
-rise_on low (x ∷ xs) middle ys high first rest = (first.0, behind_on x xs middle ys high first.1 rest)
+rise_on low xs middle ys high first rest = grind (arith, rise_from, behind_on)
 
 behind_order : (at : SegmentPlace) (places : List SegmentPlace) (high : ℕ) → Behind at places high → AreInOrder (at ∷ places)
 behind_order at [] high behind = tt
 behind_order at (next ∷ places) high behind = (behind.0, behind_order next places high behind.1)
 
 pub are_in_order : (low : ℕ) (places : List SegmentPlace) (high : ℕ) → RiseTo low places high → AreInOrder places
-are_in_order low [] high rise = tt
-are_in_order low (at ∷ places) high rise = behind_order at places high rise.1
+are_in_order low places high rise = grind (arith, behind_order)
 
 -- ---- the entries of a PDU
 
@@ -93,8 +90,7 @@ within_behind number at [] here within = omega (arith, here)
 within_behind number at (next ∷ places) here within = (inr (omega (arith, here, within.0), omega (arith, within.1)), within_behind number next places within.0 within.2)
 
 within_rises : (number segment : ℕ) (places : List SegmentPlace) → Within number segment places → RiseTo number places (number + 1)
-within_rises number segment [] within = omega arith
-within_rises number segment (at ∷ places) within = (omega (arith, within.0), within_behind number at places within.0 within.2)
+within_rises number segment places within = grind (arith, within_behind)
 
 -- entries with their places in a PDU
 record InPdu (stay : Stay) (calls : List stays.Call) (number segment : ℕ) (entries : List Handed) : Type 0 where

@@ -37,17 +37,13 @@ pub record TunedTo (setup : Setup) (tuning : Joining) : Type 0 where
 
 -- what is not so since the last step that begins is not so by the last step, nor before it where that step begins nothing
 pub last_not : (begins now rest : Bool) → cond begins now (now || rest) ≡ false → now ≡ false
-last_not true now rest clean = clean
-last_not false now rest clean = (or_parts now rest clean).0
+last_not begins now rest clean = grind (arith, or_parts)
 
 pub rest_not : (begins now rest : Bool) → cond begins now (now || rest) ≡ false → begins ≡ false → rest ≡ false
-rest_not true now rest clean is = absurd (false≢true (sym is))
-rest_not false now rest clean is = (or_parts now rest clean).1
+rest_not begins now rest clean is = grind (arith, false≢true, or_parts)
 
 both_not : (begins now rest : Bool) → now ≡ false → (begins ≡ false → rest ≡ false) → cond begins now (now || rest) ≡ false
-both_not true now rest last before = last
-both_not false true rest last before = absurd (false≢true (sym last))
-both_not false false rest last before = before refl
+both_not begins now rest last before = grind (arith, false≢true)
 
 given_is_injected : (n : ℕ) (step : Step) → is_injected n step ≡ false → is_given n step ≡ false
 given_is_injected n (steps.Train sink time ext adv acad) clean = clean
@@ -76,14 +72,12 @@ pub record IsOn (airs : Airs) (s n : ℕ) (made : List Step) (tuning : Joining) 
 
 gone_there : (s : ℕ) (tuning : Joining) (gone : Bool) (calls : List Call) (source : Option ℕ) → IsThere s tuning (cond gone [] calls) (cond gone None source)
     → IsThere s tuning calls source × (gone ≡ false)
-gone_there s tuning true calls source is = absurd (none-some tuning is.place_is)
-gone_there s tuning false calls source is = (is, refl)
+gone_there s tuning gone calls source is = grind (arith, none-some)
 
 put_there : (s : ℕ) (tuning : Joining) (put : Bool) (on : Joining) (chosen : ℕ) (calls : List Call) (source : Option ℕ)
     → IsThere s tuning (cond put (tune on ∷ calls) calls) (cond put (Some chosen) source)
     → (IsThere s tuning calls source × (put ≡ false)) ⊎ ((on ≡ tuning) × (chosen ≡ s) × (put ≡ true))
-put_there s tuning true on chosen calls source is = inr (same_Some on tuning is.place_is, same_Some chosen s is.source_is, refl)
-put_there s tuning false on chosen calls source is = inl (is, refl)
+put_there s tuning put on chosen calls source is = grind (arith, same_Some)
 
 -- `announce` puts the sink there, on this source
 pub record AnnouncedBy (airs : Airs) (s n sink : ℕ) (earlier : List Step) (tuning : Joining) : Type 0 where
@@ -114,11 +108,7 @@ left_there s tuning later calls source source' left same is = record {
 
 stays_there : (airs : Airs) (s n : ℕ) (step : Step) (earlier : List Step) (tuning : Joining) → StaysBy airs n step earlier → is_made n earlier step ≡ false
     → IsThere s tuning (sink_calls airs n (step ∷ earlier)) (source_of n (step ∷ earlier)) → WasThere airs s n step earlier tuning
-stays_there airs s n step earlier tuning stays made_not is = record {
-  there = left_there s tuning (sink_calls airs n (step ∷ earlier)) (sink_calls airs n earlier) (source_of n earlier) (source_of n (step ∷ earlier)) stays.left stays.same is;
-  begins_not = stays.begins_not;
-  made_not = made_not;
-}
+stays_there airs s n step earlier tuning stays made_not is = search (left_there)
 
 still_there : (airs : Airs) (s n : ℕ) (step : Step) (earlier : List Step) (tuning : Joining) → is_tuned n earlier step ≡ false → is_made n earlier step ≡ false
     → source_of n (step ∷ earlier) ≡ source_of n earlier → place (sink_calls airs n (step ∷ earlier)) ≡ place (sink_calls airs n earlier)

@@ -9,9 +9,7 @@ use Rattle.group_sink.specs.Calls.{Call, tune, place}
 use Rattle.sync_reference.specs.Joining.{Joining}
 use Rattle.group_sink.specs.Handing.{handed_by as ticked_by, of_stream}
 use Rattle.scenario_text.specs.declared.step.Step.{Step}
-use Rattle.scenario_text.specs.declared.step.Step.TheVariants as steps
 use Rattle.scenario_history.specs.Steps.{chosen_of, chosen_steps, steps_of_source}
-use Rattle.scenario_history.specs.Source.{open_event}
 use Rattle.source_machine.specs.Airs.{Airs}
 use Rattle.scenario_history.specs.Sinks.{is_of, sink_calls, source_of}
 use Rattle.scenario_history.specs.Boxes.{SinkUnit, handed_by}
@@ -44,8 +42,7 @@ abbrev pub here_at : Airs → ℕ → ℕ → List Step → Option Joining
 here_at airs s n made = stay_if (mine_in s n made) (sink_calls airs n made)
 
 pub stay_is : (mine : Bool) (calls : List Call) (tuning : Joining) → stay_if mine calls ≡ Some tuning → (mine ≡ true) × (place calls ≡ Some tuning)
-stay_is true calls tuning is = (refl, is)
-stay_is false calls tuning is = absurd (none-some tuning is)
+stay_is mine calls tuning is = grind (arith, none-some)
 
 pub no_stay : (mine : Bool) (calls : List Call) → place calls ≡ None → stay_if mine calls ≡ None
 no_stay true calls nowhere = nowhere
@@ -83,8 +80,7 @@ first_rises Q rises None next later closed entries more claim = rises next later
 first_rises Q rises (Some tuning) next later closed entries more claim = claim
 
 pub more_list : {A : Type 0} (all past now more : List A) (here : Option Joining) → all ≡ past ++ in_stay here now → (here ≡ None → more ≡ []) → all ++ more ≡ past ++ in_stay here (now ++ more)
-more_list all past now more (Some tuning) is none = ap (λ xs. xs ++ more) is ∙ append_assoc past now more
-more_list all past now more None is none = ap (λ xs. all ++ xs) (none refl) ∙ append-nil all ∙ is
+more_list all past now more here is none = grind (arith, append_assoc, append-nil)
 
 goes_on : (Q : ℕ → List Closed → List Handed → Type 0) → Rises Q
     → (s n bis : ℕ) (here : Option Joining) (next later : ℕ) (closed now more : List Closed) (units units_now others : List SinkUnit)
@@ -104,10 +100,7 @@ goes_on Q rises s n bis here next later closed now more units units_now others o
 same_turn : (Q : ℕ → List Closed → List Handed → Type 0) (s n bis : ℕ) (here here' : Option Joining) (made begins : Bool) (next : ℕ) (closed now : List Closed) (units units_now : List SinkUnit)
     → here' ≡ here → made ≡ false → begins ≡ false → InTurn Q s n bis here next closed now units units_now
     → InTurn Q s n bis here' next (cond made [] closed) (cond begins [] now) (cond made [] units) (cond begins [] units_now)
-same_turn Q s n bis here here' true begins next closed now units units_now same made_not begins_not all = absurd (false≢true (sym made_not))
-same_turn Q s n bis here here' false true next closed now units units_now same made_not begins_not all = absurd (false≢true (sym begins_not))
-same_turn Q s n bis here here' false false next closed now units units_now same made_not begins_not all =
-    subst (λ h. InTurn Q s n bis h next closed now units units_now) (sym same) all
+same_turn Q s n bis here here' made begins next closed now units units_now same made_not begins_not all = grind (arith, false≢true)
 
 -- ---- a source on whose group the sink isn't
 
@@ -126,30 +119,10 @@ shown_none true calls (Some event) nowhere = ap (λ p. ticked_by event calls p) 
 shown_none false calls last_open nowhere = refl
 
 none_closed : (airs : Airs) (s n : ℕ) (step : Step) (earlier : List Step) → here_at airs s n earlier ≡ None → closed_by airs s n earlier step ≡ []
-none_closed airs s n steps.Event earlier nowhere =
-    ap (λ closed. cond (chosen_of earlier == s) closed []) (closed_none (mine_in s n earlier) (sink_calls airs n earlier) (open_event (steps_of_source s earlier)) nowhere)
-    ∙ cond_none (chosen_of earlier == s)
-none_closed airs s n steps.Stop earlier nowhere =
-    ap (λ closed. cond (chosen_of earlier == s) closed []) (closed_none (mine_in s n earlier) (sink_calls airs n earlier) (open_event (steps_of_source s earlier)) nowhere)
-    ∙ cond_none (chosen_of earlier == s)
-none_closed airs s n (steps.Terminate reason) earlier nowhere =
-    ap (λ closed. cond (chosen_of earlier == s) closed []) (closed_none (mine_in s n earlier) (sink_calls airs n earlier) (open_event (steps_of_source s earlier)) nowhere)
-    ∙ cond_none (chosen_of earlier == s)
-none_closed airs s n steps.End earlier nowhere = closed_none (mine_in s n earlier) (sink_calls airs n earlier) (open_event (steps_of_source s earlier)) nowhere
-none_closed airs s n _ earlier nowhere = refl
+none_closed airs s n step earlier nowhere = grind (arith, closed_none, mine_in, cond_none)
 
 none_by : (airs : Airs) (s n : ℕ) (step : Step) (earlier : List Step) → here_at airs s n earlier ≡ None → shown_by airs s n earlier step ≡ []
-none_by airs s n steps.Event earlier nowhere =
-    ap (λ units. cond (chosen_of earlier == s) units []) (shown_none (mine_in s n earlier) (sink_calls airs n earlier) (open_event (steps_of_source s earlier)) nowhere)
-    ∙ cond_none (chosen_of earlier == s)
-none_by airs s n steps.Stop earlier nowhere =
-    ap (λ units. cond (chosen_of earlier == s) units []) (shown_none (mine_in s n earlier) (sink_calls airs n earlier) (open_event (steps_of_source s earlier)) nowhere)
-    ∙ cond_none (chosen_of earlier == s)
-none_by airs s n (steps.Terminate reason) earlier nowhere =
-    ap (λ units. cond (chosen_of earlier == s) units []) (shown_none (mine_in s n earlier) (sink_calls airs n earlier) (open_event (steps_of_source s earlier)) nowhere)
-    ∙ cond_none (chosen_of earlier == s)
-none_by airs s n steps.End earlier nowhere = shown_none (mine_in s n earlier) (sink_calls airs n earlier) (open_event (steps_of_source s earlier)) nowhere
-none_by airs s n _ earlier nowhere = refl
+none_by airs s n step earlier nowhere = grind (arith, shown_none, mine_in, cond_none)
 
 pub none_shown : (airs : Airs) (boxes s n bis : ℕ) (step : Step) (earlier : List Step) → Legal airs boxes earlier → s ≤ 1 → n ≤ 7 → here_at airs s n earlier ≡ None
     → shown s n bis (handed_by airs earlier step) ≡ []
@@ -184,14 +157,7 @@ pub at_end : (Q : ℕ → List Closed → List Handed → Type 0) (Fine : List S
     → InTurn Q s n bis here (next_in (steps_of_source s made)) (closed_from (is_made n) airs s n made) (closed_from (is_tuned n) airs s n made) (handed_since (is_made n) airs made)
     (handed_since (is_tuned n) airs made)
     → Q (next_in (steps_of_source s made)) (closed_from (is_made n) airs s n made) (shown s n bis (handed_since (is_made n) airs made))
-at_end Q Fine airs boxes s n bis turns made fine None there all =
-    subst (λ closed. Q (next_in (steps_of_source s made)) closed (shown s n bis (handed_since (is_made n) airs made))) (sym (all.closed_is ∙ append-nil all.past))
-    (subst (λ entries. Q (next_in (steps_of_source s made)) all.past entries) (sym (all.shown_is ∙ append-nil all.entries)) all.claim)
-at_end Q Fine airs boxes s n bis turns made fine (Some tuning) there all =
-    let on = stay_is (mine_in s n made) (sink_calls airs n made) tuning there in
-    subst (λ closed. Q (next_in (steps_of_source s made)) closed (shown s n bis (handed_since (is_made n) airs made))) (sym all.closed_is)
-    (subst (λ entries. Q (next_in (steps_of_source s made)) (all.past ++ closed_from (is_tuned n) airs s n made) entries) (sym all.shown_is)
-    (turns.over made fine tuning (on_since_made airs s n made tuning on.1 (is_its s (source_of n made) on.0) (turns.ungiven made fine)) all.past all.entries all.claim))
+at_end Q Fine airs boxes s n bis turns made fine here there all = grind (arith, next_in, append-nil, stay_is, mine_in, on_since_made, is_its)
 
 -- what is known before a step
 pub record Before (Q : ℕ → List Closed → List Handed → Type 0) (Fine : List Step → Type 0) (airs : Airs) (boxes s n bis : ℕ) (step : Step) (earlier : List Step) : Type 0 where
@@ -227,8 +193,7 @@ still_turn Q Fine airs boxes s n bis step earlier before begins_not source_same 
 -- ---- a step by which a stay is over, or another begins: all that came is past
 
 pub past_list : {A : Type 0} (made : Bool) (xs more : List A) → made ≡ false → more ≡ [] → cond made [] (xs ++ more) ≡ xs
-past_list true xs more made_not none = absurd (false≢true (sym made_not))
-past_list false xs more made_not none = ap (λ ys. xs ++ ys) none ∙ append-nil xs
+past_list made xs more made_not none = grind (arith, false≢true, append-nil)
 
 -- the stay has nothing yet
 abbrev pub IsFresh : Option Joining → Bool → Type 0

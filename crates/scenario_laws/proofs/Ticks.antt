@@ -1,5 +1,5 @@
 -- Which events a sink of one source closes by a step: those of its source alone.
-use Rattle.std.proofs.Common.{ℕ, zero, suc, ◌≡◌, ◌≢◌, ◌≤◌, ◌==◌, cond, true, List, [], ◌∷◌, Option, None, Some, refl, sym, ◌∙◌, ap, arith, inl, inr}
+use Rattle.std.proofs.Common.{ℕ, zero, suc, ◌≡◌, ◌≢◌, ◌≤◌, ◌==◌, cond, true, List, [], ◌∷◌, Option, Some, refl, sym, ◌∙◌, ap, arith, inl, inr}
 use Rattle.std.proofs.lemmas.Bool.{cases_eq, cond-false, cond-true, eq-eqb, ne_eqb, eqb-true, false≢true}
 use Rattle.group_sink.specs.Calls.{Call}
 use Rattle.scenario_text.specs.declared.step.Step.{Step}
@@ -11,8 +11,7 @@ use Rattle.scenario_laws.proofs.Legals.{Legal}
 
 -- the sink is of this source
 pub is_its : (s : ℕ) (source : Option ℕ) → is_of s source ≡ true → source ≡ Some s
-is_its s None is = absurd (false≢true is)
-is_its s (Some t) is = ap Some (eqb-true t s is)
+is_its s source is = grind (arith, false≢true, eqb-true)
 
 if_apart : (calls : List Call) (c s : ℕ) (last_open : Option ℕ) → c ≢ s → ticked_if (s == c) last_open calls ≡ calls
 if_apart calls c s last_open apart = ap (λ b. ticked_if b last_open calls) (ne_eqb s c (λ is. apart (sym is)))
@@ -37,8 +36,7 @@ end_of (suc (suc s)) opens calls least = absurd (omega (arith, least))
 -- at `end`
 pub end_ticks : (s : ℕ) (opens : ℕ → Option ℕ) (calls : List Call) (source : Option ℕ) → s ≤ 1 → source ≡ Some s
     → ticked_if (is_of 1 source) (opens 1) (ticked_if (is_of 0 source) (opens 0) calls) ≡ ticked (opens s) calls
-end_ticks s opens calls source least is =
-    ap (λ o. ticked_if (is_of 1 o) (opens 1) (ticked_if (is_of 0 o) (opens 0) calls)) is ∙ end_of s opens calls least
+end_ticks s opens calls source least is = cc (is, end_of s opens calls least)
 
 -- ---- the sources are 0 and 1
 

@@ -1,24 +1,21 @@
 -- Two airs that meet the relation of their framing: no source, no refusal, no sink and no close tells them apart.
-use Rattle.std.proofs.Common.{ℕ, zero, suc, ◌≡◌, ◌||◌, cond, Bool, true, false, List, [], ◌∷◌, ◌++◌, Option, None, Some, refl, sym, ◌∙◌, ap}
+use Rattle.std.proofs.Common.{ℕ, zero, suc, ◌≡◌, Bool, true, false, List, [], ◌∷◌, ◌++◌, Option, None, refl, sym, ◌∙◌, ap, arith}
 use Rattle.std.specs.Prelude.{unwrap_or}
-use Rattle.std.specs.Option.{option_map, option_or}
+use Rattle.std.specs.Option.{option_or}
 use Rattle.std.proofs.lemmas.Bool.{or_parts}
 use Rattle.isoal_base.specs.Air.{Air}
 use Rattle.source_machine.specs.Airs.{AreAirs, airs_of, pdu_of, Airs}
 use Rattle.source_machine.specs.Calls.{Setup, Call as SourceCall}
-use Rattle.source_machine.specs.Faults.{give_fault}
 use Rattle.source_machine.specs.Setups.{IsChecked}
 use Rattle.group_sink.specs.Calls.{Call, hear}
 use Rattle.scenario_text.specs.declared.step.Step.{Step}
-use Rattle.scenario_text.specs.declared.step.Step.TheVariants as steps
 use Rattle.transcript_text.specs.declared.refusal.Refusal.{Refusal}
-use Rattle.transcript_text.specs.declared.refusal.Refusal.TheVariants.{Order, AfterEnd}
-use Rattle.scenario_history.specs.Steps.{chosen_of, chosen_steps, is_over, stage_of, steps_of_source}
+use Rattle.scenario_history.specs.Steps.{chosen_of, chosen_steps, steps_of_source}
 use Rattle.scenario_history.specs.Source.{event_back, is_started, open_event, pdu_in, setup_of, source_calls}
 use Rattle.scenario_history.specs.Airs.{MeetAirs}
-use Rattle.scenario_history.specs.Sinks.{Spot, hear_at, heard_on_air, is_lost, reaches, sink_calls, source_of, spot_at, spots_of, unless_lost, with_sink_call}
-use Rattle.scenario_history.specs.Boxes.{box_of, closing, closing_at, closing_both, closing_by, handed_by, handed_up, sink_numbers}
-use Rattle.scenario_history.specs.Refusals.{give_refusal, is_misplaced, is_out_of_phase, refusal_of}
+use Rattle.scenario_history.specs.Sinks.{Spot, hear_at, heard_on_air, is_lost, sink_calls, spot_at, unless_lost, with_sink_call}
+use Rattle.scenario_history.specs.Boxes.{closing, closing_at, closing_both, handed_by, handed_up}
+use Rattle.scenario_history.specs.Refusals.{refusal_of}
 use Rattle.sink_history.specs.Refusals.{refuse_if}
 use Rattle.scenario_laws.proofs.Legals.{Legal, permitted}
 use Rattle.scenario_laws.proofs.Sources.{Lawful, checked, group_in, hears, lawful, settled, takes}
@@ -70,13 +67,7 @@ in_order false reason rest others same = same refl
 
 pub refusal_same : (airs others : Airs) → Both airs others → (boxes : ℕ) (earlier : List Step) (step : Step) → Twice airs others boxes earlier
     → refusal_of airs boxes earlier step ≡ refusal_of others boxes earlier step
-refusal_same airs others both boxes earlier (steps.Unit bis time octets) twice =
-    in_order (is_over earlier) AfterEnd _ _ (λ goes_on.
-    in_order (is_misplaced (stage_of earlier) (steps.Unit bis time octets) || is_out_of_phase (chosen_steps earlier) (steps.Unit bis time octets)) Order _ _ (λ placed.
-    ap (λ all. option_or (option_map give_refusal (give_fault (setup_of (chosen_steps earlier)) (source_calls (chosen_steps earlier)) all bis time octets)) None)
-    (chosen_same airs others both boxes earlier twice (takes (chosen_steps earlier)
-    (or_parts (is_misplaced (stage_of earlier) (steps.Unit bis time octets)) (is_out_of_phase (chosen_steps earlier) (steps.Unit bis time octets)) placed).1))))
-refusal_same airs others both boxes earlier _ twice = refl
+refusal_same airs others both boxes earlier step twice = grind (arith, in_order, chosen_same, takes, or_parts)
 
 pub legal_too : (airs others : Airs) → Both airs others → (boxes : ℕ) (made : List Step) → Legal airs boxes made → Legal others boxes made
 legal_too airs others both boxes [] legal = tt
@@ -99,16 +90,7 @@ air_same airs others own lose (suc i) calls same =
 
 step_same : (airs others : Airs) → Both airs others → (boxes n : ℕ) (step : Step) (earlier : List Step) (calls : List Call) → Twice airs others boxes earlier
     → refusal_of airs boxes earlier step ≡ None → with_sink_call airs n step earlier calls ≡ with_sink_call others n step earlier calls
-step_same airs others both boxes n (steps.Hear sink back bis subevent) earlier calls twice none =
-    ap (λ octets. cond (reaches sink n earlier) (hear (event_back (chosen_steps earlier) back) bis subevent octets ∷ calls) calls)
-    (pdu_same airs others (chosen_steps earlier)
-    (chosen_same airs others both boxes earlier twice (hears (chosen_steps earlier) (permitted airs boxes earlier (steps.Hear sink back bis subevent) none).in_phase))
-    (event_back (chosen_steps earlier) back) bis subevent)
-step_same airs others both boxes n (steps.Air sink lose) earlier calls twice none =
-    ap (λ all. cond (reaches sink n earlier) all calls)
-    (air_same airs others (chosen_steps earlier) lose (spots_of (chosen_steps earlier)) calls
-    (chosen_same airs others both boxes earlier twice (hears (chosen_steps earlier) (permitted airs boxes earlier (steps.Air sink lose) none).in_phase)))
-step_same airs others both boxes n _ earlier calls twice none = refl
+step_same airs others both boxes n step earlier calls twice none = grind (arith, pdu_same, chosen_same, hears, permitted, air_same)
 
 pub sink_same : (airs others : Airs) → Both airs others → (boxes n : ℕ) (made : List Step) → Legal airs boxes made → sink_calls airs n made ≡ sink_calls others n made
 sink_same airs others both boxes n [] legal = refl
@@ -121,11 +103,7 @@ sink_same airs others both boxes n (step ∷ earlier) legal =
 
 closing_at_same : (airs others : Airs) → Both airs others → (boxes s : ℕ) (made : List Step) (last_open : Option ℕ) → Legal airs boxes made
     → closing_at airs s made last_open ≡ closing_at others s made last_open
-closing_at_same airs others both boxes s made None legal = refl
-closing_at_same airs others both boxes s made (Some event) legal =
-    flat_same (λ n. closing_by s event n (sink_calls airs n made) (source_of n made) (box_of n made))
-    (λ n. closing_by s event n (sink_calls others n made) (source_of n made) (box_of n made)) sink_numbers
-    (λ n. ap (λ calls. closing_by s event n calls (source_of n made) (box_of n made)) (sink_same airs others both boxes n made legal))
+closing_at_same airs others both boxes s made last_open legal = grind (arith, flat_same, sink_same)
 
 pub closing_same : (airs others : Airs) → Both airs others → (boxes s : ℕ) (made : List Step) → Legal airs boxes made → closing airs s made ≡ closing others s made
 closing_same airs others both boxes s made legal = closing_at_same airs others both boxes s made (open_event (steps_of_source s made)) legal
@@ -136,11 +114,7 @@ closing_both_same airs others both boxes made legal =
     ∙ ap (λ us. closing others 0 made ++ us) (closing_same airs others both boxes 1 made legal)
 
 pub handed_same : (airs others : Airs) → Both airs others → (boxes : ℕ) (made : List Step) (step : Step) → Legal airs boxes made → handed_by airs made step ≡ handed_by others made step
-handed_same airs others both boxes made steps.Event legal = closing_same airs others both boxes (chosen_of made) made legal
-handed_same airs others both boxes made steps.Stop legal = closing_same airs others both boxes (chosen_of made) made legal
-handed_same airs others both boxes made (steps.Terminate reason) legal = closing_same airs others both boxes (chosen_of made) made legal
-handed_same airs others both boxes made steps.End legal = closing_both_same airs others both boxes made legal
-handed_same airs others both boxes made _ legal = refl
+handed_same airs others both boxes made step legal = grind (arith, closing_same, closing_both_same)
 
 pub handed_up_same : (airs others : Airs) → Both airs others → (boxes : ℕ) (made : List Step) → Legal airs boxes made → handed_up airs made ≡ handed_up others made
 handed_up_same airs others both boxes [] legal = refl

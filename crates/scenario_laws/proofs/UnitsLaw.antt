@@ -1,5 +1,5 @@
 -- The units law of a stay.
-use Rattle.std.proofs.Common.{ℕ, zero, suc, ◌≡◌, ◌≤◌, ◌+◌, ◌-◌, ◌==◌, cond, ltb, eqb, Bool, true, false, List, [], ◌∷◌, ◌++◌, length, Option, None, Some, refl, sym, ◌∙◌, ap, subst, inl, inr}
+use Rattle.std.proofs.Common.{ℕ, zero, suc, ◌≡◌, ◌≤◌, ◌+◌, ◌-◌, ◌==◌, cond, ltb, eqb, Bool, true, false, List, [], ◌∷◌, ◌++◌, length, Option, Some, refl, sym, ◌∙◌, ap, subst, inl, inr, arith}
 use Rattle.std.specs.Prelude.{slice_get}
 use Rattle.std.specs.List.{AllByRecursion, Contains}
 use Rattle.std.proofs.lemmas.Bool.{eq-eqb, eqb-true, ltb-false}
@@ -146,17 +146,14 @@ air_since airs own lose (suc i) calls =
     ∙ air_since airs own lose i calls
 
 more_since : (mine : Bool) (more calls : List Call) → ticked_since more ≡ ticked_since calls → ticked_since (cond mine more calls) ≡ ticked_since calls ++ []
-more_since true more calls same = same ∙ sym (append-nil (ticked_since calls))
-more_since false more calls same = sym (append-nil (ticked_since calls))
+more_since mine more calls same = grind (arith, append-nil)
 
 tick_since : (last_open : Option ℕ) (calls : List Call) → ticked_since (ticked last_open calls) ≡ ticked_since calls ++ handed_open calls last_open
-tick_since None calls = sym (append-nil (ticked_since calls))
-tick_since (Some event) calls = refl
+tick_since last_open calls = grind (arith, append-nil)
 
 if_since : (its : Bool) (last_open : Option ℕ) (calls : List Call)
     → ticked_since (cond its (ticked last_open calls) calls) ≡ ticked_since calls ++ cond its (handed_open calls last_open) []
-if_since true last_open calls = tick_since last_open calls
-if_since false last_open calls = sym (append-nil (ticked_since calls))
+if_since its last_open calls = grind (arith, tick_since, append-nil)
 
 own_if : (s : ℕ) (source : Option ℕ) (units : List Handed) → source ≡ Some s → cond (is_of s source) units [] ≡ units
 own_if s source units is = ap (λ o. cond (is_of s o) units []) is ∙ ap (λ b. cond b units []) (eq-eqb s s refl)
@@ -171,14 +168,12 @@ closed_since_by airs s n earlier its =
     (sym (own_if s (source_of n earlier) (handed_open (sink_calls airs n earlier) (open_event (steps_of_source s earlier))) its))
 
 gone_since : (gone : Bool) (calls : List Call) (tuning : Joining) → place (cond gone [] calls) ≡ Some tuning → ticked_since (cond gone [] calls) ≡ ticked_since calls ++ []
-gone_since true calls tuning is = absurd (none-some tuning is)
-gone_since false calls tuning is = sym (append-nil (ticked_since calls))
+gone_since gone calls tuning is = grind (arith, none-some, append-nil)
 
 put_since : (s n : ℕ) (put : Bool) (on tuning : Joining) (chosen : ℕ) (calls : List Call) (source : Option ℕ) (units : List SinkUnit)
     → IsThere s tuning (cond put (tune on ∷ calls) calls) (cond put (Some chosen) source) → (IsThere s tuning calls source → put ≡ false → of_sink s n units ≡ ticked_since calls)
     → of_sink s n (cond put [] (units ++ [])) ≡ ticked_since (cond put (tune on ∷ calls) calls)
-put_since s n true on tuning chosen calls source units is before = refl
-put_since s n false on tuning chosen calls source units is before = ap (of_sink s n) (append-nil units) ∙ before is refl
+put_since s n put on tuning chosen calls source units is before = grind (arith, append-nil)
 
 abbrev Since : Airs → ℕ → ℕ → List Step → Type 0
 Since airs s n made = of_sink s n (handed_since (is_tuned n) airs made) ≡ ticked_since (sink_calls airs n made)
@@ -280,15 +275,7 @@ pub record Numbers (s n : ℕ) : Type 0 where
   pub sink_within : n ≤ 7
 
 begins_numbers : (airs : Airs) (boxes s n : ℕ) (step : Step) (earlier : List Step) (tuning : Joining) → Legal airs boxes earlier → IsInRange step → BeginsBy airs s n step earlier tuning → Numbers s n
-begins_numbers airs boxes s n (steps.Tuned sink which) earlier tuning legal ranged begins = record {
-  source_within = subst (λ t. t ≤ 1) begins.1 (chosen_within airs boxes earlier legal);
-  sink_within = subst (λ m. m ≤ 7) (eqb-true sink n begins.2) ranged;
-}
-begins_numbers airs boxes s n (steps.Announce sink) earlier tuning legal ranged begins = record {
-  source_within = subst (λ t. t ≤ 1) begins.chosen_is (chosen_within airs boxes earlier legal);
-  sink_within = subst (λ m. m ≤ 7) (eqb-true sink n begins.put.brings.0) ranged;
-}
-begins_numbers airs boxes s n _ earlier tuning legal ranged begins = absurd begins
+begins_numbers airs boxes s n step earlier tuning legal ranged begins = grind (arith, chosen_within, legal, eqb-true)
 
 pub numbers : (airs : Airs) (boxes s n : ℕ) (made : List Step) (tuning : Joining) → Legal airs boxes made → IsOn airs s n made tuning → Numbers s n
 numbers airs boxes s n [] tuning legal is = absurd (none-some tuning is.place_is)

@@ -1,12 +1,11 @@
 -- The steps of a source so far, as a part of all its steps: what fixes it is the same, and its calls are the first of all.
-use Rattle.std.proofs.Common.{ℕ, ◌≡◌, ◌≤◌, cond, Bool, true, false, List, [], ◌∷◌, ◌++◌, refl, sym, ◌∙◌, ap, arith, append_assoc}
+use Rattle.std.proofs.Common.{ℕ, ◌≡◌, ◌≤◌, cond, Bool, true, false, List, [], ◌∷◌, ◌++◌, refl, sym, ◌∙◌, arith, append_assoc}
 use Rattle.source_machine.specs.Calls.{Setup, Call as SourceCall, give, event as perform, events, next_of}
 use Rattle.scenario_text.specs.declared.step.Step.{Step}
 use Rattle.scenario_text.specs.declared.step.Step.TheVariants as steps
 use Rattle.scenario_history.specs.Steps.{is_of_source, steps_of_source}
 use Rattle.scenario_history.specs.Source.{is_started, setup_of, source_calls}
 use Rattle.source_machine.specs.Airs.{Airs}
-use Rattle.scenario_history.specs.Bases.{is_last_bare}
 use Rattle.scenario_laws.proofs.Legals.{Legal, permitted}
 use Rattle.scenario_laws.proofs.Sources.{Allowed, Lawful, its_step, lawful, not_yet, settled, setup_stays, started_stays}
 
@@ -57,12 +56,7 @@ pub record Goes (before after : List Step) : Type 0 where
   pub setup_is : setup_of after ≡ setup_of before
 
 goes_if : (airs : Airs) (own : List Step) (step : Step) (is_its : Bool) → Lawful airs own → (is_its ≡ true → Allowed airs own step) → is_started own ≡ true → Goes own (cond is_its (step ∷ own) own)
-goes_if airs own step true legal allows started = record {
-  started = started_stays airs own step (allows refl) started;
-  setup_is = setup_stays airs own step (settled airs own legal)
-      (allows refl) started;
-}
-goes_if airs own step false legal allows started = record { started = started; setup_is = refl }
+goes_if airs own step is_its legal allows started = grind (arith, started_stays, setup_stays, settled)
 
 pub goes : (airs : Airs) (boxes s : ℕ) (earlier : List Step) (step : Step) → Legal airs boxes (step ∷ earlier) → is_started (steps_of_source s earlier) ≡ true
     → Goes (steps_of_source s earlier) (steps_of_source s (step ∷ earlier))
@@ -75,16 +69,10 @@ abbrev pub next_in : List Step → ℕ
 next_in own = next_of (setup_of own) (source_calls own)
 
 next_after : (airs : Airs) (own : List Step) (step : Step) → Lawful airs own → Allowed airs own step → next_in own ≤ next_in (step ∷ own)
-next_after airs own (steps.Start first) legal allows =
-    let idle : is_started own ≡ false = not_yet own (is_last_bare own) allows.in_phase in
-    let none : events (source_calls own) ≡ 0 = ap events ((settled airs own legal).quiet idle) in
-    omega (arith, none, (settled airs own legal).unbegun idle)
-next_after airs own steps.Event legal allows = omega arith
-next_after airs own _ legal allows = omega arith
+next_after airs own step legal allows = grind (arith, not_yet, settled)
 
 next_if : (airs : Airs) (own : List Step) (step : Step) (is_its : Bool) → Lawful airs own → (is_its ≡ true → Allowed airs own step) → next_in own ≤ next_in (cond is_its (step ∷ own) own)
-next_if airs own step true legal allows = next_after airs own step legal (allows refl)
-next_if airs own step false legal allows = omega arith
+next_if airs own step is_its legal allows = grind (arith, next_after)
 
 -- it never falls
 pub next_rises : (airs : Airs) (boxes s : ℕ) (earlier : List Step) (step : Step) → Legal airs boxes (step ∷ earlier)

@@ -1,7 +1,7 @@
 -- A unit that a relay offers is dropped for one of four reasons: the stream that it goes to is one of source 1, which is framed and
 -- takes times ahead.
-use Rattle.std.proofs.Common.{ℕ, ◌≡◌, ◌==◌, ◌||◌, ◌&&◌, ◌∙◌, not, cond, Bool, true, false, List, [], ◌∷◌, length, leb, ltb}
-use Rattle.std.proofs.Common.{None, Some, refl, sym, ap, subst, inl, inr}
+use Rattle.std.proofs.Common.{ℕ, ◌≡◌, ◌==◌, ◌||◌, ◌&&◌, ◌∙◌, not, cond, Bool, true, false, List, [], ◌∷◌, ltb, arith}
+use Rattle.std.proofs.Common.{None, Some, refl, ap, subst, inl, inr}
 use Rattle.std.specs.Prelude.{slice_index_or}
 use Rattle.std.specs.List.{All}
 use Rattle.std.specs.Option.{option_map, option_or}
@@ -10,18 +10,15 @@ use Rattle.std.proofs.lemmas.List.Elements.{All-head, All-tail}
 use Rattle.relay_role.specs.Relayed.{drop_name}
 use Rattle.scenario_text.specs.declared.step.Step.{Step}
 use Rattle.scenario_text.specs.declared.step.Step.TheVariants as steps
-use Rattle.source_machine.specs.Airs.{waiting_of, Airs}
-use Rattle.source_machine.specs.Calls.{last_time_of, next_anchor_of}
-use Rattle.source_machine.specs.Faults.{is_above}
+use Rattle.source_machine.specs.Airs.{Airs}
 use Rattle.source_machine.specs.UnitFaults as give_faults
 use Rattle.transcript_text.specs.declared.refusal.Refusal.TheVariants as refusals
 use Rattle.relay_role.specs.declared.dropped.DropName.TheVariants as drops
 use Rattle.scenario_history.proofs.Citable.{permitted, stage_same}
 use Rattle.scenario_history.specs.Refusals.{give_refusal, is_out_of_phase, refusal_of, source_refusal}
 use Rattle.sink_history.specs.Refusals.{refuse_if}
-use Rattle.scenario_history.specs.Bases.{is_last_bare}
 use Rattle.scenario_history.specs.Source.{Phase, absent, described, is_absent_at, is_ciphered, is_described_at, is_sending}
-use Rattle.scenario_history.specs.Source.{is_sending_at, is_started, phase_of, sending, setup_of, source_calls, stopped, takes_units}
+use Rattle.scenario_history.specs.Source.{is_sending_at, is_started, phase_of, sending, setup_of, stopped, takes_units}
 use Rattle.scenario_history.specs.Source.{was_started_at}
 use Rattle.scenario_history.specs.Steps.{chosen_of, is_of_source, is_source_line}
 use Rattle.scenario_history.specs.Steps.{steps_of_source, version_at, version_of}
@@ -44,16 +41,10 @@ pub record Settled (own : List Step) (to : ℕ) : Type 0 where
   pub within : ltb (setup_of own).info.num_bis to ≡ false
 
 absent_not : (phase : Phase) → not (is_absent_at phase) ≡ false → was_started_at phase ≡ true → ⊥
-absent_not absent test started = false≢true started
-absent_not described test started = false≢true (sym test)
-absent_not sending test started = false≢true (sym test)
-absent_not stopped test started = false≢true (sym test)
+absent_not phase test started = grind (arith, false≢true)
 
 described_not : (phase : Phase) → not (is_described_at phase) ≡ false → was_started_at phase ≡ true → ⊥
-described_not absent test started = false≢true (sym test)
-described_not described test started = false≢true started
-described_not sending test started = false≢true (sym test)
-described_not stopped test started = false≢true (sym test)
+described_not phase test started = grind (arith, false≢true)
 
 sending_started : (phase : Phase) → is_sending_at phase ≡ true → was_started_at phase ≡ true
 sending_started absent is = is
@@ -62,18 +53,11 @@ sending_started sending is = refl
 sending_started stopped is = refl
 
 settled_by : (step : Step) (own : List Step) (to : ℕ) → is_out_of_phase own step ≡ false → Settled own to → Settled (step ∷ own) to
-settled_by (steps.Group framing origin delay iso sdu max_sdu max_pdu num_bis bn nse irc pto sub spacing phy) own to test before =
-    absurd (absent_not (phase_of own) test before.started)
-settled_by (steps.Start first) own to test before =
-    absurd (described_not (phase_of own) (or_parts (not (is_described_at (phase_of own))) (is_last_bare own) test).0 before.started)
-settled_by steps.Stop own to test before = record { started = refl; framed = before.framed; within = before.within }
-settled_by (steps.Terminate reason) own to test before = record { started = refl; framed = before.framed; within = before.within }
-settled_by step own to test before = record { started = before.started; framed = before.framed; within = before.within }
+settled_by step own to test before = grind (arith, absent_not, described_not, or_parts)
 
 settled_if : (mine : Bool) (step : Step) (own : List Step) (to : ℕ) → (mine ≡ true → is_out_of_phase own step ≡ false) → Settled own to
     → Settled (cond mine (step ∷ own) own) to
-settled_if true step own to test before = settled_by step own to (test refl) before
-settled_if false step own to test before = before
+settled_if mine step own to test before = grind (arith, settled_by)
 
 by_line : (airs : Airs) (boxes : ℕ) (earlier : List Step) (step : Step) → refusal_of airs boxes earlier step ≡ None
     → (is_source_line step && (chosen_of earlier == 1)) ≡ true → is_out_of_phase (steps_of_source 1 earlier) step ≡ false
@@ -85,10 +69,7 @@ by_line airs boxes earlier step none mine =
 in_phase : (airs : Airs) (boxes : ℕ) (earlier : List Step) (step : Step) → refusal_of airs boxes earlier step ≡ None
     → is_of_source 1 earlier step ≡ true
     → is_out_of_phase (steps_of_source 1 earlier) step ≡ false
-in_phase airs boxes earlier (steps.Scenario version) none mine = refl
-in_phase airs boxes earlier steps.End none mine = refl
-in_phase airs boxes earlier (steps.Relay sink bis to) none mine = absurd (false≢true mine)
-in_phase airs boxes earlier step none mine = by_line airs boxes earlier step none mine
+in_phase airs boxes earlier step none mine = grind (arith, false≢true, by_line)
 
 settled_now : (airs : Airs) (boxes : ℕ) (earlier : List Step) (sink bis to : ℕ)
     → refusal_of airs boxes earlier (steps.Relay sink bis to) ≡ None
@@ -141,22 +122,12 @@ by_takes : (takes : Bool) (airs : Airs) (version : ℕ) (own : List Step) (offer
     → option_or (refuse_if (not takes) refusals.Order)
     (source_refusal airs version own (steps.Unit offer.route.to (Some offer.unit.time) offer.unit.octets))
     ≡ option_map refusal_named (drop_name airs offer.route.to offer.unit (second_at takes own))
-by_takes false airs version own offer set second = refl
-by_takes true airs version own offer set second =
-    let setup = setup_of own in
-    let calls = source_calls own in
-    reason_by (ltb setup.info.num_bis offer.route.to) (ltb setup.info.max_sdu (length offer.unit.octets)) (setup.info.framing == 0)
-    (is_above (last_time_of setup offer.route.to calls) offer.unit.time) (version_of own == 2)
-    (leb offer.unit.time (next_anchor_of setup calls))
-    (leb 16 (waiting_of calls (airs setup calls) offer.route.to))
-    set.within (ap (λ f. f == 0) (eqb-true setup.info.framing 1 set.framed)) (ap (λ v. v == 2) second)
+by_takes takes airs version own offer set second = grind (arith, reason_by, ltb, eqb-true)
 
 one_named : (airs : Airs) (boxes : ℕ) (offer : Offer) (made : List Step) → AreLegal airs boxes made → version_of made ≡ 2
     → relay_of offer.sink made ≡ Some offer.route
     → dropped_for airs offer made ≡ option_map refusal_named (drop_name airs offer.route.to offer.unit (second_of made))
-one_named airs boxes offer made legal second is =
-    by_takes (takes_units (steps_of_source 1 made)) airs (version_of made) (steps_of_source 1 made) offer
-    (settled airs boxes offer.route.to made legal (route_had offer.sink made offer.route is)) (ap version_at (stage_same 1 made) ∙ second)
+one_named airs boxes offer made legal second is = search (by_takes, settled, route_had, stage_same)
 
 offers_named : (airs : Airs) (boxes : ℕ) (offers : List Offer) (made : List Step) → AreLegal airs boxes made → Runs made
     → version_of made ≡ 2
@@ -175,9 +146,7 @@ offers_named airs boxes (offer ∷ offers) made legal runs second stand =
 named_if : (closes : Bool) (airs : Airs) (boxes : ℕ) (made : List Step) → AreLegal airs boxes made → version_of made ≡ 2
     → (closes ≡ true → Runs made)
     → AreDroppedByName airs (cond closes (offers_at airs made) []) made
-named_if true airs boxes made legal second runs = offers_named airs boxes (offers_at airs made) made legal (runs refl) second
-    (offers_stand airs made)
-named_if false airs boxes made legal second runs = tt
+named_if closes airs boxes made legal second runs = grind (arith, offers_named, offers_stand)
 
 pub dropped_law_holds : (boxes : ℕ) → DroppedLaw boxes
 dropped_law_holds boxes airs said step legal second =

@@ -1,15 +1,13 @@
 -- A line of version 1 is no `relay` line: no row of the table that version 1 knows makes one.
-use Rattle.std.proofs.Common.{ℕ, ◌≡◌, ◌==◌, Bool, true, false, cond, nat_eq, List, [], ◌∷◌, Option, None, Some, Result, Ok, Err, refl}
+use Rattle.std.proofs.Common.{ℕ, ◌≡◌, Bool, false, cond, nat_eq, List, [], ◌∷◌, Option, None, Some, Result, Ok, Err, refl, arith}
 use Rattle.std.specs.Prelude.{bytes_eq}
-use Rattle.bcast_io.specs.TextLines.{TextLine, plain, too_long, past}
+use Rattle.bcast_io.specs.TextLines.{TextLine}
 use Rattle.bcast_base.specs.Tries.{◌>>=◌}
 use Rattle.scenario_words.specs.declared.fault.LineFault.{LineFault}
 use Rattle.scenario_words.specs.declared.fault.LineFault.TheVariants.{BadLine as Misfit, Memory as NoMemory}
 use Rattle.scenario_words.specs.Places.{Place, PlaceValue}
-use Rattle.scenario_words.specs.Reading.{Left, any_word, at_place, ended, next}
-use Rattle.scenario_words.specs.Words.{words_of}
-use Rattle.scenario_text.specs.Lines.{comment}
-use Rattle.scenario_text.specs.Steps.{at_known, built_at, line_after, read_of, step_of, whole}
+use Rattle.scenario_words.specs.Reading.{Left, at_place, ended}
+use Rattle.scenario_text.specs.Steps.{at_known, built_at, read_of, step_of, whole}
 use Rattle.scenario_text.specs.Table.{Build, Row, event_rows, first_row_of, first_rows, link_row_of, link_rows, row_in, row_of, row_of_2, sink_row_of, sink_rows, source_row_of, source_rows}
 use Rattle.scenario_text.specs.declared.step.Step.{Step}
 use Rattle.scenario_history.specs.Lines.{Said, a_step, nothing, said_by, said_in, unsaid}
@@ -50,8 +48,7 @@ none_never : KnownNever None
 none_never left = tt
 
 never_if : (hit : Bool) (row : Row) (other : Option Row) → Never row.places row.build → KnownNever other → KnownNever (cond hit (Some row) other)
-never_if true row other here rest = λ left. built_never row.places row.build left here
-never_if false row other here rest = rest
+never_if hit row other here rest = grind (arith, built_never)
 
 in_rows_never : (first : List ℕ) (rows : List Row) (other : Option Row) → AllNever rows → KnownNever other → KnownNever (row_in first rows other)
 in_rows_never first [] other never rest = rest
@@ -60,8 +57,7 @@ in_rows_never first (row ∷ rows) other never rest =
 
 -- version 1 knows none of the rows of version 2 alone
 not_second : (second : Bool) (here : Option Row) → second ≡ false → KnownNever (cond second here None)
-not_second true here first = absurd (cc first)
-not_second false here first = none_never
+not_second second here first = grind (arith, none_never)
 
 events_never : AllNever event_rows
 events_never = (λ a b c. refl, (refl, (λ a b c d. refl, (λ a b. refl, (λ a b c d e. refl, (λ a b c. refl, tt))))))
@@ -98,9 +94,7 @@ step_then (Err fault) f never = tt
 
 step_never : (version : ℕ) (line : List ℕ) → nat_eq version 2 ≡ false → StepNever (step_of version line)
 unfolding step_of
-step_never version line is =
-    step_then (next any_word (record { words = words_of line; read = 0 })) (line_after version)
-    (λ first. whole_never (at_known (row_of version first.0) first.1) (rows_never version first.0 is first.1))
+step_never version line is = search (step_then, whole_never, rows_never)
 
 -- a line says no `relay`
 abbrev pub SaidNever : Said → Type 0
@@ -115,15 +109,11 @@ said_step (Err NoMemory) never = tt
 
 said_if : (is_comment : Bool) (read : Result Step LineFault) → StepNever read
     → SaidNever (said_by (cond is_comment (Ok None) (read >>= λ step. Ok (Some step))))
-said_if true read never = tt
-said_if false read never = said_step read never
+said_if is_comment read never = grind (arith, said_step)
 
 pub says_no_relay : (version : ℕ) (line : TextLine) → nat_eq version 2 ≡ false → SaidNever (said_in version line)
 unfolding read_of
-says_no_relay version (plain []) is = tt
-says_no_relay version (plain (octet ∷ line)) is = said_if (octet == comment) (step_of version (octet ∷ line)) (step_never version (octet ∷ line) is)
-says_no_relay version too_long is = tt
-says_no_relay version past is = tt
+says_no_relay version line is = grind (arith, said_if, step_never)
 
 -- without another `relay` line there is none
 pub plain_after : (made : List Step) (step : Step) → makes_relay step ≡ false → has_relay made ≡ false → has_relay (step ∷ made) ≡ false

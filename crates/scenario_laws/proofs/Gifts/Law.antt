@@ -1,13 +1,13 @@
 -- The relay law: by one induction over the steps of lines.
-use Rattle.std.proofs.Common.{ℕ, ◌≡◌, ◌==◌, ◌||◌, ◌∙◌, Bool, true, false, List, [], ◌∷◌, ◌++◌}
-use Rattle.std.proofs.Common.{None, refl, sym, ap, subst, inl, inr}
+use Rattle.std.proofs.Common.{ℕ, ◌≡◌, ◌||◌, ◌∙◌, Bool, true, false, List, [], ◌∷◌, ◌++◌, arith}
+use Rattle.std.proofs.Common.{None, sym, ap, subst, inl, inr}
 use Rattle.std.specs.List.{list_any}
 use Rattle.std.proofs.lemmas.Bool.{and_right, cases_Bool, eqb-true, false≢true}
 use Rattle.std.proofs.lemmas.List.{append-nil}
 use Rattle.scenario_text.specs.declared.step.Step.{Step}
 use Rattle.scenario_text.specs.declared.step.Step.TheVariants as steps
 use Rattle.source_machine.specs.Airs.{Airs}
-use Rattle.scenario_history.specs.Steps.{chosen_of, steps_of_source}
+use Rattle.scenario_history.specs.Steps.{steps_of_source}
 use Rattle.scenario_history.specs.Gifts.{all_answered, answered_by, happened, offered_to, offers_before, passed, with_gifts}
 use Rattle.scenario_laws.specs.Gifts.Laws.{RelayLaw, accepted_on}
 use Rattle.scenario_laws.specs.Gifts.Legal.{AreSaidLegally}
@@ -24,8 +24,7 @@ use Rattle.scenario_laws.proofs.Gifts.Routes.{had_happened, none_offered}
 -- a `unit` line closes no event
 gives_none_then : (airs : Airs) (bis : ℕ) (made : List Step) (step : Step) → gives_to bis made step ≡ false
     → gives_to bis (with_gifts airs made step) step ≡ false
-gives_none_then airs bis made (steps.Unit stream time octets) none = none
-gives_none_then airs bis made step none = and_right (chosen_of (with_gifts airs made step) == 1) (gives_on bis step) refl
+gives_none_then airs bis made step none = grind (arith, and_right)
 
 -- the stream had a relay before this step
 goes_on : (airs : Airs) (boxes to : ℕ) (step : Step) (earlier : List Step) → line_refusal airs boxes (happened airs earlier) step ≡ None
@@ -53,8 +52,7 @@ begins airs boxes to (steps.Relay sink bis into) earlier none before its =
 begins airs boxes to step earlier none before its = absurd (false≢true its)
 
 had_now : (now before : Bool) → (now || before) ≡ true → before ≡ false → now ≡ true
-had_now true before had not = refl
-had_now false before had not = absurd (false≢true (sym not ∙ had))
+had_now now before had not = grind (arith, false≢true)
 
 pub passes : (airs : Airs) (boxes to : ℕ) (said : List Step) → AreSaidLegally airs boxes said → had_relay to said ≡ true
     → accepted_on to (happened airs said) ≡ passed (offered_to to (all_answered airs said))
@@ -65,7 +63,4 @@ passes airs boxes to (step ∷ earlier) legal had = elim (cases_Bool (had_relay 
 ]
 
 pub relay_law_holds : (boxes : ℕ) → RelayLaw boxes
-relay_law_holds boxes airs said legal n bis to within = record {
-  offered_is = all_offered airs boxes n bis to said legal within;
-  passed_is = passes airs boxes to said legal (has_had n bis to said within);
-}
+relay_law_holds boxes airs said legal n bis to within = search (all_offered, passes, has_had)

@@ -1,6 +1,6 @@
 -- Lines of which none was refused give steps of which none is: gifts are steps that source 1 takes, and what closes an event of
 -- source 0 is permitted behind them as before.
-use Rattle.std.proofs.Common.{ℕ, ◌≡◌, ◌≤◌, ◌==◌, ◌||◌, ◌∙◌, not, cond, Bool, true, false, List, [], ◌∷◌, length, leb, ltb, Option}
+use Rattle.std.proofs.Common.{ℕ, ◌≡◌, ◌≤◌, ◌||◌, ◌∙◌, not, cond, Bool, true, false, List, [], ◌∷◌, length, leb, ltb, Option}
 use Rattle.std.proofs.Common.{None, Some, refl, sym, ap, arith}
 use Rattle.std.specs.Option.{option_map, option_or}
 use Rattle.std.proofs.lemmas.Bool.{eqb-true, false≢true, ltb-false}
@@ -41,11 +41,7 @@ runs_by airs boxes made step same none =
 
 pub runs_at : (airs : Airs) (boxes : ℕ) (made : List Step) (step : Step) → refusal_of airs boxes made step ≡ None
     → closes_first made step ≡ true → Runs made
-runs_at airs boxes made steps.Event none closes = runs_by airs boxes made steps.Event refl none
-runs_at airs boxes made steps.Stop none closes = runs_by airs boxes made steps.Stop refl none
-runs_at airs boxes made (steps.Terminate reason) none closes = runs_by airs boxes made (steps.Terminate reason) refl none
-runs_at airs boxes made steps.End none closes = runs_by airs boxes made steps.End refl none
-runs_at airs boxes made step none closes = absurd (false≢true closes)
+runs_at airs boxes made step none closes = grind (arith, runs_by, false≢true)
 
 pub runs_still : (made others : List Step) → stage_of others ≡ stage_of made → Runs made → Runs others
 runs_still made others same runs = record { goes_on = ap is_over_at same ∙ runs.goes_on; begun = ap is_unbegun_at same ∙ runs.begun }
@@ -62,8 +58,7 @@ bounded_by step own ranged before = before
 
 bounded_if : (mine : Bool) (step : Step) (own : List Step) → IsInRange step → most_of own ≤ 4095
     → most_of (cond mine (step ∷ own) own) ≤ 4095
-bounded_if true step own ranged before = bounded_by step own ranged before
-bounded_if false step own ranged before = before
+bounded_if mine step own ranged before = grind (arith, bounded_by)
 
 -- a unit of source 1 has at most 4,095 octets
 bounded : (airs : Airs) (boxes : ℕ) (made : List Step) → AreLegal airs boxes made → most_of (steps_of_source 1 made) ≤ 4095
@@ -94,9 +89,7 @@ giving airs boxes offer made runs none =
     runs.goes_on runs.begun (fails_not (not (takes_units own)) _ parts.0) parts.1
 
 pub second_false : (a b : Bool) (x y : UnitFault) (z : Option UnitFault) → cond a (Some x) (cond b (Some y) z) ≡ None → b ≡ false
-second_false true b x y z none = absurd (none-some x (sym none))
-second_false false true x y z none = absurd (none-some y (sym none))
-second_false false false x y z none = refl
+second_false a b x y z none = grind (arith, none-some)
 
 -- what passes has at most so many octets as a unit of a line
 short : (airs : Airs) (boxes : ℕ) (offer : Offer) (made : List Step) → AreLegal airs boxes made → dropped_for airs offer made ≡ None
@@ -133,8 +126,7 @@ gift_legal airs boxes offer made legal runs none =
 pub unless_legal : (airs : Airs) (boxes : ℕ) (reason : Option Refusal) (offer : Offer) (made : List Step) → AreLegal airs boxes made
     → Runs made
     → dropped_for airs offer made ≡ reason → AreLegal airs boxes (with_gift_unless reason offer made)
-unless_legal airs boxes None offer made legal runs is = gift_legal airs boxes offer made legal runs is
-unless_legal airs boxes (Some reason) offer made legal runs is = legal
+unless_legal airs boxes reason offer made legal runs is = grind (arith, gift_legal)
 
 all_legal : (airs : Airs) (boxes : ℕ) (offers : List Offer) (made : List Step) → AreLegal airs boxes made → Runs made
     → AreLegal airs boxes (after_offers airs offers made)
@@ -146,8 +138,7 @@ all_legal airs boxes (offer ∷ offers) made legal runs =
 
 legal_if : (closes : Bool) (airs : Airs) (boxes : ℕ) (made : List Step) → AreLegal airs boxes made → (closes ≡ true → Runs made)
     → AreLegal airs boxes (after_offers airs (cond closes (offers_at airs made) []) made)
-legal_if true airs boxes made legal runs = all_legal airs boxes (offers_at airs made) made legal (runs refl)
-legal_if false airs boxes made legal runs = legal
+legal_if closes airs boxes made legal runs = grind (arith, all_legal)
 
 -- ---- the step behind them
 
@@ -161,30 +152,16 @@ close_refusal airs step stage own =
 chosen_alike : (made others : List Step) → chosen_of others ≡ chosen_of made → steps_of_source 0 others ≡ steps_of_source 0 made
     → chosen_of made ≡ 0
     → chosen_steps others ≡ chosen_steps made
-chosen_alike made others chosen first is =
-    ap (λ c. steps_of_source c others) (chosen ∙ is) ∙ first ∙ ap (λ c. steps_of_source c made) (sym is)
+chosen_alike made others chosen first is = cc (chosen, is, first, is)
 
 close_if : (closes : Bool) (airs : Airs) (step : Step) (made : List Step) → (closes ≡ true → chosen_of made ≡ 0)
     → (let after = after_offers airs (cond closes (offers_at airs made) []) made in
     close_refusal airs step (stage_of after) (chosen_steps after) ≡ close_refusal airs step (stage_of made) (chosen_steps made))
-close_if true airs step made is =
-    let after = after_offers airs (offers_at airs made) made in
-    let left = left_by_offers airs (offers_at airs made) made in
-    ap (λ stage. close_refusal airs step stage (chosen_steps after)) left.stage
-    ∙ ap (λ own. close_refusal airs step (stage_of made) own) (chosen_alike made after left.chosen left.first (is refl))
-close_if false airs step made is = refl
+close_if closes airs step made is = grind (arith, left_by_offers, chosen_alike)
 
 step_legal : (airs : Airs) (boxes : ℕ) (made : List Step) (step : Step) → refusal_of airs boxes made step ≡ None
     → refusal_of airs boxes (with_gifts airs made step) step ≡ None
-step_legal airs boxes made steps.Event none =
-    close_if (chosen_of made == 0) airs steps.Event made (eqb-true (chosen_of made) 0) ∙ none
-step_legal airs boxes made steps.Stop none =
-    close_if (chosen_of made == 0) airs steps.Stop made (eqb-true (chosen_of made) 0) ∙ none
-step_legal airs boxes made (steps.Terminate reason) none =
-    close_if (chosen_of made == 0) airs (steps.Terminate reason) made (eqb-true (chosen_of made) 0) ∙ none
-step_legal airs boxes made steps.End none =
-    ap (λ stage. close_refusal airs steps.End stage []) (left_by_offers airs (offers_at airs made) made).stage ∙ none
-step_legal airs boxes made step none = none
+step_legal airs boxes made step none = grind (arith, close_if, eqb-true, left_by_offers)
 
 pub happens_legally : (airs : Airs) (boxes : ℕ) (said : List Step) → AreSaidLegally airs boxes said
     → AreLegal airs boxes (happened airs said)

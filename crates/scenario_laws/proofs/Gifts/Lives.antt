@@ -1,6 +1,6 @@
 -- What happens by steps of lines makes of each sink, its links and its assistants what the lines say: gifts are no part of what a source
 -- announces and of where it stands.
-use Rattle.std.proofs.Common.{ℕ, suc, ◌≡◌, ◌+◌, ◌==◌, ◌||◌, ◌&&◌, ◌∙◌, cond, Bool, true, false, List, [], ◌∷◌, Option, None, Some, refl, sym, ap, ap₂}
+use Rattle.std.proofs.Common.{ℕ, suc, ◌≡◌, ◌+◌, ◌==◌, ◌||◌, ◌&&◌, ◌∙◌, cond, Bool, true, false, List, [], ◌∷◌, Option, None, Some, refl, ap, ap₂, arith}
 use Rattle.std.specs.Prelude.{unwrap_or}
 use Rattle.std.specs.Option.{option_or}
 use Rattle.delegator_history.specs.Octets.{train_of}
@@ -102,8 +102,7 @@ gift_told false bis time octets own = refl
 
 unless_told : (s : ℕ) (reason : Option Refusal) (offer : Offer) (made : List Step)
     → told_of (steps_of_source s (with_gift_unless reason offer made)) ≡ told_of (steps_of_source s made)
-unless_told s None offer made = gift_told (1 == s) offer.route.to (Some offer.unit.time) offer.unit.octets (steps_of_source s made)
-unless_told s (Some reason) offer made = refl
+unless_told s reason offer made = grind (arith, gift_told)
 
 offers_told : (s : ℕ) (airs : Airs) (offers : List Offer) (made : List Step)
     → told_of (steps_of_source s (after_offers airs offers made)) ≡ told_of (steps_of_source s made)
@@ -136,8 +135,7 @@ chosen_happened airs (step ∷ earlier) =
 
 told_if : (mine : Bool) (step : Step) (own others : List Step) → told_of own ≡ told_of others
     → told_of (cond mine (step ∷ own) own) ≡ told_of (cond mine (step ∷ others) others)
-told_if true step own others same = told_next step own ∙ ap (told_after step) same ∙ sym (told_next step others)
-told_if false step own others same = same
+told_if mine step own others same = grind (arith, told_next)
 
 told_happened : (s : ℕ) (airs : Airs) (said : List Step) → told_of (steps_of_source s (happened airs said)) ≡ told_of (steps_of_source s said)
 told_happened s airs [] = refl

@@ -7,18 +7,16 @@ use Rattle.std.proofs.lemmas.List.{append-nil, map-append}
 use Rattle.std.proofs.lemmas.List.Elements.{filter-append}
 use Rattle.bcast_base.specs.declared.unit.Unit.{Unit as AudioUnit}
 use Rattle.group_sink.specs.Calls.{Call}
-use Rattle.group_sink.specs.Handing.{handed_at}
 use Rattle.scenario_text.specs.Ranges.{IsInRange}
 use Rattle.scenario_text.specs.declared.step.Step.{Step}
 use Rattle.scenario_text.specs.declared.step.Step.TheVariants as steps
 use Rattle.unit_outlets.specs.Handed.{Handed}
-use Rattle.scenario_history.specs.Boxes.{SinkUnit, box_of, closing, closing_at, closing_by, closing_in, handed_by, sink_numbers}
-use Rattle.scenario_history.specs.Sinks.{is_of, sink_calls, source_of}
+use Rattle.scenario_history.specs.Boxes.{SinkUnit, closing, closing_at, closing_in, handed_by, sink_numbers}
 use Rattle.scenario_history.specs.Source.{open_event}
 use Rattle.source_machine.specs.Airs.{Airs}
 use Rattle.scenario_history.specs.Steps.{chosen_of, steps_of_source}
 use Rattle.scenario_history.specs.Gifts.{Answered, Offer, after_offer, all_answered, answered, answered_by, closes_first}
-use Rattle.scenario_history.specs.Gifts.{dropped_for, handed_of, happened, offered_of, offered_to, offers_at, offers_before, units_on}
+use Rattle.scenario_history.specs.Gifts.{dropped_for, handed_of, happened, offered_of, offered_to, offers_at, units_on}
 use Rattle.scenario_history.specs.Gifts.{with_gifts}
 use Rattle.scenario_laws.specs.Gifts.Laws.{handed_on, is_route, offered}
 use Rattle.scenario_laws.specs.Gifts.Legal.{AreSaidLegally}
@@ -54,10 +52,7 @@ abbrev units_to : ℕ → List Offer → List AudioUnit
 units_to to offers = map (λ (offer : Offer). offer.unit) (filter (λ (offer : Offer). offer.route.to == to) offers)
 
 units_to_append : (to : ℕ) (one other : List Offer) → units_to to (one ++ other) ≡ units_to to one ++ units_to to other
-units_to_append to one other =
-    ap (map (λ (offer : Offer). offer.unit)) (filter-append (λ (offer : Offer). offer.route.to == to) one other)
-    ∙ map-append (λ (offer : Offer). offer.unit) (filter (λ (offer : Offer). offer.route.to == to) one)
-    (filter (λ (offer : Offer). offer.route.to == to) other)
+units_to_append to one other = search (filter-append, map-append)
 
 units_to_flat : (to : ℕ) (f : ℕ → List Offer) (ms : List ℕ) → units_to to (flat_map f ms) ≡ flat_map (λ m. units_to to (f m)) ms
 units_to_flat to f [] = refl
@@ -138,9 +133,7 @@ abbrev mine : ℕ → ℕ → SinkUnit → Bool
 mine s n unit = (unit.source == s) && (unit.sink == n)
 
 pub handed_append : (s n : ℕ) (one other : List SinkUnit) → handed_of s n (one ++ other) ≡ handed_of s n one ++ handed_of s n other
-handed_append s n one other =
-    ap (map (λ (unit : SinkUnit). unit.unit)) (filter-append (mine s n) one other)
-    ∙ map-append (λ (unit : SinkUnit). unit.unit) (filter (mine s n) one) (filter (mine s n) other)
+handed_append s n one other = search (filter-append, map-append)
 
 not_of_map : (n t m box : ℕ) (units : List Handed) → (t == 0) ≡ false
     → handed_of 0 n (map (λ unit. record { source = t; sink = m; box = box; unit = unit }) units) ≡ []
@@ -149,9 +142,7 @@ not_of_map n t m box (unit ∷ units) other = rw other (not_of_map n t m box uni
 
 not_in : (its : Bool) (n t event m : ℕ) (calls : List Call) (box : Option ℕ) → (t == 0) ≡ false
     → handed_of 0 n (cond its (closing_in t event m calls box) []) ≡ []
-not_in true n t event m calls None other = refl
-not_in true n t event m calls (Some box) other = not_of_map n t m box (handed_at calls event) other
-not_in false n t event m calls box other = refl
+not_in its n t event m calls box other = grind (arith, not_of_map)
 
 not_flat : (n : ℕ) (f : ℕ → List SinkUnit) (ms : List ℕ) → ((m : ℕ) → handed_of 0 n (f m) ≡ []) → handed_of 0 n (flat_map f ms) ≡ []
 not_flat n f [] each = refl
@@ -160,10 +151,7 @@ not_flat n f (m ∷ ms) each = handed_append 0 n (f m) (flat_map f ms) ∙ ap (�
 
 not_at : (airs : Airs) (n t : ℕ) (made : List Step) (last_open : Option ℕ) → (t == 0) ≡ false
     → handed_of 0 n (closing_at airs t made last_open) ≡ []
-not_at airs n t made None other = refl
-not_at airs n t made (Some event) other =
-    not_flat n (λ m. closing_by t event m (sink_calls airs m made) (source_of m made) (box_of m made)) sink_numbers
-    (λ m. not_in (is_of t (source_of m made)) n t event m (sink_calls airs m made) (box_of m made) other)
+not_at airs n t made last_open other = grind (arith, not_flat, not_in)
 
 -- another source closes nothing of source 0
 not_first : (airs : Airs) (n t : ℕ) (made : List Step) → (t == 0) ≡ false → handed_of 0 n (closing airs t made) ≡ []
@@ -173,9 +161,7 @@ not_first airs n t made other = not_at airs n t made (open_event (steps_of_sourc
 by_chosen : (airs : Airs) (n : ℕ) (made gifted : List Step) (hit : Bool) → (chosen_of made == 0) ≡ hit → chosen_of gifted ≡ chosen_of made
     → closing airs 0 gifted ≡ closing airs 0 made
     → handed_of 0 n (closing airs (chosen_of gifted) gifted) ≡ cond hit (handed_of 0 n (closing airs 0 made)) []
-by_chosen airs n made gifted true is same closes =
-    ap (λ c. handed_of 0 n (closing airs c gifted)) (same ∙ eqb-true (chosen_of made) 0 is) ∙ ap (handed_of 0 n) closes
-by_chosen airs n made gifted false is same closes = not_first airs n (chosen_of gifted) gifted (ap (λ c. c == 0) same ∙ is)
+by_chosen airs n made gifted hit is same closes = grind (arith, eqb-true, not_first)
 
 -- what the sink hands up of source 0 by a step, behind the gifts
 pub first_handed : (airs : Airs) (n : ℕ) (made : List Step) (step : Step)
@@ -209,10 +195,7 @@ offers_if false airs n bis to made below stands = same_nil (is_route bis to (rel
 offered_now : (airs : Airs) (n bis to : ℕ) (made : List Step) (step : Step) → n ≤ 7 → OneStands n bis to made
     → map (λ (a : Answered). a.offer.unit) (offered_to to (answered_by airs made step))
     ≡ cond (is_route bis to (relay_of n made)) (handed_on airs n bis made step) []
-offered_now airs n bis to made step below stands =
-    answered_units airs to (offers_before airs made step) made
-    ∙ offers_if (closes_first made step) airs n bis to made below stands
-    ∙ ap (λ units. cond (is_route bis to (relay_of n made)) (units_on bis units) []) (sym (first_handed airs n made step))
+offered_now airs n bis to made step below stands = search (answered_units, offers_if, first_handed)
 
 no_way : (n bis to : ℕ) (made : List Step) (relay : Option Route) → relay_of n made ≡ relay → had_relay to made ≡ false
     → is_route bis to relay ≡ false
@@ -251,9 +234,7 @@ in_range airs boxes n bis to (step ∷ earlier) legal within = elim (contains_ca
 units_append : (to : ℕ) (one other : List Answered)
     → map (λ (a : Answered). a.offer.unit) (offered_to to (one ++ other))
     ≡ map (λ (a : Answered). a.offer.unit) (offered_to to one) ++ map (λ (a : Answered). a.offer.unit) (offered_to to other)
-units_append to one other =
-    ap (map (λ (a : Answered). a.offer.unit)) (filter-append (λ (a : Answered). a.offer.route.to == to) one other)
-    ∙ map-append (λ (a : Answered). a.offer.unit) (offered_to to one) (offered_to to other)
+units_append to one other = search (filter-append, map-append)
 
 pub all_offered : (airs : Airs) (boxes n bis to : ℕ) (said : List Step) → AreSaidLegally airs boxes said
     → Contains said (steps.Relay n bis to)

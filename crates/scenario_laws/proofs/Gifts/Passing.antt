@@ -1,24 +1,22 @@
 -- What source 1 accepts on a stream: of the units that are offered to it those that aren't dropped, and of a step that gives it no
 -- unit nothing.
-use Rattle.std.proofs.Common.{ℕ, ◌≡◌, ◌==◌, ◌&&◌, ◌∙◌, cond, Bool, true, false, List, [], ◌∷◌, ◌++◌, map, Option, None}
+use Rattle.std.proofs.Common.{ℕ, ◌≡◌, ◌==◌, ◌&&◌, ◌∙◌, cond, Bool, true, false, List, [], ◌∷◌, ◌++◌, Option, None, arith}
 use Rattle.std.proofs.Common.{Some, refl, sym, ap}
 use Rattle.std.proofs.Common.{append_assoc}
-use Rattle.std.specs.Prelude.{is_none, unwrap_or}
-use Rattle.std.specs.List.{filter, list_any}
+use Rattle.std.specs.Prelude.{unwrap_or}
+use Rattle.std.specs.List.{list_any}
 use Rattle.std.proofs.lemmas.Bool.{false≢true, or_parts}
 use Rattle.std.proofs.lemmas.List.{append-nil, map-append}
 use Rattle.std.proofs.lemmas.List.Elements.{filter-append}
 use Rattle.bcast_base.specs.declared.unit.Unit.{Unit as AudioUnit}
-use Rattle.big_info.specs.Time.{iso_us_of}
 use Rattle.isoal_framed.specs.Calls.{Call as FramedCall, accept, accepted}
 use Rattle.scenario_text.specs.declared.step.Step.{Step}
-use Rattle.scenario_text.specs.declared.step.Step.TheVariants as steps
-use Rattle.source_machine.specs.Calls.{Setup, Call, event, framed_calls, give, laid_before, laid_with, lay_anchor}
+use Rattle.source_machine.specs.Calls.{Setup, Call, event, framed_calls, give}
 use Rattle.source_machine.proofs.Citable.{timed_accepted}
 use Rattle.transcript_text.specs.declared.refusal.Refusal.{Refusal}
 use Rattle.scenario_history.specs.Source.{setup_of, source_calls}
 use Rattle.source_machine.specs.Airs.{Airs}
-use Rattle.scenario_history.specs.Steps.{chosen_of, is_of_source, steps_of_source}
+use Rattle.scenario_history.specs.Steps.{chosen_of}
 use Rattle.scenario_history.specs.Gifts.{Answered, Offer, after_offer, after_offers, answered, dropped_for, offered_to, passed}
 use Rattle.scenario_history.specs.Gifts.{offers_before, with_gift_unless}
 use Rattle.scenario_laws.specs.Gifts.Laws.{PassesAtOnce, accepted_on}
@@ -33,9 +31,7 @@ accept_if false time octets calls others same = same
 
 pub event_accepts_none : (setup : Setup) (bis : ℕ) (earlier : List Call)
     → accepted (framed_calls setup bis (event ∷ earlier)) ≡ accepted (framed_calls setup bis earlier)
-event_accepts_none setup bis earlier =
-    timed_accepted (lay_anchor setup (laid_before setup.info earlier)) (iso_us_of setup.info) (laid_with setup.info earlier)
-    (framed_calls setup bis earlier)
+event_accepts_none setup bis earlier = search (timed_accepted)
 
 -- which units were accepted doesn't depend on what fixes the source
 units_same : (one other : Setup) (bis : ℕ) (calls : List Call)
@@ -53,14 +49,11 @@ taken bis own = accepted (framed_calls (setup_of own) bis (source_calls own))
 -- ---- a step of the source that gives it no unit of the stream
 
 own_takes : (bis : ℕ) (step : Step) (own : List Step) → gives_on bis step ≡ false → taken bis (step ∷ own) ≡ taken bis own
-own_takes bis (steps.Unit stream time octets) own not = rw not refl
-own_takes bis steps.Event own not = event_accepts_none (setup_of own) bis (source_calls own)
-own_takes bis step own not = units_same (setup_of (step ∷ own)) (setup_of own) bis (source_calls own)
+own_takes bis step own not = grind (arith, event_accepts_none, units_same)
 
 takes_if : (mine : Bool) (bis : ℕ) (step : Step) (own : List Step) → (mine ≡ true → gives_on bis step ≡ false)
     → taken bis (cond mine (step ∷ own) own) ≡ taken bis own
-takes_if true bis step own not = own_takes bis step own (not refl)
-takes_if false bis step own not = refl
+takes_if mine bis step own not = grind (arith, own_takes)
 
 -- a stream of a source that was given no unit of it accepted none
 pub none_taken : (bis : ℕ) (own : List Step) → list_any (gives_on bis) own ≡ false → taken bis own ≡ []
@@ -75,45 +68,31 @@ abbrev pub gives_to : ℕ → List Step → Step → Bool
 gives_to bis earlier step = (chosen_of earlier == 1) && gives_on bis step
 
 when_chosen : (chosen gives : Bool) → (chosen && gives) ≡ false → chosen ≡ true → gives ≡ false
-when_chosen true gives not is = not
-when_chosen false gives not is = absurd (false≢true is)
+when_chosen chosen gives not is = grind (arith, false≢true)
 
 pub step_takes : (bis : ℕ) (step : Step) (earlier : List Step) → gives_to bis earlier step ≡ false
     → accepted_on bis (step ∷ earlier) ≡ accepted_on bis earlier
-step_takes bis (steps.Unit stream time octets) earlier not =
-    takes_if (chosen_of earlier == 1) bis (steps.Unit stream time octets) (steps_of_source 1 earlier)
-    (when_chosen (chosen_of earlier == 1) (stream == bis) not)
-step_takes bis step earlier not = takes_if (is_of_source 1 earlier step) bis step (steps_of_source 1 earlier) (λ mine. refl)
+step_takes bis step earlier not = grind (arith, takes_if, when_chosen)
 
 -- ---- units that are offered
 
 pub passed_append : (to : ℕ) (one other : List Answered)
     → passed (offered_to to (one ++ other)) ≡ passed (offered_to to one) ++ passed (offered_to to other)
-passed_append to one other =
-    let mine = λ (answer : Answered). answer.offer.route.to == to in
-    let taken = λ (answer : Answered). is_none answer.reason in
-    let unit = λ (answer : Answered). answer.offer.unit in
-    ap passed (filter-append mine one other)
-    ∙ ap (map unit) (filter-append taken (filter mine one) (filter mine other))
-    ∙ map-append unit (filter taken (filter mine one)) (filter taken (filter mine other))
+passed_append to one other = search (filter-append, map-append)
 
 gift_passes : (hit : Bool) (offer : Offer) (calls : List FramedCall)
     → accepted (cond hit (accept offer.unit.time offer.unit.octets ∷ calls) calls)
     ≡ accepted calls ++ passed (cond hit (record { offer = offer; reason = None } ∷ []) [])
-gift_passes true offer calls = refl
-gift_passes false offer calls = sym (append-nil (accepted calls))
+gift_passes hit offer calls = grind (arith, append-nil)
 
 drop_passes_none : (hit : Bool) (offer : Offer) (reason : Refusal) (units : List AudioUnit)
     → units ≡ units ++ passed (cond hit (record { offer = offer; reason = Some reason } ∷ []) [])
-drop_passes_none true offer reason units = sym (append-nil units)
-drop_passes_none false offer reason units = sym (append-nil units)
+drop_passes_none hit offer reason units = grind (arith, append-nil)
 
 one_passes : (to : ℕ) (reason : Option Refusal) (offer : Offer) (made : List Step)
     → accepted_on to (with_gift_unless reason offer made)
     ≡ accepted_on to made ++ passed (offered_to to (record { offer = offer; reason = reason } ∷ []))
-one_passes to None offer made =
-    gift_passes (offer.route.to == to) offer (framed_calls (setup_of (steps_of_source 1 made)) to (source_calls (steps_of_source 1 made)))
-one_passes to (Some reason) offer made = drop_passes_none (offer.route.to == to) offer reason (accepted_on to made)
+one_passes to reason offer made = grind (arith, gift_passes, drop_passes_none)
 
 pub all_pass : (airs : Airs) (to : ℕ) (offers : List Offer) (made : List Step)
     → accepted_on to (after_offers airs offers made) ≡ accepted_on to made ++ passed (offered_to to (answered airs offers made))

@@ -110,12 +110,10 @@ first_printed airs made = at_event airs made (open_event (steps_of_source 0 made
 -- no relay offers anything
 none_answered : (closes : Bool) (airs : Airs) (made : List Step) → has_relay made ≡ false
     → answered airs (cond closes (offers_at airs made) []) made ≡ []
-none_answered true airs made none = ap (λ offers. answered airs offers made) (no_offers airs made none)
-none_answered false airs made none = refl
+none_answered closes airs made none = grind (arith, no_offers)
 
 pub prints_units : PrintsUnits
-prints_units airs made step none =
-    ap (first_lines (closing airs 0 made)) (none_answered (closes_first made step) airs made none) ∙ first_printed airs made
+prints_units airs made step none = cc (none_answered (closes_first made step) airs made none, first_printed airs made)
 
 closed_if : (hit : Bool) (airs : Airs) (made : List Step) (step : Step) → (chosen_of made == 0) ≡ hit → has_relay made ≡ false
     → cond hit (first_lines (closing airs 0 made) (answered_by airs made step)) (unit_lines (closing airs (chosen_of made) made))
@@ -136,8 +134,4 @@ flat_both one other = flat_map-append (λ (unit : SinkUnit). handed_line unit.si
 pub plain_end : (airs : Airs) (starts : List Account) (made : List Step) → has_relay made ≡ false
     → output_of airs starts made steps.End
     ≡ unit_lines (closing_both airs made) ++ sums_of starts (handed_up airs made ++ closing_both airs made) made
-plain_end airs starts made none =
-    let sums = sums_of starts (handed_up airs made ++ closing_both airs made) made in
-    ap (λ l. l ++ (unit_lines (closing airs 1 made) ++ sums)) (prints_units airs made steps.End none)
-    ∙ sym (append_assoc (unit_lines (closing airs 0 made)) (unit_lines (closing airs 1 made)) sums)
-    ∙ ap (λ l. l ++ sums) (sym (flat_both (closing airs 0 made) (closing airs 1 made)))
+plain_end airs starts made none = search (prints_units, append_assoc, flat_both)

@@ -1,6 +1,6 @@
 -- What the lines say of which none was refused: a `relay` line is of a stream that had neither a relay nor a unit, and no `unit`
 -- line of source 1 names a stream that has had a relay.
-use Rattle.std.proofs.Common.{ℕ, ◌≡◌, ◌==◌, ◌&&◌, ◌∙◌, not, Bool, true, false, List, Option, None, Some, is_some, refl, sym}
+use Rattle.std.proofs.Common.{ℕ, ◌≡◌, ◌==◌, ◌&&◌, ◌∙◌, not, Bool, true, false, List, Option, None, Some, is_some, sym, arith}
 use Rattle.std.proofs.Common.{ap, inl, inr}
 use Rattle.std.specs.List.{list_any}
 use Rattle.std.proofs.lemmas.Bool.{and_cases, and_left, and_right, eqb-true, false_from_ne_true, false≢true, or_parts, not-false}
@@ -16,23 +16,19 @@ use Rattle.scenario_history.specs.Refusals.{refusal_of, relay_refusal, relayed_o
 use Rattle.sink_history.specs.Refusals.{refuse_if}
 use Rattle.scenario_history.specs.Relays.{had_relay, relay_of}
 use Rattle.source_machine.specs.Airs.{Airs}
-use Rattle.scenario_history.specs.Steps.{chosen_of, steps_of_source}
+use Rattle.scenario_history.specs.Steps.{steps_of_source}
 use Rattle.scenario_laws.proofs.Gifts.Passing.{gives_to}
 
 -- ---- the step of a line
 
 pub relayed_of : (reason : Refusal) → relayed_or true (Some reason) ≡ None → ⊥
-relayed_of refusals.Backlog none = none-some refusals.Relayed (sym none)
-relayed_of reason none = none-some reason (sym none)
+relayed_of reason none = grind (arith, none-some)
 
 unrelayed : (test : Bool) (refusal : Option Refusal) → relayed_or test refusal ≡ None → test ≡ false
-unrelayed true None none = absurd (none-some refusals.Relayed (sym none))
-unrelayed true (Some reason) none = absurd (relayed_of reason none)
-unrelayed false refusal none = refl
+unrelayed test refusal none = grind (arith, none-some, relayed_of)
 
 pub passes_both : (test : Bool) (refusal : Option Refusal) → relayed_or test refusal ≡ None → refusal ≡ None
-passes_both true refusal none = absurd (false≢true (sym (unrelayed true refusal none)))
-passes_both false refusal none = none
+passes_both test refusal none = grind (arith, false≢true, unrelayed)
 
 -- a line that isn't refused is a step that isn't
 pub line_passes : (airs : Airs) (boxes : ℕ) (made : List Step) (step : Step) → line_refusal airs boxes made step ≡ None
@@ -86,7 +82,4 @@ not_this chosen stream bis made not had = elim (and_cases chosen (had_relay stre
 pub gives_none : (airs : Airs) (boxes bis : ℕ) (made : List Step) (step : Step) → line_refusal airs boxes made step ≡ None
     → had_relay bis made ≡ true
     → gives_to bis made step ≡ false
-gives_none airs boxes bis made (steps.Unit stream time octets) none had =
-    not_this (chosen_of made == 1) stream bis made
-    (unrelayed (is_relayed made (steps.Unit stream time octets)) (refusal_of airs boxes made (steps.Unit stream time octets)) none) had
-gives_none airs boxes bis made step none had = and_right (chosen_of made == 1) false refl
+gives_none airs boxes bis made step none had = grind (arith, not_this, unrelayed, and_right)

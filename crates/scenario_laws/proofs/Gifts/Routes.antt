@@ -1,5 +1,5 @@
 -- Relays looked back for: whatever is offered is offered by a relay that stands, to a stream that has had a relay.
-use Rattle.std.proofs.Common.{ℕ, ◌≡◌, ◌==◌, ◌||◌, ◌∙◌, cond, Bool, true, false, List, [], ◌∷◌, ◌++◌, map, Option, None}
+use Rattle.std.proofs.Common.{ℕ, ◌≡◌, ◌==◌, ◌||◌, ◌∙◌, cond, Bool, true, false, List, [], ◌∷◌, ◌++◌, map, Option, None, arith}
 use Rattle.std.proofs.Common.{Some, refl, sym, ap}
 use Rattle.std.specs.Prelude.{unwrap_or}
 use Rattle.std.specs.List.{All, filter, flat_map}
@@ -11,14 +11,13 @@ use Rattle.bcast_base.specs.declared.unit.Unit.{Unit as AudioUnit}
 use Rattle.scenario_text.specs.declared.step.Step.{Step}
 use Rattle.scenario_text.specs.declared.step.Step.TheVariants as steps
 use Rattle.unit_outlets.specs.Handed.{Handed}
-use Rattle.scenario_history.specs.Boxes.{closing, sink_numbers}
 use Rattle.source_machine.specs.Airs.{Airs}
 use Rattle.scenario_history.specs.Steps.{chosen_of, last_given}
 use Rattle.scenario_history.specs.Gifts.{Answered, Offer, after_offer, after_offers, all_answered, answered, answered_by, closes_first}
-use Rattle.scenario_history.specs.Gifts.{dropped_for, handed_of, happened, offered_of, offered_to, offers_at, offers_before, units_on}
+use Rattle.scenario_history.specs.Gifts.{dropped_for, happened, offered_of, offered_to, offers_at, offers_before, units_on}
 use Rattle.scenario_history.specs.Gifts.{with_gifts}
 use Rattle.scenario_laws.specs.Gifts.Laws.{NoneRelayed}
-use Rattle.scenario_history.specs.Refusals.{is_relayed, refusal_of, relayed_or}
+use Rattle.scenario_history.specs.Refusals.{is_relayed}
 use Rattle.scenario_history.specs.Relays.{Route, had_relay, has_relay, makes_relay, relay_given, relay_of, relays_to}
 use Rattle.scenario_laws.proofs.Gifts.Left.{left_by_gifts}
 
@@ -26,14 +25,11 @@ use Rattle.scenario_laws.proofs.Gifts.Left.{left_by_gifts}
 
 made_had : (hit : Bool) (made route : Route) (later : Option (Option Route)) (had : Bool) → (unwrap_or later None ≡ Some route → had ≡ true)
     → unwrap_or (option_or (cond hit (Some (Some made)) None) later) None ≡ Some route → ((made.to == route.to) || had) ≡ true
-made_had true made route later had before is = or_left (made.to == route.to) had
-    (eq-eqb made.to route.to (ap (λ (r : Route). r.to) (same_Some made route is)))
-made_had false made route later had before is = or_right (made.to == route.to) had (before is)
+made_had hit made route later had before is = grind (arith, or_left, eq-eqb, same_Some, or_right)
 
 dropped_had : (hit : Bool) (route : Route) (later : Option (Option Route)) (had : Bool) → (unwrap_or later None ≡ Some route → had ≡ true)
     → unwrap_or (option_or (cond hit (Some None) None) later) None ≡ Some route → had ≡ true
-dropped_had true route later had before is = absurd (none-some route is)
-dropped_had false route later had before is = before is
+dropped_had hit route later had before is = grind (arith, none-some)
 
 -- the stream that a relay goes to has had one
 pub route_had : (n : ℕ) (made : List Step) (route : Route) → relay_of n made ≡ Some route → had_relay route.to made ≡ true
@@ -69,9 +65,7 @@ of_relay made n None units is = All-nil (Stands made)
 of_relay made n (Some route) units is = of_route made n route (units_on route.bis units) is
 
 pub offers_stand : (airs : Airs) (made : List Step) → All (Stands made) (offers_at airs made)
-offers_stand airs made =
-    flat_all (Stands made) (λ n. offered_of n (relay_of n made) (handed_of 0 n (closing airs 0 made))) sink_numbers
-    (λ n. of_relay made n (relay_of n made) (handed_of 0 n (closing airs 0 made)) refl)
+offers_stand airs made = search (flat_all, of_relay)
 
 stand_if : (closes : Bool) (made : List Step) (offers : List Offer) → All (Stands made) offers → All (Stands made) (cond closes offers [])
 stand_if true made offers all = all
@@ -141,14 +135,11 @@ no_route n (steps.Drop sink ∷ earlier) none = dropped_none (sink == n) (last_g
 no_route n (step ∷ earlier) none = no_route n earlier none
 
 pub no_offers : (airs : Airs) (made : List Step) → has_relay made ≡ false → offers_at airs made ≡ []
-no_offers airs made none =
-    flat_none (λ n. offered_of n (relay_of n made) (handed_of 0 n (closing airs 0 made))) sink_numbers
-    (λ n. ap (λ relay. offered_of n relay (handed_of 0 n (closing airs 0 made))) (no_route n made none))
+no_offers airs made none = search (flat_none, no_route)
 
 no_gifts : (closes : Bool) (airs : Airs) (made : List Step) → has_relay made ≡ false
     → after_offers airs (cond closes (offers_at airs made) []) made ≡ made
-no_gifts true airs made none = ap (λ offers. after_offers airs offers made) (no_offers airs made none)
-no_gifts false airs made none = refl
+no_gifts closes airs made none = grind (arith, no_offers)
 
 pub nothing_else : (airs : Airs) (said : List Step) → has_relay said ≡ false → happened airs said ≡ said
 nothing_else airs [] none = refl
@@ -167,5 +158,4 @@ not_relayed made (steps.Unit bis time octets) none = and_right (chosen_of made =
 not_relayed made step none = refl
 
 pub none_relayed : (boxes : ℕ) → NoneRelayed boxes
-none_relayed boxes airs made step none =
-    ap (λ test. relayed_or test (refusal_of airs boxes made step)) (not_relayed made step none)
+none_relayed boxes airs made step none = cc (not_relayed made step none)

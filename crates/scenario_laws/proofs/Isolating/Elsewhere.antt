@@ -1,14 +1,12 @@
 -- A line that means another source, and puts the sink on no train and no group, changes nothing of the sink and of the source.
-use Rattle.std.proofs.Common.{ℕ, ◌≡◌, ◌≢◌, ◌==◌, ◌&&◌, ◌||◌, ◌∙◌, cond, not, Bool, true, false, List, [], ◌∷◌, Option, None, Some, refl}
-use Rattle.std.proofs.Common.{sym, ap}
+use Rattle.std.proofs.Common.{ℕ, ◌≡◌, ◌≢◌, ◌==◌, ◌&&◌, cond, not, Bool, true, false, List, [], ◌∷◌, Option, None, Some, refl, arith}
+use Rattle.std.proofs.Common.{ap}
 use Rattle.std.proofs.lemmas.Bool.{and_right, false≢true, ne_eqb, cond-false}
-use Rattle.delegator_machine.specs.Groups.{with_leave, with_step}
+use Rattle.delegator_machine.specs.Groups.{with_leave}
 use Rattle.delegator_history.specs.States.{train_heard}
-use Rattle.delegator_history.specs.Sights.{Sight}
-use Rattle.delegator_history.specs.Trains.{Brought, Settings, Train, brought_by, heard, ignored, taken, joining_in}
+use Rattle.delegator_history.specs.Trains.{Brought, Settings, Train, joining_in}
 use Rattle.group_sink.specs.Calls.{Call, hear, tune}
 use Rattle.sink_history.specs.Calls as links
-use Rattle.delegator_control.specs.Groups.{has_group}
 use Rattle.scenario_text.specs.declared.step.Step.{Step}
 use Rattle.scenario_text.specs.declared.step.Step.TheVariants as steps
 use Rattle.scenario_history.specs.Boxes.{box_of, handed_by}
@@ -18,9 +16,8 @@ use Rattle.source_machine.specs.Airs.{Airs}
 use Rattle.scenario_history.specs.Steps.{chosen_given, chosen_of, chosen_steps, is_common, is_of_source, is_source_line}
 use Rattle.scenario_history.specs.Worlds.{joining_on, life, source_at}
 use Rattle.sink_history.specs.Lives.{Source, given_train, lived_by, made_of, own_train, version_given}
-use Rattle.sink_history.specs.Moves.{follows, follows_by, joining_of, received_by, train_by}
-use Rattle.sink_history.specs.Output.{sight_in}
-use Rattle.scenario_laws.specs.Isolation.{is_followed, puts, units_by}
+use Rattle.sink_history.specs.Moves.{follows, follows_by, received_by, train_by}
+use Rattle.scenario_laws.specs.Isolation.{puts, units_by}
 use Rattle.scenario_laws.proofs.Isolating.Lives.{ignores}
 use Rattle.scenario_laws.proofs.Isolating.Left.{Leaves, lives_equal, lives_itself}
 use Rattle.scenario_laws.proofs.Isolating.Said.{said_elsewhere}
@@ -31,33 +28,24 @@ use Rattle.scenario_laws.proofs.Moves.{same_if}
 -- ---- tests
 
 miss_both : {A : Type 0} (hit more : Bool) (x y : A) → (hit && more) ≡ false → cond hit (cond more x y) y ≡ y
-miss_both true more x y other = cond-false more x y other
-miss_both false more x y other = refl
+miss_both hit more x y other = grind (arith, cond-false)
 
 -- ---- a source line is no common step, and neither makes nor drops a sink
 
 not_common : (step : Step) → is_source_line step ≡ true → is_common step ≡ false
-not_common (steps.Scenario version) is = absurd (false≢true is)
-not_common steps.End is = absurd (false≢true is)
-not_common _ is = refl
+not_common step is = grind (arith, false≢true)
 
 chooses_none : (step : Step) → is_source_line step ≡ true → chosen_given step ≡ None
-chooses_none (steps.Source source) is = absurd (false≢true is)
-chooses_none _ is = refl
+chooses_none step is = grind (arith, false≢true)
 
 no_version : (step : Step) → is_source_line step ≡ true → version_given step ≡ None
-no_version (steps.Scenario version) is = absurd (false≢true is)
-no_version _ is = refl
+no_version step is = grind (arith, false≢true)
 
 made_stays : (n : ℕ) (step : Step) (made : List Step) → is_source_line step ≡ true → made_of n (step ∷ made) ≡ made_of n made
-made_stays n (steps.Sink sink streams slots mtu) made is = absurd (false≢true is)
-made_stays n (steps.Drop sink) made is = absurd (false≢true is)
-made_stays n _ made is = refl
+made_stays n step made is = grind (arith, false≢true)
 
 box_stays : (n : ℕ) (step : Step) (made : List Step) → is_source_line step ≡ true → box_of n (step ∷ made) ≡ box_of n made
-box_stays n (steps.Sink sink streams slots mtu) made is = absurd (false≢true is)
-box_stays n (steps.Drop sink) made is = absurd (false≢true is)
-box_stays n _ made is = refl
+box_stays n step made is = grind (arith, false≢true)
 
 -- ---- a train that isn't followed
 
@@ -69,9 +57,7 @@ train_lives true source train (Some made) a not = ignores made.setup made.mtu tr
 train_lives false source train made a not = lives_itself made a
 
 not_joined : (brought : Brought) → follows brought ≡ false → joining_in brought ≡ None
-not_joined (ignored answer) not = refl
-not_joined (heard slot answer encrypted) not = refl
-not_joined (taken slot bits encrypted joining) not = absurd (false≢true (sym not))
+not_joined brought not = grind (arith, false≢true)
 
 not_left : (on : Bool) (calls : List Call) → with_leave on on calls ≡ calls
 not_left true calls = refl
@@ -81,14 +67,7 @@ train_received : (hit : Bool) (source : Source) (line : Step) (train : Train) (m
     (calls : List Call)
     → train_by source line ≡ Some train → (hit && follows_by source (Some train) made a) ≡ false → LivesAlike made (cond hit a' a) a
     → cond hit (received_by source line made a (cond hit a' a) calls) calls ≡ calls
-train_received false source line train made a a' calls is not same = refl
-train_received true source line train None a a' calls is not same = refl
-train_received true source line train (Some made) a a' calls is not same =
-    let before : Sight = sight_in made a in
-    ap (λ t. with_step (joining_of made before t) before (sight_in made a') calls) is
-    ∙ ap (λ joining. with_step joining before (sight_in made a') calls) (not_joined (brought_by made.setup before train) not)
-    ∙ ap (λ later. with_leave (has_group before.place) (has_group later.place) calls) same.sight
-    ∙ not_left (has_group before.place) calls
+train_received hit source line train made a a' calls is not same = grind (arith, not_joined, not_left)
 
 -- ---- the life
 
@@ -114,12 +93,7 @@ life_stays n _ made is not = search (false≢true, lives_itself (made_of n made)
 
 source_stays : (n : ℕ) (step : Step) (made : List Step) → is_source_line step ≡ true → puts n made step ≡ false
     → source_of n (step ∷ made) ≡ source_of n made
-source_stays n (steps.Tuned sink which) made is not = cond-false (sink == n) (Some (chosen_of made)) (source_of n made) not
-source_stays n (steps.Announce sink) made is not =
-    miss_both (sink == n) (is_followed n made (steps.Announce sink)) (Some (chosen_of made)) (source_of n made) not
-source_stays n (steps.Train sink time ext adv acad) made is not =
-    miss_both (sink == n) (is_followed n made (steps.Train sink time ext adv acad)) (Some (chosen_of made)) (source_of n made) not
-source_stays n _ made is not = search
+source_stays n step made is not = grind (arith, cond-false, miss_both)
 
 -- ---- its receivers, where it isn't of the source that the line means
 
@@ -161,13 +135,10 @@ calls_stay airs n _ made is not apart = search (false≢true, close_stays airs n
 units_stay : (airs : Airs) (n : ℕ) (step : Step) (made : List Step) → is_source_line step ≡ true
     → is_of (chosen_of made) (source_of n made) ≡ false
     → units_by n (handed_by airs made step) ≡ []
-units_stay airs n steps.End made is apart = absurd (false≢true is)
-units_stay airs n _ made is apart = search (closing_none airs (chosen_of made) n (open_event (chosen_steps made)) made apart)
+units_stay airs n step made is apart = grind (arith, false≢true, closing_none)
 
 not_own : (s : ℕ) (step : Step) (made : List Step) → is_source_line step ≡ true → chosen_of made ≢ s → is_of_source s made step ≡ false
-not_own s step made is other =
-    ap (λ common. common || (is_source_line step && (chosen_of made == s))) (not_common step is)
-    ∙ and_right (is_source_line step) (chosen_of made == s) (ne_eqb (chosen_of made) s other)
+not_own s step made is other = cc (not_common step is, and_right (is_source_line step) (chosen_of made == s) (ne_eqb (chosen_of made) s other))
 
 pub elsewhere : (airs : Airs) (s n : ℕ) (step : Step) (made : List Step) → is_source_line step ≡ true → chosen_of made ≢ s
     → puts n made step ≡ false

@@ -1,5 +1,5 @@
 -- The isolation law: by one induction over the steps, each of which is kept in both lists or left out of one.
-use Rattle.std.proofs.Common.{ℕ, ◌≡◌, ◌≢◌, ◌⊎◌, ◌==◌, ◌&&◌, ◌||◌, ◌∙◌, cond, not, Bool, true, false, List, [], ◌∷◌, ◌++◌, Option, None}
+use Rattle.std.proofs.Common.{ℕ, ◌≡◌, ◌≢◌, ◌⊎◌, ◌==◌, ◌&&◌, ◌||◌, ◌∙◌, cond, not, Bool, true, false, List, [], ◌∷◌, ◌++◌, Option, None, arith}
 use Rattle.std.proofs.Common.{Some, refl, sym, ap, subst, inl, inr}
 use Rattle.std.proofs.lemmas.Bool.{and_parts, eq-eqb, eqb-true, false≢true, not-true}
 use Rattle.delegator_history.specs.Values.{state_at}
@@ -8,7 +8,6 @@ use Rattle.sink_history.specs.Calls.{Call}
 use Rattle.sink_history.specs.Links.{language}
 use Rattle.assistant_machine.specs.Links.{view_of, waits_of}
 use Rattle.scenario_text.specs.declared.step.Step.{Step}
-use Rattle.scenario_text.specs.declared.step.Step.TheVariants as steps
 use Rattle.unit_outlets.specs.Account.{Account}
 use Rattle.scenario_history.specs.Lines.{steps_of}
 use Rattle.source_machine.specs.Airs.{Airs}
@@ -28,32 +27,12 @@ use Rattle.scenario_laws.proofs.Isolating.Printed.{lines_same, append_same}
 
 by_tests : (common line chosen other its : Bool) → cond common true (cond line (chosen && not other) its) ≡ false
     → (its ≡ false → line ≡ false → common ≡ false → other ≡ true) → (other ≡ true) ⊎ ((line ≡ true) × (chosen ≡ false))
-by_tests true line chosen other its is rest = absurd (false≢true (sym is))
-by_tests false true true true its is rest = inl refl
-by_tests false true true false its is rest = absurd (false≢true (sym is))
-by_tests false true false other its is rest = inr (refl, refl)
-by_tests false false chosen other its is rest = inl (rest is refl refl)
+by_tests common line chosen other its is rest = grind (arith, false≢true)
 
 -- a step that is neither of the whole scenario nor a source line names a sink
 names_one : (n : ℕ) (step : Step) → is_sink n (sink_in step) ≡ false → is_source_line step ≡ false
     → (is_common step || chooses step) ≡ false → is_other n (sink_in step) ≡ true
-names_one n (steps.Scenario version) not line common = absurd (false≢true (sym common))
-names_one n (steps.Group framing origin delay iso sdu max_sdu max_pdu num_bis bn nse irc pto sub spacing phy) not line common =
-    absurd (false≢true (sym line))
-names_one n (steps.Ident address_type address sid broadcast_id) not line common = absurd (false≢true (sym line))
-names_one n (steps.Subgroup codec config) not line common = absurd (false≢true (sym line))
-names_one n (steps.Meta metadata) not line common = absurd (false≢true (sym line))
-names_one n (steps.Bis bis config) not line common = absurd (false≢true (sym line))
-names_one n (steps.Cipher giv gskd) not line common = absurd (false≢true (sym line))
-names_one n (steps.Start first) not line common = absurd (false≢true (sym line))
-names_one n (steps.Unit bis time octets) not line common = absurd (false≢true (sym line))
-names_one n steps.Event not line common = absurd (false≢true (sym line))
-names_one n (steps.Sniff back bis subevent) not line common = absurd (false≢true (sym line))
-names_one n (steps.Source source) not line common = absurd (false≢true (sym common))
-names_one n steps.Stop not line common = absurd (false≢true (sym line))
-names_one n (steps.Terminate reason) not line common = absurd (false≢true (sym line))
-names_one n steps.End not line common = absurd (false≢true (sym common))
-names_one n _ others line common = ap not others
+names_one n step not line common = grind (arith, false≢true)
 
 apart_from : (c s : ℕ) → (c == s) ≡ false → c ≢ s
 apart_from c s is same = false≢true (sym is ∙ eq-eqb c s same)
@@ -71,44 +50,28 @@ fate s n step made is =
 
 means_by : (common line chosen other its : Bool) → cond common true (cond line (chosen && not other) its) ≡ true
     → (common ≡ true → line ≡ false) → line ≡ true → chosen ≡ true
-means_by true line chosen other its is common_not line_is = absurd (false≢true (sym (common_not refl) ∙ line_is))
-means_by false true chosen other its is common_not line_is = (and_parts chosen (not other) is).0
-means_by false false chosen other its is common_not line_is = absurd (false≢true line_is)
+means_by common line chosen other its is common_not line_is = grind (arith, false≢true, and_parts)
 
 no_line : (step : Step) → (is_common step || chooses step) ≡ true → is_source_line step ≡ false
-no_line (steps.Scenario version) is = refl
-no_line steps.End is = refl
-no_line (steps.Source source) is = refl
-no_line _ is = absurd (false≢true is)
+no_line step is = grind (arith, false≢true)
 
 means : (s n : ℕ) (step : Step) (made : List Step) → is_kept s n made step ≡ true → Means s made step
-means s n step made is line =
-    eqb-true (chosen_of made) s
-    (means_by (is_common step || chooses step) (is_source_line step) (chosen_of made == s) (is_other n (sink_in step))
-    (is_sink n (sink_in step)) is (no_line step) line)
+means s n step made is line = search (eqb-true, means_by, no_line)
 
 names_by : (common line chosen other its : Bool) → cond common true (cond line (chosen && not other) its) ≡ true
     → (common ≡ true → other ≡ false) → (its ≡ true → other ≡ false)
     → other ≡ false
-names_by true line chosen other its is common_not its_not = common_not refl
-names_by false true chosen other its is common_not its_not = not-true other (and_parts chosen (not other) is).1
-names_by false false chosen other its is common_not its_not = its_not is
+names_by common line chosen other its is common_not its_not = grind (arith, not-true, and_parts)
 
 names_none : (n : ℕ) (step : Step) → (is_common step || chooses step) ≡ true → is_other n (sink_in step) ≡ false
-names_none n (steps.Scenario version) is = refl
-names_none n steps.End is = refl
-names_none n (steps.Source source) is = refl
-names_none n _ is = absurd (false≢true is)
+names_none n step is = grind (arith, false≢true)
 
 names_its : (n : ℕ) (named : Option ℕ) → is_sink n named ≡ true → is_other n named ≡ false
 names_its n None is = refl
 names_its n (Some sink) is = ap not is
 
 names : (s n : ℕ) (step : Step) (made : List Step) → is_kept s n made step ≡ true → is_other n (sink_in step) ≡ false
-names s n step made is =
-    names_by (is_common step || chooses step) (is_source_line step) (chosen_of made == s) (is_other n (sink_in step))
-    (is_sink n (sink_in step)) is (names_none n step)
-    (names_its n (sink_in step))
+names s n step made is = search (names_by, names_none, names_its)
 
 -- ---- the induction
 
@@ -150,11 +113,7 @@ lines_if : (airs : Airs) (s n : ℕ) (step : Step) (made : List Step) (hit : Boo
     → kept_lines airs s n made ≡ lines_of airs n (only s n made)
     → cond hit (kept_lines airs s n made ++ lines_by airs n made step) (kept_lines airs s n made)
     ≡ lines_of airs n (cond hit (step ∷ only s n made) (only s n made))
-lines_if airs s n step made true is same before =
-    append_same (kept_lines airs s n made) (lines_by airs n made step) (lines_of airs n (only s n made))
-    (lines_by airs n (only s n made) step) before
-    (lines_same airs s n step made (only s n made) (names s n step made is) (means s n step made is) same)
-lines_if airs s n step made false is same before = before
+lines_if airs s n step made hit is same before = grind (arith, append_same, lines_same, names, means)
 
 lines_kept : (airs : Airs) (s n : ℕ) (made : List Step) → NoOtherPuts s n made → kept_lines airs s n made ≡ lines_of airs n (only s n made)
 lines_kept airs s n [] puts_not = refl

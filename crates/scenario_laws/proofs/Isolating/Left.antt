@@ -1,6 +1,6 @@
 -- A step that is left out changes nothing of the sink and of the source: it names another sink, or it means another source and puts
 -- the sink on no train and no group.
-use Rattle.std.proofs.Common.{ℕ, ◌≡◌, ◌==◌, ◌&&◌, ◌∙◌, cond, not, Bool, true, false, List, [], ◌∷◌, ◌++◌, Option, None, Some, is_some, refl}
+use Rattle.std.proofs.Common.{ℕ, ◌≡◌, ◌&&◌, ◌∙◌, cond, not, Bool, true, List, [], ◌∷◌, ◌++◌, Option, None, is_some, arith}
 use Rattle.std.proofs.Common.{sym, ap, subst}
 use Rattle.std.specs.Option.{option_or}
 use Rattle.std.proofs.lemmas.Bool.{false≢true}
@@ -10,15 +10,12 @@ use Rattle.delegator_history.specs.Trains.{Settings}
 use Rattle.group_sink.specs.Calls.{Call}
 use Rattle.sink_history.specs.Calls as links
 use Rattle.scenario_text.specs.declared.step.Step.{Step}
-use Rattle.scenario_text.specs.declared.step.Step.TheVariants as steps
 use Rattle.scenario_history.specs.Boxes.{box_of, handed_by, handed_up}
 use Rattle.scenario_history.specs.Sinks.{is_of, moved, sink_calls, source_of}
 use Rattle.source_machine.specs.Airs.{Airs}
 use Rattle.scenario_history.specs.Steps.{chosen_given, last_given, steps_of_source}
-use Rattle.scenario_history.specs.Worlds.{life, source_at, the_world}
-use Rattle.sink_history.specs.Lives.{lived_at, lived_by, made_of, named_by, version_given}
-use Rattle.sink_history.specs.Calls.{born}
-use Rattle.sink_history.specs.Moves.{received_by}
+use Rattle.scenario_history.specs.Worlds.{life, the_world}
+use Rattle.sink_history.specs.Lives.{lived_at, made_of, version_given}
 use Rattle.scenario_laws.specs.Isolation.{units_by}
 use Rattle.scenario_laws.specs.Only.{is_other, sink_in}
 use Rattle.scenario_laws.proofs.Isolating.Lives.{alike_itself, alike_then}
@@ -41,15 +38,13 @@ pub record Leaves (airs : Airs) (s n : ℕ) (step : Step) (made : List Step) : T
   pub units : units_by n (handed_by airs made step) ≡ []
 
 pub lives_itself : (made : Option Settings) (a : List links.Call) → LivesAlike made a a
-lives_itself None a = tt
-lives_itself (Some made) a = alike_itself made.setup made.mtu a
+lives_itself made a = grind (arith, alike_itself)
 
 pub lives_equal : (made : Option Settings) (a b : List links.Call) → a ≡ b → LivesAlike made a b
 lives_equal made a b is = subst (LivesAlike made a) is (lives_itself made a)
 
 lives_then : (made : Option Settings) (a b c : List links.Call) → LivesAlike made a b → LivesAlike made b c → LivesAlike made a c
-lives_then None a b c first second = tt
-lives_then (Some made) a b c first second = alike_then made.setup made.mtu a b c first second
+lives_then made a b c first second = grind (arith, alike_then)
 
 pub left_out : (airs : Airs) (s n : ℕ) (step : Step) (made others : List Step) → Leaves airs s n step made → Same airs s n made others
     → Same airs s n (step ∷ made) others
@@ -72,12 +67,10 @@ left_out airs s n step made others leaves same = record {
 -- ---- another sink is named
 
 pass : {A : Type 0} (hit : Bool) (x y : A) → not hit ≡ true → cond hit x y ≡ y
-pass true x y other = absurd (false≢true other)
-pass false x y other = refl
+pass hit x y other = grind (arith, false≢true)
 
 pass_and : {A : Type 0} (hit more : Bool) (x y : A) → not hit ≡ true → cond (hit && more) x y ≡ y
-pass_and true more x y other = absurd (false≢true other)
-pass_and false more x y other = refl
+pass_and hit more x y other = grind (arith, false≢true)
 
 pub record Quiet (step : Step) : Type 0 where
   pub chosen : chosen_given step ≡ None
@@ -87,42 +80,32 @@ pub record Quiet (step : Step) : Type 0 where
 
 -- a step that names a sink says nothing of a source
 quiet : (n : ℕ) (step : Step) → is_other n (sink_in step) ≡ true → Quiet step
-quiet n steps.End other = absurd (false≢true other)
-quiet n _ other = record { chosen = search; version = search; says = λ said. search; hands = λ airs made. search }
+quiet n step other = grind (arith, false≢true)
 
 made_other : (n : ℕ) (step : Step) (made : List Step) → is_other n (sink_in step) ≡ true → made_of n (step ∷ made) ≡ made_of n made
-made_other n (steps.Drop sink) made other = search pass
-made_other n _ made other = search pass
+made_other n step made other = grind (arith, pass)
 
 named_life : (n : ℕ) (named : Option ℕ) (line : Step) (made : List Step) (sink : Option Settings) (calls : List links.Call)
     → is_other n named ≡ true
     → lived_at the_world n named line made sink calls ≡ calls
-named_life n None line made sink calls other = refl
-named_life n (Some m) line made sink calls other = pass (m == n) (lived_by (source_at made) line sink calls) calls other
+named_life n named line made sink calls other = grind (arith, pass)
 
 life_other : (n : ℕ) (step : Step) (made : List Step) → is_other n (sink_in step) ≡ true → life n (step ∷ made) ≡ life n made
-life_other n (steps.Sink sink streams slots mtu) made other = pass (sink == n) (born mtu) (life n made) other
-life_other n step made other = named_life n (named_by step) step made (made_of n made) (life n made) other
+life_other n step made other = grind (arith, pass, named_life)
 
 source_other : (n : ℕ) (step : Step) (made : List Step) → is_other n (sink_in step) ≡ true → source_of n (step ∷ made) ≡ source_of n made
-source_other n (steps.Drop sink) made other = search pass
-source_other n _ made other = search pass
+source_other n step made other = grind (arith, pass)
 
 moved_other : (n : ℕ) (named : Option ℕ) (line : Step) (made : List Step) (calls : List Call) → is_other n named ≡ true
     → moved n named line made calls ≡ calls
-moved_other n None line made calls other = refl
-moved_other n (Some m) line made calls other =
-    pass (m == n) (received_by (source_at made) line (made_of n made) (life n made) (life n (line ∷ made)) calls) calls other
+moved_other n named line made calls other = grind (arith, pass)
 
 calls_other : (airs : Airs) (n : ℕ) (step : Step) (made : List Step) → is_other n (sink_in step) ≡ true
     → sink_calls airs n (step ∷ made) ≡ sink_calls airs n made
-calls_other airs n (steps.Sink sink streams slots mtu) made other = search pass
-calls_other airs n (steps.Drop sink) made other = search pass
-calls_other airs n step made other = search (pass, pass_and, moved_other n (named_by step) step made (sink_calls airs n made) other)
+calls_other airs n step made other = grind (arith, pass, pass_and, moved_other)
 
 box_other : (n : ℕ) (step : Step) (made : List Step) → is_other n (sink_in step) ≡ true → box_of n (step ∷ made) ≡ box_of n made
-box_other n (steps.Drop sink) made other = search pass
-box_other n _ made other = search pass
+box_other n step made other = grind (arith, pass)
 
 pub another_sink : (airs : Airs) (s n : ℕ) (step : Step) (made : List Step) → is_other n (sink_in step) ≡ true → Leaves airs s n step made
 another_sink airs s n step made other =

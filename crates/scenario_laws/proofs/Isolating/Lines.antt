@@ -1,23 +1,21 @@
 -- What a step that both lists of steps have prints of the sink, of its assistants and of the source.
-use Rattle.std.proofs.Common.{ℕ, zero, suc, ◌≡◌, ◌∙◌, List, [], ◌∷◌, ◌++◌, length, map, Option, None, Some, refl, ap}
+use Rattle.std.proofs.Common.{ℕ, zero, suc, ◌≡◌, ◌∙◌, List, [], ◌∷◌, ◌++◌, length, map, Option, refl, ap, arith}
 use Rattle.std.specs.Prelude.{codes, decimal, option_map, slice_get}
 use Rattle.std.specs.List.{flat_map, range_with_len}
-use Rattle.delegator_history.specs.Controls as controls
 use Rattle.delegator_history.specs.Trains.{Settings, Train, answer_of, brought_by}
 use Rattle.delegator_history.specs.Values.{state_at, value}
-use Rattle.delegator_history.specs.Writes.{reply_of}
 use Rattle.sink_history.specs.Calls as links
 use Rattle.sink_history.specs.Calls.{Call, writes_waiting}
 use Rattle.sink_history.specs.Drains.{repeated, served_out, told_out}
-use Rattle.sink_history.specs.Links.{delivered, language, notices_waiting, reads_waiting}
+use Rattle.sink_history.specs.Links.{language, notices_waiting, reads_waiting}
 use Rattle.assistant_machine.specs.Links.{view_of}
 use Rattle.scenario_text.specs.declared.step.Step.{Step}
 use Rattle.scenario_text.specs.declared.step.Step.TheVariants as steps
-use Rattle.transcript_text.specs.SinkLines.{Label, control_words, on_link, plain, reply_line, sink_line, train_line, train_words, value_line}
-use Rattle.sink_history.specs.Lives.{Source, given_train, own_train}
+use Rattle.transcript_text.specs.SinkLines.{Label, reply_line, sink_line, train_words, value_line}
+use Rattle.sink_history.specs.Lives.{Source}
 use Rattle.sink_history.specs.Output.{Lines, drain_lines, heard_line, if_there, notified, printed_of, printed_where, read_line}
 use Rattle.sink_history.specs.Output.{read_lines, replied, serve_line}
-use Rattle.sink_history.specs.Output.{serve_lines, show_lines, sight_in, stated, tell_line, tell_lines, view_lines, viewed, was_read}
+use Rattle.sink_history.specs.Output.{serve_lines, show_lines, stated, tell_line, tell_lines, view_lines, viewed, was_read}
 use Rattle.scenario_laws.proofs.Isolating.Lives.{Alike, notices_same, reads_same, repeats, served_grow, told_grow, waiting_same}
 use Rattle.scenario_laws.proofs.Isolating.Moves.{Sourced}
 use Rattle.scenario_laws.proofs.Isolating.Same.{LivesAlike}
@@ -26,13 +24,10 @@ use Rattle.scenario_laws.proofs.Isolating.Same.{LivesAlike}
 
 pub replied_same : (made : Settings) (link : ℕ) (a b : List Call) → Alike made.setup made.mtu a b
     → replied made link a ≡ replied made link b
-replied_same made link a b same =
-    ap (λ sight. option_map (reply_of sight) (slice_get (writes_waiting link a) 0)) same.sight
-    ∙ ap (λ waiting. option_map (reply_of (sight_in made b)) (slice_get waiting 0)) (waiting_same made.setup made.mtu link a b same)
+replied_same made link a b same = cc (same.sight, waiting_same made.setup made.mtu link a b same)
 
 notified_same : (made : Settings) (link : ℕ) (a b : List Call) → Alike made.setup made.mtu a b → notified made link a ≡ notified made link b
-notified_same made link a b same =
-    ap (λ waiting. option_map (delivered made.mtu) (slice_get waiting 0)) (notices_same made.setup made.mtu link a b same)
+notified_same made link a b same = cc (notices_same made.setup made.mtu link a b same)
 
 read_same : (made : Settings) (link : ℕ) (a b : List Call) → Alike made.setup made.mtu a b → was_read made link a ≡ was_read made link b
 read_same made link a b same =
@@ -144,23 +139,7 @@ train_same sink made a b train same = ap (λ sight. sink_line sink (train_words 
 
 printed_some : (source : Source) (line : Step) (made : Settings) (a b : List Call) → Alike made.setup made.mtu a b
     → printed_of source line made a ≡ printed_of source line made b
-printed_some source (steps.Serve sink) made a b same = serve_same (plain sink) made 0 a b same
-printed_some source (steps.Tell sink) made a b same = tell_same (plain sink) made 0 a b same
-printed_some source (steps.Read sink) made a b same = read_line_same (plain sink) made 0 a b same
-printed_some source (steps.Drain sink) made a b same = drain_same (plain sink) made 0 a b same
-printed_some source (steps.Show sink) made a b same = shown_same sink made a b same
-printed_some source (steps.Control sink octets) made a b same =
-    ap (λ sight. sink_line sink (control_words (controls.control_heard sight.place octets)) ∷ []) same.sight
-printed_some source (steps.Announce sink) made a b same =
-    ap (λ line. train_line sink source.announced ∷ line ∷ []) (train_same sink made a b (own_train source) same)
-printed_some source (steps.Train sink time ext adv acad) made a b same =
-    ap (λ line. line ∷ []) (train_same sink made a b (given_train source time ext adv acad) same)
-printed_some source (steps.AServe sink link) made a b same = serve_same (on_link sink link) made link a b same
-printed_some source (steps.ATell sink link) made a b same = tell_same (on_link sink link) made link a b same
-printed_some source (steps.ARead sink link) made a b same = read_line_same (on_link sink link) made link a b same
-printed_some source (steps.ADrain sink link) made a b same = drain_same (on_link sink link) made link a b same
-printed_some source (steps.AShow sink link) made a b same = views_same sink link made a b same
-printed_some source _ made a b same = refl
+printed_some source line made a b same = grind (arith, serve_same, tell_same, read_line_same, drain_same, shown_same, train_same, views_same)
 
 printed_sourced : (line : Step) (source source' : Source) → Sourced line source source' → (made : Settings) (calls : List Call)
     → printed_of source line made calls ≡ printed_of source' line made calls
@@ -173,7 +152,4 @@ printed_sourced _ source source' sourced made calls = refl
 pub printed_same : (line : Step) (source source' : Source) (made made' : Option Settings) (a b : List Call) → Sourced line source source'
     → made ≡ made'
     → LivesAlike made a b → printed_where source line made a ≡ printed_where source' line made' b
-printed_same line source source' None made' a b sourced sinks_same same = ap (λ made. printed_where source' line made b) sinks_same
-printed_same line source source' (Some made) made' a b sourced sinks_same same =
-    printed_some source line made a b same ∙ printed_sourced line source source' sourced made b
-    ∙ ap (λ m. printed_where source' line m b) sinks_same
+printed_same line source source' made made' a b sourced sinks_same same = grind (arith, printed_some, printed_sourced)

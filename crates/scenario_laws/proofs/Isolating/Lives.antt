@@ -1,22 +1,22 @@
 -- Two lives of one sink of which one has trains more that it ignored: they come to the same, and each call keeps that.
-use Rattle.std.proofs.Common.{ℕ, zero, suc, ◌≡◌, ◌+◌, ◌==◌, ◌∙◌, min, cond, false, List, [], ◌∷◌, ◌++◌, drop, length, Option, None, Some}
+use Rattle.std.proofs.Common.{ℕ, zero, suc, ◌≡◌, ◌+◌, ◌==◌, ◌∙◌, min, cond, false, List, [], ◌∷◌, ◌++◌, length, Option, None, Some, arith}
 use Rattle.std.proofs.Common.{refl, sym, ap, subst}
-use Rattle.std.specs.Prelude.{option_map, slice_get, unwrap_or}
+use Rattle.std.specs.Prelude.{unwrap_or}
 use Rattle.std.specs.Option.{option_or}
 use Rattle.std.proofs.lemmas.Bool.{false≢true}
 use Rattle.delegator_history.proofs.Citable.{none_change, sight_goes_on}
 use Rattle.delegator_history.specs.LastGiven.{last_given}
 use Rattle.delegator_history.specs.Notices.{changes}
 use Rattle.delegator_history.specs.Sights.{Sight}
-use Rattle.delegator_history.specs.States.{Step, done_by, sight_of, train_heard, written}
+use Rattle.delegator_history.specs.States.{Step, sight_of, train_heard, written}
 use Rattle.delegator_history.specs.Steps.{after, nothing}
-use Rattle.delegator_history.specs.Trains.{Brought, Setup, Train, brought_by, done_brought, heard, ignored, taken}
+use Rattle.delegator_history.specs.Trains.{Brought, Setup, Train, brought_by, done_brought}
 use Rattle.delegator_history.specs.Values.{value_at}
 use Rattle.sink_history.specs.Calls as links
 use Rattle.sink_history.specs.Calls.{Call, is_joined, joining_by, served_of, step_by, steps_of, with_step, writes, writes_waiting}
 use Rattle.sink_history.specs.Drains.{drained, read_out, repeated, served_out, told_out}
-use Rattle.sink_history.specs.Links.{Acts, acts_by, acts_of, language, made_all, notices_waiting, reads_waiting}
-use Rattle.assistant_machine.specs.Links.{reads_of, waiting_of}
+use Rattle.sink_history.specs.Links.{Acts, acts_of, made_all, notices_waiting, reads_waiting}
+use Rattle.assistant_machine.specs.Links.{waiting_of}
 use Rattle.sink_history.specs.Moves.{follows}
 
 -- ---- what two lives have alike
@@ -43,8 +43,7 @@ alike_then setup mtu a b c first second = record {
 
 pub waiting_same : (setup : Setup) (mtu : Option ℕ) (link : ℕ) (a b : List Call) → Alike setup mtu a b
     → writes_waiting link a ≡ writes_waiting link b
-waiting_same setup mtu link a b same =
-    ap (λ k. drop k (writes link a)) (same.served link) ∙ ap (drop (served_of link b)) (same.written link)
+waiting_same setup mtu link a b same = cc (same.served link, same.written link)
 
 -- ---- a call more
 
@@ -55,20 +54,14 @@ or_same (Some a) x y none same = refl
 
 sight_with : (setup : Setup) (more : Option Step) (xs ys : List Step) → sight_of setup xs ≡ sight_of setup ys
     → sight_of setup (with_step more xs) ≡ sight_of setup (with_step more ys)
-sight_with setup None xs ys same = same
-sight_with setup (Some step) xs ys same =
-    sight_goes_on setup step xs ∙ ap (λ sight. after (done_by setup sight step) sight) same ∙ sym (sight_goes_on setup step ys)
+sight_with setup more xs ys same = grind (arith, sight_goes_on)
 
 step_same : (setup : Setup) (mtu : Option ℕ) (call : Call) (a b : List Call) → Alike setup mtu a b → step_by call a ≡ step_by call b
-step_same setup mtu (links.served link) a b same =
-    ap (λ waiting. option_map written (slice_get waiting 0)) (waiting_same setup mtu link a b same)
-step_same setup mtu _ a b same = refl
+step_same setup mtu call a b same = grind (arith, waiting_same)
 
 sight_grows : (setup : Setup) (mtu : Option ℕ) (call : Call) (a b : List Call) → Alike setup mtu a b
     → sight_of setup (steps_of (call ∷ a)) ≡ sight_of setup (steps_of (call ∷ b))
-sight_grows setup mtu call a b same =
-    ap (λ more. sight_of setup (with_step more (steps_of a))) (step_same setup mtu call a b same)
-    ∙ sight_with setup (step_by call b) (steps_of a) (steps_of b) same.sight
+sight_grows setup mtu call a b same = cc (step_same setup mtu call a b same, sight_with setup (step_by call b) (steps_of a) (steps_of b) same.sight)
 
 written_grows : (link : ℕ) (call : Call) (a b : List Call) → writes link a ≡ writes link b → writes link (call ∷ a) ≡ writes link (call ∷ b)
 written_grows link (links.joined at) a b same = ap (λ ws. cond (at == link) [] ws) same
@@ -77,35 +70,16 @@ written_grows link _ a b same = same
 
 served_grows : (link : ℕ) (call : Call) (a b : List Call) → served_of link a ≡ served_of link b → writes link a ≡ writes link b
     → served_of link (call ∷ a) ≡ served_of link (call ∷ b)
-served_grows link (links.joined at) a b same writes_same = ap (λ k. cond (at == link) 0 k) same
-served_grows link (links.served at) a b same writes_same =
-    ap (λ k. cond (at == link) (min (k + 1) (length (writes link a))) k) same
-    ∙ ap (λ ws. cond (at == link) (min (served_of link b + 1) (length ws)) (served_of link b)) writes_same
-served_grows link _ a b same writes_same = same
+served_grows link call a b same writes_same = grind (arith, min)
 
 changed_same : (setup : Setup) (before now before' now' : Sight) (acts acts' : Acts) → before ≡ before' → now ≡ now' → acts ≡ acts'
     → made_all now (changes setup.slots before now) acts ≡ made_all now' (changes setup.slots before' now') acts'
-changed_same setup before now before' now' acts acts' p q r =
-    ap (λ x. made_all now (changes setup.slots x now) acts) p
-    ∙ ap (λ x. made_all x (changes setup.slots before' x) acts) q
-    ∙ ap (λ x. made_all now' (changes setup.slots before' now') x) r
+changed_same setup before now before' now' acts acts' p q r = cc (p, q, r)
 
 acts_grow : (setup : Setup) (mtu : Option ℕ) (link : ℕ) (call : Call) (a b : List Call) → Alike setup mtu a b
     → sight_of setup (steps_of (call ∷ a)) ≡ sight_of setup (steps_of (call ∷ b))
     → acts_of setup mtu link (call ∷ a) ≡ acts_of setup mtu link (call ∷ b)
-acts_grow setup mtu link (links.stepped step) a b same now =
-    changed_same setup (sight_of setup (steps_of a)) (sight_of setup (steps_of (links.stepped step ∷ a))) (sight_of setup (steps_of b))
-    (sight_of setup (steps_of (links.stepped step ∷ b))) (acts_of setup mtu link a) (acts_of setup mtu link b) same.sight now
-    (same.acts link)
-acts_grow setup mtu link (links.served at) a b same now =
-    changed_same setup (sight_of setup (steps_of a)) (sight_of setup (steps_of (links.served at ∷ a))) (sight_of setup (steps_of b))
-    (sight_of setup (steps_of (links.served at ∷ b))) (acts_of setup mtu link a) (acts_of setup mtu link b) same.sight now (same.acts link)
-acts_grow setup mtu link (links.joined at) a b same now = ap (acts_by setup mtu link (links.joined at) [] []) (same.acts link)
-acts_grow setup mtu link (links.told at) a b same now = ap (acts_by setup mtu link (links.told at) [] []) (same.acts link)
-acts_grow setup mtu link (links.read at) a b same now = ap (acts_by setup mtu link (links.read at) [] []) (same.acts link)
-acts_grow setup mtu link (links.forged slot octets) a b same now =
-    ap (acts_by setup mtu link (links.forged slot octets) [] []) (same.acts link)
-acts_grow setup mtu link _ a b same now = same.acts link
+acts_grow setup mtu link call a b same now = grind (arith, changed_same)
 
 pub grows : (setup : Setup) (mtu : Option ℕ) (call : Call) (a b : List Call) → Alike setup mtu a b → Alike setup mtu (call ∷ a) (call ∷ b)
 grows setup mtu call a b same = record {
@@ -136,8 +110,7 @@ notices_same setup mtu link a b same = ap waiting_of (same.acts link)
 
 pub reads_same : (setup : Setup) (mtu : Option ℕ) (link : ℕ) (a b : List Call) → Alike setup mtu a b
     → reads_waiting setup mtu link a ≡ reads_waiting setup mtu link b
-reads_same setup mtu link a b same =
-    ap (reads_of (language mtu) setup.slots) (same.acts link)
+reads_same setup mtu link a b same = cc (same.acts link)
 
 pub served_grow : (setup : Setup) (mtu : Option ℕ) (link : ℕ) (a b : List Call) → Alike setup mtu a b
     → Alike setup mtu (served_out link a) (served_out link b)
@@ -159,16 +132,12 @@ read_grow setup mtu link a b same =
 
 pub drains : (setup : Setup) (mtu : Option ℕ) (link : ℕ) (a b : List Call) → Alike setup mtu a b
     → Alike setup mtu (drained setup mtu link a) (drained setup mtu link b)
-drains setup mtu link a b same =
-    read_grow setup mtu link (told_out setup mtu link (served_out link a)) (told_out setup mtu link (served_out link b))
-    (told_grow setup mtu link (served_out link a) (served_out link b) (served_grow setup mtu link a b same))
+drains setup mtu link a b same = search (read_grow, told_grow, served_grow)
 
 -- ---- a train that is ignored
 
 pub done_nothing : (brought : Brought) → follows brought ≡ false → done_brought brought ≡ nothing
-done_nothing (ignored answer) not = refl
-done_nothing (heard slot answer encrypted) not = absurd (false≢true (sym not))
-done_nothing (taken slot bits encrypted joining) not = absurd (false≢true (sym not))
+done_nothing brought not = grind (arith, false≢true)
 
 pub ignores : (setup : Setup) (mtu : Option ℕ) (train : Train) (a : List Call)
     → follows (brought_by setup (sight_of setup (steps_of a)) train) ≡ false

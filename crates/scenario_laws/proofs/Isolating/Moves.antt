@@ -1,6 +1,6 @@
 -- What a line makes of two lives of the sink that it names which come to the same: of the lives, of the receivers, and of the source
 -- that the sink is of.
-use Rattle.std.proofs.Common.{ℕ, ◌≡◌, ◌==◌, ◌∙◌, cond, Bool, true, false, List, [], ◌∷◌, Option, None, Some, refl, ap, subst}
+use Rattle.std.proofs.Common.{ℕ, ◌≡◌, ◌==◌, ◌∙◌, cond, Bool, true, false, List, [], ◌∷◌, Option, None, Some, refl, ap, subst, arith}
 use Rattle.bass_operations.specs.declared.operation.Operation.TheVariants as operations
 use Rattle.bass_operations.specs.Layout.{spelling}
 use Rattle.delegator_machine.specs.Groups.{with_step}
@@ -84,11 +84,7 @@ lived_some source _ made a b same = same
 pub lives_grow : (line : Step) (source source' : Source) → Sourced line source source' → (made : Option Settings) (a b : List Call)
     → LivesAlike made a b
     → LivesAlike made (lived_by source line made a) (lived_by source' line made b)
-lives_grow line source source' sourced None a b same = tt
-lives_grow line source source' sourced (Some made) a b same =
-    subst (λ calls. Alike made.setup made.mtu (lived_by source line (Some made) a) calls)
-    (lived_sourced line source source' sourced (Some made) b)
-    (lived_some source line made a b same)
+lives_grow line source source' sourced made a b same = grind (arith, lived_sourced, lived_some)
 
 lives_if : (hit : Bool) (made : Option Settings) (a b a' b' : List Call) → LivesAlike made a b → LivesAlike made a' b'
     → LivesAlike made (cond hit a' a) (cond hit b' b)
@@ -98,15 +94,11 @@ lives_if false made a b a' b' before later = before
 named_lives : (n : ℕ) (named : Option ℕ) (line : Step) (earlier others : List Step) (made : Option Settings) (a b : List Call)
     → Sourced line (source_at earlier) (source_at others) → LivesAlike made a b
     → LivesAlike made (lived_at the_world n named line earlier made a) (lived_at the_world n named line others made b)
-named_lives n None line earlier others made a b sourced same = same
-named_lives n (Some sink) line earlier others made a b sourced same =
-    lives_if (sink == n) made a b (lived_by (source_at earlier) line made a) (lived_by (source_at others) line made b) same
-    (lives_grow line (source_at earlier) (source_at others) sourced made a b same)
+named_lives n named line earlier others made a b sourced same = grind (arith, lives_if, lives_grow)
 
 born_lives : (hit : Bool) (new : Settings) (mtu : Option ℕ) (made : Option Settings) (a b : List Call) → LivesAlike made a b
     → LivesAlike (cond hit (Some new) made) (cond hit (born mtu) a) (cond hit (born mtu) b)
-born_lives true new mtu made a b same = alike_itself new.setup new.mtu (born mtu)
-born_lives false new mtu made a b same = same
+born_lives hit new mtu made a b same = grind (arith, alike_itself)
 
 gone_lives : (hit : Bool) (made : Option Settings) (a b : List Call) → LivesAlike made a b
     → LivesAlike (cond hit None made) (cond hit [] a) (cond hit [] b)
@@ -144,13 +136,10 @@ received_same : (line : Step) (source source' : Source) → Sourced line source 
     → (made : Option Settings) (a a' b b' : List Call) (calls calls' : List sinks.Call)
     → LivesAlike made a b → LivesAlike made a' b' → calls ≡ calls'
     → received_by source line made a a' calls ≡ received_by source' line made b b' calls'
-received_same line source source' sourced None a a' b b' calls calls' before later took = took
-received_same line source source' sourced (Some made) a a' b b' calls calls' before later took =
-    received_some line source source' sourced made a a' b b' calls calls' before later took
+received_same line source source' sourced made a a' b b' calls calls' before later took = grind (arith, received_some)
 
 pub cond_same : {A : Type 0} (hit : Bool) (x x' y y' : A) → x ≡ x' → y ≡ y' → cond hit x y ≡ cond hit x' y'
-cond_same true x x' y y' then otherwise = then
-cond_same false x x' y y' then otherwise = otherwise
+cond_same hit x x' y y' then otherwise = cc
 
 -- over two lists of steps
 pub moved_same : (n : ℕ) (named : Option ℕ) (line : Step) (earlier others : List Step) (calls calls' : List sinks.Call)
@@ -158,14 +147,7 @@ pub moved_same : (n : ℕ) (named : Option ℕ) (line : Step) (earlier others : 
     → LivesAlike (made_of n earlier) (life n earlier) (life n others)
     → LivesAlike (made_of n earlier) (life n (line ∷ earlier)) (life n (line ∷ others)) → calls ≡ calls'
     → moved n named line earlier calls ≡ moved n named line others calls'
-moved_same n None line earlier others calls calls' sourced sink_same before later took = took
-moved_same n (Some sink) line earlier others calls calls' sourced sink_same before later took =
-    cond_same (sink == n) (received_by (source_at earlier) line (made_of n earlier) (life n earlier) (life n (line ∷ earlier)) calls)
-    (received_by (source_at others) line (made_of n others) (life n others) (life n (line ∷ others)) calls') calls calls'
-    (received_same line (source_at earlier) (source_at others) sourced (made_of n earlier) (life n earlier) (life n (line ∷ earlier))
-    (life n others) (life n (line ∷ others))
-    calls calls' before later took
-    ∙ ap (λ made. received_by (source_at others) line made (life n others) (life n (line ∷ others)) calls') sink_same) took
+moved_same n named line earlier others calls calls' sourced sink_same before later took = grind (arith, cond_same, received_same)
 
 -- ---- the source that the sink is of
 

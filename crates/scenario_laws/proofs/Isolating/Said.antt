@@ -1,6 +1,6 @@
 -- What is said of a source, looked back for: eight facts, of which all else that sinks and lines take of it are functions.
 use Rattle.std.proofs.Common.{ℕ, zero, suc, ◌≡◌, ◌-◌, ◌*◌, ◌%◌, ◌^◌, ◌==◌, ◌||◌, ◌&&◌, ◌∙◌, not, cond, Bool, true, false, List, [], ◌∷◌}
-use Rattle.std.proofs.Common.{Option, None, Some, refl, sym, ap}
+use Rattle.std.proofs.Common.{Option, None, Some, refl, ap}
 use Rattle.std.specs.Prelude.{unwrap_or}
 use Rattle.std.specs.Option.{option_or}
 use Rattle.delegator_history.specs.Octets.{train_of}
@@ -181,8 +181,7 @@ source_same made others chosen same = ap (λ s. source_in s (said_of (chosen_ste
 -- where it is this one, of which both say the same
 pub chosen_said : (s : ℕ) (made others : List Step) → chosen_of made ≡ s → chosen_of made ≡ chosen_of others
     → said_of (steps_of_source s made) ≡ said_of (steps_of_source s others) → said_of (chosen_steps made) ≡ said_of (chosen_steps others)
-chosen_said s made others is chosen same =
-    ap (λ t. said_of (steps_of_source t made)) is ∙ same ∙ ap (λ t. said_of (steps_of_source t others)) (sym is ∙ chosen)
+chosen_said s made others is chosen same = cc (is, same, is, chosen)
 
 -- ---- a step more
 
@@ -208,8 +207,7 @@ stays_if false step own same = refl
 -- that says nothing of a source
 pub said_stays : (s : ℕ) (step : Step) (made : List Step) → ((said : Said) → said_after step said ≡ said)
     → said_of (steps_of_source s (step ∷ made)) ≡ said_of (steps_of_source s made)
-said_stays s step made nothing =
-    stays_if (is_of_source s made step) step (steps_of_source s made) (nothing (said_of (steps_of_source s made)))
+said_stays s step made nothing = cc (stays_if (is_of_source s made step) step (steps_of_source s made) (nothing (said_of (steps_of_source s made))))
 
 -- that means another source
 pub said_elsewhere : (s : ℕ) (step : Step) (made : List Step) → is_of_source s made step ≡ false

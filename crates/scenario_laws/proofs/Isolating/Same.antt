@@ -47,5 +47,4 @@ own_alike airs s n made others is same = chosen_said s made others is (chosen_al
 
 pub source_alike : (airs : Airs) (s n : ℕ) (made others : List Step) → chosen_of made ≡ s → Same airs s n made others
     → source_at made ≡ source_at others
-source_alike airs s n made others is same =
-    source_same made others (chosen_alike airs s n made others same) (own_alike airs s n made others is same)
+source_alike airs s n made others is same = search (source_same, chosen_alike, own_alike)

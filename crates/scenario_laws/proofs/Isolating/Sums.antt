@@ -34,16 +34,11 @@ same_some a b e = cc
 made_hits : (sink m k count b : ℕ) (bm bk : Option ℕ) (hm hk : Bool) → (bm ≡ Some b → b < count) → (bk ≡ Some b → b < count)
     → (bm ≡ Some b → bk ≡ Some b → m ≡ k) → (sink == m) ≡ hm → (sink == k) ≡ hk → cond hm (Some count) bm ≡ Some b
     → cond hk (Some count) bk ≡ Some b → m ≡ k
-made_hits sink m k count b bm bk true true older older' before p q em ek = sym (eqb-true sink m p) ∙ eqb-true sink k q
-made_hits sink m k count b bm bk true false older older' before p q em ek = absurd (omega (arith, same_some count b em, older' ek))
-made_hits sink m k count b bm bk false true older older' before p q em ek = absurd (omega (arith, same_some count b ek, older em))
-made_hits sink m k count b bm bk false false older older' before p q em ek = before em ek
+made_hits sink m k count b bm bk hm hk older older' before p q em ek = grind (arith, eqb-true, same_some)
 
 gone_hits : (m k b : ℕ) (bm bk : Option ℕ) (hm hk : Bool) → (bm ≡ Some b → bk ≡ Some b → m ≡ k) → cond hm None bm ≡ Some b
     → cond hk None bk ≡ Some b → m ≡ k
-gone_hits m k b bm bk true hk before em ek = absurd (none-some b em)
-gone_hits m k b bm bk false true before em ek = absurd (none-some b ek)
-gone_hits m k b bm bk false false before em ek = before em ek
+gone_hits m k b bm bk hm hk before em ek = grind (arith, none-some)
 
 one_box : (made : List Step) (m k b : ℕ) → box_of m made ≡ Some b → box_of k made ≡ Some b → m ≡ k
 one_box [] m k b em ek = absurd (none-some b em)
@@ -69,8 +64,7 @@ past_octets (lost bis time) units = refl
 
 one_octets : (hit : Bool) (unit : SinkUnit) (units : List SinkUnit)
     → onto_valid hit unit.unit (octets_in (map (λ u. u.unit) units)) ≡ octets_in (map (λ u. u.unit) (cond hit (unit ∷ units) units))
-one_octets true unit units = onto_octets unit.unit (map (λ u. u.unit) units)
-one_octets false unit units = past_octets unit.unit (map (λ u. u.unit) units)
+one_octets hit unit units = grind (arith, onto_octets, past_octets)
 
 its_octets : (b n : ℕ) (units : List SinkUnit) → FitsBox b n units → valid_for b units ≡ octets_in (units_by n units)
 its_octets b n [] fits = refl
@@ -157,21 +151,10 @@ none_one made b t event m calls false box later is = refl
 
 none_at : (airs : Airs) (made : List Step) (b t : ℕ) (last_open : Option ℕ) → sinks_made made ≤ b
     → valid_for b (closing_at airs t made last_open) ≡ []
-none_at airs made b t None later = refl
-none_at airs made b t (Some event) later =
-    none_flat b (λ m. closing_by t event m (sink_calls airs m made) (source_of m made) (box_of m made)) sink_numbers
-    (λ m. none_one made b t event m (sink_calls airs m made) (is_of t (source_of m made)) (box_of m made) later refl)
+none_at airs made b t last_open later = grind (arith, none_flat, none_one)
 
 none_step : (airs : Airs) (made : List Step) (b : ℕ) (step : Step) → sinks_made made ≤ b → valid_for b (handed_by airs made step) ≡ []
-none_step airs made b steps.Event later = none_at airs made b (chosen_of made) (open_event (steps_of_source (chosen_of made) made)) later
-none_step airs made b steps.Stop later = none_at airs made b (chosen_of made) (open_event (steps_of_source (chosen_of made) made)) later
-none_step airs made b (steps.Terminate reason) later =
-    none_at airs made b (chosen_of made) (open_event (steps_of_source (chosen_of made) made)) later
-none_step airs made b steps.End later =
-    valid_append b (closing airs 0 made) (closing airs 1 made)
-    ∙ ap (λ us. us ++ valid_for b (closing airs 1 made)) (none_at airs made b 0 (open_event (steps_of_source 0 made)) later)
-    ∙ none_at airs made b 1 (open_event (steps_of_source 1 made)) later
-none_step airs made b _ later = refl
+none_step airs made b step later = grind (arith, none_at, valid_append)
 
 more_made : (step : Step) (count : ℕ) → count ≤ sinks_made_by step count
 more_made (steps.Sink sink streams slots mtu) count = omega arith
@@ -219,13 +202,7 @@ made_took : (hit : Bool) (airs : Airs) (n sink streams slots : ℕ) (mtu : Optio
     → cond hit (Some (sinks_made others)) (box_of n others) ≡ Some other
     → valid_for box (handed_up airs (steps.Sink sink streams slots mtu ∷ made))
     ≡ valid_for other (handed_up airs (steps.Sink sink streams slots mtu ∷ others))
-made_took true airs n sink streams slots mtu made others took box other its its' =
-    let newer : sinks_made made ≤ box = omega (arith, same_some (sinks_made made) box its) in
-    let newer' : sinks_made others ≤ other = omega (arith, same_some (sinks_made others) other its') in
-    valid_append box (handed_up airs made) [] ∙ ap (λ us. us ++ []) (none_yet airs made box newer)
-    ∙ sym (valid_append other (handed_up airs others) [] ∙ ap (λ us. us ++ []) (none_yet airs others other newer'))
-made_took false airs n sink streams slots mtu made others took box other its its' =
-    stays_took airs n (steps.Sink sink streams slots mtu) made others took refl box other its its'
+made_took hit airs n sink streams slots mtu made others took box other its its' = grind (arith, same_some, valid_append, none_yet, stays_took)
 
 gone_took : (hit : Bool) (airs : Airs) (n sink : ℕ) (made others : List Step) → TookAlike airs n made others
     → (box other : ℕ) → cond hit None (box_of n made) ≡ Some box → cond hit None (box_of n others) ≡ Some other

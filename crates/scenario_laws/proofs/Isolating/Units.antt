@@ -1,13 +1,12 @@
 -- The units that a sink hands up as an event is closed: of the source that it is of alone, whatever other sinks do.
-use Rattle.std.proofs.Common.{ℕ, ◌≡◌, ◌==◌, ◌∙◌, cond, Bool, true, false, List, [], ◌∷◌, ◌++◌, map, Option, None, Some, is_some, refl, sym}
+use Rattle.std.proofs.Common.{ℕ, ◌≡◌, ◌==◌, ◌∙◌, cond, Bool, false, List, [], ◌∷◌, ◌++◌, map, Option, None, Some, is_some, refl, sym, arith}
 use Rattle.std.proofs.Common.{ap, inl, inr}
-use Rattle.std.specs.List.{filter, flat_map}
+use Rattle.std.specs.List.{flat_map}
 use Rattle.std.proofs.lemmas.Bool.{cases_eq, eq-eqb, false≢true, ne_eqb}
 use Rattle.std.proofs.lemmas.List.{map-append}
 use Rattle.std.proofs.lemmas.List.Elements.{filter-append}
 use Rattle.unit_outlets.specs.Handed.{Handed}
 use Rattle.group_sink.specs.Calls.{Call}
-use Rattle.group_sink.specs.Handing.{handed_at}
 use Rattle.scenario_text.specs.declared.step.Step.{Step}
 use Rattle.scenario_history.specs.Boxes.{SinkUnit, box_of, closing, closing_at, closing_both, closing_by, closing_in, sink_numbers}
 use Rattle.scenario_history.specs.Sinks.{is_of, sink_calls, source_of}
@@ -22,10 +21,7 @@ use Rattle.scenario_laws.proofs.Isolating.Same.{Same}
 -- ---- lists
 
 pub units_append : (n : ℕ) (us vs : List SinkUnit) → units_by n (us ++ vs) ≡ units_by n us ++ units_by n vs
-units_append n us vs =
-    ap (map (λ (unit : SinkUnit). unit.unit)) (filter-append (λ (unit : SinkUnit). unit.sink == n) us vs)
-    ∙ map-append (λ (unit : SinkUnit). unit.unit) (filter (λ (unit : SinkUnit). unit.sink == n) us)
-    (filter (λ (unit : SinkUnit). unit.sink == n) vs)
+units_append n us vs = search (filter-append, map-append)
 
 units_flat : (n : ℕ) (f : ℕ → List SinkUnit) (ms : List ℕ) → units_by n (flat_map f ms) ≡ flat_map (λ m. units_by n (f m)) ms
 units_flat n f [] = refl
@@ -49,18 +45,11 @@ other_units t n m box (unit ∷ units) other = rw other (other_units t n m box u
 
 other_in : (its : Bool) (t event n m : ℕ) (calls : List Call) (box : Option ℕ) → (m == n) ≡ false
     → units_by n (cond its (closing_in t event m calls box) []) ≡ []
-other_in true t event n m calls None other = refl
-other_in true t event n m calls (Some box) other = other_units t n m box (handed_at calls event) other
-other_in false t event n m calls box other = refl
+other_in its t event n m calls box other = grind (arith, other_units)
 
 boxes_in : (its : Bool) (t event n : ℕ) (calls : List Call) (box box' : Option ℕ) → is_some box ≡ is_some box'
     → units_by n (cond its (closing_in t event n calls box) []) ≡ units_by n (cond its (closing_in t event n calls box') [])
-boxes_in true t event n calls None None same = refl
-boxes_in true t event n calls None (Some box') same = absurd (false≢true same)
-boxes_in true t event n calls (Some box) None same = absurd (false≢true (sym same))
-boxes_in true t event n calls (Some box) (Some box') same =
-    own_units t n box (handed_at calls event) ∙ sym (own_units t n box' (handed_at calls event))
-boxes_in false t event n calls box box' same = refl
+boxes_in its t event n calls box box' same = grind (arith, false≢true, own_units)
 
 -- ---- all sinks
 
@@ -112,10 +101,7 @@ not_its airs t event n made apart m = elim (cases_eq m n) [
 -- a sink that isn't of the source hands up nothing
 pub closing_none : (airs : Airs) (t n : ℕ) (last_open : Option ℕ) (made : List Step) → is_of t (source_of n made) ≡ false
     → units_by n (closing_at airs t made last_open) ≡ []
-closing_none airs t n None made apart = refl
-closing_none airs t n (Some event) made apart =
-    units_flat n (closes airs t event made) sink_numbers
-    ∙ flat_none (λ m. units_by n (closes airs t event made m)) sink_numbers (not_its airs t event n made apart)
+closing_none airs t n last_open made apart = grind (arith, units_flat, flat_none, not_its)
 
 -- ---- of any source
 
@@ -124,9 +110,7 @@ hands_alike airs s n made others same = record { calls = same.calls; source = sa
 
 pub opens_alike : (airs : Airs) (s n t : ℕ) (made others : List Step) → t ≡ s → Same airs s n made others
     → open_event (steps_of_source t made) ≡ open_event (steps_of_source t others)
-opens_alike airs s n t made others its same =
-    ap (λ k. open_event (steps_of_source k made)) its ∙ open_same (steps_of_source s made) (steps_of_source s others) same.own
-    ∙ sym (ap (λ k. open_event (steps_of_source k others)) its)
+opens_alike airs s n t made others its same = cc (its, open_same (steps_of_source s made) (steps_of_source s others) same.own, its)
 
 pub closing_alike : (airs : Airs) (s n t : ℕ) (made others : List Step) → Same airs s n made others
     → units_by n (closing airs t made) ≡ units_by n (closing airs t others)

@@ -1,8 +1,8 @@
 -- What the relay of a sink offered is the end of what the sink handed up since it was made: while the relay stands, the sink lives.
-use Rattle.std.proofs.Common.{ℕ, ◌≡◌, ◌==◌, ◌&&◌, ◌∙◌, cond, Bool, true, false, List, [], ◌∷◌, ◌++◌, map, Option, None, Some}
+use Rattle.std.proofs.Common.{ℕ, ◌≡◌, ◌==◌, ◌∙◌, cond, Bool, true, false, List, [], ◌∷◌, ◌++◌, Option, None, Some, arith}
 use Rattle.std.proofs.Common.{is_some, refl, sym, ap, subst, append_assoc, inl, inr}
 use Rattle.std.specs.Prelude.{unwrap_or}
-use Rattle.std.specs.List.{Contains, filter}
+use Rattle.std.specs.List.{Contains}
 use Rattle.std.specs.Option.{option_or}
 use Rattle.std.proofs.lemmas.Bool.{eq-eqb, eqb-true, false_from_ne_true, false≢true}
 use Rattle.std.proofs.lemmas.List.{append-nil, map-append}
@@ -23,7 +23,7 @@ use Rattle.scenario_history.specs.Steps.{last_given, sinks_made}
 use Rattle.scenario_laws.specs.Laws.{handed_since, is_made, of_sink}
 use Rattle.scenario_laws.proofs.Gifts.Citable.{OneStands, contains_cases, first_free, had_happened, happens_legally, has_had, is_free}
 use Rattle.scenario_laws.proofs.Gifts.Citable.{left_by_gifts, line_passes, not_yet, one_stands}
-use Rattle.scenario_history.specs.Gifts.{Offer, after_offer, after_offers, dropped_for, happened, offers_before, units_on, valid_on}
+use Rattle.scenario_history.specs.Gifts.{Offer, after_offer, after_offers, dropped_for, happened, offers_before, units_on}
 use Rattle.scenario_history.specs.Gifts.{with_gift_unless, with_gifts}
 use Rattle.scenario_laws.specs.Gifts.Laws.{handed_on, is_route, offered}
 use Rattle.scenario_laws.specs.Gifts.Legal.{AreLegal, AreSaidLegally}
@@ -45,8 +45,7 @@ made_boxed false n sink bis to later route box same living before is = before is
 dropped_boxed : (hit : Bool) (later : Option (Option Route)) (route : Route) (box : Option ℕ)
     → (unwrap_or later None ≡ Some route → is_some box ≡ true)
     → unwrap_or (option_or (cond hit (Some None) None) later) None ≡ Some route → is_some (cond hit None box) ≡ true
-dropped_boxed true later route box before is = absurd (none-some route is)
-dropped_boxed false later route box before is = before is
+dropped_boxed hit later route box before is = grind (arith, none-some)
 
 boxed : (airs : Airs) (boxes n : ℕ) (route : Route) (made : List Step) → AreLegal airs boxes made → relay_of n made ≡ Some route
     → is_some (box_of n made) ≡ true
@@ -71,11 +70,7 @@ unboxed airs boxes made sink streams slots mtu none =
 -- a sink that lives isn't made
 made_not : (airs : Airs) (boxes n : ℕ) (made gifted : List Step) (step : Step) → line_refusal airs boxes made step ≡ None
     → is_some (box_of n made) ≡ true → is_made n gifted step ≡ false
-made_not airs boxes n made gifted (steps.Sink sink streams slots mtu) none living =
-    let free = unboxed airs boxes made sink streams slots mtu (line_passes airs boxes made (steps.Sink sink streams slots mtu) none) in
-    false_from_ne_true (sink == n)
-    (λ its. false≢true (sym free ∙ ap (λ k. is_some (box_of k made)) (eqb-true sink n its) ∙ living))
-made_not airs boxes n made gifted step none living = refl
+made_not airs boxes n made gifted step none living = grind (arith, unboxed, line_passes, false_from_ne_true, false≢true, eqb-true)
 
 -- ---- what it handed up
 
@@ -84,9 +79,7 @@ since airs n made = handed_since (is_made n) airs made
 
 unless_since : (airs : Airs) (n : ℕ) (reason : Option Refusal) (offer : Offer) (made : List Step)
     → since airs n (with_gift_unless reason offer made) ≡ since airs n made
-unless_since airs n None offer made = append-nil ((since airs n made ++ []) ++ []) ∙ append-nil (since airs n made ++ [])
-    ∙ append-nil (since airs n made)
-unless_since airs n (Some reason) offer made = refl
+unless_since airs n reason offer made = grind (arith, append-nil)
 
 offers_since : (airs : Airs) (n : ℕ) (offers : List Offer) (made : List Step)
     → since airs n (after_offers airs offers made) ≡ since airs n made
@@ -98,12 +91,7 @@ abbrev own_units : ℕ → ℕ → List SinkUnit → List AudioUnit
 own_units n bis units = units_on bis (of_sink 0 n units)
 
 own_append : (n bis : ℕ) (one other : List SinkUnit) → own_units n bis (one ++ other) ≡ own_units n bis one ++ own_units n bis other
-own_append n bis one other =
-    let mine = λ (unit : SinkUnit). (unit.source == 0) && (unit.sink == n) in
-    let unit = λ (unit : SinkUnit). unit.unit in
-    ap (λ l. units_on bis (map unit l)) (filter-append mine one other)
-    ∙ ap (units_on bis) (map-append unit (filter mine one) (filter mine other))
-    ∙ flat_map-append (valid_on bis) (of_sink 0 n one) (of_sink 0 n other)
+own_append n bis one other = search (filter-append, map-append, flat_map-append)
 
 step_since : (made_now : Bool) (n bis : ℕ) (before now : List SinkUnit) → made_now ≡ false
     → own_units n bis (cond made_now [] (before ++ now)) ≡ own_units n bis before ++ own_units n bis now
@@ -135,13 +123,11 @@ goes_on airs boxes n bis to step earlier route legal is goes ends =
 
 still_if : (hit : Bool) (made route : Route) (later : Option (Option Route)) → (hit ≡ true → made.to ≡ route.to → ⊥)
     → unwrap_or (option_or (cond hit (Some (Some made)) None) later) None ≡ Some route → unwrap_or later None ≡ Some route
-still_if true made route later other is = absurd (other refl (ap (λ (r : Route). r.to) (same_Some made route is)))
-still_if false made route later other is = is
+still_if hit made route later other is = grind (arith, same_Some)
 
 dropped_not : (hit : Bool) (route : Route) (later : Option (Option Route))
     → unwrap_or (option_or (cond hit (Some None) None) later) None ≡ Some route → unwrap_or later None ≡ Some route
-dropped_not true route later is = absurd (none-some route is)
-dropped_not false route later is = is
+dropped_not hit route later is = grind (arith, none-some)
 
 -- a relay to a stream that had one stood before
 stood : (airs : Airs) (boxes n to : ℕ) (made gifted : List Step) (step : Step) (route : Route) → line_refusal airs boxes made step ≡ None

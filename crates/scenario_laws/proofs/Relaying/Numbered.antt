@@ -94,8 +94,7 @@ zip_long R (number ∷ numbers) (x ∷ xs) all = ap suc (zip_long R numbers xs a
 
 of_given : (setup : Setup) (calls : List Call) (bis number : ℕ) (entry : Handed) (unit : AudioUnit) → IsGiven setup calls bis number entry
     → shown entry ≡ Some unit → slice_get (given bis calls) number ≡ Some unit.octets
-of_given setup calls bis number entry unit its is =
-    its.accepted ∙ ap (λ (u : AudioUnit). Some u.octets) (same_Some _ unit (sym (ap shown its.unit_is) ∙ is))
+of_given setup calls bis number entry unit its is = cc (its.accepted, same_Some _ unit (sym (ap shown its.unit_is) ∙ is))
 
 pub numbered_slots : (setup : Setup) (calls : List Call) (bis : ℕ) (entries : List Handed)
     → InSourceOrder setup calls bis (valid_in (of_stream bis entries)) → Numbered (given bis calls) (units_on bis entries)
@@ -118,10 +117,7 @@ given_if : (hit : Bool) (time : ℕ) (octets : List ℕ) (calls : List FramedCal
     → map (λ (unit : AudioUnit). unit.octets) (accepted calls) ≡ before
     → map (λ (unit : AudioUnit). unit.octets) (accepted (cond hit (accept time octets ∷ calls) calls))
     ≡ cond hit (before ++ octets ∷ []) before
-given_if true time octets calls before same =
-    map-append (λ (unit : AudioUnit). unit.octets) (accepted calls) (record { time = time; octets = octets } ∷ [])
-    ∙ ap (λ l. l ++ octets ∷ []) same
-given_if false time octets calls before same = same
+given_if hit time octets calls before same = grind (arith, map-append)
 
 given_units : (setup : Setup) (bis : ℕ) (calls : List Call)
     → map (λ (unit : AudioUnit). unit.octets) (accepted (framed_calls setup bis calls)) ≡ given bis calls

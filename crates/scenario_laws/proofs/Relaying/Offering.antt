@@ -72,22 +72,18 @@ abbrev Extends : List (List ℕ) → List (List ℕ) → Type 0
 Extends one other = (k : ℕ) → (octets : List ℕ) → slice_get one k ≡ Some octets → slice_get other k ≡ Some octets
 
 get_front : (xs ys : List (List ℕ)) → Extends xs (xs ++ ys)
-get_front [] ys k octets is = absurd (none-some octets is)
-get_front (x ∷ xs) ys zero octets is = is
 get_front (x ∷ xs) ys (suc k) octets is = get_front xs ys k octets is
+get_front xs ys k octets is = search (none-some)
 
 unit_extends : (hit : Bool) (octets : List ℕ) (units : List (List ℕ)) → Extends units (cond hit (units ++ octets ∷ []) units)
-unit_extends true octets units = get_front units (octets ∷ [])
-unit_extends false octets units = λ k unit is. is
+unit_extends hit octets units = grind (arith, get_front)
 
 step_extends : (bis : ℕ) (step : Step) (own : List Step) → Extends (given bis (source_calls own)) (given bis (source_calls (step ∷ own)))
-step_extends bis (steps.Unit stream time octets) own = unit_extends (stream == bis) octets (given bis (source_calls own))
-step_extends bis step own = λ k unit is. is
+step_extends bis step own = grind (arith, unit_extends)
 
 own_extends : (mine : Bool) (bis : ℕ) (step : Step) (own : List Step)
     → Extends (given bis (source_calls own)) (given bis (source_calls (cond mine (step ∷ own) own)))
-own_extends true bis step own = step_extends bis step own
-own_extends false bis step own = λ k unit is. is
+own_extends mine bis step own = grind (arith, step_extends)
 
 numbered_more : (one other : List (List ℕ)) (units : List AudioUnit) → Extends one other → Numbered one units → Numbered other units
 numbered_more one other units extends numbered = record {
@@ -104,10 +100,7 @@ either_given n step none = refl
 
 given_if : (begins one other : Bool) (rest others : Bool) → (one ≡ false → other ≡ false) → (rest ≡ false → others ≡ false)
     → cond begins one (one || rest) ≡ false → cond begins other (other || others) ≡ false
-given_if true one other rest others now before none = now none
-given_if false one other rest others now before none =
-    let parts = or_parts one rest none in
-    ap (λ b. b || others) (now parts.0) ∙ before parts.1
+given_if begins one other rest others now before none = grind (arith, or_parts)
 
 -- no train was given to it by its octets
 pub ungiven : (n : ℕ) (made : List Step) → injected_since (is_made n) n made ≡ false → given_since_made n made ≡ false
@@ -129,8 +122,7 @@ injected_offers airs n (offer ∷ offers) made =
     injected_offers airs n offers (after_offer airs offer made) ∙ injected_unless n (dropped_for airs offer made) offer made
 
 made_alike : (n : ℕ) (one other : List Step) (step : Step) → is_made n one step ≡ is_made n other step
-made_alike n one other (steps.Sink sink streams slots mtu) = refl
-made_alike n one other step = refl
+made_alike n one other step = cc
 
 injected_happened : (airs : Airs) (n : ℕ) (said : List Step)
     → injected_since (is_made n) n (happened airs said) ≡ injected_since (is_made n) n said
@@ -166,17 +158,12 @@ closes_alike one other step same = refl
 -- it leaves the relays
 close_relays : (n : ℕ) (said gifted : List Step) (step : Step) → closes_first said step ≡ true
     → relay_of n (step ∷ gifted) ≡ relay_of n gifted
-close_relays n said gifted (steps.Relay sink from into) is = absurd (false≢true is)
-close_relays n said gifted (steps.Drop sink) is = absurd (false≢true is)
-close_relays n said gifted step is = refl
+close_relays n said gifted step is = grind (arith, false≢true)
 
 -- and it injects nothing
 close_injects : (n : ℕ) (said gifted : List Step) (step : Step) → closes_first said step ≡ true
     → injected_since (is_made n) n (step ∷ gifted) ≡ injected_since (is_made n) n gifted
-close_injects n said gifted (steps.Sink sink streams slots mtu) is = absurd (false≢true is)
-close_injects n said gifted (steps.Inject sink back bis subevent octets) is = absurd (false≢true is)
-close_injects n said gifted (steps.Train sink time ext adv acad) is = absurd (false≢true is)
-close_injects n said gifted step is = refl
+close_injects n said gifted step is = grind (arith, false≢true)
 
 -- ---- what it handed up
 
@@ -187,8 +174,7 @@ framing_by step own ranged before = before
 
 framing_if : (mine : Bool) (step : Step) (own : List Step) → IsInRange step → (setup_of own).info.framing ≤ 1
     → (setup_of (cond mine (step ∷ own) own)).info.framing ≤ 1
-framing_if true step own ranged before = framing_by step own ranged before
-framing_if false step own ranged before = before
+framing_if mine step own ranged before = grind (arith, framing_by)
 
 framing_fits : (airs : Airs) (boxes : ℕ) (made : List Step) → AreLegal airs boxes made
     → (setup_of (steps_of_source 0 made)).info.framing ≤ 1
@@ -225,15 +211,11 @@ record Way (to : ℕ) (relay : Option Route) : Type 0 where
   goes : route.to ≡ to
 
 way_of : (bis to : ℕ) (relay : Option Route) → is_route bis to relay ≡ true → Way to relay
-way_of bis to None is = absurd (false≢true is)
-way_of bis to (Some route) is =
-    record { route = route; is = refl; goes = eqb-true route.to to (and_parts (route.bis == bis) (route.to == to) is).1 }
+way_of bis to relay is = grind (arith, false≢true, eqb-true, and_parts)
 
 none_if : (route closes : Bool) (bis : ℕ) (units : List Handed) → (route && closes) ≡ false
     → cond route (units_on bis (cond closes units [])) [] ≡ []
-none_if true true bis units not = absurd (false≢true (sym not))
-none_if true false bis units not = refl
-none_if false closes bis units not = refl
+none_if route closes bis units not = grind (arith, false≢true)
 
 -- a step that closes no event of source 0 while the relay stands offers nothing
 none_offered : (airs : Airs) (n bis to : ℕ) (step : Step) (earlier : List Step)

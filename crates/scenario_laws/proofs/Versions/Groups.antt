@@ -1,5 +1,5 @@
 -- The group check where a group may reach more events ahead: but for the row of the horizon it finds the same.
-use Rattle.std.proofs.Common.{ℕ, ◌≡◌, ◌⊎◌, ◌≤◌, ltb, cond, Bool, true, false, List, [], ◌∷◌, Option, None, Some, refl, sym, inl, inr, arith}
+use Rattle.std.proofs.Common.{ℕ, ◌≡◌, ◌⊎◌, ◌≤◌, ltb, cond, Bool, true, false, List, [], ◌∷◌, Option, None, Some, refl, inl, inr, arith}
 use Rattle.std.specs.List.{find}
 use Rattle.std.proofs.lemmas.Bool.{false≢true, le-ltb, ltb-true, lt-ltb}
 use Rattle.big_info.specs.declared.fault.GroupFault.{GroupFault}
@@ -30,9 +30,7 @@ past false fault one other is same = same is
 past_horizon : (close wide : Bool) (one other : Option GroupFault) → (wide ≡ true → close ≡ true)
     → FoundNear (cond close (Some faults_of.Horizon) one)
     → (FoundNear one → other ≡ one) → cond wide (Some faults_of.Horizon) other ≡ cond close (Some faults_of.Horizon) one
-past_horizon true wide one other more is same = absurd is
-past_horizon false true one other more is same = absurd (false≢true (more refl))
-past_horizon false false one other more is same = same is
+past_horizon close wide one other more is same = grind (arith, false≢true)
 
 -- what lies past the greater horizon lies past the smaller one
 past_both : (near far reach : ℕ) → near ≤ far → ltb far reach ≡ true → ltb near reach ≡ true
@@ -62,8 +60,7 @@ not_past false fault rest here later = later
 
 not_horizon : (holds : Bool) (rest : Option GroupFault) → holds ≡ false → FoundNear rest
     → FoundNear (cond holds (Some faults_of.Horizon) rest)
-not_horizon true rest none later = absurd (false≢true (sym none))
-not_horizon false rest none later = later
+not_horizon holds rest none later = grind (arith, false≢true)
 
 near_in : (near : ℕ) (info : BigInfo) (all : List GroupFault) → horizon_of info ≤ near → FoundNear (find (has_fault near info) all)
 near_in near info [] within = tt

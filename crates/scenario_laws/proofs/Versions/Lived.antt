@@ -1,10 +1,9 @@
 -- The sinks of a scenario in version 2: their life is the same, where no train was answered `BadGroup 11` (Basic Audio Profile
 -- 1.0, section 6.5). Lists of steps and of calls have the newest first.
-use Rattle.std.proofs.Common.{ℕ, ◌≡◌, ◌≤◌, ◌==◌, cond, Bool, true, false, List, [], ◌∷◌, Option, None, Some, refl, ◌∙◌, ap, ap₂}
+use Rattle.std.proofs.Common.{ℕ, ◌≡◌, ◌≤◌, ◌==◌, cond, Bool, true, false, List, [], ◌∷◌, Option, None, Some, refl, ◌∙◌, ap, ap₂, arith}
 use Rattle.std.proofs.lemmas.Bool.{eqb-true}
 use Rattle.delegator_history.specs.Trains.{Settings}
 use Rattle.sink_history.specs.Calls.{Call, born}
-use Rattle.sink_history.specs.Drains.{drained}
 use Rattle.scenario_text.specs.declared.step.Step.{Step}
 use Rattle.scenario_text.specs.declared.step.Step.TheVariants as steps
 use Rattle.sink_history.specs.Lives.{Source, horizon_of, lived, lived_at, lived_by, made_by, made_of, named_by, with_drain}
@@ -70,11 +69,7 @@ QuietLife (Some made) calls = AreQuietCalls made.setup calls
 quiet_lived : (source : Source) (step : Step) (made : Settings) (calls : List Call) → AreQuietCalls made.setup calls
     → HearsNear made calls (train_by source step)
     → AreQuietCalls made.setup (lived_by source step (Some made) calls)
-quiet_lived source (steps.Serve sink) made calls quiet near = quiet_served made.setup 0 calls quiet
-quiet_lived source (steps.AServe sink link) made calls quiet near = quiet_served made.setup link calls quiet
-quiet_lived source (steps.Drain sink) made calls quiet near = quiet_drained made.setup made.mtu 0 calls quiet
-quiet_lived source (steps.ADrain sink link) made calls quiet near = quiet_drained made.setup made.mtu link calls quiet
-quiet_lived source _ made calls quiet near = search
+quiet_lived source step made calls quiet near = grind (arith, quiet_served, quiet_drained)
 
 quiet_if : (b : Bool) (one made : Option Settings) (first calls : List Call) → QuietLife one first → QuietLife made calls
     → QuietLife (cond b one made) (cond b first calls)
@@ -93,17 +88,13 @@ quiet_chosen false made first calls is quiet = quiet
 quiet_of_made : (source : Source) (step : Step) (made : Option Settings) (calls : List Call) → QuietLife made calls
     → ((sink : Settings) → made ≡ Some sink → HearsNear sink calls (train_by source step))
     → QuietLife made (lived_by source step made calls)
-quiet_of_made source this None calls quiet near = tt
-quiet_of_made source this (Some made) calls quiet near = quiet_lived source this made calls quiet (near made refl)
+quiet_of_made source this made calls quiet near = grind (arith, quiet_lived)
 
 quiet_at : (n : ℕ) (named : Option ℕ) (step : Step) (earlier : List Step) (made : Option Settings) (calls : List Call)
     → QuietLife made calls
     → ((sink : Settings) → named ≡ Some n → made ≡ Some sink → HearsNear sink calls (train_by (source_at earlier) step))
     → QuietLife made (lived_at the_world n named step earlier made calls)
-quiet_at n None this earlier made calls quiet near = quiet
-quiet_at n (Some sink) this earlier made calls quiet near =
-    quiet_chosen (sink == n) made (lived_by (source_at earlier) this made calls) calls
-    (λ its. quiet_of_made (source_at earlier) this made calls quiet (λ it is. near it (ap Some (eqb-true sink n its)) is)) quiet
+quiet_at n named this earlier made calls quiet near = grind (arith, quiet_chosen, quiet_of_made, eqb-true)
 
 quiet_after : (n : ℕ) (step : Step) (earlier : List Step) (made : Option Settings) (calls : List Call) → QuietLife made calls
     → ((sink : Settings) → named_by step ≡ Some n → made ≡ Some sink → HearsNear sink calls (train_by (source_at earlier) step))
@@ -128,26 +119,16 @@ is_quiet made other calls far quiet = record { within = far.within; quiet = quie
 
 drain_same : (link : ℕ) (made other : Option Settings) (calls : List Call) → AreFar made other → QuietLife made calls
     → with_drain other link calls ≡ with_drain made link calls
-drain_same link None None calls far quiet = refl
-drain_same link (Some made) (Some other) calls far quiet =
-    ap (λ (sink : Settings). drained sink.setup sink.mtu link calls) far.is
-    ∙ drained_same far.horizon made.setup made.mtu link calls far.within quiet
-drain_same link None (Some other) calls far quiet = absurd far
-drain_same link (Some made) None calls far quiet = absurd far
+drain_same link made other calls far quiet = grind (arith, drained_same)
 
 lived_same : (source : Source) (step : Step) (made other : Option Settings) (calls : List Call) → AreFar made other → QuietLife made calls
     → lived_by source step other calls ≡ lived_by source step made calls
-lived_same source (steps.Drain sink) made other calls far quiet = drain_same 0 made other calls far quiet
-lived_same source (steps.ADrain sink link) made other calls far quiet = drain_same link made other calls far quiet
-lived_same source _ made other calls far quiet = refl
+lived_same source step made other calls far quiet = grind (arith, drain_same)
 
 at_same : (n : ℕ) (named : Option ℕ) (step : Step) (earlier : List Step) (made other : Option Settings) (calls others : List Call)
     → AreFar made other → QuietLife made calls
     → others ≡ calls → lived_at the_world n named step (seconds earlier) other others ≡ lived_at the_world n named step earlier made calls
-at_same n None this earlier made other calls others far quiet same = same
-at_same n (Some sink) this earlier made other calls others far quiet same =
-    ap₂ (λ source all. cond (sink == n) (lived_by source this other all) all) (source_same earlier) same
-    ∙ ap (λ all. cond (sink == n) all calls) (lived_same (source_at earlier) this made other calls far quiet)
+at_same n named this earlier made other calls others far quiet same = grind (arith, same, ap₂, source_same, lived_same)
 
 pub after_same : (n : ℕ) (step : Step) (earlier : List Step) (made other : Option Settings) (calls others : List Call) → AreFar made other
     → QuietLife made calls → others ≡ calls

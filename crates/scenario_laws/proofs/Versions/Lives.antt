@@ -1,18 +1,17 @@
 -- The life of a sink whose groups may reach more events ahead: what it has, what its links bring and what it prints are the
 -- same, where no train was answered `BadGroup 11` (Basic Audio Profile 1.0, section 6.5; Broadcast Audio Scan Service 1.0,
 -- section 3). Lists of steps and of calls have the newest first.
-use Rattle.std.proofs.Common.{ℕ, zero, suc, ◌≡◌, ◌≤◌, List, [], ◌∷◌, length, Option, None, Some, refl, ◌∙◌, ap}
+use Rattle.std.proofs.Common.{ℕ, zero, suc, ◌≡◌, ◌≤◌, List, [], ◌∷◌, length, Option, None, Some, refl, ◌∙◌, ap, arith}
 use Rattle.std.specs.Prelude.{option_map, slice_get}
-use Rattle.delegator_history.specs.Notices.{changes}
 use Rattle.delegator_history.specs.Sights.{Sight}
 use Rattle.delegator_history.specs.States.{Answered, Step, answered, done_by, sight_in, sight_of, train_heard, written}
 use Rattle.delegator_history.specs.Steps.{Done}
-use Rattle.delegator_history.specs.Trains.{Setup, brought_by, done_brought}
+use Rattle.delegator_history.specs.Trains.{Setup, brought_by}
 use Rattle.sink_history.specs.Calls as links
 use Rattle.sink_history.specs.Calls.{Call, step_by, steps_of, with_step, writes_waiting}
-use Rattle.sink_history.specs.Drains.{drained, repeated, served_out, told_and_read, told_out}
-use Rattle.sink_history.specs.Links.{Acts, Told, acts_by, acts_of, changed, language, made_all, notices_waiting, reads_waiting}
-use Rattle.assistant_machine.specs.Links.{reads_of, waiting_of}
+use Rattle.sink_history.specs.Drains.{drained, repeated, told_and_read, told_out}
+use Rattle.sink_history.specs.Links.{Acts, acts_by, acts_of, changed, notices_waiting, reads_waiting}
+use Rattle.assistant_machine.specs.Links.{waiting_of}
 use Rattle.scenario_laws.proofs.Versions.Trains.{BringsNear, brought_same, reaching}
 
 -- ---- what it has
@@ -28,9 +27,7 @@ AreQuiet setup (step ∷ earlier) = AreQuiet setup earlier × IsQuiet setup earl
 
 done_same : (far : ℕ) (setup : Setup) (earlier : List Step) (step : Step) → setup.horizon ≤ far → IsQuiet setup earlier step
     → done_by (reaching far setup) (sight_of setup earlier) step ≡ done_by setup (sight_of setup earlier) step
-done_same far setup earlier (train_heard train) within quiet =
-    ap done_brought (brought_same far setup (sight_of setup earlier) train within quiet)
-done_same far setup earlier _ within quiet = refl
+done_same far setup earlier step within quiet = grind (arith, brought_same)
 
 answer_with : Sight → Done → List Answered → List Answered
 answer_with before done earlier = record { before = before; done = done } ∷ earlier
@@ -61,16 +58,12 @@ quiet_before setup (Some step) steps quiet = quiet.0
 changed_same : (far : ℕ) (setup : Setup) (before now : List Step) (acts : Acts)
     → sight_of (reaching far setup) before ≡ sight_of setup before
     → sight_of (reaching far setup) now ≡ sight_of setup now → changed (reaching far setup) before now acts ≡ changed setup before now acts
-changed_same far setup before now acts same same_now =
-    ap (λ sight. made_all sight (changes setup.slots (sight_of (reaching far setup) before) sight) acts) same_now
-    ∙ ap (λ sight. made_all (sight_of setup now) (changes setup.slots sight (sight_of setup now)) acts) same
+changed_same far setup before now acts same same_now = cc (same_now, same)
 
 by_same : (far : ℕ) (setup : Setup) (mtu : Option ℕ) (link : ℕ) (call : Call) (before now : List Step) (acts : Acts)
     → sight_of (reaching far setup) before ≡ sight_of setup before → sight_of (reaching far setup) now ≡ sight_of setup now
     → acts_by (reaching far setup) mtu link call before now acts ≡ acts_by setup mtu link call before now acts
-by_same far setup mtu link (links.stepped step) before now acts same same_now = changed_same far setup before now acts same same_now
-by_same far setup mtu link (links.served at) before now acts same same_now = changed_same far setup before now acts same same_now
-by_same far setup mtu link _ before now acts same same_now = refl
+by_same far setup mtu link call before now acts same same_now = grind (arith, changed_same)
 
 pub acts_same : (far : ℕ) (setup : Setup) (mtu : Option ℕ) (link : ℕ) (calls : List Call) → setup.horizon ≤ far → AreQuietCalls setup calls
     → acts_of (reaching far setup) mtu link calls ≡ acts_of setup mtu link calls
@@ -89,8 +82,7 @@ notices_same far setup mtu link calls within quiet = ap waiting_of (acts_same fa
 
 pub reads_same : (far : ℕ) (setup : Setup) (mtu : Option ℕ) (link : ℕ) (calls : List Call) → setup.horizon ≤ far → AreQuietCalls setup calls
     → reads_waiting (reaching far setup) mtu link calls ≡ reads_waiting setup mtu link calls
-reads_same far setup mtu link calls within quiet = ap (reads_of (language mtu) setup.slots)
-    (acts_same far setup mtu link calls within quiet)
+reads_same far setup mtu link calls within quiet = cc (acts_same far setup mtu link calls within quiet)
 
 -- ---- drains
 
@@ -121,17 +113,11 @@ quiet_reads setup link (suc count) calls quiet = quiet_reads setup link count ca
 
 pub quiet_drained : (setup : Setup) (mtu : Option ℕ) (link : ℕ) (calls : List Call) → AreQuietCalls setup calls
     → AreQuietCalls setup (drained setup mtu link calls)
-quiet_drained setup mtu link calls quiet =
-    let served : List Call = served_out link calls in
-    let told : List Call = told_out setup mtu link served in
-    quiet_reads setup link (length (reads_waiting setup mtu link told)) told
-    (quiet_tells setup link (length (notices_waiting setup mtu link served)) served
-    (quiet_serves setup link (length (writes_waiting link calls)) calls quiet))
+quiet_drained setup mtu link calls quiet = search (quiet_reads, quiet_tells, quiet_serves)
 
 pub told_same : (far : ℕ) (setup : Setup) (mtu : Option ℕ) (link : ℕ) (calls : List Call) → setup.horizon ≤ far → AreQuietCalls setup calls
     → told_out (reaching far setup) mtu link calls ≡ told_out setup mtu link calls
-told_same far setup mtu link calls within quiet =
-    ap (λ (notices : List Told). repeated (length notices) (links.told link) calls) (notices_same far setup mtu link calls within quiet)
+told_same far setup mtu link calls within quiet = cc (notices_same far setup mtu link calls within quiet)
 
 told_and_read_same : (far : ℕ) (setup : Setup) (mtu : Option ℕ) (link : ℕ) (calls : List Call) → setup.horizon ≤ far
     → AreQuietCalls setup calls
@@ -146,6 +132,4 @@ told_and_read_same far setup mtu link calls within quiet =
 pub drained_same : (far : ℕ) (setup : Setup) (mtu : Option ℕ) (link : ℕ) (calls : List Call) → setup.horizon ≤ far
     → AreQuietCalls setup calls
     → drained (reaching far setup) mtu link calls ≡ drained setup mtu link calls
-drained_same far setup mtu link calls within quiet =
-    told_and_read_same far setup mtu link (served_out link calls) within
-    (quiet_serves setup link (length (writes_waiting link calls)) calls quiet)
+drained_same far setup mtu link calls within quiet = search (told_and_read_same, quiet_serves)

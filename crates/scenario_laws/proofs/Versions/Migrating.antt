@@ -1,5 +1,5 @@
 -- The migration law, over the airs of each stream by its framing: a text and the text in version 2.
-use Rattle.std.proofs.Common.{ℕ, ◌≡◌, ◌⊎◌, ◌+◌, nat_eq, cond, leb, Bool, true, false, List, [], ◌∷◌, ◌++◌, length, reverse, Option, None}
+use Rattle.std.proofs.Common.{ℕ, ◌≡◌, ◌⊎◌, ◌+◌, nat_eq, cond, leb, Bool, true, false, List, [], ◌∷◌, ◌++◌, length, reverse, Option, None, arith}
 use Rattle.std.proofs.Common.{Some, Ok, refl, sym, ◌∙◌, ap, ap₂, subst, inl, inr}
 use Rattle.std.specs.Fmt.{digits as numerals}
 use Rattle.std.proofs.lemmas.List.{append-nil}
@@ -21,7 +21,6 @@ use Rattle.transcript_text.specs.declared.refusal.Refusal.{Refusal}
 use Rattle.transcript_text.specs.declared.refusal.Refusal.TheVariants.{LineTooLong}
 use Rattle.scenario_history.specs.Lines.{a_step, nothing, unsaid, output_said, refusal_said, said_after, said_by, said_in, said_of}
 use Rattle.scenario_history.specs.Lines.{steps_of, with_said}
-use Rattle.scenario_history.specs.Gifts.{happened}
 use Rattle.scenario_history.specs.Relays.{has_relay}
 use Rattle.scenario_history.specs.Steps.{is_over, is_unbegun_at, stage_of, version_of}
 use Rattle.scenario_history.specs.Transcript.{end_after, has_end, last_end_after, last_line_after, out_of, transcript_end, transcript_of}
@@ -92,15 +91,13 @@ says_second = refl
 -- a history that says no step
 first_refusal : (boxes version : ℕ) (made : List Step) → made ≡ []
     → refusal_said airs_of boxes made (a_step (steps.Scenario version)) ≡ None
-first_refusal boxes version made none = subst (λ before. refusal_said airs_of boxes before (a_step (steps.Scenario version)) ≡ None)
-    (sym none) refl
+first_refusal boxes version made none = cc (none)
 
 first_says : (made : List Step) → made ≡ [] → said_in (version_of made) (plain first_version) ≡ a_step (steps.Scenario 1)
 first_says made none = subst (λ before. said_in (version_of before) (plain first_version) ≡ a_step (steps.Scenario 1)) (sym none) says_first
 
 second_says : (made : List Step) → made ≡ [] → said_in (version_of made) (plain second_version) ≡ a_step (steps.Scenario 2)
-second_says made none = subst (λ before. said_in (version_of before) (plain second_version) ≡ a_step (steps.Scenario 2)) (sym none)
-    says_second
+second_says made none = cc (none, says_second)
 
 -- what the line of the version says behind lines that say no step
 abbrev SaysVersion : List TextLine → ℕ → List ℕ → Type 0
@@ -109,9 +106,7 @@ SaysVersion history version line = said_after history (plain line) ≡ a_step (s
 its_refusal : (starts : List Account) (history : List TextLine) (version : ℕ) (line : List ℕ) → said_of history ≡ []
     → SaysVersion history version line
     → (Its starts).refusal history (plain line) ≡ None
-its_refusal starts history version line none says =
-    ap (refusal_said airs_of (length starts) (steps_of airs_of history)) says
-    ∙ first_refusal (length starts) version (steps_of airs_of history) (ap (happened airs_of) none)
+its_refusal starts history version line none says = search (first_refusal)
 
 its_output : (starts : List Account) (history : List TextLine) (version : ℕ) (line : List ℕ) → SaysVersion history version line
     → (Its starts).output history (plain line) ≡ []
@@ -166,8 +161,6 @@ turned_alike : Laws → (starts : List Account) (all history lines others : List
     → Begins all history lines → said_of history ≡ []
     → Accepted (Its starts) history → EndsLasting (end_of (Its starts) history lines) → Turned lines others
     → RunAlike starts history history lines others
-turned_alike laws starts all history _ _ never begins none accepted lasting (here rest) =
-    first_alike laws starts all history rest never begins none accepted lasting
 turned_alike laws starts all history _ _ never begins none accepted lasting (later line lines others blank turned) =
     let it : TextLine = line_of line in
     elim (blank_says (version_of (said_of history)) line blank) [
@@ -190,6 +183,7 @@ turned_alike laws starts all history _ _ never begins none accepted lasting (lat
           (accepted_of (Its starts) (it ∷ history) lines) (accepted_of (Its starts) (it ∷ history) others)
           (ap (refusal_said airs_of (length starts) (steps_of airs_of history)) says)
     ]
+turned_alike laws starts all history _ _ never begins none accepted lasting (here rest) = search (first_alike)
 
 -- ---- the transcripts
 
@@ -197,8 +191,7 @@ through_if : {L R : Type 0} (rules : Rules L R) (history lines : List L) (line :
     → (end_of rules (line ∷ history) lines ≡ through → accepted_of rules (line ∷ history) lines ≡ reverse lines ++ line ∷ history)
     → end_unless history reason (end_of rules (line ∷ history) lines) ≡ through
     → accepted_unless history reason (accepted_of rules (line ∷ history) lines) ≡ reverse (line ∷ lines) ++ history
-through_if rules history lines line None more is = more is ∙ sym (reverse_onto line lines history)
-through_if rules history lines line (Some reason) more is = absurd cc
+through_if rules history lines line reason more is = grind (arith, reverse_onto)
 
 -- where a run goes through all its lines, it accepts them all
 through_all : {L R : Type 0} (rules : Rules L R) (history lines : List L) → end_of rules history lines ≡ through

@@ -1,6 +1,6 @@
 -- What the steps of a scenario in version 2 hand up and print: the same, where no train was answered `BadGroup 11`. Lists of
 -- steps have the newest first; where a list is called `own` its steps are those of one source.
-use Rattle.std.proofs.Common.{ℕ, ◌≡◌, false, List, [], ◌∷◌, ◌++◌, Option, None, Some, refl, sym, ◌∙◌, ap, ap₂}
+use Rattle.std.proofs.Common.{ℕ, ◌≡◌, false, List, [], ◌∷◌, ◌++◌, Option, None, Some, refl, sym, ◌∙◌, ap, ap₂, arith}
 use Rattle.std.specs.List.{concat}
 use Rattle.unit_outlets.specs.Account.{Account}
 use Rattle.sink_history.specs.Calls.{Call}
@@ -11,10 +11,9 @@ use Rattle.transcript_text.specs.Lines.{control_line}
 use Rattle.delegator_history.specs.Trains.{Settings}
 use Rattle.sink_history.specs.Lives.{Source, made_of, named_by}
 use Rattle.sink_history.specs.Moves.{train_by}
-use Rattle.sink_history.specs.Output.{printed_at, printed_of, printed_where}
-use Rattle.scenario_history.specs.Boxes.{SinkUnit, box_of, closing, closing_at, handed_by, handed_up}
-use Rattle.scenario_history.specs.Boxes.{sink_numbers}
-use Rattle.scenario_history.specs.Output.{close_lines, output_of, sink_lines, stale_lines, sum_if, sums_of, unit_lines}
+use Rattle.sink_history.specs.Output.{printed_at, printed_where}
+use Rattle.scenario_history.specs.Boxes.{SinkUnit, closing, closing_at, handed_by, handed_up}
+use Rattle.scenario_history.specs.Output.{close_lines, output_of, sink_lines, stale_lines, sums_of, unit_lines}
 use Rattle.scenario_history.specs.Relays.{has_relay}
 use Rattle.scenario_history.specs.Source.{end_pdu, open_event, stale_in}
 use Rattle.scenario_history.specs.Steps.{chosen_of, chosen_steps, steps_of_source}
@@ -26,27 +25,23 @@ use Rattle.scenario_laws.proofs.Versions.Received.{HeardNear, sink_calls_same, s
 use Rattle.scenario_laws.proofs.Versions.Refused.{box_same}
 use Rattle.scenario_laws.proofs.Versions.Relays.{has_relay_same}
 use Rattle.scenario_laws.proofs.Versions.Sources.{stale_same}
-use Rattle.std.specs.Prelude.{unwrap_or}
 use Rattle.scenario_laws.proofs.Versions.Seconds.{at_second, chosen_same, over_same, same, seconds}
 
 -- ---- what is handed up
 
 closing_at_same : (s : ℕ) (made : List Step) (last_open : Option ℕ) → AreCalm made
     → closing_at airs_of s (seconds made) last_open ≡ closing_at airs_of s made last_open
-closing_at_same s made None calm = refl
-closing_at_same s made (Some event) calm = simp (sink_calls_same, source_of_same, box_same)
+closing_at_same s made last_open calm = grind (arith, sink_calls_same, source_of_same, box_same)
 
 closing_same : (s : ℕ) (made : List Step) → AreCalm made → closing airs_of s (seconds made) ≡ closing airs_of s made
 closing_same s made calm = search (same, over_same, closing_at_same s made (open_event (steps_of_source s made)) calm)
 
 closing_chosen : (made : List Step) → AreCalm made → closing airs_of (chosen_of (seconds made)) (seconds made)
     ≡ closing airs_of (chosen_of made) made
-closing_chosen made calm = ap (λ given. closing airs_of (unwrap_or given 0) (seconds made)) (chosen_same made)
-    ∙ closing_same (chosen_of made) made calm
+closing_chosen made calm = cc (chosen_same made, closing_same (chosen_of made) made calm)
 
 handed_same : (made : List Step) (step : Step) → AreCalm made → handed_by airs_of (seconds made) step ≡ handed_by airs_of made step
-handed_same made steps.End calm = λ i. closing_same 0 made calm i ++ closing_same 1 made calm i
-handed_same made _ calm = search (closing_chosen made calm)
+handed_same made step calm = grind (arith, closing_same, closing_chosen)
 
 pub handed_up_same : (made : List Step) → AreCalm made → handed_up airs_of (seconds made) ≡ handed_up airs_of made
 handed_up_same [] calm = refl
@@ -60,12 +55,7 @@ handed_up_same (step ∷ earlier) calm = λ i. handed_up_same earlier calm.0 i
 where_same : (source : Source) (step : Step) (made other : Option Settings) (calls : List Call) → AreFar made other → QuietLife made calls
     → HeardNear made calls (train_by source step)
     → printed_where source step other calls ≡ printed_where source step made calls
-where_same source this None None calls far quiet near = refl
-where_same source this (Some made) (Some other) calls far quiet near =
-    ap (λ sink. printed_of source this sink calls) far.is
-    ∙ printed_same far.horizon source this made calls (is_quiet made other calls far quiet) (near made refl)
-where_same source this None (Some other) calls far quiet near = absurd far
-where_same source this (Some made) None calls far quiet near = absurd far
+where_same source this made other calls far quiet near = grind (arith, printed_same, is_quiet)
 
 named_same : (made : List Step) (step : Step) (named : Option ℕ) → named_by step ≡ named → AreCalm made → IsCalm made step
     → printed_at the_world (seconds made) step named ≡ printed_at the_world made step named
@@ -82,9 +72,7 @@ lines_same made step calm is = ap concat (named_same made step (named_by step) r
 
 sums_same : (starts : List Account) (units : List SinkUnit) (made : List Step)
     → sums_of starts units (seconds made) ≡ sums_of starts units made
-sums_same starts units made =
-    flat_same (λ n. sum_if starts units n (box_of n (seconds made))) (λ n. sum_if starts units n (box_of n made)) sink_numbers
-    (λ n. ap (sum_if starts units n) (box_same n made))
+sums_same starts units made = search (flat_same, seconds, box_same)
 
 close_same : (made : List Step) (step : Step) → has_relay made ≡ false → AreCalm made
     → close_lines airs_of (seconds made) step ≡ close_lines airs_of made step

@@ -8,7 +8,7 @@ use Rattle.std.specs.Option.{option_or}
 use Rattle.pacs_records.specs.Layout.{greatest_value, value as records_value}
 use Rattle.delegator_history.specs.Controls as controls
 use Rattle.delegator_history.specs.Sights.{Sight}
-use Rattle.delegator_history.specs.Trains.{Settings, Train, answer_of, brought_by}
+use Rattle.delegator_history.specs.Trains.{Settings, Train, brought_by}
 use Rattle.delegator_history.specs.Values.{state_at, value}
 use Rattle.delegator_history.specs.Writes.{reply_of}
 use Rattle.delegator_history.specs.declared.notice.Notice.{Notice}
@@ -20,7 +20,7 @@ use Rattle.assistant_machine.specs.Links.{reads_of, view_of, waiting_of}
 use Rattle.scenario_text.specs.declared.step.Step.{Step}
 use Rattle.scenario_text.specs.declared.step.Step.TheVariants as steps
 use Rattle.transcript_text.specs.declared.refusal.Refusal.TheVariants.{NothingWaiting, RecordsTooLong}
-use Rattle.transcript_text.specs.SinkLines.{Label, control_words, on_link, plain, reply_line, sink_line, train_line, train_words, value_line}
+use Rattle.transcript_text.specs.SinkLines.{Label, control_words, on_link, plain, reply_line, sink_line, train_line, value_line}
 use Rattle.sink_history.specs.Lives.{Source, given_train, own_train, record_of}
 use Rattle.sink_history.specs.Moves.{train_by}
 use Rattle.sink_history.specs.Output.{drain_lines, heard_line, if_there, printed_of, read_line, read_lines}
@@ -147,15 +147,12 @@ pub brings_same : (far : ℕ) (made : Settings) (calls : List Call) (train : Tra
     → HearsNear made calls (Some train)
     → brought_by (reaching far made.setup) (sight_in (reaching_made far made) calls) train
     ≡ brought_by made.setup (sight_in made calls) train
-brings_same far made calls train is near =
-    ap (λ sight. brought_by (reaching far made.setup) sight train) (its_sight far made calls is)
-    ∙ brought_same far made.setup (sight_in made calls) train is.within near
+brings_same far made calls train is near = cc (its_sight far made calls is, brought_same far made.setup (sight_in made calls) train is.within near)
 
 hears_same : (far sink : ℕ) (made : Settings) (calls : List Call) (train : Train) → IsQuietLife far made calls
     → HearsNear made calls (Some train)
     → heard_line sink (reaching_made far made) calls train ≡ heard_line sink made calls train
-hears_same far sink made calls train is near = ap (λ brought. sink_line sink (train_words (answer_of brought)))
-    (brings_same far made calls train is near)
+hears_same far sink made calls train is near = cc (brings_same far made calls train is near)
 
 -- ---- all of it
 

@@ -3,7 +3,7 @@
 -- first; where a list is called `own` its steps are those of one source.
 use Rattle.std.proofs.Common.{ℕ, ◌≡◌, ◌≤◌, ◌-◌, ◌*◌, ◌/◌, ◌==◌, not, cond, Bool, true, false, List, [], ◌∷◌, Option, None, Some, Ok, refl}
 use Rattle.std.proofs.Common.{sym, ◌∙◌, ap, ap₂, subst}
-use Rattle.std.specs.Prelude.{slice_index, unwrap_or}
+use Rattle.std.specs.Prelude.{unwrap_or}
 use Rattle.std.proofs.lemmas.Bool.{eqb-true, false≢true, ltb-false, not-false}
 use Rattle.std.proofs.lemmas.Option.{same_Some}
 use Rattle.delegator_history.specs.Octets.{MayAnnounce, train_of}
@@ -164,16 +164,11 @@ reach_by nse bn pto irc = pto * (nse / bn - irc)
 -- groups with the same numbers reach as far
 same_reach : (one other : BigInfo) → numbers_of one ≡ numbers_of other → reach_of one ≡ reach_of other
 unfolding reach_by
-same_reach one other same =
-    ap₂ (λ nse bn. reach_by nse bn one.pto one.irc) (ap (λ numbers. slice_index numbers 2) same)
-    (ap (λ numbers. slice_index numbers 3) same)
-    ∙ ap₂ (reach_by other.nse other.bn) (ap (λ numbers. slice_index numbers 5) same) (ap (λ numbers. slice_index numbers 7) same)
+same_reach one other same = search (ap₂, reach_by)
 
 read_as : (octets found : List ℕ) (info read : BigInfo) → Some found ≡ Some octets → info_of octets ≡ Ok info → info_of found ≡ Ok read
     → info ≡ read
-read_as octets found info read same is reads =
-    let one : found ≡ octets = same_Some found octets same in
-    let both : Ok info ≡ Ok read = sym is ∙ ap info_of (sym one) ∙ reads in cc
+read_as octets found info read same is reads = search (same_Some)
 
 reads_near : (setup : Setup) (train : Train) (heard : Heard) (broadcast_id : List ℕ) (base : Endpoint) (info : BigInfo) (event anchor : ℕ)
     → heard.acad ≡ train.acad

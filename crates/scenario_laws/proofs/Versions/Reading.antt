@@ -1,22 +1,18 @@
 -- A line that version 1 of the scenario language reads, version 2 reads as the same step: each row of version 1 stands in
 -- version 2, where a sink has up to eight slots.
-use Rattle.std.proofs.Common.{ℕ, ◌≡◌, ◌⊎◌, ◌≤◌, ◌==◌, ◌&&◌, cond, leb, Bool, true, false, List, [], ◌∷◌, Option, None, Some, Result, Ok}
+use Rattle.std.proofs.Common.{ℕ, ◌≡◌, ◌⊎◌, ◌≤◌, ◌&&◌, cond, leb, Bool, true, false, List, [], ◌∷◌, Option, None, Some, Result, Ok}
 use Rattle.std.proofs.Common.{Err, refl, sym, ap, subst, inl, inr, arith}
-use Rattle.std.specs.Prelude.{bytes_eq, decimal, nat_eq}
-use Rattle.std.specs.Str.Parse.{digits_value}
+use Rattle.std.specs.Prelude.{bytes_eq, nat_eq}
 use Rattle.std.proofs.lemmas.Bool.{le-leb, leb-true}
-use Rattle.bcast_io.specs.TextLines.{TextLine, plain, too_long, past}
+use Rattle.bcast_io.specs.TextLines.{TextLine}
 use Rattle.bcast_base.specs.Tries.{◌>>=◌}
 use Rattle.scenario_words.specs.declared.fault.LineFault.{LineFault}
 use Rattle.scenario_words.specs.declared.fault.LineFault.TheVariants.{BadLine as Misfit, Memory as NoMemory}
-use Rattle.scenario_words.specs.Places.{one, between}
-use Rattle.scenario_words.specs.Reading.{Left, any_word, at_place, decimal_in, next, next_of, taken}
-use Rattle.scenario_words.specs.Words.{words_of}
-use Rattle.scenario_text.specs.Lines.{comment}
-use Rattle.scenario_text.specs.Steps.{at_known, at_row, line_after, read_of, step_of, whole}
-use Rattle.scenario_text.specs.Table.{Row, event_rows, first_row_of, first_rows, link_row_of, link_row_of_2, link_rows, most_slots, row_in}
+use Rattle.scenario_words.specs.Reading.{Left, decimal_in, next_of, taken}
+use Rattle.scenario_text.specs.Steps.{at_known, at_row, read_of, step_of}
+use Rattle.scenario_text.specs.Table.{Row, event_rows, first_row_of, first_rows, link_row_of, link_row_of_2, link_rows, row_in}
 use Rattle.scenario_text.specs.Table.{row_of, row_of_2, rows_of_2}
-use Rattle.scenario_text.specs.Table.{sink, sink_row, sink_row_of, sink_rows, source_row_of, source_rows}
+use Rattle.scenario_text.specs.Table.{sink_row, sink_row_of, sink_rows, source_row_of, source_rows}
 use Rattle.scenario_text.specs.Table.{tuned_row, drop_row, stop_row, end_row}
 use Rattle.scenario_text.specs.declared.step.Step.{Step}
 use Rattle.transcript_text.specs.declared.refusal.Refusal.TheVariants.{BadLine}
@@ -41,8 +37,7 @@ misfit_then (Ok a) f is = absurd is
 
 first_on : {A B : Type 0} (here there : Result A LineFault) (f : A → Result B LineFault) → ReadsOn here there
     → ReadsOn (here >>= f) (there >>= f)
-first_on here there f (inl same) = inl (ap (λ read. read >>= f) same)
-first_on here there f (inr is) = inr (misfit_then here f is)
+first_on here there f h3 = grind (arith, misfit_then)
 
 then_on : {A B : Type 0} (read : Result A LineFault) (f g : A → Result B LineFault) → ((a : A) → ReadsOn (f a) (g a))
     → ReadsOn (read >>= f) (read >>= g)
@@ -53,9 +48,7 @@ then_on (Err fault) f g on = inl refl
 
 fits_more : (is_decimal least : Bool) (n near far : ℕ) → near ≤ far → (is_decimal && (least && leb n near)) ≡ true
     → (is_decimal && (least && leb n far)) ≡ true
-fits_more false least n near far within is = is
-fits_more true false n near far within is = is
-fits_more true true n near far within is = let below = leb-true n near is in le-leb n far (omega (arith, below, within))
+fits_more is_decimal least n near far within is = grind (arith, leb-true, le-leb)
 
 taken_on : (b c : Bool) (n read : ℕ) (words : List (List ℕ)) → (b ≡ true → c ≡ true)
     → ReadsOn (taken read words (cond b (Some n) None)) (taken read words (cond c (Some n) None))
@@ -65,11 +58,7 @@ taken_on false c n read words more = inr tt
 number_on : (near far : ℕ) (read : ℕ) (words : List (List ℕ)) → near ≤ far
     → ReadsOn (next_of (decimal_in 1 near) read words) (next_of (decimal_in 1 far) read words)
 unfolding decimal_in
-number_on near far read [] within = inr tt
-number_on near far read (word ∷ words) within =
-    let n : ℕ = digits_value 10 word in
-    taken_on (bytes_eq word (decimal n) && (leb 1 n && leb n near)) (bytes_eq word (decimal n) && (leb 1 n && leb n far)) n read words
-    (fits_more (bytes_eq word (decimal n)) (leb 1 n) n near far within)
+number_on near far read words within = grind (arith, taken_on, fits_more)
 
 -- ---- a row
 
@@ -78,10 +67,7 @@ least_slots true = omega arith
 least_slots false = omega arith
 
 slots_on : (version : ℕ) (left : Left) → ReadsOn (at_row (sink_row version) left) (at_row (sink_row 2) left)
-slots_on version left =
-    then_on (at_place sink left) _ _ (λ number. then_on (at_place (one (between 1 31)) number.1) _ _ (λ streams.
-    first_on (next (decimal_in 1 (most_slots version)) streams.1) (next (decimal_in 1 8) streams.1) _
-    (number_on (most_slots version) 8 streams.1.read streams.1.words (least_slots (nat_eq version 2)))))
+slots_on version left = search (then_on, first_on, number_on, least_slots)
 
 -- rows by their first words, where what each reads is read on
 abbrev RowsOn : List Row → List Row → Type 0
@@ -142,10 +128,7 @@ rows_on version first =
 
 step_on : (version : ℕ) (line : List ℕ) → ReadsOn (step_of version line) (step_of 2 line)
 unfolding step_of
-step_on version line =
-    then_on (next any_word (record { words = words_of line; read = 0 })) (line_after version) (line_after 2)
-    (λ first. first_on (at_known (row_of version first.0) first.1) (at_known (row_of 2 first.0) first.1) whole
-    (rows_on version first.0 first.1))
+step_on version line = search (then_on, first_on, rows_on)
 
 if_on : {A : Type 0} (b : Bool) (none here there : Result A LineFault) → ReadsOn here there → ReadsOn (cond b none here) (cond b none there)
 if_on true none here there on = inl refl
@@ -153,11 +136,7 @@ if_on false none here there on = on
 
 reads_on : (version : ℕ) (line : List ℕ) → ReadsOn (read_of version line) (read_of 2 line)
 unfolding read_of
-reads_on version [] = inl refl
-reads_on version (octet ∷ line) =
-    if_on (octet == comment) (Ok None) (step_of version (octet ∷ line) >>= λ step. Ok (Some step))
-    (step_of 2 (octet ∷ line) >>= λ step. Ok (Some step))
-    (first_on (step_of version (octet ∷ line)) (step_of 2 (octet ∷ line)) (λ step. Ok (Some step)) (step_on version (octet ∷ line)))
+reads_on version line = grind (arith, if_on, first_on, step_on)
 
 -- the line isn't of the grammar
 abbrev pub IsUnsaid : Said → Type 0
@@ -171,16 +150,9 @@ said_misfit (Ok None) is = absurd is
 said_misfit (Ok (Some this)) is = absurd is
 
 said_on : (version : ℕ) (line : TextLine) → (said_in 2 line ≡ said_in version line) ⊎ IsUnsaid (said_in version line)
-said_on version (plain octets) = elim (reads_on version octets) [
-  | inl same ↦ inl (ap said_by same)
-  | inr is ↦ inr (said_misfit (read_of version octets) is)
-]
-said_on version too_long = inl refl
-said_on version past = inl refl
+said_on version line = grind (arith, reads_on, said_misfit)
 
 -- a line that is of the grammar of a version says the same in a later one
 pub said_later : (version later : ℕ) (line : TextLine) → IsLater version later
     → (said_in later line ≡ said_in version line) ⊎ IsUnsaid (said_in version line)
-said_later version later line (inl same) = inl (ap (λ v. said_in v line) same)
-said_later version later line (inr two) = subst (λ v. (said_in v line ≡ said_in version line) ⊎ IsUnsaid (said_in version line)) (sym two)
-    (said_on version line)
+said_later version later line h3 = grind (arith, said_on)

@@ -1,7 +1,7 @@
 -- The receivers of the sinks of a scenario in version 2: the calls that each took are the same, where no train was answered
 -- `BadGroup 11` (Core 5.2, volume 6 part B, section 4.4.6). Lists of steps and calls have the newest first; where a list is
 -- called `own` its steps are those of one source.
-use Rattle.std.proofs.Common.{ℕ, zero, suc, ◌≡◌, ◌==◌, cond, Bool, true, false, List, [], ◌∷◌, Option, None, Some, refl, ◌∙◌, ap}
+use Rattle.std.proofs.Common.{ℕ, zero, suc, ◌≡◌, ◌==◌, cond, Bool, true, List, [], ◌∷◌, Option, None, Some, refl, ◌∙◌, ap, arith}
 use Rattle.std.proofs.Common.{ap₂}
 use Rattle.std.proofs.lemmas.Bool.{eqb-true}
 use Rattle.delegator_machine.specs.Groups.{with_step}
@@ -29,9 +29,7 @@ use Rattle.scenario_laws.proofs.Versions.Seconds.{at_second, over_same, same, se
 brought_far : (made other : Settings) (calls : List Call) (train : Train) → IsFar made other → AreQuietCalls made.setup calls
     → HearsNear made calls (Some train)
     → brought_by other.setup (sight_in other calls) train ≡ brought_by made.setup (sight_in made calls) train
-brought_far made other calls train far quiet near =
-    ap (λ (sink : Settings). brought_by sink.setup (sight_in sink calls) train) far.is
-    ∙ brings_same far.horizon made calls train (is_quiet made other calls far quiet) near
+brought_far made other calls train far quiet near = cc (far.is, brings_same far.horizon made calls train (is_quiet made other calls far quiet) near)
 
 -- each train that is heard so isn't answered `BadGroup 11`
 abbrev pub HeardNear : Option Settings → List Call → Option Train → Type 0
@@ -75,8 +73,7 @@ received_same source this (Some made) None before after calls far quiet later ne
 -- ---- the source of a sink
 
 choose_same : {A : Type 0} (b : Bool) (one two here there : A) → (b ≡ true → two ≡ one) → there ≡ here → cond b two there ≡ cond b one here
-choose_same true one two here there same others = same refl
-choose_same false one two here there same others = others
+choose_same b one two here there same others = grind (arith, same)
 
 its_source : (n : ℕ) (step : Step) (earlier : List Step) (source others : Option ℕ) → AreCalm earlier
     → HeardNear (made_of n earlier) (life n earlier) (train_by (source_at earlier) step)

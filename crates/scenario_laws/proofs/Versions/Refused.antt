@@ -1,16 +1,15 @@
 -- Why a step of a scenario in version 2 is refused: for the reason of version 1, but where that is BadLine, `BadGroup 11` or
 -- TimeOrder. Lists of steps have the newest first; where a list is called `own` its steps are those of one source.
-use Rattle.std.proofs.Common.{ℕ, ◌≡◌, ◌⊎◌, ◌≤◌, ◌==◌, ◌||◌, ◌&&◌, not, cond, leb, ltb, Bool, true, false, List, [], ◌∷◌, Option, None, Some}
+use Rattle.std.proofs.Common.{ℕ, ◌≡◌, ◌⊎◌, ◌≤◌, ◌||◌, ◌&&◌, not, cond, ltb, Bool, true, false, List, [], ◌∷◌, Option, None, Some, arith}
 use Rattle.std.proofs.Common.{refl, sym, subst, ◌∙◌, ap, ap₂, inl, inr}
-use Rattle.std.specs.Prelude.{is_none, length, nat_le}
+use Rattle.std.specs.Prelude.{is_none}
 use Rattle.std.specs.Option.{option_map, option_or}
 use Rattle.big_info.specs.declared.info.BigInfo.{BigInfo}
 use Rattle.big_info.specs.Rows.{first_fault}
 use Rattle.isoal_base.specs.Air.{Air}
-use Rattle.isoal_framed.specs.Calls.{last_time}
-use Rattle.source_machine.specs.Airs.{airs_of, waiting_of}
-use Rattle.source_machine.specs.Calls.{Setup, Call, framed_calls, next_anchor_of}
-use Rattle.source_machine.specs.Faults.{give_fault, has_its_time, is_above, is_in_time}
+use Rattle.source_machine.specs.Airs.{airs_of}
+use Rattle.source_machine.specs.Calls.{Setup, Call}
+use Rattle.source_machine.specs.Faults.{give_fault, is_in_time}
 use Rattle.source_machine.specs.UnitFaults.{UnitFault}
 use Rattle.source_machine.specs.UnitFaults as give_faults
 use Rattle.sink_history.specs.Calls as links
@@ -20,8 +19,8 @@ use Rattle.transcript_text.specs.declared.refusal.Refusal.{Refusal}
 use Rattle.transcript_text.specs.declared.refusal.Refusal.TheVariants.{AfterEnd, BaseTooLong}
 use Rattle.transcript_text.specs.declared.refusal.Refusal.TheVariants.{Order}
 use Rattle.delegator_history.specs.Trains.{Settings}
-use Rattle.sink_history.specs.Lives.{made_of, named_by, horizon_in}
-use Rattle.sink_history.specs.Refusals.{refused_at, refused_by, refused_where, refuse_if}
+use Rattle.sink_history.specs.Lives.{named_by, horizon_in}
+use Rattle.sink_history.specs.Refusals.{refused_at, refused_where, refuse_if}
 use Rattle.scenario_history.specs.Bases.{is_base_too_long}
 use Rattle.scenario_history.specs.Boxes.{box_after, box_of}
 use Rattle.scenario_history.specs.Refusals.{give_refusal, group_refusal}
@@ -31,7 +30,7 @@ use Rattle.scenario_history.specs.Refusals.{source_refusal, twin_refusal}
 use Rattle.scenario_history.specs.Source.{checked_info}
 use Rattle.scenario_history.specs.Source.{setup_of, source_calls}
 use Rattle.scenario_history.specs.Steps.{chosen_steps, is_over, version_of}
-use Rattle.scenario_history.specs.Worlds.{life, the_world}
+use Rattle.scenario_history.specs.Worlds.{the_world}
 use Rattle.scenario_laws.specs.Versions.{IsLasting}
 use Rattle.scenario_laws.proofs.Versions.Groups.{first_same, near_or_far}
 use Rattle.scenario_laws.proofs.Versions.Lived.{AreCalm, AreFar, QuietLife, is_quiet, life_same, made_far, quiet_life}
@@ -60,8 +59,7 @@ or_lasts None here there lasts = lasts
 or_lasts (Some reason) here there lasts = inl refl
 
 lasts_or : (here there b : Option Refusal) → Lasts here there → Lasts (option_or here b) (option_or there b)
-lasts_or here there b (inl same) = inl (ap (λ o. option_or o b) same)
-lasts_or here there b (inr gone) = inr (gone_or here b gone)
+lasts_or here there b h3 = grind (arith, same, gone_or)
 
 -- ---- a group
 
@@ -85,12 +83,7 @@ in_time_stays : (ahead : Bool) (setup : Setup) (calls : List Call) (bis : ℕ) (
     → (setup.ahead ≡ true → ahead ≡ true)
     → cond framing (is_none time) (is_in_time setup calls bis time) ≡ true
     → cond framing (is_none time) (is_in_time (with_ahead ahead setup) calls bis time) ≡ true
-in_time_stays ahead setup calls bis true time stays is = is
-in_time_stays ahead setup calls bis false None stays is = is
-in_time_stays ahead setup calls bis false (Some time) stays is =
-    ap (λ all. is_above (last_time all) time && (ahead || nat_le time (next_anchor_of setup calls))) (framed_same ahead setup bis calls)
-    ∙ time_stays (is_above (last_time (framed_calls setup bis calls)) time) setup.ahead ahead (nat_le time (next_anchor_of setup calls))
-    stays is
+in_time_stays ahead setup calls bis framing time stays is = grind (arith, framed_same, time_stays)
 
 -- why a unit is refused, by the tests in their order
 abbrev fault_by : (beyond long timed waits : Bool) → Option UnitFault
@@ -109,10 +102,7 @@ give_lasts : (ahead : Bool) (setup : Setup) (calls : List Call) (airs : List Air
     → (setup.ahead ≡ true → ahead ≡ true)
     → Lasts (option_map give_refusal (give_fault setup calls airs bis time octets))
     (option_map give_refusal (give_fault (with_ahead ahead setup) calls airs bis time octets))
-give_lasts ahead setup calls airs bis time octets stays =
-    fault_lasts (ltb setup.info.num_bis bis) (ltb setup.info.max_sdu (length octets)) (has_its_time setup calls bis time)
-    (has_its_time (with_ahead ahead setup) calls bis time)
-    (leb 16 (waiting_of calls airs bis)) (in_time_stays ahead setup calls bis (setup.info.framing == 0) time stays)
+give_lasts ahead setup calls airs bis time octets stays = search (fault_lasts, ltb, with_ahead, in_time_stays)
 
 unit_lasts : (own : List Step) (bis : ℕ) (time : Option ℕ) (octets : List ℕ)
     → Lasts (option_map give_refusal (give_fault (setup_of own) (source_calls own) (airs_of (setup_of own) (source_calls own)) bis time
@@ -149,8 +139,7 @@ source_lasts version later own _ is = inl (search same)
 
 box_next : (n : ℕ) (step : Step) (earlier : List Step) (box other : Option ℕ) → other ≡ box
     → box_after n step (seconds earlier) other ≡ box_after n step earlier box
-box_next n (steps.Drop sink) earlier box other stays = search stays
-box_next n _ earlier box other stays = search (same, stays)
+box_next n step earlier box other stays = grind (arith, same)
 
 pub box_same : (n : ℕ) (made : List Step) → box_of n (seconds made) ≡ box_of n made
 box_same n [] = refl
@@ -161,18 +150,11 @@ box_same n (step ∷ earlier) =
 
 where_same : (step : Step) (made other : Option Settings) (calls : List links.Call) → AreFar made other → QuietLife made calls
     → refused_where step other calls ≡ refused_where step made calls
-where_same this None None calls far quiet = refl
-where_same this (Some made) (Some other) calls far quiet =
-    ap (λ sink. refused_by this sink calls) far.is ∙ refused_same this far.horizon made calls (is_quiet made other calls far quiet)
-where_same this None (Some other) calls far quiet = absurd far
-where_same this (Some made) None calls far quiet = absurd far
+where_same this made other calls far quiet = grind (arith, refused_same, is_quiet)
 
 named_same : (step : Step) (named : Option ℕ) (made : List Step) → AreCalm made
     → refused_at the_world (seconds made) step named ≡ refused_at the_world made step named
-named_same this None made calm = refl
-named_same this (Some n) made calm =
-    ap (refused_where this (made_of n (seconds made))) (life_same n made calm)
-    ∙ where_same this (made_of n made) (made_of n (seconds made)) (life n made) (made_far n made) (quiet_life n made calm)
+named_same this named made calm = grind (arith, seconds, life_same, where_same, made_far, quiet_life)
 
 sink_same : (boxes : ℕ) (made : List Step) (step : Step) → AreCalm made
     → sink_refusal boxes (seconds made) step ≡ sink_refusal boxes made step
@@ -188,8 +170,7 @@ sink_same boxes made this calm = named_same this (named_by this) made calm
 -- ---- the order of steps, and both sources
 
 order_same : (made : List Step) (step : Step) → is_out_of_order (seconds made) step ≡ is_out_of_order made step
-order_same made steps.End = search unbegun_same
-order_same made _ = search (same, unbegun_same)
+order_same made step = grind (arith, unbegun_same, same)
 
 twin_same : (made : List Step) (step : Step) → twin_refusal (seconds made) step ≡ twin_refusal made step
 twin_same made steps.End = refl

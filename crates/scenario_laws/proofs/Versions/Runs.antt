@@ -1,6 +1,6 @@
 -- A run over the lines behind `scenario 1` and behind `scenario 2`: it brings the same, where the run in version 1 isn't refused
 -- for BadLine, `BadGroup 11` or TimeOrder, and no `train` step in it prints `BadGroup 11`. Histories have the newest line first.
-use Rattle.std.proofs.Common.{ℕ, suc, ◌≡◌, ◌⊎◌, ◌+◌, nat_eq, not, false, List, [], ◌∷◌, ◌++◌, length, reverse, Option, None, Some, refl}
+use Rattle.std.proofs.Common.{ℕ, suc, ◌≡◌, ◌⊎◌, ◌+◌, nat_eq, false, List, [], ◌∷◌, ◌++◌, length, reverse, Option, None, Some, refl, arith}
 use Rattle.std.proofs.Common.{sym, ◌∙◌, ap, ap₂, subst, inl, inr}
 use Rattle.std.specs.List.{concat}
 use Rattle.std.proofs.lemmas.Bool.{false≢true}
@@ -12,7 +12,7 @@ use Rattle.big_info.specs.declared.fault.GroupFault.TheVariants.{Horizon}
 use Rattle.delegator_history.specs.Trains.{Settings, Train, answer_of, brought_by}
 use Rattle.delegator_history.specs.declared.train_heard.TrainHeard.TheVariants.{BadGroup as Refused}
 use Rattle.scenario_history.specs.Runs.{Accepted, End, Rules, accepted_of, accepted_unless, end_of, end_unless, number_after, out, out_unless}
-use Rattle.scenario_history.specs.Runs.{refused, through}
+use Rattle.scenario_history.specs.Runs.{refused}
 use Rattle.scenario_history.proofs.Citable.{reverse_onto}
 use Rattle.source_machine.specs.Airs.{airs_of}
 use Rattle.scenario_text.specs.declared.step.Step.{Step}
@@ -74,20 +74,14 @@ same_lasts boxes made (unsaid reason) plain calm = inl refl
 
 said_lasts : (boxes : ℕ) (made : List Step) (said later : Said) → has_relay made ≡ false → AreCalm made → (later ≡ said) ⊎ IsUnsaid said
     → Lasts (refusal_said airs_of boxes made said) (refusal_said airs_of boxes (seconds made) later)
-said_lasts boxes made said later plain calm (inl same) =
-    subst (λ it. Lasts (refusal_said airs_of boxes made said) (refusal_said airs_of boxes (seconds made) it)) (sym same)
-    (same_lasts boxes made said plain calm)
-said_lasts boxes made said later plain calm (inr is) = inr (unsaid_gone boxes made said is)
+said_lasts boxes made said later plain calm h6 = grind (arith, seconds, same_lasts, unsaid_gone)
 
 gone_some : (reason : Option Refusal) → IsGone reason → reason ≡ None → ⊥
-gone_some None gone none = gone
-gone_some (Some reason) gone none = none-some reason (sym none)
+gone_some reason gone none = grind (arith, none-some)
 
 said_same : (boxes : ℕ) (made : List Step) (said later : Said) → (later ≡ said) ⊎ IsUnsaid said
     → refusal_said airs_of boxes made said ≡ None → later ≡ said
-said_same boxes made said later (inl same) none = same
-said_same boxes made said later (inr is) none = absurd
-    (gone_some (refusal_said airs_of boxes made said) (unsaid_gone boxes made said is) none)
+said_same boxes made said later h4 none = grind (arith, gone_some, unsaid_gone)
 
 -- ---- trains that are given
 
@@ -183,14 +177,12 @@ line_lasts starts history later line stands =
 -- a line that isn't refused, of what is said before it
 passes_said : (starts : List Account) (history later : List TextLine) (line : TextLine) → Stands starts history later
     → (Its starts).refusal history line ≡ None → refusal_said airs_of (length starts) (said_of history) (said_after history line) ≡ None
-passes_said starts history later line stands none =
-    ap (λ made. refusal_said airs_of (length starts) made (said_after history line)) (sym (happens starts history later stands)) ∙ none
+passes_said starts history later line stands none = cc (happens starts history later stands, none)
 
 -- behind `scenario` no step that isn't refused is `scenario`
 second_same : (made : List Step) (step : Step) → is_misplaced (stage_of made) step ≡ false → is_unbegun_at (stage_of made) ≡ false
     → second step ≡ step
-second_same made (steps.Scenario version) placed begun = absurd (false≢true (sym placed ∙ ap not begun))
-second_same made _ placed begun = refl
+second_same made step placed begun = grind (arith, false≢true)
 
 begun_after : (made : List Step) (step : Step) → is_unbegun_at (stage_of made) ≡ false
     → is_unbegun_at (stage_after step (stage_of made)) ≡ false
@@ -200,9 +192,7 @@ begun_after made _ begun = begun
 
 version_after : (made : List Step) (step : Step) → is_misplaced (stage_of made) step ≡ false → is_unbegun_at (stage_of made) ≡ false
     → version_of (step ∷ made) ≡ version_of made
-version_after made (steps.Scenario version) placed begun = absurd (false≢true (sym placed ∙ ap not begun))
-version_after made steps.End placed begun = refl
-version_after made _ placed begun = refl
+version_after made step placed begun = grind (arith, false≢true)
 
 -- what a line that isn't refused leaves to the lines behind it
 record Goes (made later : List Step) (said : Said) : Type 0 where
@@ -255,9 +245,7 @@ stands_next laws starts history later line stands none never =
 brought_same : (starts : List Account) (made : List Step) (said : Said) → has_relay made ≡ false → AreCalm made
     → AreCalm (with_said said made)
     → output_said airs_of starts (seconds made) said ≡ output_said airs_of starts made said
-brought_same starts made (a_step this) plain calm next = output_same starts made this plain calm next.1
-brought_same starts made nothing plain calm next = refl
-brought_same starts made (unsaid reason) plain calm next = refl
+brought_same starts made said plain calm next = grind (arith, output_same)
 
 line_same : Laws → (starts : List Account) (history later : List TextLine) (line : TextLine) → Stands starts history later
     → (Its starts).refusal history line ≡ None
@@ -326,18 +314,11 @@ run_next : (starts : List Account) (history later rest : List TextLine) (line : 
     ++ out (Its starts) (line ∷ later) rest)
     (end_of (Its starts) (line ∷ history) rest) (end_of (Its starts) (line ∷ later) rest)
     (accepted_of (Its starts) (line ∷ history) rest) (accepted_of (Its starts) (line ∷ later) rest)
-run_next starts history later rest line same more = record {
-  octets_same = ap₂ (λ (one two : List ℕ). one ++ two) same more.octets_same;
-  end_same = more.end_same;
-  units_same = more.units_same;
-  over_same = more.over_same;
-}
+run_next starts history later rest line same more = search (ap₂, over_same)
 
 pub run_alike : Laws → (starts : List Account) (lines history later rest : List TextLine) → NonePrintsTooFar airs_of starts lines
     → Begins lines history rest
     → Stands starts history later → EndsLasting (end_of (Its starts) history rest) → RunAlike starts history later rest rest
-run_alike laws starts lines history later [] never begins stands lasting =
-    stands_alike starts history later [] [] through through stands refl refl
 run_alike laws starts lines history later (line ∷ rest) never begins stands lasting =
     alike_if starts history later ((Its starts).refusal history line) ((Its starts).refusal later line)
     ((Its starts).output history line ++ out (Its starts) (line ∷ history) rest) ((Its starts).output later line
@@ -351,3 +332,4 @@ run_alike laws starts lines history later (line ∷ rest) never begins stands la
     (line_same laws starts history later line stands none prints_not)
     (run_alike laws starts lines (line ∷ history) (line ∷ later) rest never (begins ∙ sym (reverse_onto line history rest))
     (stands_next laws starts history later line stands none prints_not) on))
+run_alike laws starts lines history later [] never begins stands lasting = search (stands_alike)

@@ -1,7 +1,7 @@
 -- The steps of a scenario in version 2: `scenario 2` stands for `scenario`. What the steps say that isn't said of the version
 -- stays. Lists of steps have the newest first.
 use Rattle.std.proofs.Common.{ℕ, ◌≡◌, ◌⊎◌, ◌≤◌, ◌==◌, ◌||◌, ◌&&◌, cond, Bool, true, false, List, [], ◌∷◌, Option, refl, sym}
-use Rattle.std.proofs.Common.{◌∙◌, ap, subst, inl, inr, arith}
+use Rattle.std.proofs.Common.{◌∙◌, ap, inl, inr, arith}
 use Rattle.std.specs.Prelude.{unwrap_or}
 use Rattle.std.specs.Option.{option_or}
 use Rattle.delegator_history.specs.LastGiven.{last_given as last_of}
@@ -145,9 +145,7 @@ unbegun_later _ _ is = search
 
 stands_after : (stage later : Stage) (step : Step) → StandsLater stage later
     → StandsLater (stage_after step stage) (stage_after (second step) later)
-stands_after stage later (steps.Scenario version) is = inr refl
-stands_after stage later steps.End is = version_later stage later is
-stands_after stage later this is = is
+stands_after stage later step is = grind (arith, version_later)
 
 stands_later : (made : List Step) → StandsLater (stage_of made) (stage_of (seconds made))
 stands_later [] = tt
@@ -165,8 +163,7 @@ unbegun_same made = unbegun_later (stage_of made) (stage_of (seconds made)) (sta
 -- ---- what a version bounds
 
 pub horizon_grows : (version later : ℕ) → IsLater version later → horizon_in version ≤ horizon_in later
-horizon_grows version later (inl same) = subst (λ v. horizon_in version ≤ horizon_in v) (sym same) (omega arith)
-horizon_grows version later (inr two) = subst (λ v. horizon_in version ≤ horizon_in v) (sym two) (horizon_greatest (version == 2))
+horizon_grows version later h2 = grind (arith, horizon_greatest)
 
 pub ahead_stays : (version later : ℕ) → IsLater version later → is_ahead_in version ≡ true → is_ahead_in later ≡ true
 ahead_stays version later (inl same) is = ap is_ahead_in same ∙ is
@@ -183,8 +180,4 @@ pub sink_horizon : (made : List Step) → horizon_of made ≡ horizon_in (versio
 sink_horizon made = ap horizon_in (version_same made)
 
 pub sink_grows : (made : List Step) → horizon_of made ≤ horizon_of (seconds made)
-sink_grows made =
-    let grows = horizon_grows (version_of made) (version_of (seconds made)) (is_later made) in
-    let here = sink_horizon made in
-    let there = sink_horizon (seconds made) in
-    omega (arith, grows, here, there)
+sink_grows made = search (horizon_grows, is_later, sink_horizon)

@@ -1,6 +1,6 @@
 -- A source of a scenario in version 2: what it sends is the same (Core 5.2, volume 6 part B, section 4.4.6, and part G, section
 -- 2). Where a list is called `own` its steps are those of one source, the newest first.
-use Rattle.std.proofs.Common.{ℕ, ◌≡◌, ◌==◌, cond, Bool, List, [], ◌∷◌, refl, ◌∙◌, ap}
+use Rattle.std.proofs.Common.{ℕ, ◌≡◌, ◌==◌, cond, Bool, List, [], ◌∷◌, refl, ap}
 use Rattle.std.proofs.Common.{ap₂}
 use Rattle.std.specs.Prelude.{map, unwrap_or}
 use Rattle.std.specs.List.{range_with_len}
@@ -34,8 +34,7 @@ setup_same own = search same
 pub of_calls : {A : Type 0} (f : Setup → List Call → A) → ((ahead : Bool) (setup : Setup) (calls : List Call)
     → f (with_ahead ahead setup) calls ≡ f setup calls) → (own : List Step)
     → f (setup_of (seconds own)) (source_calls (seconds own)) ≡ f (setup_of own) (source_calls own)
-of_calls f stays own =
-    ap₂ f (setup_same own) (calls_same own) ∙ stays (is_ahead (seconds own)) (setup_of own) (source_calls own)
+of_calls f stays own = cc (ap₂ f (setup_same own) (calls_same own), stays (is_ahead (seconds own)) (setup_of own) (source_calls own))
 
 -- ---- its airs
 

@@ -48,16 +48,12 @@ octet_in taken part octet text within plain_octet =
 end_in : (taken : ℕ) (part text : List ℕ) → taken < text_limit
     → lines_from true taken part (newline ∷ text) ≡ line_of part ∷ lines_from true (taken + 1) [] text
 unfolding lines_from
-end_in taken part text within = ap (λ b. cond b (past ∷ []) (line_of part ∷ lines_from true (taken + 1) [] text))
-    (lt-leb text_limit taken within)
+end_in taken part text within = cc (lt-leb text_limit taken within)
 
 octet_past : (taken : ℕ) (part : List ℕ) (octet : ℕ) (text : List ℕ) → text_limit ≤ taken
     → lines_from true taken part (octet ∷ text) ≡ past ∷ []
 unfolding lines_from
-octet_past taken part octet text at =
-    ap (λ b. cond b (past ∷ []) (cond (eqb octet newline) (line_of part ∷ lines_from true (taken + 1) [] text)
-    (lines_from true (taken + 1) (part ++ octet ∷ []) text)))
-    (le-leb text_limit taken at)
+octet_past taken part octet text at = cc (le-leb text_limit taken at)
 
 line_in : (taken : ℕ) (part line text : List ℕ) → Clean line → taken + length line ≤ text_limit
     → lines_from true taken part (line ++ text) ≡ lines_from true (taken + length line) (part ++ line) text
@@ -91,8 +87,7 @@ clean_onto octet (line ∷ lines) plain_octet clean = ((plain_octet, clean.0), c
 
 clean_if : (b : Bool) (octet : ℕ) (lines : List (List ℕ)) → (octet == newline) ≡ b → AreClean lines
     → AreClean (cond b ([] ∷ lines) (onto_first octet lines))
-clean_if true octet lines is clean = (tt, clean)
-clean_if false octet lines is clean = clean_onto octet lines is clean
+clean_if b octet lines is clean = grind (arith, clean_onto)
 
 clean_lines : (text : List ℕ) → AreClean (lines_of text)
 clean_lines [] = (tt, tt)
@@ -176,26 +171,13 @@ line_turn taken line second one other clean clean_too same within turns = elim (
 first_turn : (is_it : Bool) (taken : ℕ) (line : List ℕ) (lines : List (List ℕ)) → Clean line → taken ≤ text_limit
     → bytes_eq line first_version ≡ is_it
     → TurnOn (from taken (line ++ behind lines)) (from taken (cond is_it second_version line ++ behind lines))
-first_turn false taken line lines clean within is = inl refl
-first_turn true taken line lines clean within is =
-    subst (λ it. TurnOn (from taken (it ++ behind lines)) (from taken (second_version ++ behind lines)))
-    (sym ((bytes_eq-Decides line first_version).0 is))
-    (line_turn taken first_version second_version (behind lines) (behind lines) first_clean second_clean refl within
-    (version_turn (taken + length first_version) lines))
+first_turn is_it taken line lines clean within is = grind (arith, bytes_eq-Decides, line_turn, first_clean, second_clean, version_turn)
 
 blank_or : (blank : Bool) (taken : ℕ) (line : List ℕ) (lines : List (List ℕ)) → Clean line → taken ≤ text_limit → is_blank line ≡ blank
     → ((taken' : ℕ) → taken' ≤ text_limit → TurnOn (from taken' (text_of lines)) (from taken' (text_of (migrated_lines lines))))
     → TurnOn (from taken (line ++ behind lines)) (from taken
     (text_of (cond blank (line ∷ migrated_lines lines) (migrated_line line ∷ lines))))
-blank_or false taken line lines clean within is turns = first_turn (bytes_eq line first_version) taken line lines clean within refl
-blank_or true taken line [] clean within is turns = inl refl
-blank_or true taken line (next ∷ lines) clean within is turns =
-    subst (λ tail. TurnOn (from taken (line ++ newline ∷ text_of (next ∷ lines))) (from taken (line ++ tail)))
-    (sym (behind_migrated next lines))
-    (line_turn taken line line (newline ∷ text_of (next ∷ lines)) (newline ∷ text_of (migrated_lines (next ∷ lines))) clean clean refl
-    within
-    (λ fits. blank_turn (taken + length line) line (text_of (next ∷ lines)) (text_of (migrated_lines (next ∷ lines))) is fits
-    (λ below. turns (taken + length line + 1) (omega (arith, below)))))
+blank_or blank taken line lines clean within is turns = grind (arith, first_turn, behind_migrated, line_turn, blank_turn)
 
 lines_turn : (lines : List (List ℕ)) (taken : ℕ) → AreClean lines → taken ≤ text_limit
     → TurnOn (from taken (text_of lines)) (from taken (text_of (migrated_lines lines)))

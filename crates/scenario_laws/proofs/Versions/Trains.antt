@@ -1,10 +1,8 @@
 -- What a train brings to a sink whose groups may reach more events ahead: what it brought, where it wasn't answered
 -- `BadGroup 11` (Basic Audio Profile 1.0, section 6.5).
-use Rattle.std.proofs.Common.{ℕ, ◌≡◌, ◌⊎◌, ◌≤◌, cond, Bool, true, false, List, Option, None, Some, Result, Ok, Err, refl, ◌∙◌, ap, inl, inr}
-use Rattle.std.specs.Prelude.{◌==◌, length}
+use Rattle.std.proofs.Common.{ℕ, ◌≡◌, ◌⊎◌, ◌≤◌, cond, Bool, true, false, List, Option, None, Some, Result, Ok, Err, refl, ◌∙◌, ap, inl, inr, arith}
 use Rattle.base_grammar.specs.AdReading.{broadcast_id_of}
 use Rattle.base_grammar.specs.Layout.{Endpoint}
-use Rattle.base_grammar.specs.Reading.{base_of}
 use Rattle.base_grammar.specs.declared.fault.BaseFault.{BaseFault}
 use Rattle.bass_operations.specs.declared.wishes.Wish.{Wish}
 use Rattle.big_info.specs.declared.big_fault.BigFault.{BigFault}
@@ -16,13 +14,10 @@ use Rattle.big_info.specs.Rows.{first_fault}
 use Rattle.pacs_records.specs.declared.capability.Capability.{Capability}
 use Rattle.delegator_history.specs.declared.train_heard.TrainHeard.{TrainHeard}
 use Rattle.delegator_history.specs.declared.train_heard.TrainHeard.TheVariants as answers
-use Rattle.delegator_history.specs.Sights.{Sight, entry_at, is_on_group}
-use Rattle.delegator_history.specs.Steps.{wishes_at}
-use Rattle.delegator_history.specs.Trains.{Brought, Setup, Train, heard, ignored, taken, answer_of, are_none, base_in, big_info_in}
+use Rattle.delegator_history.specs.Sights.{Sight}
+use Rattle.delegator_history.specs.Trains.{Brought, Setup, Train, ignored, answer_of, big_info_in}
 use Rattle.delegator_history.specs.Trains.{brought_by, by_base, by_big_info}
-use Rattle.delegator_history.specs.Trains.{by_broadcast_id, by_endpoint, by_group, by_info, by_slot, first_candidates}
-use Rattle.delegator_history.specs.Trains.{is_elsewhere, is_wanted}
-use Rattle.delegator_history.specs.Writes.{slot_where}
+use Rattle.delegator_history.specs.Trains.{by_broadcast_id, by_endpoint, by_group, by_info, by_slot}
 use Rattle.scenario_laws.proofs.Versions.Groups.{FoundNear, IsNear, first_same}
 
 -- the limits of a sink, but for how far a group may reach
@@ -50,8 +45,7 @@ fault_same : (far : ℕ) (setup : Setup) (capability : Capability) (wishes : Lis
     (fault : Option GroupFault)
     → by_group (reaching far setup) capability wishes slot train base info encrypted fault
     ≡ by_group setup capability wishes slot train base info encrypted fault
-fault_same far setup capability wishes slot train base info encrypted None = refl
-fault_same far setup capability wishes slot train base info encrypted (Some fault) = refl
+fault_same far setup capability wishes slot train base info encrypted fault = cc
 
 info_same : (far : ℕ) (setup : Setup) (capability : Capability) (wishes : List Wish) (slot : ℕ) (train : Train) (base : Endpoint)
     (encrypted : Bool)
@@ -69,24 +63,18 @@ big_info_same : (far : ℕ) (setup : Setup) (capability : Capability) (wishes : 
     (found : Option (List ℕ))
     → setup.horizon ≤ far → BringsNear (by_big_info setup capability wishes slot train base found)
     → by_big_info (reaching far setup) capability wishes slot train base found ≡ by_big_info setup capability wishes slot train base found
-big_info_same far setup capability wishes slot train base None within is = refl
-big_info_same far setup capability wishes slot train base (Some octets) within is =
-    info_same far setup capability wishes slot train base (length octets == 57) (info_of octets) within is
+big_info_same far setup capability wishes slot train base found within is = grind (arith, info_same)
 
 endpoint_same : (far : ℕ) (setup : Setup) (capability : Capability) (wishes : List Wish) (slot : ℕ) (train : Train)
     (read : Result Endpoint BaseFault)
     → setup.horizon ≤ far → BringsNear (by_endpoint setup capability wishes slot train read)
     → by_endpoint (reaching far setup) capability wishes slot train read ≡ by_endpoint setup capability wishes slot train read
-endpoint_same far setup capability wishes slot train (Err fault) within is = refl
-endpoint_same far setup capability wishes slot train (Ok base) within is =
-    big_info_same far setup capability wishes slot train base (big_info_in train.acad) within is
+endpoint_same far setup capability wishes slot train read within is = grind (arith, big_info_same)
 
 base_same : (far : ℕ) (setup : Setup) (capability : Capability) (wishes : List Wish) (slot : ℕ) (train : Train) (found : Option (List ℕ))
     → setup.horizon ≤ far → BringsNear (by_base setup capability wishes slot train found)
     → by_base (reaching far setup) capability wishes slot train found ≡ by_base setup capability wishes slot train found
-base_same far setup capability wishes slot train None within is = refl
-base_same far setup capability wishes slot train (Some octets) within is =
-    endpoint_same far setup capability wishes slot train (base_of octets) within is
+base_same far setup capability wishes slot train found within is = grind (arith, endpoint_same)
 
 here_same : (elsewhere already : Bool) (one two : TrainHeard) (brought other : Brought)
     → BringsNear (cond elsewhere (ignored one) (cond already (ignored two) brought))
@@ -99,19 +87,12 @@ here_same false false one two brought other is same = same is
 slot_same : (far : ℕ) (setup : Setup) (sight : Sight) (train : Train) (found : Option ℕ) → setup.horizon ≤ far
     → BringsNear (by_slot setup sight train found)
     → by_slot (reaching far setup) sight train found ≡ by_slot setup sight train found
-slot_same far setup sight train None within is = refl
-slot_same far setup sight train (Some slot) within is =
-    here_same (is_elsewhere sight.place slot) (is_on_group sight.place slot) answers.OtherTrain answers.AlreadyOnGroup
-    (by_base setup sight.capability (wishes_at (entry_at sight.slots slot)) slot train (base_in train.adv))
-    (by_base (reaching far setup) sight.capability (wishes_at (entry_at sight.slots slot)) slot train (base_in train.adv)) is
-    (base_same far setup sight.capability (wishes_at (entry_at sight.slots slot)) slot train (base_in train.adv) within)
+slot_same far setup sight train found within is = grind (arith, here_same, base_same)
 
 id_same : (far : ℕ) (setup : Setup) (sight : Sight) (train : Train) (id : Option (List ℕ)) → setup.horizon ≤ far
     → BringsNear (by_broadcast_id setup sight train id)
     → by_broadcast_id (reaching far setup) sight train id ≡ by_broadcast_id setup sight train id
-id_same far setup sight train None within is = refl
-id_same far setup sight train (Some id) within is = slot_same far setup sight train
-    (slot_where (is_wanted train.address_type train.sid id) 0 sight.slots) within is
+id_same far setup sight train id within is = grind (arith, slot_same)
 
 pub brought_same : (far : ℕ) (setup : Setup) (sight : Sight) (train : Train) → setup.horizon ≤ far
     → BringsNear (brought_by setup sight train)
@@ -132,55 +113,37 @@ near_if false one other is also = also
 near_group : (setup : Setup) (capability : Capability) (wishes : List Wish) (slot : ℕ) (train : Train) (base : Endpoint) (info : BigInfo)
     (encrypted : Bool)
     (fault : Option GroupFault) → FoundNear fault → BringsNear (by_group setup capability wishes slot train base info encrypted fault)
-near_group setup capability wishes slot train base info encrypted (Some fault) near = near
-near_group setup capability wishes slot train base info encrypted None near =
-    let streams : List (List ℕ) = first_candidates capability base info.num_bis setup.streams wishes base.subgroups in
-    near_if (are_none streams) (heard slot answers.NoneTaken (Some encrypted)) (taken slot _ encrypted _) tt tt
+near_group setup capability wishes slot train base info encrypted fault near = grind (arith, near_if)
 
 near_info : (setup : Setup) (capability : Capability) (wishes : List Wish) (slot : ℕ) (train : Train) (base : Endpoint) (encrypted : Bool)
     (read : Result BigInfo BigFault)
     → ((info : BigInfo) → read ≡ Ok info → FoundNear (first_fault setup.horizon info))
     → BringsNear (by_info setup capability wishes slot train base encrypted read)
-near_info setup capability wishes slot train base encrypted (Err fault) near = tt
-near_info setup capability wishes slot train base encrypted (Ok info) near =
-    near_group setup capability wishes slot train base info encrypted (first_fault setup.horizon info) (near info refl)
+near_info setup capability wishes slot train base encrypted read near = grind (arith, near_group)
 
 near_big_info : (setup : Setup) (capability : Capability) (wishes : List Wish) (slot : ℕ) (train : Train) (base : Endpoint)
     (found : Option (List ℕ))
     → ((octets : List ℕ) → (info : BigInfo) → found ≡ Some octets → info_of octets ≡ Ok info → FoundNear (first_fault setup.horizon info))
     → BringsNear (by_big_info setup capability wishes slot train base found)
-near_big_info setup capability wishes slot train base None near = tt
-near_big_info setup capability wishes slot train base (Some octets) near =
-    near_info setup capability wishes slot train base (length octets == 57) (info_of octets) (λ info read. near octets info refl read)
+near_big_info setup capability wishes slot train base found near = grind (arith, near_info)
 
 near_endpoint : (setup : Setup) (capability : Capability) (wishes : List Wish) (slot : ℕ) (train : Train) (read : Result Endpoint BaseFault)
     → ReadsNear setup train
     → BringsNear (by_endpoint setup capability wishes slot train read)
-near_endpoint setup capability wishes slot train (Err fault) near = tt
-near_endpoint setup capability wishes slot train (Ok base) near =
-    near_big_info setup capability wishes slot train base (big_info_in train.acad) near
+near_endpoint setup capability wishes slot train read near = grind (arith, near_big_info)
 
 near_base : (setup : Setup) (capability : Capability) (wishes : List Wish) (slot : ℕ) (train : Train) (found : Option (List ℕ))
     → ReadsNear setup train
     → BringsNear (by_base setup capability wishes slot train found)
-near_base setup capability wishes slot train None near = tt
-near_base setup capability wishes slot train (Some octets) near = near_endpoint setup capability wishes slot train (base_of octets) near
+near_base setup capability wishes slot train found near = grind (arith, near_endpoint)
 
 near_slot : (setup : Setup) (sight : Sight) (train : Train) (found : Option ℕ) → ReadsNear setup train
     → BringsNear (by_slot setup sight train found)
-near_slot setup sight train None near = tt
-near_slot setup sight train (Some slot) near =
-    let more : Brought = by_base setup sight.capability (wishes_at (entry_at sight.slots slot)) slot train (base_in train.adv) in
-    near_if (is_elsewhere sight.place slot) (ignored answers.OtherTrain)
-    (cond (is_on_group sight.place slot) (ignored answers.AlreadyOnGroup) more) tt
-    (near_if (is_on_group sight.place slot) (ignored answers.AlreadyOnGroup) more tt
-    (near_base setup sight.capability (wishes_at (entry_at sight.slots slot)) slot train (base_in train.adv) near))
+near_slot setup sight train found near = grind (arith, near_if, near_base)
 
 near_id : (setup : Setup) (sight : Sight) (train : Train) (id : Option (List ℕ)) → ReadsNear setup train
     → BringsNear (by_broadcast_id setup sight train id)
-near_id setup sight train None near = tt
-near_id setup sight train (Some id) near = near_slot setup sight train
-    (slot_where (is_wanted train.address_type train.sid id) 0 sight.slots) near
+near_id setup sight train id near = grind (arith, near_slot)
 
 pub brought_near : (setup : Setup) (sight : Sight) (train : Train) → ReadsNear setup train → BringsNear (brought_by setup sight train)
 brought_near setup sight train near = near_id setup sight train (broadcast_id_of train.ext) near

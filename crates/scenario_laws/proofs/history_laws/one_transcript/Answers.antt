@@ -2,41 +2,32 @@ use Rattle.scenario_laws.proofs.OneTranscript.{accepted_same, answered_same, bro
 use Rattle.scenario_laws.proofs.history_laws.one_transcript.Goals as goal
 
 pub returns-clause-octets : goal.returns-clause-octets
-returns-clause-octets c = λ airs others starts lines meets meet_too.
-    transcript_same airs others (record { both = record { one = c.one_air.ensures.same; meets = meets; meet_too = meet_too }; ranged = c.a_line_says_one_step.ensures.in_range }) starts lines
+returns-clause-octets c = search (transcript_same)
 
 pub returns-clause-end : goal.returns-clause-end
-returns-clause-end c = λ airs others starts lines meets meet_too.
-    transcript_end_same airs others (record { both = record { one = c.one_air.ensures.same; meets = meets; meet_too = meet_too }; ranged = c.a_line_says_one_step.ensures.in_range }) starts lines
+returns-clause-end c = search (transcript_end_same)
 
 pub returns-clause-units : goal.returns-clause-units
-returns-clause-units c = λ airs others starts lines meets meet_too.
-    units_same airs others (record { both = record { one = c.one_air.ensures.same; meets = meets; meet_too = meet_too }; ranged = c.a_line_says_one_step.ensures.in_range }) starts lines
+returns-clause-units c = search (units_same)
 
 pub returns-clause-out : goal.returns-clause-out
-returns-clause-out c = λ airs others starts lines meets meet_too.
-    out_of_same airs others (record { both = record { one = c.one_air.ensures.same; meets = meets; meet_too = meet_too }; ranged = c.a_line_says_one_step.ensures.in_range }) starts lines
+returns-clause-out c = search (out_of_same)
 
 pub returns-clause-lines_end : goal.returns-clause-lines_end
-returns-clause-lines_end c = λ airs others starts lines meets meet_too.
-    end_after_same airs others (record { both = record { one = c.one_air.ensures.same; meets = meets; meet_too = meet_too }; ranged = c.a_line_says_one_step.ensures.in_range }) starts lines
+returns-clause-lines_end c = search (end_after_same)
 
 pub returns-clause-accepted : goal.returns-clause-accepted
-returns-clause-accepted c = λ airs others starts lines meets meet_too.
-    accepted_same airs others (record { both = record { one = c.one_air.ensures.same; meets = meets; meet_too = meet_too }; ranged = c.a_line_says_one_step.ensures.in_range }) starts lines
+returns-clause-accepted c = search (accepted_same)
 
 pub returns-clause-handed : goal.returns-clause-handed
-returns-clause-handed c = λ airs others starts lines line meets meet_too.
-    handed_on_same airs others (record { both = record { one = c.one_air.ensures.same; meets = meets; meet_too = meet_too }; ranged = c.a_line_says_one_step.ensures.in_range }) starts lines line
+returns-clause-handed c = search (handed_on_same)
 
 pub returns-clause-steps : goal.returns-clause-steps
-returns-clause-steps c = λ airs others starts lines meets meet_too.
-    steps_same airs others (record { both = record { one = c.one_air.ensures.same; meets = meets; meet_too = meet_too }; ranged = c.a_line_says_one_step.ensures.in_range }) starts lines
+returns-clause-steps c = search (steps_same)
 
 pub returns-clause-output : goal.returns-clause-output
 returns-clause-output c = λ airs others starts lines line meets meet_too accepted.
     brought_same airs others (record { both = record { one = c.one_air.ensures.same; meets = meets; meet_too = meet_too }; ranged = c.a_line_says_one_step.ensures.in_range }) starts lines line accepted.0 accepted.1
 
 pub returns-clause-answers : goal.returns-clause-answers
-returns-clause-answers c = λ airs others starts lines step meets meet_too.
-    answered_same airs others (record { both = record { one = c.one_air.ensures.same; meets = meets; meet_too = meet_too }; ranged = c.a_line_says_one_step.ensures.in_range }) starts lines step
+returns-clause-answers c = search (answered_same)

@@ -19,9 +19,7 @@ first_two (suc k) within = absurd (omega (arith, within))
 
 -- only the first was handed up at this time
 first_place : (k : ℕ) (unit : AudioUnit) → slice_get handed_both k ≡ Some unit → unit.time ≡ 61460 → k ≡ 0
-first_place zero unit is time = refl
-first_place (suc zero) unit is time = let at = ap (λ (u : AudioUnit). u.time) (same_Some _ unit is) in absurd (omega (arith, at, time))
-first_place (suc (suc k)) unit is time = absurd (none-some unit is)
+first_place k unit is time = grind (arith, same_Some, none-some)
 
 its_place : (at : UnitPlace) → IsOfFirst equal_units handed_both its_setup 2 at (valid 2 122544 (0xa0 ∷ [])) → at.place ≡ 0
 its_place at is = first_place at.place is.unit is.is_handed (omega (arith, is.time_is))
