@@ -42,7 +42,8 @@ def unproved(copy: Copy) -> typing.Iterator[str | None]:
             yield f'replay, unproved: standard error has lines of rt: {ran.stderr!r}'
     for tried_status, said in NO_ANSWERS:
         ran = copy.run('replay', given=TEXT, STATUS=tried_status, SAID=said)
-        yield differs(f'replay, {said}', ran, CANNOT, b'', b'1 MiB', b'60 s', b'./prove builds')
+        why = (b'1 MiB', b'60 s', b'./prove builds') if tried_status == '6' else (b'stands above', b'./prove tells')
+        yield differs(f'replay, {said}', ran, CANNOT, b'', *why)
     ran = copy.run('replay', '--seed', '1', '--events', '2', given=TEXT)
     yield differs('replay --seed, unproved', ran, 0, b'tried: -- --seed 1 --events 2\n', UNPROVED)
 
