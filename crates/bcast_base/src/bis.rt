@@ -1,4 +1,4 @@
-ghost use Rattle.std.specs.Prelude.{◌≡◌, ◌≢◌, ◌≤◌, ◌↔◌, ℕ, IsTrue};
+ghost use Rattle.std.specs.Prelude.{◌≡◌, ◌≢◌, ◌≤◌, ◌<◌, ◌^◌, ◌↔◌, ℕ, IsTrue};
 ghost use Rattle.std.specs.Option.{SomeIff};
 ghost use Rattle.std.specs.Int.RustNames.{count_ones};
 ghost use Rattle.bcast_base.specs.Bis.{Has};
@@ -69,6 +69,24 @@ impl BisSet {
         ensures { result ≡ 0 }
     {
         BisSet { bits: 0 }
+    }
+
+    /// The set of these bits: bit n stands for index n + 1. `None` where bit 31 is set.
+    pub fn of(bits: u32) -> Option<BisSet>
+        ensures { SomeIff result (bits < 2 ^ 31) bits }
+    {
+        if bits < 1 << 31 {
+            Some(BisSet { bits })
+        } else {
+            None
+        }
+    }
+
+    /// Its bits: bit n stands for index n + 1.
+    pub fn bits(self) -> u32
+        ensures { result ≡ self }
+    {
+        self.bits
     }
 
     /// Whether the stream is in the set.
