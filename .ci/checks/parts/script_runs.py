@@ -5,6 +5,9 @@ import os
 import subprocess
 import typing
 
+import proof_times
+from crate_sums import PROGRAMS, in_order, listed
+
 from checks.parts.script_copy import NAMES, PROGRAM, Copy, write
 
 CANNOT, USAGE, MEMORY = 70, 2, 6
@@ -106,6 +109,24 @@ def tried(copy: Copy) -> typing.Iterator[str | None]:
     yield differs('try of no file', copy.run('try', copy.path('one'), copy.path('none')), USAGE, b'', b'no file that can be read')
 
 
+def estimates(_: Copy) -> typing.Iterator[str | None]:
+    """How long ./prove says that it takes: of a table with each crate, less on more processors, and by the pace of what is proved."""
+    below, _lines = listed()
+    names = in_order(below, *PROGRAMS.values())
+    table = proof_times.read_table()
+    if set(table) != set(names):
+        yield f'tools/proof_times.txt has not the crates below the programs: {sorted(set(table) ^ set(names))}'
+    wholes = [proof_times.Times(names, below, it, table).whole for it in (1, 2, 3, 4, 8, 64)]
+    if wholes != sorted(wholes, reverse=True) or wholes[0] < sum(table.values()) or wholes[0] > 1.1 * sum(table.values()):
+        yield f'estimates on more and more processors: {wholes}'
+    times = proof_times.Times(names, below, 4, table)
+    half = set(names[:len(names) // 2])
+    spent = times.whole - times.expected({it: 1.0 for it in half})
+    lefts = [times.left(half, {}, pace * spent) for pace in (0.5, 1.0, 2.0)]
+    if times.left(set(names), {}, times.whole) or lefts != sorted(lefts) or abs(lefts[1] - (times.whole - spent)) > 1:
+        yield f'what is left at half, on machines of half, once and twice the time: {lefts}, of {times.whole}'
+
+
 def held(copy: Copy) -> typing.Iterator[str | None]:
     """What a test run that holds its lock keeps from being built or removed; programs run unproved meanwhile."""
     for name in NAMES:
@@ -137,5 +158,5 @@ def slimmed(copy: Copy) -> typing.Iterator[str | None]:
 
 def faults(folder: str) -> typing.Iterator[str]:
     copy = Copy(folder)
-    for part in (unproved, reads_and_writes, proved, tried, held, slimmed):
+    for part in (unproved, reads_and_writes, proved, tried, estimates, held, slimmed):
         yield from filter(None, part(copy))
