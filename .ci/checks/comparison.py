@@ -9,7 +9,11 @@ from checks.parts.steps import Faults, step
 ORACLE = os.environ.get('ORACLE', '')
 
 
-@step(seconds=100, is_due=lambda: os.path.isfile(ORACLE))
+def absent() -> str:
+    return '' if os.path.isfile(ORACLE) else 'no independent program lies beside the repository'
+
+
+@step(seconds=100, absent=absent)
 def check(replay: str, *, first: int = 1, count: int = 2000) -> Faults:
     """The program writes what an independent one writes, on scenarios drawn anew. That program is no part of the repository; the variable
     ORACLE has its path."""

@@ -26,7 +26,7 @@ check             runs all steps, over the programs that are built
 check NAME ..     runs one step, over these programs where some are named; `check NAME --help` tells what it takes
 check --list      tells of each step what it shows, what it needs, and how long it usually takes
 """
-FAILED, MISUSED, SKIPPED = 1, 2, 3  # how a run ends
+FAILED, MISUSED, SKIPPED, LEFT_OUT = 1, 2, 3, 4  # how a step ends
 MOST = 1500  # characters of a fault that are shown
 
 
@@ -56,7 +56,7 @@ def parsed(step: Step, words: list[str]) -> dict[str, typing.Any]:
     for program in step.programs:
         asked[program] = os.path.abspath(asked[program])
         if not os.path.isfile(asked[program]) or not os.access(asked[program], os.X_OK):
-            parser.error(f'{asked[program]} is no program; ./{program} builds it')
+            parser.error(f'{asked[program]} is no program; ./prove builds it')
     return asked
 
 
@@ -68,6 +68,9 @@ def tell_skipped(step: Step, lacking: list[Tool], part: str = '') -> None:
 def run(step: Step, words: list[str]) -> int:
     """Runs a step, and tells how it ends."""
     asked = parsed(step, words)
+    if why := step.absent():
+        print(f'left out: {step.name}, since {why}')
+        return LEFT_OUT
     if 'scapy' in step.needs + step.wants and not TOOLS['scapy'].is_there():
         if python := python_with('scapy'):
             os.execv(python, [python, os.path.join(TOP, '.ci', 'check'), step.name, *words])
@@ -93,19 +96,18 @@ def run(step: Step, words: list[str]) -> int:
 
 def run_all() -> int:
     """Runs each step in a process of its own. A step that is skipped fails the run where CI is true."""
-    failed, skipped, count = [], [], 0
+    failed: list[str] = []
+    skipped: list[str] = []
+    count = 0
     for name in STEPS:
-        if not step_of(name).is_due():
-            print(f'left out: {name}')
-            continue
         begun = time.monotonic()
         status = subprocess.run([sys.executable, os.path.join(TOP, '.ci', 'check'), name], cwd=TOP, check=False).returncode
+        if status == LEFT_OUT:
+            continue
         count += 1
-        if status == SKIPPED:
-            skipped.append(name)
-        elif status:
-            failed.append(name)
         ended = {0: 'passed', SKIPPED: 'skipped'}.get(status, 'FAILED')
+        skipped += [name] * (ended == 'skipped')
+        failed += [name] * (ended == 'FAILED')
         print(f'-- {name}: {ended}, {time.monotonic() - begun:.0f} s', flush=True)
     told = f'{count} steps, {len(skipped)} skipped' + (f', failed: {", ".join(failed)}' if failed else '')
     is_strict = bool(skipped) and os.environ.get('CI') == 'true'

@@ -53,12 +53,12 @@ TOOLS = {
 @dataclasses.dataclass(frozen=True)
 class Step:
     """A step: its function, how many seconds it usually takes, the tools without which it is skipped, and those without which a part of it
-    is. Where `is_due` says no, it is left out, which counts as nothing."""
+    is. Where `absent` says why there is nothing to run, it is left out, which counts as nothing."""
     run: Callable[..., Faults]
     seconds: float
     needs: tuple[str, ...] = ()
     wants: tuple[str, ...] = ()
-    is_due: Callable[[], bool] = lambda: True
+    absent: Callable[[], str] = str
 
     @property
     def name(self) -> str:
@@ -83,6 +83,6 @@ class Step:
 
 
 def step(*, seconds: float, needs: tuple[str, ...] = (), wants: tuple[str, ...] = (),
-         is_due: Callable[[], bool] = lambda: True) -> Callable[[Callable[..., Faults]], Step]:
+         absent: Callable[[], str] = str) -> Callable[[Callable[..., Faults]], Step]:
     """Makes a step of a function."""
-    return lambda function: Step(function, seconds, needs, wants, is_due)
+    return lambda function: Step(function, seconds, needs, wants, absent)
