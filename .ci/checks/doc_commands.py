@@ -159,13 +159,15 @@ def paths(named: str) -> Iterator[str]:
         yield from sorted(os.path.relpath(it, TOP) for it in glob.glob(os.path.join(TOP, pattern)))
 
 
-@step(seconds=90, wants=('chromium', 'lc3'))
+@step(seconds=60, wants=('chromium', 'lc3'))
 def check(replay: str, explain: str, document: str = '', write: bool = False) -> Faults:
     """Each command of README.md and of docs/ is run from the document's own text, in a folder of its own, and prints what stands behind it
     there; the pages that they make are opened in a Chromium, and their links lead somewhere. CONTRIBUTING.md has the words of a block.
     --document PATH leaves the other documents out, and --write puts what is printed in the place of what differs."""
     programs = {'replay': replay, 'explain': explain}
     found = [Document(it, programs) for it in paths(document)]
+    if not found:
+        yield f'there is no document {document}'
     with concurrent.futures.ThreadPoolExecutor(os.cpu_count()) as pool:
         for it in pool.map(Document.run, found):
             yield from it.faults
