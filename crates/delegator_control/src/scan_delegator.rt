@@ -152,6 +152,13 @@ impl ScanDelegator {
         self.take_notice()
     }
 
+    /// How many slots there are.
+    pub fn slot_count(&self) -> u8
+        ensures { result ≡ (machine self.now).setup.slots }
+    {
+        self.slots.len() as u8
+    }
+
     /// The value of a slot, which exists (Broadcast Audio Scan Service 1.0, section 3.2). Memory is wanted only where it is
     /// filled.
     pub fn read_state(&self, slot: u8) -> Result<Octets, Memory>

@@ -247,6 +247,14 @@ impl Delegator {
         self.scan.next_notice()
     }
 
+    /// How many slots there are.
+    pub fn slot_count(&self) -> u8
+        ensures count { result ≡ self.now.scan.setup.slots }
+        ensures setup { (setup : Setup) (calls : List Call) → StandsFor setup calls self.now → result ≡ setup.slots }
+    {
+        self.scan.slot_count()
+    }
+
     /// The value of a slot, which exists (Broadcast Audio Scan Service 1.0, section 3.2). Memory is wanted only where it is
     /// filled.
     pub fn read_state(&self, slot: u8) -> Result<Octets, Memory>
