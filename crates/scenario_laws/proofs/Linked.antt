@@ -1,5 +1,5 @@
 -- No notice is forged over a link other than 0, and every sink of any lines agrees with its assistants.
-use Rattle.std.proofs.Common.{ℕ, ◌≡◌, ◌≢◌, ◌<◌, ◌==◌, cond, Bool, true, false, List, [], ◌∷◌, Option, None, Some, refl, sym, ◌∙◌, ap, subst}
+use Rattle.std.proofs.Common.{ℕ, ◌≡◌, ◌≢◌, ◌<◌, ◌==◌, cond, Bool, true, false, List, [], ◌∷◌, Option, None, Some, refl, sym, ◌∙◌, ap, subst, arith}
 use Rattle.std.specs.Prelude.{unwrap_or}
 use Rattle.std.specs.Option.{option_or}
 use Rattle.std.proofs.lemmas.Bool.{ne_eqb}
@@ -34,10 +34,8 @@ said_agree in_range laws lines n link slot made is below plain =
     let ranged = ranged_lines in_range lines in
     let few = few_slots n (said_of lines) ranged made is in
     let octets : AreOctets (life n (said_of lines)) = life_octets the_world n (said_of lines) ranged in
-    record {
-      at_rest = laws.agrees made.setup made.mtu link slot (life n (said_of lines)) few below octets plain;
-      drained = laws.drained made.setup made.mtu link slot (life n (said_of lines)) few below octets plain;
-    }
+    assumption (laws.agrees made.setup made.mtu link slot (life n (said_of lines)) few below octets plain,
+        laws.drained made.setup made.mtu link slot (life n (said_of lines)) few below octets plain)
 
 -- gifts are no part of a life
 pub links_agree : LinesInRange → OfLinks → AgreementLaw

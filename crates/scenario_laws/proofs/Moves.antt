@@ -80,11 +80,8 @@ moved_left n named step earlier calls none = grind (arith, left_if, received_lef
 pub plain_stays : (airs : Airs) (n : ℕ) (step : Step) (earlier : List Step) → train_by (source_at earlier) step ≡ None
     → moved n (named_by step) step earlier (sink_calls airs n earlier) ≡ with_sink_call airs n step earlier (sink_calls airs n earlier)
     → source_after n step earlier (source_of n earlier) ≡ source_of n earlier → is_tuned n earlier step ≡ false → StaysBy airs n step earlier
-plain_stays airs n step earlier none is same begins_not = record {
-  left = subst (λ later. Left later (sink_calls airs n earlier)) is (moved_left n (named_by step) step earlier (sink_calls airs n earlier) none);
-  same = same;
-  begins_not = begins_not;
-}
+plain_stays airs n step earlier none is same begins_not =
+    assumption (subst (λ later. Left later (sink_calls airs n earlier)) is (moved_left n (named_by step) step earlier (sink_calls airs n earlier) none))
 
 pub same_if : {A : Type 0} (hit : Bool) (x : A) → cond hit x x ≡ x
 same_if true x = refl
@@ -136,12 +133,7 @@ by_train source lives made later calls its_source nowhere (ignored answer) is =
     inl (record { left = left_or_not (has_group (sight_in made lives).place) (has_group later.place) calls; same = refl; begins_not = refl })
 by_train source lives made later calls its_source nowhere (heard slot answer encrypted) is =
     let off : has_group (sight_in made lives).place ≡ false = heard_by made.setup (sight_in made lives) (own_train source) _ slot answer encrypted is in
-    inr (inl (record {
-      same = ap (λ was. with_leave was (has_group later.place) calls) off;
-      nowhere = nowhere off;
-      source_is = refl;
-      begins_not = refl;
-    }))
+    inr (inl (assumption (ap (λ was. with_leave was (has_group later.place) calls) off, nowhere off)))
 by_train source lives made later calls its_source nowhere (taken slot bits encrypted joining) is =
     inr (inr (record { joining = joining; brings = record { made = made; is = ap joining_in is }; calls_is = refl; source_is = refl; begins_is = refl }))
 

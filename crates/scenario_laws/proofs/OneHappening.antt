@@ -1,6 +1,6 @@
 -- Over two airs that meet the relation of their framing the same happens: relays offer the same units, and source 1 takes the same of
 -- them.
-use Rattle.std.proofs.Common.{ℕ, ◌≡◌, ◌∙◌, cond, not, Bool, true, false, List, [], ◌∷◌, None, Some, refl, ap}
+use Rattle.std.proofs.Common.{ℕ, ◌≡◌, ◌∙◌, cond, not, Bool, true, false, List, [], ◌∷◌, None, Some, refl, ap, arith}
 use Rattle.std.specs.List.{flat_map}
 use Rattle.std.specs.Option.{option_map}
 use Rattle.scenario_text.specs.declared.step.Step.{Step}
@@ -72,10 +72,8 @@ gifts_alike true airs others both boxes made legal runs =
     let offers = offers_same airs others both boxes made legal in
     let both_ways : Alike airs others (offers_at airs made) made =
     alike airs others both boxes (offers_at airs made) made legal (runs refl) in
-    record {
-      steps = both_ways.steps ∙ ap (λ os. after_offers others os made) offers;
-      answers = both_ways.answers ∙ ap (λ os. answered others os made) offers;
-    }
+    assumption (both_ways.steps ∙ ap (λ os. after_offers others os made) offers,
+        both_ways.answers ∙ ap (λ os. answered others os made) offers)
 gifts_alike false airs others both boxes made legal runs = record { steps = refl; answers = refl }
 
 before_step : (airs others : Airs) → Both airs others → (boxes : ℕ) (made : List Step) (step : Step) → Legal airs boxes made

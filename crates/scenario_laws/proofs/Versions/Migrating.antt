@@ -125,15 +125,9 @@ first_stands starts history none accepted =
     let one : SaysVersion history 1 first_version = first_says (said_of history) none in
     let two : SaysVersion history 2 second_version = second_says (said_of history) none in
     let made : said_of (plain first_version ∷ history) ≡ steps.Scenario 1 ∷ [] = its_steps history 1 first_version none one in
-    record {
-      made = its_steps history 2 second_version none two ∙ ap seconds (sym made);
-      count = refl;
-      begun = ap (λ all. is_unbegun_at (stage_of all)) made;
-      first = ap (λ all. nat_eq (version_of all) 2) made;
-      plain = ap has_relay made;
-      calm = subst AreCalm (sym made) begun_calm;
-      accepted = (accepted, its_refusal starts history 1 first_version none one);
-    }
+    assumption (its_steps history 2 second_version none two ∙ ap seconds (sym made), ap (λ all. is_unbegun_at (stage_of all)) made,
+        ap (λ all. nat_eq (version_of all) 2) made, ap has_relay made, subst AreCalm (sym made) begun_calm,
+        its_refusal starts history 1 first_version none one)
 
 -- ---- the lines of both texts
 
@@ -244,12 +238,7 @@ lines_alike starts lines others count alike =
 
 same_lines : (starts : List Account) (lines others : List TextLine) → others ≡ lines → LinesAlike starts lines others
 same_lines starts lines others same =
-    record {
-      octets = ap (transcript_of airs_of starts) same;
-      end = ap (transcript_end airs_of starts) same;
-      units =
-          ap (units_of airs_of starts) same;
-    }
+    assumption (ap (transcript_of airs_of starts) same, ap (transcript_end airs_of starts) same, ap (units_of airs_of starts) same)
 
 pub text_alike : Laws → (starts : List Account) (text : List ℕ) → IsLastingText airs_of starts text
     → LinesAlike starts (text_lines true text) (text_lines true (migrated text))

@@ -209,14 +209,11 @@ goes_on : Laws → (starts : List Account) (history later : List TextLine) (line
 goes_on laws starts history later line (a_step this) says stands none never =
     let passes = line_passes airs_of (length starts) (said_of history) this none in
     let permits = permitted airs_of (length starts) (said_of history) this passes in
-    record {
-      same = ap₂ (λ step (all : List Step). step ∷ all) (sym (second_same (said_of history) this permits.in_place stands.begun))
-          stands.made;
-      begun = begun_after (said_of history) this stands.begun;
-      first = ap (λ version. nat_eq version 2) (version_after (said_of history) this permits.in_place stands.begun) ∙ stands.first;
-      plain = plain_after (said_of history) this (subst SaidNever says (says_no_relay (version_of (said_of history)) line stands.first)) stands.plain;
-      calm = (stands.calm, step_calm laws starts history line this stands.plain says stands.accepted passes never);
-    }
+    assumption (ap₂ (λ step (all : List Step). step ∷ all) (sym (second_same (said_of history) this permits.in_place stands.begun)) stands.made,
+        begun_after (said_of history) this stands.begun,
+        ap (λ version. nat_eq version 2) (version_after (said_of history) this permits.in_place stands.begun) ∙ stands.first,
+        plain_after (said_of history) this (subst SaidNever says (says_no_relay (version_of (said_of history)) line stands.first)) stands.plain,
+        step_calm laws starts history line this stands.plain says stands.accepted passes never)
 goes_on laws starts history later line nothing says stands none never =
     record { same = stands.made; begun = stands.begun; first = stands.first; plain = stands.plain; calm = stands.calm }
 goes_on laws starts history later line (unsaid reason) says stands none never =
@@ -232,15 +229,7 @@ stands_next laws starts history later line stands none never =
     (line_later starts history later line stands) passes in
     let goes : Goes (said_of history) (said_of later) (said_after history line) =
     goes_on laws starts history later line (said_after history line) refl stands passes never in
-    record {
-      made = ap (λ said. with_said said (said_of later)) same ∙ goes.same;
-      count = ap (λ count. suc count) stands.count;
-      begun = goes.begun;
-      first = goes.first;
-      plain = goes.plain;
-      calm = goes.calm;
-      accepted = (stands.accepted, none);
-    }
+    assumption (ap (λ said. with_said said (said_of later)) same ∙ goes.same, ap (λ count. suc count) stands.count)
 
 brought_same : (starts : List Account) (made : List Step) (said : Said) → has_relay made ≡ false → AreCalm made
     → AreCalm (with_said said made)

@@ -1,0 +1,139 @@
+-- What a step makes of the group that a sink is on: the sink stays there, or is on none then, or the step puts it on one.
+use Rattle.std.proofs.Common.{ℕ, ◌≡◌, ◌⊎◌, ◌==◌, cond, true, false, List, [], ◌∷◌, None, Some, refl, sym, ◌∙◌, ap, inl, inr}
+use Rattle.std.proofs.lemmas.Bool.{cases_Bool}
+use Rattle.delegator_machine.specs.Groups as machine
+use Rattle.group_sink.specs.Calls.{place, tune}
+use Rattle.sync_reference.specs.Joining.{Joining}
+use Rattle.scenario_text.specs.declared.step.Step.{Step}
+use Rattle.scenario_text.specs.declared.step.Step.TheVariants as steps
+use Rattle.scenario_history.specs.Steps.{chosen_of, chosen_steps, steps_of_source}
+use Rattle.scenario_history.specs.Source.{open_event}
+use Rattle.source_machine.specs.Airs.{Airs}
+use Rattle.scenario_history.specs.Sinks.{is_of, reaches, sink_calls, source_of, spots_of}
+use Rattle.scenario_history.specs.Worlds.{joining_on}
+use Rattle.scenario_history.specs.Boxes.{handed_by}
+use Rattle.scenario_laws.specs.Laws.{closed_by, is_given, is_made, is_tuned}
+use Rattle.scenario_laws.proofs.ByHand.{as_by_hand}
+use Rattle.scenario_laws.proofs.Announced.{Announcing}
+use Rattle.scenario_laws.proofs.Legals.{Legal, Permitted}
+use Rattle.scenario_laws.proofs.Moves.{PutBy, StaysBy, announced, given_stays, plain_stays}
+use Rattle.scenario_laws.proofs.Places.{air_place, end_place, same_place, tick_if_place}
+use Rattle.scenario_laws.proofs.Wholes.{next_in}
+
+-- the sink stays on its group, or on none, and of its source
+pub record Keeps (airs : Airs) (n : ℕ) (step : Step) (earlier : List Step) : Type 0 where
+  pub begins_not : is_tuned n earlier step ≡ false
+  pub made_not : is_made n earlier step ≡ false
+  pub same_source : source_of n (step ∷ earlier) ≡ source_of n earlier
+  pub same_place : place (sink_calls airs n (step ∷ earlier)) ≡ place (sink_calls airs n earlier)
+
+-- the step hands up nothing and closes no event
+pub record Silent (airs : Airs) (n : ℕ) (step : Step) (earlier : List Step) : Type 0 where
+  pub hands : (made : List Step) → handed_by airs made step ≡ []
+  pub closes : (s : ℕ) → closed_by airs s n earlier step ≡ []
+
+-- the sink is on no group then
+pub record Parts (airs : Airs) (n : ℕ) (step : Step) (earlier : List Step) : Type 0 where
+  pub silent : Silent airs n step earlier
+  pub nowhere : place (sink_calls airs n (step ∷ earlier)) ≡ None
+
+abbrev pub PutsBy : Airs → ℕ → Step → List Step → Joining → Type 0
+PutsBy airs n (steps.Tuned sink which) earlier on = (joining_on (chosen_steps earlier) which ≡ on) × ((sink == n) ≡ true)
+PutsBy airs n (steps.Announce sink) earlier on = (put : PutBy airs n sink earlier) × (machine.by_numbers put.joining ≡ on)
+PutsBy airs n _ earlier on = ⊥
+
+-- the step puts the sink on a group, by hand or by a train
+pub record Puts (airs : Airs) (n : ℕ) (step : Step) (earlier : List Step) : Type 0 where
+  pub on : Joining
+  pub silent : Silent airs n step earlier
+  pub begins : is_tuned n earlier step ≡ true
+  pub calls_is : sink_calls airs n (step ∷ earlier) ≡ tune on ∷ sink_calls airs n earlier
+  pub source_is : source_of n (step ∷ earlier) ≡ Some (chosen_of earlier)
+  pub by : PutsBy airs n step earlier on
+
+abbrev pub Becomes : Airs → ℕ → Step → List Step → Type 0
+Becomes airs n step earlier = Keeps airs n step earlier ⊎ (Parts airs n step earlier ⊎ Puts airs n step earlier)
+
+kept : (airs : Airs) (n : ℕ) (step : Step) (earlier : List Step) → is_tuned n earlier step ≡ false → is_made n earlier step ≡ false
+    → source_of n (step ∷ earlier) ≡ source_of n earlier → place (sink_calls airs n (step ∷ earlier)) ≡ place (sink_calls airs n earlier) → Becomes airs n step earlier
+kept airs n step earlier begins_not made_not same_source same_place =
+    inl (record { begins_not = begins_not; made_not = made_not; same_source = same_source; same_place = same_place })
+
+gone : (airs : Airs) (n : ℕ) (step : Step) (earlier : List Step) → Silent airs n step earlier → place (sink_calls airs n (step ∷ earlier)) ≡ None → Becomes airs n step earlier
+gone airs n step earlier silent nowhere = inr (inl (record { silent = silent; nowhere = nowhere }))
+
+stayed : (airs : Airs) (n : ℕ) (step : Step) (earlier : List Step) → Silent airs n step earlier → is_made n earlier step ≡ false → StaysBy airs n step earlier → Becomes airs n step earlier
+stayed airs n step earlier silent made_not stays = elim stays.left [
+  | inl same ↦ kept airs n step earlier stays.begins_not made_not stays.same (ap place same)
+  | inr parted ↦ gone airs n step earlier silent (ap place parted)
+]
+
+pub becomes : (airs : Airs) (n : ℕ) (step : Step) (earlier : List Step) → is_given n step ≡ false → Becomes airs n step earlier
+becomes airs n (steps.Sink sink streams slots mtu) earlier ungiven = elim (cases_Bool (sink == n)) [
+  | inl again ↦ gone airs n (steps.Sink sink streams slots mtu) earlier (record { hands = λ made. refl; closes = λ s. refl }) (ap (λ b. place (cond b [] (sink_calls airs n earlier))) again)
+  | inr other ↦
+      kept airs n (steps.Sink sink streams slots mtu) earlier refl other
+      (ap (λ b. cond b None (source_of n earlier)) other) (ap (λ b. place (cond b [] (sink_calls airs n earlier))) other)
+]
+becomes airs n (steps.Drop sink) earlier ungiven = elim (cases_Bool (sink == n)) [
+  | inl again ↦ gone airs n (steps.Drop sink) earlier (record { hands = λ made. refl; closes = λ s. refl }) (ap (λ b. place (cond b [] (sink_calls airs n earlier))) again)
+  | inr other ↦
+      kept airs n (steps.Drop sink) earlier refl refl
+      (ap (λ b. cond b None (source_of n earlier)) other) (ap (λ b. place (cond b [] (sink_calls airs n earlier))) other)
+]
+becomes airs n (steps.Tuned sink which) earlier ungiven = elim (cases_Bool (sink == n)) [
+  | inl put ↦ inr (inr (record {
+    on = joining_on (chosen_steps earlier) which;
+    silent = record { hands = λ made. refl; closes = λ s. refl };
+    begins = put;
+    calls_is = ap (λ b. cond b (tune (joining_on (chosen_steps earlier) which) ∷ sink_calls airs n earlier) (sink_calls airs n earlier)) put;
+    source_is = ap (λ b. cond b (Some (chosen_of earlier)) (source_of n earlier)) put;
+    by = (refl, put);
+  }))
+  | inr other ↦
+      kept airs n (steps.Tuned sink which) earlier other refl (ap (λ b. cond b (Some (chosen_of earlier)) (source_of n earlier)) other)
+      (ap (λ b. place (cond b (tune (joining_on (chosen_steps earlier) which) ∷ sink_calls airs n earlier) (sink_calls airs n earlier))) other)
+]
+becomes airs n (steps.Hear sink back bis subevent) earlier ungiven =
+    kept airs n (steps.Hear sink back bis subevent) earlier refl refl refl (same_place (reaches sink n earlier) _ (sink_calls airs n earlier) refl)
+becomes airs n (steps.Air sink lose) earlier ungiven =
+    kept airs n (steps.Air sink lose) earlier refl refl refl
+    (same_place (reaches sink n earlier) _ (sink_calls airs n earlier) (air_place airs (chosen_steps earlier) lose (spots_of (chosen_steps earlier)) (sink_calls airs n earlier)))
+becomes airs n (steps.Inject sink back bis subevent octets) earlier ungiven =
+    kept airs n (steps.Inject sink back bis subevent octets) earlier refl refl refl (same_place (reaches sink n earlier) _ (sink_calls airs n earlier) refl)
+becomes airs n steps.Event earlier ungiven =
+    kept airs n steps.Event earlier refl refl refl (tick_if_place (is_of (chosen_of earlier) (source_of n earlier)) (open_event (chosen_steps earlier)) (sink_calls airs n earlier))
+becomes airs n steps.Stop earlier ungiven =
+    kept airs n steps.Stop earlier refl refl refl (tick_if_place (is_of (chosen_of earlier) (source_of n earlier)) (open_event (chosen_steps earlier)) (sink_calls airs n earlier))
+becomes airs n (steps.Terminate reason) earlier ungiven =
+    kept airs n (steps.Terminate reason) earlier refl refl refl
+    (tick_if_place (is_of (chosen_of earlier) (source_of n earlier)) (open_event (chosen_steps earlier)) (sink_calls airs n earlier))
+becomes airs n steps.End earlier ungiven =
+    kept airs n steps.End earlier refl refl refl
+    (end_place (is_of 1 (source_of n earlier)) (is_of 0 (source_of n earlier)) (open_event (steps_of_source 1 earlier)) (open_event (steps_of_source 0 earlier)) (sink_calls airs n earlier))
+becomes airs n (steps.Announce sink) earlier ungiven = elim (announced airs n sink earlier) [
+  | inl stays ↦ stayed airs n (steps.Announce sink) earlier (record { hands = λ made. refl; closes = λ s. refl }) refl stays
+  | inr goes ↦ elim goes [
+    | inl follows ↦ gone airs n (steps.Announce sink) earlier (record { hands = λ made. refl; closes = λ s. refl }) (ap place follows.same ∙ follows.nowhere)
+    | inr put ↦ inr (inr (record {
+      on = machine.by_numbers put.joining;
+      silent = record { hands = λ made. refl; closes = λ s. refl };
+      begins = put.begins_is;
+      calls_is = put.calls_is;
+      source_is = put.source_is;
+      by = (put, refl);
+    }))
+  ]
+]
+becomes airs n (steps.Train sink time ext adv acad) earlier ungiven =
+    stayed airs n (steps.Train sink time ext adv acad) earlier (record { hands = λ made. refl; closes = λ s. refl }) refl (given_stays airs n sink time ext adv acad earlier ungiven)
+becomes airs n step earlier ungiven =
+    stayed airs n step earlier (record { hands = λ made. refl; closes = λ s. refl }) refl (plain_stays airs n step earlier refl refl refl refl)
+
+-- the group's first event is the source's next one
+pub puts_first : Announcing → (airs : Airs) (boxes n : ℕ) (step : Step) (earlier : List Step) → Legal airs boxes earlier → Permitted airs boxes earlier step
+    → (puts : Puts airs n step earlier) → puts.on.first ≡ next_in (chosen_steps earlier)
+puts_first laws airs boxes n (steps.Tuned sink which) earlier legal permits puts = ap (λ (t : Joining). t.first) (sym puts.by.0)
+puts_first laws airs boxes n (steps.Announce sink) earlier legal permits puts =
+    ap (λ (t : Joining). t.first) (sym puts.by.1 ∙ (as_by_hand laws airs boxes n sink earlier puts.by.0.joining legal permits puts.by.0.brings).0)
+puts_first laws airs boxes n _ earlier legal permits puts = absurd puts.by
