@@ -6,6 +6,7 @@ import functools
 import glob
 import os
 import re
+from typing import Any
 
 TOP = os.path.dirname(os.path.dirname(os.path.abspath(__file__)))
 CRATES = os.path.join(TOP, 'crates')
@@ -75,7 +76,10 @@ class Definitions:
     comment above it, and the mark of its part of the file."""
 
     def __init__(self, file):
-        self.file, self.head, self.scope, self.items, self.current = file, [], {}, {}, None
+        self.file, self.head = file, []
+        self.scope: dict[str, Any] = {}
+        self.items: dict[str, Item] = {}
+        self.current: Any = None
         self.notes, self.mark, self.blank = [], '', False
         for line in text_of(file).split('\n'):
             self.read(line)
@@ -98,8 +102,8 @@ class Definitions:
             self.current.lines += [''] * self.blank + [*self.notes, line]
             self.notes, self.blank = [], False
             self.current.text.append(text)
-            if self.current.kind == 'data' and FIELD.match(text):
-                self.current.members.add(FIELD.match(text)[1])
+            if self.current.kind == 'data' and (field := FIELD.match(text)):
+                self.current.members.add(field[1])
 
     def close_notes(self):
         """Takes a comment that no item follows: that of the file, or the mark of a part."""
@@ -118,7 +122,8 @@ class Definitions:
         """Whether a line begins an item, which then is the current one."""
         if text.startswith('pub mod '):
             return True
-        kind, name, rest = ANTT_ITEM.match(text).groups()
+        item: Any = ANTT_ITEM.match(text)
+        kind, name, rest = item.groups()
         if kind or rest.startswith(' :'):
             self.current = Item(self.file, name.strip('◌'), (kind or 'value').strip(), self.mark, [*self.notes, line], [text])
             self.items[self.current.name] = self.current
@@ -133,7 +138,9 @@ class Code:
     """A file of src/: its scope, and its public types, traits and calls with their contracts."""
 
     def __init__(self, file):
-        self.file, self.head, self.scope, self.items, self.whole = file, [], {}, {}, text_of(file)
+        self.file, self.head, self.whole = file, [], text_of(file)
+        self.scope: dict[str, Any] = {}
+        self.items: dict[str, Item] = {}
         for line in self.whole.split('\n'):
             if line.strip().startswith('ghost use '):
                 imported(line.strip(), self.scope)
@@ -148,11 +155,12 @@ class Code:
 
     def take(self, found, name):
         """Takes the text of an item, from its documentation to its end, or that of a call to its body."""
-        front = re.search(r'(?:^[ \t]*(?:///|//|#\[)[^\n]*\n)*\Z', self.whole[:found.start()], re.M)
+        front: Any = re.search(r'(?:^[ \t]*(?:///|//|#\[)[^\n]*\n)*\Z', self.whole[:found.start()], re.M)
         is_call = found[0].startswith('pub fn')
         text = self.whole[found.start():].partition('\n')[0]
         if not text.endswith((';', '}')):
-            text = re.match(r'(?s).*?\{\}?$' if is_call else r'(?s).*?^\}', self.whole[found.start():], re.M)[0]
+            ended: Any = re.match(r'(?s).*?\{\}?$' if is_call else r'(?s).*?^\}', self.whole[found.start():], re.M)
+            text = ended[0]
         item = self.items.setdefault(name, Item(self.file, name, 'call' if is_call else 'type'))
         lines = [line for line in text.removesuffix('\n{').split('\n') if 'ghost use' not in line]
         item.text += [without_comment(line, '//') for line in lines]
@@ -163,7 +171,7 @@ class Code:
 @functools.cache
 def code_of(crate):
     """The files of src/ by the names of the types, traits and calls that stand in them."""
-    files = {}
+    files: dict[str, str] = {}
     for path in sorted(glob.glob(os.path.join(CRATES, crate, 'src', '**', '*.rt'), recursive=True)):
         file = os.path.relpath(path, TOP)
         for names in CODE_ITEM.findall(text_of(file)):
@@ -254,7 +262,7 @@ class Scan:
 
     def parts(self):
         """The signature and the clauses of an item, each one text."""
-        parts = []
+        parts: list[str] = []
         for line in self.item.text:
             if not parts or line[0] not in ' }':
                 parts.append(line)

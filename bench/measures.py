@@ -5,6 +5,7 @@ import re
 import shutil
 import subprocess
 import time
+from typing import Any
 
 from allocations import Allocator
 
@@ -40,7 +41,8 @@ def instructions_of(program, words, path):
     counter = ['valgrind', '--tool=callgrind', f'--callgrind-out-file={os.devnull}']
     with open(path, 'rb') as text:
         ran = subprocess.run([*counter, program, *words], stdin=text, stdout=subprocess.DEVNULL, stderr=subprocess.PIPE, check=True)
-    return int(re.search(rb'Collected *: *(\d+)', ran.stderr)[1])
+    counted: Any = re.search(rb'Collected *: *(\d+)', ran.stderr)
+    return int(counted[1])
 
 
 def allocator_for(program, folder):
@@ -79,6 +81,7 @@ def peak_before_last_line(program, path):
         text = file.read()
     last = text.rindex(b'\n', 0, -1) + 1
     with subprocess.Popen([program], stdin=subprocess.PIPE, stdout=subprocess.DEVNULL) as child:
+        assert child.stdin
         child.stdin.write(text[:last])
         child.stdin.flush()
         wait_until_asleep(child)

@@ -18,6 +18,7 @@ import glob
 import os
 import re
 import sys
+from typing import Any
 
 sys.dont_write_bytecode = True
 sys.path.insert(0, os.path.dirname(os.path.abspath(__file__)))
@@ -45,7 +46,9 @@ class Reached:
     the kit that they use, each with the library that has it."""
 
     def __init__(self):
-        waiting, self.items, self.kit, self.words = [followed(*ROOT)], {}, set(), collections.defaultdict(dict)
+        waiting, self.kit = [followed(*ROOT)], set()
+        self.items: dict[int, Any] = {}
+        self.words: dict[str, dict[str, Any]] = collections.defaultdict(dict)
         while waiting:
             item = waiting.pop()
             if id(item) in self.items:
@@ -74,7 +77,7 @@ class Reached:
 
     def meanings(self):
         """Each name with all that it stands for in some place: the item, and its own name where that is another."""
-        meanings = collections.defaultdict(dict)
+        meanings: dict[str, dict[tuple[str, str], Any]] = collections.defaultdict(dict)
         for item in self.items.values():
             meanings[item.name][item.file, item.name] = item
             for member in item.members:
@@ -197,7 +200,7 @@ class Writer:
     def meant(self, file, page):
         """The names of a file that a reader may take for others: those that have another name where they are defined, and those that
         several files define. A line for each file that defines some, with the type of constructors and variants behind them."""
-        groups = collections.defaultdict(lambda: collections.defaultdict(set))
+        groups: dict[Any, dict[Any, set[Any]]] = collections.defaultdict(lambda: collections.defaultdict(set))
         scope = opened(file).scope
         for word, (item, name) in self.reached.words[file].items():
             head, name = word.partition('.')[0], name.strip('◌')

@@ -4,6 +4,7 @@ The layouts and the times are those of docs/formats.md and docs/scenario-languag
 addresses and what the CRCs begin with, which the program announces as 0, and the interval of the periodic train."""
 import link_layer
 from att_links import number, octets_of
+from typing import Any
 
 LC3 = bytes([6, 0, 0, 0, 0])
 # The numbers of a `group` line, each with the greatest one.
@@ -30,7 +31,8 @@ class Source:
     def __init__(self, place):
         self.number = place
         self.group, self.ident, self.cipher, self.subgroups = {}, (0, bytes(6), 0, bytes(3)), b'', []
-        self.first = self.event = None
+        self.first: Any = None
+        self.event: Any = None
         self.seed, self.crc_base = SEEDS[place], CRC_BASES[place]
         self.train_address, self.train_crc = TRAIN_ADDRESSES[place], TRAIN_CRCS[place]
 

@@ -8,6 +8,7 @@ sniffer's clock jumped."""
 import bisect
 import typing
 from collections import Counter
+from typing import Any
 
 SLACK = 60  # µs by which a single time may be wrong; two subevents of a stream are at least 230 µs apart
 NEARBY = 500000  # µs around a BIGInfo in which no clock drifts by as much as the slack
@@ -97,7 +98,8 @@ class Fit:
 
     def __init__(self, info, marks, heard):
         self.spacing, self.sub, self.nse, self.length = info['spacing'], info['sub'], info['nse'], info['iso'] * 1250.0
-        self.placed, self.stray, self.unsure, self.begun_anew = [], 0, 0, 0
+        self.placed: list[Placed] = []
+        self.stray = self.unsure = self.begun_anew = 0
         self.marks, self.heard = sorted(marks), sorted(heard)
         self.times = [it.time for it in self.heard]
         self.first_mark, anchor = self.start()
@@ -142,7 +144,8 @@ class Fit:
 
     def follow(self, anchors, items):
         """Places the PDUs in the order in which they are given, and gives the anchors as they were fitted last."""
-        now, together, tried = None, [], None
+        now, tried = None, None
+        together: list[Any] = []
         for item in items:
             before, is_mark = anchors, isinstance(item, Mark)
             event = anchors.event_near(item.time)
@@ -223,7 +226,8 @@ def take_mean(anchors, event, together):
 def most_within(found, width):
     """Of sorted pairs of a place and a number those in a range of this width that have the most numbers: the least of the places with
     the pairs, and how many numbers; or None where there are no pairs."""
-    best, begin, inside = None, 0, Counter()
+    best, begin = None, 0
+    inside: Counter[Any] = Counter()
     for end, (place, number) in enumerate(found):
         inside[number] += 1
         while place - found[begin][0] > width:

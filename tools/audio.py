@@ -6,6 +6,7 @@ conceals what was lost as an LC3 decoder does, and writes that as a WAV. README.
 import argparse
 import re
 import sys
+from typing import Any
 
 sys.dont_write_bytecode = True
 import audio_scenario  # noqa: E402
@@ -39,7 +40,7 @@ def has_coder():
 
 def words_of(words):
     """The words of the command line, read; SystemExit where they are read no further."""
-    common = {'add_help': False, 'allow_abbrev': False, 'epilog': 'tools/README.md tells more.'}
+    common: dict[str, Any] = {'add_help': False, 'allow_abbrev': False, 'epilog': 'tools/README.md tells more.'}
     parser = argparse.ArgumentParser(prog='audio.py', description='Brings a WAV into a scenario, and what sinks hear of it back.', **common)
     parser.add_argument('--version', action=Version, default=argparse.SUPPRESS, help='prints the version of the repository')
     ways = parser.add_subparsers(dest='way', metavar='out | in', required=True)

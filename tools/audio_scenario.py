@@ -2,6 +2,7 @@
 
 A channel is a stream, and a frame a unit. The scenario begins with a comment that says what sound it is."""
 import re
+from typing import Any
 
 import printed_rows
 from big_groups import Broadcast, GroupFault, SETTINGS, group_of
@@ -98,7 +99,8 @@ class Written:
     """The sound of a scenario, its groups and units, and which sinks hear which source."""
 
     def __init__(self, lines):
-        self.sound, self.source = None, '0'
+        self.sound: Any = None
+        self.source = '0'
         self.groups, self.units, self.of_sinks, self.relays = {}, {}, {}, []
         for number, line in enumerate(lines, 1):
             try:
@@ -176,7 +178,8 @@ def after_time(group):
 def heard_frames(lines, rows, sinks):
     """The sound of a scenario; of each channel its frames, None for each that was not handed up; and the sink that handed them up, or None:
     the first of these sinks that has a row of the channel."""
-    written, heard, summed = Written(lines), {}, set()
+    written, summed = Written(lines), set()
+    heard: dict[Any, Any] = {}
     places = written.places()
     for row in rows:
         words = checked(row)

@@ -2,6 +2,7 @@
 import itertools
 import re
 from dataclasses import dataclass, replace
+from typing import Any
 
 ORIGIN = 20000  # µs, the anchor of the first event of a run that is made here
 LE_1M, LE_2M = 0, 1
@@ -155,7 +156,7 @@ def label(group):
 
 def groups_of(broadcast, choices):
     """The groups of the choices, each once. Where none of its PDUs goes out early, PTO is 0 and IRC all: they say nothing else there."""
-    found = {}
+    found: dict[Any, Any] = {}
     for choice in choices:
         group = broadcast.group(choice)
         if group.bn and 1 <= group.irc <= group.nse // group.bn and group.horizon == 0:

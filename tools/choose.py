@@ -137,7 +137,8 @@ def swept(asked, sweep, programs):
     refusals = {place: it for place, group in enumerate(sweep.groups) if (it := sweep_runs.refusal_of(group, programs)) is not None}
     jobs = [it for it in sweep.jobs(asked.shard or (1, 1)) if it[1] not in refusals]
     results, is_whole = {}, False
-    with open(asked.keep, 'w', encoding='ascii', buffering=LINES) if asked.keep else contextlib.nullcontext() as file:
+    with contextlib.ExitStack() as files:
+        file = files.enter_context(open(asked.keep, 'w', encoding='ascii', buffering=LINES)) if asked.keep else None
         if file:
             file.write(sweep_files.front_line(sweep) + sweep_files.refusals_line(refusals))
         try:

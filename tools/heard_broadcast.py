@@ -1,6 +1,7 @@
 """A broadcast as a capture has it, and the scenario of what was heard of it. capture_in.py uses it."""
 import collections
 import sys
+from typing import Any
 
 import link_layer
 from anchor_fit import Fit, FitFault, Heard
@@ -27,7 +28,7 @@ class Broadcast:
     def __init__(self, train, packets, streams):
         self.train, self.info = train, train.info()
         self.streams = streams or list(range(1, self.info['num_bis'] + 1))
-        self.counted = collections.Counter()
+        self.counted: collections.Counter[str] = collections.Counter()
         heard, self.controls = [], []
         addresses = {link_layer.stream_address(self.info['seed'], number): number for number in [0] + self.streams}
         for packet in packets:
@@ -62,7 +63,7 @@ class Broadcast:
 
     def placed(self, first):
         """The PDUs by their events, from the first event on and before the end."""
-        by_event = {}
+        by_event: dict[int, Any] = {}
         for place in self.fit.placed:
             if place.event < first:
                 self.counted['before the first announcement'] += 1
@@ -108,7 +109,8 @@ def event_lines(broadcast, first, is_once):
     last = broadcast.ended_at - 1 if broadcast.ended_at is not None else max(by_event, default=first)
     if last - first > GREATEST_TEXT // len('event\n'):
         raise Missing(f'the events {first} to {last} are more than a scenario holds')
-    lines, given = [], {}
+    lines = []
+    given: dict[Any, Any] = {}
     for event in range(first, last + 1):
         lines.append('event')
         for _, subevent, heard in by_event.get(event, []):
@@ -164,7 +166,7 @@ def chosen_train(trains, wanted):
 
 def read_broadcast(asked):
     """The source that is asked for, with what was heard of it."""
-    skipped = collections.Counter()
+    skipped: collections.Counter[str] = collections.Counter()
     packets = list(link_layer.read_capture(asked.capture, skipped))
     if not packets:
         raise Missing('no packet can be used' + ''.join(f'; {number} are {why}' for why, number in skipped.items()))

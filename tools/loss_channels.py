@@ -12,6 +12,7 @@ import random
 import re
 import sys
 from dataclasses import dataclass
+from typing import Any
 
 CELL = 50  # µs: PDUs that begin in the same cell have the same draw; those of one stream begin at least 198 µs apart
 CELLS = 20000  # cells of a block of draws, which is a second
@@ -66,7 +67,7 @@ def numbers_of(kind, text):
 
 def rows_of(path):
     """The times and losses of a trace."""
-    rows = []
+    rows: list[Any] = []
     try:
         with open(path, encoding='ascii') as file:
             for place, line in enumerate(file, 1):
@@ -162,13 +163,14 @@ def steps_of(part, seed, key):
         return iter([(0.0, part.numbers[0])])
     if part.kind == 'body':
         return body(draw, part.side, *part.numbers)
-    return {'burst': burst, 'interference': interference}[part.kind](draw, *part.numbers)
+    kinds: dict[str, Any] = {'burst': burst, 'interference': interference}
+    return kinds[part.kind](draw, *part.numbers)
 
 
 def merged(parts):
     """The steps of all parts together."""
     losses = [next(it)[1] for it in parts]
-    nexts = [next(it, None) for it in parts]
+    nexts: list[Any] = [next(it, None) for it in parts]
     yield -math.inf, 1 - math.prod(1 - it for it in losses)
     while any(nexts):
         place = min((place for place, it in enumerate(nexts) if it), key=lambda place: nexts[place][0])
@@ -182,14 +184,15 @@ class Channel:
 
     def __init__(self, parts, seed, name):
         self.name, self.seed = name, seed
-        self.steps = merged([steps_of(it, seed, f'{name}/{place}') for place, it in enumerate(parts)])
+        self.steps: Any = merged([steps_of(it, seed, f'{name}/{place}') for place, it in enumerate(parts)])
         self.starts, self.limits = [], []  # from when on a PDU is lost whose draw is below which limit
         self.block = functools.lru_cache(maxsize=64)(self.drawn_block)
 
     def extend(self, until):
         """Takes the steps up to the first that is later than this."""
         while self.steps is not None and (not self.starts or self.starts[-1] <= until):
-            at, loss = next(self.steps, (None, None))
+            step: Any = next(self.steps, (None, None))
+            at, loss = step
             if at is None:
                 self.steps = None
             elif self.starts and self.starts[-1] == at:

@@ -1,6 +1,7 @@
 """The words of the command lines of losses.py and choose.py, and what they mean."""
 import argparse
 import re
+from typing import Any
 
 import big_groups
 from loss_channels import NAME, ChannelFault, parts_of
@@ -25,7 +26,7 @@ def number(word, greatest=4095):
 
 def numbers(word):
     """Numbers and ranges, as 1,3,5-8."""
-    found = []
+    found: list[int] = []
     for piece in word.split(','):
         first, dash, last = piece.partition('-')
         found += range(number(first), number(last) + 1) if dash else [number(first)]
@@ -91,7 +92,7 @@ def broadcast_of(asked):
 
 def listeners_of(texts, named, streams):
     """The sinks of `--sink NAME=STREAMS@CHANNEL`."""
-    listeners = []
+    listeners: list[Any] = []
     for text in texts:
         found = re.fullmatch(r'([^=@]+)=([0-9]{1,2}(?:\+[0-9]{1,2})*)@(.+)', text, re.DOTALL)
         if not found or not NAME.fullmatch(found[1]) or found[1] in [it.name for it in listeners]:

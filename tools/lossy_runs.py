@@ -2,6 +2,7 @@
 import functools
 import re
 from dataclasses import dataclass
+from typing import Any
 
 import big_groups
 from loss_channels import Channel, ChannelFault
@@ -108,7 +109,8 @@ class Source:
     """What is known of a source of a scenario: its group, and how many events it performed."""
 
     def __init__(self):
-        self.group, self.events = None, 0
+        self.group: Any = None
+        self.events = 0
 
     def anchor(self):
         return self.group.origin + (self.events - 1) * self.group.interval

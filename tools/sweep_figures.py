@@ -6,6 +6,7 @@ of so many units would be lost with the chance that is left, which is right wher
 import functools
 import math
 from dataclasses import dataclass
+from typing import Any
 
 STEPS = 200
 
@@ -67,7 +68,7 @@ class Figures:
 @dataclass
 class Row:
     """A choice: its group, how it is refused, or its figures by listeners. `is_unbeaten` says that no other beats it."""
-    group: object
+    group: Any
     refusal: str | None
     listeners: list
     is_unbeaten: bool = False
@@ -89,7 +90,7 @@ class Row:
 def figures_of(name, heard, sdu, streams, confidence):
     """The figures of a listener, of what it had of each run."""
     units = sum(it.units for it in heard)
-    gaps = {}
+    gaps: dict[int, int] = {}
     for it in heard:
         for length, count in it.gaps.items():
             gaps[length] = gaps.get(length, 0) + count

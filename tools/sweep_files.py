@@ -3,6 +3,7 @@ import contextlib
 import csv
 import json
 from dataclasses import asdict
+from typing import Any
 
 import big_groups
 import sweep_runs
@@ -24,14 +25,14 @@ def refusals_line(refusals):
 
 
 def job_line(job, result):
-    found = {'refused': result} if isinstance(result, str) else {'listeners': [asdict(it) for it in result]}
+    found: dict[str, Any] = {'refused': result} if isinstance(result, str) else {'listeners': [asdict(it) for it in result]}
     return json.dumps({'run': job[0], 'choice': job[1], **found}, separators=(',', ':')) + '\n'
 
 
 def result_of(values):
     if 'refused' in values:
         return str(values['refused'])
-    return [Heard(**{**it, 'gaps': {int(length): int(count) for length, count in it['gaps'].items()}}) for it in values['listeners']]
+    return [Heard(**dict(it, gaps={int(length): int(count) for length, count in it['gaps'].items()})) for it in values['listeners']]
 
 
 def read(path):

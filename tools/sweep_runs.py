@@ -10,6 +10,7 @@ import subprocess
 import threading
 import time
 from dataclasses import asdict, dataclass, field
+from typing import Any
 
 import big_groups
 import lossy_runs
@@ -227,7 +228,8 @@ def over_processes(function, sweep, programs, jobs, progress):
     """What the function makes of each job, as they end. Ctrl-C begins no further job, and comes out as KeyboardInterrupt."""
     workers = concurrent.futures.ProcessPoolExecutor(processors(), initializer=begin, initargs=(sweep, programs))
     with noted_interrupt() as asked, workers as pool:
-        left, running, done = iter(jobs), set(), 0
+        left, done = iter(jobs), 0
+        running: set[Any] = set()
         try:
             while not asked.is_set():
                 for job in itertools.islice(left, MARGIN * processors() - len(running)):

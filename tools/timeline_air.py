@@ -4,6 +4,7 @@ All of this is worked out from the lines of the scenario, by the formulas of doc
 volume 6 part B, section 4.4.6, and the air of part G, sections 2 and 3.2."""
 from dataclasses import dataclass, field
 from functools import cached_property
+from typing import Any
 
 GREATEST_OFFSET = 2 ** 24 - 1  # a TimeOffset, µs
 # How many bits each number of a `group` line has, as docs/scenario-language.md says: `origin`, `delay`, and those of the BIGInfo.
@@ -173,8 +174,11 @@ class Source:
     """A source of the run, as far as its lines went."""
 
     def __init__(self, number):
-        self.number, self.group, self.ident = number, None, ('0', '0', '000000')
-        self.first = self.next = self.open = None
+        self.number, self.ident = number, ('0', '0', '000000')
+        self.group: Any = None
+        self.first: Any = None
+        self.next: Any = None
+        self.open: Any = None
         self.is_stopped, self.airs, self.events, self.given = False, {}, [], []
 
     def start(self, first):

@@ -3,6 +3,7 @@
 A column of numbers is embedded as the differences between neighbours, each with how often it stands in a row: [20000,1,10000,299] are the
 anchors of 300 events. Times are µs, and -1 stands for none."""
 from collections import Counter, defaultdict
+from typing import Any
 
 from timeline_reading import named_fault, read_lines
 from timeline_run import Run
@@ -17,7 +18,8 @@ MOST_MARKS = 20000
 
 def column(numbers):
     """A column of numbers."""
-    runs, before = [], 0
+    runs: list[int] = []
+    before = 0
     for number in numbers:
         number = -1 if number is None else min(number, GREATEST)
         if runs and runs[-2] == number - before:
@@ -47,7 +49,7 @@ def times_of(moments, interval):
 
 def parts_of(spans, fold):
     """The stretches of time that are drawn: those in which nothing is for longer than `fold` are left out."""
-    parts = []
+    parts: list[list[int]] = []
     for begin, end in sorted(spans):
         if parts and begin - parts[-1][1] <= fold:
             parts[-1][1] = max(parts[-1][1], end)
@@ -79,7 +81,8 @@ def tracks_of(units):
 def gaps_of(track):
     """The gaps of a stream: of each the places of its first and last unit, and how many units are lost or never begun in a row. An empty
     slot neither counts nor ends a gap."""
-    gaps, is_open = [], False
+    gaps: list[Any] = []
+    is_open = False
     for place, unit in enumerate(track):
         if unit.fate in MISSING:
             if is_open and track[gaps[-1][0]].stay.source is unit.stay.source:
@@ -95,7 +98,8 @@ def gaps_of(track):
 def rates_of(tracks):
     """For each sink, source and stream the counts of its units by their fate, what of the units that were given is lost, and the longest
     gap: how many units, from when to when."""
-    counts, longest = defaultdict(Counter), {}
+    counts: defaultdict[Any, Counter[str]] = defaultdict(Counter)
+    longest: dict[Any, Any] = {}
     for (sink, stream), track in tracks.items():
         for unit in track:
             counts[sink, unit.stay.source.number, stream][unit.fate] += 1

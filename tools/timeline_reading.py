@@ -44,7 +44,8 @@ class Line:
     @property
     def is_refused(self):
         """Whether that row is of this line, and not of one that is missing behind it."""
-        return self.refusal is not None and int(REFUSAL.match(self.refusal)[1]) == self.number
+        found = REFUSAL.match(self.refusal or '')
+        return found is not None and int(found[1]) == self.number
 
 
 def read_lines(rows):

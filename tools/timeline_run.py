@@ -1,6 +1,7 @@
 """A run, walked line by line: its units with their PDUs, and what else is shown of it. timeline.py uses it."""
 from collections import deque
 from dataclasses import dataclass, field
+from typing import Any
 
 from timeline_air import Group, Source
 from timeline_reading import RunFault
@@ -23,10 +24,10 @@ class Unit:
     at: int
     fate: str
     line: int
-    stay: object
+    stay: Any
     event: int | None = None
     slot: int | None = None
-    given: object = None
+    given: Any = None
     octets: str = ''
 
     def pdus(self):

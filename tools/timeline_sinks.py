@@ -1,5 +1,6 @@
 """The sinks of a run: on which group each is, what was handed to it, and what became of the PDUs of a unit. timeline.py uses it."""
 from dataclasses import dataclass, field
+from typing import Any
 
 ADD, MODIFY, REMOVE = 2, 3, 5
 END_OF_NUMBERS = 2 ** 39
@@ -17,7 +18,7 @@ class Stay:
     """A sink on a group, from its event `first` to its event `last`. `open` is its open event. `fates` has for each stream the letter of
     what each PDU was that was handed to it, by event from `since` on and by subevent, and 0 for one that was not."""
     sink: int
-    source: object
+    source: Any
     streams: list[int]
     first: int
     slot: int | None

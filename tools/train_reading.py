@@ -3,6 +3,7 @@
 An AUX_ADV_IND with SyncInfo leads to a train and has the Broadcast_ID; an AUX_SYNC_IND of the train has the BASE, and in its ACAD the
 BIGInfo (Basic Audio Profile 1.0, section 3.7.2; Core 5.2, volume 6 part B, sections 2.3.4 and 4.4.6.11)."""
 import typing
+from typing import Any
 
 import link_layer
 from anchor_fit import Mark
@@ -30,7 +31,8 @@ class Train:
         self.sid = link_layer.read(link_layer.DATA_INFO, fields.get('data_info', b''))['sid']
         self.extended_data = fields['data']
         self.broadcast_id = (link_layer.service_data(fields['data'], link_layer.BROADCAST_AUDIO) or b'')[:3]
-        self.heard, self.base, self.announced, self.info_octets, self.other_groups = 0, None, [], None, 0
+        self.heard, self.base, self.announced, self.other_groups = 0, None, [], 0
+        self.info_octets: Any = None
 
     def name(self):
         return self.broadcast_id.hex() or 'without a Broadcast_ID'
@@ -82,7 +84,7 @@ def is_same_group(one, other):
 
 def trains_of(packets):
     """The trains to which an AUX_ADV_IND of the capture leads, by their access addresses."""
-    trains = {}
+    trains: dict[int, Any] = {}
     for packet in packets:
         if packet.address != link_layer.ADVERTISING_ADDRESS or packet.pdu[0] & 15 != link_layer.EXTENDED:
             continue
@@ -99,7 +101,8 @@ def trains_of(packets):
 
 def read_trains(packets):
     """All trains with what was heard of them. What continues an AUX_SYNC_IND stands at the time that its pointer names."""
-    trains, begun = trains_of(packets), {}
+    trains = trains_of(packets)
+    begun: dict[Any, Any] = {}
     for packet in packets:
         train = trains.get(packet.address)
         if train is None or packet.pdu[0] & 15 != link_layer.EXTENDED or not link_layer.has_good_crc(packet, train.crc_start):

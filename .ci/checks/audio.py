@@ -63,7 +63,8 @@ class Trial:
         relabel(plain, self.setting.coded_rate)
         octets, duration = self.setting.octets, self.setting.duration
         bit_rate = math.ceil(octets * 8_000_000 / duration) * self.channels
-        for command in (['elc3', '-b', f'{bit_rate}', '-m', f'{duration / 1000}', plain, coded], ['dlc3', '-b', f'{self.bits}', coded, back]):
+        coding = ['elc3', '-b', f'{bit_rate}', '-m', f'{duration / 1000}', plain, coded]
+        for command in (coding, ['dlc3', '-b', f'{self.bits}', coded, back]):
             subprocess.run(command, capture_output=True, check=True)
         relabel(back, self.setting.rate)
         blocks, size = octets_of(coded)[18:], 2 + octets * self.channels

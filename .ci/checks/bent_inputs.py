@@ -58,7 +58,8 @@ def tools(program: str, explain: str, folder: str) -> Iterator[Tool]:
     texts = [{'scenario': it.text} for it in small]
     yield Tool('capture_out', texts, OF_TEXTS, lambda it: [f'{it}/scenario', f'{it}/written', '--program', program])
     both = [{'scenario': it.text, 'transcript': it.transcript} for it in small]
-    yield Tool('capture_out --transcript', both, OF_TEXTS, lambda it: [f'{it}/scenario', f'{it}/written', '--transcript', f'{it}/transcript'])
+    yield Tool('capture_out --transcript', both, OF_TEXTS,
+               lambda it: [f'{it}/scenario', f'{it}/written', '--transcript', f'{it}/transcript'])
     heard = list(captures(program, small, folder))
     yield Tool('capture_in', heard, OF_CAPTURES, lambda it: [f'{it}/capture', '--out', f'{it}/written'])
     yield Tool('capture_in --follow', heard, OF_CAPTURES, lambda it: [f'{it}/capture', '--out', f'{it}/written', '--follow', '--once'])

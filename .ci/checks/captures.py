@@ -25,4 +25,5 @@ def check(replay: str) -> Faults:
             f'again, {counts["deleted"]} PDUs deleted, {counts["put"]} packets put between, {counts["wrong"]} of {counts["units"]} units '
             f'differ; {counts["scenarios out"]} scenarios out, {counts["refusals named"]} of them with their refusal, '
             f'{counts["scenarios in again"]} in again with {counts["units of these"]} units, {counts["not taken in"]} not; '
-            f'{counts["packets by tshark"]} packets by tshark, {counts["malformed on purpose"]} malformed on purpose; {counts["cases"]} cases')
+            f'{counts["packets by tshark"]} packets by tshark, {counts["malformed on purpose"]} malformed on purpose; '
+            f'{counts["cases"]} cases')

@@ -17,7 +17,8 @@ def values_of(keys: Iterable[Key]) -> list[tuple[str, str]]:
 def with_key(header: str, key: str, *values: str) -> str:
     """The document with all keys, where this one has these values in the place of its own."""
     here = [(key, value) for value in values]
-    return spelled((at, [it for own in values_of(keys) for it in (here if (at, own[0]) == (header, key) else [own])]) for at, keys in TABLES)
+    return spelled((at, [it for own in values_of(keys) for it in (here if (at, own[0]) == (header, key) else [own])])
+                   for at, keys in TABLES)
 
 
 def with_table(first: str, last: str, header: str, *keys: tuple[str, str]) -> str:
@@ -53,7 +54,8 @@ def changed_tables() -> Iterator[tuple[str, str, str]]:
 
 
 def with_all_keys() -> Iterator[scenarios.Scenario]:
-    for name, document, written in [('all keys', spelled((at, values_of(keys)) for at, keys in TABLES), ALL), *changed_keys(), *changed_tables()]:
+    whole = spelled((at, values_of(keys)) for at, keys in TABLES)
+    for name, document, written in [('all keys', whole, ALL), *changed_keys(), *changed_tables()]:
         yield scenarios.of_document('documents', name, document.encode(), written.encode())
 
 

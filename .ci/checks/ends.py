@@ -8,7 +8,8 @@ from checks.parts.running import PATIENCE, Ran
 from checks.parts.steps import Faults, step
 
 USAGE = b'usage: replay [--migrate | --toml | --seed N --events M]\n'
-UNIT = b'scenario 1\ngroup unframed 20000 40000 8 10000 4 4 1 1 1 1 0 0 0 1\nsink 0 1 1\nstart 0\ntuned 0 1\nunit 1 - 0a\nevent\nhear 0 0 1 0\nend\n'
+UNIT = (b'scenario 1\ngroup unframed 20000 40000 8 10000 4 4 1 1 1 1 0 0 0 1\nsink 0 1 1\nstart 0\ntuned 0 1\nunit 1 - 0a\nevent\n'
+        b'hear 0 0 1 0\nend\n')
 HEARD = b'unit 0 1 at 60060 valid 1 0a\nsum 0 1 1\n'
 EIGHT = b'scenario 1\n' + b''.join(b'sink %d 1 1\n' % sink for sink in range(8))
 DOCUMENT = b'version = 1\nsteps = ["end"]\n[[sinks]]\nnumber = 3\nstreams = 1\nslots = 1\n'
@@ -61,9 +62,9 @@ def differences(replay: str) -> Iterator[tuple[str, bool]]:
 
 @step(seconds=1)
 def check(replay: str) -> Faults:
-    """The program ends as `main` should do around `replay`: the words go without the program's name, there are eight boxes, a fault of standard
-    input or output is one of the source or the sink, and each status has its exit status and says its text on standard error. The end for
-    want of memory is in allocations."""
+    """The program ends as `main` should do around `replay`: the words go without the program's name, there are eight boxes, a fault of
+    standard input or output is one of the source or the sink, and each status has its exit status and says its text on standard error. The
+    end for want of memory is in allocations."""
     tried = list(differences(replay))
     yield from (f'{name}: differs' for name, differs in tried if differs)
     return f'{len(tried)} ends'

@@ -68,8 +68,10 @@ JOINED = [*HEARD, RECORD, 'add 0 0 000000000000 0 000000 2 65535 ffffffff -', 's
 COMPARED = [
     ('NotWanted', [*HEARD[:-2], 'ident 1 0102030405c6 9 aabbcc', *HEARD[-2:], *WANTED], 'the train has TYPE 1 SID 9 ID aabbcc'),
     ('no slot', [*HEARD, 'announce 0', 'end'], 'the train has TYPE 0 SID 0 ID 000000'),
-    ('a slot for another', [*HEARD, *[it.replace(' 0 000000 2', ' 5 0a0b0c 2') for it in WANTED]], 'slot 0 has TYPE 0 SID 5 ID 0a0b0c and is for another train'),
-    ('a slot without a wish', [*HEARD, *[it.replace(' 2 65535', ' 0 65535') for it in WANTED]], 'slot 0 has TYPE 0 SID 0 ID 000000 and PA 0'),
+    ('a slot for another', [*HEARD, *[it.replace(' 0 000000 2', ' 5 0a0b0c 2') for it in WANTED]],
+     'slot 0 has TYPE 0 SID 5 ID 0a0b0c and is for another train'),
+    ('a slot without a wish', [*HEARD, *[it.replace(' 2 65535', ' 0 65535') for it in WANTED]],
+     'slot 0 has TYPE 0 SID 0 ID 000000 and PA 0'),
     ('OtherTrain', [*HEARD[:-1], *SECOND, 'sink 0 2 2', RECORD, 'source 0', *WANTED[:-1], 'source 1', *OTHER],
      'the train has TYPE 0 SID 1 ID 010000'),
     ('OtherTrain and the one followed', [*HEARD[:-1], *SECOND, 'sink 0 2 2', RECORD, 'source 0', *WANTED[:-1], 'source 1', *OTHER],
@@ -84,7 +86,8 @@ COMPARED = [
      'here codec 0600000000 locations 01000000 and 00000000 contexts 0400 and ffff'),
     ('a stream beside the ear', [*HEARD, RECORD, 'locate 0 01000000', *WANTED], 'stream 2 of subgroup 0 is not taken: Location: '
      'its locations and those of `locate` share no bit: another ear; here 02000000 and 01000000'),
-    *[(f'BadBase {octets}', [*HEARD, RECORD, *WANTED[:2], f'train 0 17000 06165218000000 {len(octets) // 2 + 3:02x}165118{octets} -', 'end'], words)
+    *[(f'BadBase {octets}', [*HEARD, RECORD, *WANTED[:2],
+                             f'train 0 17000 06165218000000 {len(octets) // 2 + 3:02x}165118{octets} -', 'end'], words)
       for octets, words in BAD_BASES],
     ('Codec', [*HEARD, 'pac 0 ff01000200 - -', *WANTED], f'{STREAM}Codec: CODEC of its subgroup is not that of the record; '
      'here 0600000000 and ff01000200'),
@@ -109,7 +112,8 @@ def slot_note(time: int, anchor: int, sync: int, slot: int, sdu: int, delay: int
 
 def framed_note(time: int, own: int, told: str) -> str:
     """The same of a framed unit of the group below."""
-    return (f'unit 0 1 at {time}: unit time {own} + BIG_Sync_Delay 124 + SDU_Interval 10000 + ISO_Interval 10000 + Presentation_Delay 40000; '
+    return (f'unit 0 1 at {time}: unit time {own} + BIG_Sync_Delay 124 + SDU_Interval 10000 + ISO_Interval 10000 '
+            f'+ Presentation_Delay 40000; '
             f'handed up by {told}')
 
 
@@ -287,8 +291,8 @@ def ends(explain: str) -> Iterator[str]:
 
 @step(seconds=12)
 def check(replay: str, explain: str) -> Faults:
-    """Of the examples, the worked rows and the corpus `explain` tells the rows that `replay` writes and each line with its number, and ends as
-    it does; each `unit` row has its notes, the sum in them is its time, and the counts at the end are those of the rows. Mistakes and
+    """Of the examples, the worked rows and the corpus `explain` tells the rows that `replay` writes and each line with its number, and ends
+    as it does; each `unit` row has its notes, the sum in them is its time, and the counts at the end are those of the rows. Mistakes and
     answers to trains have notes with the words that are meant, and the program's ends are tried."""
     found = list(scenarios.plain_runs())
     yield from comparing.each(found, lambda it: difference(replay, explain, it.text))

@@ -347,8 +347,8 @@ def pictured(browser: Browser, explain: str, folder: str, file: str) -> int:
 
 @step(seconds=60, needs=('chromium',))
 def check(explain: str, *, picture: str = '') -> Faults:
-    """Pages of nine runs show in a Chromium without a window what tools/timeline.py worked out, and what is clicked, typed, dragged and turned
-    there brings what it should. The times of the run of ten minutes are the least of three; where SLOWER=3 is set, they may be three times
+    """Pages of nine runs show in a Chromium without a window what tools/timeline.py worked out, and what is clicked, typed, dragged and
+    turned there brings what it should. The times of the run of ten minutes are the least of three; where SLOWER=3 is set, they may be three times
     as long. --picture FILE writes a picture of a run with losses, as docs/run.png is, and tries nothing."""
     path = chromium.find()
     figures: dict[str, float] = {}

@@ -63,5 +63,7 @@ def packed(octets: bytes, draw: Random) -> bytes:
     return draw.choice(kinds)(gzip.compress(octets, 1), draw)
 
 
-OF_TEXTS: tuple[Kind, ...] = (changed_octets, cut, changed_lines, changed_lines, changed_word, changed_word, without_a_part, with_a_part_twice)
-OF_CAPTURES: tuple[Kind, ...] = (changed_octets, changed_octets, changed_field, changed_field, cut, without_a_part, with_a_part_twice, packed)
+OF_TEXTS: tuple[Kind, ...] = (changed_octets, cut, changed_lines, changed_lines, changed_word, changed_word, without_a_part,
+                               with_a_part_twice)
+OF_CAPTURES: tuple[Kind, ...] = (changed_octets, changed_octets, changed_field, changed_field, cut, without_a_part,
+                                  with_a_part_twice, packed)

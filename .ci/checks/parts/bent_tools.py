@@ -11,8 +11,8 @@ LINES_TOLD = 400  # characters of what was said that are shown
 
 
 class Tool:
-    """A tool, with the inputs that it may have, as names of files with their octets, the ways in which one of them is bent, and its words in
-    a folder that has them."""
+    """A tool, with the inputs that it may have, as names of files with their octets, the ways in which one of them is bent, and its words
+    in a folder that has them."""
 
     def __init__(self, name: str, bases: Sequence[Mapping[str, bytes]], kinds: Sequence[Kind], words: Callable[[str], list[str]]):
         self.name, self.bases, self.kinds, self.words = name, bases, kinds, words

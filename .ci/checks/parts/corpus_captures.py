@@ -116,7 +116,8 @@ def hearer(path: str, scenario: Scenario) -> tuple[str, list[int], Units] | None
         hearing = [air.listeners(source, event) for event in range(source.first, source.event)]
     for sink, streams in joined.items():
         wanted = [place for place in source.places() if streams and place[0] in streams]
-        if streams and sink not in later and wanted and all((int(sink), 0) in heard.get(place, ()) for heard in hearing for place in wanted):
+        is_heard = all((int(sink), 0) in heard.get(place, ()) for heard in hearing for place in wanted)
+        if streams and sink not in later and wanted and is_heard:
             units = units_of(transcript, sink)
             return (sink, streams, units) if units else None
     return None

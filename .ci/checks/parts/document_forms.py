@@ -224,7 +224,8 @@ TABLES: list[tuple[str, list[Key]]] = [
     ('', [('version', '1', 1, 1, None), ('steps', '[]', None, None, None)]),
     ('[group]', [('framing', '"unframed"', 2, 1, None), *(
         (it.split(' = ')[0], it.split(' = ')[1], 2, word, None) for word, it in enumerate(GROUP.splitlines()[1:], 2))]),
-    ('[ident]', [('type', '0', 3, 1, None), ('address', '"665544332211"', 3, 2, None), ('sid', '3', 3, 3, None), ('id', '"563412"', 3, 4, None)]),
+    ('[ident]', [('type', '0', 3, 1, None), ('address', '"665544332211"', 3, 2, None), ('sid', '3', 3, 3, None),
+                 ('id', '"563412"', 3, 4, None)]),
     ('[[subgroups]]', [('codec', '"0600000000"', 4, 1, None), ('config', '"02010802020103040400"', 4, 2, None),
                        ('meta', '"03020400"', 5, 1, LESS)]),
     ('[[subgroups.bis]]', [('index', '1', 6, 1, None), ('config', '"050301000000"', 6, 2, None)]),

@@ -31,8 +31,8 @@ HEARD = ('NotOnGroup', 'NotTaken', 'NoNumber', 'Malformed 1', 'Malformed 2', 'Ma
          'Late', 'Beyond', 'Repeat', 'Kept')
 CONTROLS = ('NotOnGroup', 'Malformed 1', 'Malformed 2', 'Malformed 3', 'Malformed 4', 'Malformed 5', 'NotControl', 'UnknownOpcode',
             'ControlLength', 'MapIgnored', 'Left')
-PRINTED = ('unit valid', 'unit lost', 'relay', 'stale', 'pdu', 'heard', 'train', 'sink', 'reply', 'notice', 'read', 'state', 'view', 'forged',
-           'control', 'sum', 'areply', 'anotice', 'aread', 'aview')
+PRINTED = ('unit valid', 'unit lost', 'relay', 'stale', 'pdu', 'heard', 'train', 'sink', 'reply', 'notice', 'read', 'state', 'view',
+           'forged', 'control', 'sum', 'areply', 'anotice', 'aread', 'aview')
 REFUSALS = ('TextTooLong', 'LineTooLong', 'BadLine', 'AfterEnd', 'Order', 'BadGroup', 'BaseTooLong', 'IdentTwice', 'NoSuchSink',
             'NoSuchLink', 'LinkTwice', 'SinkTwice', 'NoOutlet', 'NoSuchBis', 'UnitTooLong', 'TimeOrder', 'RelayTaken', 'Relayed', 'Backlog',
             'NoSuchSubevent', 'NotOnAir', 'CounterEnds', 'NothingWaiting', 'RecordsTooLong', 'NoEnd', 'BadToml', 'BadDocument')
@@ -191,5 +191,6 @@ KINDS: dict[str, tuple[str, Iterable[object]]] = {
                          ['961 PDUs an event', '217 payloads in a window', '24 subgroups of a BASE', '73 records',
                           '16 units of a stream left out at once', '99 subgroups of a write', 'more than 32 writes of a drain',
                           'more than 32 notices of a drain'] + each(['512 octets'], ('notice', 'anotice', 'aread', 'state', 'view'))),
-    'words': ('the words of the command line and the exit status', each(('--migrate', '--toml', '--seed', '--events'), ('status 0', 'status 2')) + ['--toml, status 1']),
+    'words': ('the words of the command line and the exit status', [
+        *each(('--migrate', '--toml', '--seed', '--events'), ('status 0', 'status 2')), '--toml, status 1']),
 }

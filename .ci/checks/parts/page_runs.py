@@ -41,8 +41,9 @@ def often_shown() -> list[str]:
 
 LONGEST = 300  # seconds for a text
 Data = dict[str, Any]  # what a page embeds
-MADE: dict[str, Callable[[], Iterable[str]]] = {'hundred': hundred, 'three-seconds': stereo, 'gap': lambda: GAP, 'no-end': lambda: GAP[:-1], 'often-shown': often_shown,
-        'ten-minutes': long_run}
+MADE: dict[str, Callable[[], Iterable[str]]] = {
+    'hundred': hundred, 'three-seconds': stereo, 'gap': lambda: GAP, 'no-end': lambda: GAP[:-1], 'often-shown': often_shown,
+    'ten-minutes': long_run}
 
 
 def explained(explain: str, text: bytes) -> str:

@@ -20,7 +20,8 @@ MANY = re.compile(r'(\d+)< (.*)')
 # The lines of a transcript that a step may print, by their first words, in order; `unit` and `relay` lines stand among each other.
 PRINTS = {
     'event': ('unit', 'relay', 'stale'), 'stop': ('unit', 'relay'), 'terminate': ('unit', 'relay', 'control'),
-    'end': ('unit', 'relay', 'sum'), 'drop': ('sum',), 'sniff': ('pdu',), 'inject': ('heard',), 'announce': ('train', 'sink'), 'train': ('sink',), 'control': ('sink',),
+    'end': ('unit', 'relay', 'sum'), 'drop': ('sum',), 'sniff': ('pdu',), 'inject': ('heard',),
+    'announce': ('train', 'sink'), 'train': ('sink',), 'control': ('sink',),
     'lose': ('sink',), 'serve': ('reply',), 'tell': ('notice',), 'read': ('read',), 'drain': ('reply', 'notice', 'read'),
     'show': ('state', 'view'), 'forge': ('forged',), 'aserve': ('areply',), 'atell': ('anotice',), 'aread': ('aread',),
     'adrain': ('areply', 'anotice', 'aread'), 'ashow': ('aview',),
@@ -97,7 +98,8 @@ class Reader:
 
     def ended(self, status: int) -> Scenario:
         steps = self.steps_here()
-        return Scenario(self.where, self.name, text_in(steps, self.is_whole), transcript_in(steps, self.is_ended), status, self.words, steps)
+        text, transcript = text_in(steps, self.is_whole), transcript_in(steps, self.is_ended)
+        return Scenario(self.where, self.name, text, transcript, status, self.words, steps)
 
     def steps_here(self) -> Steps:
         """The steps up to here, to which no row is added any more."""

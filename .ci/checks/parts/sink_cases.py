@@ -9,7 +9,7 @@ LATE = ('NoBase', 'BadBase', 'NoBigInfo', 'BadBigInfo', 'BadGroup', 'NoneTaken')
 
 Words = list[str]
 Printed = list[Words]  # the rows that a line brings
-Place = tuple[str, int | None]  # idle, on a train or on a group; and the slot for which it is there: -1 for none that is known, None for none
+Place = tuple[str, int | None]  # idle, on a train or on a group; and the slot for which: -1 for one that isn't known, None for none
 
 
 class Sink:
