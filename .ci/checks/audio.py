@@ -243,7 +243,7 @@ def faults(program: str, folder: str) -> Iterator[str]:
             yield f'{name}: {fault}'
 
 
-@step(seconds=20, needs=('lc3',))
+@step(seconds=10, needs=('lc3',))
 def check(replay: str) -> Faults:
     """tools/audio.py takes WAVs out as scenarios, and what sinks hand up in again. With no loss the WAV is the round trip by elc3 and dlc3,
     octet for octet; with losses it is what an LC3 decoder makes of the frames that the transcript has, where it is told of each of the

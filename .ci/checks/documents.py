@@ -59,7 +59,7 @@ def with_all_keys() -> Iterator[scenarios.Scenario]:
         yield scenarios.of_document('documents', name, document.encode(), written.encode())
 
 
-@step(seconds=2)
+@step(seconds=3)
 def check(replay: str) -> Faults:
     """With --toml the program writes of documents worked by hand what stands beside them: whole ones, for the forms of TOML and of the
     language, and one with all keys, of which each is left out, written twice, of each other type, and of a value that fits no place, which

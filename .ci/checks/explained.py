@@ -289,7 +289,7 @@ def ends(explain: str) -> Iterator[str]:
         yield f'a full device: {filled.returncode} {filled.stderr!r}'
 
 
-@step(seconds=12)
+@step(seconds=8)
 def check(replay: str, explain: str) -> Faults:
     """Of the examples, the worked rows and the corpus `explain` tells the rows that `replay` writes and each line with its number, and ends
     as it does; each `unit` row has its notes, the sum in them is its time, and the counts at the end are those of the rows. Mistakes and

@@ -83,7 +83,7 @@ def is_given_by_lines(scenario: Scenario) -> bool:
     return not scenario.words and is_whole and len(scenario.text) <= LONGEST
 
 
-@step(seconds=7)
+@step(seconds=3)
 def check(replay: str) -> Faults:
     """All that a line brings is written before the next line is read: the program is given the lines of the worked rows and of every fourth
     scenario of corpus/ one by one, each once all that the lines before it bring was written."""

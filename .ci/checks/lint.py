@@ -49,7 +49,7 @@ def long_files(found: list[str]) -> Iterator[str]:
             yield f'{path} has {count} lines'
 
 
-@step(seconds=30, needs=('mypy', 'pyflakes', 'shellcheck'))
+@step(seconds=20, needs=('mypy', 'pyflakes', 'shellcheck'))
 def check() -> Faults:
     """mypy and pyflakes find nothing in the Python of .ci/, tools/ and bench/, where each function of .ci/ has its types, nor shellcheck in
     the scripts in bash; no file of these has more than 400 lines."""

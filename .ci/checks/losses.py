@@ -233,7 +233,7 @@ def by_words(programs: list[str]) -> Iterator[str]:
         yield f'tools in processes of their own end with {whole}'
 
 
-@step(seconds=60)
+@step(seconds=20)
 def check(replay: str, explain: str) -> Faults:
     """Losses that tools/losses.py and tools/choose.py measure are what is worked out: of copies, of several PDUs a unit, in bursts and by a
     period within the interval of 99.9 % that they state, framed units by counts over the same draws. Sinks that share a part of a channel

@@ -67,7 +67,7 @@ def are_interrupted(program: str, scenario: Scenario, environment: dict[str, str
     return told.stderr.isdigit() and int(told.stderr) > 1
 
 
-@step(seconds=15, needs=('cc',))
+@step(seconds=4, needs=('cc',))
 def check(replay: str) -> Faults:
     """The program writes the same of the examples, the worked rows, every tenth scenario of corpus/ and every tenth document over reads and
     writes that move at most 1, 7 and 4,096 octets a call, and over those of which each second or third is interrupted."""

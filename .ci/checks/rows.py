@@ -25,7 +25,7 @@ def long_runs(replay: str) -> Iterator[str]:
         yield f'100000 events: {sums} of 100 octets each'
 
 
-@step(seconds=4)
+@step(seconds=1)
 def check(replay: str) -> Faults:
     """Each worked row of corpus/rows/ has its transcript. A generated run of 2,000 events gives the same summary twice, and one of 100,000
     events, a text of 44 million octets, the sums that all its units make, in a minute."""

@@ -264,7 +264,7 @@ def page_differs(told: str, page: str) -> Iterator[str]:
         yield 'the tool writes another page'
 
 
-@step(seconds=40)
+@step(seconds=15)
 def check(explain: str) -> Faults:
     """Pages of runs have what is worked out: of a few runs by hand, and of each worked row, example and scenario each unit is valid exactly
     where each payload that carries it was heard in time, as the notes of `explain` tell it. tools/timeline.py is called with good and bad

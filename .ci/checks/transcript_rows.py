@@ -135,7 +135,7 @@ def changed_rows(examples: Examples, counts: dict[str, int]) -> Iterator[str]:
                     pass
 
 
-@step(seconds=6)
+@step(seconds=3)
 def check() -> Faults:
     """The table of what a line prints, tools/printed_rows.py, is that of the words of the language (.ci/words), of the reader of the corpus
     (scenarios.py), and of all rows of the corpus, the worked rows and the examples: each row has a form and comes where a line brings it,

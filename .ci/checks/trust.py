@@ -7,7 +7,7 @@ from checks import TOP
 from checks.parts.steps import Faults, step
 
 
-@step(seconds=4)
+@step(seconds=1)
 def check() -> Faults:
     """The pages of docs/spec/ have the definitions that the promise of `replay` reaches, as the files have them."""
     words = [sys.executable, os.path.join(TOP, 'bench', 'trust.py'), '--check']
