@@ -79,8 +79,9 @@ class Lanes:
     def tell_begin(self) -> None:
         number = len(self.lacking)
         if number:
-            of_all = 'all' if number == len(self.left) else f'{number} of'
-            say(f'{of_all} {len(self.left)} crates are to be proved, in about {told(self.times.whole)} on {self.lanes} '
+            every = len(self.left)
+            what = f'{number} of {every} crates' if number < every else f'all {every} crates' if every > 1 else 'one crate'
+            say(f'{what} {"are" if number > 1 else "is"} to be proved, in about {told(self.times.whole)} on {self.lanes} '
                 f'processor{"s" if self.lanes > 1 else ""}')
 
     def longest(self) -> float:
