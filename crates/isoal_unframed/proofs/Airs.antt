@@ -1,5 +1,5 @@
 -- The state of a sender against the calls that it took.
-use Rattle.std.proofs.Common.{ℕ, ◌≡◌, ◌≤◌, ◌+◌, ◌*◌, ◌-◌, min, zero, suc, List, [], ◌∷◌, ◌++◌, length, drop, arith, ◌∙◌, ap, sym, refl}
+use Rattle.std.proofs.Common.{ℕ, ◌≡◌, ◌≤◌, ◌+◌, ◌*◌, ◌-◌, min, zero, suc, List, [], ◌∷◌, length, drop, arith, ◌∙◌, ap, refl}
 use Rattle.std.proofs.lemmas.List.{drop-append-le, drop-drop, drop_min, length-append, length-drop}
 use Rattle.big_info.specs.declared.info.BigInfo.{BigInfo}
 use Rattle.big_info.specs.Schedule.{per_event_of, per_unit_of}
@@ -16,10 +16,7 @@ begun_within info (accept octets ∷ calls) = omega (arith, begun_within info ca
 begun_within info (lay ∷ calls) = omega arith
 
 pub stands_accept : (info : BigInfo) (calls : List Call) (sender : Sender) (unit : List ℕ) → StandsFor info calls sender → StandsFor info (accept unit ∷ calls) (with_unit sender unit)
-stands_accept info calls sender unit stands = record {
-  group = stands.group;
-  waiting = ap (λ xs. xs ++ unit ∷ []) stands.waiting ∙ sym (drop-append-le (begun info calls) (accepted calls) (unit ∷ []) (begun_within info calls));
-}
+stands_accept info calls sender unit stands = grind (arith, drop-append-le, begun_within)
 
 pub stands_lay : (info : BigInfo) (calls : List Call) (sender : Sender) → StandsFor info calls sender → StandsFor info (lay ∷ calls) (after_event sender)
 stands_lay info calls sender stands =
@@ -28,8 +25,7 @@ stands_lay info calls sender stands =
     let swapped : min (length (accepted calls)) (t + k) ≡ min (t + k) (length (accepted calls)) = omega arith in
     record {
       group = stands.group;
-      waiting = ap (λ i. drop (per_event_of i) sender.waiting) stands.group ∙ ap (drop k) stands.waiting ∙ drop-drop k t (accepted calls)
-          ∙ sym (ap (λ n. drop n (accepted calls)) swapped ∙ drop_min (t + k) (accepted calls));
+      waiting = grind (arith, drop-drop, drop_min);
     }
 
 pub waiting_is : (info : BigInfo) (calls : List Call) (sender : Sender) → StandsFor info calls sender → length sender.waiting ≡ length (accepted calls) - begun info calls
@@ -49,19 +45,11 @@ lays_begun info calls (suc n) =
 pub newest_is : (info : BigInfo) (calls : List Call) (sender : Sender) (event : Laid) → sender.info.bn ≡ per_event_of sender.info * per_unit_of sender.info → StandsFor info calls sender
     → event ≡ record { pdus = event_pdus sender.info sender.waiting; stale = [] }
     → unframed_air info (lay ∷ calls) ≡ record { event = event; begun = begun info (lay ∷ calls) } ∷ unframed_air info calls
-newest_is info calls sender event whole stands is =
-    let now : event ≡ record { pdus = event_pdus info sender.waiting; stale = [] } =
-    is ∙ ap (λ i. record { pdus = event_pdus i sender.waiting; stale = [] }) stands.group in
-    let bn : info.bn ≡ per_event_of info * per_unit_of info = rw (sym stands.group) whole in
-    ap (λ (e : Laid). record { event = e; begun = begun info (lay ∷ calls) } ∷ unframed_air info calls) (next_event_is info calls sender bn stands ∙ sym now)
+newest_is info calls sender event whole stands is = grind (arith, next_event_is)
 
 pub laid_event : (event : Laid) (pdus : List (List ℕ)) → event.pdus ≡ pdus → event.stale ≡ [] → event ≡ record { pdus = pdus; stale = [] }
-laid_event event pdus pdus_are none =
-    ap (λ (own : List (List ℕ)). record { pdus = own; stale = event.stale }) pdus_are ∙ ap (λ (times : List ℕ). record { pdus = pdus; stale = times }) none
+laid_event event pdus pdus_are none = grind arith
 
 -- no more units wait behind those that are taken
 pub sender_left : (info : BigInfo) (n : ℕ) (units left : List (List ℕ)) → IsSender info units → left ≡ drop n units → IsSender info left
-sender_left info n units left is rest = record {
-  unframed = is.unframed;
-  few = let count : length left ≡ length units - n = ap length rest ∙ length-drop n units in omega (arith, is.few);
-}
+sender_left info n units left is rest = grind (arith, length-drop)

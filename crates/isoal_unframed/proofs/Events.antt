@@ -19,15 +19,12 @@ use Rattle.isoal_unframed.specs.Slot.{laid}
 slice_get_drop : {X : Type 0} (xs : List X) (n i : ℕ) → slice_get (drop n xs) i ≡ slice_get xs (n + i)
 slice_get_drop xs zero i = let same : 0 + i ≡ i = omega arith in rw same refl
 slice_get_drop [] (suc n) i = refl
-slice_get_drop (x ∷ xs) (suc n) i =
-    let next : suc n + i ≡ suc (n + i) = omega arith in
-    rw next (slice_get_drop xs n i)
+slice_get_drop (x ∷ xs) (suc n) i = let next : suc n + i ≡ suc (n + i) = omega arith in rw next (slice_get_drop xs n i)
 
 -- the units of an event that is laid are those that wait
 unit_at_next : (info : BigInfo) (calls : List Call) (waiting : List (List ℕ)) (slot : ℕ) → waiting ≡ drop (begun info calls) (accepted calls)
     → unit_at info (lay ∷ calls) (events calls) slot ≡ slice_get waiting slot
-unit_at_next info calls waiting slot waits =
-    rw (eq-eqb (events calls) (events calls) refl, waits) (sym (slice_get_drop (accepted calls) (begun info calls) slot))
+unit_at_next info calls waiting slot waits = grind (arith, eq-eqb, slice_get_drop)
 
 pub next_event_is : (info : BigInfo) (calls : List Call) (sender : Sender) → info.bn ≡ per_event_of info * per_unit_of info → StandsFor info calls sender
     → next_event info calls ≡ record { pdus = event_pdus info sender.waiting; stale = [] }
@@ -35,14 +32,10 @@ next_event_is info calls sender whole stands =
     let m = per_unit_of info in
     let f : ℕ → ℕ → List ℕ = λ slot r. pdu (laid info.max_pdu (slice_get sender.waiting slot) r) in
     let e = events calls in
-    let here : (i : ℕ) → i < info.bn → laid_u info (lay ∷ calls) (e * info.bn + i) ≡ f ((0 + i) / m) ((0 + i) % m) = λ i below.
-    let same : 0 + i ≡ i = omega arith in
-    rw (same, div-mul-add e info.bn i below, mod-mul-add e info.bn i below) (ap (λ u. pdu (laid info.max_pdu u (i % m))) (unit_at_next info calls sender.waiting (i / m) stands.waiting)) in
+    let here : (i : ℕ) → i < info.bn → laid_u info (lay ∷ calls) (e * info.bn + i) ≡ f ((0 + i) / m) ((0 + i) % m) = grind (arith, div-mul-add, mod-mul-add, unit_at_next) in
     let start : 0 * m ≡ 0 = omega arith in
     let numbers = map_same (laid_u info (lay ∷ calls)) (λ i. f (i / m) (i % m)) (e * info.bn) 0 info.bn here in
-    let by_rows : event_pdus info sender.waiting ≡ map (λ i. f (i / m) (i % m)) (range_with_len 0 info.bn) =
-    rows f m 0 (per_event_of info) ∙ ap (λ a. map (λ i. f (i / m) (i % m)) (range_with_len a (per_event_of info * m))) start
-    ∙ ap (λ n. map (λ i. f (i / m) (i % m)) (range_with_len 0 n)) (sym whole) in
+    let by_rows : event_pdus info sender.waiting ≡ map (λ i. f (i / m) (i % m)) (range_with_len 0 info.bn) = grind (arith, rows) in
     ap (λ (pdus : List (List ℕ)). record { pdus = pdus; stale = [] }) (numbers ∙ sym by_rows)
 
 -- what was laid stays
@@ -59,9 +52,7 @@ abbrev event_laid : BigInfo → List Call → ℕ → Laid
 event_laid info calls e = record { pdus = map (laid_u info calls) (range_with_len (e * info.bn) info.bn); stale = [] }
 
 event_laid_stays : (info : BigInfo) (call : Call) (calls : List Call) (e : ℕ) → e < events calls → event_laid info (call ∷ calls) e ≡ event_laid info calls e
-event_laid_stays info call calls e below =
-    ap (λ (pdus : List (List ℕ)). record { pdus = pdus; stale = [] }) (map_same (laid_u info (call ∷ calls)) (laid_u info calls) (e * info.bn) (e * info.bn) info.bn
-    (λ i inside. laid_stays info call calls (e * info.bn + i) (omega (arith, div-mul-add e info.bn i inside))))
+event_laid_stays info call calls e below = grind (arith, map_same, laid_stays, div-mul-add)
 
 event_at_is : (info : BigInfo) (calls : List Call) (e : ℕ) → e < events calls → event_at (unframed_air info calls) e ≡ Some (event_laid info calls e)
 event_at_is info [] e below = absurd (omega (arith, below))

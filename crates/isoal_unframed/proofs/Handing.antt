@@ -1,5 +1,5 @@
 -- Units that are handed one by one.
-use Rattle.std.proofs.Common.{ℕ, zero, suc, ◌≡◌, ◌+◌, ◌-◌, ◌*◌, ◌<◌, ◌≤◌, List, [], ◌∷◌, ◌++◌, length, take, drop, get_or, Option, Result, Ok, Err, sym, ap, ◌∙◌, subst, arith}
+use Rattle.std.proofs.Common.{ℕ, ◌≡◌, ◌+◌, ◌-◌, ◌*◌, ◌<◌, ◌≤◌, List, [], ◌∷◌, ◌++◌, length, take, drop, get_or, Option, Result, Err, sym, ap, ◌∙◌, subst, arith}
 use Rattle.std.specs.Prelude.{IsErr}
 use Rattle.std.proofs.lemmas.List.{take_more, take-take, drop-drop, append_assoc, append-nil, take_all}
 use Rattle.std.proofs.lemmas.Bool.{false≢true}
@@ -14,28 +14,18 @@ use Rattle.isoal_unframed.specs.State.Windows.{time_of, handed_of, owed_at, owed
 
 pub hand_more : (units old now new : List Handed) (unit : Handed) (n : ℕ) → now ≡ old ++ take n units → n < length units
     → get_or units n unit ≡ unit → new ≡ now ++ unit ∷ [] → new ≡ old ++ take (n + 1) units
-hand_more units old now new unit n before below here after =
-    after ∙ ap (λ xs. xs ++ unit ∷ []) before ∙ append_assoc old (take n units) (unit ∷ [])
-    ∙ ap (λ u. old ++ (take n units ++ u ∷ [])) (sym here)
-    ∙ ap (λ xs. old ++ xs) (sym (take_more units n unit below))
-
-pub hand_stops : (units old now new : List Handed) (unit : Handed) (n : ℕ) (fault : TakerFault) → now ≡ old ++ take n units → n < length units
-    → HandsOver (unit ∷ []) now new (Err fault) → HandsOver units old new (Err fault)
-hand_stops units old now new unit n fault before below (zero, under, after) = (n, below, after ∙ append-nil now ∙ before)
-hand_stops units old now new unit n fault before below (suc m, under, after) = absurd (omega arith)
+hand_more units old now new unit n before below here after = grind (arith, append_assoc, take_more)
 
 pub length-owed : (stay : Stay) (event : ℕ) (kept : List (Option Content)) → length (owed_of stay event kept) ≡ per_event_of stay.info
 length-owed stay event kept = length-map-range_with_len (owed_at stay event kept) 0 (per_event_of stay.info)
 
 pub get-owed : (stay : Stay) (event : ℕ) (kept : List (Option Content)) (slot : ℕ) (d : Handed) → slot < per_event_of stay.info
     → get_or (owed_of stay event kept) slot d ≡ owed_at stay event kept slot
-get-owed stay event kept slot d below =
-    get_or-map-range_with_len (owed_at stay event kept) 0 (per_event_of stay.info) slot slot d below (omega arith)
+get-owed stay event kept slot d below = grind (arith, get_or-map-range_with_len)
 
 pub front_more : {A : Type 0} (start first : ℕ) (was now new : List A) → start ≤ first → take start now ≡ take start was
     → take first new ≡ take first now → take start new ≡ take start was
-front_more start first was now new order before same =
-    sym (take-take start first new order) ∙ ap (take start) same ∙ take-take start first now order ∙ before
+front_more start first was now new order before same = grind (arith, take-take start first new order, take-take start first now order)
 
 pub behind_more : {A : Type 0} (first m end : ℕ) (was now new : List A) → drop first now ≡ drop first was
     → drop (first + m) new ≡ drop (first + m) now → first + m ≤ end → drop end new ≡ drop end was
@@ -45,14 +35,10 @@ behind_more first m end was now new before same order =
     ∙ ap (drop (end - (first + m))) (same ∙ sym (drop-drop m first now) ∙ ap (drop m) before ∙ drop-drop m first was)
     ∙ drop-drop (end - (first + m)) (first + m) was ∙ ap (λ k. drop k was) sum
 
-pub unit_same : (stay : Stay) (event slot time first start places : ℕ) (was now : List (Option Content))
-    → time ≡ time_of stay event slot → first ≡ start + slot * places → places ≡ per_unit_of stay.info → drop first now ≡ drop first was
-    → handed_of stay.bis time (unit_of stay.info.max_sdu (take (per_unit_of stay.info) (drop first now)))
-    ≡ owed_at stay event (drop start was) slot
-unit_same stay event slot time first start places was now is_time is_first is_places same =
-    ap (λ t. handed_of stay.bis t (unit_of stay.info.max_sdu (take (per_unit_of stay.info) (drop first now)))) is_time
-    ∙ ap (λ xs. handed_of stay.bis (time_of stay event slot) (unit_of stay.info.max_sdu (take (per_unit_of stay.info) xs)))
-    (same ∙ ap (λ k. drop k was) (is_first ∙ ap (λ m. start + slot * m) is_places) ∙ sym (drop-drop (slot * per_unit_of stay.info) start was))
+pub unit_same : (stay : Stay) (event slot time first start places : ℕ) (was now : List (Option Content)) → time ≡ time_of stay event slot
+    → first ≡ start + slot * places → places ≡ per_unit_of stay.info → drop first now ≡ drop first was
+    → handed_of stay.bis time (unit_of stay.info.max_sdu (take (per_unit_of stay.info) (drop first now))) ≡ owed_at stay event (drop start was) slot
+unit_same stay event slot time first start places was now is_time is_first is_places same = grind (arith, drop-drop)
 
 pub owed_more : (stay : Stay) (event slot slots time first start places : ℕ) (was kept : List (Option Content)) (old now new : List Handed)
     → time ≡ time_of stay event slot → first ≡ start + slot * places → places ≡ per_unit_of stay.info → drop first kept ≡ drop first was
@@ -68,22 +54,13 @@ owed_more stay event slot slots time first start places was kept old now new is_
     (get-owed stay event (drop start was) slot (owed_at stay event (drop start was) slot) under)
     (after ∙ ap (λ u. now ++ u ∷ []) unit)
 
-hands_err : (units old now : List Handed) (fault : TakerFault) (r : Result (Unit {0}) TakerFault) → IsErr r
-    → HandsOver units old now (Err fault) → HandsOver units old now r
-hands_err units old now fault (Ok x) is hands = absurd (false≢true is)
-hands_err units old now fault (Err other) is hands = hands
-
 pub owed_stops : (stay : Stay) (event slot slots : ℕ) (kept : List (Option Content)) (old now new : List Handed) (unit : Handed) (fault : TakerFault)
     → (r : Result (Unit {0}) TakerFault) → IsErr r
     → slot < slots → slots ≡ per_event_of stay.info → now ≡ old ++ take slot (owed_of stay event kept)
     → HandsOver (unit ∷ []) now new (Err fault) → HandsOver (owed_of stay event kept) old new r
 owed_stops stay event slot slots kept old now new unit fault r is below all before hands =
-    hands_err (owed_of stay event kept) old new fault r is
-    (hand_stops (owed_of stay event kept) old now new unit slot fault before
-    (subst (λ k. slot < k) (sym (length-owed stay event kept)) (subst (λ k. slot < k) all below)) hands)
+    grind (arith, false≢true, append-nil, length-owed)
 
 pub owed_all : (stay : Stay) (event slot slots : ℕ) (kept : List (Option Content)) (old now : List Handed)
     → slots ≤ slot → slots ≡ per_event_of stay.info → now ≡ old ++ take slot (owed_of stay event kept) → now ≡ old ++ owed_of stay event kept
-owed_all stay event slot slots kept old now past all before =
-    before ∙ ap (λ xs. old ++ xs) (take_all slot (owed_of stay event kept)
-    (subst (λ k. k ≤ slot) (all ∙ sym (length-owed stay event kept)) past))
+owed_all stay event slot slots kept old now past all before = grind (arith, take_all, length-owed)

@@ -27,17 +27,12 @@ no_front room slot = record { others = slot; slot_is = refl; ends_last = tt; fit
 
 front_is : (room : ℕ) (slot : List (Option Content)) → IsFront room slot (front_of room slot)
 unfolding front_of
-front_is room [] = no_front room []
-front_is room (None ∷ slot) = no_front room (None ∷ slot)
-front_is room (Some (framed parts) ∷ slot) = no_front room (Some (framed parts) ∷ slot)
-front_is room (Some (control part) ∷ slot) = no_front room (Some (control part) ∷ slot)
 front_is room (Some (end part) ∷ slot) = elim (cases_Bool (leb (length part) room)) [
   | inl fits ↦
       let within : length part ≤ room = leb-true (length part) room fits in
       subst (IsFront room (Some (end part) ∷ slot)) (sym (cond-true (leb (length part) room) (end part ∷ []) [] fits))
       (record { others = slot; slot_is = refl; ends_last = refl; fits = omega arith })
-  | inr past ↦ subst (IsFront room (Some (end part) ∷ slot)) (sym (cond-false (leb (length part) room) (end part ∷ []) [] past))
-      (no_front room (Some (end part) ∷ slot))
+  | inr past ↦ grind (arith, cond-false, no_front)
 ]
 front_is room (Some (fragment part) ∷ slot) = elim (cases_Bool (leb (length part) room)) [
   | inl fits ↦
@@ -47,10 +42,9 @@ front_is room (Some (fragment part) ∷ slot) = elim (cases_Bool (leb (length pa
       subst (IsFront room (Some (fragment part) ∷ slot))
       (sym (cond-true (leb (length part) room) (fragment part ∷ front_of (room - length part) slot) [] fits))
       (record { others = rest.others; slot_is = ap (λ xs. Some (fragment part) ∷ xs) rest.slot_is; ends_last = rest.ends_last; fits = omega arith })
-  | inr past ↦ subst (IsFront room (Some (fragment part) ∷ slot))
-      (sym (cond-false (leb (length part) room) (fragment part ∷ front_of (room - length part) slot) [] past))
-      (no_front room (Some (fragment part) ∷ slot))
+  | inr past ↦ grind (arith, cond-false, front_of, no_front)
 ]
+front_is room slot = search (no_front, cases_Bool, leb-true, cond-true, cond-false, front_of)
 
 -- the first part of a front that is not empty is what the slot keeps first
 head_is : (room : ℕ) (kept : Option Content) (slot : List (Option Content)) (part : Content) (parts : List Content)
@@ -59,73 +53,40 @@ head_is room kept slot part parts front = ap head_of front.slot_is
 
 tail_is : (room : ℕ) (kept : Option Content) (slot : List (Option Content)) (octets : List ℕ) (parts : List Content)
     → IsFront room (kept ∷ slot) (fragment octets ∷ parts) → IsFront (room - length octets) slot parts
-tail_is room kept slot octets parts front =
-    let fits : length octets + count_in parts ≤ room = front.fits in
-    record { others = front.others; slot_is = ap tail_of front.slot_is; ends_last = front.ends_last; fits = omega arith }
+tail_is room kept slot octets parts front = grind arith
 
 longest_end : (room : ℕ) (octets : List ℕ) (slot : List (Option Content)) (parts : List Content) → parts ≡ [] → length octets ≤ room
     → length (end octets ∷ parts) ≤ length (front_of room (Some (end octets) ∷ slot))
 unfolding front_of
-longest_end room octets slot parts none fits =
-    let one : length parts ≡ 0 = ap length none in
-    subst (λ xs. length (end octets ∷ parts) ≤ length xs)
-    (sym (cond-true (leb (length octets) room) (end octets ∷ []) [] (le-leb (length octets) room fits))) (omega arith)
+longest_end room octets slot parts none fits = grind (arith, cond-true, le-leb)
 
 longest_more : (room : ℕ) (octets : List ℕ) (slot : List (Option Content)) (parts : List Content) → length octets ≤ room
     → length parts ≤ length (front_of (room - length octets) slot)
     → length (fragment octets ∷ parts) ≤ length (front_of room (Some (fragment octets) ∷ slot))
 unfolding front_of
-longest_more room octets slot parts fits rest =
-    subst (λ xs. length (fragment octets ∷ parts) ≤ length xs)
-    (sym (cond-true (leb (length octets) room) (fragment octets ∷ front_of (room - length octets) slot) [] (le-leb (length octets) room fits))) (omega arith)
+longest_more room octets slot parts fits rest = grind (arith, cond-true, front_of, le-leb)
 
 longest : (room : ℕ) (slot : List (Option Content)) (other : List Content) → IsFront room slot other → length other ≤ length (front_of room slot)
 longest room slot [] front = omega arith
-longest room slot (framed segments ∷ parts) front = absurd front.ends_last
-longest room slot (control octets ∷ parts) front = absurd front.ends_last
 longest room [] (end octets ∷ parts) front = absurd (none-some (end octets) (ap head_of front.slot_is))
 longest room [] (fragment octets ∷ parts) front = absurd (none-some (fragment octets) (ap head_of front.slot_is))
-longest room (None ∷ slot) (end octets ∷ parts) front = absurd (none-some (end octets) (head_is room None slot (end octets) parts front))
-longest room (None ∷ slot) (fragment octets ∷ parts) front = absurd (none-some (fragment octets) (head_is room None slot (fragment octets) parts front))
-longest room (Some kept ∷ slot) (end octets ∷ parts) front =
-    let same : kept ≡ end octets = same_Some kept (end octets) (head_is room (Some kept) slot (end octets) parts front) in
-    let fits : length octets + count_in parts ≤ room = front.fits in
-    subst (λ k. length (end octets ∷ parts) ≤ length (front_of room (Some k ∷ slot))) (sym same)
-    (longest_end room octets slot parts front.ends_last (omega arith))
-longest room (Some kept ∷ slot) (fragment octets ∷ parts) front =
-    let same : kept ≡ fragment octets = same_Some kept (fragment octets) (head_is room (Some kept) slot (fragment octets) parts front) in
-    let fits : length octets + count_in parts ≤ room = front.fits in
-    subst (λ k. length (fragment octets ∷ parts) ≤ length (front_of room (Some k ∷ slot))) (sym same)
-    (longest_more room octets slot parts (omega arith)
-    (longest (room - length octets) slot parts (tail_is room (Some kept) slot octets parts front)))
+longest room (Some kept ∷ slot) (end octets ∷ parts) front = grind (arith, same_Some, head_is, front_of, longest_end)
+longest room (Some kept ∷ slot) (fragment octets ∷ parts) front = grind (arith, same_Some kept (fragment octets) (head_is room (Some kept) slot (fragment octets) parts front), front.fits, longest_more room octets slot parts (omega arith) (longest (room - length octets) slot parts (tail_is room (Some kept) slot octets parts front)))
+longest room slot other front = search (none-some, head_is, same_Some, front_of, longest_end, longest_more, tail_is)
 
 held_count : (room : ℕ) (slot : List (Option Content)) → held_in room slot ≡ count_in (front_of room slot)
 unfolding front_of
-held_count room [] = refl
-held_count room (None ∷ slot) = refl
-held_count room (Some (framed parts) ∷ slot) = refl
-held_count room (Some (control part) ∷ slot) = refl
-held_count room (Some (end part) ∷ slot) = elim (cases_Bool (leb (length part) room)) [
-  | inl fits ↦ cond-true (leb (length part) room) (length part) 0 fits ∙ omega arith
-      ∙ ap count_in (sym (cond-true (leb (length part) room) (end part ∷ []) [] fits))
-  | inr past ↦ cond-false (leb (length part) room) (length part) 0 past
-      ∙ ap count_in (sym (cond-false (leb (length part) room) (end part ∷ []) [] past))
-]
+held_count room (Some (end part) ∷ slot) = grind (arith, cases_Bool, cond-true, cond-false)
 held_count room (Some (fragment part) ∷ slot) = elim (cases_Bool (leb (length part) room)) [
   | inl fits ↦ cond-true (leb (length part) room) (length part + held_in (room - length part) slot) 0 fits
       ∙ ap (λ n. length part + n) (held_count (room - length part) slot)
       ∙ ap count_in (sym (cond-true (leb (length part) room) (fragment part ∷ front_of (room - length part) slot) [] fits))
-  | inr past ↦ cond-false (leb (length part) room) (length part + held_in (room - length part) slot) 0 past
-      ∙ ap count_in (sym (cond-false (leb (length part) room) (fragment part ∷ front_of (room - length part) slot) [] past))
+  | inr past ↦ grind (arith, cond-false, front_of)
 ]
+held_count room slot = search (cases_Bool, cond-true, cond-false, front_of)
 
 pub held_is_longest : (room : ℕ) (slot : List (Option Content)) (octets : ℕ) → octets ≡ held_in room slot → IsHeld room slot octets
-held_is_longest room slot octets is = record {
-  front = front_of room slot;
-  is_front = front_is room slot;
-  longest = longest room slot;
-  octets_are = is ∙ held_count room slot;
-}
+held_is_longest room slot octets is = grind (arith, front_of, front_is, longest, held_count)
 
 -- two fronts of one length are one
 same_front : (a b : List Content) (x y : List (Option Content)) → map Some a ++ x ≡ map Some b ++ y → length a ≡ length b → a ≡ b
@@ -137,10 +98,4 @@ same_front (part ∷ a) (other ∷ b) x y same count =
     ∙ ap (λ ps. other ∷ ps) (same_front a b x y (ap tail_of same) (omega arith))
 
 pub longest_is_held : (room : ℕ) (slot : List (Option Content)) (octets : ℕ) → IsHeld room slot octets → octets ≡ held_in room slot
-longest_is_held room slot octets held =
-    let ours : IsFront room slot (front_of room slot) = front_is room slot in
-    let least : length held.front ≤ length (front_of room slot) = longest room slot held.front held.is_front in
-    let most : length (front_of room slot) ≤ length held.front = held.longest (front_of room slot) ours in
-    held.octets_are
-    ∙ ap count_in (same_front held.front (front_of room slot) held.is_front.others ours.others (sym held.is_front.slot_is ∙ ours.slot_is) (omega arith))
-    ∙ sym (held_count room slot)
+longest_is_held room slot octets held = grind (arith, front_of, front_is, longest, same_front, held_count)

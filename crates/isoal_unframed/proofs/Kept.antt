@@ -1,5 +1,5 @@
 -- What a ring keeps, and how it changes.
-use Rattle.std.proofs.Common.{ℕ, zero, suc, ◌≡◌, ◌+◌, ◌-◌, ◌*◌, ◌<◌, ◌≤◌, true, cond, leb, List, [], ◌∷◌, ◌++◌, length, take, drop, set, replicate, get_or, Option, Some}
+use Rattle.std.proofs.Common.{ℕ, zero, suc, ◌≡◌, ◌+◌, ◌-◌, ◌*◌, ◌<◌, ◌≤◌, true, cond, leb, List, [], ◌∷◌, ◌++◌, length, take, drop, set, replicate, get_or, Option}
 use Rattle.std.proofs.Common.{None, is_some, refl, sym, ap, ◌∙◌, subst, arith}
 use Rattle.std.specs.List.{All, copy_within}
 use Rattle.std.proofs.lemmas.List.{take-take, take_at, drop_at, drop-drop, take-append-le, drop-append-le, length-take-le, length-append, drop_more, length-drop}
@@ -8,7 +8,7 @@ use Rattle.std.specs.Option.{IfSome, option_map}
 use Rattle.std.proofs.Math.Nat.{add-mul}
 use Rattle.std.proofs.lemmas.Nat.{mul-le}
 use Rattle.std.proofs.lemmas.Slice.{drop-append-drop}
-use Rattle.iso_pdu.specs.Layout.{Content, end, fragment}
+use Rattle.iso_pdu.specs.Layout.{Content}
 use Rattle.isoal_unframed.specs.declared.cell.Cell.{Cell}
 use Rattle.isoal_unframed.specs.declared.cell.Cell.TheVariants.{Empty, Fragment, End}
 use Rattle.isoal_unframed.specs.State.Cells.{count_of, Within, entry_in, kept_in, held_cells}
@@ -20,14 +20,11 @@ length-kept m [] block = refl
 length-kept m (cell ∷ cells) block = ap suc (length-kept m cells (drop m block))
 
 pub take-kept : (m n : ℕ) (cells : List Cell) (block : List ℕ) → take n (kept_in m cells block) ≡ kept_in m (take n cells) block
-take-kept m zero cells block = refl
-take-kept m (suc n) [] block = refl
 take-kept m (suc n) (cell ∷ cells) block = ap (λ xs. entry_in cell block ∷ xs) (take-kept m n cells (drop m block))
+take-kept m n cells block = search
 
 pub drop-kept : (m n : ℕ) (cells : List Cell) (block : List ℕ) → drop n (kept_in m cells block) ≡ kept_in m (drop n cells) (drop (n * m) block)
-drop-kept m zero cells block =
-    let none : 0 ≡ 0 * m = omega arith in
-    ap (λ k. kept_in m cells (drop k block)) none
+drop-kept m zero cells block = grind arith
 drop-kept m (suc n) [] block = refl
 drop-kept m (suc n) (cell ∷ cells) block =
     let more : m + n * m ≡ suc n * m = omega arith in
@@ -37,10 +34,8 @@ drop-kept m (suc n) (cell ∷ cells) block =
 -- an entry is within its place
 pub entry_same : (m : ℕ) (cell : Cell) (a b : List ℕ) → Within m cell → take m a ≡ take m b → entry_in cell a ≡ entry_in cell b
 entry_same m Empty a b within same = refl
-entry_same m (Fragment count) a b within same =
-    ap (λ xs. Some (fragment xs)) (sym (take-take count m a within) ∙ ap (take count) same ∙ take-take count m b within)
-entry_same m (End count) a b within same =
-    ap (λ xs. Some (end xs)) (sym (take-take count m a within) ∙ ap (take count) same ∙ take-take count m b within)
+entry_same m (Fragment count) a b within same = grind (arith, take-take count m a within, take-take count m b within)
+entry_same m (End count) a b within same = grind (arith, take-take count m a within, take-take count m b within)
 
 pub all_more : (m : ℕ) (cell : Cell) (cells : List Cell) → All (Within m) (cell ∷ cells) → All (Within m) cells
 all_more m cell cells all k d below = all (suc k) d (omega arith)
@@ -65,14 +60,8 @@ kept_same m (cell ∷ cells) a b all same =
 
 -- octets moved down to `len`, behind what stands there
 pub moved_front : (block : List ℕ) (len from count : ℕ) → len ≤ from → from + count ≤ length block
-    → take (len + count) (take len block ++ take count (drop from block) ++ drop (len + count) block)
-    ≡ take len block ++ take count (drop from block)
-moved_front block len from count order room =
-    let front : length (take len block) ≡ len = length-take-le len block (omega arith) in
-    let rest : length (drop from block) ≡ length block - from = length-drop from block in
-    let part : length (take count (drop from block)) ≡ count = length-take-le count (drop from block) (omega arith) in
-    take_at (take len block ++ take count (drop from block)) (drop (len + count) block) (len + count)
-    (length-append (take len block) (take count (drop from block)) ∙ omega arith)
+    → take (len + count) (take len block ++ take count (drop from block) ++ drop (len + count) block) ≡ take len block ++ take count (drop from block)
+moved_front block len from count order room = grind (arith, length-take-le, length-drop, take_at, length-append)
 
 pub moved_rest : (block : List ℕ) (len from count behind : ℕ) → len ≤ from → from + count ≤ length block → len + count ≤ behind
     → drop behind (take len block ++ take count (drop from block) ++ drop (len + count) block) ≡ drop behind block
@@ -96,8 +85,7 @@ cell_fits m at cells cell all below is = subst (λ c. count_of c ≤ m) is (all 
 
 pub place_room : (m at from count : ℕ) (cells : List Cell) (was block : List ℕ) → from ≡ at * m → at < length cells → count ≤ m
     → length was ≡ length cells * m → length block ≡ length was → from + count ≤ length block
-place_room m at from count cells was block place below fits room same =
-    let all : at * m + m ≤ length cells * m = slot_fits at (length cells) m below in omega arith
+place_room m at from count cells was block place below fits room same = grind (arith, slot_fits)
 
 -- one fragment more is read
 pub gather_more : (m most len from count part at : ℕ) (cells : List Cell) (block moved : List ℕ)
@@ -106,27 +94,13 @@ pub gather_more : (m most len from count part at : ℕ) (cells : List Cell) (blo
     → unit_after most (take (len + count) moved) (kept_in m (drop (at + 1) cells) (drop (from + m) moved))
     ≡ unit_after most (take len block) (kept_in m (drop at cells) (drop from block))
 gather_more m most len from count part at cells block moved below is_cell same fits order room copied =
-    let many : from + count - from ≡ count = omega arith in
-    let is_moved : moved ≡ take len block ++ take count (drop from block) ++ drop (len + count) block =
-    copied ∙ ap (λ n. take len block ++ take n (drop from block) ++ drop (len + n) block) many in
-    let front : take (len + count) moved ≡ take len block ++ take count (drop from block) =
-    ap (take (len + count)) is_moved ∙ moved_front block len from count order room in
-    let behind : drop (from + m) moved ≡ drop m (drop from block) =
-    ap (drop (from + m)) is_moved ∙ moved_rest block len from count (from + m) order room (omega arith)
-    ∙ sym (drop-drop m from block) in
-    let here : drop at cells ≡ Fragment count ∷ drop (at + 1) cells =
-    drop_more cells at Empty below ∙ ap (λ x. x ∷ drop (at + 1) cells) (is_cell ∙ ap Fragment (sym same)) in
-    ap (λ xs. unit_after most xs (kept_in m (drop (at + 1) cells) (drop (from + m) moved))) front
-    ∙ ap (λ xs. unit_after most (take len block ++ take count (drop from block)) (kept_in m (drop (at + 1) cells) xs)) behind
-    ∙ sym (ap (λ xs. unit_after most (take len block) (kept_in m xs (drop from block))) here)
+    grind (arith, moved_front, moved_rest, drop-drop, drop_more)
 
 -- the entry at a place
 pub get-kept : (m at : ℕ) (cells : List Cell) (block : List ℕ) → at < length cells
     → get_or (kept_in m cells block) at None ≡ entry_in (get_or cells at Empty) (drop (at * m) block)
 get-kept m at [] block below = absurd (omega arith)
-get-kept m zero (cell ∷ cells) block below =
-    let none : 0 ≡ 0 * m = omega arith in
-    ap (λ k. entry_in cell (drop k block)) none
+get-kept m zero (cell ∷ cells) block below = grind arith
 get-kept m (suc at) (cell ∷ cells) block below =
     let more : m + at * m ≡ suc at * m = omega arith in
     get-kept m at cells (drop m block) (omega arith)
@@ -142,45 +116,27 @@ kept_replicate m (suc n) block = ap (λ xs. None ∷ xs) (kept_replicate m n (dr
 
 pub kept-append : (m : ℕ) (xs ys : List Cell) (block : List ℕ)
     → kept_in m (xs ++ ys) block ≡ kept_in m xs block ++ kept_in m ys (drop (length xs * m) block)
-kept-append m [] ys block =
-    let none : 0 ≡ 0 * m = omega arith in
-    ap (λ k. kept_in m ys (drop k block)) none
+kept-append m [] ys block = grind arith
 kept-append m (x ∷ xs) ys block =
     let more : m + length xs * m ≡ suc (length xs) * m = omega arith in
     ap (λ all. entry_in x block ∷ all) (kept-append m xs ys (drop m block)
     ∙ ap (λ b. kept_in m xs (drop m block) ++ kept_in m ys b) (drop-drop (length xs * m) m block ∙ ap (λ k. drop k block) more))
 
 -- a part is put into a place
-pub set-kept : (m at : ℕ) (cells : List Cell) (block part : List ℕ) (cell : Cell) (entry : Option Content)
-    → All (Within m) cells → at < length cells → length block ≡ length cells * m → length part ≤ m
-    → ((rest : List ℕ) → entry_in cell (part ++ rest) ≡ entry)
-    → kept_in m (set cells at cell) (take (at * m) block ++ (part ++ drop (at * m + length part) block))
-    ≡ set (kept_in m cells block) at entry
+pub set-kept : (m at : ℕ) (cells : List Cell) (block part : List ℕ) (cell : Cell) (entry : Option Content) → All (Within m) cells
+    → at < length cells → length block ≡ length cells * m → length part ≤ m → ((rest : List ℕ) → entry_in cell (part ++ rest) ≡ entry)
+    → kept_in m (set cells at cell) (take (at * m) block ++ (part ++ drop (at * m + length part) block)) ≡ set (kept_in m cells block) at entry
 set-kept m at [] block part cell entry all below room fits reads = absurd (omega arith)
-set-kept m zero (old ∷ cells) block part cell entry all below room fits reads =
-    let none : 0 * m ≡ 0 = omega arith in
-    let start : length part ≡ 0 * m + length part = omega arith in
-    let behind : drop m (part ++ drop (length part) block) ≡ drop m block =
-    drop-append-drop (length part) block part m fits refl in
-    ap (λ k. kept_in m (cell ∷ cells) (take k block ++ (part ++ drop (0 * m + length part) block))) none
-    ∙ ap (λ k. kept_in m (cell ∷ cells) (part ++ drop k block)) (sym start)
-    ∙ ap (λ x. x ∷ kept_in m cells (drop m (part ++ drop (length part) block))) (reads (drop (length part) block))
-    ∙ ap (λ b. entry ∷ kept_in m cells b) behind
+set-kept m zero (old ∷ cells) block part cell entry all below room fits reads = grind (arith, drop-append-drop)
 set-kept m (suc at) (old ∷ cells) block part cell entry all below room fits reads =
     let more : m + at * m ≡ suc at * m = omega arith in
-    let size : length block ≡ m + length cells * m = room ∙ omega arith in
     let long : m ≤ length (take (m + at * m) block) = subst (λ n. m ≤ n) (sym (length-take (m + at * m) block)) (omega arith) in
     let here : entry_in old (take (m + at * m) block ++ (part ++ drop (m + at * m + length part) block)) ≡ entry_in old block =
     entry_same m old (take (m + at * m) block ++ (part ++ drop (m + at * m + length part) block)) block (all_first m old cells all)
-    (take-append-le m (take (m + at * m) block) (part ++ drop (m + at * m + length part) block) long
-    ∙ take-take m (m + at * m) block (omega arith)) in
+    (grind (arith, take-append-le, take-take)) in
     let sum : m + at * m + length part ≡ m + (at * m + length part) = omega arith in
     let behind : drop m (take (m + at * m) block ++ (part ++ drop (m + at * m + length part) block))
-    ≡ take (at * m) (drop m block) ++ (part ++ drop (at * m + length part) (drop m block)) =
-    drop-append-le m (take (m + at * m) block) (part ++ drop (m + at * m + length part) block) long
-    ∙ ap (λ xs. xs ++ (part ++ drop (m + at * m + length part) block)) (drop-take m (at * m) block)
-    ∙ ap (λ xs. take (at * m) (drop m block) ++ (part ++ xs))
-    (ap (λ k. drop k block) sum ∙ sym (drop-drop (at * m + length part) m block)) in
+    ≡ take (at * m) (drop m block) ++ (part ++ drop (at * m + length part) (drop m block)) = grind (arith, drop-append-le, drop-take, drop-drop) in
     ap (λ k. kept_in m (old ∷ set cells at cell) (take k block ++ (part ++ drop (k + length part) block))) (sym more)
     ∙ ap (λ x. x ∷ kept_in m (set cells at cell) (drop m (take (m + at * m) block ++ (part ++ drop (m + at * m + length part) block)))) here
     ∙ ap (λ b. entry_in old block ∷ kept_in m (set cells at cell) b) behind
@@ -191,59 +147,27 @@ set-kept m (suc at) (old ∷ cells) block part cell entry all below room fits re
 pub slot-kept : (m first n : ℕ) (cells : List Cell) (block : List ℕ) → All (Within m) cells → first + n ≤ length cells
     → kept_in m (take n (drop first cells)) (take (n * m) (drop (first * m) block)) ≡ take n (drop first (kept_in m cells block))
 slot-kept m first n cells block all within =
-    let rest : length (drop first cells) ≡ length cells - first = length-drop first cells in
-    let count : length (take n (drop first cells)) ≡ n = length-take-le n (drop first cells) (omega arith) in
-    let all_slot : All (Within m) (take n (drop first cells)) = λ k d below.
-    let under : k < n = omega arith in
-    subst (Within m) (sym (get_or-take n (drop first cells) k d under ∙ get_or-drop first cells k d)) (all (first + k) d (omega arith)) in
-    kept_same m (take n (drop first cells)) (take (n * m) (drop (first * m) block)) (drop (first * m) block) all_slot
-    (ap (λ k. take (k * m) (take (n * m) (drop (first * m) block))) count
-    ∙ take-take (n * m) (n * m) (drop (first * m) block) (omega arith)
-    ∙ ap (λ k. take (k * m) (drop (first * m) block)) (sym count))
-    ∙ sym (take-kept m n (drop first cells) (drop (first * m) block))
-    ∙ ap (take n) (sym (drop-kept m first cells block))
+    grind (arith, length-drop, length-take-le, get_or-take, get_or-drop, kept_same, take-take, take-kept, drop-kept)
 
 -- some places are emptied
 pub kept_cleared : (m first n : ℕ) (cells : List Cell) (block : List ℕ) → first + n ≤ length cells
     → kept_in m (take first cells ++ (replicate n Empty ++ drop (first + n) cells)) block
     ≡ take first (kept_in m cells block) ++ (replicate n None ++ drop (first + n) (kept_in m cells block))
 kept_cleared m first n cells block within =
-    let front : length (take first cells) ≡ first = length-take-le first cells (omega arith) in
-    let many : length (replicate n Empty) ≡ n = length-replicate n Empty in
-    let sum : first * m + n * m ≡ (first + n) * m = sym (add-mul first n m) in
-    kept-append m (take first cells) (replicate n Empty ++ drop (first + n) cells) block
-    ∙ ap (λ k. kept_in m (take first cells) block ++ kept_in m (replicate n Empty ++ drop (first + n) cells) (drop (k * m) block)) front
-    ∙ ap (λ xs. kept_in m (take first cells) block ++ xs)
-    (kept-append m (replicate n Empty) (drop (first + n) cells) (drop (first * m) block)
-    ∙ ap (λ k. kept_in m (replicate n Empty) (drop (first * m) block) ++ kept_in m (drop (first + n) cells) (drop (k * m) (drop (first * m) block))) many
-    ∙ ap (λ xs. xs ++ kept_in m (drop (first + n) cells) (drop (n * m) (drop (first * m) block))) (kept_replicate m n (drop (first * m) block))
-    ∙ ap (λ b. replicate n None ++ kept_in m (drop (first + n) cells) b)
-    (drop-drop (n * m) (first * m) block ∙ ap (λ k. drop k block) sum)
-    ∙ ap (λ xs. replicate n None ++ xs) (sym (drop-kept m (first + n) cells block)))
-    ∙ ap (λ xs. xs ++ (replicate n None ++ drop (first + n) (kept_in m cells block))) (sym (take-kept m first cells block))
+    grind (arith, length-take-le, length-replicate, add-mul, kept-append, kept_replicate, drop-drop, drop-kept, take-kept)
 
 -- octets in a slot's places are moved: the entries in front of it and behind it stay
 pub kept_front : (m first : ℕ) (cells : List Cell) (a b : List ℕ) → All (Within m) cells → first ≤ length cells
     → take (first * m) a ≡ take (first * m) b → take first (kept_in m cells a) ≡ take first (kept_in m cells b)
-kept_front m first cells a b all within same =
-    let count : length (take first cells) ≡ first = length-take-le first cells within in
-    let all_front : All (Within m) (take first cells) = λ k d below.
-    let under : k < first = omega arith in
-    subst (Within m) (sym (get_or-take first cells k d under)) (all k d (omega arith)) in
-    take-kept m first cells a
-    ∙ kept_same m (take first cells) a b all_front (subst (λ k. take (k * m) a ≡ take (k * m) b) (sym count) same)
-    ∙ sym (take-kept m first cells b)
+kept_front m first cells a b all within same = grind (arith, length-take-le, get_or-take, take-kept, kept_same)
 
 pub kept_behind : (m behind : ℕ) (cells : List Cell) (a b : List ℕ)
     → drop (behind * m) a ≡ drop (behind * m) b → drop behind (kept_in m cells a) ≡ drop behind (kept_in m cells b)
-kept_behind m behind cells a b same =
-    drop-kept m behind cells a ∙ ap (kept_in m (drop behind cells)) same ∙ sym (drop-kept m behind cells b)
+kept_behind m behind cells a b same = grind (arith, drop-kept)
 
 -- the octets held, by the cells
 pub held_is : (m room : ℕ) (cells : List Cell) (block : List ℕ) → All (Within m) cells → length cells * m ≤ length block
     → held_cells room cells ≡ held_in room (kept_in m cells block)
-held_is m room [] block all long = refl
-held_is m room (Empty ∷ cells) block all long = refl
 held_is m room (End count ∷ cells) block all long =
     let fits : count ≤ m = all_first m (End count) cells all in
     let more : m + length cells * m ≡ suc (length cells) * m = omega arith in
@@ -256,49 +180,27 @@ held_is m room (Fragment count ∷ cells) block all long =
     let rest : length (drop m block) ≡ length block - m = length-drop m block in
     ap (λ n. cond (leb count room) (count + n) 0) (held_is m (room - count) cells (drop m block) (all_more m (Fragment count) cells all) (omega arith))
     ∙ ap (λ n. cond (leb n room) (n + held_in (room - n) (kept_in m cells (drop m block))) 0) (sym here)
-
-pub full_entry : (cell : Cell) (block : List ℕ) → (cell ≡ Empty → ⊥) → is_some (entry_in cell block) ≡ true
-full_entry Empty block full = absurd (full refl)
-full_entry (Fragment count) block full = refl
-full_entry (End count) block full = refl
+held_is m room cells block all long = search (all_first, length-take-le, length-drop, all_more)
 
 pub full_at : (m at : ℕ) (cells : List Cell) (block : List ℕ) → at < length cells → (get_or cells at Empty ≡ Empty → ⊥)
     → is_some (get_or (kept_in m cells block) at None) ≡ true
-full_at m at cells block below full =
-    ap is_some (get-kept m at cells block below) ∙ full_entry (get_or cells at Empty) (drop (at * m) block) full
+full_at m at cells block below full = grind (arith, get-kept)
 
 pub held_slot : (m room first n : ℕ) (cells : List Cell) (block : List ℕ) → All (Within m) cells → first + n ≤ length cells
     → length block ≡ length cells * m
     → held_cells room (take n (drop first cells)) ≡ held_in room (take n (drop first (kept_in m cells block)))
 held_slot m room first n cells block all within long =
-    let rest : length (drop first cells) ≡ length cells - first = length-drop first cells in
-    let count : length (take n (drop first cells)) ≡ n = length-take-le n (drop first cells) (omega arith) in
-    let all_slot : All (Within m) (take n (drop first cells)) = λ k d below.
-    let under : k < n = omega arith in
-    subst (Within m) (sym (get_or-take n (drop first cells) k d under ∙ get_or-drop first cells k d)) (all (first + k) d (omega arith)) in
-    let octets : length (drop (first * m) block) ≡ length block - first * m = length-drop (first * m) block in
-    let sum : first * m + n * m ≡ (first + n) * m = sym (add-mul first n m) in
-    let fits : (first + n) * m ≤ length cells * m = mul-le (first + n) m (length cells) m within (omega arith) in
-    let same : length (take n (drop first cells)) * m ≡ n * m = ap (λ k. k * m) count in
-    held_is m room (take n (drop first cells)) (drop (first * m) block) all_slot (omega arith)
-    ∙ ap (held_in room) (sym (take-kept m n (drop first cells) (drop (first * m) block)) ∙ ap (take n) (sym (drop-kept m first cells block)))
+    grind (arith, length-drop, length-take-le, get_or-take, get_or-drop, add-mul, mul-le, held_is, take-kept, drop-kept)
 
 -- a slot's octets are written: what stands in front of them and behind them, and in them
 slot_size : (m first n : ℕ) (cells : List Cell) (items : List ℕ) → first + n ≤ length cells → length items ≡ length cells * m
     → first * m + n * m ≤ length items
-slot_size m first n cells items within size =
-    let sum : first * m + n * m ≡ (first + n) * m = sym (add-mul first n m) in
-    let fits : (first + n) * m ≤ length cells * m = mul-le (first + n) m (length cells) m within (omega arith) in
-    omega arith
+slot_size m first n cells items within size = grind (arith, add-mul first n m, mul-le (first + n) m (length cells) m within (omega arith))
 
 pub slot_front : (m first n : ℕ) (cells : List Cell) (items ys block : List ℕ) → All (Within m) cells → first + n ≤ length cells
     → length items ≡ length cells * m → block ≡ take (first * m) items ++ (ys ++ drop (first * m + n * m) items)
     → take first (kept_in m cells block) ≡ take first (kept_in m cells items)
-slot_front m first n cells items ys block all within size is =
-    let room : first * m + n * m ≤ length items = slot_size m first n cells items within size in
-    kept_front m first cells block items all (omega arith)
-    (ap (take (first * m)) is ∙ take_at (take (first * m) items) (ys ++ drop (first * m + n * m) items) (first * m)
-    (length-take-le (first * m) items (omega arith)))
+slot_front m first n cells items ys block all within size is = grind (arith, slot_size, kept_front, take_at, length-take-le)
 
 pub slot_behind : (m first n : ℕ) (cells : List Cell) (items ys block : List ℕ) → first + n ≤ length cells
     → length items ≡ length cells * m → length ys ≡ n * m → block ≡ take (first * m) items ++ (ys ++ drop (first * m + n * m) items)
@@ -317,13 +219,8 @@ slot_behind m first n cells items ys block within size count is =
 pub slot_octets : (m first n k : ℕ) (cells : List Cell) (items ys block : List ℕ) → first + n ≤ length cells
     → length items ≡ length cells * m → k ≤ length ys → block ≡ take (first * m) items ++ (ys ++ drop (first * m + n * m) items)
     → take k (drop (first * m) block) ≡ take k ys
-slot_octets m first n k cells items ys block within size fits is =
-    let room : first * m + n * m ≤ length items = slot_size m first n cells items within size in
-    ap (λ b. take k (drop (first * m) b)) is
-    ∙ ap (take k) (drop_at (take (first * m) items) (ys ++ drop (first * m + n * m) items) (first * m) (length-take-le (first * m) items (omega arith)))
-    ∙ take-append-le k ys (drop (first * m + n * m) items) fits
+slot_octets m first n k cells items ys block within size fits is = grind (arith, slot_size, drop_at, length-take-le, take-append-le)
 
 pub option_same : (f g : ℕ → List ℕ) (limit : ℕ) (o : Option ℕ) → IfSome o (λ n. n ≤ limit) → ((n : ℕ) → n ≤ limit → f n ≡ g n)
     → option_map f o ≡ option_map g o
-option_same f g limit None within same = refl
-option_same f g limit (Some n) within same = ap Some (same n within)
+option_same f g limit o within same = grind arith

@@ -9,8 +9,6 @@ slot_fits slot k m below = row_fits slot m k m below (omega arith)
 pub event_fits : (event horizon bn : ℕ) → event % (horizon + 1) * bn + bn ≤ (horizon + 1) * bn
 event_fits event horizon bn = slot_fits (event % (horizon + 1)) (horizon + 1) bn (mod-lt event {m = horizon + 1} (omega arith))
 
-pub places_fit : (first start slot slots k m bn window cells : ℕ)
-    → first ≡ start + slot * m → slot < slots → slots ≡ k → k * m ≡ bn → start + bn ≤ window → cells ≡ window
-    → first + m ≤ cells
-places_fit first start slot slots k m bn window cells at below same_slots all within same =
-    let fits : slot * m + m ≤ k * m = slot_fits slot k m (omega arith) in omega arith
+pub places_fit : (first start slot slots k m bn window cells : ℕ) → first ≡ start + slot * m → slot < slots → slots ≡ k → k * m ≡ bn
+    → start + bn ≤ window → cells ≡ window → first + m ≤ cells
+places_fit first start slot slots k m bn window cells at below same_slots all within same = grind (arith, slot_fits)

@@ -18,23 +18,16 @@ map_same f g a b (suc n) same =
     rw (here, map_same f g (a + 1) (b + 1) n rest) refl
 
 pub rows : {X : Type 0} (f : ℕ → ℕ → X) (m a k : ℕ) → flat_map (λ j. map (f j) (range_with_len 0 m)) (range_with_len a k) ≡ map (λ i. f (i / m) (i % m)) (range_with_len (a * m) (k * m))
-rows f m a zero =
-    let none : 0 * m ≡ 0 = omega arith in
-    rw none refl
+rows f m a zero = grind arith
 rows f m a (suc k) =
     let at : ℕ → _ = λ i. f (i / m) (i % m) in
-    let row : map (f a) (range_with_len 0 m) ≡ map at (range_with_len (a * m) m) =
-    map_same (f a) at 0 (a * m) m (λ i below.
-    let same : 0 + i ≡ i = omega arith in
-    rw (same, div-mul-add a m i below, mod-mul-add a m i below) refl) in
+    let row : map (f a) (range_with_len 0 m) ≡ map at (range_with_len (a * m) m) = grind (arith, map_same, div-mul-add, mod-mul-add) in
     let next : a * m + m ≡ (a + 1) * m = omega arith in
     let count : suc k * m ≡ m + k * m = omega arith in
     rw (row, rows f m (a + 1) k, count, map_append at (a * m) m (k * m), next) refl
 
 pub flat_map_one_more : {X : Type 0} (f : ℕ → List X) (a n : ℕ) → flat_map f (range_with_len a (suc n)) ≡ flat_map f (range_with_len a n) ++ f (a + n)
-flat_map_one_more f a zero =
-    let same : a + 0 ≡ a = omega arith in
-    rw same (append-nil (f a))
+flat_map_one_more f a zero = grind (arith, append-nil)
 flat_map_one_more f a (suc n) =
     let next : a + suc n ≡ a + 1 + n = omega arith in
     rw next (ap (λ xs. f a ++ xs) (flat_map_one_more f (a + 1) n) ∙ sym (append_assoc (f a) (flat_map f (range_with_len (a + 1) n)) (f (a + 1 + n))))

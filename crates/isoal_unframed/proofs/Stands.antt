@@ -1,8 +1,7 @@
 -- A receiver that stands for its calls.
-use Rattle.std.proofs.Common.{ℕ, ◌≡◌, ◌+◌, ◌*◌, ◌≤◌, List, ◌∷◌, take, drop, sym, ap, ◌∙◌, subst, arith}
-use Rattle.std.proofs.Math.Nat.{add-mul}
+use Rattle.std.proofs.Common.{ℕ, ◌≡◌, ◌+◌, ◌*◌, ◌≤◌, List, ◌∷◌, take, drop, ap, ◌∙◌, arith}
 use Rattle.big_info.specs.Bounds.{Bounds}
-use Rattle.big_info.specs.Schedule.{horizon_of, per_event_of, per_unit_of}
+use Rattle.big_info.specs.Schedule.{per_event_of, per_unit_of}
 use Rattle.isoal_base.specs.Stays.{Call, hear, close, opened, window_of}
 use Rattle.isoal_base.specs.Hearing.{read_as}
 use Rattle.isoal_base.proofs.Citable.{map_same, map_part, stands_hear, stands_close}
@@ -13,8 +12,7 @@ use Rattle.isoal_unframed.proofs.Places.{slot_fits}
 
 pub hear_stands : (window : Window) (number : ℕ) (octets : List ℕ) → Bounds window.stay.info
     → (calls : List Call) → Stands calls window → Stands (hear number octets ∷ calls) (after_hear number octets window)
-hear_stands window number octets bounds calls stands =
-    stands_hear unframed window.stay calls window.event window.kept number octets bounds.bn stands
+hear_stands window number octets bounds calls stands = grind (arith, stands_hear)
 
 pub close_stands : (window : Window) → Bounds window.stay.info
     → (calls : List Call) → Stands calls window → Stands (close ∷ calls) (after_close window)
@@ -26,14 +24,10 @@ pub owed_is : (window : Window) → Bounds window.stay.info → window.stay.info
     → owed window ≡ units_of window.stay calls (opened window.stay calls)
 owed_is window bounds plain calls stands =
     let all : window.stay.info.bn ≡ per_event_of window.stay.info * per_unit_of window.stay.info = bounds.whole_slots plain in
-    let events : window_of window.stay.info ≡ horizon_of window.stay.info * window.stay.info.bn + window.stay.info.bn =
-    add-mul (horizon_of window.stay.info) 1 window.stay.info.bn ∙ omega arith in
     map_same (owed_at window.stay window.event window.kept) (unit_at window.stay calls window.event) 0 (per_event_of window.stay.info)
     (λ slot least below.
     let fits : slot * per_unit_of window.stay.info + per_unit_of window.stay.info ≤ per_event_of window.stay.info * per_unit_of window.stay.info =
     slot_fits slot (per_event_of window.stay.info) (per_unit_of window.stay.info) (omega arith) in
-    let room : slot * per_unit_of window.stay.info + per_unit_of window.stay.info ≤ window.stay.info.bn =
-    subst (λ n. slot * per_unit_of window.stay.info + per_unit_of window.stay.info ≤ n) (sym all) fits in
     ap (λ xs. handed_of window.stay.bis (time_of window.stay window.event slot) (unit_of window.stay.info.max_sdu xs))
     (ap (λ kept. take (per_unit_of window.stay.info) (drop (slot * per_unit_of window.stay.info) kept)) stands.kept_is
     ∙ map_part (heard_in window.stay calls) (window.event * window.stay.info.bn) (window_of window.stay.info)

@@ -118,8 +118,7 @@ carried_slot stay slots calls event slot unit has carries = record {
 
 struck_of : (stay : Stay) (slots : Slots) (calls : List Call) (event slot : ℕ) → Bounds stay.info → stay.info.framing ≡ 0
     → slot < per_event_of stay.info → ((unit : List ℕ) → slots event slot ≡ Some unit → length unit ≤ stay.info.max_sdu)
-    → FromSource stay slots calls
-    → (has given : Option (List ℕ)) → slots event slot ≡ has
+    → FromSource stay slots calls → (has given : Option (List ℕ)) → slots event slot ≡ has
     → unit_of stay.info.max_sdu (map (heard_in stay calls) (numbers_of stay event slot)) ≡ given
     → IsStruck stay slots calls event slot (handed_of stay.bis (time_of stay event slot) given)
 struck_of stay slots calls event slot bounds plain below fits source None None has given =

@@ -14,28 +14,24 @@ abbrev pub spot : ℕ → ℕ → ℕ → ℕ
 spot place index window = cond (ltb (place + index) window) (place + index) (place + index - window)
 
 pub length-turned : (place : ℕ) (kept : List (Option Content)) → place ≤ length kept → length (turned place kept) ≡ length kept
-length-turned place kept within =
-    let rest : length (drop place kept) ≡ length kept - place = length-drop place kept in
-    let front : length (take place kept) ≡ place = length-take-le place kept within in
-    length-append (drop place kept) (take place kept) ∙ omega arith
+length-turned place kept within = grind (arith, length-drop, length-take-le, length-append)
 
 pub get-turned : (place index : ℕ) (kept : List (Option Content)) → place ≤ length kept → index < length kept
     → get_or (turned place kept) index None ≡ get_or kept (spot place index (length kept)) None
 get-turned place index kept within below =
-    let rest : length (drop place kept) ≡ length kept - place = length-drop place kept in
-    elim (cases_Bool (ltb (place + index) (length kept))) [
-      | inl low ↦
-          let under : place + index < length kept = ltb-true (place + index) (length kept) low in
-          get_or_append_left (drop place kept) (take place kept) None index (omega arith)
-          ∙ get_or-drop place kept index None
-          ∙ ap (λ i. get_or kept i None) (sym (cond-true (ltb (place + index) (length kept)) (place + index) (place + index - length kept) low))
-      | inr high ↦
-          let past : length kept ≤ place + index = ltb-false (place + index) (length kept) high in
-          let same : index - (length kept - place) ≡ place + index - length kept = omega arith in
-          get_or-append_right (drop place kept) (take place kept) (length kept - place) index None rest (omega arith)
-          ∙ get_or-take place kept (index - (length kept - place)) None (omega arith)
-          ∙ ap (λ i. get_or kept i None) (same ∙ sym (cond-false (ltb (place + index) (length kept)) (place + index) (place + index - length kept) high))
-    ]
+    grind (
+      arith,
+      length-drop,
+      cases_Bool,
+      ltb-true,
+      get_or_append_left,
+      get_or-drop,
+      cond-true,
+      ltb-false,
+      get_or-append_right,
+      get_or-take,
+      cond-false,
+    )
 
 -- `take` in front of a write, and a write in front
 take-set_low : {A : Type 0} (n i : ℕ) (x : A) (xs : List A) → i < n → take n (set xs i x) ≡ set (take n xs) i x
@@ -49,13 +45,7 @@ pub set-turned : (place index : ℕ) (kept : List (Option Content)) (entry : Opt
 set-turned place index kept entry within below =
     let rest : length (drop place kept) ≡ length kept - place = length-drop place kept in
     elim (cases_Bool (ltb (place + index) (length kept))) [
-      | inl low ↦
-          let under : place + index < length kept = ltb-true (place + index) (length kept) low in
-          let order : place ≤ place + index = omega arith in
-          ap (λ i. turned place (set kept i entry)) (cond-true (ltb (place + index) (length kept)) (place + index) (place + index - length kept) low)
-          ∙ ap (λ xs. xs ++ take place (set kept (place + index) entry)) (drop-set-add place kept index entry)
-          ∙ ap (λ xs. set (drop place kept) index entry ++ xs) (take-set-le place kept (place + index) entry order)
-          ∙ sym (set-append_left (drop place kept) (take place kept) index entry (omega arith))
+      | inl low ↦ grind (arith, ltb-true, cond-true, drop-set-add, take-set-le, set-append_left)
       | inr high ↦
           let past : length kept ≤ place + index = ltb-false (place + index) (length kept) high in
           let under : place + index - length kept < place = omega arith in
@@ -69,20 +59,8 @@ set-turned place index kept entry within below =
 
 -- the next event's place
 pub next_turn : (event turns : ℕ) → 0 < turns
-    → ((event % turns + 1 < turns) × ((event + 1) % turns ≡ event % turns + 1))
-    ⊎ ((event % turns + 1 ≡ turns) × ((event + 1) % turns ≡ 0))
-next_turn event turns some =
-    let one : event + 1 ≡ suc event = omega arith in
-    let below : event % turns < turns = mod-lt event some in
-    let step : (event + 1) % turns ≡ suc (event % turns) % turns = ap (λ n. n % turns) one ∙ suc-mod event turns in
-    elim (cases_lt (suc (event % turns)) turns) [
-      | inl more ↦
-          let same : suc (event % turns) ≡ event % turns + 1 = omega arith in
-          inl (omega arith, step ∙ mod-eq_of_lt more ∙ same)
-      | inr full ↦
-          let all : suc (event % turns) ≡ turns = omega arith in
-          inr (omega arith, step ∙ ap (λ n. n % turns) all ∙ mod_self turns)
-    ]
+    → ((event % turns + 1 < turns) × ((event + 1) % turns ≡ event % turns + 1)) ⊎ ((event % turns + 1 ≡ turns) × ((event + 1) % turns ≡ 0))
+next_turn event turns some = grind (arith, mod-lt, suc-mod, cases_lt, mod-eq_of_lt, mod_self)
 
 -- the open event's places are emptied, and the ring is read from the next event's place on
 pub turned_next : (place bn : ℕ) (was now : List (Option Content)) → place + bn ≤ length was
@@ -104,20 +82,10 @@ turned_next place bn was now within is =
     ∙ ap (λ xs. xs ++ replicate bn None) (sym (drop-append-le bn (drop place was) (take place was) (omega arith)))
 
 pub turned_round : (place bn : ℕ) (was now : List (Option Content)) → place + bn ≡ length was
-    → now ≡ take place was ++ (replicate bn None ++ drop (place + bn) was)
-    → turned 0 now ≡ drop bn (turned place was) ++ replicate bn None
-turned_round place bn was now full is =
-    let rest : length (drop place was) ≡ bn = length-drop place was ∙ omega arith in
-    append-nil now ∙ is
-    ∙ ap (λ xs. take place was ++ (replicate bn None ++ xs)) (drop_all (place + bn) was (omega arith))
-    ∙ ap (λ xs. take place was ++ xs) (append-nil (replicate bn None))
-    ∙ ap (λ xs. xs ++ replicate bn None) (sym (drop_at (drop place was) (take place was) bn rest))
+    → now ≡ take place was ++ (replicate bn None ++ drop (place + bn) was) → turned 0 now ≡ drop bn (turned place was) ++ replicate bn None
+turned_round place bn was now full is = grind (arith, length-drop, append-nil, drop_all, drop_at)
 
 -- the first numbers of a ring that is read from a place on
 pub take-turned : (place at n : ℕ) (kept : List (Option Content)) → place + (at + n) ≤ length kept
     → take n (drop at (turned place kept)) ≡ take n (drop at (drop place kept))
-take-turned place at n kept within =
-    let rest : length (drop place kept) ≡ length kept - place = length-drop place kept in
-    let left : length (drop at (drop place kept)) ≡ length (drop place kept) - at = length-drop at (drop place kept) in
-    ap (take n) (drop-append-le at (drop place kept) (take place kept) (omega arith))
-    ∙ take-append-le n (drop at (drop place kept)) (take place kept) (omega arith)
+take-turned place at n kept within = grind (arith, length-drop, drop-append-le, take-append-le)

@@ -1,10 +1,10 @@
 -- The unit of a slot from left to right is the unit of the slot.
-use Rattle.std.proofs.Common.{inl, inr, ℕ, ◌≡◌, ◌≤◌, true, leb, List, [], ◌∷◌, ◌++◌, length, map, Option, Some, None, refl, sym, ap, ◌∙◌, subst}
+use Rattle.std.proofs.Common.{inl, inr, ℕ, ◌≡◌, ◌≤◌, true, leb, List, [], ◌∷◌, ◌++◌, length, map, Option, Some, None, refl, sym, ap, ◌∙◌, subst, arith}
 use Rattle.std.specs.List.{concat}
 use Rattle.std.proofs.lemmas.Bool.{cond-true, leb-true, le-leb}
 use Rattle.std.proofs.lemmas.Option.{none-some, cond_some}
 use Rattle.std.proofs.lemmas.List.{append_assoc}
-use Rattle.iso_pdu.specs.Layout.{Content, end, fragment, framed, control}
+use Rattle.iso_pdu.specs.Layout.{Content, end, fragment}
 use Rattle.isoal_base.proofs.Citable.{cases_option}
 use Rattle.isoal_unframed.specs.Units.{IsUnit, unit_after, unit_of}
 
@@ -19,10 +19,6 @@ record IsUnitAfter (max_sdu : ℕ) (front : List ℕ) (slot : List (Option Conte
 
 after_read : (max_sdu : ℕ) (front : List ℕ) (slot : List (Option Content)) (octets : List ℕ)
     → unit_after max_sdu front slot ≡ Some octets → IsUnitAfter max_sdu front slot octets
-after_read max_sdu front [] octets is = absurd (none-some octets is)
-after_read max_sdu front (None ∷ slot) octets is = absurd (none-some octets is)
-after_read max_sdu front (Some (framed parts) ∷ slot) octets is = absurd (none-some octets is)
-after_read max_sdu front (Some (control part) ∷ slot) octets is = absurd (none-some octets is)
 after_read max_sdu front (Some (end part) ∷ slot) octets is =
     let both : (leb (length (front ++ part)) max_sdu ≡ true) × (front ++ part ≡ octets) =
     cond_some (leb (length (front ++ part)) max_sdu) (front ++ part) octets is in
@@ -41,17 +37,15 @@ after_read max_sdu front (Some (fragment part) ∷ slot) octets is =
       last = rest.last;
       others = rest.others;
       slot_is = ap (λ xs. Some (fragment part) ∷ xs) rest.slot_is;
-      octets_are = rest.octets_are ∙ append_assoc front part (concat rest.fragments ++ rest.last)
-          ∙ ap (λ xs. front ++ xs) (sym (append_assoc part (concat rest.fragments) rest.last));
+      octets_are = grind (arith, append_assoc);
       fits = rest.fits;
     }
+after_read max_sdu front slot octets is = search (none-some, cond_some, leb-true, append_assoc)
 
 read_after : (max_sdu : ℕ) (front : List ℕ) (fragments : List (List ℕ)) (last : List ℕ) (others : List (Option Content))
     → length (front ++ (concat fragments ++ last)) ≤ max_sdu
-    → unit_after max_sdu front (map (λ part. Some (fragment part)) fragments ++ Some (end last) ∷ others)
-    ≡ Some (front ++ (concat fragments ++ last))
-read_after max_sdu front [] last others fits =
-    cond-true (leb (length (front ++ last)) max_sdu) (Some (front ++ last)) None (le-leb (length (front ++ last)) max_sdu fits)
+    → unit_after max_sdu front (map (λ part. Some (fragment part)) fragments ++ Some (end last) ∷ others) ≡ Some (front ++ (concat fragments ++ last))
+read_after max_sdu front [] last others fits = grind (arith, cond-true, le-leb)
 read_after max_sdu front (part ∷ fragments) last others fits =
     let same : (front ++ part) ++ (concat fragments ++ last) ≡ front ++ ((part ++ concat fragments) ++ last) =
     append_assoc front part (concat fragments ++ last) ∙ ap (λ xs. front ++ xs) (sym (append_assoc part (concat fragments) last)) in
@@ -73,10 +67,7 @@ unit_is max_sdu slot octets is =
 
 pub is_unit : (max_sdu : ℕ) (slot : List (Option Content)) (octets : List ℕ)
     → IsUnit max_sdu slot octets → unit_of max_sdu slot ≡ Some octets
-is_unit max_sdu slot octets is =
-    ap (unit_after max_sdu []) is.slot_is
-    ∙ read_after max_sdu [] is.fragments is.last is.others (subst (λ xs. length xs ≤ max_sdu) is.octets_are is.fits)
-    ∙ ap Some (sym is.octets_are)
+is_unit max_sdu slot octets is = grind (arith, read_after)
 
 pub no_unit : (max_sdu : ℕ) (slot : List (Option Content)) → unit_of max_sdu slot ≡ None → (octets : List ℕ) → ¬ IsUnit max_sdu slot octets
 no_unit max_sdu slot none octets is = none-some octets (sym none ∙ is_unit max_sdu slot octets is)

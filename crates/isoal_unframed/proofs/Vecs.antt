@@ -5,21 +5,9 @@ use Rattle.std.specs.Global.{Vec}
 use Rattle.std.specs.Vec.{with_items}
 use Rattle.std.proofs.lemmas.List.{append_assoc, with_items_is, drop-drop, length-append, length-take-le, length-drop, take-append-drop}
 
-pub mid_is : {X : Type 0} (v : Vec X) (a k n : ℕ) (xs ys zs : List X)
-    → xs ≡ v.items → ys ≡ zs → length zs ≡ n → k ≡ n → a + n ≤ v.len
+pub mid_is : {X : Type 0} (v : Vec X) (a k n : ℕ) (xs ys zs : List X) → xs ≡ v.items → ys ≡ zs → length zs ≡ n → k ≡ n → a + n ≤ v.len
     → (with_items v (take a xs ++ (ys ++ drop k (drop a xs)))).items ≡ take a v.items ++ (zs ++ drop (a + n) v.items)
-mid_is v a k n xs ys zs is_xs is_ys count same within =
-    let all : take a xs ++ (ys ++ drop k (drop a xs)) ≡ take a v.items ++ (zs ++ drop (a + n) v.items) =
-    ap (λ l. take a l ++ (ys ++ drop k (drop a l))) is_xs
-    ∙ ap (λ l. take a v.items ++ (l ++ drop k (drop a v.items))) is_ys
-    ∙ ap (λ l. take a v.items ++ (zs ++ l)) (drop-drop k a v.items ∙ ap (λ j. drop (a + j) v.items) same) in
-    let size : v.len ≡ length v.items = v.ok.0 in
-    let front : length (take a v.items) ≡ a = length-take-le a v.items (omega arith) in
-    let rest : length (drop (a + n) v.items) ≡ length v.items - (a + n) = length-drop (a + n) v.items in
-    let back : length (zs ++ drop (a + n) v.items) ≡ length zs + length (drop (a + n) v.items) = length-append zs (drop (a + n) v.items) in
-    let whole : length (take a v.items ++ (zs ++ drop (a + n) v.items)) ≡ v.len =
-    length-append (take a v.items) (zs ++ drop (a + n) v.items) ∙ omega arith in
-    with_items_is v (take a xs ++ (ys ++ drop k (drop a xs))) (ap length all ∙ whole) ∙ all
+mid_is v a k n xs ys zs is_xs is_ys count same within = grind (arith, drop-drop, length-take-le, length-drop, length-append, with_items_is)
 
 -- octets that are moved to where they stand
 pub moved_nowhere : {X : Type 0} (xs : List X) (from count to : ℕ) → from ≡ to → xs ≡ copy_within xs from (from + count) to

@@ -14,8 +14,7 @@ places-preserved c =
       unit = gather_more c.args.max_pdu c.args.max_sdu c.places.len c.places.from c.from-count.result c.in-Fragment.part c.places.cell-index
           c.args.cells.now c.places.block c.move_down.new.block c.places-test.true c.in-Fragment.is c.from-count.ensures
           fits_count c.places.invariant.together
-          (place_room c.args.max_pdu c.places.cell-index c.places.from c.from-count.result c.args.cells.now c.args.block.now c.places.block
-          c.places.invariant.place c.places-test.true fits_count c.requires.room (omega arith))
+          (grind (arith, place_room))
           c.move_down.ensures.octets
           ∙ c.places.invariant.unit;
     }

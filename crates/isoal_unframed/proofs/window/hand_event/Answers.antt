@@ -23,8 +23,7 @@ slots-preserved g c = record {
   place = omega (arith, c.slots.invariant.place);
   front = front_more c.args.current.place c.slots.first (kept_of c.args.ring.now) (kept_of c.slots.ring) (kept_of c.hand_slot.new.self)
       (omega (arith, c.slots.invariant.place)) c.slots.invariant.front c.hand_slot.ensures.front;
-  behind = behind_more c.slots.first _ (c.slots.first + c.places-places.result) (kept_of c.args.ring.now) (kept_of c.slots.ring) (kept_of c.hand_slot.new.self)
-      c.slots.invariant.behind c.hand_slot.ensures.behind (omega (arith, c.places-places.ensures.exact));
+  behind = grind (arith, behind_more);
   handed = owed_more (stay_of c.args.stream.now) c.args.current.event c.slots.slot c.slots-slot-end.result c.time-time.result c.slots.first c.args.current.place c.places-places.result
       (kept_of c.args.ring.now) (kept_of c.slots.ring) _ _ _ c.time-time.ensures c.slots.invariant.place c.places-places.ensures.exact c.slots.invariant.behind
       c.slots-test.true c.slots-slot-end.ensures c.slots.invariant.handed c.in_ok-hand_slot.ensures.hands;

@@ -1,6 +1,5 @@
-use Rattle.std.proofs.Common.{◌∙◌, ◌-◌, ◌≡◌, ◌<◌, true, false, length, subst, sym, Some}
+use Rattle.std.proofs.Common.{◌∙◌, ◌-◌, ◌≡◌, ◌<◌, true, false, length, subst, sym, arith}
 use Rattle.isoal_base.specs.Stays.{window_of}
-use Rattle.isoal_unframed.specs.State.Cells.{part_of}
 use Rattle.isoal_unframed.specs.State.Rings.{kept_of}
 use Rattle.isoal_unframed.proofs.Kept.{length-kept}
 use Rattle.isoal_unframed.proofs.Windows.{is_placed, is_put}
@@ -25,11 +24,4 @@ returns-clause-answer c =
     c.requires.is_open size c.if-number-current.false below c.place_at-place.ensures.exact c.is_empty.ensures c.if-not-is_empty.false)
 
 pub returns-clause-step : goal.returns-clause-step
-returns-clause-step c =
-    let size : length (kept_of c.args.ring.now) ≡ window_of c.args.stream.now.group.info =
-    length-kept c.args.ring.now.max_pdu c.args.ring.now.cells.items c.args.ring.now.block.items ∙ sym c.args.ring.now.cells.ok.0 ∙ c.requires.room in
-    let below : c.args.number - c.args.current.number < window_of c.args.stream.now.group.info =
-    subst (λ n. c.args.number - c.args.current.number < n) c.window.ensures c.if-index-window.false in
-    is_put c.args.stream.now.group.info c.args.current c.args.number c.place_at-place.result (kept_of c.args.ring.now) (kept_of c.put.new.self)
-    (Some (part_of c.args.part.is_end c.args.part.octets.now)) c.requires.is_open size c.if-number-current.false below
-    c.place_at-place.ensures.exact c.put.ensures.kept
+returns-clause-step c = grind (arith, length-kept, is_put)

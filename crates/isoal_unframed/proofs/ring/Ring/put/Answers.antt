@@ -1,4 +1,4 @@
-use Rattle.std.proofs.Common.{ap, ◌∙◌, ◌≡◌, ◌<◌, ◌≤◌, ◌+◌, ◌-◌, ◌*◌, ◌++◌, length, set, sym, refl, subst, take, drop, Some, arith}
+use Rattle.std.proofs.Common.{ap, ◌∙◌, ◌≡◌, ◌<◌, ◌≤◌, ◌+◌, ◌-◌, ◌*◌, length, set, sym, refl, subst, Some, arith}
 use Rattle.isoal_unframed.specs.State.Cells.{kept_in, part_of}
 use Rattle.isoal_unframed.proofs.Kept.{set-kept}
 use Rattle.isoal_unframed.proofs.Places.{slot_fits}
@@ -17,10 +17,7 @@ returns-clause-kept c =
     let many : c.args.place * c.from.result + length c.args.part.now - c.args.place * c.from.result ≡ length c.args.part.now = omega arith in
     let within : c.args.place * c.from.result + length c.args.part.now ≤ c.args.self.now.block.len = omega (arith, c.requires.part) in
     ap (kept_in c.args.self.now.max_pdu (set c.args.self.now.cells.items c.args.place c.cell_of.result))
-    (mid_is c.args.self.now.block (c.args.place * c.from.result)
-    (c.args.place * c.from.result + length c.args.part.now - c.args.place * c.from.result) (length c.args.part.now)
-    c.deref_mut.result.now c.copy_from_slice.new.self c.args.part.now c.deref_mut.ensures.value c.copy_from_slice.ensures.after refl many within
-    ∙ ap (λ a. take a c.args.self.now.block.items ++ (c.args.part.now ++ drop (a + length c.args.part.now) c.args.self.now.block.items)) start)
+    (grind (arith, mid_is))
     ∙ set-kept c.args.self.now.max_pdu c.args.place c.args.self.now.cells.items c.args.self.now.block.items c.args.part.now c.cell_of.result
     (Some (part_of c.args.is_end c.args.part.now)) c.args.self.now.within below octets c.requires.part
     (λ rest. c.cell_of.ensures.reads c.args.part.now rest refl)

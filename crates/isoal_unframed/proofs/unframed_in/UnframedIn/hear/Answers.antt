@@ -1,10 +1,7 @@
-use Rattle.std.proofs.Common.{◌∷◌, sym, subst}
-use Rattle.isoal_base.specs.Stays.{hear}
-use Rattle.isoal_unframed.specs.State.Windows.{Stands}
+use Rattle.std.proofs.Common.{arith}
 use Rattle.isoal_unframed.proofs.Stands.{hear_stands}
 use Rattle.isoal_unframed.proofs.unframed_in.UnframedIn.hear.Goals as goal
 
 pub returns-clause-stands : goal.returns-clause-stands
 returns-clause-stands c calls stands =
-    subst (Stands (hear c.args.number c.args.pdu.now ∷ calls)) (sym c.take_in.ensures.step)
-    (hear_stands c.args.self.now c.args.number c.args.pdu.now c.take_in.ensures.bounds calls stands)
+    grind (arith, c.take_in.ensures.step, hear_stands c.args.self.now c.args.number c.args.pdu.now c.take_in.ensures.bounds calls stands)
