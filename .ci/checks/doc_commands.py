@@ -62,6 +62,15 @@ def pattern_of(wanted: str) -> re.Pattern[str]:
     return re.compile(''.join(lines))
 
 
+def written(wanted: str, printed: str) -> str:
+    """What is printed now, as a document shows it: lines that it cuts stay cut, and what it leaves out in front stays left out."""
+    lines, cut = printed.splitlines(keepends=True), wanted.splitlines(keepends=True)
+    if len(cut) > 1 and cut[0].strip() == '...' and cut[1] in lines:
+        lines = [cut[0], *lines[lines.index(cut[1]):]]
+    shorter = [it for it in cut if '...' in it and it.strip() != '...']
+    return ''.join(next((short for short in shorter if pattern_of(short).fullmatch(it)), it) for it in lines)
+
+
 def ran(block: Block, folder: str) -> tuple[int, str]:
     """How the commands end, and what they print on both outputs."""
     done = subprocess.run(['bash', '-euo', 'pipefail', '-c', block.text], cwd=folder, stdin=subprocess.DEVNULL, stdout=subprocess.PIPE,
@@ -127,7 +136,7 @@ class Document:
             elif block.is_output:
                 if printed is not None and not pattern_of(block.text).fullmatch(printed):
                     self.fault(f'line {block.line}: what is printed is {printed[-900:]!r}')
-                    pieces += [self.text[place:block.begin], printed]
+                    pieces += [self.text[place:block.begin], written(block.text, printed)]
                     place = block.end
                 printed = None
         self.now = ''.join(pieces) + self.text[place:]
