@@ -1,5 +1,5 @@
 -- What is read is spelled so, what is spelled so is read, and a fault is the one at the cut.
-use Rattle.std.proofs.Common.{◌≡◌, ℕ, zero, suc, ◌+◌, ◌<◌, ◌≤◌, ◌⊎◌, Bool, true, false, cond, ltb, List, [], ◌∷◌, ◌++◌, length, get_or, take, drop, Option, Some, None, Result, Ok}
+use Rattle.std.proofs.Common.{◌≡◌, ℕ, zero, suc, ◌+◌, ◌<◌, ◌≤◌, ◌⊎◌, false, ltb, List, [], ◌∷◌, ◌++◌, length, get_or, take, drop, Some, None, Result, Ok}
 use Rattle.std.proofs.Common.{Err, refl, sym, ap, subst, ◌∙◌, append_assoc, arith, inl, inr, add-zero}
 use Rattle.std.specs.List.{AllByRecursion}
 use Rattle.std.proofs.lemmas.Bool.{cases_lt, lt-ltb, le-ltb, ltb-true}
@@ -19,10 +19,9 @@ use Rattle.ltv_codec.specs.Reading.{before, ltvs_from, ltvs_of, IsStructure, IsB
 
 inside : (place count : ℕ) (octets : List ℕ) → count ≤ length octets → ltvs_from place count octets ≡ ltvs_from (place + count) zero (drop count octets)
 unfolding ltvs_from
-inside place zero octets h = ap (λ (p : ℕ). ltvs_from p zero octets) (sym (add-zero place))
-inside place (suc count) [] h = absurd (omega arith)
 inside place (suc count) (octet ∷ octets) h =
     inside (place + 1) count octets (omega arith) ∙ ap (λ (p : ℕ). ltvs_from p zero (drop count octets)) (omega arith)
+inside place count octets h = search add-zero
 
 abbrev pub made : ℕ → List ℕ → Ltv
 made kind value = record { kind = kind; value = value }
@@ -45,29 +44,19 @@ structure_read place octets kind value others s =
 
 zero_read : (place : ℕ) (octets : List ℕ) → StandsZero octets → ltvs_from place zero octets ≡ Err (ZeroLength place)
 unfolding ltvs_from
-zero_read place [] h = absurd h
-zero_read place (zero ∷ octets) h = refl
-zero_read place (suc count ∷ octets) h = absurd (omega (arith, h))
+zero_read place octets h = grind arith
 
 short_read : (place : ℕ) (octets : List ℕ) → StandsShort octets → ltvs_from place zero octets ≡ Err (Short place)
 unfolding ltvs_from
-short_read place [] h = absurd h
-short_read place (zero ∷ octets) h = absurd (omega (arith, h))
-short_read place (suc count ∷ octets) h = rw (lt-ltb (length octets) (suc count) h) refl
+short_read place octets h = grind (arith, lt-ltb)
 
 -- ---- the front of octets, and what the code met there
 
 pub is_zero : (place : ℕ) (octets rest : List ℕ) → counted_in octets ≡ Some ([], rest) → IsBadAt place octets (ZeroLength place)
 is_zero place octets rest e = rw ((counted_takes octets [] rest e).parts) (zero_read place (0 ∷ rest) refl)
 
-not_counted : (count : ℕ) (octets : List ℕ) (b : Bool) → ltb (length octets) count ≡ b → cond {A = Option (List ℕ × List ℕ)} b None (Some (take count octets, drop count octets)) ≡ None
-    → length octets < count
-not_counted count octets true e n = ltb-true _ _ e
-not_counted count octets false e n = absurd cc
-
 pub is_short : (place : ℕ) (octets : List ℕ) → 0 < length octets → counted_in octets ≡ None → IsBadAt place octets (Short place)
-is_short place [] h e = absurd (omega arith)
-is_short place (count ∷ octets) h e = short_read place (count ∷ octets) (not_counted count octets (ltb (length octets) count) refl e)
+is_short place octets h e = grind (arith, short_read, ltb-true)
 
 pub is_structure : (octets : List ℕ) (kind : ℕ) (value rest : List ℕ) → IsOctets octets → counted_in octets ≡ Some (kind ∷ value, rest) → IsStructure octets kind value rest
 is_structure octets kind value rest h e =
@@ -108,16 +97,13 @@ behind front (Ok ltvs) = Ok (front ++ ltvs)
 behind front (Err bad) = Err bad
 
 behind-none : (read : Result (List Ltv) LtvBad) → behind [] read ≡ read
-behind-none (Ok ltvs) = refl
-behind-none (Err bad) = refl
+behind-none read = grind arith
 
 behind-first : (ltv : Ltv) (front : List Ltv) (read : Result (List Ltv) LtvBad) → before ltv (behind front read) ≡ behind (ltv ∷ front) read
-behind-first ltv front (Ok ltvs) = refl
-behind-first ltv front (Err bad) = refl
+behind-first ltv front read = grind arith
 
 pub behind-more : (front : List Ltv) (ltv : Ltv) (read : Result (List Ltv) LtvBad) → behind front (before ltv read) ≡ behind (front ++ ltv ∷ []) read
-behind-more front ltv (Ok ltvs) = ap (λ (ls : List Ltv). Ok ls) (sym (append_assoc front (ltv ∷ []) ltvs))
-behind-more front ltv (Err bad) = refl
+behind-more front ltv read = grind (arith, append_assoc)
 
 spelled : (ltv : Ltv) (ltvs : List Ltv) (rest : List ℕ) → spelling (ltv ∷ ltvs) ++ rest ≡ (1 + length ltv.value) ∷ ltv.kind ∷ (ltv.value ++ (spelling ltvs ++ rest))
 spelled ltv ltvs rest = ap (λ (os : List ℕ). os ++ rest) (flat_map-cons structure ltv ltvs) ∙ append_assoc (structure ltv) (spelling ltvs) rest
@@ -149,26 +135,20 @@ ok_same : (xs ys : List Ltv) → (let r : List Ltv → Result (List Ltv) LtvBad 
 ok_same xs ys e = cc
 
 before_ok : (ltv : Ltv) (read : Result (List Ltv) LtvBad) (ltvs : List Ltv) → before ltv read ≡ Ok ltvs → (others : List Ltv) × (read ≡ Ok others) × (ltv ∷ others ≡ ltvs)
-before_ok ltv (Ok others) ltvs e = (others, refl, cc)
-before_ok ltv (Err bad) ltvs e = absurd cc
+before_ok ltv read ltvs e = grind arith
 
 err_not_ok : (bad : LtvBad) (ltvs : List Ltv) → (let r : Result (List Ltv) LtvBad = Err bad in r ≡ Ok ltvs) → ⊥
 err_not_ok bad ltvs e = cc
 
 is_longer : (octets : List ℕ) (kind : ℕ) (value others : List ℕ) (ltvs : List Ltv) → IsStructure octets kind value others → IsLtvList ltvs others → IsLtvList (made kind value ∷ ltvs) octets
-is_longer octets kind value others ltvs s l = record {
-  fit = (s.fits, l.fit);
-  spelled = s.parts ∙ ap (λ (os : List ℕ). (1 + length value) ∷ kind ∷ (value ++ os)) l.spelled ∙ sym (flat_map-cons structure (made kind value) ltvs);
-}
+is_longer octets kind value others ltvs s l = grind (arith, spelled, flat_map-cons)
 
 read_within : (n place : ℕ) (octets : List ℕ) (ltvs : List Ltv) → length octets ≤ n → IsOctets octets → ltvs_from place zero octets ≡ Ok ltvs → IsLtvList ltvs octets
 read_within zero place [] ltvs h fits e = subst (λ (ls : List Ltv). IsLtvList ls []) (ok_same [] ltvs (sym (nothing_read place) ∙ e)) (record { fit = tt; spelled = refl })
 read_within zero place (octet ∷ octets) ltvs h fits e = absurd (omega arith)
 read_within (suc n) place octets ltvs h fits e =
     elim (front_of octets fits) [
-      | inl none ↦
-          let at_end : ltvs_from place zero [] ≡ Ok ltvs = sym (ap (ltvs_from place zero) none) ∙ e in
-          rw none (subst (λ (ls : List Ltv). IsLtvList ls []) (ok_same [] ltvs (sym (nothing_read place) ∙ at_end)) (record { fit = tt; spelled = refl }))
+      | inl none ↦ grind (arith, ok_same, nothing_read, spelled)
       | inr (inl stands) ↦ absurd (err_not_ok (ZeroLength place) ltvs (sym (zero_read place octets stands) ∙ e))
       | inr (inr (inl stands)) ↦ absurd (err_not_ok (Short place) ltvs (sym (short_read place octets stands) ∙ e))
       | inr (inr (inr (kind, value, others, s))) ↦
@@ -196,8 +176,7 @@ bad_same : (a b : LtvBad) → (let r : LtvBad → Result (List Ltv) LtvBad = λ 
 bad_same a b e = cc
 
 before_bad : (ltv : Ltv) (read : Result (List Ltv) LtvBad) (bad : LtvBad) → before ltv read ≡ Err bad → read ≡ Err bad
-before_bad ltv (Ok others) bad e = absurd cc
-before_bad ltv (Err other) bad e = e
+before_bad ltv read bad e = grind arith
 
 empty_list : IsLtvList [] []
 empty_list = record { fit = tt; spelled = refl }
@@ -224,12 +203,8 @@ cut_within zero place (octet ∷ octets) bad h fits e = absurd (omega arith)
 cut_within (suc n) place octets bad h fits e =
     elim (front_of octets fits) [
       | inl none ↦ absurd (nothing_bad place bad (sym (ap (ltvs_from place zero) none) ∙ e))
-      | inr (inl stands) ↦
-          let same : ZeroLength place ≡ bad = bad_same (ZeroLength place) bad (sym (zero_read place octets stands) ∙ e) in
-          record { ltvs = []; front = []; rest = octets; list = empty_list; parts = refl; what = inl (sym same ∙ ap (λ (p : ℕ). ZeroLength p) (sym (add-zero place)), stands) }
-      | inr (inr (inl stands)) ↦
-          let same : Short place ≡ bad = bad_same (Short place) bad (sym (short_read place octets stands) ∙ e) in
-          record { ltvs = []; front = []; rest = octets; list = empty_list; parts = refl; what = inr (sym same ∙ ap (λ (p : ℕ). Short p) (sym (add-zero place)), stands) }
+      | inr (inl stands) ↦ grind (arith, bad_same, zero_read, empty_list, add-zero)
+      | inr (inr (inl stands)) ↦ grind (arith, bad_same, short_read, empty_list, add-zero)
       | inr (inr (inr (kind, value, others, s))) ↦
           let rest = others_fit octets kind value others s fits in
           let b = before_bad (made kind value) (ltvs_from (place + (2 + length value)) zero others) bad (sym (structure_read place octets kind value others s) ∙ e) in
@@ -237,21 +212,14 @@ cut_within (suc n) place octets bad h fits e =
     ]
 
 is_bad : (bad : LtvBad) (octets : List ℕ) → Cut 0 bad octets → IsBad bad octets
-is_bad bad octets c =
-    elim c.what [
-      | inl (same, stands) ↦ rw same (c.ltvs, c.front, c.rest, c.list, omega arith, stands, c.parts)
-      | inr (same, stands) ↦ rw same (c.ltvs, c.front, c.rest, c.list, omega arith, stands, c.parts)
-    ]
+is_bad bad octets c = grind arith
 
 pub read_bad : (bad : LtvBad) (octets : List ℕ) → IsOctets octets → ltvs_of octets ≡ Err bad → IsBad bad octets
 read_bad bad octets fits e = is_bad bad octets (cut_within (length octets) 0 octets bad (omega arith) fits e)
 
 cut_read : (bad : ℕ → LtvBad) (octets : List ℕ) (ltvs : List Ltv) (front rest : List ℕ) → IsLtvList ltvs front → octets ≡ front ++ rest
     → ltvs_from (length front) zero rest ≡ Err (bad (length front)) → ltvs_of octets ≡ Err (bad (length front))
-cut_read bad octets ltvs front rest l parts stands =
-    let there : 0 + length (spelling ltvs) ≡ length front = omega (arith, ap length l.spelled) in
-    ap ltvs_of (parts ∙ ap (λ (os : List ℕ). os ++ rest) l.spelled) ∙ spelled_read 0 ltvs rest l.fit
-    ∙ ap (λ (p : ℕ). behind ltvs (ltvs_from p zero rest)) there ∙ ap (behind ltvs) stands
+cut_read bad octets ltvs front rest l parts stands = grind (arith, spelled_read)
 
 pub bad_read : (bad : LtvBad) (octets : List ℕ) → IsBad bad octets → ltvs_of octets ≡ Err bad
 bad_read (ZeroLength place) octets (ltvs, front, rest, l, there, stands, parts) =

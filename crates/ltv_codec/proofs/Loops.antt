@@ -1,6 +1,6 @@
 -- Reading structures one after the other, as a loop does.
 use Rattle.std.proofs.Common.{◌≡◌, ℕ, zero, suc, ◌+◌, ◌-◌, ◌<◌, ◌≤◌, Bool, true, false, cond, eqb, List, [], ◌∷◌, ◌++◌, length, get_or, take, drop, Some, None, Result, Ok, Err}
-use Rattle.std.proofs.Common.{refl, sym, ap, subst, ◌∙◌, arith}
+use Rattle.std.proofs.Common.{refl, sym, ap, ◌∙◌, arith}
 use Rattle.std.specs.Result.{result_err, result_unwrap_or}
 use Rattle.std.specs.Prelude.{OnOk, IfOk, IfErr, IsOk}
 use Rattle.std.proofs.lemmas.List.{length-append, append-nil, take_at}
@@ -34,12 +34,10 @@ one_read from rest kind value others h s =
     structure_read (place_in from rest) rest kind value others s ∙ ap (λ (p : ℕ). before (made kind value) (ltvs_from p 0 others)) there
 
 before-bad : (ltv : Ltv) (read : Result (List Ltv) LtvBad) → result_err (before ltv read) ≡ result_err read
-before-bad ltv (Ok ltvs) = refl
-before-bad ltv (Err bad) = refl
+before-bad ltv read = grind arith
 
 before-in : (ltv : Ltv) (read : Result (List Ltv) LtvBad) → result_err read ≡ None → result_unwrap_or (before ltv read) [] ≡ ltv ∷ result_unwrap_or read []
-before-in ltv (Ok ltvs) e = refl
-before-in ltv (Err bad) e = absurd cc
+before-in ltv read e = grind arith
 
 -- a loop that ended has read everything
 pub ended : (is_empty : Bool) (rest : List ℕ) → is_empty ≡ eqb (length rest) 0 → is_empty ≡ true → length rest ≡ 0
@@ -61,8 +59,7 @@ unread_next from rest kind value others s u =
 
 nothing_is_read : (place : ℕ) (rest : List ℕ) → length rest ≡ 0 → ltvs_from place 0 rest ≡ Ok []
 unfolding ltvs_from
-nothing_is_read place [] h = refl
-nothing_is_read place (octet ∷ rest) h = absurd (omega (arith, h))
+nothing_is_read place rest h = grind arith
 
 pub unread_none : (from rest : List ℕ) → Unread from rest → length rest ≡ 0 → bad_of from ≡ None
 unread_none from rest u h = sym u.same ∙ ap result_err (nothing_is_read (place_in from rest) rest h)
@@ -96,26 +93,25 @@ pub record Unfound (from : List ℕ) (kind : ℕ) (rest : List ℕ) : Type 0 whe
 opened : (from : List ℕ) (kind : ℕ) (rest : List ℕ) (found : ℕ) (value others : List ℕ) → bad_of from ≡ None → IsStructure rest found value others → Unfound from kind rest
     → cond (eqb found kind) (Some value) (first_of kind (result_unwrap_or (ltvs_from (place_in from others) 0 others) [])) ≡ first_in kind from
 opened from kind rest found value others good s u =
-    let next : Unread from others = unread_next from rest found value others s u.unread in
-    let read : result_unwrap_or (ltvs_from (place_in from rest) 0 rest) [] ≡ made found value ∷ result_unwrap_or (ltvs_from (place_in from others) 0 others) [] =
-    ap (λ (r : Result (List Ltv) LtvBad). result_unwrap_or r []) (one_read from rest found value others u.unread.within s)
-    ∙ before-in (made found value) (ltvs_from (place_in from others) 0 others) (next.same ∙ good) in
-    sym (ap (first_of kind) read) ∙ u.same
+    grind (
+      arith,
+      unread_next from rest found value others s u.unread,
+      one_read from rest found value others u.unread.within s,
+      before-in (made found value) (ltvs_from (place_in from others) 0 others) ((unread_next from rest found value others s u.unread).same ∙ good),
+      u.same,
+    )
 
-pub unfound_next : (from : List ℕ) (kind : ℕ) (rest : List ℕ) (found : ℕ) (value others : List ℕ) → bad_of from ≡ None → eqb found kind ≡ false → IsStructure rest found value others
-    → Unfound from kind rest
-    → Unfound from kind others
+pub unfound_next : (from : List ℕ) (kind : ℕ) (rest : List ℕ) (found : ℕ) (value others : List ℕ) → bad_of from ≡ None
+    → eqb found kind ≡ false → IsStructure rest found value others → Unfound from kind rest → Unfound from kind others
 unfound_next from kind rest found value others good e s u =
     record {
       unread = unread_next from rest found value others s u.unread;
       same = sym (ap (λ (b : Bool). cond b (Some value) (first_of kind (result_unwrap_or (ltvs_from (place_in from others) 0 others) []))) e) ∙ opened from kind rest found value others good s u;
     }
 
-pub unfound_found : (from : List ℕ) (kind : ℕ) (rest : List ℕ) (found : ℕ) (value others : List ℕ) → bad_of from ≡ None → eqb found kind ≡ true → IsStructure rest found value others
-    → Unfound from kind rest
-    → first_in kind from ≡ Some value
-unfound_found from kind rest found value others good e s u =
-    sym (opened from kind rest found value others good s u) ∙ ap (λ (b : Bool). cond b (Some value) (first_of kind (result_unwrap_or (ltvs_from (place_in from others) 0 others) []))) e
+pub unfound_found : (from : List ℕ) (kind : ℕ) (rest : List ℕ) (found : ℕ) (value others : List ℕ) → bad_of from ≡ None
+    → eqb found kind ≡ true → IsStructure rest found value others → Unfound from kind rest → first_in kind from ≡ Some value
+unfound_found from kind rest found value others good e s u = grind (arith, opened from kind rest found value others good s u)
 
 pub unfound_none : (from : List ℕ) (kind : ℕ) (rest : List ℕ) → Unfound from kind rest → length rest ≡ 0 → first_in kind from ≡ None
 unfound_none from kind rest u h = sym u.same ∙ ap (λ (r : Result (List Ltv) LtvBad). first_of kind (result_unwrap_or r [])) (nothing_is_read (place_in from rest) rest h)
@@ -129,19 +125,15 @@ empty_body place octets (kind ∷ value) after e h = absurd (omega (arith, h))
 pub full_body : (octets body after : List ℕ) → IsOctets octets → counted_in octets ≡ Some (body, after) → 1 ≤ length body
     → IsStructure octets (get_or body 0 0) (take (length body - 1) (drop 1 body)) after
 full_body octets [] after fits e h = absurd (omega (arith, h))
-full_body octets (kind ∷ value) after fits e h =
-    let all : take (length (kind ∷ value) - 1) value ≡ value = ap (λ (n : ℕ). take n value) (omega arith) ∙ ap (take (length value)) (sym (append-nil value)) ∙ take_at value [] (length value) refl in
-    subst (λ (v : List ℕ). IsStructure octets kind v after) (sym all) (is_structure octets kind value after fits e)
+full_body octets (kind ∷ value) after fits e h = grind (arith, append-nil value, take_at value [] (length value) refl, is_structure octets kind value after fits e)
 
 -- ---- what the calls promise
 
 ok_in : (read : Result (List Ltv) LtvBad) → result_err read ≡ None → read ≡ Ok (result_unwrap_or read [])
-ok_in (Ok ltvs) e = refl
-ok_in (Err bad) e = absurd cc
+ok_in read e = grind arith
 
 err_in : (read : Result (List Ltv) LtvBad) (bad : LtvBad) → result_err read ≡ Some bad → read ≡ Err bad
-err_in (Ok ltvs) bad e = absurd cc
-err_in (Err other) bad e = ap (λ (b : LtvBad). Err b) (same_Some other bad e)
+err_in read bad e = grind (arith, same_Some)
 
 -- octets that are an LTV list are the one that is read
 pub list_in : (octets : List ℕ) → IsOctets octets → bad_of octets ≡ None → IsLtvList (ltvs_in octets) octets
@@ -155,20 +147,16 @@ pub are_read : (octets : List ℕ) → IsOctets octets → bad_of octets ≡ Non
 are_read octets fits e = record { ltvs = ltvs_in octets; list = list_in octets fits e }
 
 pub checked_are : (octets : List ℕ) (result : Result (Unit {0}) LtvBad) → IsOctets octets → result_err result ≡ bad_of octets → OnOk result (AreLtvs octets)
-checked_are octets (Ok _) fits e = are_read octets fits (sym e)
-checked_are octets (Err bad) fits e = tt
+checked_are octets result fits e = grind (arith, are_read)
 
 pub checked_list : (octets : List ℕ) (result : Result (Unit {0}) LtvBad) → IsOctets octets → result_err result ≡ bad_of octets → OnOk result (IsLtvList (ltvs_in octets) octets)
-checked_list octets (Ok _) fits e = list_in octets fits (sym e)
-checked_list octets (Err bad) fits e = tt
+checked_list octets result fits e = grind (arith, list_in)
 
 pub checked_cut : (octets : List ℕ) (result : Result (Unit {0}) LtvBad) → IsOctets octets → result_err result ≡ bad_of octets → IfErr result (λ bad. IsBad bad octets)
-checked_cut octets (Ok _) fits e = tt
-checked_cut octets (Err bad) fits e = read_bad bad octets fits (err_in (ltvs_of octets) bad (sym e))
+checked_cut octets result fits e = grind (arith, read_bad, err_in)
 
 pub decoded_list : (octets : List ℕ) (result : Result (List Ltv) LtvFault) → IsOctets octets → Answers told result (ltvs_of octets) → IfOk result (λ ltvs. IsLtvList ltvs octets)
-decoded_list octets (Ok ltvs) fits given = read_list ltvs octets fits given
-decoded_list octets (Err fault) fits given = tt
+decoded_list octets result fits given = grind (arith, read_list)
 
 are_given : (octets : List ℕ) (read : Result (List Ltv) LtvBad) → IsOctets octets → ltvs_of octets ≡ read → IsOk read → AreLtvs octets
 are_given octets (Ok ltvs) fits e given = record { ltvs = ltvs; list = read_list ltvs octets fits e }
@@ -176,9 +164,7 @@ are_given octets (Err bad) fits e given = absurd cc
 
 pub decoded_cut : (octets : List ℕ) (result : Result (List Ltv) LtvFault) → IsOctets octets → Answers told result (ltvs_of octets) → (result ≡ Err faults.Memory → 0 < length octets)
     → IfErr result (λ fault. IsFault fault octets)
-decoded_cut octets (Ok ltvs) fits given some = tt
-decoded_cut octets (Err faults.Memory) fits given some = (are_given octets (ltvs_of octets) fits refl given, some refl)
-decoded_cut octets (Err (faults.Bad bad)) fits given some = read_bad bad octets fits given
+decoded_cut octets result fits given some = grind (arith, are_given, read_bad)
 
 -- ---- encoding
 
