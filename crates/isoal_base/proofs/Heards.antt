@@ -1,5 +1,5 @@
 -- Laws of what a stay heard.
-use Rattle.std.proofs.Common.{ℕ, ◌≡◌, ◌≢◌, ◌+◌, ◌/◌, ◌≤◌, true, eqb, leb, ◌&&◌, ◌⊎◌, List, [], ◌∷◌, ◌++◌, Option, Some, None, refl, sym, ap, ◌∙◌, subst, inl, inr, arith}
+use Rattle.std.proofs.Common.{ℕ, ◌≡◌, ◌≢◌, ◌+◌, ◌/◌, ◌≤◌, true, ◌⊎◌, List, [], ◌∷◌, ◌++◌, Option, Some, None, refl, sym, ap, ◌∙◌, subst, inl, inr, arith}
 use Rattle.std.specs.Option.{option_or}
 use Rattle.std.proofs.lemmas.Bool.{cases_Bool, cond-true, cond-false, and_parts, and_from, and_left, and_right, eqb-true, eq-eqb, ne_eqb, leb-true, le-leb}
 use Rattle.std.proofs.lemmas.Option.{none-some}
@@ -8,64 +8,33 @@ use Rattle.isoal_base.specs.Stays.{Stay, Call, hear, close, opened, InWindow, is
 
 -- the tests of a window and of a hear decide
 pub window_from : (stay : Stay) (event number : ℕ) → is_in_window stay event number ≡ true → InWindow stay event number
-window_from stay event number is =
-    let both : (leb event (number / stay.info.bn) ≡ true) × (leb (number / stay.info.bn) (event + horizon_of stay.info) ≡ true) =
-    and_parts (leb event (number / stay.info.bn)) (leb (number / stay.info.bn) (event + horizon_of stay.info)) is in
-    (leb-true event (number / stay.info.bn) both.0, leb-true (number / stay.info.bn) (event + horizon_of stay.info) both.1)
-
-pub window_true : (stay : Stay) (event number : ℕ) → InWindow stay event number → is_in_window stay event number ≡ true
-window_true stay event number within =
-    and_from (leb event (number / stay.info.bn)) (leb (number / stay.info.bn) (event + horizon_of stay.info))
-    (le-leb event (number / stay.info.bn) within.0) (le-leb (number / stay.info.bn) (event + horizon_of stay.info) within.1)
+window_from stay event number is = grind (arith, and_parts, leb-true)
 
 pub entry_some : {A : Type 0} (read : List ℕ → Option A) (stay : Stay) (event number given : ℕ) (octets : List ℕ) (part : A)
     → entry_of read stay event number (hear given octets) ≡ Some part
     → (given ≡ number) × InWindow stay event number × (read octets ≡ Some part)
 entry_some read stay event number given octets part is =
-    elim (cases_Bool (eqb given number && is_in_window stay event number)) [
-      | inl met ↦
-          let both : (eqb given number ≡ true) × (is_in_window stay event number ≡ true) =
-          and_parts (eqb given number) (is_in_window stay event number) met in (
-            eqb-true given number both.0,
-            window_from stay event number both.1,
-            sym (cond-true (eqb given number && is_in_window stay event number) (read octets) None met) ∙ is,
-          )
-      | inr failed ↦ absurd (none-some part (sym (cond-false (eqb given number && is_in_window stay event number) (read octets) None failed) ∙ is))
-    ]
+    grind (arith, cases_Bool, and_parts, eqb-true, window_from, cond-true, none-some, cond-false)
 
 pub entry_here : {A : Type 0} (read : List ℕ → Option A) (stay : Stay) (event number : ℕ) (octets : List ℕ)
     → InWindow stay event number → entry_of read stay event number (hear number octets) ≡ read octets
-entry_here read stay event number octets within =
-    cond-true (eqb number number && is_in_window stay event number) (read octets) None
-    (and_from (eqb number number) (is_in_window stay event number) (eq-eqb number number refl) (window_true stay event number within))
+entry_here read stay event number octets within = grind (arith, cond-true, and_from, eq-eqb, le-leb)
 
 pub entry_other : {A : Type 0} (read : List ℕ → Option A) (stay : Stay) (event number given : ℕ) (octets : List ℕ)
     → number ≢ given → entry_of read stay event number (hear given octets) ≡ None
-entry_other read stay event number given octets other =
-    cond-false (eqb given number && is_in_window stay event number) (read octets) None
-    (and_left (eqb given number) (is_in_window stay event number) (ne_eqb given number (λ same. other (sym same))))
+entry_other read stay event number given octets other = grind (arith, cond-false, and_left, ne_eqb)
 
 pub entry_outside : {A : Type 0} (read : List ℕ → Option A) (stay : Stay) (event number given : ℕ) (octets : List ℕ)
     → ¬ InWindow stay event number → entry_of read stay event number (hear given octets) ≡ None
-entry_outside read stay event number given octets outside =
-    elim (cases_Bool (is_in_window stay event number)) [
-      | inl met ↦ absurd (outside (window_from stay event number met))
-      | inr failed ↦ cond-false (eqb given number && is_in_window stay event number) (read octets) None
-          (and_right (eqb given number) (is_in_window stay event number) failed)
-    ]
+entry_outside read stay event number given octets outside = grind (arith, cases_Bool, window_from, cond-false, and_right)
 
 -- a PDU that is read as nothing enters nothing
 pub entry_unread : {A : Type 0} (read : List ℕ → Option A) (stay : Stay) (event number given : ℕ) (octets : List ℕ)
     → read octets ≡ None → entry_of read stay event number (hear given octets) ≡ None
-entry_unread read stay event number given octets unread =
-    elim (cases_Bool (eqb given number && is_in_window stay event number)) [
-      | inl met ↦ cond-true (eqb given number && is_in_window stay event number) (read octets) None met ∙ unread
-      | inr failed ↦ cond-false (eqb given number && is_in_window stay event number) (read octets) None failed
-    ]
+entry_unread read stay event number given octets unread = grind (arith, cases_Bool, cond-true, cond-false)
 
 or_none : {A : Type 0} (o : Option A) → option_or o None ≡ o
-or_none None = refl
-or_none (Some x) = refl
+or_none o = grind arith
 
 pub cases_option : {A : Type 0} (o : Option A) → (o ≡ None) ⊎ ((x : A) × (o ≡ Some x))
 cases_option None = inl refl
@@ -74,32 +43,23 @@ cases_option (Some x) = inr (x, refl)
 -- a call that enters nothing for the number changes nothing of it
 pub heard_same : {A : Type 0} (read : List ℕ → Option A) (stay : Stay) (call : Call) (calls : List Call) (number : ℕ)
     → entry_of read stay (opened stay calls) number call ≡ None → heard read stay (call ∷ calls) number ≡ heard read stay calls number
-heard_same read stay call calls number nothing =
-    ap (option_or (heard read stay calls number)) nothing ∙ or_none (heard read stay calls number)
+heard_same read stay call calls number nothing = grind (arith, or_none)
 
 -- what is kept stays
 pub heard_kept : {A : Type 0} (read : List ℕ → Option A) (stay : Stay) (call : Call) (calls : List Call) (number : ℕ) (part : A)
     → heard read stay calls number ≡ Some part → heard read stay (call ∷ calls) number ≡ Some part
-heard_kept read stay call calls number part is =
-    ap (λ o. option_or o (entry_of read stay (opened stay calls) number call)) is
+heard_kept read stay call calls number part is = grind arith
 
 -- where nothing is kept, a call enters what it gives
 pub heard_new : {A : Type 0} (read : List ℕ → Option A) (stay : Stay) (call : Call) (calls : List Call) (number : ℕ)
-    → heard read stay calls number ≡ None
-    → heard read stay (call ∷ calls) number ≡ entry_of read stay (opened stay calls) number call
-heard_new read stay call calls number nothing =
-    ap (λ o. option_or o (entry_of read stay (opened stay calls) number call)) nothing
+    → heard read stay calls number ≡ None → heard read stay (call ∷ calls) number ≡ entry_of read stay (opened stay calls) number call
+heard_new read stay call calls number nothing = grind arith
 
 -- what is kept was kept already, or this call entered it
 pub heard_cases : {A : Type 0} (read : List ℕ → Option A) (stay : Stay) (call : Call) (calls : List Call) (number : ℕ) (part : A)
     → heard read stay (call ∷ calls) number ≡ Some part
-    → (heard read stay calls number ≡ Some part)
-    ⊎ ((heard read stay calls number ≡ None) × (entry_of read stay (opened stay calls) number call ≡ Some part))
-heard_cases read stay call calls number part is =
-    elim (cases_option (heard read stay calls number)) [
-      | inl nothing ↦ inr (nothing, sym (heard_new read stay call calls number nothing) ∙ is)
-      | inr some ↦ inl (some.1 ∙ sym (heard_kept read stay call calls number some.0 some.1) ∙ is)
-    ]
+    → (heard read stay calls number ≡ Some part) ⊎ ((heard read stay calls number ≡ None) × (entry_of read stay (opened stay calls) number call ≡ Some part))
+heard_cases read stay call calls number part is = grind (arith, cases_option, heard_new, heard_kept)
 
 -- nothing is kept past the window
 pub heard_within : {A : Type 0} (read : List ℕ → Option A) (stay : Stay) (calls : List Call) (number : ℕ) (part : A)
@@ -121,11 +81,7 @@ heard_within read stay (hear given octets ∷ calls) number part is =
 -- where something is kept of calls, a call puts nothing in its place
 none_first : {A : Type 0} (read : List ℕ → Option A) (stay : Stay) (call : Call) (calls : List Call) (number : ℕ)
     → heard read stay (call ∷ calls) number ≡ None → heard read stay calls number ≡ None
-none_first read stay call calls number nothing =
-    elim (cases_option (heard read stay calls number)) [
-      | inl none ↦ none
-      | inr some ↦ absurd (none-some some.0 (sym nothing ∙ heard_kept read stay call calls number some.0 some.1))
-    ]
+none_first read stay call calls number nothing = grind (arith, cases_option, none-some, heard_kept)
 
 -- what is kept of the later calls' end is kept
 pub heard_later : {A : Type 0} (read : List ℕ → Option A) (stay : Stay) (later calls : List Call) (number : ℕ) (part : A)
@@ -144,21 +100,13 @@ none_later read stay (call ∷ later) calls number is =
 pub heard_none : {A : Type 0} (read : List ℕ → Option A) (stay : Stay) (number : ℕ) (calls : List Call)
     → heard read stay calls number ≡ None → NoneEnters read stay number calls
 heard_none read stay number calls nothing later octets earlier part is_split enters =
-    let here : heard read stay (hear number octets ∷ earlier) number ≡ None =
-    none_later read stay later (hear number octets ∷ earlier) number
-    (subst (λ all. heard read stay all number ≡ None) is_split nothing) in
-    none-some part (sym here
-    ∙ heard_new read stay (hear number octets) earlier number (none_first read stay (hear number octets) earlier number here)
-    ∙ entry_here read stay (opened stay earlier) number octets enters.window ∙ enters.reads)
+    grind (arith, none_later, none-some, heard_new, none_first, entry_here)
 
 -- where no hear of a number met all conditions, nothing is kept of it
 pub none_heard : {A : Type 0} (read : List ℕ → Option A) (stay : Stay) (number : ℕ) (calls : List Call)
     → NoneEnters read stay number calls → heard read stay calls number ≡ None
 none_heard read stay number [] none = refl
-none_heard read stay number (close ∷ calls) none =
-    heard_new read stay close calls number
-    (none_heard read stay number calls
-    (λ later octets earlier part is_split. none (close ∷ later) octets earlier part (ap (λ all. close ∷ all) is_split)))
+none_heard read stay number (close ∷ calls) none = grind (arith, heard_new read stay close calls number (none_heard read stay number calls (λ later octets earlier part is_split. none (close ∷ later) octets earlier part (ap (λ all. close ∷ all) is_split))))
 none_heard read stay number (hear given octets ∷ calls) none =
     let before : heard read stay calls number ≡ None = none_heard read stay number calls
     (λ later other earlier part is_split. none (hear given octets ∷ later) other earlier part (ap (λ all. hear given octets ∷ all) is_split)) in
@@ -183,8 +131,7 @@ first_more read stay number part call calls first = record {
 }
 
 first_here : {A : Type 0} (read : List ℕ → Option A) (stay : Stay) (number : ℕ) (part : A) (given : ℕ) (octets : List ℕ) (calls : List Call)
-    → heard read stay calls number ≡ None
-    → (given ≡ number) × InWindow stay (opened stay calls) number × (read octets ≡ Some part)
+    → heard read stay calls number ≡ None → (given ≡ number) × InWindow stay (opened stay calls) number × (read octets ≡ Some part)
     → FirstHeard read stay number part (hear given octets ∷ calls)
 first_here read stay number part given octets calls nothing enters = record {
   later = [];
@@ -207,8 +154,7 @@ heard_first read stay number part (close ∷ calls) is =
 heard_first read stay number part (hear given octets ∷ calls) is =
     elim (heard_cases read stay (hear given octets) calls number part is) [
       | inl before ↦ first_more read stay number part (hear given octets) calls (heard_first read stay number part calls before)
-      | inr new ↦ first_here read stay number part given octets calls new.0
-          (entry_some read stay (opened stay calls) number given octets part new.1)
+      | inr new ↦ grind (arith, first_here, entry_some)
     ]
 
 pub first_heard : {A : Type 0} (read : List ℕ → Option A) (stay : Stay) (number : ℕ) (part : A) (calls : List Call)
@@ -216,7 +162,4 @@ pub first_heard : {A : Type 0} (read : List ℕ → Option A) (stay : Stay) (num
 first_heard read stay number part calls first =
     subst (λ all. heard read stay all number ≡ Some part) (sym first.is_split)
     (heard_later read stay first.later (hear number first.octets ∷ first.earlier) number part
-    (heard_new read stay (hear number first.octets) first.earlier number
-    (none_heard read stay number first.earlier first.none_before)
-    ∙ entry_here read stay (opened stay first.earlier) number first.octets first.enters.window
-    ∙ first.enters.reads))
+    (grind (arith, heard_new, none_heard, entry_here)))
