@@ -1,6 +1,6 @@
 -- Where a sink is that `announce` puts on a group: where the group's source is for its next event (Basic Audio Profile 1.0,
 -- sections 3.7.2 and 6.5).
-use Rattle.std.proofs.Common.{ℕ, ◌≡◌, ◌<◌, ◌≤◌, ◌^◌, ◌∷◌, [], Bool, List, None, Some, refl, ◌∙◌, ap, arith}
+use Rattle.std.proofs.Common.{ℕ, ◌≡◌, ◌<◌, ◌≤◌, ◌^◌, ◌∷◌, [], Bool, List, None, Some, refl, arith}
 use Rattle.std.specs.Prelude.{unwrap_or}
 use Rattle.std.proofs.lemmas.Option.{none-some}
 use Rattle.base_grammar.specs.declared.subgroup.Subgroup.{Subgroup}
@@ -83,16 +83,18 @@ IsOn own joining =
 
 same_tuning : (own : List Step) (joining : Joining) → Settled own → Tellable own → IsOn own joining → by_numbers joining ≡ joining_on own joining.which
 same_tuning own joining is tells on =
-    ap (λ info. tuning_with info joining.which joining.first joining.anchor joining.delay) (on.group_is ∙ its_numbers own is tells on.plain)
-    ∙ ap (λ first. tuning_with (setup_of own).info joining.which first joining.anchor joining.delay) on.first_is
-    ∙ ap (λ anchor. tuning_with (setup_of own).info joining.which (next_of (setup_of own) (source_calls own)) anchor joining.delay) on.anchor_is
-    ∙ ap (tuning_with (setup_of own).info joining.which (next_of (setup_of own) (source_calls own)) (next_anchor_of (setup_of own) (source_calls own)))
-    (on.delay_is ∙ base_delay (unwrap_or (group_of own) no_group) (subgroups_of own))
+    cc (
+      on.group_is,
+      its_numbers own is tells on.plain,
+      on.first_is,
+      on.anchor_is,
+      on.delay_is,
+      base_delay (unwrap_or (group_of own) no_group) (subgroups_of own),
+    )
 
 -- the train puts the sink on the group of the source
 pub announced_on : Announcing → (airs : Airs) (boxes n : ℕ) (earlier : List Step) (made : Settings) (joining : Joining)
-    → Legal airs boxes earlier
-    → Permitted airs boxes earlier (steps.Announce n)
+    → Legal airs boxes earlier → Permitted airs boxes earlier (steps.Announce n)
     → joining_of made (sight_in made (life n earlier)) (Some (own_train (source_at earlier))) ≡ Some joining
     → IsOn (chosen_steps earlier) joining
 announced_on laws airs boxes n earlier made joining legal permits is =
@@ -107,8 +109,7 @@ announced_on laws airs boxes n earlier made joining legal permits is =
     took.slot took.bits took.encrypted joining tells took.is
 
 pub announced_tuning : Announcing → (airs : Airs) (boxes n : ℕ) (earlier : List Step) (made : Settings) (joining : Joining)
-    → Legal airs boxes earlier
-    → Permitted airs boxes earlier (steps.Announce n)
+    → Legal airs boxes earlier → Permitted airs boxes earlier (steps.Announce n)
     → joining_of made (sight_in made (life n earlier)) (Some (own_train (source_at earlier))) ≡ Some joining
     → by_numbers joining ≡ joining_on (chosen_steps earlier) joining.which
 announced_tuning laws airs boxes n earlier made joining legal permits is =
@@ -117,8 +118,7 @@ announced_tuning laws airs boxes n earlier made joining legal permits is =
     (announced_on laws airs boxes n earlier made joining legal permits is)
 
 pub announced_within : Announcing → (airs : Airs) (boxes n : ℕ) (earlier : List Step) (made : Settings) (joining : Joining)
-    → Legal airs boxes earlier
-    → Permitted airs boxes earlier (steps.Announce n)
+    → Legal airs boxes earlier → Permitted airs boxes earlier (steps.Announce n)
     → joining_of made (sight_in made (life n earlier)) (Some (own_train (source_at earlier))) ≡ Some joining
     → joining.which < 2 ^ (setup_of (chosen_steps earlier)).info.num_bis
 announced_within laws airs boxes n earlier made joining legal permits is = (announced_on laws airs boxes n earlier made joining legal permits is).within

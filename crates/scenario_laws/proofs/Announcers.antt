@@ -103,7 +103,6 @@ tellable_after airs own (steps.Group framing origin delay iso sdu max_sdu max_pd
   full = λ started. absurd (false≢true started);
   short = λ started. absurd (false≢true started);
 }
-tellable_after airs own (steps.Ident address_type address sid broadcast_id) before allows = assumption
 tellable_after airs own (steps.Subgroup codec config) before allows =
     let parts = or_parts (not (is_described_at (phase_of own))) (is_last_bare own) allows.in_phase in
     record {
@@ -141,7 +140,6 @@ tellable_after airs own (steps.Bis bis config) before allows =
       full = λ started. absurd (true_not_false (is_started own) started (not_yet own (not (has_subgroup own)) allows.in_phase));
       short = λ started. absurd (true_not_false (is_started own) started (not_yet own (not (has_subgroup own)) allows.in_phase));
     }
-tellable_after airs own (steps.Cipher giv gskd) before allows = assumption
 tellable_after airs own (steps.Start first) before allows =
     let parts = or_parts (not (is_described_at (phase_of own))) (is_last_bare own) allows.in_phase in
     record {

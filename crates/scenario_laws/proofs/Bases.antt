@@ -1,6 +1,6 @@
 -- The BASE of a source that was started can be announced: each field of it meets its row (Basic Audio Profile 1.0, section
 -- 3.7.2.2).
-use Rattle.std.proofs.Common.{ℕ, zero, suc, ◌≡◌, ◌<◌, ◌≤◌, ◌+◌, ◌^◌, ◌||◌, cond, eqb, ltb, Bool, false, List, [], ◌∷◌, ◌++◌, length, map, Some, None, refl, sym, ◌∙◌, ap, arith}
+use Rattle.std.proofs.Common.{ℕ, zero, suc, ◌≡◌, ◌<◌, ◌≤◌, ◌+◌, ◌^◌, cond, eqb, ltb, Bool, false, List, [], ◌∷◌, ◌++◌, length, map, Some, None, refl, sym, ◌∙◌, arith}
 use Rattle.std.specs.List.{AllByRecursion, range_with_len}
 use Rattle.std.proofs.lemmas.Bool.{ltb-false, ne_eqb}
 use Rattle.std.proofs.lemmas.List.{append-nil}
@@ -31,9 +31,7 @@ entries_fit is_list start (suc n) least greatest = (
 
 stands_not : (before : List ℕ) (bis other : ℕ) → stands_in before other ≡ false → suc bis ≤ other → stands_in (before ++ bis ∷ []) other ≡ false
 stands_not before bis other none below =
-    list_any-append (λ b. eqb b other) before (bis ∷ [])
-    ∙ ap (λ b. b || (eqb bis other || false)) none
-    ∙ ap (λ b. b || false) (ne_eqb bis other (λ same. omega (arith, same, below)))
+    cc (list_any-append (λ b. eqb b other) before (bis ∷ []), none, ne_eqb bis other (λ same. omega (arith, same, below)))
 
 all_new : (before : List ℕ) (start n : ℕ) → ((other : ℕ) → start ≤ other → stands_in before other ≡ false)
     → AreNew before (map bis_of (map plain_entry (range_with_len start n)))
@@ -64,6 +62,5 @@ pub is_base : (group : GroupLine) (subgroups : List Subgroup) → group.delay < 
     → IsBase (base_from group subgroups)
 is_base group [] width least most draft some short = plain_is_base group.delay group.info.num_bis width least most
 is_base group (subgroup ∷ others) width least most draft some short =
-    draft_done (endpoint group.delay (subgroup ∷ others)) draft
-    (sym (finish_is (endpoint group.delay (subgroup ∷ others)))
+    draft_done (endpoint group.delay (subgroup ∷ others)) draft (sym (finish_is (endpoint group.delay (subgroup ∷ others)))
     ∙ finishes (is_empty_last (last_of (subgroup ∷ others))) (length (spelling (endpoint group.delay (subgroup ∷ others)))) some short)

@@ -6,10 +6,9 @@ use Rattle.group_sink.specs.Calls.{place, tune}
 use Rattle.sync_reference.specs.Joining.{Joining}
 use Rattle.scenario_text.specs.declared.step.Step.{Step}
 use Rattle.scenario_text.specs.declared.step.Step.TheVariants as steps
-use Rattle.scenario_history.specs.Steps.{chosen_of, chosen_steps, steps_of_source}
-use Rattle.scenario_history.specs.Source.{open_event}
+use Rattle.scenario_history.specs.Steps.{chosen_of, chosen_steps}
 use Rattle.source_machine.specs.Airs.{Airs}
-use Rattle.scenario_history.specs.Sinks.{is_of, reaches, sink_calls, source_of, spots_of}
+use Rattle.scenario_history.specs.Sinks.{sink_calls, source_of}
 use Rattle.scenario_history.specs.Worlds.{joining_on}
 use Rattle.scenario_history.specs.Boxes.{handed_by}
 use Rattle.scenario_laws.specs.Laws.{closed_by, is_given, is_made, is_tuned}
@@ -94,23 +93,13 @@ becomes airs n (steps.Tuned sink which) earlier ungiven = elim (cases_Bool (sink
       kept airs n (steps.Tuned sink which) earlier other refl (ap (λ b. cond b (Some (chosen_of earlier)) (source_of n earlier)) other)
       (ap (λ b. place (cond b (tune (joining_on (chosen_steps earlier) which) ∷ sink_calls airs n earlier) (sink_calls airs n earlier))) other)
 ]
-becomes airs n (steps.Hear sink back bis subevent) earlier ungiven =
-    kept airs n (steps.Hear sink back bis subevent) earlier refl refl refl (same_place (reaches sink n earlier) _ (sink_calls airs n earlier) refl)
-becomes airs n (steps.Air sink lose) earlier ungiven =
-    kept airs n (steps.Air sink lose) earlier refl refl refl
-    (same_place (reaches sink n earlier) _ (sink_calls airs n earlier) (air_place airs (chosen_steps earlier) lose (spots_of (chosen_steps earlier)) (sink_calls airs n earlier)))
-becomes airs n (steps.Inject sink back bis subevent octets) earlier ungiven =
-    kept airs n (steps.Inject sink back bis subevent octets) earlier refl refl refl (same_place (reaches sink n earlier) _ (sink_calls airs n earlier) refl)
-becomes airs n steps.Event earlier ungiven =
-    kept airs n steps.Event earlier refl refl refl (tick_if_place (is_of (chosen_of earlier) (source_of n earlier)) (open_event (chosen_steps earlier)) (sink_calls airs n earlier))
-becomes airs n steps.Stop earlier ungiven =
-    kept airs n steps.Stop earlier refl refl refl (tick_if_place (is_of (chosen_of earlier) (source_of n earlier)) (open_event (chosen_steps earlier)) (sink_calls airs n earlier))
-becomes airs n (steps.Terminate reason) earlier ungiven =
-    kept airs n (steps.Terminate reason) earlier refl refl refl
-    (tick_if_place (is_of (chosen_of earlier) (source_of n earlier)) (open_event (chosen_steps earlier)) (sink_calls airs n earlier))
-becomes airs n steps.End earlier ungiven =
-    kept airs n steps.End earlier refl refl refl
-    (end_place (is_of 1 (source_of n earlier)) (is_of 0 (source_of n earlier)) (open_event (steps_of_source 1 earlier)) (open_event (steps_of_source 0 earlier)) (sink_calls airs n earlier))
+becomes airs n (steps.Hear sink back bis subevent) earlier ungiven = search (kept, same_place)
+becomes airs n (steps.Air sink lose) earlier ungiven = search (kept, same_place, air_place)
+becomes airs n (steps.Inject sink back bis subevent octets) earlier ungiven = search (kept, same_place)
+becomes airs n steps.Event earlier ungiven = search (kept, tick_if_place)
+becomes airs n steps.Stop earlier ungiven = search (kept, tick_if_place)
+becomes airs n (steps.Terminate reason) earlier ungiven = search (kept, tick_if_place)
+becomes airs n steps.End earlier ungiven = search (kept, end_place)
 becomes airs n (steps.Announce sink) earlier ungiven = elim (announced airs n sink earlier) [
   | inl stays ↦ stayed airs n (steps.Announce sink) earlier (record { hands = λ made. refl; closes = λ s. refl }) refl stays
   | inr goes ↦ elim goes [
@@ -125,10 +114,8 @@ becomes airs n (steps.Announce sink) earlier ungiven = elim (announced airs n si
     }))
   ]
 ]
-becomes airs n (steps.Train sink time ext adv acad) earlier ungiven =
-    stayed airs n (steps.Train sink time ext adv acad) earlier (record { hands = λ made. refl; closes = λ s. refl }) refl (given_stays airs n sink time ext adv acad earlier ungiven)
-becomes airs n step earlier ungiven =
-    stayed airs n step earlier (record { hands = λ made. refl; closes = λ s. refl }) refl (plain_stays airs n step earlier refl refl refl refl)
+becomes airs n (steps.Train sink time ext adv acad) earlier ungiven = search (stayed, given_stays)
+becomes airs n step earlier ungiven = search (stayed, plain_stays)
 
 -- the group's first event is the source's next one
 pub puts_first : Announcing → (airs : Airs) (boxes n : ℕ) (step : Step) (earlier : List Step) → Legal airs boxes earlier → Permitted airs boxes earlier step

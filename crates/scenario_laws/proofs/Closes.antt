@@ -11,9 +11,9 @@ use Rattle.group_sink.specs.Streams.{closes}
 use Rattle.scenario_text.specs.declared.step.Step.{Step}
 use Rattle.scenario_text.specs.declared.step.Step.TheVariants as steps
 use Rattle.scenario_history.specs.Steps.{chosen_of, chosen_steps, is_over, steps_of_source}
-use Rattle.scenario_history.specs.Source.{event_back, is_sending, open_event, pdu_in, performed, setup_of}
+use Rattle.scenario_history.specs.Source.{event_back, is_sending, open_event, pdu_in, performed}
 use Rattle.source_machine.specs.Airs.{Airs}
-use Rattle.scenario_history.specs.Sinks.{heard_on_air, is_lost, is_of, reaches, sink_calls, source_of, spot_at, spots_of, ticked, unless_lost}
+use Rattle.scenario_history.specs.Sinks.{heard_on_air, is_of, reaches, sink_calls, source_of, spots_of, ticked, unless_lost}
 use Rattle.scenario_history.specs.Worlds.{joining_on}
 use Rattle.scenario_laws.specs.Laws.{Closed, closed_at, closed_by, closed_if, closed_in, closed_since, any_since, given_since_made, is_given, is_made, is_tuned}
 use Rattle.scenario_laws.proofs.Announced.{Announcing}
@@ -120,9 +120,7 @@ lost_closes false event bis subevent octets calls tuning = refl
 
 air_closes : (airs : Airs) (own : List Step) (lose count : ℕ) (calls : List Call) (tuning : Joining) → closes tuning (heard_on_air airs own lose count calls) ≡ closes tuning calls
 air_closes airs own lose zero calls tuning = refl
-air_closes airs own lose (suc i) calls tuning =
-    lost_closes (is_lost (setup_of own).info (event_back own 0) lose (spot_at (setup_of own).info i)) _ _ _ _ (heard_on_air airs own lose i calls) tuning
-    ∙ air_closes airs own lose i calls tuning
+air_closes airs own lose (suc i) calls tuning = search (lost_closes, air_closes airs own lose i calls tuning)
 
 -- a group that is left, and none that is entered
 none_front : (mine : Bool) (calls : List Call) (next : ℕ) → place calls ≡ None → front mine calls next ≡ next

@@ -69,8 +69,7 @@ housed_after airs boxes n step earlier calls permits before none =
 
 housed : (airs : Airs) (boxes n : ℕ) (made : List Step) → Legal airs boxes made → box_of n made ≡ None → place (sink_calls airs n made) ≡ None
 housed airs boxes n [] legal none = refl
-housed airs boxes n (step ∷ earlier) legal none =
-    housed_after airs boxes n step earlier (sink_calls airs n earlier) (permitted airs boxes earlier step legal.1) (housed airs boxes n earlier legal.0) none
+housed airs boxes n (step ∷ earlier) legal none = search (housed_after, permitted, housed airs boxes n earlier legal.0)
 
 -- ---- of what is handed up as an event is closed, what is of one sink and one source
 
@@ -104,9 +103,7 @@ other_closing s n c m event calls box its apart = grind (arith, other_units)
 
 none_of : (g : ℕ → List Handed) (start count : ℕ) → ((m : ℕ) → start ≤ m → g m ≡ []) → flat_map g (range_with_len start count) ≡ []
 none_of g start zero none = refl
-none_of g start (suc count) none =
-    ap (λ xs. xs ++ flat_map g (range_with_len (start + 1) count)) (none start (omega arith))
-    ∙ none_of g (start + 1) count (λ m least. none m (omega (arith, least)))
+none_of g start (suc count) none = cc (none start (omega arith), none_of g (start + 1) count (λ m least. none m (omega (arith, least))))
 
 sink_closing : (airs : Airs) (boxes s n : ℕ) (made : List Step) (event : ℕ) → Legal airs boxes made → n ≤ 7
     → of_sink s n (closing_at airs s made (Some event)) ≡ cond (is_of s (source_of n made)) (handed_at (sink_calls airs n made) event) []
@@ -151,8 +148,7 @@ pub closing_shown : (airs : Airs) (boxes s c n : ℕ) (made : List Step) → Leg
     → of_sink s n (closing airs c made) ≡ cond (c == s) (shown_with airs s n made) []
 closing_shown airs boxes s c n made legal within = elim (cases_eq c s) [
   | inl same ↦
-      ap (λ t. of_sink s n (closing airs t made)) same
-      ∙ closing_open airs boxes s n made (open_event (steps_of_source s made)) legal within
+      ap (λ t. of_sink s n (closing airs t made)) same ∙ closing_open airs boxes s n made (open_event (steps_of_source s made)) legal within
       ∙ sym (cond-true (c == s) (shown_with airs s n made) [] (eq-eqb c s same))
   | inr apart ↦
       other_source airs s c n made (open_event (steps_of_source c made)) apart
@@ -169,8 +165,10 @@ step_shown airs boxes s n steps.Event earlier legal least within = closing_shown
 step_shown airs boxes s n steps.Stop earlier legal least within = closing_shown airs boxes s (chosen_of earlier) n earlier legal within
 step_shown airs boxes s n (steps.Terminate reason) earlier legal least within = closing_shown airs boxes s (chosen_of earlier) n earlier legal within
 step_shown airs boxes s n steps.End earlier legal least within =
-    of_sink_on s n (closing airs 0 earlier) (closing airs 1 earlier)
-    ∙ ap (λ us. us ++ of_sink s n (closing airs 1 earlier)) (closing_shown airs boxes s 0 n earlier legal within)
-    ∙ ap (λ us. cond (0 == s) (shown_with airs s n earlier) [] ++ us) (closing_shown airs boxes s 1 n earlier legal within)
-    ∙ both_shown s (shown_with airs s n earlier) least
+    cc (
+      of_sink_on s n (closing airs 0 earlier) (closing airs 1 earlier),
+      closing_shown airs boxes s 0 n earlier legal within,
+      closing_shown airs boxes s 1 n earlier legal within,
+      both_shown s (shown_with airs s n earlier) least,
+    )
 step_shown airs boxes s n _ earlier legal least within = refl

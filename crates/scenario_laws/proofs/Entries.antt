@@ -46,8 +46,7 @@ lost_has : (stay : Stay) (heard : ℕ → Bool) (closed number : ℕ) (unit : Se
 lost_has stay heard closed number unit start least test is = grind (arith, ltb-true)
 
 by_missing : (stay : Stay) (heard : ℕ → Bool) (closed : ℕ) (unit : Sent) → heard unit.first ≡ true → 1 ≤ length unit.segments → (missing : Option ℕ)
-    → first_missing heard unit.first unit.segments ≡ missing
-    → HasEntry stay heard closed unit (entry_by stay closed unit missing)
+    → first_missing heard unit.first unit.segments ≡ missing → HasEntry stay heard closed unit (entry_by stay closed unit missing)
 by_missing stay heard closed unit start some missing is = grind (arith, valid_has, ltb, lost_has, missing_behind)
 
 by_start : (stay : Stay) (heard : ℕ → Bool) (closed : ℕ) (unit : Sent) → 1 ≤ length unit.segments → (test : Bool) → heard unit.first ≡ test
@@ -141,13 +140,7 @@ none_batch E low until ns units entries none ahead =
 
 skip_batch : (E : ℕ → Handed → Type 0) (low until n : ℕ) (ns : List ℕ) (unit : Sent) (units : List Sent) (entries rest : List Handed) → entries ≡ [] → unit.first < until
     → Batch E low until ns units rest → Batch E low until (n ∷ ns) (unit ∷ units) (entries ++ rest)
-skip_batch E low until n ns unit units entries rest none below more = record {
-  numbers = more.numbers;
-  high = more.high;
-  climb = more.climb;
-  ahead = ((λ past. absurd (omega (arith, past, below))), more.ahead);
-  each = subst (λ xs. AllZip E more.numbers (xs ++ rest)) (sym none) more.each;
-}
+skip_batch E low until n ns unit units entries rest none below more = search arith
 
 one_batch : (E : ℕ → Handed → Type 0) (low until n : ℕ) (ns : List ℕ) (unit : Sent) (units : List Sent) (entries : List Handed) (entry : Handed) (rest : List Handed) → entries ≡ entry ∷ []
     → unit.first < until → low ≤ n → E n entry → Batch E (n + 1) until ns units rest → Batch E low until (n ∷ ns) (unit ∷ units) (entries ++ rest)

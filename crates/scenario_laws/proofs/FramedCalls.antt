@@ -67,8 +67,7 @@ none_yet count is = eqb-true count 0 is
 pub laid_by : (setup : Setup) (bis : ℕ) (calls : List Call) → LaidBy setup (laid_before setup.info calls) (framed_calls setup bis calls)
 laid_by setup bis [] = record { count_is = refl; each = λ n laying at. absurd (none-some laying at) }
 laid_by setup bis (give stream time octets ∷ calls) = elim (cases_eq stream bis) [
-  | inl same ↦ rw (eq-eqb stream bis same)
-      (record { count_is = (laid_by setup bis calls).count_is; each = (laid_by setup bis calls).each })
+  | inl same ↦ rw (eq-eqb stream bis same) (record { count_is = (laid_by setup bis calls).count_is; each = (laid_by setup bis calls).each })
   | inr other ↦ rw (ne_eqb stream bis other) (laid_by setup bis calls)
 ]
 laid_by setup bis (event ∷ calls) =
@@ -104,8 +103,7 @@ all_short airs setup bis (give stream time octets ∷ calls) all = elim (cases_e
       (ltb-false setup.info.max_sdu (length octets) (second_false (ltb setup.info.num_bis stream) (ltb setup.info.max_sdu (length octets)) _ _ _ all.1)))
   | inr other ↦ rw (ne_eqb stream bis other) (all_short airs setup bis calls all.0)
 ]
-all_short airs setup bis (event ∷ calls) all =
-    subst (AllByRecursion (Short setup.info.max_sdu)) (sym (timed_accepted _ _ (laid_with setup.info calls) (framed_calls setup bis calls))) (all_short airs setup bis calls all.0)
+all_short airs setup bis (event ∷ calls) all = search (timed_accepted, all_short airs setup bis calls all.0)
 
 one_of : (most : ℕ) (units : List Timed) (i : ℕ) (unit : Timed) → AllByRecursion (Short most) units → slice_get units i ≡ Some unit → Short most unit
 one_of most [] i unit all is = absurd (none-some unit is)

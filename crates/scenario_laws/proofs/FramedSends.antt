@@ -78,8 +78,7 @@ whole_pdu setup whole airs bis event subevent units bounds is_framed has sent le
     ∙ ap (parts_at (map (by_payload setup) sent.in_air)) (number_on info setup.first event subevent least)
     ∙ ap (λ us. parts_at us (payload_number info event subevent)) (sym sent.numbered) in
     ap (option_and_then (λ air. pdu_at info.bn air number)) has.there
-    ∙ each_sent info has.air sent.in_air number bounds.bn sent.sends.pdus below
-    ∙ ap (λ parts. Some (pdu (framed parts))) same
+    ∙ each_sent info has.air sent.in_air number bounds.bn sent.sends.pdus below ∙ ap (λ parts. Some (pdu (framed parts))) same
 
 -- ---- what is known of the whole source
 

@@ -65,9 +65,7 @@ heard_least stay calls number is =
     omega (arith, first.enters.window.0, opened_least stay first.earlier)
 
 pub mul_least : (a b n : ℕ) → a ≤ b / n → a * n ≤ b
-mul_least a b n least =
-    let times : a * n ≤ b / n * n = mul-le-mul least (omega arith) in
-    omega (arith, times, div-mul-le_self b n)
+mul_least a b n least = let times : a * n ≤ b / n * n = mul-le-mul least (omega arith) in omega (arith, times, div-mul-le_self b n)
 
 -- ---- the open event of a stay is at most the source's next one
 
@@ -162,8 +160,7 @@ framed_law below airs meets boxes s n bis made tuning legal within is is_framed 
     let same : air_in airs own bis ≡ whole.1.has.air = same_air airs own bis whole.1.has in
     record {
       some = (whole.0, subst (λ air. AreSent (setup_of own) (source_calls own) bis air whole.0) (sym same) whole.1.sent);
-      each = λ units sent.
-          ticks
+      each = λ units sent. ticks
           ∙ below.framed_hands tuning (sink_calls airs n made) bis (ap (λ (i : BigInfo). i.framing) on.tuned.info ∙ is_framed) is.place_is taken
           ∙ stay_decided below airs meets boxes s n bis (setup_of own) (source_calls own) units (record {
             bounds = whole.1.bounds;

@@ -78,8 +78,7 @@ put_own laid tuning bis true injected on calls clean before = tt
 put_own laid tuning bis false injected on calls clean before = before clean
 
 hear_own : (laid : ℕ → Content) (tuning : Joining) (bis : ℕ) (event stream subevent : ℕ) (octets : List ℕ) (calls : List Call)
-    → AllOwn laid tuning bis calls
-    → (stream ≡ bis → octets ≡ pdu (laid (payload_number tuning.info event subevent)))
+    → AllOwn laid tuning bis calls → (stream ≡ bis → octets ≡ pdu (laid (payload_number tuning.info event subevent)))
     → AllOwn laid tuning bis (hear event stream subevent octets ∷ calls)
 hear_own laid tuning bis event stream subevent octets calls all own = search (one_hear, ltb, eqb-true)
 
@@ -96,11 +95,9 @@ unless_own laid tuning bis false call calls all all_more = all_more
 -- a PDU of an event that was performed, of a stream and a subevent of the group
 place_own : (airs : Airs) (laid : ℕ → Content) (tuning : Joining) (own : List Step) (bis back stream subevent : ℕ) → SendsOwn airs laid tuning bis own
     → 1 ≤ bis → stream ≤ (setup_of own).info.num_bis → subevent < (setup_of own).info.nse → back < performed own → stream ≡ bis
-    → pdu_in airs own (event_back own back) stream subevent
-    ≡ pdu (laid (payload_number tuning.info (event_back own back) subevent))
+    → pdu_in airs own (event_back own back) stream subevent ≡ pdu (laid (payload_number tuning.info (event_back own back) subevent))
 place_own airs laid tuning own bis back stream subevent sent least within below near mine =
-    ap (λ b. pdu_in airs own (event_back own back) b subevent) mine
-    ∙ sent (event_back own back) subevent (omega arith) (omega arith) least (omega (arith, within, mine)) below
+    cc (mine, sent (event_back own back) subevent (omega arith) (omega arith) least (omega (arith, within, mine)) below)
 
 air_own : (airs : Airs) (laid : ℕ → Content) (tuning : Joining) (own : List Step) (bis lose count : ℕ) (calls : List Call) → SendsOwn airs laid tuning bis own
     → 1 ≤ bis → 1 ≤ (setup_of own).info.nse → 0 < performed own → count ≤ (setup_of own).info.num_bis * (setup_of own).info.nse
@@ -148,8 +145,11 @@ pub on_air : (own : List Step) (back bis subevent : ℕ) → no_place own back b
 on_air own back bis subevent none =
     let fault : air_fault (setup_of own) (source_calls own) back bis subevent ≡ None = maps_none air_refusal _ none in
     let tests = on_air_tests (ltb (setup_of own).info.num_bis bis) (leb (setup_of own).info.nse subevent) (leb (events (source_calls own)) back) _ _ _ fault in
-    assumption (ltb-false (setup_of own).info.num_bis bis tests.0, leb-false (setup_of own).info.nse subevent tests.1,
-        leb-false (events (source_calls own)) back tests.2)
+    assumption (
+      ltb-false (setup_of own).info.num_bis bis tests.0,
+      leb-false (setup_of own).info.nse subevent tests.1,
+      leb-false (events (source_calls own)) back tests.2,
+    )
 
 -- ---- step by step
 
@@ -245,8 +245,10 @@ all_own laws airs setup whole laid tuning boxes s n bis (step ∷ earlier) sends
       let own_legal : Lawful airs (steps_of_source s earlier) = lawful airs boxes s earlier legal.0 in
       own_after airs laid tuning boxes s n bis step earlier (injected_since (is_tuned n) n earlier)
       (permitted airs boxes earlier step legal.1) least before.source_is clean
-      (λ none. (assumption (all_own laws airs setup whole laid tuning boxes s n bis earlier sends legal.0 shorter least before none,
-          sends (steps_of_source s earlier) own_legal on.started shorter,
-          bounds_in (steps_of_source s earlier) (settled airs (steps_of_source s earlier) own_legal) on.started)))
+      (λ none. (assumption (
+        all_own laws airs setup whole laid tuning boxes s n bis earlier sends legal.0 shorter least before none,
+        sends (steps_of_source s earlier) own_legal on.started shorter,
+        bounds_in (steps_of_source s earlier) (settled airs (steps_of_source s earlier) own_legal) on.started,
+      )))
   | inr begins ↦ begins_own airs laid s n bis step earlier tuning begins
 ]

@@ -207,9 +207,11 @@ orders below airs meets boxes s n bis setup whole (step ∷ earlier) ready =
     again_orders setup whole s n bis (its_front airs s n (step ∷ earlier)) (is_made n earlier step) (handed_since (is_made n) airs earlier) (handed_by airs earlier step)
     (λ on.
     let before : Ready airs boxes s n bis setup whole earlier =
-        assumption (within_before airs boxes s setup whole earlier step ready.legal_is ready.within,
-        rest_not (is_made n earlier step) (is_given n step) (given_since_made n earlier) ready.ungiven on,
-        rest_not (is_made n earlier step) (is_injected n step) (injected_since (is_made n) n earlier) ready.clean on) in
+    assumption (
+      within_before airs boxes s setup whole earlier step ready.legal_is ready.within,
+      rest_not (is_made n earlier step) (is_given n step) (given_since_made n earlier) ready.ungiven on,
+      rest_not (is_made n earlier step) (is_injected n step) (injected_since (is_made n) n earlier) ready.clean on,
+    ) in
     let now = moved below.announcing airs boxes s n step earlier ready.legal_is (last_not (is_made n earlier step) (is_given n step) (given_since_made n earlier) ready.ungiven) ready.source_below
     (closing below.announcing airs boxes s n earlier legal_before before.ungiven ready.source_below).within in
     subst (λ (us : List Handed). Ordered setup whole bis (its_front airs s n (step ∷ earlier)) (valid_in (shown_since (is_made n) airs s n bis earlier) ++ valid_in (of_stream bis us)))
@@ -224,6 +226,8 @@ pub units_in_order : Below → (airs : Airs) → MeetAirs airs → (boxes s n bi
 units_in_order below airs meets boxes s n bis made legal plain source_below sink_below least greatest ungiven clean =
     let order : Ordered (setup_of (steps_of_source s made)) (source_calls (steps_of_source s made)) bis (its_front airs s n made) (valid_in (shown_since (is_made n) airs s n bis made)) =
     orders below airs meets boxes s n bis (setup_of (steps_of_source s made)) (source_calls (steps_of_source s made)) made (
-        assumption (within_itself (steps_of_source s made),
-        slot_short airs bis (steps_of_source s made) (lawful airs boxes s made legal))) in
+    assumption (
+      within_itself (steps_of_source s made),
+      slot_short airs bis (steps_of_source s made) (lawful airs boxes s made legal),
+    )) in
     record { numbers = order.numbers; rising = climbs 0 order.numbers order.high order.climb; given = order.given }

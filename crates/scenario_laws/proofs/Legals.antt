@@ -11,8 +11,7 @@ use Rattle.scenario_text.specs.Ranges.{IsInRange}
 use Rattle.scenario_text.specs.Steps.{read_of}
 use Rattle.scenario_history.specs.Gifts.{happened}
 use Rattle.source_machine.specs.Airs.{Airs}
-use Rattle.scenario_history.specs.Steps.{version_of}
-use Rattle.scenario_history.specs.Lines.{Said, a_step, nothing, unsaid, said_by, said_in, said_after, said_of, steps_of, with_said}
+use Rattle.scenario_history.specs.Lines.{Said, a_step, nothing, unsaid, said_by, said_in, said_of, steps_of, with_said}
 use Rattle.scenario_history.specs.Lines.{refusal_said, rules_of}
 use Rattle.scenario_laws.specs.Gifts.Legal.{AreLegal, AreSaidLegally}
 use Rattle.scenario_laws.proofs.Gifts.Citable.{happens_legally}
@@ -49,10 +48,8 @@ pub said_legally : LinesInRange → (airs : Airs) (starts : List Account) (lines
     → AreSaidLegally airs (length starts) (said_of lines)
 said_legally ranged airs starts [] accepted = tt
 said_legally ranged airs starts (line ∷ earlier) accepted =
-    legal_said airs (length starts) (said_of earlier) (said_after earlier line) (said_legally ranged airs starts earlier accepted.0)
-    (in_range ranged (version_of (said_of earlier)) line) accepted.1
+    search (legal_said, in_range, said_legally ranged airs starts earlier accepted.0)
 
 pub legal : LinesInRange → (airs : Airs) (starts : List Account) (lines : List TextLine) → Accepted (rules_of airs starts) lines
     → Legal airs (length starts) (steps_of airs lines)
-legal ranged airs starts lines accepted =
-    happens_legally airs (length starts) (said_of lines) (said_legally ranged airs starts lines accepted)
+legal ranged airs starts lines accepted = search (happens_legally, said_legally)

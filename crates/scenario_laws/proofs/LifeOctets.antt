@@ -1,6 +1,5 @@
 -- The life of a sink of any lines: what its links write is octets, and it has at most eight slots.
-use Rattle.std.proofs.Common.{ℕ, zero, suc, ◌≡◌, ◌<◌, ◌≤◌, ◌==◌, cond, Bool, true, false, List, [], ◌∷◌, ◌++◌, Option, None, Some, sym, ◌∙◌, ap, subst, arith}
-use Rattle.std.specs.Prelude.{unwrap_or}
+use Rattle.std.proofs.Common.{ℕ, zero, suc, ◌≡◌, ◌<◌, ◌≤◌, ◌==◌, cond, Bool, true, false, List, [], ◌∷◌, ◌++◌, Option, None, Some, sym, ◌∙◌, subst, arith}
 use Rattle.std.specs.List.{AllByRecursion}
 use Rattle.std.proofs.lemmas.List.{append-nil}
 use Rattle.std.proofs.lemmas.Option.{none-some}
@@ -17,8 +16,7 @@ use Rattle.scenario_text.specs.Ranges.{IsInRange}
 use Rattle.scenario_text.proofs.Citable.{nil_octets, cons_octets}
 use Rattle.delegator_history.specs.Trains.{Settings}
 use Rattle.sink_history.specs.Lives.{Source, World, horizon_of, life_of, lived, lived_at, lived_by, made_by, made_of, named_by, with_drain}
-use Rattle.scenario_history.specs.Lines.{Said, a_step, nothing, unsaid, said_after, said_of, with_said}
-use Rattle.scenario_history.specs.Steps.{version_of}
+use Rattle.scenario_history.specs.Lines.{Said, a_step, nothing, unsaid, said_of, with_said}
 use Rattle.scenario_laws.proofs.Legals.{InRange, LinesInRange, in_range}
 
 -- ---- steps of lines
@@ -33,8 +31,7 @@ ranged_said earlier (unsaid reason) before ranged = before
 
 pub ranged_lines : LinesInRange → (lines : List TextLine) → Ranged (said_of lines)
 ranged_lines ranged [] = tt
-ranged_lines ranged (line ∷ earlier) =
-    ranged_said (said_of earlier) (said_after earlier line) (ranged_lines ranged earlier) (in_range ranged (version_of (said_of earlier)) line)
+ranged_lines ranged (line ∷ earlier) = search (ranged_said, in_range, ranged_lines ranged earlier)
 
 -- ---- its slots
 
@@ -46,9 +43,7 @@ few_if false here there made first second is sink its = second sink (sym is ∙ 
 
 few_made : (n sink streams slots : ℕ) (mtu : Option ℕ) (earlier : List Step) → slots ≤ 8 → (made : Settings)
     → Some (record { setup = record { streams = streams; slots = slots; horizon = horizon_of earlier }; mtu = mtu }) ≡ Some made → made.setup.slots < 256
-few_made n sink streams slots mtu earlier few made is =
-    let same : slots ≡ made.setup.slots = ap (λ found. (unwrap_or found made).setup.slots) is in
-    omega (arith, same, few)
+few_made n sink streams slots mtu earlier few made is = search arith
 
 few_by : (n : ℕ) (step : Step) (earlier : List Step) (before : Option Settings) → IsInRange step
     → ((made : Settings) → before ≡ Some made → made.setup.slots < 256)
@@ -88,13 +83,11 @@ octets_by : (source : Source) (step : Step) (made : Option Settings) (calls : Li
 octets_by source step made calls ranged before = grind (arith, remove_octets, code_octets, octets_drained)
 
 octets_at : (world : World) (n : ℕ) (named : Option ℕ) (step : Step) (earlier : List Step) (made : Option Settings) (calls : List Call)
-    → IsInRange step → AreOctets calls
-    → AreOctets (lived_at world n named step earlier made calls)
+    → IsInRange step → AreOctets calls → AreOctets (lived_at world n named step earlier made calls)
 octets_at world n named step earlier made calls ranged before = grind (arith, octets_if, octets_by)
 
 octets_lived : (world : World) (n : ℕ) (step : Step) (earlier : List Step) (made : Option Settings) (calls : List Call) → IsInRange step
-    → AreOctets calls
-    → AreOctets (lived world n step earlier made calls)
+    → AreOctets calls → AreOctets (lived world n step earlier made calls)
 octets_lived world n (steps.Sink sink streams slots mtu) earlier made calls ranged before = octets_if (sink == n) (born mtu) calls (octets_born mtu) before
 octets_lived world n step earlier made calls ranged before = octets_at world n (named_by step) step earlier made calls ranged before
 

@@ -1,5 +1,5 @@
 -- No notice is forged over a link other than 0, and every sink of any lines agrees with its assistants.
-use Rattle.std.proofs.Common.{ℕ, ◌≡◌, ◌≢◌, ◌<◌, ◌==◌, cond, Bool, true, false, List, [], ◌∷◌, Option, None, Some, refl, sym, ◌∙◌, ap, subst, arith}
+use Rattle.std.proofs.Common.{ℕ, ◌≡◌, ◌≢◌, ◌<◌, ◌==◌, cond, Bool, true, false, List, [], ◌∷◌, Option, None, Some, refl, sym, ◌∙◌, ap, subst}
 use Rattle.std.specs.Prelude.{unwrap_or}
 use Rattle.std.specs.Option.{option_or}
 use Rattle.std.proofs.lemmas.Bool.{ne_eqb}
@@ -34,8 +34,10 @@ said_agree in_range laws lines n link slot made is below plain =
     let ranged = ranged_lines in_range lines in
     let few = few_slots n (said_of lines) ranged made is in
     let octets : AreOctets (life n (said_of lines)) = life_octets the_world n (said_of lines) ranged in
-    assumption (laws.agrees made.setup made.mtu link slot (life n (said_of lines)) few below octets plain,
-        laws.drained made.setup made.mtu link slot (life n (said_of lines)) few below octets plain)
+    assumption (
+      laws.agrees made.setup made.mtu link slot (life n (said_of lines)) few below octets plain,
+      laws.drained made.setup made.mtu link slot (life n (said_of lines)) few below octets plain,
+    )
 
 -- gifts are no part of a life
 pub links_agree : LinesInRange → OfLinks → AgreementLaw
@@ -54,9 +56,7 @@ not_by false given before = before
 not_forged : (link : ℕ) (calls : List Call) → link ≢ 0 → is_forged link calls ≡ false
 not_forged link [] other = refl
 not_forged link (links.joined at ∷ earlier) other = not_by (at == link) (last_given (forging_by link) earlier) (not_forged link earlier other)
-not_forged link (links.forged slot octets ∷ earlier) other =
-    ap (λ b. unwrap_or (option_or (cond b (Some true) None) (last_given (forging_by link) earlier)) false) (ne_eqb link 0 other)
-    ∙ not_forged link earlier other
+not_forged link (links.forged slot octets ∷ earlier) other = cc (ne_eqb link 0 other, not_forged link earlier other)
 not_forged link (call ∷ earlier) other = not_forged link earlier other
 
 pub apart_agree : LinesInRange → OfLinks → (airs : Airs) (lines : List TextLine) (n link slot : ℕ) (made : Settings)

@@ -66,8 +66,7 @@ left_or_not true false calls = inr refl
 left_or_not false is calls = inl refl
 
 received_left : (source : Source) (step : Step) (made : Option Settings) (here there : List links.Call) (calls : List Call)
-    → train_by source step ≡ None
-    → Left (received_by source step made here there calls) calls
+    → train_by source step ≡ None → Left (received_by source step made here there calls) calls
 received_left source step made here there calls none = grind (arith, left_or_not)
 
 left_if : (hit : Bool) (more calls : List Call) → Left more calls → Left (cond hit more calls) calls
@@ -93,12 +92,7 @@ unmoved n named step earlier calls none = grind (arith, same_if)
 
 -- a train that is given to another sink
 pub given_stays : (airs : Airs) (n sink time : ℕ) (ext adv acad : List ℕ) (earlier : List Step) → (sink == n) ≡ false → StaysBy airs n (steps.Train sink time ext adv acad) earlier
-given_stays airs n sink time ext adv acad earlier other = record {
-  left = inl (ap (λ b. cond b (received_by (source_at earlier) (steps.Train sink time ext adv acad) (made_of n earlier) (life n earlier) (life n (steps.Train sink time ext adv acad ∷ earlier))
-      (sink_calls airs n earlier)) (sink_calls airs n earlier)) other);
-  same = ap (λ b. cond b (source_by (source_at earlier) (steps.Train sink time ext adv acad) (made_of n earlier) (life n earlier) (source_of n earlier)) (source_of n earlier)) other;
-  begins_not = ap (λ b. b && brings_by (source_at earlier) (steps.Train sink time ext adv acad) (made_of n earlier) (life n earlier)) other;
-}
+given_stays airs n sink time ext adv acad earlier other = search arith
 
 -- ---- a train that is announced
 
@@ -142,8 +136,7 @@ by_made : (source : Source) (n : ℕ) (here there : List links.Call) (made : Opt
     → Went (BroughtTo source here) source.number (brings_by source (steps.Announce n) made here) calls (received_by source (steps.Announce n) made here there calls)
     its_source (source_by source (steps.Announce n) made here its_source)
 by_made source n here there None calls its_source nowhere = inl (record { left = inl refl; same = refl; begins_not = refl })
-by_made source n here there (Some made) calls its_source nowhere =
-    by_train source here made (sight_in made there) calls its_source (nowhere made refl) (brought_by made.setup (sight_in made here) (own_train source)) refl
+by_made source n here there (Some made) calls its_source nowhere = search (by_train, nowhere)
 
 went_if : (Brings : Joining → Type 0) (chosen : ℕ) (hit begins : Bool) (calls more : List Call) (source new : Option ℕ) → Went Brings chosen begins calls more source new
     → Went (λ joining. (hit ≡ true) × Brings joining) chosen (hit && begins) calls (cond hit more calls) source (cond hit new source)

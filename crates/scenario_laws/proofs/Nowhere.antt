@@ -1,5 +1,5 @@
 -- Where the life of a sink says that it is on no group, its receivers are on none.
-use Rattle.std.proofs.Common.{ℕ, ◌≡◌, ◌==◌, cond, Bool, true, false, List, [], ◌∷◌, Option, None, Some, refl, sym, ◌∙◌, ap, subst, arith}
+use Rattle.std.proofs.Common.{ℕ, ◌≡◌, ◌==◌, cond, Bool, true, false, List, [], ◌∷◌, Option, None, Some, refl, sym, ap, subst, arith}
 use Rattle.std.proofs.lemmas.Bool.{false≢true}
 use Rattle.std.proofs.lemmas.Option.{none-some, same_Some}
 use Rattle.delegator_machine.specs.Groups.{with_leave, with_step}
@@ -9,7 +9,7 @@ use Rattle.delegator_history.specs.States.{put_on, train_heard}
 use Rattle.delegator_history.specs.Trains.{Settings, Train}
 use Rattle.sync_reference.specs.Joining.{Joining}
 use Rattle.delegator_history.proofs.Citable.{sight_goes_on}
-use Rattle.group_sink.specs.Calls.{Call, tune, hear, place}
+use Rattle.group_sink.specs.Calls.{Call, tune, place}
 use Rattle.sink_history.specs.Calls as links
 use Rattle.sink_history.specs.Calls.{stepped, steps_of}
 use Rattle.delegator_control.specs.Groups.{has_group}
@@ -18,11 +18,9 @@ use Rattle.scenario_text.specs.declared.step.Step.TheVariants as steps
 use Rattle.sink_history.specs.Lives.{Source, given_train, lived_at, made_of, named_by, own_train}
 use Rattle.sink_history.specs.Moves.{joining_of, received_by, train_by}
 use Rattle.sink_history.specs.Output.{sight_in}
-use Rattle.scenario_history.specs.Steps.{chosen_of, chosen_steps, steps_of_source}
-use Rattle.scenario_history.specs.Source.{event_back, open_event, pdu_in}
 use Rattle.source_machine.specs.Airs.{Airs}
-use Rattle.scenario_history.specs.Sinks.{heard_on_air, is_of, moved, reaches, sink_calls, source_of, spots_of, with_sink_call}
-use Rattle.scenario_history.specs.Worlds.{joining_on, life, source_at, the_world}
+use Rattle.scenario_history.specs.Sinks.{moved, sink_calls, with_sink_call}
+use Rattle.scenario_history.specs.Worlds.{life, source_at, the_world}
 use Rattle.scenario_laws.proofs.Places.{air_place, end_place, same_place, tick_if_place}
 
 -- a living sink that is on no group by its life has receivers on none
@@ -33,15 +31,13 @@ Nowhere made lives calls = (m : Settings) → made ≡ Some m → has_group (sig
 
 put_comes : (m : Settings) (joining : Joining) (lives : List links.Call)
     → has_group (sight_in m (stepped (put_on joining) ∷ lives)).place ≡ true
-put_comes m joining lives =
-    ap (λ (s : Sight). has_group s.place) (sight_goes_on m.setup (put_on joining) (steps_of lives))
+put_comes m joining lives = ap (λ (s : Sight). has_group s.place) (sight_goes_on m.setup (put_on joining) (steps_of lives))
 
 train_comes : (m : Settings) (train : Train) (lives : List links.Call) (joining : Joining)
     → joining_of m (sight_in m lives) (Some train) ≡ Some joining
     → has_group (sight_in m (stepped (train_heard train) ∷ lives)).place ≡ true
 train_comes m train lives joining is =
-    ap (λ (s : Sight). has_group s.place) (sight_goes_on m.setup (train_heard train) (steps_of lives))
-    ∙ comes_on m.setup (sight_in m lives) (train_heard train) joining is
+    cc (sight_goes_on m.setup (train_heard train) (steps_of lives), comes_on m.setup (sight_in m lives) (train_heard train) joining is)
 
 -- ---- a line that names the sink
 
@@ -59,8 +55,7 @@ Comes source step made here there =
     → has_group (sight_in m there).place ≡ true
 
 received_off : (source : Source) (step : Step) (made : Option Settings) (here there : List links.Call) (calls : List Call)
-    → Comes source step made here there
-    → Nowhere made here calls → Nowhere made there (received_by source step made here there calls)
+    → Comes source step made here there → Nowhere made here calls → Nowhere made there (received_by source step made here there calls)
 received_off source step None here there calls comes before m is off = absurd (none-some m is)
 received_off source step (Some made) here there calls comes before m is off =
     step_off (joining_of made (sight_in made here) (train_by source step)) (sight_in made here) (sight_in made there) calls (before made refl) (λ joining brought. comes made joining refl brought)
@@ -88,38 +83,25 @@ gone_off true anew made born lives calls before m is off = refl
 gone_off false anew made born lives calls before m is off = before m is off
 
 put_off : (put : Bool) (made : Option Settings) (joining : Joining) (lives : List links.Call) (on : Joining) (calls : List Call)
-    → Nowhere made lives calls
-    → Nowhere made (cond put (stepped (put_on joining) ∷ lives) lives) (cond put (tune on ∷ calls) calls)
+    → Nowhere made lives calls → Nowhere made (cond put (stepped (put_on joining) ∷ lives) lives) (cond put (tune on ∷ calls) calls)
 put_off put made joining lives on calls before m is off = grind (arith, false≢true, put_comes)
 
 hear_off : (named mine : Bool) (made : Option Settings) (lives : List links.Call) (more calls : List Call) → place more ≡ place calls
-    → Nowhere made lives calls
-    → Nowhere made (cond named lives lives) (cond mine more calls)
+    → Nowhere made lives calls → Nowhere made (cond named lives lives) (cond mine more calls)
 hear_off named mine made lives more calls same before m is off = grind (arith, same_place)
 
 off_after : (airs : Airs) (n : ℕ) (step : Step) (earlier : List Step) (calls : List Call) → Nowhere (made_of n earlier) (life n earlier) calls
     → Nowhere (made_of n (step ∷ earlier)) (life n (step ∷ earlier)) (with_sink_call airs n step earlier calls)
 off_after airs n (steps.Sink sink streams slots mtu) earlier calls before = gone_off (sink == n) _ (made_of n earlier) _ (life n earlier) calls before
 off_after airs n (steps.Drop sink) earlier calls before = gone_off (sink == n) None (made_of n earlier) [] (life n earlier) calls before
-off_after airs n (steps.Tuned sink which) earlier calls before =
-    put_off (sink == n) (made_of n earlier) ((source_at earlier).joining which) (life n earlier) (joining_on (chosen_steps earlier) which)
-    calls before
-off_after airs n (steps.Hear sink back bis subevent) earlier calls before =
-    hear_off (sink == n) (reaches sink n earlier) (made_of n earlier) (life n earlier)
-    (hear (event_back (chosen_steps earlier) back) bis subevent (pdu_in airs (chosen_steps earlier) (event_back (chosen_steps earlier) back) bis subevent) ∷ calls) calls refl before
-off_after airs n (steps.Air sink lose) earlier calls before =
-    hear_off (sink == n) (reaches sink n earlier) (made_of n earlier) (life n earlier) (heard_on_air airs (chosen_steps earlier) lose (spots_of (chosen_steps earlier)) calls) calls
-    (air_place airs (chosen_steps earlier) lose (spots_of (chosen_steps earlier)) calls) before
-off_after airs n (steps.Inject sink back bis subevent octets) earlier calls before =
-    hear_off (sink == n) (reaches sink n earlier) (made_of n earlier) (life n earlier) (hear (event_back (chosen_steps earlier) back) bis subevent octets ∷ calls) calls refl before
-off_after airs n steps.Event earlier calls before =
-    λ m is off. tick_if_place (is_of (chosen_of earlier) (source_of n earlier)) (open_event (chosen_steps earlier)) calls ∙ before m is off
-off_after airs n steps.Stop earlier calls before =
-    λ m is off. tick_if_place (is_of (chosen_of earlier) (source_of n earlier)) (open_event (chosen_steps earlier)) calls ∙ before m is off
-off_after airs n (steps.Terminate reason) earlier calls before =
-    λ m is off. tick_if_place (is_of (chosen_of earlier) (source_of n earlier)) (open_event (chosen_steps earlier)) calls ∙ before m is off
-off_after airs n steps.End earlier calls before =
-    λ m is off. end_place (is_of 1 (source_of n earlier)) (is_of 0 (source_of n earlier)) (open_event (steps_of_source 1 earlier)) (open_event (steps_of_source 0 earlier)) calls ∙ before m is off
+off_after airs n (steps.Tuned sink which) earlier calls before = search (put_off)
+off_after airs n (steps.Hear sink back bis subevent) earlier calls before = search (hear_off)
+off_after airs n (steps.Air sink lose) earlier calls before = search (hear_off, air_place)
+off_after airs n (steps.Inject sink back bis subevent octets) earlier calls before = search (hear_off)
+off_after airs n steps.Event earlier calls before = search (tick_if_place)
+off_after airs n steps.Stop earlier calls before = search (tick_if_place)
+off_after airs n (steps.Terminate reason) earlier calls before = search (tick_if_place)
+off_after airs n steps.End earlier calls before = search (end_place)
 off_after airs n (steps.Announce sink) earlier calls before =
     moved_off (sink == n) (source_at earlier) (steps.Announce sink) (made_of n earlier) (life n earlier)
     (stepped (train_heard (own_train (source_at earlier))) ∷ life n earlier) _ calls refl

@@ -114,13 +114,7 @@ pub ordered_none : (setup : Setup) (whole : List SourceCall) (bis next : ℕ) �
 ordered_none setup whole bis next = record { numbers = []; high = 0; climb = omega arith; ahead = λ e past laid. omega arith; given = tt }
 
 pub ordered_later : (setup : Setup) (whole : List SourceCall) (bis next later : ℕ) (units : List Handed) → next ≤ later → Ordered setup whole bis next units → Ordered setup whole bis later units
-ordered_later setup whole bis next later units more order = record {
-  numbers = order.numbers;
-  high = order.high;
-  climb = order.climb;
-  ahead = λ e past laid. order.ahead e (omega (arith, past, more)) laid;
-  given = order.given;
-}
+ordered_later setup whole bis next later units more order = search arith
 
 -- the valid units of one event
 pub record Batch (setup : Setup) (whole : List SourceCall) (bis low high : ℕ) (units : List Handed) : Type 0 where
@@ -135,8 +129,7 @@ IsSlots setup whole bis event slot unit = (stream : ℕ) → (time : ℕ) → (o
 
 batch_one : (setup : Setup) (whole : List SourceCall) (bis event slot low : ℕ) (unit : Handed) (rest : List Handed)
     → setup.first ≤ event → event < next_of setup whole → slot < per_event_of setup.info → low ≤ first_in setup.info (source_stream setup.info bis whole) (event - setup.first) + slot
-    → low ≤ past_in setup.info (source_stream setup.info bis whole) (event - setup.first)
-    → IsSlots setup whole bis event slot unit
+    → low ≤ past_in setup.info (source_stream setup.info bis whole) (event - setup.first) → IsSlots setup whole bis event slot unit
     → ((least : ℕ) → least ≤ first_in setup.info (source_stream setup.info bis whole) (event - setup.first) + (slot + 1)
     → least ≤ past_in setup.info (source_stream setup.info bis whole) (event - setup.first)
     → Batch setup whole bis least (past_in setup.info (source_stream setup.info bis whole) (event - setup.first)) (valid_in rest))
@@ -164,11 +157,7 @@ batch_one setup whole bis event slot low (valid stream time octets) rest from_fi
       accepted = found;
       unit_is = ap (λ b. valid b time octets) here.0 ∙ ap (λ t. valid bis t octets) here.1;
     } in
-    record {
-      numbers = place_of setup whole bis event slot ∷ next.numbers;
-      climb = (least, next.climb);
-      given = (one, next.given);
-    }
+    record { numbers = place_of setup whole bis event slot ∷ next.numbers; climb = (least, next.climb); given = (one, next.given) }
 
 batch : (setup : Setup) (whole : List SourceCall) (bis event : ℕ) (g : ℕ → Handed) (start count low : ℕ) → setup.first ≤ event → event < next_of setup whole → start + count ≤ per_event_of setup.info
     → low ≤ first_in setup.info (source_stream setup.info bis whole) (event - setup.first) + start

@@ -1,6 +1,6 @@
 -- Over two airs that meet the relation of their framing the same happens: relays offer the same units, and source 1 takes the same of
 -- them.
-use Rattle.std.proofs.Common.{ℕ, ◌≡◌, ◌∙◌, cond, not, Bool, true, false, List, [], ◌∷◌, None, Some, refl, ap, arith}
+use Rattle.std.proofs.Common.{ℕ, ◌≡◌, ◌∙◌, cond, not, Bool, true, false, List, [], ◌∷◌, None, Some, refl, ap}
 use Rattle.std.specs.List.{flat_map}
 use Rattle.std.specs.Option.{option_map}
 use Rattle.scenario_text.specs.declared.step.Step.{Step}
@@ -26,8 +26,7 @@ dropped_same : (airs others : Airs) → Both airs others → (boxes : ℕ) (offe
     → dropped_for airs offer made ≡ dropped_for others offer made
 dropped_same airs others both boxes offer made twice =
     let own : List Step = steps_of_source 1 made in
-    in_order (not (takes_units own)) Order _ _ (λ streams.
-    ap (λ all. option_map give_refusal
+    in_order (not (takes_units own)) Order _ _ (λ streams. ap (λ all. option_map give_refusal
     (give_fault (setup_of own) (source_calls own) all offer.route.to (Some offer.unit.time) offer.unit.octets))
     (its_same airs others both own (lawful airs boxes 1 made twice.here) (lawful others boxes 1 made twice.there) (takes own streams)))
 
@@ -72,8 +71,10 @@ gifts_alike true airs others both boxes made legal runs =
     let offers = offers_same airs others both boxes made legal in
     let both_ways : Alike airs others (offers_at airs made) made =
     alike airs others both boxes (offers_at airs made) made legal (runs refl) in
-    assumption (both_ways.steps ∙ ap (λ os. after_offers others os made) offers,
-        both_ways.answers ∙ ap (λ os. answered others os made) offers)
+    assumption (
+      both_ways.steps ∙ ap (λ os. after_offers others os made) offers,
+      both_ways.answers ∙ ap (λ os. answered others os made) offers,
+    )
 gifts_alike false airs others both boxes made legal runs = record { steps = refl; answers = refl }
 
 before_step : (airs others : Airs) → Both airs others → (boxes : ℕ) (made : List Step) (step : Step) → Legal airs boxes made
@@ -93,5 +94,4 @@ happened_same airs others both boxes (step ∷ earlier) legal =
     let made : List Step = happened airs earlier in
     let gifts = before_step airs others both boxes made step (happens_legally airs boxes earlier legal.0)
     (line_passes airs boxes made step legal.1) in
-    ap (λ gifted. step ∷ gifted)
-    (gifts.steps ∙ ap (λ m. with_gifts others m step) (happened_same airs others both boxes earlier legal.0))
+    ap (λ gifted. step ∷ gifted) (gifts.steps ∙ ap (λ m. with_gifts others m step) (happened_same airs others both boxes earlier legal.0))

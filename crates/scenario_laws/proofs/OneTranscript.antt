@@ -65,17 +65,13 @@ ends_same airs others both starts made legal none =
     let boxes = length starts in
     ap (λ answers. first_lines (closing airs 0 made) answers
     ++ (unit_lines (closing airs 1 made) ++ sums_of starts (handed_up airs made ++ closing_both airs made) made))
-    (answers_same airs others both boxes made steps.End legal none)
-    ∙ ap (λ us. first_lines us (answered_by others made steps.End)
+    (answers_same airs others both boxes made steps.End legal none) ∙ ap (λ us. first_lines us (answered_by others made steps.End)
     ++ (unit_lines (closing airs 1 made) ++ sums_of starts (handed_up airs made ++ closing_both airs made) made))
-    (closing_same airs others both boxes 0 made legal)
-    ∙ ap (λ us. first_lines (closing others 0 made) (answered_by others made steps.End)
+    (closing_same airs others both boxes 0 made legal) ∙ ap (λ us. first_lines (closing others 0 made) (answered_by others made steps.End)
     ++ (unit_lines us ++ sums_of starts (handed_up airs made ++ closing_both airs made) made))
-    (closing_same airs others both boxes 1 made legal)
-    ∙ ap (λ us. first_lines (closing others 0 made) (answered_by others made steps.End)
+    (closing_same airs others both boxes 1 made legal) ∙ ap (λ us. first_lines (closing others 0 made) (answered_by others made steps.End)
     ++ (unit_lines (closing others 1 made) ++ sums_of starts (us ++ closing_both airs made) made))
-    (handed_up_same airs others both boxes made legal)
-    ∙ ap (λ us. first_lines (closing others 0 made) (answered_by others made steps.End)
+    (handed_up_same airs others both boxes made legal) ∙ ap (λ us. first_lines (closing others 0 made) (answered_by others made steps.End)
     ++ (unit_lines (closing others 1 made) ++ sums_of starts (handed_up others made ++ us) made))
     (closing_both_same airs others both boxes made legal)
 

@@ -2,9 +2,8 @@
 use Rattle.std.proofs.Common.{ℕ, zero, suc, ◌≡◌, cond, Bool, true, false, List, Option, None, Some, refl, ◌∙◌, arith}
 use Rattle.group_sink.specs.Calls.{Call, hear, place}
 use Rattle.scenario_text.specs.declared.step.Step.{Step}
-use Rattle.scenario_history.specs.Source.{event_back, setup_of}
 use Rattle.source_machine.specs.Airs.{Airs}
-use Rattle.scenario_history.specs.Sinks.{heard_on_air, is_lost, spot_at, ticked, ticked_if, unless_lost}
+use Rattle.scenario_history.specs.Sinks.{heard_on_air, ticked, ticked_if, unless_lost}
 
 pub same_place : (mine : Bool) (more calls : List Call) → place more ≡ place calls → place (cond mine more calls) ≡ place calls
 same_place true more calls is = is
@@ -16,9 +15,7 @@ lost_place false event bis subevent octets calls = refl
 
 pub air_place : (airs : Airs) (own : List Step) (lose count : ℕ) (calls : List Call) → place (heard_on_air airs own lose count calls) ≡ place calls
 air_place airs own lose zero calls = refl
-air_place airs own lose (suc i) calls =
-    lost_place (is_lost (setup_of own).info (event_back own 0) lose (spot_at (setup_of own).info i)) _ _ _ _ (heard_on_air airs own lose i calls)
-    ∙ air_place airs own lose i calls
+air_place airs own lose (suc i) calls = search (lost_place, air_place airs own lose i calls)
 
 tick_place : (last_open : Option ℕ) (calls : List Call) → place (ticked last_open calls) ≡ place calls
 tick_place None calls = refl

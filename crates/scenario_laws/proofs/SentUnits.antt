@@ -1,6 +1,6 @@
 -- The units that a framed air sends, by payload numbers: the PDU of each number is theirs.
 use Rattle.std.proofs.Common.{ℕ, ◌≡◌, ◌<◌, ◌≤◌, ◌+◌, ◌-◌, ◌*◌, ◌/◌, ◌%◌, ◌&&◌, cond, eqb, Bool, List}
-use Rattle.std.proofs.Common.{[], ◌∷◌, ◌++◌, length, map, Option, None, Some, refl, sym, ◌∙◌, ap, subst, arith, inl, inr}
+use Rattle.std.proofs.Common.{[], ◌∷◌, length, map, Option, None, Some, refl, sym, ◌∙◌, ap, subst, arith, inl, inr}
 use Rattle.std.specs.Prelude.{slice_get}
 use Rattle.std.specs.List.{range_with_len}
 use Rattle.std.specs.Option.{option_and_then}
@@ -32,12 +32,10 @@ each_sent info [] units number some are below = absurd (omega (arith, below))
 each_sent info (entry ∷ earlier) units number some are below = elim (cases_eq (length earlier) (number / info.bn)) [
   | inl here ↦
       ap (λ b. option_and_then (λ (event : Laid). slice_get event.pdus (number % info.bn)) (cond b (Some entry.event) (event_at earlier (number / info.bn)))) (eq-eqb (length earlier)
-      (number / info.bn) here)
-      ∙ in_event info entry.event earlier units number some here are.1
+      (number / info.bn) here) ∙ in_event info entry.event earlier units number some here are.1
   | inr apart ↦
       ap (λ b. option_and_then (λ (event : Laid). slice_get event.pdus (number % info.bn)) (cond b (Some entry.event) (event_at earlier (number / info.bn)))) (ne_eqb (length earlier)
-      (number / info.bn) apart)
-      ∙ each_sent info earlier units number some are.0 (omega (arith, below, apart))
+      (number / info.bn) apart) ∙ each_sent info earlier units number some are.0 (omega (arith, below, apart))
 ]
 
 -- ---- numbers that begin further on
@@ -56,15 +54,13 @@ carried_on : (base from : ℕ) (offset : Option ℕ) (segments : List (List ℕ)
 carried_on base from offset [] whole number = refl
 carried_on base from offset (octets ∷ segments) whole number =
     let next : base + from + 1 ≡ base + (from + 1) = omega arith in
-    rw (same_test base from number)
-    (ap (λ rest. cond (eqb from number) (part_with offset (whole && is_last segments) octets ∷ []) rest)
+    rw (same_test base from number) (ap (λ rest. cond (eqb from number) (part_with offset (whole && is_last segments) octets ∷ []) rest)
     (ap (λ f. carried f None segments whole (base + number)) next ∙ carried_on base (from + 1) None segments whole number))
 
 pub parts_on : (base : ℕ) (units : List Sent) (number : ℕ) → parts_at (map (moved_on base) units) (base + number) ≡ parts_at units number
 parts_on base [] number = refl
 parts_on base (unit ∷ units) number =
-    ap (λ parts. parts ++ parts_at (map (moved_on base) units) (base + number)) (carried_on base unit.first (Some unit.offset) unit.segments unit.whole number)
-    ∙ ap (λ parts. carried unit.first (Some unit.offset) unit.segments unit.whole number ++ parts) (parts_on base units number)
+    cc (carried_on base unit.first (Some unit.offset) unit.segments unit.whole number, parts_on base units number)
 
 no_more : (base : ℕ) (units : List Sent) → units ≡ [] → map (moved_on base) units ≡ []
 no_more base units none = ap (map (moved_on base)) none

@@ -49,8 +49,7 @@ close_hands : (stay : Stay) (over : Bool) (calls : List stays.Call) → handed s
 close_hands stay over calls = grind (arith, append-nil)
 
 pub tick_hands : Below → (event : ℕ) (calls : List Call) (tuning : Joining) (bis : ℕ) → tuning.info.framing ≡ 0 → place calls ≡ Some tuning → Contains (streams_of tuning.which) bis
-    → of_stream bis (handed_at calls event)
-    ≡ cond (leb (opened (stay_on tuning bis) (stream_calls (stay_on tuning bis) calls)) event)
+    → of_stream bis (handed_at calls event) ≡ cond (leb (opened (stay_on tuning bis) (stream_calls (stay_on tuning bis) calls)) event)
     (units_of (stay_on tuning bis) (stream_calls (stay_on tuning bis) calls) (opened (stay_on tuning bis) (stream_calls (stay_on tuning bis) calls))) []
 tick_hands below event calls tuning bis plain is taken =
     let stay = stay_on tuning bis in

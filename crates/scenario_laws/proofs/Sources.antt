@@ -126,50 +126,10 @@ pub record Settled (own : List Step) : Type 0 where
 widths_in : (framing origin delay iso sdu max_sdu max_pdu num_bis bn nse irc pto sub spacing phy : ℕ)
     → GroupRanges framing origin delay iso sdu max_sdu max_pdu num_bis bn nse irc pto sub spacing phy
     → FitsWidths (info_with framing iso sdu max_sdu max_pdu num_bis bn nse irc pto sub spacing phy)
-widths_in framing origin delay iso sdu max_sdu max_pdu num_bis bn nse irc pto sub spacing phy ranged = record {
-  big_offset = omega arith;
-  big_offset_units = omega arith;
-  iso_interval = ranged.iso_is;
-  num_bis = ranged.num_bis_is;
-  nse = ranged.nse_is;
-  bn = ranged.bn_is;
-  sub_interval = ranged.sub_is;
-  pto = ranged.pto_is;
-  bis_spacing = ranged.spacing_is;
-  irc = ranged.irc_is;
-  max_pdu = ranged.max_pdu_is;
-  seed_access_address = omega arith;
-  sdu_interval = ranged.sdu_is;
-  max_sdu = ranged.max_sdu_is;
-  base_crc_init = omega arith;
-  chm = omega arith;
-  phy = ranged.phy_is;
-  bis_payload_count = omega arith;
-  framing = omega (arith, ranged.framing_is);
-}
+widths_in framing origin delay iso sdu max_sdu max_pdu num_bis bn nse irc pto sub spacing phy ranged = search arith
 
 no_widths : FitsWidths no_group.info
-no_widths = record {
-  big_offset = omega arith;
-  big_offset_units = omega arith;
-  iso_interval = omega arith;
-  num_bis = omega arith;
-  nse = omega arith;
-  bn = omega arith;
-  sub_interval = omega arith;
-  pto = omega arith;
-  bis_spacing = omega arith;
-  irc = omega arith;
-  max_pdu = omega arith;
-  seed_access_address = omega arith;
-  sdu_interval = omega arith;
-  max_sdu = omega arith;
-  base_crc_init = omega arith;
-  chm = omega arith;
-  phy = omega arith;
-  bis_payload_count = omega arith;
-  framing = omega arith;
-}
+no_widths = search arith
 
 begins : (own : List Step) → (is_started own ≡ true → is_unbegun_at (stage_of own) ≡ false) → not (is_unbegun_at (stage_of own)) ≡ false → is_started own ≡ false
 begins own before is = elim (cases_Bool (is_started own)) [
@@ -229,8 +189,6 @@ settled_after airs own steps.Event before allows = record {
   under_way = λ started. allows.in_place;
   unbegun = before.unbegun;
 }
-settled_after airs own (steps.Scenario version) before allows = assumption
-settled_after airs own steps.End before allows = assumption
 settled_after airs own _ before allows = assumption
 
 pub settled : (airs : Airs) (own : List Step) → Lawful airs own → Settled own

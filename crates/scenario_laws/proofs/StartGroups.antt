@@ -20,9 +20,7 @@ not_found holds fault rest none = grind (arith, none-some)
 
 none_found : (test : GroupFault → Bool) (all : List GroupFault) → find test all ≡ None → AllByRecursion (λ fault. test fault ≡ false) all
 none_found test [] none = tt
-none_found test (fault ∷ all) none =
-    let here = not_found (test fault) fault (find test all) none in
-    (here.0, none_found test all here.1)
+none_found test (fault ∷ all) none = let here = not_found (test fault) fault (find test all) none in (here.0, none_found test all here.1)
 
 each_of : (test : GroupFault → Bool) → AllByRecursion (λ fault. test fault ≡ false) faults → (fault : GroupFault) → test fault ≡ false
 each_of test all of_group.RangeIso = all.0

@@ -51,8 +51,7 @@ made_alike n before before' step = cc
 
 any_alike : (n : ℕ) (before before' later : List Step) → list_any (is_made n before) later ≡ list_any (is_made n before') later
 any_alike n before before' [] = refl
-any_alike n before before' (step ∷ later) =
-    ap (λ b. b || list_any (is_made n before) later) (made_alike n before before' step) ∙ ap (λ b. is_made n before' step || b) (any_alike n before before' later)
+any_alike n before before' (step ∷ later) = cc (made_alike n before before' step, any_alike n before before' later)
 
 neither : (a b : Bool) → a ≡ false → b ≡ false → (a || (b || false)) ≡ false
 neither a b first second = grind (arith, true_not_false)
@@ -212,9 +211,11 @@ starts_in_order below airs boxes s n bis made legal is_framed source_within sink
       legal = λ part fine. fine.legal_is;
       ungiven = λ part fine. fine.ungiven;
       before = λ step earlier still fine.
-          (assumption (within_before airs boxes s (setup_in made s) (calls_in made s) earlier step fine.legal_is fine.within,
-          rest_not (is_made n earlier step) (is_given n step) (given_since_made n earlier) fine.ungiven still,
-          went_on n made step earlier still fine.goes));
+          (assumption (
+            within_before airs boxes s (setup_in made s) (calls_in made s) earlier step fine.legal_is fine.within,
+            rest_not (is_made n earlier step) (is_given n step) (given_since_made n earlier) fine.ungiven still,
+            went_on n made step earlier still fine.goes,
+          ));
       source_within = source_within;
       sink_within = sink_within;
     } in

@@ -118,23 +118,12 @@ record StartsAt (stay : Stay) (calls : List stays.Call) (number segment offset t
 
 at_start : (stay : Stay) (calls : List stays.Call) (number segment offset time : ℕ) (entry : Handed) → StartsAt stay calls number segment offset time → bis_of entry ≡ stay.bis
     → time_in entry ≡ time → AtStart stay calls (record { number = number; segment = segment }) entry
-at_start stay calls number segment offset time entry starts stream same = record {
-  stream = stream;
-  parts = starts.parts;
-  heard = starts.heard;
-  offset = offset;
-  complete = starts.complete;
-  octets = starts.octets;
-  is_start = starts.is_start;
-  time_is = same ∙ starts.time_is;
-}
+at_start stay calls number segment offset time entry starts stream same = search arith
 
 by_fate : (stay : Stay) (calls : List stays.Call) (number segment offset time : ℕ) (fate : Fate) (entries : List Handed) → StartsAt stay calls number segment offset time
     → InPdu stay calls number (segment + 1) entries → InPdu stay calls number segment (handed_of stay.bis time fate ++ entries)
-by_fate stay calls number segment offset time (whole octets) entries starts rest =
-    one_in stay calls number segment _ entries (at_start stay calls number segment offset time _ starts refl refl) rest
-by_fate stay calls number segment offset time broken entries starts rest =
-    one_in stay calls number segment _ entries (at_start stay calls number segment offset time _ starts refl refl) rest
+by_fate stay calls number segment offset time (whole octets) entries starts rest = search (one_in, at_start)
+by_fate stay calls number segment offset time broken entries starts rest = search (one_in, at_start)
 by_fate stay calls number segment offset time (undecided octets) entries starts rest = none_in stay calls number segment entries rest
 
 -- what these segments of a PDU, from one on, give in front of other tokens
@@ -168,8 +157,7 @@ pdu_gives stay calls max_sdu event number all heard of_event segment (further co
 number_gives : (stay : Stay) (calls : List stays.Call) (max_sdu event number : ℕ) (heard : Option (List Part)) → heard_in stay calls number ≡ heard → event ≡ number / stay.info.bn
     → (rest : List Token) → PduGives stay calls max_sdu number 0 (tokens_of stay event heard) rest
 number_gives stay calls max_sdu event number None is of_event rest = ([], refl, record { places = []; order = tt; each = tt })
-number_gives stay calls max_sdu event number (Some parts) is of_event rest =
-    pdu_gives stay calls max_sdu event number parts is of_event 0 parts (λ i. ap (slice_get parts) (zero-add i)) rest
+number_gives stay calls max_sdu event number (Some parts) is of_event rest = search (pdu_gives, zero-add)
 
 -- ---- the entries of events
 

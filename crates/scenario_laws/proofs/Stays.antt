@@ -136,10 +136,7 @@ pub record OnSource (own : List Step) (tuning : Joining) : Type 0 where
 
 tuned_to : (airs : Airs) (boxes s : ℕ) (earlier : List Step) (tuning : Joining) (which : ℕ) → is_started (chosen_steps earlier) ≡ true → joining_on (chosen_steps earlier) which ≡ tuning
     → has_beyond (setup_of (chosen_steps earlier)).info.num_bis which ≡ false → chosen_of earlier ≡ s → OnSource (steps_of_source s earlier) tuning
-tuned_to airs boxes s earlier tuning which started same within chosen =
-    subst (λ t. OnSource (steps_of_source t earlier) tuning) chosen (
-        assumption (subst (TunedTo (setup_of (chosen_steps earlier))) same (record { info = refl; first = omega arith; anchor = refl; delay = refl }),
-        subst (λ (t : Joining). has_beyond (setup_of (chosen_steps earlier)).info.num_bis t.which ≡ false) same within))
+tuned_to airs boxes s earlier tuning which started same within chosen = search arith
 
 pub begins_to : Announcing → (airs : Airs) (boxes s n : ℕ) (step : Step) (earlier : List Step) (tuning : Joining) → Legal airs boxes earlier → Permitted airs boxes earlier step
     → BeginsBy airs s n step earlier tuning → OnSource (steps_of_source s earlier) tuning
@@ -163,8 +160,10 @@ still_to : (airs : Airs) (boxes s : ℕ) (step : Step) (earlier : List Step) (tu
     → OnSource (steps_of_source s (step ∷ earlier)) tuning
 still_to airs boxes s step earlier tuning legal on =
     let more = goes airs boxes s earlier step legal on.started in
-    assumption (subst (λ (setup : Setup). TunedTo setup tuning) (sym more.setup_is) on.tuned,
-        subst (λ (setup : Setup). has_beyond setup.info.num_bis tuning.which ≡ false) (sym more.setup_is) on.streams)
+    assumption (
+      subst (λ (setup : Setup). TunedTo setup tuning) (sym more.setup_is) on.tuned,
+      subst (λ (setup : Setup). has_beyond setup.info.num_bis tuning.which ≡ false) (sym more.setup_is) on.streams,
+    )
 
 -- a sink on a group is on that of its source, which was started
 pub on_source : Announcing → (airs : Airs) (boxes s n : ℕ) (made : List Step) (tuning : Joining) → Legal airs boxes made → IsOn airs s n made tuning → OnSource (steps_of_source s made) tuning
@@ -180,10 +179,7 @@ stays_first : (airs : Airs) (boxes s n : ℕ) (step : Step) (earlier : List Step
     → tuning.first ≡ next_of (setup_of (steps_of_source s earlier)) (source_calls (steps_of_source s before)) → cond begins earlier (steps_before (is_tuned n) earlier) ≡ before
     → tuning.first ≡ next_of (setup_of (steps_of_source s (step ∷ earlier))) (source_calls (steps_of_source s (steps_before (is_tuned n) (step ∷ earlier))))
 stays_first airs boxes s n step earlier tuning legal started begins is before first same =
-    first
-    ∙ ap (λ (setup : Setup). next_of setup (source_calls (steps_of_source s before))) (sym (goes airs boxes s earlier step legal started).setup_is)
-    ∙ ap (λ part. next_of (setup_of (steps_of_source s (step ∷ earlier))) (source_calls (steps_of_source s part)))
-    (sym same ∙ ap (λ b. cond b earlier (steps_before (is_tuned n) earlier)) (sym is))
+    cc (first, (goes airs boxes s earlier step legal started).setup_is, same, is)
 
 pub first_next : Announcing → (airs : Airs) (boxes s n : ℕ) (made : List Step) (tuning : Joining) → Legal airs boxes made → IsOn airs s n made tuning
     → tuning.first ≡ next_of (setup_of (steps_of_source s made)) (source_calls (steps_of_source s (steps_before (is_tuned n) made)))
@@ -193,7 +189,7 @@ first_next laws airs boxes s n (step ∷ earlier) tuning legal is =
     (record { place_is = is.place_is; source_is = is.source_is })) [
       | inl was ↦
           let before : IsOn airs s n earlier tuning =
-              assumption (rest_not (is_tuned n earlier step) (is_given n step) (any_since (is_tuned n) (is_given n) earlier) is.ungiven was.begins_not) in
+          assumption (rest_not (is_tuned n earlier step) (is_given n step) (any_since (is_tuned n) (is_given n) earlier) is.ungiven was.begins_not) in
           stays_first airs boxes s n step earlier tuning legal (on_source laws airs boxes s n earlier tuning legal.0 before).started false was.begins_not (steps_before (is_tuned n) earlier)
           (first_next laws airs boxes s n earlier tuning legal.0 before) refl
       | inr begins ↦

@@ -1,5 +1,5 @@
 -- Step by step, the stays of a sink with a source, one after the other.
-use Rattle.std.proofs.Common.{ℕ, ◌≡◌, cond, Bool, true, false, List, [], ◌∷◌, ◌++◌, Option, None, Some, refl, sym, ap, subst, inl, inr, arith}
+use Rattle.std.proofs.Common.{ℕ, ◌≡◌, cond, Bool, true, false, List, [], ◌∷◌, ◌++◌, Option, None, Some, refl, sym, ap, subst, inl, inr}
 use Rattle.std.proofs.lemmas.Bool.{cases_Bool, false≢true}
 use Rattle.std.proofs.lemmas.Option.{none-some}
 use Rattle.unit_outlets.specs.Handed.{Handed}
@@ -51,11 +51,13 @@ turn Q Fine airs boxes s n bis turns (step ∷ earlier) fine = elim (cases_Bool 
       (closed_from (is_made n) airs s n earlier ++ closed_by airs s n earlier step) (closed_from (is_tuned n) airs s n (step ∷ earlier))
       (handed_since (is_made n) airs earlier ++ handed_by airs earlier step) (handed_since (is_tuned n) airs (step ∷ earlier))
   | inr still ↦
-      turn_after Q Fine airs boxes s n bis step earlier (assumption (turns.before step earlier still fine,
-          turns.legal (step ∷ earlier) fine,
-          last_not (is_made n earlier step) (is_given n step) (given_since_made n earlier) (turns.ungiven (step ∷ earlier) fine),
-          turn Q Fine airs boxes s n bis turns earlier (turns.before step earlier still fine),
-          next_rises airs boxes s earlier step (turns.legal (step ∷ earlier) fine)))
+      turn_after Q Fine airs boxes s n bis step earlier (assumption (
+        turns.before step earlier still fine,
+        turns.legal (step ∷ earlier) fine,
+        last_not (is_made n earlier step) (is_given n step) (given_since_made n earlier) (turns.ungiven (step ∷ earlier) fine),
+        turn Q Fine airs boxes s n bis turns earlier (turns.before step earlier still fine),
+        next_rises airs boxes s earlier step (turns.legal (step ∷ earlier) fine),
+      ))
 ]
 
 -- the claim holds of all events and entries

@@ -1,5 +1,5 @@
 -- Two airs that meet the relation of their framing: no source, no refusal, no sink and no close tells them apart.
-use Rattle.std.proofs.Common.{ℕ, zero, suc, ◌≡◌, Bool, true, false, List, [], ◌∷◌, ◌++◌, Option, None, refl, sym, ◌∙◌, ap, arith}
+use Rattle.std.proofs.Common.{ℕ, zero, suc, ◌≡◌, Bool, true, false, List, [], ◌∷◌, Option, None, refl, sym, ◌∙◌, ap, arith}
 use Rattle.std.specs.Prelude.{unwrap_or}
 use Rattle.std.specs.Option.{option_or}
 use Rattle.std.proofs.lemmas.Bool.{or_parts}
@@ -95,9 +95,7 @@ step_same airs others both boxes n step earlier calls twice none = grind (arith,
 pub sink_same : (airs others : Airs) → Both airs others → (boxes n : ℕ) (made : List Step) → Legal airs boxes made → sink_calls airs n made ≡ sink_calls others n made
 sink_same airs others both boxes n [] legal = refl
 sink_same airs others both boxes n (step ∷ earlier) legal =
-    ap (with_sink_call airs n step earlier) (sink_same airs others both boxes n earlier legal.0)
-    ∙ step_same airs others both boxes n step earlier (sink_calls others n earlier)
-    (record { here = legal.0; there = legal_too airs others both boxes earlier legal.0 }) legal.1
+    search (step_same, legal_too, sink_same airs others both boxes n earlier legal.0)
 
 -- ---- what is handed up
 
@@ -110,8 +108,7 @@ closing_same airs others both boxes s made legal = closing_at_same airs others b
 
 pub closing_both_same : (airs others : Airs) → Both airs others → (boxes : ℕ) (made : List Step) → Legal airs boxes made → closing_both airs made ≡ closing_both others made
 closing_both_same airs others both boxes made legal =
-    ap (λ us. us ++ closing airs 1 made) (closing_same airs others both boxes 0 made legal)
-    ∙ ap (λ us. closing others 0 made ++ us) (closing_same airs others both boxes 1 made legal)
+    cc (closing_same airs others both boxes 0 made legal, closing_same airs others both boxes 1 made legal)
 
 pub handed_same : (airs others : Airs) → Both airs others → (boxes : ℕ) (made : List Step) (step : Step) → Legal airs boxes made → handed_by airs made step ≡ handed_by others made step
 handed_same airs others both boxes made step legal = grind (arith, closing_same, closing_both_same)
@@ -119,5 +116,4 @@ handed_same airs others both boxes made step legal = grind (arith, closing_same,
 pub handed_up_same : (airs others : Airs) → Both airs others → (boxes : ℕ) (made : List Step) → Legal airs boxes made → handed_up airs made ≡ handed_up others made
 handed_up_same airs others both boxes [] legal = refl
 handed_up_same airs others both boxes (step ∷ earlier) legal =
-    ap (λ us. us ++ handed_by airs earlier step) (handed_up_same airs others both boxes earlier legal.0)
-    ∙ ap (λ us. handed_up others earlier ++ us) (handed_same airs others both boxes earlier step legal.0)
+    cc (handed_up_same airs others both boxes earlier legal.0, handed_same airs others both boxes earlier step legal.0)

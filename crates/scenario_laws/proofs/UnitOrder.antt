@@ -134,9 +134,7 @@ entry_octets bis time octets all whole entry of_unit is bis' time' octets' same 
 ]
 
 pub one_entry : (setup : Setup) (whole : List SourceCall) (tuning : Joining) (bis : ℕ) (air : Air) (n : ℕ) (sent : Sent) (entry : Handed) (calls : List stays.Call) → 1 ≤ setup.info.bn
-    → TunedTo setup tuning
-    → opened (stay_on tuning bis) calls ≤ next_of setup whole
-    → IsInAir setup whole bis air n sent
+    → TunedTo setup tuning → opened (stay_on tuning bis) calls ≤ next_of setup whole → IsInAir setup whole bis air n sent
     → IsEntry (stay_on tuning bis) (is_heard (stay_on tuning bis) calls) (closed_end (stay_on tuning bis) calls) sent entry
     → IsOfUnit setup whole bis air n entry
 one_entry setup whole tuning bis air n sent entry calls some on opens numbered is_entry =
@@ -177,8 +175,7 @@ one_entry setup whole tuning bis air n sent entry calls some on opens numbered i
       before = is_of.timed.before;
       ready = omega (arith, is_of.timed.ready, anchor_is);
       stream = parts.0;
-      time_is = parts.1
-          ∙ ap (λ e. time_of (stay_on tuning bis) e one.offset) at
+      time_is = parts.1 ∙ ap (λ e. time_of (stay_on tuning bis) e one.offset) at
           ∙ start_time_is setup tuning bis event one.offset on first_event
           ∙ ap (λ o. time_of (whole_stay setup bis) event o) (is_of.timed.offset ∙ ap (λ a. a - unit.time) anchor_is);
       valid_is = entry_octets bis (time_of (stay_on tuning bis) ((setup.first * setup.info.bn + one.first) / tuning.info.bn) one.offset) (octets_in one.segments) unit.octets (one.whole ≡ true) entry

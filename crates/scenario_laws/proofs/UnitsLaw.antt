@@ -1,5 +1,5 @@
 -- The units law of a stay.
-use Rattle.std.proofs.Common.{ℕ, zero, suc, ◌≡◌, ◌≤◌, ◌+◌, ◌-◌, ◌==◌, cond, ltb, eqb, Bool, true, false, List, [], ◌∷◌, ◌++◌, length, Option, Some, refl, sym, ◌∙◌, ap, subst, inl, inr, arith}
+use Rattle.std.proofs.Common.{ℕ, zero, suc, ◌≡◌, ◌≤◌, ◌+◌, ◌-◌, ◌==◌, cond, ltb, Bool, true, false, List, [], ◌∷◌, ◌++◌, length, Option, Some, refl, sym, ◌∙◌, ap, subst, inl, inr, arith}
 use Rattle.std.specs.Prelude.{slice_get}
 use Rattle.std.specs.List.{AllByRecursion, Contains}
 use Rattle.std.proofs.lemmas.Bool.{eq-eqb, eqb-true, ltb-false}
@@ -10,11 +10,11 @@ use Rattle.big_info.specs.Bounds.{Bounds}
 use Rattle.unit_outlets.specs.Account.{Account}
 use Rattle.unit_outlets.specs.Handed.{Handed}
 use Rattle.isoal_unframed.specs.Air.{before_event}
-use Rattle.isoal_unframed.specs.Calls.{Call as StreamCall, accept, lay, lays, accepted, begun, events as laid_events}
+use Rattle.isoal_unframed.specs.Calls.{Call as StreamCall, accept, lay, lays, accepted, begun}
 use Rattle.isoal_unframed.specs.Histories.{handed}
 use Rattle.isoal_unframed.specs.Struck.{Struck, air_at}
 use Rattle.source_machine.specs.Airs.{slots_of, Airs}
-use Rattle.source_machine.specs.Calls.{Call as SourceCall, laid_with, stream_calls as source_stream}
+use Rattle.source_machine.specs.Calls.{Call as SourceCall, stream_calls as source_stream}
 use Rattle.source_machine.specs.Faults.{give_fault}
 use Rattle.group_sink.specs.Calls.{Call, tune, hear, place}
 use Rattle.sync_reference.specs.Joining.{Joining}
@@ -25,9 +25,9 @@ use Rattle.scenario_text.specs.declared.step.Step.{Step}
 use Rattle.scenario_text.specs.declared.step.Step.TheVariants as steps
 use Rattle.scenario_text.specs.Ranges.{IsInRange}
 use Rattle.scenario_history.specs.Steps.{chosen_of, chosen_steps, steps_of_source}
-use Rattle.scenario_history.specs.Source.{event_back, open_event, setup_of, source_calls}
+use Rattle.scenario_history.specs.Source.{open_event, setup_of, source_calls}
 use Rattle.scenario_history.specs.Airs.{MeetAirs}
-use Rattle.scenario_history.specs.Sinks.{heard_on_air, is_lost, is_of, reaches, sink_calls, source_of, spot_at, spots_of, ticked, ticked_if, unless_lost}
+use Rattle.scenario_history.specs.Sinks.{heard_on_air, is_of, reaches, sink_calls, source_of, spots_of, ticked, ticked_if, unless_lost}
 use Rattle.scenario_history.specs.Worlds.{joining_on}
 use Rattle.scenario_history.specs.Boxes.{SinkUnit, handed_by}
 use Rattle.scenario_history.specs.Refusals.{give_refusal}
@@ -67,8 +67,7 @@ short_lays most (suc count) calls all = short_lays most count calls all
 short_before : (most : ℕ) (calls : List StreamCall) (event : ℕ) → Short most calls → Short most (before_event calls event)
 short_before most [] event all = tt
 short_before most (accept octets ∷ earlier) event all = short_before most earlier event all.1
-short_before most (lay ∷ earlier) event all =
-    short_if most (eqb (laid_events earlier) event) earlier (before_event earlier event) all (short_before most earlier event all)
+short_before most (lay ∷ earlier) event all = search (short_if, short_before most earlier event all)
 
 short_units : (most : ℕ) (calls : List StreamCall) → Short most calls → AllByRecursion (λ unit. length unit ≤ most) (accepted calls)
 short_units most [] all = tt
@@ -92,13 +91,11 @@ short_after airs bis own (steps.Group framing origin delay iso sdu max_sdu max_p
     (is.quiet (no_group_yet own allows.in_phase))
 short_after airs bis own (steps.Unit stream time octets) is allows before =
     let fault = maps_none give_refusal (give_fault (setup_of own) (source_calls own) (airs (setup_of own) (source_calls own)) stream time octets) allows.by_source in
-    let fits : length octets ≤ (setup_of own).info.max_sdu =
-    ltb-false (setup_of own).info.max_sdu (length octets)
+    let fits : length octets ≤ (setup_of own).info.max_sdu = ltb-false (setup_of own).info.max_sdu (length octets)
     (second_false (ltb (setup_of own).info.num_bis stream) (ltb (setup_of own).info.max_sdu (length octets)) _ _ _ fault) in
     short_if (setup_of own).info.max_sdu (stream == bis) (accept octets ∷ source_stream (setup_of own).info bis (source_calls own))
     (source_stream (setup_of own).info bis (source_calls own)) (fits, before) before
-short_after airs bis own steps.Event is allows before =
-    short_lays (setup_of own).info.max_sdu (laid_with (setup_of own).info (source_calls own)) (source_stream (setup_of own).info bis (source_calls own)) before
+short_after airs bis own steps.Event is allows before = search (short_lays)
 short_after airs bis own _ is allows before = before
 
 short_of : (airs : Airs) (bis : ℕ) (own : List Step) → Lawful airs own → ShortIn bis own
@@ -141,9 +138,7 @@ lost_since false event bis subevent octets calls = refl
 
 air_since : (airs : Airs) (own : List Step) (lose count : ℕ) (calls : List Call) → ticked_since (heard_on_air airs own lose count calls) ≡ ticked_since calls
 air_since airs own lose zero calls = refl
-air_since airs own lose (suc i) calls =
-    lost_since (is_lost (setup_of own).info (event_back own 0) lose (spot_at (setup_of own).info i)) _ _ _ _ (heard_on_air airs own lose i calls)
-    ∙ air_since airs own lose i calls
+air_since airs own lose (suc i) calls = search (lost_since, air_since airs own lose i calls)
 
 more_since : (mine : Bool) (more calls : List Call) → ticked_since more ≡ ticked_since calls → ticked_since (cond mine more calls) ≡ ticked_since calls ++ []
 more_since mine more calls same = grind (arith, append-nil)
@@ -200,12 +195,14 @@ stays_since airs boxes s n step earlier tuning stays none is since =
       | inl same ↦ same
       | inr gone ↦ absurd (none-some tuning (sym (ap place gone) ∙ is.place_is))
     ] in
-    let before : IsOn airs s n earlier tuning = assumption (ap place (sym same) ∙ is.place_is, sym stays.same ∙ is.source_is,
-        rest_not (is_tuned n earlier step) (is_given n step) (any_since (is_tuned n) (is_given n) earlier) is.ungiven stays.begins_not) in
+    let before : IsOn airs s n earlier tuning = assumption (
+      ap place (sym same) ∙ is.place_is,
+      sym stays.same ∙ is.source_is,
+      rest_not (is_tuned n earlier step) (is_given n step) (any_since (is_tuned n) (is_given n) earlier) is.ungiven stays.begins_not,
+    ) in
     ap (λ b. of_sink s n (cond b [] (handed_since (is_tuned n) airs earlier ++ handed_by airs earlier step))) stays.begins_not
     ∙ ap (λ us. of_sink s n (handed_since (is_tuned n) airs earlier ++ us)) none
-    ∙ ap (of_sink s n) (append-nil (handed_since (is_tuned n) airs earlier))
-    ∙ since before ∙ ap ticked_since (sym same)
+    ∙ ap (of_sink s n) (append-nil (handed_since (is_tuned n) airs earlier)) ∙ since before ∙ ap ticked_since (sym same)
 
 since_after : (airs : Airs) (boxes s n : ℕ) (step : Step) (earlier : List Step) (tuning : Joining) → Legal airs boxes earlier → s ≤ 1 → n ≤ 7 → IsOn airs s n (step ∷ earlier) tuning
     → (IsOn airs s n earlier tuning → Since airs s n earlier) → Since airs s n (step ∷ earlier)
@@ -245,13 +242,11 @@ since_after airs boxes s n (steps.Announce sink) earlier tuning legal least with
   | inr goes ↦ elim goes [
     | inl follows ↦ absurd (none-some tuning (sym (ap place follows.same ∙ follows.nowhere) ∙ is.place_is))
     | inr put ↦
-        ap (λ b. of_sink s n (cond b [] (handed_since (is_tuned n) airs earlier ++ []))) put.begins_is
-        ∙ sym (ap ticked_since put.calls_is)
+        ap (λ b. of_sink s n (cond b [] (handed_since (is_tuned n) airs earlier ++ []))) put.begins_is ∙ sym (ap ticked_since put.calls_is)
   ]
 ]
 since_after airs boxes s n (steps.Train sink time ext adv acad) earlier tuning legal least within is since =
-    stays_since airs boxes s n (steps.Train sink time ext adv acad) earlier tuning
-    (given_stays airs n sink time ext adv acad earlier
+    stays_since airs boxes s n (steps.Train sink time ext adv acad) earlier tuning (given_stays airs n sink time ext adv acad earlier
     (last_not (is_tuned n earlier (steps.Train sink time ext adv acad)) (sink == n) (any_since (is_tuned n) (is_given n) earlier) is.ungiven)) refl is since
 since_after airs boxes s n step earlier tuning legal least within is since =
     stays_since airs boxes s n step earlier tuning (plain_stays airs n step earlier refl refl refl refl) refl is since
@@ -271,8 +266,10 @@ begins_numbers : (airs : Airs) (boxes s n : ℕ) (step : Step) (earlier : List S
 begins_numbers airs boxes s n (steps.Tuned sink which) earlier tuning legal ranged begins =
     record { source_within = subst (λ t. t ≤ 1) begins.chosen_is (chosen_within airs boxes earlier legal); sink_within = subst (λ m. m ≤ 7) (eqb-true sink n begins.puts.by.1) ranged }
 begins_numbers airs boxes s n (steps.Announce sink) earlier tuning legal ranged begins =
-    assumption (subst (λ t. t ≤ 1) begins.chosen_is (chosen_within airs boxes earlier legal),
-    subst (λ m. m ≤ 7) (eqb-true sink n begins.puts.by.0.brings.0) ranged)
+    assumption (
+      subst (λ t. t ≤ 1) begins.chosen_is (chosen_within airs boxes earlier legal),
+      subst (λ m. m ≤ 7) (eqb-true sink n begins.puts.by.0.brings.0) ranged,
+    )
 begins_numbers airs boxes s n _ earlier tuning legal ranged begins = absurd begins.puts.by
 
 pub numbers : (airs : Airs) (boxes s n : ℕ) (made : List Step) (tuning : Joining) → Legal airs boxes made → IsOn airs s n made tuning → Numbers s n

@@ -67,21 +67,21 @@ by_line airs boxes earlier step none mine =
     (permitted airs boxes earlier step none).in_phase
 
 in_phase : (airs : Airs) (boxes : ℕ) (earlier : List Step) (step : Step) → refusal_of airs boxes earlier step ≡ None
-    → is_of_source 1 earlier step ≡ true
-    → is_out_of_phase (steps_of_source 1 earlier) step ≡ false
+    → is_of_source 1 earlier step ≡ true → is_out_of_phase (steps_of_source 1 earlier) step ≡ false
 in_phase airs boxes earlier step none mine = grind (arith, false≢true, by_line)
 
 settled_now : (airs : Airs) (boxes : ℕ) (earlier : List Step) (sink bis to : ℕ)
-    → refusal_of airs boxes earlier (steps.Relay sink bis to) ≡ None
-    → Settled (steps_of_source 1 earlier) to
+    → refusal_of airs boxes earlier (steps.Relay sink bis to) ≡ None → Settled (steps_of_source 1 earlier) to
 settled_now airs boxes earlier sink bis to none =
     let own = steps_of_source 1 earlier in
     let free = is_free airs boxes earlier sink bis to none in
     let may = and_parts (takes_units (steps_of_source 0 earlier)) (takes_units own && ((setup_of own).info.framing == 1)) free.may in
     let second = and_parts (takes_units own) ((setup_of own).info.framing == 1) may.1 in
     let sends = and_parts (is_sending own) (not (is_ciphered own)) second.0 in
-    assumption (sending_started (phase_of own) sends.0,
-        (or_parts (ltb (setup_of (steps_of_source 0 earlier)).info.num_bis bis) (ltb (setup_of own).info.num_bis to) free.streams).1)
+    assumption (
+      sending_started (phase_of own) sends.0,
+      (or_parts (ltb (setup_of (steps_of_source 0 earlier)).info.num_bis bis) (ltb (setup_of own).info.num_bis to) free.streams).1,
+    )
 
 -- the stream of a relay is one of source 1 from its `relay` line on
 pub settled : (airs : Airs) (boxes to : ℕ) (made : List Step) → AreLegal airs boxes made → had_relay to made ≡ true
@@ -97,8 +97,7 @@ settled airs boxes to (step ∷ earlier) legal had =
 
 -- ---- the reasons
 
-same_reason : (long above full : Bool)
-    → option_map give_refusal (cond long (Some give_faults.UnitTooLong)
+same_reason : (long above full : Bool) → option_map give_refusal (cond long (Some give_faults.UnitTooLong)
     (cond (not (above && true)) (Some give_faults.TimeOrder) (cond full (Some give_faults.Backlog) None)))
     ≡ option_map refusal_named (cond long (Some drops.UnitTooLong)
     (cond (not above) (Some drops.TimeOrder) (cond full (Some drops.Backlog) None)))
@@ -110,8 +109,7 @@ same_reason false true false = refl
 reason_by : (beyond long unframed above ahead early full : Bool) → beyond ≡ false → unframed ≡ false → ahead ≡ true
     → option_map give_refusal (cond beyond (Some give_faults.NoSuchBis) (cond long (Some give_faults.UnitTooLong)
     (cond (not (cond unframed false (above && (ahead || early)))) (Some give_faults.TimeOrder)
-    (cond full (Some give_faults.Backlog) None))))
-    ≡ option_map refusal_named (cond long (Some drops.UnitTooLong)
+    (cond full (Some give_faults.Backlog) None)))) ≡ option_map refusal_named (cond long (Some drops.UnitTooLong)
     (cond (not above) (Some drops.TimeOrder) (cond full (Some drops.Backlog) None)))
 reason_by beyond long unframed above ahead early full p q r = rw (p, q, r) (same_reason long above full)
 
@@ -127,8 +125,7 @@ one_named : (airs : Airs) (boxes : ℕ) (offer : Offer) (made : List Step) → A
 one_named airs boxes offer made legal second is = search (by_takes, settled, route_had, stage_same)
 
 offers_named : (airs : Airs) (boxes : ℕ) (offers : List Offer) (made : List Step) → AreLegal airs boxes made → Runs made
-    → version_of made ≡ 2
-    → All (Stands made) offers → AreDroppedByName airs offers made
+    → version_of made ≡ 2 → All (Stands made) offers → AreDroppedByName airs offers made
 offers_named airs boxes [] made legal runs second stand = tt
 offers_named airs boxes (offer ∷ offers) made legal runs second stand =
     let next = after_offer airs offer made in
@@ -141,13 +138,11 @@ offers_named airs boxes (offer ∷ offers) made legal runs second stand =
     )
 
 named_if : (closes : Bool) (airs : Airs) (boxes : ℕ) (made : List Step) → AreLegal airs boxes made → version_of made ≡ 2
-    → (closes ≡ true → Runs made)
-    → AreDroppedByName airs (cond closes (offers_at airs made) []) made
+    → (closes ≡ true → Runs made) → AreDroppedByName airs (cond closes (offers_at airs made) []) made
 named_if closes airs boxes made legal second runs = grind (arith, offers_named, offers_stand)
 
 pub dropped_law_holds : (boxes : ℕ) → DroppedLaw boxes
 dropped_law_holds boxes airs said step legal second =
     let made = happened airs said in
     named_if (closes_first made step) airs boxes made (happens_legally airs boxes said legal.0)
-    (ap version_at (stage_happened airs said) ∙ second)
-    (runs_at airs boxes made step (line_passes airs boxes made step legal.1))
+    (ap version_at (stage_happened airs said) ∙ second) (runs_at airs boxes made step (line_passes airs boxes made step legal.1))

@@ -1,6 +1,5 @@
 -- A line of version 1 is no `relay` line: no row of the table that version 1 knows makes one.
 use Rattle.std.proofs.Common.{ℕ, ◌≡◌, Bool, false, cond, nat_eq, List, [], ◌∷◌, Option, None, Some, Result, Ok, Err, refl, arith}
-use Rattle.std.specs.Prelude.{bytes_eq}
 use Rattle.bcast_io.specs.TextLines.{TextLine}
 use Rattle.bcast_base.specs.Tries.{◌>>=◌}
 use Rattle.scenario_words.specs.declared.fault.LineFault.{LineFault}
@@ -52,8 +51,7 @@ never_if hit row other here rest = grind (arith, built_never)
 
 in_rows_never : (first : List ℕ) (rows : List Row) (other : Option Row) → AllNever rows → KnownNever other → KnownNever (row_in first rows other)
 in_rows_never first [] other never rest = rest
-in_rows_never first (row ∷ rows) other never rest =
-    never_if (bytes_eq first row.first) row (row_in first rows other) never.0 (in_rows_never first rows other never.1 rest)
+in_rows_never first (row ∷ rows) other never rest = search (never_if, in_rows_never first rows other never.1 rest)
 
 -- version 1 knows none of the rows of version 2 alone
 not_second : (second : Bool) (here : Option Row) → second ≡ false → KnownNever (cond second here None)
@@ -81,8 +79,7 @@ rows_never version first is =
     (in_rows_never first (first_rows version) (source_row_of version first) (first_never version)
     (in_rows_never first source_rows (sink_row_of version first) sources_never
     (in_rows_never first sink_rows (link_row_of version first) sinks_never
-    (in_rows_never first link_rows (row_of_2 version first) links_never
-    (not_second (nat_eq version 2) _ is)))))
+    (in_rows_never first link_rows (row_of_2 version first) links_never (not_second (nat_eq version 2) _ is)))))
 
 whole_never : (made : Result (Step × Left) LineFault) → MadeNever made → StepNever (made >>= whole)
 whole_never (Err fault) never = tt

@@ -6,18 +6,16 @@ use Rattle.scenario_text.specs.declared.step.Step.TheVariants as steps
 use Rattle.scenario_history.specs.Boxes.{closing, handed_by, handed_up}
 use Rattle.scenario_history.specs.Gifts.{after_offers, happened, offers_at, with_gifts}
 use Rattle.source_machine.specs.Airs.{Airs}
-use Rattle.scenario_history.specs.Steps.{chosen_of, sinks_made, sinks_made_by, stage_after, stage_of}
+use Rattle.scenario_history.specs.Steps.{chosen_of, sinks_made, stage_of}
 use Rattle.scenario_laws.proofs.Gifts.Left.{left_by_gifts, left_by_offers}
 
 pub stage_happened : (airs : Airs) (said : List Step) → stage_of (happened airs said) ≡ stage_of said
 stage_happened airs [] = refl
-stage_happened airs (step ∷ earlier) =
-    ap (stage_after step) ((left_by_gifts airs (happened airs earlier) step).stage ∙ stage_happened airs earlier)
+stage_happened airs (step ∷ earlier) = cc ((left_by_gifts airs (happened airs earlier) step).stage, stage_happened airs earlier)
 
 pub sinks_happened : (airs : Airs) (said : List Step) → sinks_made (happened airs said) ≡ sinks_made said
 sinks_happened airs [] = refl
-sinks_happened airs (step ∷ earlier) =
-    ap (sinks_made_by step) ((left_by_gifts airs (happened airs earlier) step).sinks ∙ sinks_happened airs earlier)
+sinks_happened airs (step ∷ earlier) = cc ((left_by_gifts airs (happened airs earlier) step).sinks, sinks_happened airs earlier)
 
 -- ---- what is handed up
 

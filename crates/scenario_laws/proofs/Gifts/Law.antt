@@ -35,8 +35,7 @@ goes_on airs boxes to step earlier none had before =
     let now = answered_by airs made step in
     let unnamed = gives_none airs boxes to made step none (had_happened airs to earlier ∙ had) in
     step_takes to step (with_gifts airs made step) (gives_none_then airs to made step unnamed)
-    ∙ all_pass airs to (offers_before airs made step) made
-    ∙ ap (λ units. units ++ passed (offered_to to now)) before
+    ∙ all_pass airs to (offers_before airs made step) made ∙ ap (λ units. units ++ passed (offered_to to now)) before
     ∙ sym (passed_append to (all_answered airs earlier) now)
 
 -- this step makes its relay

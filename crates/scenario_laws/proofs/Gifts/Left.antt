@@ -1,11 +1,10 @@
 -- What gifts leave: a step that chooses a source and one that gives source 1 a unit change nothing else.
-use Rattle.std.proofs.Common.{◌∙◌, List, [], ◌∷◌, ◌++◌, Option, None, Some, refl, arith}
+use Rattle.std.proofs.Common.{◌∙◌, List, [], ◌∷◌, Option, None, Some}
 use Rattle.std.proofs.lemmas.List.{append-nil}
 use Rattle.scenario_text.specs.declared.step.Step.{Step}
 use Rattle.transcript_text.specs.declared.refusal.Refusal.{Refusal}
-use Rattle.scenario_history.specs.Boxes.{handed_up}
 use Rattle.source_machine.specs.Airs.{Airs}
-use Rattle.scenario_history.specs.Gifts.{Offer, after_offer, after_offers, dropped_for, offers_before, with_gift, with_gift_unless, with_gifts}
+use Rattle.scenario_history.specs.Gifts.{Offer, after_offer, after_offers, offers_before, with_gift, with_gift_unless, with_gifts}
 use Rattle.scenario_laws.specs.Gifts.Laws.{IsLeft}
 
 left_same : (airs : Airs) (steps : List Step) → IsLeft airs steps steps
@@ -32,8 +31,7 @@ left_then airs gifted between before later first = record {
 }
 
 left_by_gift : (airs : Airs) (offer : Offer) (steps : List Step) → IsLeft airs (with_gift offer steps) steps
-left_by_gift airs offer steps =
-    assumption (append-nil ((handed_up airs steps ++ []) ++ []) ∙ append-nil (handed_up airs steps ++ []) ∙ append-nil (handed_up airs steps))
+left_by_gift airs offer steps = search (append-nil)
 
 left_unless : (airs : Airs) (reason : Option Refusal) (offer : Offer) (steps : List Step)
     → IsLeft airs (with_gift_unless reason offer steps) steps
@@ -42,9 +40,7 @@ left_unless airs (Some reason) offer steps = left_same airs steps
 
 pub left_by_offers : (airs : Airs) (offers : List Offer) (steps : List Step) → IsLeft airs (after_offers airs offers steps) steps
 left_by_offers airs [] steps = left_same airs steps
-left_by_offers airs (offer ∷ offers) steps =
-    left_then airs (after_offers airs offers (after_offer airs offer steps)) (after_offer airs offer steps) steps
-    (left_by_offers airs offers (after_offer airs offer steps)) (left_unless airs (dropped_for airs offer steps) offer steps)
+left_by_offers airs (offer ∷ offers) steps = search (left_then, left_unless, left_by_offers airs offers (after_offer airs offer steps))
 
 pub left_by_gifts : (airs : Airs) (steps : List Step) (step : Step) → IsLeft airs (with_gifts airs steps step) steps
 left_by_gifts airs steps step = left_by_offers airs (offers_before airs steps step) steps

@@ -19,7 +19,7 @@ use Rattle.scenario_history.specs.Refusals.{give_refusal, is_misplaced, is_out_o
 use Rattle.sink_history.specs.Refusals.{refuse_if}
 use Rattle.scenario_history.specs.Refusals.{source_refusal}
 use Rattle.scenario_history.specs.Source.{setup_of, source_calls, takes_units}
-use Rattle.scenario_history.specs.Steps.{Stage, chosen_of, chosen_steps, is_of_source, is_over, is_over_at, is_unbegun, is_unbegun_at}
+use Rattle.scenario_history.specs.Steps.{Stage, chosen_of, chosen_steps, is_over, is_over_at, is_unbegun, is_unbegun_at}
 use Rattle.scenario_history.specs.Steps.{stage_of, steps_of_source, version_at}
 use Rattle.scenario_history.specs.Gifts.{Offer, after_offer, after_offers, closes_first, dropped_for, happened, offers_at, with_gift}
 use Rattle.scenario_history.specs.Gifts.{with_gift_unless, with_gifts}
@@ -63,8 +63,7 @@ bounded_if mine step own ranged before = grind (arith, bounded_by)
 -- a unit of source 1 has at most 4,095 octets
 bounded : (airs : Airs) (boxes : ℕ) (made : List Step) → AreLegal airs boxes made → most_of (steps_of_source 1 made) ≤ 4095
 bounded airs boxes [] legal = omega arith
-bounded airs boxes (step ∷ earlier) legal =
-    bounded_if (is_of_source 1 earlier step) step (steps_of_source 1 earlier) legal.2 (bounded airs boxes earlier legal.0)
+bounded airs boxes (step ∷ earlier) legal = search (bounded_if, bounded airs boxes earlier legal.0)
 
 chosen_below : (airs : Airs) (boxes : ℕ) (made : List Step) → AreLegal airs boxes made → chosen_of made ≤ 1
 chosen_below airs boxes [] legal = omega arith
@@ -100,8 +99,7 @@ short airs boxes offer made legal none =
     let fault = give_fault setup (source_calls own) (airs setup (source_calls own)) offer.route.to
     (Some offer.unit.time) offer.unit.octets in
     let parts = neither (refuse_if (not (takes_units own)) refusals.Order) (option_map give_refusal fault) none in
-    let within : length offer.unit.octets ≤ most_of own =
-    ltb-false (most_of own) (length offer.unit.octets)
+    let within : length offer.unit.octets ≤ most_of own = ltb-false (most_of own) (length offer.unit.octets)
     (second_false (ltb setup.info.num_bis offer.route.to)
     (ltb (most_of own) (length offer.unit.octets)) give_faults.NoSuchBis give_faults.UnitTooLong
     (cond (not (has_its_time setup (source_calls own) offer.route.to (Some offer.unit.time))) (Some give_faults.TimeOrder)
@@ -111,8 +109,7 @@ short airs boxes offer made legal none =
     omega (arith, within, most)
 
 gift_legal : (airs : Airs) (boxes : ℕ) (offer : Offer) (made : List Step) → AreLegal airs boxes made → Runs made
-    → dropped_for airs offer made ≡ None
-    → AreLegal airs boxes (with_gift offer made)
+    → dropped_for airs offer made ≡ None → AreLegal airs boxes (with_gift offer made)
 gift_legal airs boxes offer made legal runs none =
     let given : Step = steps.Unit offer.route.to (Some offer.unit.time) offer.unit.octets in
     let again : Runs (given ∷ steps.Source 1 ∷ made) = record { goes_on = runs.goes_on; begun = runs.begun } in
@@ -124,8 +121,7 @@ gift_legal airs boxes offer made legal runs none =
 -- ---- gifts
 
 pub unless_legal : (airs : Airs) (boxes : ℕ) (reason : Option Refusal) (offer : Offer) (made : List Step) → AreLegal airs boxes made
-    → Runs made
-    → dropped_for airs offer made ≡ reason → AreLegal airs boxes (with_gift_unless reason offer made)
+    → Runs made → dropped_for airs offer made ≡ reason → AreLegal airs boxes (with_gift_unless reason offer made)
 unless_legal airs boxes reason offer made legal runs is = grind (arith, gift_legal)
 
 all_legal : (airs : Airs) (boxes : ℕ) (offers : List Offer) (made : List Step) → AreLegal airs boxes made → Runs made
@@ -150,8 +146,7 @@ close_refusal airs step stage own =
     (option_or (source_refusal airs (version_at stage) own step) None))
 
 chosen_alike : (made others : List Step) → chosen_of others ≡ chosen_of made → steps_of_source 0 others ≡ steps_of_source 0 made
-    → chosen_of made ≡ 0
-    → chosen_steps others ≡ chosen_steps made
+    → chosen_of made ≡ 0 → chosen_steps others ≡ chosen_steps made
 chosen_alike made others chosen first is = cc (chosen, is, first, is)
 
 close_if : (closes : Bool) (airs : Airs) (step : Step) (made : List Step) → (closes ≡ true → chosen_of made ≡ 0)

@@ -18,7 +18,7 @@ use Rattle.source_machine.specs.Ciphers.{with_cipher}
 use Rattle.source_machine.specs.declared.setup.Identity.{Identity}
 use Rattle.transcript_text.specs.declared.refusal.Refusal.{Refusal}
 use Rattle.scenario_history.specs.Bases.{base_from, base_lines, with_base_line}
-use Rattle.scenario_history.specs.Gifts.{Offer, after_offer, after_offers, dropped_for, happened, offers_before, with_gift_unless, with_gifts}
+use Rattle.scenario_history.specs.Gifts.{Offer, after_offer, after_offers, happened, offers_before, with_gift_unless, with_gifts}
 use Rattle.scenario_history.specs.Source.{GroupLine, cipher_given, cipher_of, group_given, group_of, ident_of, identity_given, no_group}
 use Rattle.source_machine.specs.Airs.{Airs}
 use Rattle.scenario_history.specs.Source.{no_identity, source_calls, start_given, start_of}
@@ -107,8 +107,7 @@ unless_told s reason offer made = grind (arith, gift_told)
 offers_told : (s : ℕ) (airs : Airs) (offers : List Offer) (made : List Step)
     → told_of (steps_of_source s (after_offers airs offers made)) ≡ told_of (steps_of_source s made)
 offers_told s airs [] made = refl
-offers_told s airs (offer ∷ offers) made =
-    offers_told s airs offers (after_offer airs offer made) ∙ unless_told s (dropped_for airs offer made) offer made
+offers_told s airs (offer ∷ offers) made = search (unless_told, offers_told s airs offers (after_offer airs offer made))
 
 unless_horizon : (reason : Option Refusal) (offer : Offer) (made : List Step)
     → horizon_of (with_gift_unless reason offer made) ≡ horizon_of made
@@ -117,8 +116,7 @@ unless_horizon (Some reason) offer made = refl
 
 offers_horizon : (airs : Airs) (offers : List Offer) (made : List Step) → horizon_of (after_offers airs offers made) ≡ horizon_of made
 offers_horizon airs [] made = refl
-offers_horizon airs (offer ∷ offers) made =
-    offers_horizon airs offers (after_offer airs offer made) ∙ unless_horizon (dropped_for airs offer made) offer made
+offers_horizon airs (offer ∷ offers) made = search (unless_horizon, offers_horizon airs offers (after_offer airs offer made))
 
 -- ---- the source that a line means
 
@@ -165,18 +163,11 @@ horizon_next step before others same = same
 
 horizon_happened : (airs : Airs) (said : List Step) → horizon_of (happened airs said) ≡ horizon_of said
 horizon_happened airs [] = refl
-horizon_happened airs (step ∷ earlier) =
-    let made = happened airs earlier in
-    horizon_next step (with_gifts airs made step) earlier
-    (offers_horizon airs (offers_before airs made step) made ∙ horizon_happened airs earlier)
+horizon_happened airs (step ∷ earlier) = search (horizon_next, offers_horizon, horizon_happened airs earlier)
 
 made_next : (n : ℕ) (step : Step) (before others : List Step) (made : Option Settings) → horizon_of before ≡ horizon_of others
     → made_by n step before made ≡ made_by n step others made
-made_next n (steps.Sink sink streams slots mtu) before others made same =
-    ap (λ horizon. cond (sink == n) (Some (record {
-      setup = record { streams = streams; slots = slots; horizon = horizon };
-      mtu = mtu;
-    })) made) same
+made_next n (steps.Sink sink streams slots mtu) before others made same = cc (same)
 made_next n step before others made same = refl
 
 pub made_happened : (airs : Airs) (n : ℕ) (said : List Step) → made_of n (happened airs said) ≡ made_of n said
@@ -195,8 +186,7 @@ named_next n None step before others made calls same = refl
 named_next n (Some sink) step before others made calls same = ap (λ source. cond (sink == n) (lived_by source step made calls) calls) same
 
 lived_next : (n : ℕ) (step : Step) (before others : List Step) (made : Option Settings) (calls : List Call)
-    → source_at before ≡ source_at others
-    → lived the_world n step before made calls ≡ lived the_world n step others made calls
+    → source_at before ≡ source_at others → lived the_world n step before made calls ≡ lived the_world n step others made calls
 lived_next n (steps.Sink sink streams slots mtu) before others made calls same = refl
 lived_next n step before others made calls same = named_next n (named_by step) step before others made calls same
 

@@ -32,15 +32,13 @@ flat_past : {B : Type 0} (f : ℕ → List B) (n start count : ℕ) → n < star
     → flat_map f (range_with_len start count) ≡ []
 flat_past f n start zero past others = refl
 flat_past f n start (suc count) past others =
-    ap (λ l. l ++ flat_map f (range_with_len (start + 1) count)) (others start (λ same. omega (arith, same, past)))
-    ∙ flat_past f n (start + 1) count (omega (arith, past)) others
+    cc (others start (λ same. omega (arith, same, past)), flat_past f n (start + 1) count (omega (arith, past)) others)
 
 pub flat_one : {B : Type 0} (f : ℕ → List B) (n start count : ℕ) → start ≤ n → n < start + count → ((m : ℕ) → m ≢ n → f m ≡ [])
     → flat_map f (range_with_len start count) ≡ f n
 flat_one f n start zero least below others = absurd (omega (arith, least, below))
 flat_one f n start (suc count) least below others = elim (cases_eq start n) [
-  | inl same ↦
-      ap (λ l. f start ++ l) (flat_past f n (start + 1) count (omega (arith, same)) others) ∙ append-nil (f start) ∙ ap f same
+  | inl same ↦ ap (λ l. f start ++ l) (flat_past f n (start + 1) count (omega (arith, same)) others) ∙ append-nil (f start) ∙ ap f same
   | inr other ↦
       ap (λ l. l ++ flat_map f (range_with_len (start + 1) count)) (others start other)
       ∙ flat_one f n (start + 1) count (omega (arith, least, other)) (omega (arith, below)) others
@@ -72,8 +70,7 @@ answered_units airs to [] made = refl
 answered_units airs to (offer ∷ offers) made =
     let next = after_offer airs offer made in
     answer_if (offer.route.to == to) (record { offer = offer; reason = dropped_for airs offer made })
-    (offered_to to (answered airs offers next))
-    (filter (λ (o : Offer). o.route.to == to) offers) (answered_units airs to offers next)
+    (offered_to to (answered airs offers next)) (filter (λ (o : Offer). o.route.to == to) offers) (answered_units airs to offers next)
 
 same_nil : (hit : Bool) → (let none : List AudioUnit = [] in none ≡ cond hit none none)
 same_nil true = refl
@@ -89,15 +86,11 @@ one_more false n route unit units offers same = same
 route_units : (to n : ℕ) (route : Route) (units : List AudioUnit)
     → units_to to (map (λ unit. record { sink = n; route = route; unit = unit }) units) ≡ cond (route.to == to) units []
 route_units to n route [] = same_nil (route.to == to)
-route_units to n route (unit ∷ units) =
-    one_more (route.to == to) n route unit units
-    (filter (λ (o : Offer). o.route.to == to) (map (λ u. record { sink = n; route = route; unit = u }) units))
-    (route_units to n route units)
+route_units to n route (unit ∷ units) = search (one_more, route_units to n route units)
 
 -- what one sink offers to the stream
 own_units : (n bis to : ℕ) (made : List Step) (relay : Option Route) (units : List Handed) → OneStands n bis to made
-    → relay_of n made ≡ relay
-    → units_to to (offered_of n relay units) ≡ cond (is_route bis to relay) (units_on bis units) []
+    → relay_of n made ≡ relay → units_to to (offered_of n relay units) ≡ cond (is_route bis to relay) (units_on bis units) []
 own_units n bis to made None units stands is = refl
 own_units n bis to made (Some route) units stands is = route_units to n route (units_on route.bis units)
     ∙ elim (cases_Bool (route.to == to)) [
@@ -108,8 +101,7 @@ own_units n bis to made (Some route) units stands is = route_units to n route (u
     ]
 
 other_units : (n bis to m : ℕ) (made : List Step) (relay : Option Route) (units : List Handed) → OneStands n bis to made
-    → relay_of m made ≡ relay
-    → m ≢ n → units_to to (offered_of m relay units) ≡ []
+    → relay_of m made ≡ relay → m ≢ n → units_to to (offered_of m relay units) ≡ []
 other_units n bis to m made None units stands is other = refl
 other_units n bis to m made (Some route) units stands is other =
     let not : (route.to == to) ≡ false = false_from_ne_true (route.to == to)
@@ -122,8 +114,7 @@ unfolding sink_numbers
 offers_units airs n bis to made below stands =
     let all = closing airs 0 made in
     let f = λ (m : ℕ). offered_of m (relay_of m made) (handed_of 0 m all) in
-    units_to_flat to f (range_with_len 0 8)
-    ∙ flat_one (λ m. units_to to (f m)) n 0 8 (omega arith) (omega (arith, below))
+    units_to_flat to f (range_with_len 0 8) ∙ flat_one (λ m. units_to to (f m)) n 0 8 (omega arith) (omega (arith, below))
     (λ m other. other_units n bis to m made (relay_of m made) (handed_of 0 m all) stands refl other)
     ∙ own_units n bis to made (relay_of n made) (handed_of 0 n all) stands refl
 
@@ -146,8 +137,7 @@ not_in its n t event m calls box other = grind (arith, not_of_map)
 
 not_flat : (n : ℕ) (f : ℕ → List SinkUnit) (ms : List ℕ) → ((m : ℕ) → handed_of 0 n (f m) ≡ []) → handed_of 0 n (flat_map f ms) ≡ []
 not_flat n f [] each = refl
-not_flat n f (m ∷ ms) each = handed_append 0 n (f m) (flat_map f ms) ∙ ap (λ l. l ++ handed_of 0 n (flat_map f ms)) (each m)
-    ∙ not_flat n f ms each
+not_flat n f (m ∷ ms) each = cc (handed_append 0 n (f m) (flat_map f ms), each m, not_flat n f ms each)
 
 not_at : (airs : Airs) (n t : ℕ) (made : List Step) (last_open : Option ℕ) → (t == 0) ≡ false
     → handed_of 0 n (closing_at airs t made last_open) ≡ []
@@ -164,8 +154,7 @@ by_chosen : (airs : Airs) (n : ℕ) (made gifted : List Step) (hit : Bool) → (
 by_chosen airs n made gifted hit is same closes = grind (arith, eqb-true, not_first)
 
 -- what the sink hands up of source 0 by a step, behind the gifts
-pub first_handed : (airs : Airs) (n : ℕ) (made : List Step) (step : Step)
-    → handed_of 0 n (handed_by airs (with_gifts airs made step) step)
+pub first_handed : (airs : Airs) (n : ℕ) (made : List Step) (step : Step) → handed_of 0 n (handed_by airs (with_gifts airs made step) step)
     ≡ cond (closes_first made step) (handed_of 0 n (closing airs 0 made)) []
 first_handed airs n made steps.Event =
     let left = left_by_gifts airs made steps.Event in
@@ -180,8 +169,7 @@ first_handed airs n made steps.End =
     let gifted = with_gifts airs made steps.End in
     handed_append 0 n (closing airs 0 gifted) (closing airs 1 gifted)
     ∙ ap (λ l. handed_of 0 n (closing airs 0 gifted) ++ l) (not_first airs n 1 gifted refl)
-    ∙ append-nil (handed_of 0 n (closing airs 0 gifted))
-    ∙ ap (handed_of 0 n) (left_by_gifts airs made steps.End).closing_first
+    ∙ append-nil (handed_of 0 n (closing airs 0 gifted)) ∙ ap (handed_of 0 n) (left_by_gifts airs made steps.End).closing_first
 first_handed airs n made _ = refl
 
 -- ---- one step, and all steps
@@ -201,8 +189,7 @@ no_way : (n bis to : ℕ) (made : List Step) (relay : Option Route) → relay_of
     → is_route bis to relay ≡ false
 no_way n bis to made None is none = refl
 no_way n bis to made (Some route) is none =
-    and_right (route.bis == bis) (route.to == to)
-    (false_from_ne_true (route.to == to) (λ goes.
+    and_right (route.bis == bis) (route.to == to) (false_from_ne_true (route.to == to) (λ goes.
     false≢true (sym none ∙ ap (λ b. had_relay b made) (sym (eqb-true route.to to goes)) ∙ route_had n made route is)))
 
 not_offered : (airs : Airs) (n bis to : ℕ) (said : List Step) → had_relay to said ≡ false → offered airs n bis to said ≡ []
@@ -231,8 +218,7 @@ in_range airs boxes n bis to (step ∷ earlier) legal within = elim (contains_ca
   | inr before ↦ in_range airs boxes n bis to earlier legal.0 before
 ]
 
-units_append : (to : ℕ) (one other : List Answered)
-    → map (λ (a : Answered). a.offer.unit) (offered_to to (one ++ other))
+units_append : (to : ℕ) (one other : List Answered) → map (λ (a : Answered). a.offer.unit) (offered_to to (one ++ other))
     ≡ map (λ (a : Answered). a.offer.unit) (offered_to to one) ++ map (λ (a : Answered). a.offer.unit) (offered_to to other)
 units_append to one other = search (filter-append, map-append)
 
@@ -249,13 +235,10 @@ all_offered airs boxes n bis to (step ∷ earlier) legal within =
       | inl is ↦
           let none = first_free airs boxes n bis to step made is legal.1 in
           let before = sym (had_happened airs to earlier) ∙ none in
-          parts
-          ∙ ap (λ l. map (λ (a : Answered). a.offer.unit) l ++ units now) (none_offered airs to earlier before)
-          ∙ ap (map (λ (a : Answered). a.offer.unit)) (none_now airs to made step none)
-          ∙ sym (not_yet airs n bis to step earlier before)
+          parts ∙ ap (λ l. map (λ (a : Answered). a.offer.unit) l ++ units now) (none_offered airs to earlier before)
+          ∙ ap (map (λ (a : Answered). a.offer.unit)) (none_now airs to made step none) ∙ sym (not_yet airs n bis to step earlier before)
       | inr before ↦
-          parts
-          ∙ ap (λ l. l ++ units now) (all_offered airs boxes n bis to earlier legal.0 before)
+          parts ∙ ap (λ l. l ++ units now) (all_offered airs boxes n bis to earlier legal.0 before)
           ∙ ap (λ l. offered airs n bis to earlier ++ l)
           (offered_now airs n bis to made step (in_range airs boxes n bis to earlier legal.0 before)
           (one_stands airs boxes n bis to earlier legal.0 before))

@@ -46,13 +46,11 @@ first_free airs boxes n bis to step made is none =
 
 -- no relay to the stream stands but that of sink `n`, of stream `bis`
 abbrev pub OneStands : ℕ → ℕ → ℕ → List Step → Type 0
-OneStands n bis to made =
-    (m : ℕ) → (route : Route) → relay_of m made ≡ Some route → route.to ≡ to → (m ≡ n) × (route.bis ≡ bis)
+OneStands n bis to made = (m : ℕ) → (route : Route) → relay_of m made ≡ Some route → route.to ≡ to → (m ≡ n) × (route.bis ≡ bis)
 
 new_if : (hit : Bool) (n bis to m : ℕ) (made : List Step) (route : Route) → (hit ≡ true → n ≡ m) → had_relay to made ≡ false
     → unwrap_or (option_or (cond hit (Some (Some (record { bis = bis; to = to }))) None) (last_given (relay_given m) made)) None
-    ≡ Some route
-    → route.to ≡ to → (m ≡ n) × (route.bis ≡ bis)
+    ≡ Some route → route.to ≡ to → (m ≡ n) × (route.bis ≡ bis)
 new_if true n bis to m made route its none is goes =
     (sym (its refl), sym (ap (λ (r : Route). r.bis) (same_Some (record { bis = bis; to = to }) route is)))
 new_if false n bis to m made route its none is goes =
@@ -64,8 +62,7 @@ new_stands n bis to made none m route is goes = new_if (n == m) n bis to m made 
 other_if : (hit : Bool) (n bis to from into m : ℕ) (made : List Step) (route : Route) → OneStands n bis to made → had_relay to made ≡ true
     → had_relay into made ≡ false
     → unwrap_or (option_or (cond hit (Some (Some (record { bis = from; to = into }))) None) (last_given (relay_given m) made)) None
-    ≡ Some route
-    → route.to ≡ to → (m ≡ n) × (route.bis ≡ bis)
+    ≡ Some route → route.to ≡ to → (m ≡ n) × (route.bis ≡ bis)
 other_if true n bis to from into m made route stands had none is goes =
     let same : into ≡ to = ap (λ (r : Route). r.to) (same_Some (record { bis = from; to = into }) route is) ∙ goes in
     absurd (false≢true (sym none ∙ ap (λ b. had_relay b made) same ∙ had))
@@ -89,8 +86,7 @@ stands_on airs boxes n bis to (steps.Drop sink) made gifted none same stands had
 stands_on airs boxes n bis to step made gifted none same stands had m route is goes = stands m route is goes
 
 pub one_stands : (airs : Airs) (boxes n bis to : ℕ) (said : List Step) → AreSaidLegally airs boxes said
-    → Contains said (steps.Relay n bis to)
-    → OneStands n bis to (happened airs said)
+    → Contains said (steps.Relay n bis to) → OneStands n bis to (happened airs said)
 one_stands airs boxes n bis to [] legal within = absurd (omega (arith, within.1))
 one_stands airs boxes n bis to (step ∷ earlier) legal within =
     let made = happened airs earlier in

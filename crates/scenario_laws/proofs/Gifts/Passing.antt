@@ -3,7 +3,6 @@
 use Rattle.std.proofs.Common.{ℕ, ◌≡◌, ◌==◌, ◌&&◌, ◌∙◌, cond, Bool, true, false, List, [], ◌∷◌, ◌++◌, Option, None, arith}
 use Rattle.std.proofs.Common.{Some, refl, sym, ap}
 use Rattle.std.proofs.Common.{append_assoc}
-use Rattle.std.specs.Prelude.{unwrap_or}
 use Rattle.std.specs.List.{list_any}
 use Rattle.std.proofs.lemmas.Bool.{false≢true, or_parts}
 use Rattle.std.proofs.lemmas.List.{append-nil, map-append}
@@ -37,11 +36,8 @@ event_accepts_none setup bis earlier = search (timed_accepted)
 units_same : (one other : Setup) (bis : ℕ) (calls : List Call)
     → accepted (framed_calls one bis calls) ≡ accepted (framed_calls other bis calls)
 units_same one other bis [] = refl
-units_same one other bis (give stream time octets ∷ earlier) =
-    accept_if (stream == bis) (unwrap_or time 0) octets (framed_calls one bis earlier) (framed_calls other bis earlier)
-    (units_same one other bis earlier)
-units_same one other bis (event ∷ earlier) =
-    event_accepts_none one bis earlier ∙ units_same one other bis earlier ∙ sym (event_accepts_none other bis earlier)
+units_same one other bis (give stream time octets ∷ earlier) = search (accept_if, units_same one other bis earlier)
+units_same one other bis (event ∷ earlier) = search (event_accepts_none, units_same one other bis earlier)
 
 abbrev taken : ℕ → List Step → List AudioUnit
 taken bis own = accepted (framed_calls (setup_of own) bis (source_calls own))
@@ -89,8 +85,7 @@ drop_passes_none : (hit : Bool) (offer : Offer) (reason : Refusal) (units : List
     → units ≡ units ++ passed (cond hit (record { offer = offer; reason = Some reason } ∷ []) [])
 drop_passes_none hit offer reason units = grind (arith, append-nil)
 
-one_passes : (to : ℕ) (reason : Option Refusal) (offer : Offer) (made : List Step)
-    → accepted_on to (with_gift_unless reason offer made)
+one_passes : (to : ℕ) (reason : Option Refusal) (offer : Offer) (made : List Step) → accepted_on to (with_gift_unless reason offer made)
     ≡ accepted_on to made ++ passed (offered_to to (record { offer = offer; reason = reason } ∷ []))
 one_passes to reason offer made = grind (arith, gift_passes, drop_passes_none)
 
@@ -102,8 +97,7 @@ all_pass airs to (offer ∷ offers) made =
     let next = after_offer airs offer made in
     let one : List Answered = record { offer = offer; reason = reason } ∷ [] in
     let others = answered airs offers next in
-    all_pass airs to offers next
-    ∙ ap (λ units. units ++ passed (offered_to to others)) (one_passes to reason offer made)
+    all_pass airs to offers next ∙ ap (λ units. units ++ passed (offered_to to others)) (one_passes to reason offer made)
     ∙ append_assoc (accepted_on to made) (passed (offered_to to one)) (passed (offered_to to others))
     ∙ ap (λ units. accepted_on to made ++ units) (sym (passed_append to one others))
 

@@ -1,6 +1,6 @@
 -- Without relays a close prints the units of its sinks in order, and nothing else.
 use Rattle.std.proofs.Common.{ℕ, zero, suc, ◌≡◌, ◌<◌, ◌≤◌, ◌+◌, ◌==◌, ◌∙◌, Bool, true, false, cond, List, [], ◌∷◌, ◌++◌, map}
-use Rattle.std.proofs.Common.{Option, None, Some, refl, sym, ap, arith}
+use Rattle.std.proofs.Common.{Option, None, Some, refl, ap, arith}
 use Rattle.std.proofs.Common.{append_assoc}
 use Rattle.std.specs.List.{flat_map, range_with_len}
 use Rattle.std.proofs.lemmas.Bool.{eq-eqb, eqb-true, ne_eqb}
@@ -71,8 +71,7 @@ lines_in : (its : Bool) (event n : ℕ) (calls : List Call) (box : Option ℕ)
     → flat_map (handed_line n) (handed_of 0 n (cond its (closing_in 0 event n calls box) []))
     ≡ unit_lines (cond its (closing_in 0 event n calls box) [])
 lines_in true event n calls None = refl
-lines_in true event n calls (Some box) =
-    ap (flat_map (handed_line n)) (own_handed n box (handed_at calls event)) ∙ lines_map n box (handed_at calls event)
+lines_in true event n calls (Some box) = cc (own_handed n box (handed_at calls event), lines_map n box (handed_at calls event))
 lines_in false event n calls box = refl
 
 -- ---- a close of source 0
@@ -98,11 +97,7 @@ at_event : (airs : Airs) (made : List Step) (last_open : Option ℕ)
     → first_lines (closing_at airs 0 made last_open) [] ≡ unit_lines (closing_at airs 0 made last_open)
 unfolding sink_numbers
 at_event airs made None = refl
-at_event airs made (Some event) =
-    let all = flat_map (closes airs made event) (range_with_len 0 8) in
-    flat_within (λ n. flat_map (handed_line n) (handed_of 0 n all) ++ []) (λ n. unit_lines (closes airs made event n)) 0 8
-    (λ n least below. one_printed airs made event n (omega (arith, below)))
-    ∙ sym (flat_flat (λ (unit : SinkUnit). handed_line unit.sink unit.unit) (closes airs made event) (range_with_len 0 8))
+at_event airs made (Some event) = search (flat_within, one_printed, flat_flat)
 
 first_printed : (airs : Airs) (made : List Step) → first_lines (closing airs 0 made) [] ≡ unit_lines (closing airs 0 made)
 first_printed airs made = at_event airs made (open_event (steps_of_source 0 made))
@@ -118,8 +113,7 @@ prints_units airs made step none = cc (none_answered (closes_first made step) ai
 closed_if : (hit : Bool) (airs : Airs) (made : List Step) (step : Step) → (chosen_of made == 0) ≡ hit → has_relay made ≡ false
     → cond hit (first_lines (closing airs 0 made) (answered_by airs made step)) (unit_lines (closing airs (chosen_of made) made))
     ≡ unit_lines (closing airs (chosen_of made) made)
-closed_if true airs made step is none =
-    prints_units airs made step none ∙ ap (λ s. unit_lines (closing airs s made)) (sym (eqb-true (chosen_of made) 0 is))
+closed_if true airs made step is none = cc (prints_units airs made step none, eqb-true (chosen_of made) 0 is)
 closed_if false airs made step is none = refl
 
 -- a close of the chosen source prints the units of its sinks
@@ -131,7 +125,6 @@ flat_both : (one other : List SinkUnit) → unit_lines (one ++ other) ≡ unit_l
 flat_both one other = flat_map-append (λ (unit : SinkUnit). handed_line unit.sink unit.unit) one other
 
 -- and `end` those of both sources, and the sums
-pub plain_end : (airs : Airs) (starts : List Account) (made : List Step) → has_relay made ≡ false
-    → output_of airs starts made steps.End
+pub plain_end : (airs : Airs) (starts : List Account) (made : List Step) → has_relay made ≡ false → output_of airs starts made steps.End
     ≡ unit_lines (closing_both airs made) ++ sums_of starts (handed_up airs made ++ closing_both airs made) made
 plain_end airs starts made none = search (prints_units, append_assoc, flat_both)

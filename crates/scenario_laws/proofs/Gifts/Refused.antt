@@ -54,14 +54,15 @@ free_by made sink bis to none =
     let streams = neither (refuse_if (is_relay_beyond made bis to) refusals.NoSuchBis) _ sinks.1 in
     let parts = or_parts (is_some (relay_of sink made)) _ (fails_not (is_relay_taken made sink to) refusals.RelayTaken streams.1) in
     let others = or_parts (had_relay to made) (list_any (gives_on to) (steps_of_source 1 made)) parts.1 in
-    assumption (not-false (may_relay made) (fails_not (not (may_relay made)) refusals.Order order.0),
-        fails_not (is_relay_beyond made bis to) refusals.NoSuchBis streams.0,
-        not-false (is_some (box_of sink made)) (fails_not (not (is_some (box_of sink made))) refusals.NoSuchSink sinks.0))
+    assumption (
+      not-false (may_relay made) (fails_not (not (may_relay made)) refusals.Order order.0),
+      fails_not (is_relay_beyond made bis to) refusals.NoSuchBis streams.0,
+      not-false (is_some (box_of sink made)) (fails_not (not (is_some (box_of sink made))) refusals.NoSuchSink sinks.0),
+    )
 
 pub is_free : (airs : Airs) (boxes : ℕ) (made : List Step) (sink bis to : ℕ) → refusal_of airs boxes made (steps.Relay sink bis to) ≡ None
     → IsFree made sink bis to
-is_free airs boxes made sink bis to none =
-    free_by made sink bis to (permitted airs boxes made (steps.Relay sink bis to) none).by_twin
+is_free airs boxes made sink bis to none = free_by made sink bis to (permitted airs boxes made (steps.Relay sink bis to) none).by_twin
 
 -- ---- a `unit` line
 
@@ -75,6 +76,5 @@ not_this chosen stream bis made not had = elim (and_cases chosen (had_relay stre
 ]
 
 pub gives_none : (airs : Airs) (boxes bis : ℕ) (made : List Step) (step : Step) → line_refusal airs boxes made step ≡ None
-    → had_relay bis made ≡ true
-    → gives_to bis made step ≡ false
+    → had_relay bis made ≡ true → gives_to bis made step ≡ false
 gives_none airs boxes bis made step none had = grind (arith, not_this, unrelayed, and_right)

@@ -37,8 +37,7 @@ route_had n [] route is = absurd (none-some route is)
 route_had n (steps.Relay sink bis to ∷ earlier) route is =
     made_had (sink == n) (record { bis = bis; to = to }) route (last_given (relay_given n) earlier) (had_relay route.to earlier)
     (route_had n earlier route) is
-route_had n (steps.Drop sink ∷ earlier) route is =
-    dropped_had (sink == n) route (last_given (relay_given n) earlier) (had_relay route.to earlier) (route_had n earlier route) is
+route_had n (steps.Drop sink ∷ earlier) route is = search (dropped_had, route_had n earlier route)
 route_had n (step ∷ earlier) route is = route_had n earlier route is
 
 -- ---- what is offered
@@ -56,8 +55,7 @@ of_route : (made : List Step) (n : ℕ) (route : Route) (units : List AudioUnit)
 of_route made n route [] is = All-nil (Stands made)
 of_route made n route (unit ∷ units) is =
     All-cons (Stands made) (record { sink = n; route = route; unit = unit })
-    (map (λ u. record { sink = n; route = route; unit = u }) units) is
-    (of_route made n route units is)
+    (map (λ u. record { sink = n; route = route; unit = u }) units) is (of_route made n route units is)
 
 of_relay : (made : List Step) (n : ℕ) (relay : Option Route) (units : List Handed) → relay_of n made ≡ relay
     → All (Stands made) (offered_of n relay units)
@@ -105,8 +103,7 @@ none_now airs to made step none =
 -- gifts make no relay
 pub had_happened : (airs : Airs) (to : ℕ) (said : List Step) → had_relay to (happened airs said) ≡ had_relay to said
 had_happened airs to [] = refl
-had_happened airs to (step ∷ earlier) =
-    ap (λ had. relays_to to step || had) ((left_by_gifts airs (happened airs earlier) step).had to ∙ had_happened airs to earlier)
+had_happened airs to (step ∷ earlier) = cc ((left_by_gifts airs (happened airs earlier) step).had to, had_happened airs to earlier)
 
 pub none_offered : (airs : Airs) (to : ℕ) (said : List Step) → had_relay to said ≡ false → offered_to to (all_answered airs said) ≡ []
 none_offered airs to [] none = refl

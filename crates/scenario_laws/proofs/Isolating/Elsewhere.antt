@@ -5,16 +5,16 @@ use Rattle.std.proofs.lemmas.Bool.{and_right, false≢true, ne_eqb, cond-false}
 use Rattle.delegator_machine.specs.Groups.{with_leave}
 use Rattle.delegator_history.specs.States.{train_heard}
 use Rattle.delegator_history.specs.Trains.{Brought, Settings, Train, joining_in}
-use Rattle.group_sink.specs.Calls.{Call, hear, tune}
+use Rattle.group_sink.specs.Calls.{Call}
 use Rattle.sink_history.specs.Calls as links
 use Rattle.scenario_text.specs.declared.step.Step.{Step}
 use Rattle.scenario_text.specs.declared.step.Step.TheVariants as steps
 use Rattle.scenario_history.specs.Boxes.{box_of, handed_by}
-use Rattle.scenario_history.specs.Sinks.{hear_at, heard_on_air, is_of, sink_calls, source_of, spots_of, ticked_if}
-use Rattle.scenario_history.specs.Source.{event_back, open_event}
+use Rattle.scenario_history.specs.Sinks.{is_of, sink_calls, source_of, ticked_if}
+use Rattle.scenario_history.specs.Source.{open_event}
 use Rattle.source_machine.specs.Airs.{Airs}
 use Rattle.scenario_history.specs.Steps.{chosen_given, chosen_of, chosen_steps, is_common, is_of_source, is_source_line}
-use Rattle.scenario_history.specs.Worlds.{joining_on, life, source_at}
+use Rattle.scenario_history.specs.Worlds.{life, source_at}
 use Rattle.sink_history.specs.Lives.{Source, given_train, lived_by, made_of, own_train, version_given}
 use Rattle.sink_history.specs.Moves.{follows, follows_by, received_by, train_by}
 use Rattle.scenario_laws.specs.Isolation.{puts, units_by}
@@ -50,8 +50,7 @@ box_stays n step made is = grind (arith, false≢true)
 -- ---- a train that isn't followed
 
 train_lives : (hit : Bool) (source : Source) (train : Train) (made : Option Settings) (a : List links.Call)
-    → (hit && follows_by source (Some train) made a) ≡ false
-    → LivesAlike made (cond hit (links.stepped (train_heard train) ∷ a) a) a
+    → (hit && follows_by source (Some train) made a) ≡ false → LivesAlike made (cond hit (links.stepped (train_heard train) ∷ a) a) a
 train_lives true source train None a not = tt
 train_lives true source train (Some made) a not = ignores made.setup made.mtu train a not
 train_lives false source train made a not = lives_itself made a
@@ -73,20 +72,14 @@ train_received hit source line train made a a' calls is not same = grind (arith,
 
 life_stays : (n : ℕ) (step : Step) (made : List Step) → is_source_line step ≡ true → puts n made step ≡ false
     → LivesAlike (made_of n made) (life n (step ∷ made)) (life n made)
-life_stays n (steps.Tuned sink which) made is not =
-    lives_equal (made_of n made) (life n (steps.Tuned sink which ∷ made)) (life n made)
-    (cond-false (sink == n) (lived_by (source_at made) (steps.Tuned sink which) (made_of n made) (life n made)) (life n made) not)
+life_stays n (steps.Tuned sink which) made is not = search (lives_equal, cond-false)
 life_stays n (steps.Announce sink) made is not =
     train_lives (sink == n) (source_at made) (own_train (source_at made)) (made_of n made) (life n made) not
 life_stays n (steps.Train sink time ext adv acad) made is not =
     train_lives (sink == n) (source_at made) (given_train (source_at made) time ext adv acad) (made_of n made) (life n made) not
-life_stays n (steps.Hear sink back bis subevent) made is not =
-    lives_equal (made_of n made) (life n (steps.Hear sink back bis subevent ∷ made)) (life n made) (same_if (sink == n) (life n made))
-life_stays n (steps.Air sink lose) made is not =
-    lives_equal (made_of n made) (life n (steps.Air sink lose ∷ made)) (life n made) (same_if (sink == n) (life n made))
-life_stays n (steps.Inject sink back bis subevent octets) made is not =
-    lives_equal (made_of n made) (life n (steps.Inject sink back bis subevent octets ∷ made)) (life n made)
-    (same_if (sink == n) (life n made))
+life_stays n (steps.Hear sink back bis subevent) made is not = search (lives_equal, same_if)
+life_stays n (steps.Air sink lose) made is not = search (lives_equal, same_if)
+life_stays n (steps.Inject sink back bis subevent octets) made is not = search (lives_equal, same_if)
 life_stays n _ made is not = search (false≢true, lives_itself (made_of n made) (life n made))
 
 -- ---- the source that it is of
@@ -104,8 +97,7 @@ close_stays airs n made apart = ap (λ its. ticked_if its (open_event (chosen_st
 
 calls_stay : (airs : Airs) (n : ℕ) (step : Step) (made : List Step) → is_source_line step ≡ true → puts n made step ≡ false
     → is_of (chosen_of made) (source_of n made) ≡ false → sink_calls airs n (step ∷ made) ≡ sink_calls airs n made
-calls_stay airs n (steps.Tuned sink which) made is not apart =
-    cond-false (sink == n) (tune (joining_on (chosen_steps made) which) ∷ sink_calls airs n made) (sink_calls airs n made) not
+calls_stay airs n (steps.Tuned sink which) made is not apart = search (cond-false)
 calls_stay airs n (steps.Announce sink) made is not apart =
     train_received (sink == n) (source_at made) (steps.Announce sink) (own_train (source_at made)) (made_of n made) (life n made)
     (lived_by (source_at made) (steps.Announce sink) (made_of n made) (life n made)) (sink_calls airs n made) refl not
@@ -115,35 +107,21 @@ calls_stay airs n (steps.Train sink time ext adv acad) made is not apart =
     (made_of n made) (life n made)
     (lived_by (source_at made) (steps.Train sink time ext adv acad) (made_of n made) (life n made)) (sink_calls airs n made) refl not
     (life_stays n (steps.Train sink time ext adv acad) made is not)
-calls_stay airs n (steps.Hear sink back bis subevent) made is not apart =
-    cond-false ((sink == n) && is_of (chosen_of made) (source_of n made))
-    (hear_at airs (chosen_steps made) (event_back (chosen_steps made) back)
-    (record { bis = bis; subevent = subevent }) ∷ sink_calls airs n made) (sink_calls airs n made)
-    (and_right (sink == n) (is_of (chosen_of made) (source_of n made)) apart)
-calls_stay airs n (steps.Air sink lose) made is not apart =
-    cond-false ((sink == n) && is_of (chosen_of made) (source_of n made))
-    (heard_on_air airs (chosen_steps made) lose (spots_of (chosen_steps made)) (sink_calls airs n made)) (sink_calls airs n made)
-    (and_right (sink == n) (is_of (chosen_of made) (source_of n made)) apart)
-calls_stay airs n (steps.Inject sink back bis subevent octets) made is not apart =
-    cond-false ((sink == n) && is_of (chosen_of made) (source_of n made))
-    (hear (event_back (chosen_steps made) back) bis subevent octets ∷ sink_calls airs n made)
-    (sink_calls airs n made) (and_right (sink == n) (is_of (chosen_of made) (source_of n made)) apart)
+calls_stay airs n (steps.Hear sink back bis subevent) made is not apart = search (cond-false, and_right)
+calls_stay airs n (steps.Air sink lose) made is not apart = search (cond-false, and_right)
+calls_stay airs n (steps.Inject sink back bis subevent octets) made is not apart = search (cond-false, and_right)
 calls_stay airs n _ made is not apart = search (false≢true, close_stays airs n made apart)
 
 -- ---- what it hands up
 
 units_stay : (airs : Airs) (n : ℕ) (step : Step) (made : List Step) → is_source_line step ≡ true
-    → is_of (chosen_of made) (source_of n made) ≡ false
-    → units_by n (handed_by airs made step) ≡ []
+    → is_of (chosen_of made) (source_of n made) ≡ false → units_by n (handed_by airs made step) ≡ []
 units_stay airs n step made is apart = grind (arith, false≢true, closing_none)
 
 not_own : (s : ℕ) (step : Step) (made : List Step) → is_source_line step ≡ true → chosen_of made ≢ s → is_of_source s made step ≡ false
 not_own s step made is other = cc (not_common step is, and_right (is_source_line step) (chosen_of made == s) (ne_eqb (chosen_of made) s other))
 
 pub elsewhere : (airs : Airs) (s n : ℕ) (step : Step) (made : List Step) → is_source_line step ≡ true → chosen_of made ≢ s
-    → puts n made step ≡ false
-    → is_of (chosen_of made) (source_of n made) ≡ false → Leaves airs s n step made
-elsewhere airs s n step made is other not apart = assumption (chooses_none step is,
-    said_elsewhere s step made (not_own s step made is other), no_version step is, made_stays n step made is,
-    life_stays n step made is not, source_stays n step made is not, calls_stay airs n step made is not apart, box_stays n step made is,
-    units_stay airs n step made is apart)
+    → puts n made step ≡ false → is_of (chosen_of made) (source_of n made) ≡ false → Leaves airs s n step made
+elsewhere airs s n step made is other not apart =
+    search (chooses_none, said_elsewhere, not_own, no_version, made_stays, life_stays, source_stays, calls_stay, box_stays, units_stay)

@@ -59,8 +59,7 @@ means : (s n : ℕ) (step : Step) (made : List Step) → is_kept s n made step �
 means s n step made is line = search (eqb-true, means_by, no_line)
 
 names_by : (common line chosen other its : Bool) → cond common true (cond line (chosen && not other) its) ≡ true
-    → (common ≡ true → other ≡ false) → (its ≡ true → other ≡ false)
-    → other ≡ false
+    → (common ≡ true → other ≡ false) → (its ≡ true → other ≡ false) → other ≡ false
 names_by common line chosen other its is common_not its_not = grind (arith, not-true, and_parts)
 
 names_none : (n : ℕ) (step : Step) → (is_common step || chooses step) ≡ true → is_other n (sink_in step) ≡ false
@@ -76,19 +75,7 @@ names s n step made is = search (names_by, names_none, names_its)
 -- ---- the induction
 
 none_same : (airs : Airs) (s n : ℕ) → Same airs s n [] []
-none_same airs s n = record {
-  chosen = refl;
-  own = refl;
-  version = refl;
-  sink = refl;
-  lives = tt;
-  source = refl;
-  apart = λ t other. refl;
-  calls = refl;
-  boxed = refl;
-  units = refl;
-  took = λ box other its its'. refl;
-}
+none_same airs s n = search arith
 
 same_if : (airs : Airs) (s n : ℕ) (step : Step) (made : List Step) (hit : Bool) → is_kept s n made step ≡ hit
     → (chosen_of made ≢ s → puts n made step ≡ false)
@@ -103,14 +90,12 @@ same_if airs s n step made false is puts_not same = elim (fate s n step made is)
 
 same_of : (airs : Airs) (s n : ℕ) (made : List Step) → NoOtherPuts s n made → Same airs s n made (only s n made)
 same_of airs s n [] puts_not = none_same airs s n
-same_of airs s n (step ∷ made) puts_not =
-    same_if airs s n step made (is_kept s n made step) refl puts_not.1 (same_of airs s n made puts_not.0)
+same_of airs s n (step ∷ made) puts_not = search (same_if, same_of airs s n made puts_not.0)
 
 -- ---- what the kept steps print
 
 lines_if : (airs : Airs) (s n : ℕ) (step : Step) (made : List Step) (hit : Bool) → is_kept s n made step ≡ hit
-    → Same airs s n made (only s n made)
-    → kept_lines airs s n made ≡ lines_of airs n (only s n made)
+    → Same airs s n made (only s n made) → kept_lines airs s n made ≡ lines_of airs n (only s n made)
     → cond hit (kept_lines airs s n made ++ lines_by airs n made step) (kept_lines airs s n made)
     ≡ lines_of airs n (cond hit (step ∷ only s n made) (only s n made))
 lines_if airs s n step made hit is same before = grind (arith, append_same, lines_same, names, means)

@@ -1,6 +1,6 @@
 -- A step that both lists of steps have keeps what they have alike of a sink and a source, where it means this source if it is a
 -- source line.
-use Rattle.std.proofs.Common.{ℕ, ◌≡◌, ◌≢◌, ◌∙◌, cond, Bool, true, false, List, ◌∷◌, ◌++◌, Option, None, Some, is_some, refl, arith}
+use Rattle.std.proofs.Common.{ℕ, ◌≡◌, ◌≢◌, ◌∙◌, cond, Bool, true, false, List, ◌∷◌, Option, None, Some, is_some, refl, arith}
 use Rattle.std.proofs.Common.{sym, ap, inl, inr}
 use Rattle.std.specs.Option.{option_or}
 use Rattle.std.proofs.lemmas.Bool.{cases_eq, ne_eqb}
@@ -89,8 +89,22 @@ calls_grow : (airs : Airs) (s n : ℕ) (step : Step) (made others : List Step) �
     → LivesAlike (made_of n (step ∷ made)) (life n (step ∷ made)) (life n (step ∷ others))
     → sink_calls airs n (step ∷ made) ≡ sink_calls airs n (step ∷ others)
 calls_grow airs s n step made others means same later =
-    grind (arith, cond_same, cons_same, tuning_same, own_alike, cond_both, reaches_alike, hear_same, heard_same, back_same, closes_alike,
-    ticks_alike, moved_same, sourced)
+    grind (
+      arith,
+      cond_same,
+      cons_same,
+      tuning_same,
+      own_alike,
+      cond_both,
+      reaches_alike,
+      hear_same,
+      heard_same,
+      back_same,
+      closes_alike,
+      ticks_alike,
+      moved_same,
+      sourced,
+    )
 
 -- ---- its units
 
@@ -114,10 +128,12 @@ handed_same airs s n step made others same = grind (arith, chosen_closing, both_
 units_grow : (airs : Airs) (s n : ℕ) (step : Step) (made others : List Step) → Same airs s n made others
     → units_by n (handed_up airs (step ∷ made)) ≡ units_by n (handed_up airs (step ∷ others))
 units_grow airs s n step made others same =
-    units_append n (handed_up airs made) (handed_by airs made step)
-    ∙ ap (λ us. us ++ units_by n (handed_by airs made step)) same.units
-    ∙ ap (λ us. units_by n (handed_up airs others) ++ us) (handed_same airs s n step made others same)
-    ∙ sym (units_append n (handed_up airs others) (handed_by airs others step))
+    cc (
+      units_append n (handed_up airs made) (handed_by airs made step),
+      same.units,
+      handed_same airs s n step made others same,
+      units_append n (handed_up airs others) (handed_by airs others step),
+    )
 
 -- ---- all of it
 
@@ -126,10 +142,15 @@ pub kept : (airs : Airs) (s n : ℕ) (step : Step) (made others : List Step) →
 kept airs s n step made others means same =
     let lives : LivesAlike (made_of n (step ∷ made)) (life n (step ∷ made)) (life n (step ∷ others)) =
     life_grows n step made others (sourced airs s n step made others means same) same.sink same.lives in
-        assumption (ap (option_or (chosen_given step)) same.chosen,
-        said_grows s step made others (chosen_alike airs s n made others same) same.own,
-        ap (option_or (version_given step)) same.version, made_grows airs s n step made others same,
-        source_grows airs s n step made others means same, apart_grows airs s n step made others means same,
-        calls_grow airs s n step made others means same lives, boxed_grows airs s n step made others same,
-        units_grow airs s n step made others same,
-        kept_took airs n step made others same.took (handed_same airs s n step made others same))
+    assumption (
+      ap (option_or (chosen_given step)) same.chosen,
+      said_grows s step made others (chosen_alike airs s n made others same) same.own,
+      ap (option_or (version_given step)) same.version,
+      made_grows airs s n step made others same,
+      source_grows airs s n step made others means same,
+      apart_grows airs s n step made others means same,
+      calls_grow airs s n step made others means same lives,
+      boxed_grows airs s n step made others same,
+      units_grow airs s n step made others same,
+      kept_took airs n step made others same.took (handed_same airs s n step made others same),
+    )

@@ -86,8 +86,7 @@ made_other : (n : ℕ) (step : Step) (made : List Step) → is_other n (sink_in 
 made_other n step made other = grind (arith, pass)
 
 named_life : (n : ℕ) (named : Option ℕ) (line : Step) (made : List Step) (sink : Option Settings) (calls : List links.Call)
-    → is_other n named ≡ true
-    → lived_at the_world n named line made sink calls ≡ calls
+    → is_other n named ≡ true → lived_at the_world n named line made sink calls ≡ calls
 named_life n named line made sink calls other = grind (arith, pass)
 
 life_other : (n : ℕ) (step : Step) (made : List Step) → is_other n (sink_in step) ≡ true → life n (step ∷ made) ≡ life n made
@@ -109,7 +108,12 @@ box_other n step made other = grind (arith, pass)
 
 pub another_sink : (airs : Airs) (s n : ℕ) (step : Step) (made : List Step) → is_other n (sink_in step) ≡ true → Leaves airs s n step made
 another_sink airs s n step made other =
-    let is : Quiet step = quiet n step other in assumption (said_stays s step made is.says, made_other n step made other,
-        lives_equal (made_of n made) (life n (step ∷ made)) (life n made) (life_other n step made other),
-        source_other n step made other, calls_other airs n step made other, box_other n step made other,
-        ap (units_by n) (is.hands airs made))
+    let is : Quiet step = quiet n step other in assumption (
+      said_stays s step made is.says,
+      made_other n step made other,
+      lives_equal (made_of n made) (life n (step ∷ made)) (life n made) (life_other n step made other),
+      source_other n step made other,
+      calls_other airs n step made other,
+      box_other n step made other,
+      ap (units_by n) (is.hands airs made),
+    )

@@ -4,9 +4,8 @@ use Rattle.std.specs.Prelude.{codes, decimal, option_map, slice_get}
 use Rattle.std.specs.List.{flat_map, range_with_len}
 use Rattle.delegator_history.specs.Trains.{Settings, Train, answer_of, brought_by}
 use Rattle.delegator_history.specs.Values.{state_at, value}
-use Rattle.sink_history.specs.Calls as links
 use Rattle.sink_history.specs.Calls.{Call, writes_waiting}
-use Rattle.sink_history.specs.Drains.{repeated, served_out, told_out}
+use Rattle.sink_history.specs.Drains.{served_out, told_out}
 use Rattle.sink_history.specs.Links.{language, notices_waiting, reads_waiting}
 use Rattle.assistant_machine.specs.Links.{view_of}
 use Rattle.scenario_text.specs.declared.step.Step.{Step}
@@ -55,32 +54,18 @@ append_same xs ys xs' ys' first rest = ap (λ ls. ls ++ ys) first ∙ ap (λ ls.
 serves_same : (label : Label) (made : Settings) (link count : ℕ) (a b : List Call) → Alike made.setup made.mtu a b
     → serve_lines label made link count a ≡ serve_lines label made link count b
 serves_same label made link zero a b same = refl
-serves_same label made link (suc count) a b same =
-    append_same (serve_lines label made link count a) (serve_line label made link (repeated count (links.served link) a))
-    (serve_lines label made link count b)
-    (serve_line label made link (repeated count (links.served link) b)) (serves_same label made link count a b same)
-    (serve_same label made link (repeated count (links.served link) a) (repeated count (links.served link) b)
-    (repeats made.setup made.mtu count count (links.served link) a b refl same))
+serves_same label made link (suc count) a b same = search (append_same, serve_same, repeats, serves_same label made link count a b same)
 
 tells_same : (label : Label) (made : Settings) (link count : ℕ) (a b : List Call) → Alike made.setup made.mtu a b
     → tell_lines label made link count a ≡ tell_lines label made link count b
 tells_same label made link zero a b same = refl
-tells_same label made link (suc count) a b same =
-    append_same (tell_lines label made link count a) (tell_line label made link (repeated count (links.told link) a))
-    (tell_lines label made link count b)
-    (tell_line label made link (repeated count (links.told link) b)) (tells_same label made link count a b same)
-    (tell_same label made link (repeated count (links.told link) a) (repeated count (links.told link) b)
-    (repeats made.setup made.mtu count count (links.told link) a b refl same))
+tells_same label made link (suc count) a b same = search (append_same, tell_same, repeats, tells_same label made link count a b same)
 
 reads_lines_same : (label : Label) (made : Settings) (link count : ℕ) (a b : List Call) → Alike made.setup made.mtu a b
     → read_lines label made link count a ≡ read_lines label made link count b
 reads_lines_same label made link zero a b same = refl
 reads_lines_same label made link (suc count) a b same =
-    append_same (read_lines label made link count a) (read_line label made link (repeated count (links.read link) a))
-    (read_lines label made link count b)
-    (read_line label made link (repeated count (links.read link) b)) (reads_lines_same label made link count a b same)
-    (read_line_same label made link (repeated count (links.read link) a) (repeated count (links.read link) b)
-    (repeats made.setup made.mtu count count (links.read link) a b refl same))
+    search (append_same, read_line_same, repeats, reads_lines_same label made link count a b same)
 
 drain_same : (label : Label) (made : Settings) (link : ℕ) (a b : List Call) → Alike made.setup made.mtu a b
     → drain_lines label made link a ≡ drain_lines label made link b
@@ -119,15 +104,13 @@ shown_same sink made a b same =
     ∷ value_line (codes "view") (decimal sink ∷ []) (viewed made 0 a slot) ∷ []) (range_with_len 0 made.setup.slots)) same.sight
     ∙ ap (λ acts. flat_map (λ slot. value_line (codes "state") (decimal sink ∷ []) (stated made b slot)
     ∷ value_line (codes "view") (decimal sink ∷ []) (record { slot = slot; value = value (view_of (language made.mtu) slot acts) }) ∷ [])
-    (range_with_len 0 made.setup.slots))
-    (same.acts 0)
+    (range_with_len 0 made.setup.slots)) (same.acts 0)
 
 views_same : (sink link : ℕ) (made : Settings) (a b : List Call) → Alike made.setup made.mtu a b
     → view_lines sink link made a ≡ view_lines sink link made b
 views_same sink link made a b same =
     ap (λ acts. map (λ slot. value_line (codes "aview") (decimal sink ∷ decimal link ∷ [])
-    (record { slot = slot; value = value (view_of (language made.mtu) slot acts) }))
-    (range_with_len 0 made.setup.slots)) (same.acts link)
+    (record { slot = slot; value = value (view_of (language made.mtu) slot acts) })) (range_with_len 0 made.setup.slots)) (same.acts link)
 
 -- ---- trains
 
@@ -143,13 +126,10 @@ printed_some source line made a b same = grind (arith, serve_same, tell_same, re
 
 printed_sourced : (line : Step) (source source' : Source) → Sourced line source source' → (made : Settings) (calls : List Call)
     → printed_of source line made calls ≡ printed_of source' line made calls
-printed_sourced (steps.Announce sink) source source' sourced made calls =
-    ap (λ src. printed_of src (steps.Announce sink) made calls) (sourced refl)
-printed_sourced (steps.Train sink time ext adv acad) source source' sourced made calls =
-    ap (λ src. printed_of src (steps.Train sink time ext adv acad) made calls) (sourced refl)
+printed_sourced (steps.Announce sink) source source' sourced made calls = cc (sourced refl)
+printed_sourced (steps.Train sink time ext adv acad) source source' sourced made calls = cc (sourced refl)
 printed_sourced _ source source' sourced made calls = refl
 
 pub printed_same : (line : Step) (source source' : Source) (made made' : Option Settings) (a b : List Call) → Sourced line source source'
-    → made ≡ made'
-    → LivesAlike made a b → printed_where source line made a ≡ printed_where source' line made' b
+    → made ≡ made' → LivesAlike made a b → printed_where source line made a ≡ printed_where source' line made' b
 printed_same line source source' made made' a b sourced sinks_same same = grind (arith, printed_some, printed_sourced)

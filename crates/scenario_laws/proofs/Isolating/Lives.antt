@@ -29,17 +29,10 @@ pub record Alike (setup : Setup) (mtu : Option ℕ) (a b : List Call) : Type 0 w
   pub acts : (link : ℕ) → acts_of setup mtu link a ≡ acts_of setup mtu link b
 
 pub alike_itself : (setup : Setup) (mtu : Option ℕ) (a : List Call) → Alike setup mtu a a
-alike_itself setup mtu a =
-    record { sight = refl; joined = λ link. refl; written = λ link. refl; served = λ link. refl; acts = λ link. refl }
+alike_itself setup mtu a = search arith
 
 pub alike_then : (setup : Setup) (mtu : Option ℕ) (a b c : List Call) → Alike setup mtu a b → Alike setup mtu b c → Alike setup mtu a c
-alike_then setup mtu a b c first second = record {
-  sight = first.sight ∙ second.sight;
-  joined = λ link. first.joined link ∙ second.joined link;
-  written = λ link. first.written link ∙ second.written link;
-  served = λ link. first.served link ∙ second.served link;
-  acts = λ link. first.acts link ∙ second.acts link;
-}
+alike_then setup mtu a b c first second = search arith
 
 pub waiting_same : (setup : Setup) (mtu : Option ℕ) (link : ℕ) (a b : List Call) → Alike setup mtu a b
     → writes_waiting link a ≡ writes_waiting link b
@@ -96,8 +89,7 @@ grows setup mtu call a b same = record {
 repeated_grow : (setup : Setup) (mtu : Option ℕ) (count : ℕ) (call : Call) (a b : List Call) → Alike setup mtu a b
     → Alike setup mtu (repeated count call a) (repeated count call b)
 repeated_grow setup mtu zero call a b same = same
-repeated_grow setup mtu (suc count) call a b same =
-    grows setup mtu call (repeated count call a) (repeated count call b) (repeated_grow setup mtu count call a b same)
+repeated_grow setup mtu (suc count) call a b same = search (grows, repeated_grow setup mtu count call a b same)
 
 pub repeats : (setup : Setup) (mtu : Option ℕ) (m n : ℕ) (call : Call) (a b : List Call) → m ≡ n → Alike setup mtu a b
     → Alike setup mtu (repeated m call a) (repeated n call b)
@@ -140,13 +132,11 @@ pub done_nothing : (brought : Brought) → follows brought ≡ false → done_br
 done_nothing brought not = grind (arith, false≢true)
 
 pub ignores : (setup : Setup) (mtu : Option ℕ) (train : Train) (a : List Call)
-    → follows (brought_by setup (sight_of setup (steps_of a)) train) ≡ false
-    → Alike setup mtu (links.stepped (train_heard train) ∷ a) a
+    → follows (brought_by setup (sight_of setup (steps_of a)) train) ≡ false → Alike setup mtu (links.stepped (train_heard train) ∷ a) a
 ignores setup mtu train a not =
     let sight : Sight = sight_of setup (steps_of a) in
     let more : List Call = links.stepped (train_heard train) ∷ a in
-    let now : sight_of setup (steps_of more) ≡ sight =
-    sight_goes_on setup (train_heard train) (steps_of a)
+    let now : sight_of setup (steps_of more) ≡ sight = sight_goes_on setup (train_heard train) (steps_of a)
     ∙ ap (λ done. after done sight) (done_nothing (brought_by setup sight train) not) in record {
       sight = now;
       joined = λ link. refl;

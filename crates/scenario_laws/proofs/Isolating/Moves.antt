@@ -1,10 +1,9 @@
 -- What a line makes of two lives of the sink that it names which come to the same: of the lives, of the receivers, and of the source
 -- that the sink is of.
-use Rattle.std.proofs.Common.{ℕ, ◌≡◌, ◌==◌, ◌∙◌, cond, Bool, true, false, List, [], ◌∷◌, Option, None, Some, refl, ap, subst, arith}
+use Rattle.std.proofs.Common.{ℕ, ◌≡◌, cond, Bool, true, false, List, [], ◌∷◌, Option, None, Some, refl, ap, subst, arith}
 use Rattle.bass_operations.specs.declared.operation.Operation.TheVariants as operations
 use Rattle.bass_operations.specs.Layout.{spelling}
-use Rattle.delegator_machine.specs.Groups.{with_step}
-use Rattle.delegator_history.specs.States.{contexts_set, control_heard, locations_set, put_on, record_added, train_heard, train_lost}
+use Rattle.delegator_history.specs.States.{control_heard, locations_set, train_heard, train_lost}
 use Rattle.delegator_history.specs.Trains.{Settings, Train, brought_by}
 use Rattle.group_sink.specs.Calls as sinks
 use Rattle.sink_history.specs.Calls as links
@@ -14,9 +13,8 @@ use Rattle.scenario_text.specs.declared.step.Step.TheVariants as steps
 use Rattle.scenario_history.specs.Sinks.{moved}
 use Rattle.scenario_history.specs.Steps.{is_source_line}
 use Rattle.scenario_history.specs.Worlds.{life, source_at, the_world}
-use Rattle.sink_history.specs.Lives.{Source, given_train, horizon_of, lived_at, lived_by, made_of, named_by, own_train, record_of}
-use Rattle.sink_history.specs.Moves.{follows, follows_by, joining_of, received_by, source_by, train_by}
-use Rattle.sink_history.specs.Output.{sight_in}
+use Rattle.sink_history.specs.Lives.{Source, lived_at, lived_by, made_of, named_by, own_train}
+use Rattle.sink_history.specs.Moves.{follows, follows_by, received_by, source_by, train_by}
 use Rattle.scenario_laws.proofs.Isolating.Lives.{Alike, alike_itself, drains, grows}
 use Rattle.scenario_laws.proofs.Isolating.Same.{LivesAlike}
 
@@ -28,17 +26,14 @@ Sourced line source source' = is_source_line line ≡ true → source ≡ source
 
 lived_sourced : (line : Step) (source source' : Source) → Sourced line source source' → (made : Option Settings) (calls : List Call)
     → lived_by source line made calls ≡ lived_by source' line made calls
-lived_sourced (steps.Tuned sink which) source source' same made calls =
-    ap (λ src. lived_by src (steps.Tuned sink which) made calls) (same refl)
+lived_sourced (steps.Tuned sink which) source source' same made calls = cc (same refl)
 lived_sourced (steps.Announce sink) source source' same made calls = ap (λ src. lived_by src (steps.Announce sink) made calls) (same refl)
-lived_sourced (steps.Train sink time ext adv acad) source source' same made calls =
-    ap (λ src. lived_by src (steps.Train sink time ext adv acad) made calls) (same refl)
+lived_sourced (steps.Train sink time ext adv acad) source source' same made calls = cc (same refl)
 lived_sourced _ source source' same made calls = refl
 
 train_sourced : (line : Step) (source source' : Source) → Sourced line source source' → train_by source line ≡ train_by source' line
 train_sourced (steps.Announce sink) source source' same = ap (λ src. train_by src (steps.Announce sink)) (same refl)
-train_sourced (steps.Train sink time ext adv acad) source source' same =
-    ap (λ src. train_by src (steps.Train sink time ext adv acad)) (same refl)
+train_sourced (steps.Train sink time ext adv acad) source source' same = cc (same refl)
 train_sourced _ source source' same = refl
 
 -- ---- the lives
@@ -46,27 +41,19 @@ train_sourced _ source source' same = refl
 lived_some : (source : Source) (line : Step) (made : Settings) (a b : List Call) → Alike made.setup made.mtu a b
     → Alike made.setup made.mtu (lived_by source line (Some made) a) (lived_by source line (Some made) b)
 lived_some source (steps.Drop sink) made a b same = alike_itself made.setup made.mtu []
-lived_some source (steps.Pac sink codec caps metadata) made a b same =
-    grows made.setup made.mtu (links.stepped (record_added (record_of codec caps metadata))) a b same
+lived_some source (steps.Pac sink codec caps metadata) made a b same = search (grows)
 lived_some source (steps.Locate sink bits) made a b same = grows made.setup made.mtu (links.stepped (locations_set bits)) a b same
-lived_some source (steps.Context sink sink_bits source_bits) made a b same =
-    grows made.setup made.mtu (links.stepped (contexts_set sink_bits)) a b same
-lived_some source (steps.Tuned sink which) made a b same =
-    grows made.setup made.mtu (links.stepped (put_on (source.joining which))) a b same
-lived_some source (steps.Announce sink) made a b same =
-    grows made.setup made.mtu (links.stepped (train_heard (own_train source))) a b same
-lived_some source (steps.Train sink time ext adv acad) made a b same =
-    grows made.setup made.mtu (links.stepped (train_heard (given_train source time ext adv acad))) a b same
+lived_some source (steps.Context sink sink_bits source_bits) made a b same = search (grows)
+lived_some source (steps.Tuned sink which) made a b same = search (grows)
+lived_some source (steps.Announce sink) made a b same = grows made.setup made.mtu (links.stepped (train_heard (own_train source))) a b same
+lived_some source (steps.Train sink time ext adv acad) made a b same = search (grows)
 lived_some source (steps.Lose sink) made a b same = grows made.setup made.mtu (links.stepped train_lost) a b same
 lived_some source (steps.Control sink octets) made a b same = grows made.setup made.mtu (links.stepped (control_heard octets)) a b same
 lived_some source (steps.Write sink octets) made a b same = grows made.setup made.mtu (links.asked 0 octets) a b same
 lived_some source (steps.Add sink op) made a b same = grows made.setup made.mtu (links.asked 0 (spelling (operations.Add op))) a b same
-lived_some source (steps.Modify sink op) made a b same =
-    grows made.setup made.mtu (links.asked 0 (spelling (operations.Modify op))) a b same
-lived_some source (steps.Remove sink source_id) made a b same =
-    grows made.setup made.mtu (links.asked 0 (spelling (operations.Remove source_id))) a b same
-lived_some source (steps.Code sink source_id code) made a b same =
-    grows made.setup made.mtu (links.asked 0 (spelling (operations.Code source_id code))) a b same
+lived_some source (steps.Modify sink op) made a b same = search (grows)
+lived_some source (steps.Remove sink source_id) made a b same = search (grows)
+lived_some source (steps.Code sink source_id code) made a b same = search (grows)
 lived_some source (steps.Serve sink) made a b same = grows made.setup made.mtu (links.served 0) a b same
 lived_some source (steps.Tell sink) made a b same = grows made.setup made.mtu (links.told 0) a b same
 lived_some source (steps.Read sink) made a b same = grows made.setup made.mtu (links.read 0) a b same
@@ -82,8 +69,7 @@ lived_some source (steps.ADrain sink link) made a b same = drains made.setup mad
 lived_some source _ made a b same = same
 
 pub lives_grow : (line : Step) (source source' : Source) → Sourced line source source' → (made : Option Settings) (a b : List Call)
-    → LivesAlike made a b
-    → LivesAlike made (lived_by source line made a) (lived_by source' line made b)
+    → LivesAlike made a b → LivesAlike made (lived_by source line made a) (lived_by source' line made b)
 lives_grow line source source' sourced made a b same = grind (arith, lived_sourced, lived_some)
 
 lives_if : (hit : Bool) (made : Option Settings) (a b a' b' : List Call) → LivesAlike made a b → LivesAlike made a' b'
@@ -109,11 +95,8 @@ gone_lives false made a b same = same
 pub life_grows : (n : ℕ) (step : Step) (earlier others : List Step) → Sourced step (source_at earlier) (source_at others)
     → made_of n earlier ≡ made_of n others → LivesAlike (made_of n earlier) (life n earlier) (life n others)
     → LivesAlike (made_of n (step ∷ earlier)) (life n (step ∷ earlier)) (life n (step ∷ others))
-life_grows n (steps.Sink sink streams slots mtu) earlier others sourced sink_same same =
-    born_lives (sink == n) (record { setup = record { streams = streams; slots = slots; horizon = horizon_of earlier }; mtu = mtu }) mtu
-    (made_of n earlier) (life n earlier) (life n others) same
-life_grows n (steps.Drop sink) earlier others sourced sink_same same =
-    gone_lives (sink == n) (made_of n earlier) (life n earlier) (life n others) same
+life_grows n (steps.Sink sink streams slots mtu) earlier others sourced sink_same same = search (born_lives)
+life_grows n (steps.Drop sink) earlier others sourced sink_same same = search (gone_lives)
 life_grows n step earlier others sourced sink_same same =
     subst (λ made. LivesAlike (made_of n earlier) (lived_at the_world n (named_by step) step earlier (made_of n earlier) (life n earlier))
     (lived_at the_world n (named_by step) step others made (life n others))) sink_same
@@ -126,11 +109,7 @@ received_some : (line : Step) (source source' : Source) → Sourced line source 
     → Alike made.setup made.mtu a b → Alike made.setup made.mtu a' b' → calls ≡ calls'
     → received_by source line (Some made) a a' calls ≡ received_by source' line (Some made) b b' calls'
 received_some line source source' sourced made a a' b b' calls calls' before later took =
-    ap (λ train. with_step (joining_of made (sight_in made a) train) (sight_in made a) (sight_in made a') calls)
-    (train_sourced line source source' sourced)
-    ∙ ap (λ sight. with_step (joining_of made sight (train_by source' line)) sight (sight_in made a') calls) before.sight
-    ∙ ap (λ sight. with_step (joining_of made (sight_in made b) (train_by source' line)) (sight_in made b) sight calls) later.sight
-    ∙ ap (with_step (joining_of made (sight_in made b) (train_by source' line)) (sight_in made b) (sight_in made b')) took
+    cc (train_sourced line source source' sourced, before.sight, later.sight, took)
 
 received_same : (line : Step) (source source' : Source) → Sourced line source source'
     → (made : Option Settings) (a a' b b' : List Call) (calls calls' : List sinks.Call)
@@ -161,7 +140,4 @@ pub sourced_same : (line : Step) (source source' : Source) (made made' : Option 
     → source ≡ source' → made ≡ made'
     → LivesAlike made a b → its ≡ its' → source_by source line made a its ≡ source_by source' line made' b its'
 sourced_same line source source' made made' a b its its' sources sinks_same same of_same =
-    ap (λ hit. cond hit (Some source.number) its) (follows_same source (train_by source line) made a b same)
-    ∙ ap (λ m. source_by source line m b its) sinks_same
-    ∙ ap (λ src. source_by src line made' b its) sources
-    ∙ ap (source_by source' line made' b) of_same
+    cc (follows_same source (train_by source line) made a b same, sinks_same, sources, of_same)

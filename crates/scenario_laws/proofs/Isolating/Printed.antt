@@ -6,11 +6,11 @@ use Rattle.group_sink.specs.Hearings.{hearing_of}
 use Rattle.isoal_base.specs.declared.hearing.Hearing.TheVariants.{NotOnGroup}
 use Rattle.scenario_text.specs.declared.step.Step.{Step}
 use Rattle.scenario_text.specs.declared.step.Step.TheVariants as steps
-use Rattle.transcript_text.specs.Lines.{control_line, handed_line, heard_line, pdu_line}
+use Rattle.transcript_text.specs.Lines.{control_line, handed_line, heard_line}
 use Rattle.scenario_history.specs.Boxes.{closing}
 use Rattle.scenario_history.specs.Output.{injected_hearing, stale_lines}
 use Rattle.scenario_history.specs.Sinks.{is_of, sink_calls, source_of}
-use Rattle.scenario_history.specs.Source.{end_pdu, event_back, pdu_in, stale_in}
+use Rattle.scenario_history.specs.Source.{end_pdu, event_back, stale_in}
 use Rattle.source_machine.specs.Airs.{Airs}
 use Rattle.scenario_history.specs.Steps.{chosen_of, chosen_steps}
 use Rattle.scenario_history.specs.Worlds.{life, source_at}
@@ -55,8 +55,7 @@ injected_same airs s n back bis subevent octets made others own same =
 -- ---- lines of the sink
 
 named_same : (airs : Airs) (s n sink : ℕ) (line : Step) (made others : List Step) → not (sink == n) ≡ false → Means s made line
-    → Same airs s n made others
-    → concat (printed_where (source_at made) line (made_of sink made) (life sink made))
+    → Same airs s n made others → concat (printed_where (source_at made) line (made_of sink made) (life sink made))
     ≡ concat (printed_where (source_at others) line (made_of sink others) (life sink others))
 named_same airs s n sink line made others this means same =
     let is : sink ≡ n = this_one sink n this in
@@ -68,8 +67,7 @@ named_same airs s n sink line made others this means same =
 -- ---- all of them
 
 pub lines_same : (airs : Airs) (s n : ℕ) (step : Step) (made others : List Step) → is_other n (sink_in step) ≡ false → Means s made step
-    → Same airs s n made others
-    → lines_by airs n made step ≡ lines_by airs n others step
+    → Same airs s n made others → lines_by airs n made step ≡ lines_by airs n others step
 lines_same airs s n steps.Event made others this means same =
     append_same (unit_lines_by n (closing airs (chosen_of made) made)) (stale_lines (stale_in airs (chosen_steps made)))
     (unit_lines_by n (closing airs (chosen_of others) others)) (stale_lines (stale_in airs (chosen_steps others)))
@@ -84,13 +82,12 @@ lines_same airs s n (steps.Terminate reason) made others this means same =
 lines_same airs s n steps.End made others this means same = ap (flat_map (handed_line n)) (both_alike airs s n made others same)
 lines_same airs s n (steps.Drop sink) made others this means same = refl
 lines_same airs s n (steps.Inject sink back bis subevent octets) made others this means same =
-    ap (heard_line sink)
-    (ap (λ m. injected_hearing airs made m back bis subevent octets) (this_one sink n this)
+    ap (heard_line sink) (ap (λ m. injected_hearing airs made m back bis subevent octets) (this_one sink n this)
     ∙ injected_same airs s n back bis subevent octets made others (own_alike airs s n made others (means refl) same) same
     ∙ sym (ap (λ m. injected_hearing airs others m back bis subevent octets) (this_one sink n this)))
 lines_same airs s n (steps.Sniff back bis subevent) made others this means same =
-    ap (λ event. pdu_line event bis subevent (pdu_in airs (chosen_steps made) (event_back (chosen_steps made) back) bis subevent))
-    (back_same (chosen_steps made) (chosen_steps others) back (own_alike airs s n made others (means refl) same))
-    ∙ ap (pdu_line (event_back (chosen_steps others) back) bis subevent)
-    (pdu_back_same airs (chosen_steps made) (chosen_steps others) back bis subevent (own_alike airs s n made others (means refl) same))
+    cc (
+      back_same (chosen_steps made) (chosen_steps others) back (own_alike airs s n made others (means refl) same),
+      pdu_back_same airs (chosen_steps made) (chosen_steps others) back bis subevent (own_alike airs s n made others (means refl) same),
+    )
 lines_same airs s n step made others this means same = search (named_same, this, means, same)

@@ -1,5 +1,5 @@
 -- What is said of a source, looked back for: eight facts, of which all else that sinks and lines take of it are functions.
-use Rattle.std.proofs.Common.{ℕ, zero, suc, ◌≡◌, ◌-◌, ◌*◌, ◌%◌, ◌^◌, ◌==◌, ◌||◌, ◌&&◌, ◌∙◌, not, cond, Bool, true, false, List, [], ◌∷◌}
+use Rattle.std.proofs.Common.{ℕ, zero, suc, ◌≡◌, ◌-◌, ◌*◌, ◌%◌, ◌^◌, ◌==◌, ◌||◌, ◌∙◌, not, cond, Bool, true, false, List, [], ◌∷◌}
 use Rattle.std.proofs.Common.{Option, None, Some, refl, ap}
 use Rattle.std.specs.Prelude.{unwrap_or}
 use Rattle.std.specs.Option.{option_or}
@@ -21,7 +21,7 @@ use Rattle.scenario_history.specs.Source.{group_of, ident_of, identity_given}
 use Rattle.scenario_history.specs.Source.{is_ahead_in, is_sending_at, no_group, no_identity, open_event, pdu_in, phase_given, setup_from}
 use Rattle.scenario_history.specs.Source.{setup_of, source_calls}
 use Rattle.scenario_history.specs.Source.{stale_in, start_given, start_of, with_source_call}
-use Rattle.scenario_history.specs.Steps.{Stage, chosen_of, chosen_steps, is_common, is_of_source, is_over_at, is_source_line, last_given}
+use Rattle.scenario_history.specs.Steps.{Stage, chosen_of, chosen_steps, is_of_source, is_over_at, last_given}
 use Rattle.scenario_history.specs.Steps.{stage_after, stage_of, steps_of_source, version_at}
 use Rattle.scenario_history.specs.Worlds.{joining_on, source_at}
 use Rattle.sink_history.specs.Lives.{Source}
@@ -90,8 +90,7 @@ source_in number said = record {
   address_type = (identity_in said).address_type;
   sid = (identity_in said).sid;
   announced = train_of (identity_in said).broadcast_id (base_in said) (with_cipher (unwrap_or said.group no_group).info said.cipher)
-      (next_in said)
-      (next_anchor_of (setup_in said) said.calls);
+      (next_in said) (next_anchor_of (setup_in said) said.calls);
   joining = λ which. record {
     info = (setup_in said).info;
     which = which;
@@ -161,9 +160,7 @@ heard_first : (airs : Airs) (own own' : List Step) (lose count : ℕ) (calls cal
     → heard_on_air airs own lose count calls ≡ heard_on_air airs own' lose count calls'
 heard_first airs own own' lose zero calls calls' same took = took
 heard_first airs own own' lose (suc i) calls calls' same took =
-    heard_one airs own own' lose i (heard_on_air airs own lose i calls) same
-    ∙ ap (unless_lost (is_lost (setup_of own').info (event_back own' 0) lose (spot_at (setup_of own').info i))
-    (hear_at airs own' (event_back own' 0) (spot_at (setup_of own').info i))) (heard_first airs own own' lose i calls calls' same took)
+    cc (heard_one airs own own' lose i (heard_on_air airs own lose i calls) same, heard_first airs own own' lose i calls calls' same took)
 
 pub heard_same : (airs : Airs) (own own' : List Step) (lose : ℕ) (calls calls' : List Call) → said_of own ≡ said_of own' → calls ≡ calls'
     → heard_on_air airs own lose (spots_of own) calls ≡ heard_on_air airs own' lose (spots_of own') calls'
@@ -195,9 +192,7 @@ pub said_grows : (s : ℕ) (step : Step) (made others : List Step) → chosen_of
     → said_of (steps_of_source s made) ≡ said_of (steps_of_source s others)
     → said_of (steps_of_source s (step ∷ made)) ≡ said_of (steps_of_source s (step ∷ others))
 said_grows s step made others chosen same =
-    ap (λ c. said_of (cond (is_common step || (is_source_line step && (c == s)))
-    (step ∷ steps_of_source s made) (steps_of_source s made))) chosen
-    ∙ said_if (is_of_source s others step) step (steps_of_source s made) (steps_of_source s others) same
+    cc (chosen, said_if (is_of_source s others step) step (steps_of_source s made) (steps_of_source s others) same)
 
 stays_if : (is_its : Bool) (step : Step) (own : List Step) → said_after step (said_of own) ≡ said_of own
     → said_of (cond is_its (step ∷ own) own) ≡ said_of own

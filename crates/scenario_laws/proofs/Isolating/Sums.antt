@@ -12,9 +12,8 @@ use Rattle.group_sink.specs.Handing.{handed_at}
 use Rattle.scenario_text.specs.declared.step.Step.{Step}
 use Rattle.scenario_text.specs.declared.step.Step.TheVariants as steps
 use Rattle.scenario_history.proofs.Citable.{box_was_made, valid_append}
-use Rattle.scenario_history.specs.Boxes.{SinkUnit, box_of, closing, closing_at, closing_by, closing_in, handed_by, handed_up}
-use Rattle.scenario_history.specs.Boxes.{onto_valid, sink_numbers, valid_for}
-use Rattle.scenario_history.specs.Sinks.{is_of, sink_calls, source_of}
+use Rattle.scenario_history.specs.Boxes.{SinkUnit, box_of, closing, closing_at, closing_in, handed_by, handed_up}
+use Rattle.scenario_history.specs.Boxes.{onto_valid, valid_for}
 use Rattle.scenario_history.specs.Source.{open_event}
 use Rattle.source_machine.specs.Airs.{Airs}
 use Rattle.scenario_history.specs.Steps.{chosen_of, sinks_made, sinks_made_by, steps_of_source}
@@ -45,8 +44,7 @@ one_box [] m k b em ek = absurd (none-some b em)
 one_box (steps.Sink sink streams slots mtu ∷ made) m k b em ek =
     made_hits sink m k (sinks_made made) b (box_of m made) (box_of k made) (sink == m) (sink == k) (box_was_made m made b)
     (box_was_made k made b) (one_box made m k b) refl refl em ek
-one_box (steps.Drop sink ∷ made) m k b em ek =
-    gone_hits m k b (box_of m made) (box_of k made) (sink == m) (sink == k) (one_box made m k b) em ek
+one_box (steps.Drop sink ∷ made) m k b em ek = search (gone_hits, one_box made m k b)
 one_box (_ ∷ made) m k b em ek = one_box made m k b em ek
 
 -- ---- the units that go to the box of a sink are those of the sink
@@ -69,9 +67,7 @@ one_octets hit unit units = grind (arith, onto_octets, past_octets)
 its_octets : (b n : ℕ) (units : List SinkUnit) → FitsBox b n units → valid_for b units ≡ octets_in (units_by n units)
 its_octets b n [] fits = refl
 its_octets b n (unit ∷ units) fits =
-    ap (λ hit. onto_valid hit unit.unit (valid_for b units)) fits.0
-    ∙ ap (onto_valid (unit.sink == n) unit.unit) (its_octets b n units fits.1)
-    ∙ one_octets (unit.sink == n) unit (filter (λ u. u.sink == n) units)
+    cc (fits.0, its_octets b n units fits.1, one_octets (unit.sink == n) unit (filter (λ u. u.sink == n) units))
 
 fits_append : (b n : ℕ) (us vs : List SinkUnit) → FitsBox b n us → FitsBox b n vs → FitsBox b n (us ++ vs)
 fits_append b n [] vs first rest = rest
@@ -91,23 +87,19 @@ same_tests made n m b box its is = elim (cases_eq m n) [
   | inl same ↦
       let boxes : box ≡ b = same_some box b (sym is ∙ ap (λ k. box_of k made) same ∙ its) in
       eq-eqb box b boxes ∙ sym (eq-eqb m n same)
-  | inr other ↦
-      ne_eqb box b (λ boxes. other (one_box made m n b (is ∙ ap Some boxes) its)) ∙ sym (ne_eqb m n other)
+  | inr other ↦ ne_eqb box b (λ boxes. other (one_box made m n b (is ∙ ap Some boxes) its)) ∙ sym (ne_eqb m n other)
 ]
 
 fits_one : (made : List Step) (b n t event m : ℕ) (calls : List Call) (hit : Bool) (box : Option ℕ) → box_of n made ≡ Some b
     → box_of m made ≡ box → FitsBox b n (cond hit (closing_in t event m calls box) [])
 fits_one made b n t event m calls true None its is = tt
-fits_one made b n t event m calls true (Some box) its is =
-    fits_units b n t m box (handed_at calls event) (same_tests made n m b box its is)
+fits_one made b n t event m calls true (Some box) its is = fits_units b n t m box (handed_at calls event) (same_tests made n m b box its is)
 fits_one made b n t event m calls false box its is = tt
 
 fits_at : (airs : Airs) (made : List Step) (b n t : ℕ) (last_open : Option ℕ) → box_of n made ≡ Some b
     → FitsBox b n (closing_at airs t made last_open)
 fits_at airs made b n t None its = tt
-fits_at airs made b n t (Some event) its =
-    fits_flat b n (λ m. closing_by t event m (sink_calls airs m made) (source_of m made) (box_of m made)) sink_numbers
-    (λ m. fits_one made b n t event m (sink_calls airs m made) (is_of t (source_of m made)) (box_of m made) its refl)
+fits_at airs made b n t (Some event) its = search (fits_flat, fits_one)
 
 fits_closing : (airs : Airs) (made : List Step) (b n t : ℕ) → box_of n made ≡ Some b → FitsBox b n (closing airs t made)
 fits_closing airs made b n t its = fits_at airs made b n t (open_event (steps_of_source t made)) its
@@ -116,8 +108,7 @@ fits_step : (airs : Airs) (made : List Step) (b n : ℕ) (step : Step) → box_o
 fits_step airs made b n steps.Event its = fits_closing airs made b n (chosen_of made) its
 fits_step airs made b n steps.Stop its = fits_closing airs made b n (chosen_of made) its
 fits_step airs made b n (steps.Terminate reason) its = fits_closing airs made b n (chosen_of made) its
-fits_step airs made b n steps.End its =
-    fits_append b n (closing airs 0 made) (closing airs 1 made) (fits_closing airs made b n 0 its) (fits_closing airs made b n 1 its)
+fits_step airs made b n steps.End its = search (fits_append, fits_closing)
 fits_step airs made b n _ its = tt
 
 pub step_octets : (airs : Airs) (made : List Step) (b n : ℕ) (step : Step) → box_of n made ≡ Some b
@@ -129,20 +120,15 @@ step_octets airs made b n step its = its_octets b n (handed_by airs made step) (
 none_units : (b t m box : ℕ) (units : List Handed) → (box == b) ≡ false
     → valid_for b (map (λ unit. record { source = t; sink = m; box = box; unit = unit }) units) ≡ []
 none_units b t m box [] other = refl
-none_units b t m box (valid bis time octets ∷ units) other =
-    ap (λ hit. onto_valid hit (valid bis time octets)
-    (valid_for b (map (λ unit. record { source = t; sink = m; box = box; unit = unit }) units)))
-    other ∙ none_units b t m box units other
+none_units b t m box (valid bis time octets ∷ units) other = cc (other, none_units b t m box units other)
 none_units b t m box (lost bis time ∷ units) other = none_units b t m box units other
 
 none_flat : (b : ℕ) (f : ℕ → List SinkUnit) (ms : List ℕ) → ((m : ℕ) → valid_for b (f m) ≡ []) → valid_for b (flat_map f ms) ≡ []
 none_flat b f [] none = refl
-none_flat b f (m ∷ ms) none =
-    valid_append b (f m) (flat_map f ms) ∙ ap (λ us. us ++ valid_for b (flat_map f ms)) (none m) ∙ none_flat b f ms none
+none_flat b f (m ∷ ms) none = cc (valid_append b (f m) (flat_map f ms), none m, none_flat b f ms none)
 
 none_one : (made : List Step) (b t event m : ℕ) (calls : List Call) (hit : Bool) (box : Option ℕ) → sinks_made made ≤ b
-    → box_of m made ≡ box
-    → valid_for b (cond hit (closing_in t event m calls box) []) ≡ []
+    → box_of m made ≡ box → valid_for b (cond hit (closing_in t event m calls box) []) ≡ []
 none_one made b t event m calls true None later is = refl
 none_one made b t event m calls true (Some box) later is =
     let older : box < sinks_made made = box_was_made m made box is in
@@ -165,8 +151,7 @@ none_yet airs [] b later = refl
 none_yet airs (step ∷ made) b later =
     let before : sinks_made made ≤ b = omega (arith, more_made step (sinks_made made), later) in
     valid_append b (handed_up airs made) (handed_by airs made step)
-    ∙ ap (λ us. us ++ valid_for b (handed_by airs made step)) (none_yet airs made b before)
-    ∙ none_step airs made b step before
+    ∙ ap (λ us. us ++ valid_for b (handed_by airs made step)) (none_yet airs made b before) ∙ none_step airs made b step before
 
 -- ---- what two boxes took alike
 
@@ -208,13 +193,10 @@ gone_took : (hit : Bool) (airs : Airs) (n sink : ℕ) (made others : List Step) 
     → (box other : ℕ) → cond hit None (box_of n made) ≡ Some box → cond hit None (box_of n others) ≡ Some other
     → valid_for box (handed_up airs (steps.Drop sink ∷ made)) ≡ valid_for other (handed_up airs (steps.Drop sink ∷ others))
 gone_took true airs n sink made others took box other its its' = absurd (none-some box its)
-gone_took false airs n sink made others took box other its its' =
-    stays_took airs n (steps.Drop sink) made others took refl box other its its'
+gone_took false airs n sink made others took box other its its' = search (stays_took)
 
 pub kept_took : (airs : Airs) (n : ℕ) (step : Step) (made others : List Step) → TookAlike airs n made others
     → units_by n (handed_by airs made step) ≡ units_by n (handed_by airs others step) → TookAlike airs n (step ∷ made) (step ∷ others)
-kept_took airs n (steps.Sink sink streams slots mtu) made others took same box other its its' =
-    made_took (sink == n) airs n sink streams slots mtu made others took box other its its'
-kept_took airs n (steps.Drop sink) made others took same box other its its' =
-    gone_took (sink == n) airs n sink made others took box other its its'
+kept_took airs n (steps.Sink sink streams slots mtu) made others took same box other its its' = search (made_took)
+kept_took airs n (steps.Drop sink) made others took same box other its its' = search (gone_took)
 kept_took airs n step made others took same box other its its' = stays_took airs n step made others took same box other its its'

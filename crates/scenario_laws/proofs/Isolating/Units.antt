@@ -8,7 +8,7 @@ use Rattle.std.proofs.lemmas.List.Elements.{filter-append}
 use Rattle.unit_outlets.specs.Handed.{Handed}
 use Rattle.group_sink.specs.Calls.{Call}
 use Rattle.scenario_text.specs.declared.step.Step.{Step}
-use Rattle.scenario_history.specs.Boxes.{SinkUnit, box_of, closing, closing_at, closing_both, closing_by, closing_in, sink_numbers}
+use Rattle.scenario_history.specs.Boxes.{SinkUnit, box_of, closing, closing_at, closing_both, closing_by, closing_in}
 use Rattle.scenario_history.specs.Sinks.{is_of, sink_calls, source_of}
 use Rattle.scenario_history.specs.Source.{open_event}
 use Rattle.source_machine.specs.Airs.{Airs}
@@ -65,9 +65,11 @@ pub record HandsAlike (airs : Airs) (n : ℕ) (made others : List Step) : Type 0
 own_closes : (airs : Airs) (t event n : ℕ) (made others : List Step) → HandsAlike airs n made others
     → units_by n (closes airs t event made n) ≡ units_by n (closes airs t event others n)
 own_closes airs t event n made others same =
-    ap (λ calls. units_by n (closing_by t event n calls (source_of n made) (box_of n made))) same.calls
-    ∙ ap (λ source. units_by n (closing_by t event n (sink_calls airs n others) source (box_of n made))) same.source
-    ∙ boxes_in (is_of t (source_of n others)) t event n (sink_calls airs n others) (box_of n made) (box_of n others) same.boxed
+    cc (
+      same.calls,
+      same.source,
+      boxes_in (is_of t (source_of n others)) t event n (sink_calls airs n others) (box_of n made) (box_of n others) same.boxed,
+    )
 
 each_closes : (airs : Airs) (t event n : ℕ) (made others : List Step) → HandsAlike airs n made others → (m : ℕ)
     → units_by n (closes airs t event made m) ≡ units_by n (closes airs t event others m)
@@ -83,11 +85,7 @@ each_closes airs t event n made others same m = elim (cases_eq m n) [
 closing_same : (airs : Airs) (t n : ℕ) (last_open : Option ℕ) (made others : List Step) → HandsAlike airs n made others
     → units_by n (closing_at airs t made last_open) ≡ units_by n (closing_at airs t others last_open)
 closing_same airs t n None made others same = refl
-closing_same airs t n (Some event) made others same =
-    units_flat n (closes airs t event made) sink_numbers
-    ∙ flat_same (λ m. units_by n (closes airs t event made m)) (λ m. units_by n (closes airs t event others m)) sink_numbers
-    (each_closes airs t event n made others same)
-    ∙ sym (units_flat n (closes airs t event others) sink_numbers)
+closing_same airs t n (Some event) made others same = search (units_flat, flat_same, each_closes)
 
 not_its : (airs : Airs) (t event n : ℕ) (made : List Step) → is_of t (source_of n made) ≡ false → (m : ℕ)
     → units_by n (closes airs t event made m) ≡ []
@@ -126,7 +124,9 @@ closing_alike airs s n t made others same = elim (cases_eq t s) [
 pub both_alike : (airs : Airs) (s n : ℕ) (made others : List Step) → Same airs s n made others
     → units_by n (closing_both airs made) ≡ units_by n (closing_both airs others)
 both_alike airs s n made others same =
-    units_append n (closing airs 0 made) (closing airs 1 made)
-    ∙ ap (λ us. us ++ units_by n (closing airs 1 made)) (closing_alike airs s n 0 made others same)
-    ∙ ap (λ us. units_by n (closing airs 0 others) ++ us) (closing_alike airs s n 1 made others same)
-    ∙ sym (units_append n (closing airs 0 others) (closing airs 1 others))
+    cc (
+      units_append n (closing airs 0 made) (closing airs 1 made),
+      closing_alike airs s n 0 made others same,
+      closing_alike airs s n 1 made others same,
+      units_append n (closing airs 0 others) (closing airs 1 others),
+    )

@@ -60,14 +60,7 @@ places_are number (k ∷ ks) = ap (λ l. k ∷ l) (places_are number ks)
 
 of_first : (octets : List (List ℕ)) (units : List AudioUnit) (numbered : Numbered octets units) (setup : Setup) (to k : ℕ) (entry : Handed)
     → IsOfOffered setup to units k entry → IsOfFirst octets units setup to (unit_place numbered.number k) entry
-of_first octets units numbered setup to k entry of_offered = record {
-  unit = of_offered.unit;
-  is_given = numbered.gives k of_offered.unit of_offered.is_offered;
-  is_handed = of_offered.is_offered;
-  stream = of_offered.stream;
-  time_is = of_offered.time_is;
-  valid_is = of_offered.valid_is;
-}
+of_first octets units numbered setup to k entry of_offered = search arith
 
 in_first_order : (octets : List (List ℕ)) (units : List AudioUnit) → Numbered octets units → (setup : Setup) (to : ℕ) (entries : List Handed)
     → InRelayOrder setup to units entries → InFirstOrder octets units setup to entries
@@ -86,8 +79,7 @@ pub relayed_units : ((boxes : ℕ) → RelayLaw boxes) → StepsInOrder → (box
 relayed_units law order boxes airs meets said legal n bis to within least greatest to_least to_greatest m below first_clean clean =
     let made : List Step = happened airs said in
     let made_legal = happens_legally airs boxes said legal in
-    let framed : (setup_of (steps_of_source 1 made)).info.framing ≡ 1 =
-    eqb-true (setup_of (steps_of_source 1 made)).info.framing 1
+    let framed : (setup_of (steps_of_source 1 made)).info.framing ≡ 1 = eqb-true (setup_of (steps_of_source 1 made)).info.framing 1
     (settled airs boxes to made made_legal (had_happened airs to said ∙ has_had n bis to said within)).framed in
     let second = (order airs meets boxes made made_legal 1 m (omega arith) (ungiven m made clean)).in_unit_order to below to_least to_greatest
     framed clean in

@@ -23,7 +23,7 @@ use Rattle.scenario_history.specs.Steps.{last_given, sinks_made}
 use Rattle.scenario_laws.specs.Laws.{handed_since, is_made, of_sink}
 use Rattle.scenario_laws.proofs.Gifts.Citable.{OneStands, contains_cases, first_free, had_happened, happens_legally, has_had, is_free}
 use Rattle.scenario_laws.proofs.Gifts.Citable.{left_by_gifts, line_passes, not_yet, one_stands}
-use Rattle.scenario_history.specs.Gifts.{Offer, after_offer, after_offers, dropped_for, happened, offers_before, units_on}
+use Rattle.scenario_history.specs.Gifts.{Offer, after_offer, after_offers, happened, offers_before, units_on}
 use Rattle.scenario_history.specs.Gifts.{with_gift_unless, with_gifts}
 use Rattle.scenario_laws.specs.Gifts.Laws.{handed_on, is_route, offered}
 use Rattle.scenario_laws.specs.Gifts.Legal.{AreLegal, AreSaidLegally}
@@ -53,8 +53,7 @@ boxed airs boxes n route [] legal is = absurd (none-some route is)
 boxed airs boxes n route (steps.Relay sink bis to ∷ earlier) legal is =
     made_boxed (sink == n) n sink bis to (last_given (relay_given n) earlier) route (λ k. box_of k earlier) (eqb-true sink n)
     (is_free airs boxes earlier sink bis to legal.1).living (boxed airs boxes n route earlier legal.0) is
-boxed airs boxes n route (steps.Drop sink ∷ earlier) legal is =
-    dropped_boxed (sink == n) (last_given (relay_given n) earlier) route (box_of n earlier) (boxed airs boxes n route earlier legal.0) is
+boxed airs boxes n route (steps.Drop sink ∷ earlier) legal is = search (dropped_boxed, boxed airs boxes n route earlier legal.0)
 boxed airs boxes n route (steps.Sink sink streams slots mtu ∷ earlier) legal is =
     boxed_if (sink == n) (box_of n earlier) (sinks_made earlier) (boxed airs boxes n route earlier legal.0 is)
 boxed airs boxes n route (step ∷ earlier) legal is = boxed airs boxes n route earlier legal.0 is
@@ -84,8 +83,7 @@ unless_since airs n reason offer made = grind (arith, append-nil)
 offers_since : (airs : Airs) (n : ℕ) (offers : List Offer) (made : List Step)
     → since airs n (after_offers airs offers made) ≡ since airs n made
 offers_since airs n [] made = refl
-offers_since airs n (offer ∷ offers) made =
-    offers_since airs n offers (after_offer airs offer made) ∙ unless_since airs n (dropped_for airs offer made) offer made
+offers_since airs n (offer ∷ offers) made = search (unless_since, offers_since airs n offers (after_offer airs offer made))
 
 abbrev own_units : ℕ → ℕ → List SinkUnit → List AudioUnit
 own_units n bis units = units_on bis (of_sink 0 n units)
@@ -115,8 +113,7 @@ goes_on airs boxes n bis to step earlier route legal is goes ends =
       before = ends.before;
       parts = step_since (is_made n gifted step) n bis (since airs n gifted) (handed_by airs gifted step)
           (made_not airs boxes n made gifted step legal.1 living)
-          ∙ ap (λ l. own_units n bis l ++ now) (offers_since airs n (offers_before airs made step) made)
-          ∙ ap (λ l. l ++ now) ends.parts
+          ∙ ap (λ l. own_units n bis l ++ now) (offers_since airs n (offers_before airs made step) made) ∙ ap (λ l. l ++ now) ends.parts
           ∙ append_assoc ends.before (offered airs n bis to earlier) now
           ∙ ap (λ hit. ends.before ++ (offered airs n bis to earlier ++ cond hit now [])) (sym goes);
     }
@@ -136,8 +133,7 @@ stood airs boxes n to made gifted (steps.Relay sink from into) route none had is
     still_if (sink == n) (record { bis = from; to = into }) route (last_given (relay_given n) gifted)
     (λ its same. false≢true (sym (is_free airs boxes made sink from into
     (line_passes airs boxes made (steps.Relay sink from into) none)).had ∙ ap (λ b. had_relay b made) (same ∙ goes) ∙ had)) is
-stood airs boxes n to made gifted (steps.Drop sink) route none had is goes = dropped_not (sink == n) route
-    (last_given (relay_given n) gifted) is
+stood airs boxes n to made gifted (steps.Drop sink) route none had is goes = search (dropped_not)
 stood airs boxes n to made gifted step route none had is goes = is
 
 is_its : (n bis to : ℕ) (made : List Step) (route : Route) → OneStands n bis to made → relay_of n made ≡ Some route → route.to ≡ to
@@ -146,8 +142,7 @@ is_its n bis to made route stands is goes =
     ap (is_route bis to) is ∙ rw (eq-eqb route.bis bis (stands n route is goes).1, eq-eqb route.to to goes) refl
 
 pub ends_with : (airs : Airs) (boxes n bis to : ℕ) (said : List Step) → AreSaidLegally airs boxes said
-    → Contains said (steps.Relay n bis to)
-    → (route : Route) → relay_of n (happened airs said) ≡ Some route → route.to ≡ to
+    → Contains said (steps.Relay n bis to) → (route : Route) → relay_of n (happened airs said) ≡ Some route → route.to ≡ to
     → EndsWith (own_units n bis (since airs n (happened airs said))) (offered airs n bis to said)
 ends_with airs boxes n bis to [] legal within route is goes = absurd (none-some route is)
 ends_with airs boxes n bis to (step ∷ earlier) legal within route is goes =

@@ -1,9 +1,8 @@
 -- The units that a sink handed up of a stream, each with the number of the unit of its source that it is.
-use Rattle.std.proofs.Common.{ℕ, zero, suc, ◌≡◌, ◌<◌, ◌==◌, ◌∙◌, Bool, true, false, cond, List, [], ◌∷◌, ◌++◌, length, map, slice_get}
+use Rattle.std.proofs.Common.{ℕ, zero, suc, ◌≡◌, ◌<◌, ◌∙◌, Bool, true, false, cond, List, [], ◌∷◌, ◌++◌, length, map, slice_get}
 use Rattle.std.proofs.Common.{Option, None, Some, refl, sym, ap, arith}
-use Rattle.std.specs.Prelude.{slice_index, unwrap_or}
+use Rattle.std.specs.Prelude.{slice_index}
 use Rattle.std.specs.List.{AllZip, filter}
-use Rattle.std.specs.Option.{option_map}
 use Rattle.std.proofs.lemmas.List.{length-map, map-append}
 use Rattle.std.proofs.lemmas.List.Kept.{AllPairs-from_increasing}
 use Rattle.std.proofs.lemmas.Option.{none-some, same_Some, slice_get-map}
@@ -45,24 +44,17 @@ lost_if true stream time units rest same = same
 lost_if false stream time units rest same = same
 
 -- the units of a stream are those of the valid entries of it
-units_are : (bis : ℕ) (entries : List Handed)
-    → map (λ (unit : AudioUnit). shown (valid 0 unit.time unit.octets)) (units_on bis entries)
+units_are : (bis : ℕ) (entries : List Handed) → map (λ (unit : AudioUnit). shown (valid 0 unit.time unit.octets)) (units_on bis entries)
     ≡ map shown (valid_in (of_stream bis entries))
 units_are bis [] = refl
-units_are bis (valid stream time octets ∷ entries) =
-    valid_if (stream == bis) stream time octets (units_on bis entries) (of_stream bis entries) (units_are bis entries)
-units_are bis (lost stream time ∷ entries) =
-    lost_if (stream == bis) stream time (map (λ (unit : AudioUnit). shown (valid 0 unit.time unit.octets)) (units_on bis entries))
-    (of_stream bis entries)
-    (units_are bis entries)
+units_are bis (valid stream time octets ∷ entries) = search (valid_if, units_are bis entries)
+units_are bis (lost stream time ∷ entries) = search (lost_if, units_are bis entries)
 
 -- the unit at a place is that of the valid entry there
 shown_at : (bis : ℕ) (entries : List Handed) (k : ℕ) (unit : AudioUnit) → slice_get (units_on bis entries) k ≡ Some unit
     → slice_get (map shown (valid_in (of_stream bis entries))) k ≡ Some (shown (valid 0 unit.time unit.octets))
 shown_at bis entries k unit is =
-    ap (λ l. slice_get l k) (sym (units_are bis entries))
-    ∙ slice_get-map (λ (u : AudioUnit). shown (valid 0 u.time u.octets)) (units_on bis entries) k
-    ∙ ap (option_map (λ (u : AudioUnit). shown (valid 0 u.time u.octets))) is
+    cc (units_are bis entries, slice_get-map (λ (u : AudioUnit). shown (valid 0 u.time u.octets)) (units_on bis entries) k, is)
 
 same_long : (bis : ℕ) (entries : List Handed) → length (units_on bis entries) ≡ length (valid_in (of_stream bis entries))
 same_long bis entries =
@@ -106,8 +98,7 @@ numbered_slots setup calls bis entries order =
       rises = λ j k below within. AllPairs-from_increasing order.numbers order.rising j k 0 below (omega (arith, within, long));
       gives = λ k unit is.
           let found = zip_get (IsGiven setup calls bis) shown order.numbers (valid_in (of_stream bis entries)) k
-          (shown (valid 0 unit.time unit.octets))
-          order.given (shown_at bis entries k unit is) in
+          (shown (valid 0 unit.time unit.octets)) order.given (shown_at bis entries k unit is) in
           of_given setup calls bis (slice_index order.numbers k) found.one unit found.holds found.is;
     }
 
@@ -122,26 +113,25 @@ given_if hit time octets calls before same = grind (arith, map-append)
 given_units : (setup : Setup) (bis : ℕ) (calls : List Call)
     → map (λ (unit : AudioUnit). unit.octets) (accepted (framed_calls setup bis calls)) ≡ given bis calls
 given_units setup bis [] = refl
-given_units setup bis (give stream time octets ∷ earlier) =
-    given_if (stream == bis) (unwrap_or time 0) octets (framed_calls setup bis earlier) (given bis earlier) (given_units setup bis earlier)
-given_units setup bis (event ∷ earlier) =
-    ap (map (λ (unit : AudioUnit). unit.octets)) (event_accepts_none setup bis earlier) ∙ given_units setup bis earlier
+given_units setup bis (give stream time octets ∷ earlier) = search (given_if, given_units setup bis earlier)
+given_units setup bis (event ∷ earlier) = cc (event_accepts_none setup bis earlier, given_units setup bis earlier)
 
 of_unit : (setup : Setup) (calls : List Call) (bis : ℕ) (air : Air) (number : ℕ) (entry : Handed) (unit : AudioUnit)
     → IsOfUnit setup calls bis air number entry → shown entry ≡ Some unit → slice_get (given bis calls) number ≡ Some unit.octets
 of_unit setup calls bis air number (valid stream time octets) unit its is =
-    ap (λ l. slice_get l number) (sym (given_units setup bis calls))
-    ∙ slice_get-map (λ (u : AudioUnit). u.octets) (accepted (framed_calls setup bis calls)) number
-    ∙ ap (option_map (λ (u : AudioUnit). u.octets)) its.accepted
-    ∙ ap Some (sym (its.valid_is stream time octets refl))
-    ∙ ap (λ (u : AudioUnit). Some u.octets) (same_Some (record { time = time; octets = octets }) unit is)
+    cc (
+      given_units setup bis calls,
+      slice_get-map (λ (u : AudioUnit). u.octets) (accepted (framed_calls setup bis calls)) number,
+      its.accepted,
+      its.valid_is stream time octets refl,
+      same_Some (record { time = time; octets = octets }) unit is,
+    )
 of_unit setup calls bis air number (lost stream time) unit its is = absurd (none-some unit is)
 
 within_by : {A : Type 0} (hit : Bool) (x : A) (xs kept : List A) (later : ℕ → ℕ) → ((k : ℕ) → k < length kept → later k < length xs)
     → (k : ℕ) → k < length (cond hit (x ∷ kept) kept) → place_by hit later k < length (x ∷ xs)
 within_by true x xs kept later goes_on zero below = omega arith
-within_by true x xs kept later goes_on (suc k) below = let now : later k < length xs = goes_on k (omega (arith, below)) in omega
-    (arith, now)
+within_by true x xs kept later goes_on (suc k) below = search arith
 within_by false x xs kept later goes_on k below = let now : later k < length xs = goes_on k below in omega (arith, now)
 
 place_within : {A : Type 0} (test : A → Bool) (xs : List A) (k : ℕ) → k < length (filter test xs) → place test xs k < length xs
@@ -163,7 +153,6 @@ numbered_units setup calls bis air entries order =
           (omega (arith, last, long));
       gives = λ k unit is.
           let found = zip_get (IsOfUnit setup calls bis air) shown order.numbers all (index k) (shown (valid 0 unit.time unit.octets))
-          order.each
-          (place_gets is_valid shown all (shown (valid 0 unit.time unit.octets)) k (shown_at bis entries k unit is)) in
+          order.each (place_gets is_valid shown all (shown (valid 0 unit.time unit.octets)) k (shown_at bis entries k unit is)) in
           of_unit setup calls bis air (slice_index order.numbers (index k)) found.one unit found.holds found.is;
     }

@@ -17,7 +17,7 @@ use Rattle.unit_outlets.specs.Handed.{Handed}
 use Rattle.transcript_text.specs.declared.refusal.Refusal.{Refusal}
 use Rattle.scenario_history.specs.Airs.{MeetAirs}
 use Rattle.scenario_history.specs.Boxes.{closing}
-use Rattle.scenario_history.specs.Gifts.{Offer, after_offer, after_offers, closes_first, dropped_for, handed_of, happened, offers_before}
+use Rattle.scenario_history.specs.Gifts.{Offer, after_offer, after_offers, closes_first, handed_of, happened, offers_before}
 use Rattle.scenario_history.specs.Gifts.{units_on, with_gift_unless, with_gifts}
 use Rattle.scenario_history.specs.Relays.{Route, had_relay, relay_given, relay_of}
 use Rattle.scenario_history.specs.Source.{setup_of, source_calls}
@@ -27,7 +27,7 @@ use Rattle.scenario_laws.proofs.Gifts.Citable.{chosen_happened, contains_cases, 
 use Rattle.scenario_laws.proofs.Gifts.Citable.{in_range, left_by_gifts, not_yet}
 use Rattle.scenario_laws.specs.Gifts.Laws.{is_route, offered}
 use Rattle.scenario_laws.specs.Gifts.Legal.{AreLegal, AreSaidLegally}
-use Rattle.scenario_laws.specs.Laws.{StepsInOrder, any_since, given_since_made, handed_since, injected_since, is_given, is_injected, is_made}
+use Rattle.scenario_laws.specs.Laws.{StepsInOrder, given_since_made, handed_since, injected_since, is_given, is_injected, is_made}
 use Rattle.scenario_laws.specs.Laws.{air_in, of_sink}
 use Rattle.scenario_laws.specs.Relayed.{EndsWith, injected_till_last_offer}
 use Rattle.scenario_laws.proofs.Relaying.Ending.{ends_with}
@@ -61,8 +61,7 @@ numbered_end octets all last ends numbered = record {
       let long : behind ends.before k < length (ends.before ++ last) = behind_long ends.before last k within in
       numbered.rises (behind ends.before j) (behind ends.before k) (behind_rises ends.before j k below)
       (omega (arith, long, ap length ends.parts));
-  gives = λ k unit is.
-      numbered.gives (behind ends.before k) unit
+  gives = λ k unit is. numbered.gives (behind ends.before k) unit
       (ap (λ l. slice_get l (behind ends.before k)) ends.parts ∙ get_behind ends.before last k unit is);
 }
 
@@ -86,11 +85,7 @@ own_extends : (mine : Bool) (bis : ℕ) (step : Step) (own : List Step)
 own_extends mine bis step own = grind (arith, step_extends)
 
 numbered_more : (one other : List (List ℕ)) (units : List AudioUnit) → Extends one other → Numbered one units → Numbered other units
-numbered_more one other units extends numbered = record {
-  number = numbered.number;
-  rises = numbered.rises;
-  gives = λ k unit is. extends (numbered.number k) unit.octets (numbered.gives k unit is);
-}
+numbered_more one other units extends numbered = search arith
 
 -- ---- a sink that nothing was injected into
 
@@ -105,9 +100,7 @@ given_if begins one other rest others now before none = grind (arith, or_parts)
 -- no train was given to it by its octets
 pub ungiven : (n : ℕ) (made : List Step) → injected_since (is_made n) n made ≡ false → given_since_made n made ≡ false
 ungiven n [] none = refl
-ungiven n (step ∷ earlier) none =
-    given_if (is_made n earlier step) (is_injected n step) (is_given n step) (any_since (is_made n) (is_injected n) earlier)
-    (any_since (is_made n) (is_given n) earlier) (either_given n step) (ungiven n earlier) none
+ungiven n (step ∷ earlier) none = search (given_if, either_given, ungiven n earlier)
 
 -- gifts inject nothing
 injected_unless : (n : ℕ) (reason : Option Refusal) (offer : Offer) (made : List Step)
@@ -118,8 +111,7 @@ injected_unless n (Some reason) offer made = refl
 injected_offers : (airs : Airs) (n : ℕ) (offers : List Offer) (made : List Step)
     → injected_since (is_made n) n (after_offers airs offers made) ≡ injected_since (is_made n) n made
 injected_offers airs n [] made = refl
-injected_offers airs n (offer ∷ offers) made =
-    injected_offers airs n offers (after_offer airs offer made) ∙ injected_unless n (dropped_for airs offer made) offer made
+injected_offers airs n (offer ∷ offers) made = search (injected_unless, injected_offers airs n offers (after_offer airs offer made))
 
 made_alike : (n : ℕ) (one other : List Step) (step : Step) → is_made n one step ≡ is_made n other step
 made_alike n one other step = cc
@@ -146,8 +138,7 @@ relay_happened : (airs : Airs) (n : ℕ) (said : List Step) → relay_of n (happ
 relay_happened airs n [] = refl
 relay_happened airs n (step ∷ earlier) =
     relay_next (relay_given n step) (last_given (relay_given n) (with_gifts airs (happened airs earlier) step))
-    (last_given (relay_given n) earlier)
-    ((left_by_gifts airs (happened airs earlier) step).relay n ∙ relay_happened airs n earlier)
+    (last_given (relay_given n) earlier) ((left_by_gifts airs (happened airs earlier) step).relay n ∙ relay_happened airs n earlier)
 
 closes_alike : (one other : List Step) (step : Step) → chosen_of one ≡ chosen_of other → closes_first one step ≡ closes_first other step
 closes_alike one other steps.Event same = ap (λ s. s == 0) same
@@ -179,8 +170,7 @@ framing_if mine step own ranged before = grind (arith, framing_by)
 framing_fits : (airs : Airs) (boxes : ℕ) (made : List Step) → AreLegal airs boxes made
     → (setup_of (steps_of_source 0 made)).info.framing ≤ 1
 framing_fits airs boxes [] legal = omega arith
-framing_fits airs boxes (step ∷ earlier) legal =
-    framing_if (is_of_source 0 earlier step) step (steps_of_source 0 earlier) legal.2 (framing_fits airs boxes earlier legal.0)
+framing_fits airs boxes (step ∷ earlier) legal = search (framing_if, framing_fits airs boxes earlier legal.0)
 
 at_most_one : (k : ℕ) → k ≤ 1 → (k ≡ 0) ⊎ (k ≡ 1)
 at_most_one zero below = inl refl
@@ -230,16 +220,13 @@ none_offered airs n bis to step earlier not =
     ap₂ (λ relay hit. is_route bis to relay && hit) (relay_happened airs n earlier)
     (closes_alike made earlier step (chosen_happened airs earlier)) in
     ap (λ units. before ++ cond route (units_on bis units) []) (first_handed airs n made step)
-    ∙ ap (λ l. before ++ l) (none_if route closes bis (handed_of 0 n (closing airs 0 made)) (same ∙ not))
-    ∙ append-nil before
+    ∙ ap (λ l. before ++ l) (none_if route closes bis (handed_of 0 n (closing airs 0 made)) (same ∙ not)) ∙ append-nil before
 
 numbered_none : (octets : List (List ℕ)) → Numbered octets []
-numbered_none octets =
-    record { number = λ k. k; rises = λ j k below within. below; gives = λ k unit is. absurd (none-some unit is) }
+numbered_none octets = record { number = λ k. k; rises = λ j k below within. below; gives = λ k unit is. absurd (none-some unit is) }
 
 -- a step more gives source 0 the same units, and may be more
-happens_more : (airs : Airs) (bis : ℕ) (made : List Step) (step : Step)
-    → Extends (given bis (source_calls (steps_of_source 0 made)))
+happens_more : (airs : Airs) (bis : ℕ) (made : List Step) (step : Step) → Extends (given bis (source_calls (steps_of_source 0 made)))
     (given bis (source_calls (steps_of_source 0 (step ∷ with_gifts airs made step))))
 happens_more airs bis made step k octets is =
     let gifted = with_gifts airs made step in
@@ -265,8 +252,7 @@ offered_numbered order airs meets boxes n bis to (step ∷ earlier) legal within
           let relay : relay_of n (step ∷ gifted) ≡ relay_of n earlier =
           close_relays n earlier gifted step parts.1 ∙ left.relay n ∙ relay_happened airs n earlier in
           let way = way_of bis to (relay_of n (step ∷ gifted)) (ap (is_route bis to) relay ∙ parts.0) in
-          let clean_now : injected_since (is_made n) n (step ∷ gifted) ≡ false =
-          close_injects n earlier gifted step parts.1
+          let clean_now : injected_since (is_made n) n (step ∷ gifted) ≡ false = close_injects n earlier gifted step parts.1
           ∙ injected_offers airs n (offers_before airs made step) made
           ∙ injected_happened airs n earlier ∙ ap (λ b. cond b one other) (sym here) ∙ clean in
           numbered_end octets (units_on bis (of_sink 0 n (handed_since (is_made n) airs (step ∷ gifted)))) (offered airs n bis to said)
@@ -281,8 +267,7 @@ offered_numbered order airs meets boxes n bis to (step ∷ earlier) legal within
         | inr before ↦
             subst (Numbered octets) (sym (none_offered airs n bis to step earlier not))
             (numbered_more (given bis (source_calls (steps_of_source 0 made))) octets (offered airs n bis to earlier)
-            (happens_more airs bis made step)
-            (offered_numbered order airs meets boxes n bis to earlier legal.0 before least greatest
+            (happens_more airs bis made step) (offered_numbered order airs meets boxes n bis to earlier legal.0 before least greatest
             (ap (λ b. cond b one other) (sym not) ∙ clean)))
       ]
     ]

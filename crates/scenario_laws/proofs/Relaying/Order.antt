@@ -74,8 +74,7 @@ rising_map f rises xs increasing k within =
     omega (arith, one, next, now)
 
 pub zip_map : {A B C : Type 0} (f : A → C) (R : A → B → Type 0) (S : C → B → Type 0) → ((a : A) → (b : B) → R a b → S (f a) b)
-    → (xs : List A) (ys : List B) → AllZip R xs ys
-    → AllZip S (map f xs) ys
+    → (xs : List A) (ys : List B) → AllZip R xs ys → AllZip S (map f xs) ys
 zip_map f R S each [] [] all = tt
 zip_map f R S each [] (b ∷ ys) all = absurd all
 zip_map f R S each (a ∷ xs) [] all = absurd all

@@ -22,8 +22,7 @@ FoundNear (Some fault) = IsNear fault
 -- ---- it finds the same
 
 past : (holds : Bool) (fault : GroupFault) (one other : Option GroupFault) → FoundNear (cond holds (Some fault) one)
-    → (FoundNear one → other ≡ one)
-    → cond holds (Some fault) other ≡ cond holds (Some fault) one
+    → (FoundNear one → other ≡ one) → cond holds (Some fault) other ≡ cond holds (Some fault) one
 past true fault one other is same = refl
 past false fault one other is same = same is
 
@@ -39,12 +38,8 @@ past_both near far reach within past_far = let below = ltb-true far reach past_f
 found : (near far : ℕ) (info : BigInfo) (all : List GroupFault) → near ≤ far → FoundNear (find (has_fault near info) all)
     → find (has_fault far info) all ≡ find (has_fault near info) all
 found near far info [] within is = refl
-found near far info (faults_of.Horizon ∷ all) within is =
-    past_horizon (ltb near (horizon_of info)) (ltb far (horizon_of info)) (find (has_fault near info) all) (find (has_fault far info) all)
-    (past_both near far (horizon_of info) within) is (found near far info all within)
-found near far info (fault ∷ all) within is =
-    past (has_fault near info fault) fault (find (has_fault near info) all) (find (has_fault far info) all) is
-    (found near far info all within)
+found near far info (faults_of.Horizon ∷ all) within is = search (past_horizon, ltb, past_both, found near far info all within)
+found near far info (fault ∷ all) within is = search (past, found near far info all within)
 
 pub first_same : (near far : ℕ) (info : BigInfo) → near ≤ far → FoundNear (first_fault near info)
     → first_fault far info ≡ first_fault near info
@@ -64,11 +59,8 @@ not_horizon holds rest none later = grind (arith, false≢true)
 
 near_in : (near : ℕ) (info : BigInfo) (all : List GroupFault) → horizon_of info ≤ near → FoundNear (find (has_fault near info) all)
 near_in near info [] within = tt
-near_in near info (faults_of.Horizon ∷ all) within =
-    not_horizon (ltb near (horizon_of info)) (find (has_fault near info) all) (le-ltb near (horizon_of info) within)
-    (near_in near info all within)
-near_in near info (fault ∷ all) within = not_past (has_fault near info fault) fault (find (has_fault near info) all) tt
-    (near_in near info all within)
+near_in near info (faults_of.Horizon ∷ all) within = search (not_horizon, ltb, le-ltb, near_in near info all within)
+near_in near info (fault ∷ all) within = search (not_past, near_in near info all within)
 
 pub within_near : (near : ℕ) (info : BigInfo) → horizon_of info ≤ near → FoundNear (first_fault near info)
 unfolding first_fault

@@ -1,6 +1,6 @@
 -- The sinks of a scenario in version 2: their life is the same, where no train was answered `BadGroup 11` (Basic Audio Profile
 -- 1.0, section 6.5). Lists of steps and of calls have the newest first.
-use Rattle.std.proofs.Common.{ℕ, ◌≡◌, ◌≤◌, ◌==◌, cond, Bool, true, false, List, [], ◌∷◌, Option, None, Some, refl, ◌∙◌, ap, ap₂, arith}
+use Rattle.std.proofs.Common.{ℕ, ◌≡◌, ◌≤◌, ◌==◌, cond, Bool, true, false, List, [], ◌∷◌, Option, None, Some, refl, ◌∙◌, ap₂, arith}
 use Rattle.std.proofs.lemmas.Bool.{eqb-true}
 use Rattle.delegator_history.specs.Trains.{Settings}
 use Rattle.sink_history.specs.Calls.{Call, born}
@@ -67,8 +67,7 @@ QuietLife None calls = Unit {0}
 QuietLife (Some made) calls = AreQuietCalls made.setup calls
 
 quiet_lived : (source : Source) (step : Step) (made : Settings) (calls : List Call) → AreQuietCalls made.setup calls
-    → HearsNear made calls (train_by source step)
-    → AreQuietCalls made.setup (lived_by source step (Some made) calls)
+    → HearsNear made calls (train_by source step) → AreQuietCalls made.setup (lived_by source step (Some made) calls)
 quiet_lived source step made calls quiet near = grind (arith, quiet_served, quiet_drained)
 
 quiet_if : (b : Bool) (one made : Option Settings) (first calls : List Call) → QuietLife one first → QuietLife made calls
@@ -133,18 +132,14 @@ at_same n named this earlier made other calls others far quiet same = grind (ari
 pub after_same : (n : ℕ) (step : Step) (earlier : List Step) (made other : Option Settings) (calls others : List Call) → AreFar made other
     → QuietLife made calls → others ≡ calls
     → lived the_world n step (seconds earlier) other others ≡ lived the_world n step earlier made calls
-after_same n (steps.Sink sink streams slots mtu) earlier made other calls others far quiet same =
-    ap (λ all. cond (sink == n) (born mtu) all) same
-after_same n this earlier made other calls others far quiet same =
-    at_same n (named_by this) this earlier made other calls others far quiet same
+after_same n (steps.Sink sink streams slots mtu) earlier made other calls others far quiet same = cc (same)
+after_same n this earlier made other calls others far quiet same = search (at_same, same)
 
 pub life_same : (n : ℕ) (made : List Step) → AreCalm made → life n (seconds made) ≡ life n made
 life_same n [] calm = refl
 life_same n (step ∷ earlier) calm =
     let other = made_of n (seconds earlier) in
     at_second (λ one two. lived the_world n two (seconds earlier) other (life n (seconds earlier))
-    ≡ lived the_world n one (seconds earlier) other (life n (seconds earlier)))
-    (λ version. refl) (λ same. refl) step
+    ≡ lived the_world n one (seconds earlier) other (life n (seconds earlier))) (λ version. refl) (λ same. refl) step
     ∙ after_same n step earlier (made_of n earlier) other (life n earlier) (life n (seconds earlier)) (made_far n earlier)
-    (quiet_life n earlier calm.0)
-    (life_same n earlier calm.0)
+    (quiet_life n earlier calm.0) (life_same n earlier calm.0)

@@ -37,10 +37,7 @@ answered_same : (far : ℕ) (setup : Setup) (steps : List Step) → setup.horizo
 unfolding answered answer_with
 answered_same far setup [] within quiet = refl
 answered_same far setup (step ∷ earlier) within quiet =
-    ap (λ all. answer_with (sight_in setup.slots all) (done_by (reaching far setup) (sight_in setup.slots all) step) all)
-    (answered_same far setup earlier within quiet.0)
-    ∙ ap (λ done. answer_with (sight_in setup.slots (answered setup earlier)) done (answered setup earlier))
-    (done_same far setup earlier step within quiet.1)
+    cc (answered_same far setup earlier within quiet.0, done_same far setup earlier step within quiet.1)
 
 pub sight_same : (far : ℕ) (setup : Setup) (steps : List Step) → setup.horizon ≤ far → AreQuiet setup steps
     → sight_of (reaching far setup) steps ≡ sight_of setup steps
@@ -76,8 +73,7 @@ acts_same far setup mtu link (call ∷ earlier) within quiet =
     (sight_same far setup (steps_of earlier) within quiet_earlier) (sight_same far setup (steps_of (call ∷ earlier)) within quiet)
 
 pub notices_same : (far : ℕ) (setup : Setup) (mtu : Option ℕ) (link : ℕ) (calls : List Call) → setup.horizon ≤ far
-    → AreQuietCalls setup calls
-    → notices_waiting (reaching far setup) mtu link calls ≡ notices_waiting setup mtu link calls
+    → AreQuietCalls setup calls → notices_waiting (reaching far setup) mtu link calls ≡ notices_waiting setup mtu link calls
 notices_same far setup mtu link calls within quiet = ap waiting_of (acts_same far setup mtu link calls within quiet)
 
 pub reads_same : (far : ℕ) (setup : Setup) (mtu : Option ℕ) (link : ℕ) (calls : List Call) → setup.horizon ≤ far → AreQuietCalls setup calls
@@ -98,8 +94,7 @@ quiet_served setup link calls quiet = quiet_written setup (slice_get (writes_wai
 pub quiet_serves : (setup : Setup) (link count : ℕ) (calls : List Call) → AreQuietCalls setup calls
     → AreQuietCalls setup (repeated count (links.served link) calls)
 quiet_serves setup link zero calls quiet = quiet
-quiet_serves setup link (suc count) calls quiet =
-    quiet_served setup link (repeated count (links.served link) calls) (quiet_serves setup link count calls quiet)
+quiet_serves setup link (suc count) calls quiet = search (quiet_served, quiet_serves setup link count calls quiet)
 
 pub quiet_tells : (setup : Setup) (link count : ℕ) (calls : List Call) → AreQuietCalls setup calls
     → AreQuietCalls setup (repeated count (links.told link) calls)
@@ -120,16 +115,13 @@ pub told_same : (far : ℕ) (setup : Setup) (mtu : Option ℕ) (link : ℕ) (cal
 told_same far setup mtu link calls within quiet = cc (notices_same far setup mtu link calls within quiet)
 
 told_and_read_same : (far : ℕ) (setup : Setup) (mtu : Option ℕ) (link : ℕ) (calls : List Call) → setup.horizon ≤ far
-    → AreQuietCalls setup calls
-    → told_and_read (reaching far setup) mtu link calls ≡ told_and_read setup mtu link calls
+    → AreQuietCalls setup calls → told_and_read (reaching far setup) mtu link calls ≡ told_and_read setup mtu link calls
 told_and_read_same far setup mtu link calls within quiet =
     let told : List Call = told_out setup mtu link calls in
     ap (λ all. repeated (length (reads_waiting (reaching far setup) mtu link all)) (links.read link) all)
-    (told_same far setup mtu link calls within quiet)
-    ∙ ap (λ (reads : List ℕ). repeated (length reads) (links.read link) told)
+    (told_same far setup mtu link calls within quiet) ∙ ap (λ (reads : List ℕ). repeated (length reads) (links.read link) told)
     (reads_same far setup mtu link told within (quiet_tells setup link (length (notices_waiting setup mtu link calls)) calls quiet))
 
 pub drained_same : (far : ℕ) (setup : Setup) (mtu : Option ℕ) (link : ℕ) (calls : List Call) → setup.horizon ≤ far
-    → AreQuietCalls setup calls
-    → drained (reaching far setup) mtu link calls ≡ drained setup mtu link calls
+    → AreQuietCalls setup calls → drained (reaching far setup) mtu link calls ≡ drained setup mtu link calls
 drained_same far setup mtu link calls within quiet = search (told_and_read_same, quiet_serves)

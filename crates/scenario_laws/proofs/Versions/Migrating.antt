@@ -1,6 +1,6 @@
 -- The migration law, over the airs of each stream by its framing: a text and the text in version 2.
 use Rattle.std.proofs.Common.{ℕ, ◌≡◌, ◌⊎◌, ◌+◌, nat_eq, cond, leb, Bool, true, false, List, [], ◌∷◌, ◌++◌, length, reverse, Option, None, arith}
-use Rattle.std.proofs.Common.{Some, Ok, refl, sym, ◌∙◌, ap, ap₂, subst, inl, inr}
+use Rattle.std.proofs.Common.{Some, refl, sym, ◌∙◌, ap, ap₂, subst, inl, inr}
 use Rattle.std.specs.Fmt.{digits as numerals}
 use Rattle.std.proofs.lemmas.List.{append-nil}
 use Rattle.bcast_io.specs.TextLines.{TextLine, plain, too_long, line_limit, line_of}
@@ -11,7 +11,6 @@ use Rattle.scenario_history.specs.Runs.{refused, through}
 use Rattle.scenario_history.proofs.Citable.{reverse_onto}
 use Rattle.scenario_text.specs.Migrated.{is_blank, migrated}
 use Rattle.source_machine.specs.Airs.{airs_of}
-use Rattle.bcast_base.specs.Tries.{◌>>=◌}
 use Rattle.scenario_words.specs.Reading.{decimal_in}
 use Rattle.scenario_text.specs.Steps.{read_of, step_of}
 use Rattle.scenario_text.specs.Table.{first_row_of, row_of}
@@ -19,7 +18,7 @@ use Rattle.scenario_text.specs.declared.step.Step.{Step}
 use Rattle.scenario_text.specs.declared.step.Step.TheVariants as steps
 use Rattle.transcript_text.specs.declared.refusal.Refusal.{Refusal}
 use Rattle.transcript_text.specs.declared.refusal.Refusal.TheVariants.{LineTooLong}
-use Rattle.scenario_history.specs.Lines.{a_step, nothing, unsaid, output_said, refusal_said, said_after, said_by, said_in, said_of}
+use Rattle.scenario_history.specs.Lines.{a_step, nothing, unsaid, output_said, refusal_said, said_after, said_in, said_of}
 use Rattle.scenario_history.specs.Lines.{steps_of, with_said}
 use Rattle.scenario_history.specs.Relays.{has_relay}
 use Rattle.scenario_history.specs.Steps.{is_over, is_unbegun_at, stage_of, version_of}
@@ -39,8 +38,7 @@ blank_if : (long : Bool) (version : ℕ) (line : List ℕ) → is_blank line ≡
 unfolding read_of
 blank_if false version line blank = inr refl
 blank_if true version [] blank = inl refl
-blank_if true version (octet ∷ line) blank = inl
-    (ap (λ b. said_by (cond b (Ok None) (step_of version (octet ∷ line) >>= λ step. Ok (Some step)))) blank)
+blank_if true version (octet ∷ line) blank = search arith
 
 blank_says : (version : ℕ) (line : List ℕ) → is_blank line ≡ true
     → (said_in version (line_of line) ≡ nothing) ⊎ (said_in version (line_of line) ≡ unsaid LineTooLong)
@@ -69,10 +67,7 @@ stops : (starts : List Account) (history : List TextLine) (reason : Option Refus
     → reason ≡ Some why → RunsAlike (out_unless (Its starts) history reason octets) (out_unless (Its starts) history reason octets')
     (end_unless history reason end) (end_unless history reason end') (accepted_unless history reason all)
     (accepted_unless history reason all')
-stops starts history reason why octets octets' end end' all all' is =
-    subst (λ r. RunsAlike (out_unless (Its starts) history r octets) (out_unless (Its starts) history r octets')
-    (end_unless history r end) (end_unless history r end') (accepted_unless history r all) (accepted_unless history r all')) (sym is)
-    (record { octets_same = refl; end_same = refl; units_same = refl; over_same = refl })
+stops starts history reason why octets octets' end end' all all' is = search arith
 
 lasting_next : (history : List TextLine) (reason : Option Refusal) (end : End Refusal) → reason ≡ None
     → EndsLasting (end_unless history reason end) → EndsLasting end
@@ -104,8 +99,7 @@ abbrev SaysVersion : List TextLine → ℕ → List ℕ → Type 0
 SaysVersion history version line = said_after history (plain line) ≡ a_step (steps.Scenario version)
 
 its_refusal : (starts : List Account) (history : List TextLine) (version : ℕ) (line : List ℕ) → said_of history ≡ []
-    → SaysVersion history version line
-    → (Its starts).refusal history (plain line) ≡ None
+    → SaysVersion history version line → (Its starts).refusal history (plain line) ≡ None
 its_refusal starts history version line none says = search (first_refusal)
 
 its_output : (starts : List Account) (history : List TextLine) (version : ℕ) (line : List ℕ) → SaysVersion history version line
@@ -125,9 +119,14 @@ first_stands starts history none accepted =
     let one : SaysVersion history 1 first_version = first_says (said_of history) none in
     let two : SaysVersion history 2 second_version = second_says (said_of history) none in
     let made : said_of (plain first_version ∷ history) ≡ steps.Scenario 1 ∷ [] = its_steps history 1 first_version none one in
-    assumption (its_steps history 2 second_version none two ∙ ap seconds (sym made), ap (λ all. is_unbegun_at (stage_of all)) made,
-        ap (λ all. nat_eq (version_of all) 2) made, ap has_relay made, subst AreCalm (sym made) begun_calm,
-        its_refusal starts history 1 first_version none one)
+    assumption (
+      its_steps history 2 second_version none two ∙ ap seconds (sym made),
+      ap (λ all. is_unbegun_at (stage_of all)) made,
+      ap (λ all. nat_eq (version_of all) 2) made,
+      ap has_relay made,
+      subst AreCalm (sym made) begun_calm,
+      its_refusal starts history 1 first_version none one,
+    )
 
 -- ---- the lines of both texts
 
@@ -224,21 +223,17 @@ lines_alike starts lines others count alike =
     let ended : end_after airs_of starts lines ≡ through → has_end others ≡ has_end lines =
     λ is. ends_over starts others (alike.end_same ∙ is) ∙ alike.over_same ∙ sym (ends_over starts lines is) in
     record {
-      octets =
-          ap₂ (λ octets end. octets ++ last_line_after end (has_end others) (length others + 1)) alike.octets_same alike.end_same
+      octets = ap₂ (λ octets end. octets ++ last_line_after end (has_end others) (length others + 1)) alike.octets_same alike.end_same
           ∙ ap (λ number. out_of airs_of starts lines ++ last_line_after (end_after airs_of starts lines) (has_end others) (number + 1))
-          count
-          ∙ ap (λ line. out_of airs_of starts lines ++ line)
+          count ∙ ap (λ line. out_of airs_of starts lines ++ line)
           (line_if (end_after airs_of starts lines) (has_end lines) (has_end others) (length lines + 1) ended);
-      end =
-          ap₂ (λ end number. last_end_after end (has_end others) (number + 1)) alike.end_same count
+      end = ap₂ (λ end number. last_end_after end (has_end others) (number + 1)) alike.end_same count
           ∙ end_if (end_after airs_of starts lines) (has_end lines) (has_end others) (length lines + 1) ended;
       units = alike.units_same;
     }
 
 same_lines : (starts : List Account) (lines others : List TextLine) → others ≡ lines → LinesAlike starts lines others
-same_lines starts lines others same =
-    assumption (ap (transcript_of airs_of starts) same, ap (transcript_end airs_of starts) same, ap (units_of airs_of starts) same)
+same_lines starts lines others same = search arith
 
 pub text_alike : Laws → (starts : List Account) (text : List ℕ) → IsLastingText airs_of starts text
     → LinesAlike starts (text_lines true text) (text_lines true (migrated text))

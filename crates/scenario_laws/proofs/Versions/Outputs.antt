@@ -9,15 +9,15 @@ use Rattle.scenario_text.specs.declared.step.Step.{Step}
 use Rattle.scenario_text.specs.declared.step.Step.TheVariants as steps
 use Rattle.transcript_text.specs.Lines.{control_line}
 use Rattle.delegator_history.specs.Trains.{Settings}
-use Rattle.sink_history.specs.Lives.{Source, made_of, named_by}
+use Rattle.sink_history.specs.Lives.{Source, named_by}
 use Rattle.sink_history.specs.Moves.{train_by}
 use Rattle.sink_history.specs.Output.{printed_at, printed_where}
 use Rattle.scenario_history.specs.Boxes.{SinkUnit, closing, closing_at, handed_by, handed_up}
-use Rattle.scenario_history.specs.Output.{close_lines, output_of, sink_lines, stale_lines, sums_of, unit_lines}
+use Rattle.scenario_history.specs.Output.{close_lines, output_of, sink_lines, stale_lines, sums_of}
 use Rattle.scenario_history.specs.Relays.{has_relay}
 use Rattle.scenario_history.specs.Source.{end_pdu, open_event, stale_in}
 use Rattle.scenario_history.specs.Steps.{chosen_of, chosen_steps, steps_of_source}
-use Rattle.scenario_history.specs.Worlds.{life, source_at, the_world}
+use Rattle.scenario_history.specs.Worlds.{the_world}
 use Rattle.scenario_laws.proofs.Gifts.Citable.{plain_close, plain_end, flat_same}
 use Rattle.scenario_laws.proofs.Versions.Lived.{AreCalm, AreFar, IsCalm, QuietLife, is_quiet, life_same, made_far, quiet_life, source_same}
 use Rattle.scenario_laws.proofs.Versions.Printed.{printed_same}
@@ -47,23 +47,18 @@ pub handed_up_same : (made : List Step) → AreCalm made → handed_up airs_of (
 handed_up_same [] calm = refl
 handed_up_same (step ∷ earlier) calm = λ i. handed_up_same earlier calm.0 i
     ++ (at_second (λ one two. handed_by airs_of (seconds earlier) two ≡ handed_by airs_of (seconds earlier) one) (λ version. refl)
-    (λ step. refl) step
-    ∙ handed_same earlier step calm.0) i
+    (λ step. refl) step ∙ handed_same earlier step calm.0) i
 
 -- ---- what a step prints of a sink
 
 where_same : (source : Source) (step : Step) (made other : Option Settings) (calls : List Call) → AreFar made other → QuietLife made calls
-    → HeardNear made calls (train_by source step)
-    → printed_where source step other calls ≡ printed_where source step made calls
+    → HeardNear made calls (train_by source step) → printed_where source step other calls ≡ printed_where source step made calls
 where_same source this made other calls far quiet near = grind (arith, printed_same, is_quiet)
 
 named_same : (made : List Step) (step : Step) (named : Option ℕ) → named_by step ≡ named → AreCalm made → IsCalm made step
     → printed_at the_world (seconds made) step named ≡ printed_at the_world made step named
 named_same made this None names calm is = refl
-named_same made this (Some n) names calm is =
-    ap₂ (λ source calls. printed_where source this (made_of n (seconds made)) calls) (source_same made) (life_same n made calm)
-    ∙ where_same (source_at made) this (made_of n made) (made_of n (seconds made)) (life n made) (made_far n made) (quiet_life n made calm)
-    (λ it lives. is n it names lives)
+named_same made this (Some n) names calm is = search (ap₂, seconds, source_same, life_same, where_same, made_far, quiet_life)
 
 lines_same : (made : List Step) (step : Step) → AreCalm made → IsCalm made step → sink_lines (seconds made) step ≡ sink_lines made step
 lines_same made step calm is = ap concat (named_same made step (named_by step) refl calm is)
@@ -77,9 +72,7 @@ sums_same starts units made = search (flat_same, seconds, box_same)
 close_same : (made : List Step) (step : Step) → has_relay made ≡ false → AreCalm made
     → close_lines airs_of (seconds made) step ≡ close_lines airs_of made step
 close_same made step none calm =
-    plain_close airs_of (seconds made) step (has_relay_same made ∙ none)
-    ∙ ap unit_lines (closing_chosen made calm)
-    ∙ sym (plain_close airs_of made step none)
+    cc (plain_close airs_of (seconds made) step (has_relay_same made ∙ none), closing_chosen made calm, plain_close airs_of made step none)
 
 ends_same : (starts : List Account) (made : List Step) → has_relay made ≡ false → AreCalm made
     → output_of airs_of starts (seconds made) steps.End ≡ output_of airs_of starts made steps.End

@@ -1,5 +1,5 @@
 -- The migration law over any airs that meet the relation of their framing, one for the text and one for the text in version 2.
-use Rattle.std.proofs.Common.{ℕ, ◌≡◌, true, List, ◌∷◌, sym, ◌∙◌, ap, subst}
+use Rattle.std.proofs.Common.{ℕ, ◌≡◌, true, List, ◌∷◌, ◌∙◌, subst, arith}
 use Rattle.bcast_io.specs.TextLines.{TextLine, lines_of}
 use Rattle.unit_outlets.specs.Account.{Account}
 use Rattle.scenario_history.specs.Runs.{Accepted}
@@ -7,8 +7,7 @@ use Rattle.scenario_text.specs.Migrated.{migrated}
 use Rattle.source_machine.specs.Airs.{airs_of, Airs}
 use Rattle.scenario_text.specs.declared.step.Step.TheVariants as steps
 use Rattle.scenario_history.specs.Airs.{MeetAirs}
-use Rattle.scenario_history.specs.Lines.{output_said, rules_of, steps_of}
-use Rattle.scenario_history.specs.Output.{sink_lines}
+use Rattle.scenario_history.specs.Lines.{rules_of, steps_of}
 use Rattle.scenario_history.specs.Transcript.{transcript_end, transcript_of, units_of}
 use Rattle.scenario_laws.specs.Versions.{EndsLasting, IsLastingText, MigrationLaw, PrintsTooFar}
 use Rattle.scenario_laws.proofs.Versions.Migrating.{LinesAlike, text_alike}
@@ -30,21 +29,10 @@ pub record OneTranscript : Type 0 where
 -- a `train` step prints the same over all airs
 prints_over : (airs others : Airs) (starts : List Account) (earlier : List TextLine) (line : TextLine)
     → steps_of airs earlier ≡ steps_of others earlier → PrintsTooFar airs starts earlier line → PrintsTooFar others starts earlier line
-prints_over airs others starts earlier line same prints = record {
-  sink = prints.sink;
-  time = prints.time;
-  ext = prints.ext;
-  adv = prints.adv;
-  acad = prints.acad;
-  says = prints.says;
-  prints = ap (output_said others starts (steps_of others earlier)) prints.says
-      ∙ ap (λ made. sink_lines made (steps.Train prints.sink prints.time prints.ext prints.adv prints.acad)) (sym same)
-      ∙ sym (ap (output_said airs starts (steps_of airs earlier)) prints.says) ∙ prints.prints;
-}
+prints_over airs others starts earlier line same prints = search arith
 
 lasting_over : OneTranscript → MeetAirs airs_of → (airs : Airs) (starts : List Account) (text : List ℕ) → MeetAirs airs
-    → IsLastingText airs starts text
-    → IsLastingText airs_of starts text
+    → IsLastingText airs starts text → IsLastingText airs_of starts text
 lasting_over one meet airs starts text meets lasting = record {
   trains = λ earlier line later is accepted prints. lasting.trains earlier line later is
       (one.accepted airs_of airs starts (line ∷ earlier) meet meets accepted) (prints_over airs_of airs starts earlier line
@@ -57,13 +45,10 @@ migration_law_holds laws one meet starts airs others meets meet_too text lasting
     let alike : LinesAlike starts (lines_of true text) (lines_of true (migrated text)) =
     text_alike laws starts text (lasting_over one meet airs starts text meets lasting) in
     record {
-      octets =
-          one.octets others airs_of starts (lines_of true (migrated text)) meet_too meet ∙ alike.octets
+      octets = one.octets others airs_of starts (lines_of true (migrated text)) meet_too meet ∙ alike.octets
           ∙ one.octets airs_of airs starts (lines_of true text) meet meets;
-      end =
-          one.end others airs_of starts (lines_of true (migrated text)) meet_too meet ∙ alike.end
+      end = one.end others airs_of starts (lines_of true (migrated text)) meet_too meet ∙ alike.end
           ∙ one.end airs_of airs starts (lines_of true text) meet meets;
-      units =
-          one.units others airs_of starts (lines_of true (migrated text)) meet_too meet ∙ alike.units
+      units = one.units others airs_of starts (lines_of true (migrated text)) meet_too meet ∙ alike.units
           ∙ one.units airs_of airs starts (lines_of true text) meet meets;
     }

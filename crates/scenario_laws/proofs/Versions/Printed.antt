@@ -20,8 +20,8 @@ use Rattle.assistant_machine.specs.Links.{reads_of, view_of, waiting_of}
 use Rattle.scenario_text.specs.declared.step.Step.{Step}
 use Rattle.scenario_text.specs.declared.step.Step.TheVariants as steps
 use Rattle.transcript_text.specs.declared.refusal.Refusal.TheVariants.{NothingWaiting, RecordsTooLong}
-use Rattle.transcript_text.specs.SinkLines.{Label, control_words, on_link, plain, reply_line, sink_line, train_line, value_line}
-use Rattle.sink_history.specs.Lives.{Source, given_train, own_train, record_of}
+use Rattle.transcript_text.specs.SinkLines.{Label, control_words, on_link, plain, reply_line, sink_line, value_line}
+use Rattle.sink_history.specs.Lives.{Source, record_of}
 use Rattle.sink_history.specs.Moves.{train_by}
 use Rattle.sink_history.specs.Output.{drain_lines, heard_line, if_there, printed_of, read_line, read_lines}
 use Rattle.sink_history.specs.Output.{serve_line, serve_lines}
@@ -80,22 +80,19 @@ read_line_same label link far made calls is i =
 
 serves_same : (label : Label) (link count : ℕ) → Same (λ made. serve_lines label made link count)
 serves_same label link zero far made calls is = refl
-serves_same label link (suc count) far made calls is = λ i.
-    serves_same label link count far made calls is i
+serves_same label link (suc count) far made calls is = λ i. serves_same label link count far made calls is i
     ++ served_same label link far made (repeated count (links.served link) calls)
     (record { within = is.within; quiet = quiet_serves made.setup link count calls is.quiet }) i
 
 tells_same : (label : Label) (link count : ℕ) → Same (λ made. tell_lines label made link count)
 tells_same label link zero far made calls is = refl
-tells_same label link (suc count) far made calls is = λ i.
-    tells_same label link count far made calls is i
+tells_same label link (suc count) far made calls is = λ i. tells_same label link count far made calls is i
     ++ told_line_same label link far made (repeated count (links.told link) calls)
     (record { within = is.within; quiet = quiet_tells made.setup link count calls is.quiet }) i
 
 reads_lines_same : (label : Label) (link count : ℕ) → Same (λ made. read_lines label made link count)
 reads_lines_same label link zero far made calls is = refl
-reads_lines_same label link (suc count) far made calls is = λ i.
-    reads_lines_same label link count far made calls is i
+reads_lines_same label link (suc count) far made calls is = λ i. reads_lines_same label link count far made calls is i
     ++ read_line_same label link far made (repeated count (links.read link) calls)
     (record { within = is.within; quiet = quiet_reads made.setup link count calls is.quiet }) i
 
@@ -144,14 +141,12 @@ HearsNear made calls None = Unit {0}
 HearsNear made calls (Some train) = BringsNear (brought_by made.setup (sight_in made calls) train)
 
 pub brings_same : (far : ℕ) (made : Settings) (calls : List Call) (train : Train) → IsQuietLife far made calls
-    → HearsNear made calls (Some train)
-    → brought_by (reaching far made.setup) (sight_in (reaching_made far made) calls) train
+    → HearsNear made calls (Some train) → brought_by (reaching far made.setup) (sight_in (reaching_made far made) calls) train
     ≡ brought_by made.setup (sight_in made calls) train
 brings_same far made calls train is near = cc (its_sight far made calls is, brought_same far made.setup (sight_in made calls) train is.within near)
 
 hears_same : (far sink : ℕ) (made : Settings) (calls : List Call) (train : Train) → IsQuietLife far made calls
-    → HearsNear made calls (Some train)
-    → heard_line sink (reaching_made far made) calls train ≡ heard_line sink made calls train
+    → HearsNear made calls (Some train) → heard_line sink (reaching_made far made) calls train ≡ heard_line sink made calls train
 hears_same far sink made calls train is near = cc (brings_same far made calls train is near)
 
 -- ---- all of it
@@ -166,10 +161,8 @@ printed_same far source (steps.Drain sink) made calls is near = drains_same (pla
 printed_same far source (steps.Show sink) made calls is near = shows_same sink far made calls is
 printed_same far source (steps.Control sink octets) made calls is near = λ i.
     sink_line sink (control_words (controls.control_heard (its_sight far made calls is i).place octets)) ∷ []
-printed_same far source (steps.Announce sink) made calls is near = λ i.
-    train_line sink source.announced ∷ hears_same far sink made calls (own_train source) is near i ∷ []
-printed_same far source (steps.Train sink time ext adv acad) made calls is near = λ i.
-    hears_same far sink made calls (given_train source time ext adv acad) is near i ∷ []
+printed_same far source (steps.Announce sink) made calls is near = search (hears_same)
+printed_same far source (steps.Train sink time ext adv acad) made calls is near = search (hears_same)
 printed_same far source (steps.AServe sink link) made calls is near = served_same (on_link sink link) link far made calls is
 printed_same far source (steps.ATell sink link) made calls is near = told_line_same (on_link sink link) link far made calls is
 printed_same far source (steps.ARead sink link) made calls is near = read_line_same (on_link sink link) link far made calls is

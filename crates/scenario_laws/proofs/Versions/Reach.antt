@@ -24,7 +24,7 @@ use Rattle.source_machine.specs.Calls.{next_anchor_of, next_of}
 use Rattle.scenario_text.specs.declared.step.Step.{Step}
 use Rattle.scenario_text.specs.declared.step.Step.TheVariants as steps
 use Rattle.transcript_text.specs.declared.refusal.Refusal.TheVariants.{BaseTooLong}
-use Rattle.sink_history.specs.Lives.{horizon_of, made_of, own_train, horizon_in}
+use Rattle.sink_history.specs.Lives.{made_of, own_train, horizon_in}
 use Rattle.scenario_history.specs.Bases.{base_of, is_base_too_long}
 use Rattle.scenario_history.specs.Refusals.{group_refusal, refusal_of, source_refusal}
 use Rattle.sink_history.specs.Refusals.{refuse_if}
@@ -73,11 +73,8 @@ horizon_made airs boxes n [] legal = tt
 horizon_made airs boxes n (steps.Scenario version ∷ earlier) legal =
     subst (λ before. HasHorizon (made_of n before) (horizon_in version)) (sym (first_alone airs boxes version earlier legal)) tt
 horizon_made airs boxes n (steps.Sink sink streams slots mtu ∷ earlier) legal =
-    horizon_if (sink == n) (Some (record { setup = record { streams = streams; slots = slots; horizon = horizon_of earlier }; mtu = mtu }))
-    (made_of n earlier)
-    (horizon_in (version_of earlier)) (sink_horizon earlier) (horizon_made airs boxes n earlier legal.0)
-horizon_made airs boxes n (steps.Drop sink ∷ earlier) legal =
-    horizon_if (sink == n) None (made_of n earlier) (horizon_in (version_of earlier)) tt (horizon_made airs boxes n earlier legal.0)
+    search (horizon_if, sink_horizon, horizon_made airs boxes n earlier legal.0)
+horizon_made airs boxes n (steps.Drop sink ∷ earlier) legal = search (horizon_if, horizon_made airs boxes n earlier legal.0)
 horizon_made airs boxes n (this ∷ earlier) legal = horizon_made airs boxes n earlier legal.0
 
 -- ---- how far the group of a source reaches
@@ -106,8 +103,7 @@ starts_in : (airs : Airs) (boxes s first : ℕ) (earlier : List Step) → Permit
     → ReachesIn (steps.Start first ∷ steps_of_source s earlier) (horizon_in (version_of earlier))
 starts_in airs boxes s first earlier permits is =
     subst (λ t. ReachesIn (steps.Start first ∷ steps_of_source t earlier) (horizon_in (version_of earlier)))
-    (eqb-true (chosen_of earlier) s is)
-    (λ started. started_reach (version_of earlier) first (chosen_steps earlier) permits.by_source)
+    (eqb-true (chosen_of earlier) s is) (λ started. started_reach (version_of earlier) first (chosen_steps earlier) permits.by_source)
 
 -- where the source was sending before the step
 stops_in : (s : ℕ) (earlier : List Step) → not (is_sending (chosen_steps earlier)) ≡ false → (chosen_of earlier == s) ≡ true
@@ -122,13 +118,11 @@ group_reach : (airs : Airs) (boxes s : ℕ) (made : List Step) → Legal airs bo
 group_reach airs boxes s [] legal = λ started. absurd (false≢true started)
 group_reach airs boxes s (steps.Scenario version ∷ earlier) legal =
     subst (λ before. ReachesIn (steps.Scenario version ∷ steps_of_source s before) (horizon_in version))
-    (sym (first_alone airs boxes version earlier legal))
-    (λ started. absurd (false≢true started))
+    (sym (first_alone airs boxes version earlier legal)) (λ started. absurd (false≢true started))
 group_reach airs boxes s (steps.Group framing origin delay iso sdu max_sdu max_pdu num_bis bn nse irc pto sub spacing phy ∷ earlier) legal =
     let this : Step = steps.Group framing origin delay iso sdu max_sdu max_pdu num_bis bn nse irc pto sub spacing phy in
     reach_if (is_of_source s earlier this) (steps_of_source s earlier) this (horizon_in (version_of earlier))
-    (λ is started. absurd (false≢true started))
-    (group_reach airs boxes s earlier legal.0)
+    (λ is started. absurd (false≢true started)) (group_reach airs boxes s earlier legal.0)
 group_reach airs boxes s (steps.Start first ∷ earlier) legal =
     reach_if (is_of_source s earlier (steps.Start first)) (steps_of_source s earlier) (steps.Start first) (horizon_in (version_of earlier))
     (starts_in airs boxes s first earlier (permitted airs boxes earlier (steps.Start first) legal.1))
@@ -142,9 +136,7 @@ group_reach airs boxes s (steps.Terminate reason ∷ earlier) legal =
     reach_if (is_of_source s earlier (steps.Terminate reason)) (steps_of_source s earlier) (steps.Terminate reason)
     (horizon_in (version_of earlier))
     (λ is started. stops_in s earlier (permitted airs boxes earlier (steps.Terminate reason) legal.1).in_phase is before) before
-group_reach airs boxes s (this ∷ earlier) legal =
-    let before : ReachesIn (steps_of_source s earlier) (horizon_in (version_of earlier)) = group_reach airs boxes s earlier legal.0 in
-    reach_if (is_of_source s earlier this) (steps_of_source s earlier) this (horizon_in (version_of earlier)) (λ is. before) before
+group_reach airs boxes s (this ∷ earlier) legal = search (reach_if, group_reach airs boxes s earlier legal.0)
 
 -- ---- what a sink reads of an announced train
 
@@ -171,8 +163,7 @@ read_as : (octets found : List ℕ) (info read : BigInfo) → Some found ≡ Som
 read_as octets found info read same is reads = search (same_Some)
 
 reads_near : (setup : Setup) (train : Train) (heard : Heard) (broadcast_id : List ℕ) (base : Endpoint) (info : BigInfo) (event anchor : ℕ)
-    → heard.acad ≡ train.acad
-    → Tells train broadcast_id base info event anchor → reach_of info ≤ setup.horizon → ReadsNear setup heard
+    → heard.acad ≡ train.acad → Tells train broadcast_id base info event anchor → reach_of info ≤ setup.horizon → ReadsNear setup heard
 reads_near setup train heard broadcast_id base info event anchor same tells within octets its found is =
     let told : TellsInfo train.acad tells.read = tells.info_is in
     let list : Some told.octets ≡ big_info_in heard.acad =
@@ -189,8 +180,7 @@ its_horizon : (made : Option Settings) (sink : Settings) (horizon : ℕ) → Has
 its_horizon made sink horizon has is = subst (λ one. HasHorizon one horizon) is has
 
 pub announced_calm : Announcing → (airs : Airs) (boxes n : ℕ) (earlier : List Step) → Legal airs boxes earlier
-    → refusal_of airs boxes earlier (steps.Announce n) ≡ None
-    → IsCalm earlier (steps.Announce n)
+    → refusal_of airs boxes earlier (steps.Announce n) ≡ None → IsCalm earlier (steps.Announce n)
 announced_calm laws airs boxes n earlier legal none m made names is =
     let own : List Step = chosen_steps earlier in
     let permits : Permitted airs boxes earlier (steps.Announce n) = permitted airs boxes earlier (steps.Announce n) none in
@@ -210,5 +200,4 @@ announced_calm laws airs boxes n earlier legal none m made names is =
     (horizon_in (version_of earlier)) (horizon_made airs boxes m earlier legal) is in
     brought_near made.setup (sight_in made (life m earlier)) (own_train (source_at earlier))
     (reads_near made.setup (announced_of own) (own_train (source_at earlier)) (identity_of own).broadcast_id (base_of own)
-    (checked_info own) event anchor refl tells
-    (subst (λ most. reach_of (checked_info own) ≤ most) (sym horizon) reach))
+    (checked_info own) event anchor refl tells (subst (λ most. reach_of (checked_info own) ≤ most) (sym horizon) reach))

@@ -85,8 +85,7 @@ abbrev KnownOn : Option Row → Option Row → Type 0
 KnownOn here there = (left : Left) → ReadsOn (at_known here left) (at_known there left)
 
 known_if : (b : Bool) (row other : Row) (here there : Option Row) → ((left : Left) → ReadsOn (at_row row left) (at_row other left))
-    → KnownOn here there
-    → KnownOn (cond b (Some row) here) (cond b (Some other) there)
+    → KnownOn here there → KnownOn (cond b (Some row) here) (cond b (Some other) there)
 known_if true row other here there on rest = on
 known_if false row other here there on rest = rest
 

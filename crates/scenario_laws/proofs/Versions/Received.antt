@@ -5,7 +5,7 @@ use Rattle.std.proofs.Common.{ℕ, zero, suc, ◌≡◌, ◌==◌, cond, Bool, t
 use Rattle.std.proofs.Common.{ap₂}
 use Rattle.std.proofs.lemmas.Bool.{eqb-true}
 use Rattle.delegator_machine.specs.Groups.{with_step}
-use Rattle.delegator_history.specs.Trains.{Settings, Train, brought_by, joining_in}
+use Rattle.delegator_history.specs.Trains.{Settings, Train, brought_by}
 use Rattle.group_sink.specs.Calls.{Call as SinkCall}
 use Rattle.sink_history.specs.Calls.{Call}
 use Rattle.source_machine.specs.Airs.{airs_of}
@@ -36,8 +36,7 @@ abbrev pub HeardNear : Option Settings → List Call → Option Train → Type 0
 HeardNear made calls train = (sink : Settings) → made ≡ Some sink → HearsNear sink calls train
 
 follows_same : (source : Source) (train : Option Train) (made other : Option Settings) (calls : List Call) → AreFar made other
-    → QuietLife made calls → HeardNear made calls train
-    → follows_by source train other calls ≡ follows_by source train made calls
+    → QuietLife made calls → HeardNear made calls train → follows_by source train other calls ≡ follows_by source train made calls
 follows_same source None made other calls far quiet near = refl
 follows_same source (Some train) None None calls far quiet near = refl
 follows_same source (Some train) (Some made) (Some other) calls far quiet near =
@@ -50,12 +49,10 @@ joining_same : (horizon : ℕ) (made : Settings) (calls : List Call) (train : Op
     → HearsNear made calls train → joining_of (reaching_made horizon made) (sight_in (reaching_made horizon made) calls) train
     ≡ joining_of made (sight_in made calls) train
 joining_same horizon made calls None far quiet near = refl
-joining_same horizon made calls (Some train) far quiet near =
-    ap joining_in (brought_far made (reaching_made horizon made) calls train far quiet near)
+joining_same horizon made calls (Some train) far quiet near = cc (brought_far made (reaching_made horizon made) calls train far quiet near)
 
 received_same : (source : Source) (step : Step) (made other : Option Settings) (before after : List Call) (calls : List SinkCall)
-    → AreFar made other
-    → QuietLife made before → QuietLife made after → HeardNear made before (train_by source step)
+    → AreFar made other → QuietLife made before → QuietLife made after → HeardNear made before (train_by source step)
     → received_by source step other before after calls ≡ received_by source step made before after calls
 received_same source this None None before after calls far quiet later near = refl
 received_same source this (Some made) (Some other) before after calls far quiet later near =
@@ -63,8 +60,7 @@ received_same source this (Some made) (Some other) before after calls far quiet 
     ap (λ sink. received_by source this (Some sink) before after calls) far.is
     ∙ ap (λ joining. with_step joining (sight_in it before) (sight_in it after) calls)
     (joining_same far.horizon made before (train_by source this) (record { horizon = far.horizon; within = far.within; is = refl }) quiet
-    (near made refl))
-    ∙ ap₂ (λ one two. with_step (joining_of made (sight_in made before) (train_by source this)) one two calls)
+    (near made refl)) ∙ ap₂ (λ one two. with_step (joining_of made (sight_in made before) (train_by source this)) one two calls)
     (its_sight far.horizon made before (is_quiet made other before far quiet))
     (its_sight far.horizon made after (is_quiet made other after far later))
 received_same source this None (Some other) before after calls far quiet later near = absurd far
@@ -87,28 +83,23 @@ its_source n step earlier source others calm near same =
     (quiet_life n earlier calm) near) same
 
 sourced_same : (n sink : ℕ) (step : Step) (earlier : List Step) (source others : Option ℕ) → named_by step ≡ Some sink → AreCalm earlier
-    → IsCalm earlier step → others ≡ source
-    → sourced n step sink (seconds earlier) others ≡ sourced n step sink earlier source
+    → IsCalm earlier step → others ≡ source → sourced n step sink (seconds earlier) others ≡ sourced n step sink earlier source
 sourced_same n sink step earlier source others names calm is same =
     choose_same (sink == n) (source_by (source_at earlier) step (made_of n earlier) (life n earlier) source)
     (source_by (source_at (seconds earlier)) step (made_of n (seconds earlier)) (life n (seconds earlier)) others) source others
     (λ its. its_source n step earlier source others calm (λ it made. is n it (names ∙ ap Some (eqb-true sink n its)) made) same) same
 
 source_next : (n : ℕ) (step : Step) (earlier : List Step) (source others : Option ℕ) → AreCalm earlier → IsCalm earlier step
-    → others ≡ source
-    → source_after n step (seconds earlier) others ≡ source_after n step earlier source
-source_next n (steps.Announce sink) earlier source others calm is stays =
-    sourced_same n sink (steps.Announce sink) earlier source others refl calm is stays
-source_next n (steps.Train sink time ext adv acad) earlier source others calm is stays =
-    sourced_same n sink (steps.Train sink time ext adv acad) earlier source others refl calm is stays
+    → others ≡ source → source_after n step (seconds earlier) others ≡ source_after n step earlier source
+source_next n (steps.Announce sink) earlier source others calm is stays = search (sourced_same)
+source_next n (steps.Train sink time ext adv acad) earlier source others calm is stays = search (sourced_same)
 source_next n _ earlier source others calm is stays = search (same, stays)
 
 pub source_of_same : (n : ℕ) (made : List Step) → AreCalm made → source_of n (seconds made) ≡ source_of n made
 source_of_same n [] calm = refl
 source_of_same n (step ∷ earlier) calm =
     at_second (λ one two. source_after n two (seconds earlier) (source_of n (seconds earlier))
-    ≡ source_after n one (seconds earlier) (source_of n (seconds earlier)))
-    (λ version. refl) (λ step. refl) step
+    ≡ source_after n one (seconds earlier) (source_of n (seconds earlier))) (λ version. refl) (λ step. refl) step
     ∙ source_next n step earlier (source_of n earlier) (source_of n (seconds earlier)) calm.0 calm.1 (source_of_same n earlier calm.0)
 
 -- ---- what a sink hears
@@ -134,16 +125,14 @@ its_moves n step earlier calls others calm later near same =
     let other : Option Settings = made_of n (seconds earlier) in
     let quiet : QuietLife (made_of n earlier) (life n earlier) = quiet_life n earlier calm in
     ap₂ (λ source before. received_by source step other before (life n (step ∷ seconds earlier)) others) (source_same earlier)
-    (life_same n earlier calm)
-    ∙ ap₂ (received_by (source_at earlier) step other (life n earlier))
+    (life_same n earlier calm) ∙ ap₂ (received_by (source_at earlier) step other (life n earlier))
     (after_same n step earlier (made_of n earlier) other (life n earlier) (life n (seconds earlier)) (made_far n earlier) quiet
     (life_same n earlier calm)) same
     ∙ received_same (source_at earlier) step (made_of n earlier) other (life n earlier) (life n (step ∷ earlier)) calls (made_far n earlier)
     quiet later near
 
 moved_same : (n : ℕ) (named : Option ℕ) (step : Step) (earlier : List Step) (calls others : List SinkCall) → named_by step ≡ named
-    → AreCalm earlier → IsCalm earlier step
-    → QuietLife (made_of n earlier) (life n (step ∷ earlier)) → others ≡ calls
+    → AreCalm earlier → IsCalm earlier step → QuietLife (made_of n earlier) (life n (step ∷ earlier)) → others ≡ calls
     → moved n named step (seconds earlier) others ≡ moved n named step earlier calls
 moved_same n None this earlier calls others names calm is later same = same
 moved_same n (Some sink) this earlier calls others names calm is later same =
@@ -153,23 +142,18 @@ moved_same n (Some sink) this earlier calls others names calm is later same =
     (λ its. its_moves n this earlier calls others calm later (λ it made. is n it (names ∙ ap Some (eqb-true sink n its)) made) same) same
 
 call_next : (n : ℕ) (step : Step) (earlier : List Step) (calls others : List SinkCall) → AreCalm earlier → IsCalm earlier step
-    → others ≡ calls
-    → with_sink_call airs_of n step (seconds earlier) others ≡ with_sink_call airs_of n step earlier calls
+    → others ≡ calls → with_sink_call airs_of n step (seconds earlier) others ≡ with_sink_call airs_of n step earlier calls
 call_next n (steps.Sink sink streams slots mtu) earlier calls others calm is stays = search stays
 call_next n (steps.Drop sink) earlier calls others calm is stays = search stays
 call_next n (steps.Tuned sink which) earlier calls others calm is stays = search (same, stays)
-call_next n (steps.Hear sink back bis subevent) earlier calls others calm is stays =
-    search (same, source_of_same n earlier calm, stays)
-call_next n (steps.Air sink lose) earlier calls others calm is stays =
-    search (air_same, same, source_of_same n earlier calm, stays)
+call_next n (steps.Hear sink back bis subevent) earlier calls others calm is stays = search (same, source_of_same n earlier calm, stays)
+call_next n (steps.Air sink lose) earlier calls others calm is stays = search (air_same, same, source_of_same n earlier calm, stays)
 call_next n (steps.Inject sink back bis subevent octets) earlier calls others calm is stays =
     search (same, source_of_same n earlier calm, stays)
 call_next n steps.Event earlier calls others calm is stays = search (same, over_same, source_of_same n earlier calm, stays)
 call_next n steps.Stop earlier calls others calm is stays = search (same, over_same, source_of_same n earlier calm, stays)
 call_next n (steps.Terminate reason) earlier calls others calm is stays = search (same, over_same, source_of_same n earlier calm, stays)
-call_next n steps.End earlier calls others calm is stays =
-    ticked_same 1 n earlier (ticked_by 0 n earlier calls) (ticked_by 0 n (seconds earlier) others) calm
-    (ticked_same 0 n earlier calls others calm stays)
+call_next n steps.End earlier calls others calm is stays = search (ticked_same, seconds)
 call_next n this earlier calls others calm is stays =
     moved_same n (named_by this) this earlier calls others refl calm is (quiet_life n (this ∷ earlier) (calm, is)) stays
 

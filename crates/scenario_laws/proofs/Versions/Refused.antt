@@ -16,18 +16,16 @@ use Rattle.sink_history.specs.Calls as links
 use Rattle.scenario_text.specs.declared.step.Step.{Step}
 use Rattle.scenario_text.specs.declared.step.Step.TheVariants as steps
 use Rattle.transcript_text.specs.declared.refusal.Refusal.{Refusal}
-use Rattle.transcript_text.specs.declared.refusal.Refusal.TheVariants.{AfterEnd, BaseTooLong}
+use Rattle.transcript_text.specs.declared.refusal.Refusal.TheVariants.{AfterEnd}
 use Rattle.transcript_text.specs.declared.refusal.Refusal.TheVariants.{Order}
 use Rattle.delegator_history.specs.Trains.{Settings}
-use Rattle.sink_history.specs.Lives.{named_by, horizon_in}
+use Rattle.sink_history.specs.Lives.{named_by}
 use Rattle.sink_history.specs.Refusals.{refused_at, refused_where, refuse_if}
-use Rattle.scenario_history.specs.Bases.{is_base_too_long}
 use Rattle.scenario_history.specs.Boxes.{box_after, box_of}
 use Rattle.scenario_history.specs.Refusals.{give_refusal, group_refusal}
 use Rattle.scenario_history.specs.Refusals.{is_out_of_order}
 use Rattle.scenario_history.specs.Refusals.{own_refusal, refusal_of, sink_refusal}
 use Rattle.scenario_history.specs.Refusals.{source_refusal, twin_refusal}
-use Rattle.scenario_history.specs.Source.{checked_info}
 use Rattle.scenario_history.specs.Source.{setup_of, source_calls}
 use Rattle.scenario_history.specs.Steps.{chosen_steps, is_over, version_of}
 use Rattle.scenario_history.specs.Worlds.{the_world}
@@ -80,8 +78,7 @@ time_stays true false true in_time stays is = refl
 time_stays true false false in_time stays is = is
 
 in_time_stays : (ahead : Bool) (setup : Setup) (calls : List Call) (bis : ℕ) (framing : Bool) (time : Option ℕ)
-    → (setup.ahead ≡ true → ahead ≡ true)
-    → cond framing (is_none time) (is_in_time setup calls bis time) ≡ true
+    → (setup.ahead ≡ true → ahead ≡ true) → cond framing (is_none time) (is_in_time setup calls bis time) ≡ true
     → cond framing (is_none time) (is_in_time (with_ahead ahead setup) calls bis time) ≡ true
 in_time_stays ahead setup calls bis framing time stays is = grind (arith, framed_same, time_stays)
 
@@ -99,15 +96,13 @@ fault_lasts false false false later waits stays = inr (λ lasting. lasting)
 fault_lasts false false true later waits stays = inl (ap (λ b. option_map give_refusal (fault_by false false b waits)) (stays refl))
 
 give_lasts : (ahead : Bool) (setup : Setup) (calls : List Call) (airs : List Air) (bis : ℕ) (time : Option ℕ) (octets : List ℕ)
-    → (setup.ahead ≡ true → ahead ≡ true)
-    → Lasts (option_map give_refusal (give_fault setup calls airs bis time octets))
+    → (setup.ahead ≡ true → ahead ≡ true) → Lasts (option_map give_refusal (give_fault setup calls airs bis time octets))
     (option_map give_refusal (give_fault (with_ahead ahead setup) calls airs bis time octets))
 give_lasts ahead setup calls airs bis time octets stays = search (fault_lasts, ltb, with_ahead, in_time_stays)
 
 unit_lasts : (own : List Step) (bis : ℕ) (time : Option ℕ) (octets : List ℕ)
     → Lasts (option_map give_refusal (give_fault (setup_of own) (source_calls own) (airs_of (setup_of own) (source_calls own)) bis time
-    octets))
-    (option_map give_refusal (give_fault (setup_of (seconds own)) (source_calls (seconds own))
+    octets)) (option_map give_refusal (give_fault (setup_of (seconds own)) (source_calls (seconds own))
     (airs_of (setup_of (seconds own)) (source_calls (seconds own))) bis time octets))
 unit_lasts own bis time octets =
     let ahead : Bool = is_ahead (seconds own) in
@@ -125,13 +120,7 @@ unit_lasts own bis time octets =
 
 source_lasts : (version later : ℕ) (own : List Step) (step : Step) → IsLater version later
     → Lasts (source_refusal airs_of version own step) (source_refusal airs_of later (seconds own) step)
-source_lasts version later own (steps.Start first) is =
-    subst (λ there. Lasts (source_refusal airs_of version own (steps.Start first)) there)
-    (search same)
-    (lasts_or (group_refusal (first_fault (horizon_in version) (checked_info own)))
-    (group_refusal (first_fault (horizon_in later) (checked_info own)))
-    (refuse_if (is_base_too_long own) BaseTooLong) (group_lasts (horizon_in version) (horizon_in later) (checked_info own)
-    (horizon_grows version later is)))
+source_lasts version later own (steps.Start first) is = search (same, lasts_or, group_lasts, horizon_grows)
 source_lasts version later own (steps.Unit bis time octets) is = unit_lasts own bis time octets
 source_lasts version later own _ is = inl (search same)
 
@@ -187,10 +176,8 @@ step_lasts boxes made step calm =
     let order : Option Refusal = refuse_if (is_out_of_order made step) Order in
     let ended : Option Refusal = refuse_if (is_over made) AfterEnd in
     let twin : Option Refusal = twin_refusal made step in
-    subst (Lasts (refusal_of airs_of boxes made step))
-    (sym (ap₂ (λ over out. option_or (refuse_if over AfterEnd)
-    (option_or (refuse_if out Order) (own_refusal airs_of boxes (seconds made) step)))
-    (over_same made) (order_same made step)
+    subst (Lasts (refusal_of airs_of boxes made step)) (sym (ap₂ (λ over out. option_or (refuse_if over AfterEnd)
+    (option_or (refuse_if out Order) (own_refusal airs_of boxes (seconds made) step))) (over_same made) (order_same made step)
     ∙ ap₂ (λ by_sink source. option_or ended (option_or order (option_or by_sink (option_or source (twin_refusal (seconds made) step)))))
     (sink_same boxes made step calm) (search same)
     ∙ ap (λ twins. option_or ended (option_or order (option_or sink (option_or later twins)))) (twin_same made step)))

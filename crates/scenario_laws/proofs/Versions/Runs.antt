@@ -26,7 +26,7 @@ use Rattle.sink_history.specs.Output.{printed_where, sight_in}
 use Rattle.scenario_history.specs.Boxes.{handed_up}
 use Rattle.scenario_history.specs.Lines.{Said, a_step, nothing, unsaid, output_said, refusal_said, rules_of, said_after, said_in, said_of}
 use Rattle.scenario_history.specs.Lines.{steps_of, with_said}
-use Rattle.scenario_history.specs.Refusals.{is_misplaced, line_refusal, refusal_of}
+use Rattle.scenario_history.specs.Refusals.{is_misplaced, refusal_of}
 use Rattle.scenario_history.specs.Relays.{has_relay}
 use Rattle.scenario_laws.proofs.Gifts.Citable.{SaidNever, line_passes, none_relayed, nothing_else, plain_after, says_no_relay}
 use Rattle.scenario_history.specs.Steps.{is_over, is_unbegun_at, stage_after, stage_of, version_of}
@@ -65,10 +65,7 @@ both_last one one' two two' same same' lasts = subst (λ r. Lasts r two') (sym s
 
 same_lasts : (boxes : ℕ) (made : List Step) (said : Said) → has_relay made ≡ false → AreCalm made
     → Lasts (refusal_said airs_of boxes made said) (refusal_said airs_of boxes (seconds made) said)
-same_lasts boxes made (a_step this) plain calm =
-    both_last (refusal_of airs_of boxes made this) (line_refusal airs_of boxes made this) (refusal_of airs_of boxes (seconds made) this)
-    (line_refusal airs_of boxes (seconds made) this) (none_relayed boxes airs_of made this plain)
-    (none_relayed boxes airs_of (seconds made) this (has_relay_same made ∙ plain)) (step_lasts boxes made this calm)
+same_lasts boxes made (a_step this) plain calm = search (both_last, seconds, none_relayed, has_relay_same, step_lasts)
 same_lasts boxes made nothing plain calm = inl refl
 same_lasts boxes made (unsaid reason) plain calm = inl refl
 
@@ -93,8 +90,7 @@ answers_so : (starts : List Account) (earlier : List TextLine) (line : TextLine)
     → has_relay (said_of earlier) ≡ false
     → said_after earlier line ≡ a_step (steps.Train sink time ext adv acad) → made_of sink (said_of earlier) ≡ Some made
     → answer_of (brought_by made.setup (sight_in made (life sink (said_of earlier)))
-    (given_train (source_at (said_of earlier)) time ext adv acad)) ≡ Refused Horizon
-    → (Its starts).output earlier line ≡ too_far_line sink
+    (given_train (source_at (said_of earlier)) time ext adv acad)) ≡ Refused Horizon → (Its starts).output earlier line ≡ too_far_line sink
 answers_so starts earlier line sink time ext adv acad made plain says lives far =
     let before : List Step = said_of earlier in
     let train : Train = given_train (source_at before) time ext adv acad in
@@ -128,8 +124,7 @@ given_calm starts earlier line sink time ext adv acad plain says never n made na
 step_calm : Laws → (starts : List Account) (earlier : List TextLine) (line : TextLine) (step : Step)
     → has_relay (said_of earlier) ≡ false → said_after earlier line ≡ a_step step
     → Accepted (Its starts) earlier → refusal_of airs_of (length starts) (said_of earlier) step ≡ None
-    → (PrintsTooFar airs_of starts earlier line → ⊥)
-    → IsCalm (said_of earlier) step
+    → (PrintsTooFar airs_of starts earlier line → ⊥) → IsCalm (said_of earlier) step
 step_calm laws starts earlier line (steps.Announce sink) plain says accepted none never =
     announced_calm laws.announcing airs_of (length starts) sink (said_of earlier)
     (subst (Legal airs_of (length starts)) (as_said earlier plain) (legal laws.ranged airs_of starts earlier accepted)) none
@@ -209,11 +204,13 @@ goes_on : Laws → (starts : List Account) (history later : List TextLine) (line
 goes_on laws starts history later line (a_step this) says stands none never =
     let passes = line_passes airs_of (length starts) (said_of history) this none in
     let permits = permitted airs_of (length starts) (said_of history) this passes in
-    assumption (ap₂ (λ step (all : List Step). step ∷ all) (sym (second_same (said_of history) this permits.in_place stands.begun)) stands.made,
-        begun_after (said_of history) this stands.begun,
-        ap (λ version. nat_eq version 2) (version_after (said_of history) this permits.in_place stands.begun) ∙ stands.first,
-        plain_after (said_of history) this (subst SaidNever says (says_no_relay (version_of (said_of history)) line stands.first)) stands.plain,
-        step_calm laws starts history line this stands.plain says stands.accepted passes never)
+    assumption (
+      ap₂ (λ step (all : List Step). step ∷ all) (sym (second_same (said_of history) this permits.in_place stands.begun)) stands.made,
+      begun_after (said_of history) this stands.begun,
+      ap (λ version. nat_eq version 2) (version_after (said_of history) this permits.in_place stands.begun) ∙ stands.first,
+      plain_after (said_of history) this (subst SaidNever says (says_no_relay (version_of (said_of history)) line stands.first)) stands.plain,
+      step_calm laws starts history line this stands.plain says stands.accepted passes never,
+    )
 goes_on laws starts history later line nothing says stands none never =
     record { same = stands.made; begun = stands.begun; first = stands.first; plain = stands.plain; calm = stands.calm }
 goes_on laws starts history later line (unsaid reason) says stands none never =
@@ -232,8 +229,7 @@ stands_next laws starts history later line stands none never =
     assumption (ap (λ said. with_said said (said_of later)) same ∙ goes.same, ap (λ count. suc count) stands.count)
 
 brought_same : (starts : List Account) (made : List Step) (said : Said) → has_relay made ≡ false → AreCalm made
-    → AreCalm (with_said said made)
-    → output_said airs_of starts (seconds made) said ≡ output_said airs_of starts made said
+    → AreCalm (with_said said made) → output_said airs_of starts (seconds made) said ≡ output_said airs_of starts made said
 brought_same starts made said plain calm next = grind (arith, output_same)
 
 line_same : Laws → (starts : List Account) (history later : List TextLine) (line : TextLine) → Stands starts history later
@@ -259,12 +255,10 @@ pub record RunsAlike (octets octets' : List ℕ) (end end' : End Refusal) (all a
 abbrev pub RunAlike : List Account → (history later lines others : List TextLine) → Type 0
 RunAlike starts history later lines others =
     RunsAlike (out (Its starts) history lines) (out (Its starts) later others) (end_of (Its starts) history lines)
-    (end_of (Its starts) later others)
-    (accepted_of (Its starts) history lines) (accepted_of (Its starts) later others)
+    (end_of (Its starts) later others) (accepted_of (Its starts) history lines) (accepted_of (Its starts) later others)
 
 stands_alike : (starts : List Account) (history later : List TextLine) (octets octets' : List ℕ) (end end' : End Refusal)
-    → Stands starts history later → octets' ≡ octets
-    → end' ≡ end → RunsAlike octets octets' end end' history later
+    → Stands starts history later → octets' ≡ octets → end' ≡ end → RunsAlike octets octets' end end' history later
 stands_alike starts history later octets octets' end end' stands same ends = record {
   octets_same = same;
   end_same = ends;
@@ -297,11 +291,9 @@ abbrev pub Begins : List TextLine → List TextLine → List TextLine → Type 0
 Begins lines history rest = lines ≡ reverse history ++ rest
 
 run_next : (starts : List Account) (history later rest : List TextLine) (line : TextLine)
-    → (Its starts).output later line ≡ (Its starts).output history line
-    → RunAlike starts (line ∷ history) (line ∷ later) rest rest
+    → (Its starts).output later line ≡ (Its starts).output history line → RunAlike starts (line ∷ history) (line ∷ later) rest rest
     → RunsAlike ((Its starts).output history line ++ out (Its starts) (line ∷ history) rest) ((Its starts).output later line
-    ++ out (Its starts) (line ∷ later) rest)
-    (end_of (Its starts) (line ∷ history) rest) (end_of (Its starts) (line ∷ later) rest)
+    ++ out (Its starts) (line ∷ later) rest) (end_of (Its starts) (line ∷ history) rest) (end_of (Its starts) (line ∷ later) rest)
     (accepted_of (Its starts) (line ∷ history) rest) (accepted_of (Its starts) (line ∷ later) rest)
 run_next starts history later rest line same more = search (ap₂, over_same)
 
@@ -311,14 +303,11 @@ pub run_alike : Laws → (starts : List Account) (lines history later rest : Lis
 run_alike laws starts lines history later (line ∷ rest) never begins stands lasting =
     alike_if starts history later ((Its starts).refusal history line) ((Its starts).refusal later line)
     ((Its starts).output history line ++ out (Its starts) (line ∷ history) rest) ((Its starts).output later line
-    ++ out (Its starts) (line ∷ later) rest)
-    (end_of (Its starts) (line ∷ history) rest) (end_of (Its starts) (line ∷ later) rest)
+    ++ out (Its starts) (line ∷ later) rest) (end_of (Its starts) (line ∷ history) rest) (end_of (Its starts) (line ∷ later) rest)
     (accepted_of (Its starts) (line ∷ history) rest) (accepted_of (Its starts) (line ∷ later) rest) stands
-    (line_lasts starts history later line stands) lasting
-    (λ none on.
+    (line_lasts starts history later line stands) lasting (λ none on.
     let prints_not : PrintsTooFar airs_of starts history line → ⊥ = never history line rest begins (stands.accepted, none) in
-    run_next starts history later rest line
-    (line_same laws starts history later line stands none prints_not)
+    run_next starts history later rest line (line_same laws starts history later line stands none prints_not)
     (run_alike laws starts lines (line ∷ history) (line ∷ later) rest never (begins ∙ sym (reverse_onto line history rest))
     (stands_next laws starts history later line stands none prints_not) on))
 run_alike laws starts lines history later [] never begins stands lasting = search (stands_alike)

@@ -44,8 +44,7 @@ gathered f with next first (step ∷ earlier) =
     ∙ sym (next step earlier)
 
 pub given_same : {A : Type 0} (gives : Step → Option A) → ((version : ℕ) → gives (steps.Scenario 2) ≡ gives (steps.Scenario version))
-    → (made : List Step)
-    → last_given gives (seconds made) ≡ last_given gives made
+    → (made : List Step) → last_given gives (seconds made) ≡ last_given gives made
 given_same gives first made =
     gathered (last_given gives) (λ step given. option_or (gives step) given) (λ step earlier. refl)
     (λ version given. ap (λ one. option_or one given) (first version)) made
@@ -82,8 +81,7 @@ chosen_same = given_same chosen_given (λ version. refl)
 its_same : (s : ℕ) (earlier : List Step) (step : Step) → is_of_source s (seconds earlier) (second step) ≡ is_of_source s earlier step
 its_same s earlier step =
     at_second (λ one other. is_of_source s (seconds earlier) other ≡ is_of_source s (seconds earlier) one) (λ version. refl) (λ same. refl)
-    step
-    ∙ ap (λ chosen. is_common step || (is_source_line step && (unwrap_or chosen 0 == s))) (chosen_same earlier)
+    step ∙ ap (λ chosen. is_common step || (is_source_line step && (unwrap_or chosen 0 == s))) (chosen_same earlier)
 
 seconds_if : (is_its : Bool) (step : Step) (own : List Step)
     → cond is_its (second step ∷ seconds own) (seconds own) ≡ seconds (cond is_its (step ∷ own) own)
@@ -93,10 +91,7 @@ seconds_if false this own = refl
 pub own_same : (s : ℕ) (made : List Step) → steps_of_source s (seconds made) ≡ seconds (steps_of_source s made)
 own_same s [] = refl
 own_same s (step ∷ earlier) =
-    ap (λ own. cond (is_of_source s (seconds earlier) (second step)) (second step ∷ own) own) (own_same s earlier)
-    ∙ ap (λ is_its. cond is_its (second step ∷ seconds (steps_of_source s earlier)) (seconds (steps_of_source s earlier)))
-    (its_same s earlier step)
-    ∙ seconds_if (is_of_source s earlier step) step (steps_of_source s earlier)
+    cc (own_same s earlier, its_same s earlier step, seconds_if (is_of_source s earlier step) step (steps_of_source s earlier))
 
 -- what says nothing of the version
 pub ruleset same = (

@@ -1,14 +1,12 @@
 -- A source of a scenario in version 2: what it sends is the same (Core 5.2, volume 6 part B, section 4.4.6, and part G, section
 -- 2). Where a list is called `own` its steps are those of one source, the newest first.
-use Rattle.std.proofs.Common.{ℕ, ◌≡◌, ◌==◌, cond, Bool, List, [], ◌∷◌, refl, ap}
+use Rattle.std.proofs.Common.{ℕ, ◌≡◌, Bool, List, [], ◌∷◌, refl, ap}
 use Rattle.std.proofs.Common.{ap₂}
 use Rattle.std.specs.Prelude.{map, unwrap_or}
 use Rattle.std.specs.List.{range_with_len}
-use Rattle.big_info.specs.Time.{iso_us_of}
-use Rattle.isoal_framed.specs.Calls.{accept}
 use Rattle.source_machine.specs.Airs.{air_after, air_of, airs_of, pdu_of, stale_of}
-use Rattle.source_machine.specs.Calls.{Setup, Call, give, event as perform, framed_calls, framed_lays, laid_before, laid_with}
-use Rattle.source_machine.specs.Calls.{lay_anchor, stream_calls}
+use Rattle.source_machine.specs.Calls.{Setup, Call, give, event as perform, framed_calls}
+use Rattle.source_machine.specs.Calls.{stream_calls}
 use Rattle.scenario_text.specs.declared.step.Step.{Step}
 use Rattle.scenario_history.specs.Source.{is_ahead_in}
 use Rattle.scenario_history.specs.Source.{pdu_in, setup_of}
@@ -41,11 +39,8 @@ of_calls f stays own = cc (ap₂ f (setup_same own) (calls_same own), stays (is_
 pub framed_same : (ahead : Bool) (setup : Setup) (bis : ℕ) (calls : List Call)
     → framed_calls (with_ahead ahead setup) bis calls ≡ framed_calls setup bis calls
 framed_same ahead setup bis [] = refl
-framed_same ahead setup bis (give stream time octets ∷ earlier) =
-    ap (λ calls. cond (stream == bis) (accept (unwrap_or time 0) octets ∷ calls) calls) (framed_same ahead setup bis earlier)
-framed_same ahead setup bis (perform ∷ earlier) =
-    ap (framed_lays (lay_anchor setup (laid_before setup.info earlier)) (iso_us_of setup.info) (laid_with setup.info earlier))
-    (framed_same ahead setup bis earlier)
+framed_same ahead setup bis (give stream time octets ∷ earlier) = cc (framed_same ahead setup bis earlier)
+framed_same ahead setup bis (perform ∷ earlier) = cc (framed_same ahead setup bis earlier)
 
 airs_from : (ahead : Bool) (setup : Setup) (calls : List Call) (streams : List ℕ)
     → map (air_of (with_ahead ahead setup) calls) streams ≡ map (air_of setup calls) streams

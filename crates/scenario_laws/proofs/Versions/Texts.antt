@@ -137,8 +137,7 @@ version_turn taken (line ∷ lines) within = elim (cases_lt taken text_limit) [
       inr (subst (λ all. Turned all (lines_from true taken second_version (newline ∷ text_of (line ∷ lines))))
       (sym (end_in taken first_version (text_of (line ∷ lines)) below))
       (subst (Turned (plain first_version ∷ from (taken + 1) (text_of (line ∷ lines))))
-      (sym (end_in taken second_version (text_of (line ∷ lines)) below))
-      (here (from (taken + 1) (text_of (line ∷ lines))))))
+      (sym (end_in taken second_version (text_of (line ∷ lines)) below)) (here (from (taken + 1) (text_of (line ∷ lines))))))
   | inr at ↦ inl (octet_past taken second_version newline (text_of (line ∷ lines)) at
       ∙ sym (octet_past taken first_version newline (text_of (line ∷ lines)) at))
 ]

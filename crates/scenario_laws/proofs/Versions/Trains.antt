@@ -41,8 +41,7 @@ fault_near setup capability wishes slot train base info encrypted None is = tt
 fault_near setup capability wishes slot train base info encrypted (Some fault) is = is
 
 fault_same : (far : ℕ) (setup : Setup) (capability : Capability) (wishes : List Wish) (slot : ℕ) (train : Train) (base : Endpoint)
-    (info : BigInfo) (encrypted : Bool)
-    (fault : Option GroupFault)
+    (info : BigInfo) (encrypted : Bool) (fault : Option GroupFault)
     → by_group (reaching far setup) capability wishes slot train base info encrypted fault
     ≡ by_group setup capability wishes slot train base info encrypted fault
 fault_same far setup capability wishes slot train base info encrypted fault = cc
@@ -60,14 +59,12 @@ info_same far setup capability wishes slot train base encrypted (Ok info) within
     ∙ fault_same far setup capability wishes slot train base info encrypted (first_fault setup.horizon info)
 
 big_info_same : (far : ℕ) (setup : Setup) (capability : Capability) (wishes : List Wish) (slot : ℕ) (train : Train) (base : Endpoint)
-    (found : Option (List ℕ))
-    → setup.horizon ≤ far → BringsNear (by_big_info setup capability wishes slot train base found)
+    (found : Option (List ℕ)) → setup.horizon ≤ far → BringsNear (by_big_info setup capability wishes slot train base found)
     → by_big_info (reaching far setup) capability wishes slot train base found ≡ by_big_info setup capability wishes slot train base found
 big_info_same far setup capability wishes slot train base found within is = grind (arith, info_same)
 
 endpoint_same : (far : ℕ) (setup : Setup) (capability : Capability) (wishes : List Wish) (slot : ℕ) (train : Train)
-    (read : Result Endpoint BaseFault)
-    → setup.horizon ≤ far → BringsNear (by_endpoint setup capability wishes slot train read)
+    (read : Result Endpoint BaseFault) → setup.horizon ≤ far → BringsNear (by_endpoint setup capability wishes slot train read)
     → by_endpoint (reaching far setup) capability wishes slot train read ≡ by_endpoint setup capability wishes slot train read
 endpoint_same far setup capability wishes slot train read within is = grind (arith, big_info_same)
 
@@ -85,8 +82,7 @@ here_same false true one two brought other is same = refl
 here_same false false one two brought other is same = same is
 
 slot_same : (far : ℕ) (setup : Setup) (sight : Sight) (train : Train) (found : Option ℕ) → setup.horizon ≤ far
-    → BringsNear (by_slot setup sight train found)
-    → by_slot (reaching far setup) sight train found ≡ by_slot setup sight train found
+    → BringsNear (by_slot setup sight train found) → by_slot (reaching far setup) sight train found ≡ by_slot setup sight train found
 slot_same far setup sight train found within is = grind (arith, here_same, base_same)
 
 id_same : (far : ℕ) (setup : Setup) (sight : Sight) (train : Train) (id : Option (List ℕ)) → setup.horizon ≤ far
@@ -95,8 +91,7 @@ id_same : (far : ℕ) (setup : Setup) (sight : Sight) (train : Train) (id : Opti
 id_same far setup sight train id within is = grind (arith, slot_same)
 
 pub brought_same : (far : ℕ) (setup : Setup) (sight : Sight) (train : Train) → setup.horizon ≤ far
-    → BringsNear (brought_by setup sight train)
-    → brought_by (reaching far setup) sight train ≡ brought_by setup sight train
+    → BringsNear (brought_by setup sight train) → brought_by (reaching far setup) sight train ≡ brought_by setup sight train
 brought_same far setup sight train within is = id_same far setup sight train (broadcast_id_of train.ext) within is
 
 -- ---- a train whose group is near
@@ -116,8 +111,7 @@ near_group : (setup : Setup) (capability : Capability) (wishes : List Wish) (slo
 near_group setup capability wishes slot train base info encrypted fault near = grind (arith, near_if)
 
 near_info : (setup : Setup) (capability : Capability) (wishes : List Wish) (slot : ℕ) (train : Train) (base : Endpoint) (encrypted : Bool)
-    (read : Result BigInfo BigFault)
-    → ((info : BigInfo) → read ≡ Ok info → FoundNear (first_fault setup.horizon info))
+    (read : Result BigInfo BigFault) → ((info : BigInfo) → read ≡ Ok info → FoundNear (first_fault setup.horizon info))
     → BringsNear (by_info setup capability wishes slot train base encrypted read)
 near_info setup capability wishes slot train base encrypted read near = grind (arith, near_group)
 
@@ -128,13 +122,11 @@ near_big_info : (setup : Setup) (capability : Capability) (wishes : List Wish) (
 near_big_info setup capability wishes slot train base found near = grind (arith, near_info)
 
 near_endpoint : (setup : Setup) (capability : Capability) (wishes : List Wish) (slot : ℕ) (train : Train) (read : Result Endpoint BaseFault)
-    → ReadsNear setup train
-    → BringsNear (by_endpoint setup capability wishes slot train read)
+    → ReadsNear setup train → BringsNear (by_endpoint setup capability wishes slot train read)
 near_endpoint setup capability wishes slot train read near = grind (arith, near_big_info)
 
 near_base : (setup : Setup) (capability : Capability) (wishes : List Wish) (slot : ℕ) (train : Train) (found : Option (List ℕ))
-    → ReadsNear setup train
-    → BringsNear (by_base setup capability wishes slot train found)
+    → ReadsNear setup train → BringsNear (by_base setup capability wishes slot train found)
 near_base setup capability wishes slot train found near = grind (arith, near_endpoint)
 
 near_slot : (setup : Setup) (sight : Sight) (train : Train) (found : Option ℕ) → ReadsNear setup train
@@ -152,5 +144,4 @@ brought_near setup sight train near = near_id setup sight train (broadcast_id_of
 
 pub near_or_far : (answer : TrainHeard) → AnswersNear answer ⊎ (answer ≡ answers.BadGroup Horizon)
 near_or_far (answers.BadGroup Horizon) = inr refl
-near_or_far (answers.BadGroup fault) = inl tt
 near_or_far _ = inl tt

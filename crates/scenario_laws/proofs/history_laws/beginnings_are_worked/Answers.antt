@@ -17,8 +17,7 @@ carried_none : (from : ℕ) (offset : Option ℕ) (segments : List (List ℕ)) (
     → carried from offset segments whole 0 ≡ []
 carried_none from offset [] whole past = refl
 carried_none from offset (octets ∷ segments) whole past =
-    rw (ne_eqb from 0 (λ is. omega (arith, is, past)))
-    (carried_none (from + 1) None segments whole (omega (arith, past)))
+    rw (ne_eqb from 0 (λ is. omega (arith, is, past))) (carried_none (from + 1) None segments whole (omega (arith, past)))
 
 -- the source accepted one unit on the stream, and its first PDU has more octets than its header: so it carries the unit
 begins_first : (in_air : List Sent) → Sends its_setup.info (framed_calls its_setup 2 its_calls) its_air in_air → (place : ℕ) (unit : Sent)
@@ -37,10 +36,7 @@ begins_first (one ∷ []) sends zero unit at =
           absurd (omega (arith, long))
     ] in
     omega (arith, same, first)
-begins_first (one ∷ other ∷ more) sends place unit at = absurd (elim sends.are [
-  | inl here ↦ here.1
-  | inr later ↦ later
-])
+begins_first (one ∷ other ∷ more) sends place unit at = absurd (elim sends.are [ inl here ↦ here.1 | inr later ↦ later ])
 
 pub returns : goal.returns
 returns c = λ entry is.

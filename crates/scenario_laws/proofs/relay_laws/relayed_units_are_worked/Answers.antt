@@ -1,4 +1,4 @@
-use Rattle.std.proofs.Common.{ℕ, zero, suc, ◌≡◌, ◌+◌, List, [], ◌∷◌, map, Some, refl, sym, ap, arith}
+use Rattle.std.proofs.Common.{ℕ, zero, suc, ◌≡◌, ◌+◌, List, [], ◌∷◌, map, Some, refl, arith}
 use Rattle.std.specs.Prelude.{slice_get}
 use Rattle.std.specs.List.{AllZip}
 use Rattle.std.specs.List.Sorted.{IsStrictlyIncreasing}
@@ -36,14 +36,7 @@ none_before first (one ∷ other ∷ third ∷ more) all rising = all.1.1
 of_unit : (k time : ℕ) → slice_get handed_both k ≡ Some (record { time = time; octets = 0xa0 ∷ [] })
     → slice_get equal_units k ≡ Some (0xa0 ∷ [])
     → IsOfFirst equal_units handed_both its_setup 2 (record { number = k; place = k }) (valid 2 (time + 61084) (0xa0 ∷ []))
-of_unit k time handed given = record {
-  unit = record { time = time; octets = 0xa0 ∷ [] };
-  is_given = given;
-  is_handed = handed;
-  stream = refl;
-  time_is = refl;
-  valid_is = λ stream time' octets is. sym (ap octets_of is);
-}
+of_unit k time handed given = search arith
 
 pub returns : goal.returns
 returns c = record {
