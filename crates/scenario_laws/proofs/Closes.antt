@@ -1,5 +1,5 @@
 -- The events of a source that a sink closes rise, over all its stays with the source.
-use Rattle.std.proofs.Common.{ℕ, zero, suc, ◌≡◌, ◌≢◌, ◌<◌, ◌≤◌, ◌+◌, ◌==◌, ◌||◌, cond, leb, not, Bool, true, false, List, [], ◌∷◌, ◌++◌, map, Option, None, Some}
+use Rattle.std.proofs.Common.{ℕ, zero, suc, ◌≡◌, ◌≢◌, ◌<◌, ◌≤◌, ◌+◌, ◌==◌, ◌||◌, cond, not, Bool, true, false, List, [], ◌∷◌, ◌++◌, map, Option, None, Some}
 use Rattle.std.proofs.Common.{refl, sym, ◌∙◌, ap, subst, arith, inl, inr}
 use Rattle.std.specs.List.Sorted.{IsStrictlyIncreasing}
 use Rattle.std.proofs.lemmas.Bool.{cases_Bool, eq-eqb, eqb-true, eqb-false, false≢true, leb-true, or_parts}
@@ -15,7 +15,7 @@ use Rattle.scenario_history.specs.Source.{event_back, is_sending, open_event, pd
 use Rattle.source_machine.specs.Airs.{Airs}
 use Rattle.scenario_history.specs.Sinks.{heard_on_air, is_of, reaches, sink_calls, source_of, spots_of, ticked, unless_lost}
 use Rattle.scenario_history.specs.Worlds.{joining_on}
-use Rattle.scenario_laws.specs.Laws.{Closed, closed_at, closed_by, closed_if, closed_in, closed_since, any_since, given_since_made, is_given, is_made, is_tuned}
+use Rattle.scenario_laws.specs.Laws.{Closed, closed_by, closed_if, closed_in, closed_since, any_since, given_since_made, is_given, is_made, is_tuned}
 use Rattle.scenario_laws.proofs.Announced.{Announcing}
 use Rattle.scenario_laws.proofs.ByHand.{as_by_hand}
 use Rattle.scenario_laws.proofs.Legals.{Legal, Permitted, permitted}
@@ -141,27 +141,15 @@ left_moves mine mine' calls later next next' more its left within = elim left [
   | inr gone ↦ off_moves mine mine' calls later next next' more (ap place gone) within
 ]
 
--- an event of the source is over
-closed_one : (tuning : Joining) (calls : List Call) (event next next' : ℕ) (over : Bool) → leb (tuning.first + closes tuning calls) event ≡ over
-    → event < next → next ≤ next' → tuning.first + closes tuning calls ≤ next
-    → (Climb (tuning.first + closes tuning calls) (map event_of (cond over (record { event = tuning.first + closes tuning calls; which = tuning.which } ∷ []) []))
-    (tuning.first + cond over (closes tuning calls + 1) (closes tuning calls)))
-    × (tuning.first + cond over (closes tuning calls + 1) (closes tuning calls) ≤ next')
-closed_one tuning calls event next next' over is past more within = grind (arith, leb-true)
-
 tick_on_moves : (p : Option Joining) (calls : List Call) (event next next' : ℕ) → place calls ≡ p → event < next → next ≤ next' → front_of p calls next ≤ next
     → Climb (front_of p calls next) (map event_of (closed_in p calls event)) (front_of p (tick event ∷ calls) next') × (front_of p (tick event ∷ calls) next' ≤ next')
-tick_on_moves p calls event next next' is past more within = grind (arith, closed_one)
-
-tick_moves : (last_open : Option ℕ) (calls : List Call) (next next' : ℕ) → ((event : ℕ) → last_open ≡ Some event → event < next) → next ≤ next' → front true calls next ≤ next
-    → Moves true calls next (closed_at calls last_open) true (ticked last_open calls) next'
-tick_moves last_open calls next next' past more within = grind (arith, stay_moves, tick_on_moves)
+tick_on_moves p calls event next next' is past more within = grind (arith, leb-true)
 
 -- a close of an event of the source, or of another
 close_moves : (mine its : Bool) (last_open : Option ℕ) (calls calls' : List Call) (next next' : ℕ) → ((event : ℕ) → last_open ≡ Some event → event < next) → next ≤ next'
     → front mine calls next ≤ next → (mine ≡ true → calls' ≡ cond its (ticked last_open calls) calls)
     → Moves mine calls next (cond its (closed_if mine calls last_open) []) mine calls' next'
-close_moves mine its last_open calls calls' next next' past more within is = grind (arith, tick_moves, stay_moves)
+close_moves mine its last_open calls calls' next next' past more within is = grind (arith, stay_moves, tick_on_moves)
 
 pub open_if : (shut : Bool) (last event : ℕ) → cond shut None (Some last) ≡ Some event → (shut ≡ false) × (last ≡ event)
 open_if shut last event is = grind (arith, none-some, same_Some)

@@ -7,8 +7,7 @@ use Rattle.std.proofs.lemmas.List.{append-nil, map-append}
 use Rattle.std.proofs.lemmas.List.Elements.{filter-append}
 use Rattle.std.proofs.lemmas.Option.{none-some}
 use Rattle.unit_outlets.specs.Handed.{Handed}
-use Rattle.group_sink.specs.Calls.{Call, tune, place}
-use Rattle.sync_reference.specs.Joining.{Joining}
+use Rattle.group_sink.specs.Calls.{Call, place}
 use Rattle.group_sink.specs.Handing.{handed_at}
 use Rattle.scenario_text.specs.declared.step.Step.{Step}
 use Rattle.scenario_text.specs.declared.step.Step.TheVariants as steps
@@ -33,15 +32,8 @@ gone_housed : (gone : Bool) (box : Option ℕ) (calls : List Call) → (box ≡ 
 gone_housed true box calls before none = refl
 gone_housed false box calls before none = before none
 
-made_housed : (again : Bool) (count : ℕ) (box : Option ℕ) (calls : List Call) → (box ≡ None → place calls ≡ None) → cond again (Some count) box ≡ None → place (cond again [] calls) ≡ None
-made_housed again count box calls before none = grind (arith, none-some)
-
 is_none : (box : Option ℕ) → is_some box ≡ true → box ≡ None → ⊥
 is_none box has none = grind (arith, false≢true, none-some)
-
-put_housed : (n sink : ℕ) (on : Joining) (earlier : List Step) (calls : List Call) → is_some (box_of sink earlier) ≡ true → (box_of n earlier ≡ None → place calls ≡ None)
-    → box_of n earlier ≡ None → (put : Bool) → eqb sink n ≡ put → place (cond put (tune on ∷ calls) calls) ≡ None
-put_housed n sink on earlier calls has before none put is = grind (arith, is_none, eqb-true)
 
 made_as : (gone : Bool) (box : Option ℕ) (made : Option Settings) → (box ≡ None → made ≡ None) → cond gone None box ≡ None
     → cond gone None made ≡ None
@@ -65,7 +57,7 @@ has_box sink earlier none = not-false (is_some (box_of sink earlier)) (fails_not
 housed_after : (airs : Airs) (boxes n : ℕ) (step : Step) (earlier : List Step) (calls : List Call) → Permitted airs boxes earlier step → (box_of n earlier ≡ None → place calls ≡ None)
     → box_after n step earlier (box_of n earlier) ≡ None → place (with_sink_call airs n step earlier calls) ≡ None
 housed_after airs boxes n step earlier calls permits before none =
-    grind (arith, made_housed, gone_housed, put_housed, has_box, same_place, air_place, tick_if_place, end_place, unmoved, unmade)
+    grind (arith, gone_housed, has_box, same_place, air_place, tick_if_place, end_place, unmoved, unmade, none-some, is_none, eqb-true)
 
 housed : (airs : Airs) (boxes n : ℕ) (made : List Step) → Legal airs boxes made → box_of n made ≡ None → place (sink_calls airs n made) ≡ None
 housed airs boxes n [] legal none = refl

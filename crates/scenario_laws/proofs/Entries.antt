@@ -1,5 +1,5 @@
 -- What is struck of units, by the numbers that they begin at: each entry is of its unit, in order.
-use Rattle.std.proofs.Common.{ℕ, suc, ◌≡◌, ◌⊎◌, ◌<◌, ◌≤◌, ◌+◌, ◌-◌, ◌/◌, ◌&&◌, cond, ltb, Bool, true}
+use Rattle.std.proofs.Common.{ℕ, suc, ◌≡◌, ◌⊎◌, ◌<◌, ◌≤◌, ◌+◌, ◌-◌, ◌/◌, cond, ltb, Bool, true}
 use Rattle.std.proofs.Common.{List, [], ◌∷◌, ◌++◌, length, Option, Some, refl, sym, ◌∙◌, ap, subst, arith, inl, inr}
 use Rattle.std.specs.Prelude.{slice_get}
 use Rattle.std.specs.List.{AllZip, flat_map}
@@ -37,17 +37,9 @@ missing_behind heard from number [] is = absurd (none-some number is)
 missing_behind heard from number (octets ∷ segments) is =
     missing_test (heard from) from number (first_missing heard (from + 1) segments) is (λ more. missing_behind heard (from + 1) number segments more)
 
-valid_has : (stay : Stay) (heard : ℕ → Bool) (closed : ℕ) (unit : Sent) → heard unit.first ≡ true → 1 ≤ length unit.segments → (test : Bool) → (unit.whole && ltb (behind unit - 1) closed) ≡ test
-    → HasEntry stay heard closed unit (cond test (valid stay.bis (time_of stay (unit.first / stay.info.bn) unit.offset) (octets_in unit.segments) ∷ []) [])
-valid_has stay heard closed unit start some test is = grind (arith, and_parts, ltb, ltb-true)
-
-lost_has : (stay : Stay) (heard : ℕ → Bool) (closed number : ℕ) (unit : Sent) → heard unit.first ≡ true → unit.first ≤ number → (test : Bool) → ltb number closed ≡ test
-    → HasEntry stay heard closed unit (cond test (lost stay.bis (time_of stay (unit.first / stay.info.bn) unit.offset) ∷ []) [])
-lost_has stay heard closed number unit start least test is = grind (arith, ltb-true)
-
 by_missing : (stay : Stay) (heard : ℕ → Bool) (closed : ℕ) (unit : Sent) → heard unit.first ≡ true → 1 ≤ length unit.segments → (missing : Option ℕ)
     → first_missing heard unit.first unit.segments ≡ missing → HasEntry stay heard closed unit (entry_by stay closed unit missing)
-by_missing stay heard closed unit start some missing is = grind (arith, valid_has, ltb, lost_has, missing_behind)
+by_missing stay heard closed unit start some missing is = grind (arith, ltb, missing_behind, and_parts, ltb-true)
 
 by_start : (stay : Stay) (heard : ℕ → Bool) (closed : ℕ) (unit : Sent) → 1 ≤ length unit.segments → (test : Bool) → heard unit.first ≡ test
     → HasEntry stay heard closed unit (cond test (entry_by stay closed unit (first_missing heard unit.first unit.segments)) [])

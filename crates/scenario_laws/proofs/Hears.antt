@@ -25,7 +25,7 @@ use Rattle.transcript_text.specs.declared.refusal.Refusal.TheVariants.{NotOnAir}
 use Rattle.scenario_history.specs.Steps.{chosen_of, chosen_steps, steps_of_source}
 use Rattle.scenario_history.specs.Source.{setup_of, source_calls, performed, event_back, is_started, pdu_in, open_event}
 use Rattle.scenario_history.specs.Airs.{MeetAirs}
-use Rattle.scenario_history.specs.Sinks.{spot_at, is_lost, is_of, hear_at, unless_lost, heard_on_air, reaches, sink_calls, source_of, spots_of, ticked, ticked_if}
+use Rattle.scenario_history.specs.Sinks.{spot_at, is_lost, is_of, hear_at, unless_lost, heard_on_air, reaches, sink_calls, source_of, spots_of, ticked_if}
 use Rattle.scenario_history.specs.Worlds.{joining_on}
 use Rattle.scenario_history.specs.Refusals.{air_refusal, no_place}
 use Rattle.scenario_laws.specs.Laws.{injected_since, is_injected, is_tuned}
@@ -113,13 +113,9 @@ air_own airs laid tuning own bis lose (suc i) calls sent least some near within 
     (place_own airs laid tuning own bis 0 (i / (setup_of own).info.nse + 1) (i % (setup_of own).info.nse) sent least (omega (arith, row))
     (mod_below i (setup_of own).info.nse (omega (arith, some))) near))
 
-tick_own : (laid : ℕ → Content) (tuning : Joining) (bis : ℕ) (last_open : Option ℕ) (calls : List Call)
-    → AllOwn laid tuning bis calls → AllOwn laid tuning bis (ticked last_open calls)
-tick_own laid tuning bis last_open calls all = grind (arith, one_close)
-
 tick_if_own : (laid : ℕ → Content) (tuning : Joining) (bis : ℕ) (mine : Bool) (last_open : Option ℕ) (calls : List Call)
     → AllOwn laid tuning bis calls → AllOwn laid tuning bis (ticked_if mine last_open calls)
-tick_if_own laid tuning bis mine last_open calls all = grind (arith, tick_own)
+tick_if_own laid tuning bis mine last_open calls all = grind (arith, one_close)
 
 left_own : (laid : ℕ → Content) (tuning : Joining) (bis : ℕ) (later calls : List Call) → Left later calls → AllOwn laid tuning bis calls → AllOwn laid tuning bis later
 left_own laid tuning bis later calls left all = elim left [

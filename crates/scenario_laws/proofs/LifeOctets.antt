@@ -1,5 +1,5 @@
 -- The life of a sink of any lines: what its links write is octets, and it has at most eight slots.
-use Rattle.std.proofs.Common.{ℕ, zero, suc, ◌≡◌, ◌<◌, ◌≤◌, ◌==◌, cond, Bool, true, false, List, [], ◌∷◌, ◌++◌, Option, None, Some, sym, ◌∙◌, subst, arith}
+use Rattle.std.proofs.Common.{ℕ, zero, suc, ◌≡◌, ◌<◌, ◌==◌, cond, Bool, true, false, List, [], ◌∷◌, ◌++◌, Option, None, Some, sym, ◌∙◌, subst, arith}
 use Rattle.std.specs.List.{AllByRecursion}
 use Rattle.std.proofs.lemmas.List.{append-nil}
 use Rattle.std.proofs.lemmas.Option.{none-some}
@@ -15,7 +15,7 @@ use Rattle.scenario_text.specs.declared.step.Step.TheVariants as steps
 use Rattle.scenario_text.specs.Ranges.{IsInRange}
 use Rattle.scenario_text.proofs.Citable.{nil_octets, cons_octets}
 use Rattle.delegator_history.specs.Trains.{Settings}
-use Rattle.sink_history.specs.Lives.{Source, World, horizon_of, life_of, lived, lived_at, lived_by, made_by, made_of, named_by, with_drain}
+use Rattle.sink_history.specs.Lives.{Source, World, life_of, lived, lived_at, lived_by, made_by, made_of, named_by}
 use Rattle.scenario_history.specs.Lines.{Said, a_step, nothing, unsaid, said_of, with_said}
 use Rattle.scenario_laws.proofs.Legals.{InRange, LinesInRange, in_range}
 
@@ -41,14 +41,10 @@ few_if : (is_its : Bool) (here there made : Option Settings) → ((sink : Settin
 few_if true here there made first second is sink its = first sink (sym is ∙ its)
 few_if false here there made first second is sink its = second sink (sym is ∙ its)
 
-few_made : (n sink streams slots : ℕ) (mtu : Option ℕ) (earlier : List Step) → slots ≤ 8 → (made : Settings)
-    → Some (record { setup = record { streams = streams; slots = slots; horizon = horizon_of earlier }; mtu = mtu }) ≡ Some made → made.setup.slots < 256
-few_made n sink streams slots mtu earlier few made is = search arith
-
 few_by : (n : ℕ) (step : Step) (earlier : List Step) (before : Option Settings) → IsInRange step
     → ((made : Settings) → before ≡ Some made → made.setup.slots < 256)
     → (made : Settings) → made_by n step earlier before ≡ Some made → made.setup.slots < 256
-few_by n step earlier before ranged few = grind (arith, few_if, few_made, none-some)
+few_by n step earlier before ranged few = grind (arith, few_if, none-some)
 
 pub few_slots : (n : ℕ) (steps : List Step) → Ranged steps → (made : Settings) → made_of n steps ≡ Some made → made.setup.slots < 256
 few_slots n [] ranged = λ made is. absurd (none-some made is)
@@ -68,9 +64,6 @@ repeats : (count : ℕ) (call : Call) (calls : List Call) → IsAsked call → A
 repeats zero call calls is before = before
 repeats (suc count) call calls is before = (is, repeats count call calls is before)
 
-octets_drained : (made : Option Settings) (link : ℕ) (calls : List Call) → AreOctets calls → AreOctets (with_drain made link calls)
-octets_drained made link calls before = grind (arith, repeats)
-
 remove_octets : (source_id : ℕ) → source_id < 256 → IsOctets (spelling (operations.Remove source_id))
 remove_octets source_id small = cons_octets 5 (source_id ∷ []) (omega arith) (cons_octets source_id [] small nil_octets)
 
@@ -80,7 +73,7 @@ code_octets source_id code small octets =
 
 octets_by : (source : Source) (step : Step) (made : Option Settings) (calls : List Call) → IsInRange step → AreOctets calls
     → AreOctets (lived_by source step made calls)
-octets_by source step made calls ranged before = grind (arith, remove_octets, code_octets, octets_drained)
+octets_by source step made calls ranged before = grind (arith, remove_octets, code_octets, repeats)
 
 octets_at : (world : World) (n : ℕ) (named : Option ℕ) (step : Step) (earlier : List Step) (made : Option Settings) (calls : List Call)
     → IsInRange step → AreOctets calls → AreOctets (lived_at world n named step earlier made calls)

@@ -3,9 +3,9 @@
 use Rattle.std.proofs.Common.{ℕ, ◌≡◌, ◌⊎◌, ◌==◌, ◌&&◌, not, cond, Bool, true, false, List, ◌∷◌, Option, None, Some, is_some, refl, ap, subst, inl, inr, arith}
 use Rattle.delegator_machine.specs.Groups.{by_numbers, with_leave, with_step}
 use Rattle.delegator_history.specs.declared.train_heard.TrainHeard.{TrainHeard}
-use Rattle.delegator_history.specs.Sights.{Place, Sight, is_on_group}
+use Rattle.delegator_history.specs.Sights.{Sight}
 use Rattle.delegator_history.specs.Trains.{Brought, Settings, Setup, Train, heard, ignored, taken}
-use Rattle.delegator_history.specs.Trains.{brought_by, by_broadcast_id, by_slot, is_elsewhere, joining_in}
+use Rattle.delegator_history.specs.Trains.{brought_by, by_broadcast_id, by_slot, joining_in}
 use Rattle.sync_reference.specs.Joining.{Joining}
 use Rattle.group_sink.specs.Calls.{Call, leave, place, tune}
 use Rattle.sink_history.specs.Calls as links
@@ -65,16 +65,12 @@ left_or_not true true calls = inl refl
 left_or_not true false calls = inr refl
 left_or_not false is calls = inl refl
 
-received_left : (source : Source) (step : Step) (made : Option Settings) (here there : List links.Call) (calls : List Call)
-    → train_by source step ≡ None → Left (received_by source step made here there calls) calls
-received_left source step made here there calls none = grind (arith, left_or_not)
-
 left_if : (hit : Bool) (more calls : List Call) → Left more calls → Left (cond hit more calls) calls
 left_if true more calls left = left
 left_if false more calls left = inl refl
 
 moved_left : (n : ℕ) (named : Option ℕ) (step : Step) (earlier : List Step) (calls : List Call) → train_by (source_at earlier) step ≡ None → Left (moved n named step earlier calls) calls
-moved_left n named step earlier calls none = grind (arith, left_if, received_left)
+moved_left n named step earlier calls none = grind (arith, left_if, left_or_not)
 
 pub plain_stays : (airs : Airs) (n : ℕ) (step : Step) (earlier : List Step) → train_by (source_at earlier) step ≡ None
     → moved n (named_by step) step earlier (sink_calls airs n earlier) ≡ with_sink_call airs n step earlier (sink_calls airs n earlier)
@@ -102,13 +98,9 @@ heard_slot : (other : Bool) (first second : TrainHeard) (rest : Brought) (slot :
 heard_slot true first second rest slot answer encrypted is = absurd cc
 heard_slot false first second rest slot answer encrypted is = absurd cc
 
-heard_place : (at : Place) (slot : ℕ) (first second : TrainHeard) (rest : Brought) (other : ℕ) (answer : TrainHeard) (encrypted : Option Bool)
-    → cond (is_elsewhere at slot) (ignored first) (cond (is_on_group at slot) (ignored second) rest) ≡ heard other answer encrypted → has_group at ≡ false
-heard_place at slot first second rest other answer encrypted is = grind (arith, heard_slot)
-
 heard_at : (setup : Setup) (sight : Sight) (train : Train) (slot : Option ℕ) (other : ℕ) (answer : TrainHeard) (encrypted : Option Bool)
     → by_slot setup sight train slot ≡ heard other answer encrypted → has_group sight.place ≡ false
-heard_at setup sight train slot other answer encrypted is = grind (arith, heard_place)
+heard_at setup sight train slot other answer encrypted is = grind (arith, heard_slot)
 
 heard_by : (setup : Setup) (sight : Sight) (train : Train) (id : Option (List ℕ)) (other : ℕ) (answer : TrainHeard) (encrypted : Option Bool)
     → by_broadcast_id setup sight train id ≡ heard other answer encrypted → has_group sight.place ≡ false

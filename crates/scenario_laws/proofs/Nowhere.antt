@@ -2,7 +2,7 @@
 use Rattle.std.proofs.Common.{ℕ, ◌≡◌, ◌==◌, cond, Bool, true, false, List, [], ◌∷◌, Option, None, Some, refl, sym, ap, subst, arith}
 use Rattle.std.proofs.lemmas.Bool.{false≢true}
 use Rattle.std.proofs.lemmas.Option.{none-some, same_Some}
-use Rattle.delegator_machine.specs.Groups.{with_leave, with_step}
+use Rattle.delegator_machine.specs.Groups.{with_step}
 use Rattle.delegator_machine.proofs.Citable.{comes_on}
 use Rattle.delegator_history.specs.Sights.{Sight}
 use Rattle.delegator_history.specs.States.{put_on, train_heard}
@@ -41,12 +41,9 @@ train_comes m train lives joining is =
 
 -- ---- a line that names the sink
 
-leave_off : (was is : Bool) (calls : List Call) → (was ≡ false → place calls ≡ None) → is ≡ false → place (with_leave was is calls) ≡ None
-leave_off was is calls before off = grind (arith, false≢true)
-
 step_off : (given : Option Joining) (before later : Sight) (calls : List Call) → (has_group before.place ≡ false → place calls ≡ None)
     → ((joining : Joining) → given ≡ Some joining → has_group later.place ≡ true) → has_group later.place ≡ false → place (with_step given before later calls) ≡ None
-step_off given before later calls was comes off = grind (arith, leave_off, false≢true)
+step_off given before later calls was comes off = grind (arith, false≢true)
 
 -- a group that the line brings is one that the sink is on then
 abbrev Comes : Source → Step → Option Settings → (here there : List links.Call) → Type 0

@@ -75,11 +75,6 @@ ends_same airs others both starts made legal none =
     ++ (unit_lines (closing others 1 made) ++ sums_of starts (handed_up others made ++ us) made))
     (closing_both_same airs others both boxes made legal)
 
-output_same : (airs others : Airs) → Both airs others → (starts : List Account) (made : List Step) (step : Step) → Legal airs (length starts) made
-    → refusal_of airs (length starts) made step ≡ None → output_of airs starts made step ≡ output_of others starts made step
-output_same airs others both starts made step legal none =
-    grind (arith, close_same, legal, stale_same, legal_too, ends_same, handed_up_same, sink_same, pdu_same, chosen_same, hears, permitted)
-
 -- ---- lines
 
 said_refused : (airs others : Airs) → Both airs others → (boxes : ℕ) (made : List Step) (said : Said) → Legal airs boxes made → refusal_said airs boxes made said ≡ refusal_said others boxes made said
@@ -87,7 +82,22 @@ said_refused airs others both boxes made said legal = grind (arith, refusal_same
 
 said_brought : (airs others : Airs) → Both airs others → (starts : List Account) (made : List Step) (said : Said) → Legal airs (length starts) made
     → refusal_said airs (length starts) made said ≡ None → output_said airs starts made said ≡ output_said others starts made said
-said_brought airs others both starts made said legal none = grind (arith, output_same, legal, line_passes)
+said_brought airs others both starts made said legal none =
+    grind (
+      arith,
+      legal,
+      line_passes,
+      close_same,
+      stale_same,
+      legal_too,
+      ends_same,
+      handed_up_same,
+      sink_same,
+      pdu_same,
+      chosen_same,
+      hears,
+      permitted,
+    )
 
 -- what both airs share over a text with these boxes
 pub record Told (airs others : Airs) : Type 0 where

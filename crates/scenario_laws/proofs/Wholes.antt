@@ -68,11 +68,8 @@ goes airs boxes s earlier step legal started =
 abbrev pub next_in : List Step → ℕ
 next_in own = next_of (setup_of own) (source_calls own)
 
-next_after : (airs : Airs) (own : List Step) (step : Step) → Lawful airs own → Allowed airs own step → next_in own ≤ next_in (step ∷ own)
-next_after airs own step legal allows = grind (arith, not_yet, settled)
-
 next_if : (airs : Airs) (own : List Step) (step : Step) (is_its : Bool) → Lawful airs own → (is_its ≡ true → Allowed airs own step) → next_in own ≤ next_in (cond is_its (step ∷ own) own)
-next_if airs own step is_its legal allows = grind (arith, next_after)
+next_if airs own step is_its legal allows = grind (arith, not_yet, settled)
 
 -- it never falls
 pub next_rises : (airs : Airs) (boxes s : ℕ) (earlier : List Step) (step : Step) → Legal airs boxes (step ∷ earlier)

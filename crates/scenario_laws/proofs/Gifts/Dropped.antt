@@ -17,7 +17,7 @@ use Rattle.relay_role.specs.declared.dropped.DropName.TheVariants as drops
 use Rattle.scenario_history.proofs.Citable.{permitted, stage_same}
 use Rattle.scenario_history.specs.Refusals.{give_refusal, is_out_of_phase, refusal_of, source_refusal}
 use Rattle.sink_history.specs.Refusals.{refuse_if}
-use Rattle.scenario_history.specs.Source.{Phase, absent, described, is_absent_at, is_ciphered, is_described_at, is_sending}
+use Rattle.scenario_history.specs.Source.{Phase, absent, described, is_ciphered, is_sending}
 use Rattle.scenario_history.specs.Source.{is_sending_at, is_started, phase_of, sending, setup_of, stopped, takes_units}
 use Rattle.scenario_history.specs.Source.{was_started_at}
 use Rattle.scenario_history.specs.Steps.{chosen_of, is_of_source, is_source_line}
@@ -40,12 +40,6 @@ pub record Settled (own : List Step) (to : ℕ) : Type 0 where
   pub framed : ((setup_of own).info.framing == 1) ≡ true
   pub within : ltb (setup_of own).info.num_bis to ≡ false
 
-absent_not : (phase : Phase) → not (is_absent_at phase) ≡ false → was_started_at phase ≡ true → ⊥
-absent_not phase test started = grind (arith, false≢true)
-
-described_not : (phase : Phase) → not (is_described_at phase) ≡ false → was_started_at phase ≡ true → ⊥
-described_not phase test started = grind (arith, false≢true)
-
 sending_started : (phase : Phase) → is_sending_at phase ≡ true → was_started_at phase ≡ true
 sending_started absent is = is
 sending_started described is = is
@@ -53,7 +47,7 @@ sending_started sending is = refl
 sending_started stopped is = refl
 
 settled_by : (step : Step) (own : List Step) (to : ℕ) → is_out_of_phase own step ≡ false → Settled own to → Settled (step ∷ own) to
-settled_by step own to test before = grind (arith, absent_not, described_not, or_parts)
+settled_by step own to test before = grind (arith, or_parts, false≢true)
 
 settled_if : (mine : Bool) (step : Step) (own : List Step) (to : ℕ) → (mine ≡ true → is_out_of_phase own step ≡ false) → Settled own to
     → Settled (cond mine (step ∷ own) own) to

@@ -6,12 +6,11 @@ use Rattle.std.proofs.lemmas.Bool.{cases_Bool, cases_eq, and_right, eq-eqb, eqb-
 use Rattle.std.proofs.lemmas.List.{append-nil, map-append}
 use Rattle.std.proofs.lemmas.List.Elements.{filter-append}
 use Rattle.bcast_base.specs.declared.unit.Unit.{Unit as AudioUnit}
-use Rattle.group_sink.specs.Calls.{Call}
 use Rattle.scenario_text.specs.Ranges.{IsInRange}
 use Rattle.scenario_text.specs.declared.step.Step.{Step}
 use Rattle.scenario_text.specs.declared.step.Step.TheVariants as steps
 use Rattle.unit_outlets.specs.Handed.{Handed}
-use Rattle.scenario_history.specs.Boxes.{SinkUnit, closing, closing_at, closing_in, handed_by, sink_numbers}
+use Rattle.scenario_history.specs.Boxes.{SinkUnit, closing, closing_at, handed_by, sink_numbers}
 use Rattle.scenario_history.specs.Source.{open_event}
 use Rattle.source_machine.specs.Airs.{Airs}
 use Rattle.scenario_history.specs.Steps.{chosen_of, steps_of_source}
@@ -131,17 +130,13 @@ not_of_map : (n t m box : ℕ) (units : List Handed) → (t == 0) ≡ false
 not_of_map n t m box [] other = refl
 not_of_map n t m box (unit ∷ units) other = rw other (not_of_map n t m box units other)
 
-not_in : (its : Bool) (n t event m : ℕ) (calls : List Call) (box : Option ℕ) → (t == 0) ≡ false
-    → handed_of 0 n (cond its (closing_in t event m calls box) []) ≡ []
-not_in its n t event m calls box other = grind (arith, not_of_map)
-
 not_flat : (n : ℕ) (f : ℕ → List SinkUnit) (ms : List ℕ) → ((m : ℕ) → handed_of 0 n (f m) ≡ []) → handed_of 0 n (flat_map f ms) ≡ []
 not_flat n f [] each = refl
 not_flat n f (m ∷ ms) each = cc (handed_append 0 n (f m) (flat_map f ms), each m, not_flat n f ms each)
 
 not_at : (airs : Airs) (n t : ℕ) (made : List Step) (last_open : Option ℕ) → (t == 0) ≡ false
     → handed_of 0 n (closing_at airs t made last_open) ≡ []
-not_at airs n t made last_open other = grind (arith, not_flat, not_in)
+not_at airs n t made last_open other = grind (arith, not_flat, not_of_map)
 
 -- another source closes nothing of source 0
 not_first : (airs : Airs) (n t : ℕ) (made : List Step) → (t == 0) ≡ false → handed_of 0 n (closing airs t made) ≡ []

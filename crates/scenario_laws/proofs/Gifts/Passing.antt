@@ -1,7 +1,7 @@
 -- What source 1 accepts on a stream: of the units that are offered to it those that aren't dropped, and of a step that gives it no
 -- unit nothing.
-use Rattle.std.proofs.Common.{ℕ, ◌≡◌, ◌==◌, ◌&&◌, ◌∙◌, cond, Bool, true, false, List, [], ◌∷◌, ◌++◌, Option, None, arith}
-use Rattle.std.proofs.Common.{Some, refl, sym, ap}
+use Rattle.std.proofs.Common.{ℕ, ◌≡◌, ◌==◌, ◌&&◌, ◌∙◌, cond, Bool, true, false, List, [], ◌∷◌, ◌++◌, Option, arith}
+use Rattle.std.proofs.Common.{refl, sym, ap}
 use Rattle.std.proofs.Common.{append_assoc}
 use Rattle.std.specs.List.{list_any}
 use Rattle.std.proofs.lemmas.Bool.{false≢true, or_parts}
@@ -47,10 +47,6 @@ taken bis own = accepted (framed_calls (setup_of own) bis (source_calls own))
 own_takes : (bis : ℕ) (step : Step) (own : List Step) → gives_on bis step ≡ false → taken bis (step ∷ own) ≡ taken bis own
 own_takes bis step own not = grind (arith, event_accepts_none, units_same)
 
-takes_if : (mine : Bool) (bis : ℕ) (step : Step) (own : List Step) → (mine ≡ true → gives_on bis step ≡ false)
-    → taken bis (cond mine (step ∷ own) own) ≡ taken bis own
-takes_if mine bis step own not = grind (arith, own_takes)
-
 -- a stream of a source that was given no unit of it accepted none
 pub none_taken : (bis : ℕ) (own : List Step) → list_any (gives_on bis) own ≡ false → taken bis own ≡ []
 none_taken bis [] none = refl
@@ -63,12 +59,9 @@ none_taken bis (step ∷ own) none =
 abbrev pub gives_to : ℕ → List Step → Step → Bool
 gives_to bis earlier step = (chosen_of earlier == 1) && gives_on bis step
 
-when_chosen : (chosen gives : Bool) → (chosen && gives) ≡ false → chosen ≡ true → gives ≡ false
-when_chosen chosen gives not is = grind (arith, false≢true)
-
 pub step_takes : (bis : ℕ) (step : Step) (earlier : List Step) → gives_to bis earlier step ≡ false
     → accepted_on bis (step ∷ earlier) ≡ accepted_on bis earlier
-step_takes bis step earlier not = grind (arith, takes_if, when_chosen)
+step_takes bis step earlier not = grind (arith, own_takes, false≢true)
 
 -- ---- units that are offered
 
@@ -76,18 +69,9 @@ pub passed_append : (to : ℕ) (one other : List Answered)
     → passed (offered_to to (one ++ other)) ≡ passed (offered_to to one) ++ passed (offered_to to other)
 passed_append to one other = search (filter-append, map-append)
 
-gift_passes : (hit : Bool) (offer : Offer) (calls : List FramedCall)
-    → accepted (cond hit (accept offer.unit.time offer.unit.octets ∷ calls) calls)
-    ≡ accepted calls ++ passed (cond hit (record { offer = offer; reason = None } ∷ []) [])
-gift_passes hit offer calls = grind (arith, append-nil)
-
-drop_passes_none : (hit : Bool) (offer : Offer) (reason : Refusal) (units : List AudioUnit)
-    → units ≡ units ++ passed (cond hit (record { offer = offer; reason = Some reason } ∷ []) [])
-drop_passes_none hit offer reason units = grind (arith, append-nil)
-
 one_passes : (to : ℕ) (reason : Option Refusal) (offer : Offer) (made : List Step) → accepted_on to (with_gift_unless reason offer made)
     ≡ accepted_on to made ++ passed (offered_to to (record { offer = offer; reason = reason } ∷ []))
-one_passes to reason offer made = grind (arith, gift_passes, drop_passes_none)
+one_passes to reason offer made = grind (arith, append-nil)
 
 pub all_pass : (airs : Airs) (to : ℕ) (offers : List Offer) (made : List Step)
     → accepted_on to (after_offers airs offers made) ≡ accepted_on to made ++ passed (offered_to to (answered airs offers made))

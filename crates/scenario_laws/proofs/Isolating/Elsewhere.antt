@@ -1,5 +1,5 @@
 -- A line that means another source, and puts the sink on no train and no group, changes nothing of the sink and of the source.
-use Rattle.std.proofs.Common.{ℕ, ◌≡◌, ◌≢◌, ◌==◌, ◌&&◌, cond, not, Bool, true, false, List, [], ◌∷◌, Option, None, Some, refl, arith}
+use Rattle.std.proofs.Common.{ℕ, ◌≡◌, ◌≢◌, ◌==◌, ◌&&◌, cond, not, Bool, true, false, List, ◌∷◌, Option, None, Some, refl, arith}
 use Rattle.std.proofs.Common.{ap}
 use Rattle.std.proofs.lemmas.Bool.{and_right, false≢true, ne_eqb, cond-false}
 use Rattle.delegator_machine.specs.Groups.{with_leave}
@@ -9,15 +9,14 @@ use Rattle.group_sink.specs.Calls.{Call}
 use Rattle.sink_history.specs.Calls as links
 use Rattle.scenario_text.specs.declared.step.Step.{Step}
 use Rattle.scenario_text.specs.declared.step.Step.TheVariants as steps
-use Rattle.scenario_history.specs.Boxes.{box_of, handed_by}
 use Rattle.scenario_history.specs.Sinks.{is_of, sink_calls, source_of, ticked_if}
 use Rattle.scenario_history.specs.Source.{open_event}
 use Rattle.source_machine.specs.Airs.{Airs}
-use Rattle.scenario_history.specs.Steps.{chosen_given, chosen_of, chosen_steps, is_common, is_of_source, is_source_line}
+use Rattle.scenario_history.specs.Steps.{chosen_of, chosen_steps, is_common, is_of_source, is_source_line}
 use Rattle.scenario_history.specs.Worlds.{life, source_at}
-use Rattle.sink_history.specs.Lives.{Source, given_train, lived_by, made_of, own_train, version_given}
+use Rattle.sink_history.specs.Lives.{Source, given_train, lived_by, made_of, own_train}
 use Rattle.sink_history.specs.Moves.{follows, follows_by, received_by, train_by}
-use Rattle.scenario_laws.specs.Isolation.{puts, units_by}
+use Rattle.scenario_laws.specs.Isolation.{puts}
 use Rattle.scenario_laws.proofs.Isolating.Lives.{ignores}
 use Rattle.scenario_laws.proofs.Isolating.Left.{Leaves, lives_equal, lives_itself}
 use Rattle.scenario_laws.proofs.Isolating.Said.{said_elsewhere}
@@ -27,25 +26,10 @@ use Rattle.scenario_laws.proofs.Moves.{same_if}
 
 -- ---- tests
 
-miss_both : {A : Type 0} (hit more : Bool) (x y : A) → (hit && more) ≡ false → cond hit (cond more x y) y ≡ y
-miss_both hit more x y other = grind (arith, cond-false)
-
 -- ---- a source line is no common step, and neither makes nor drops a sink
 
 not_common : (step : Step) → is_source_line step ≡ true → is_common step ≡ false
 not_common step is = grind (arith, false≢true)
-
-chooses_none : (step : Step) → is_source_line step ≡ true → chosen_given step ≡ None
-chooses_none step is = grind (arith, false≢true)
-
-no_version : (step : Step) → is_source_line step ≡ true → version_given step ≡ None
-no_version step is = grind (arith, false≢true)
-
-made_stays : (n : ℕ) (step : Step) (made : List Step) → is_source_line step ≡ true → made_of n (step ∷ made) ≡ made_of n made
-made_stays n step made is = grind (arith, false≢true)
-
-box_stays : (n : ℕ) (step : Step) (made : List Step) → is_source_line step ≡ true → box_of n (step ∷ made) ≡ box_of n made
-box_stays n step made is = grind (arith, false≢true)
 
 -- ---- a train that isn't followed
 
@@ -86,7 +70,7 @@ life_stays n _ made is not = search (false≢true, lives_itself (made_of n made)
 
 source_stays : (n : ℕ) (step : Step) (made : List Step) → is_source_line step ≡ true → puts n made step ≡ false
     → source_of n (step ∷ made) ≡ source_of n made
-source_stays n step made is not = grind (arith, cond-false, miss_both)
+source_stays n step made is not = grind (arith, cond-false)
 
 -- ---- its receivers, where it isn't of the source that the line means
 
@@ -114,14 +98,10 @@ calls_stay airs n _ made is not apart = search (false≢true, close_stays airs n
 
 -- ---- what it hands up
 
-units_stay : (airs : Airs) (n : ℕ) (step : Step) (made : List Step) → is_source_line step ≡ true
-    → is_of (chosen_of made) (source_of n made) ≡ false → units_by n (handed_by airs made step) ≡ []
-units_stay airs n step made is apart = grind (arith, false≢true, closing_none)
-
 not_own : (s : ℕ) (step : Step) (made : List Step) → is_source_line step ≡ true → chosen_of made ≢ s → is_of_source s made step ≡ false
 not_own s step made is other = cc (not_common step is, and_right (is_source_line step) (chosen_of made == s) (ne_eqb (chosen_of made) s other))
 
 pub elsewhere : (airs : Airs) (s n : ℕ) (step : Step) (made : List Step) → is_source_line step ≡ true → chosen_of made ≢ s
     → puts n made step ≡ false → is_of (chosen_of made) (source_of n made) ≡ false → Leaves airs s n step made
 elsewhere airs s n step made is other not apart =
-    search (chooses_none, said_elsewhere, not_own, no_version, made_stays, life_stays, source_stays, calls_stay, box_stays, units_stay)
+    grind (arith, said_elsewhere, not_own, life_stays, source_stays, calls_stay, false≢true, closing_none)

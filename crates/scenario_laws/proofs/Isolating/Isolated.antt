@@ -48,29 +48,15 @@ fate s n step made is =
 
 -- ---- what a step is that is kept
 
-means_by : (common line chosen other its : Bool) → cond common true (cond line (chosen && not other) its) ≡ true
-    → (common ≡ true → line ≡ false) → line ≡ true → chosen ≡ true
-means_by common line chosen other its is common_not line_is = grind (arith, false≢true, and_parts)
-
-no_line : (step : Step) → (is_common step || chooses step) ≡ true → is_source_line step ≡ false
-no_line step is = grind (arith, false≢true)
-
 means : (s n : ℕ) (step : Step) (made : List Step) → is_kept s n made step ≡ true → Means s made step
-means s n step made is line = search (eqb-true, means_by, no_line)
-
-names_by : (common line chosen other its : Bool) → cond common true (cond line (chosen && not other) its) ≡ true
-    → (common ≡ true → other ≡ false) → (its ≡ true → other ≡ false) → other ≡ false
-names_by common line chosen other its is common_not its_not = grind (arith, not-true, and_parts)
-
-names_none : (n : ℕ) (step : Step) → (is_common step || chooses step) ≡ true → is_other n (sink_in step) ≡ false
-names_none n step is = grind (arith, false≢true)
+means s n step made is line = grind (arith, eqb-true, false≢true, and_parts)
 
 names_its : (n : ℕ) (named : Option ℕ) → is_sink n named ≡ true → is_other n named ≡ false
 names_its n None is = refl
 names_its n (Some sink) is = ap not is
 
 names : (s n : ℕ) (step : Step) (made : List Step) → is_kept s n made step ≡ true → is_other n (sink_in step) ≡ false
-names s n step made is = search (names_by, names_none, names_its)
+names s n step made is = grind (arith, names_its, not-true, and_parts, false≢true)
 
 -- ---- the induction
 

@@ -53,13 +53,9 @@ none_apart false t source apart = apart
 one_apart : (hit : Bool) (t one : ℕ) (source : Option ℕ) → one ≢ t → is_of t source ≡ false → is_of t (cond hit (Some one) source) ≡ false
 one_apart hit t one source other apart = grind (arith, ne_eqb)
 
-both_apart : (hit puts : Bool) (t one : ℕ) (source : Option ℕ) → one ≢ t → is_of t source ≡ false
-    → is_of t (cond hit (cond puts (Some one) source) source) ≡ false
-both_apart hit puts t one source other apart = grind (arith, one_apart)
-
 apart_grows : (airs : Airs) (s n : ℕ) (step : Step) (made others : List Step) → Means s made step → Same airs s n made others
     → (t : ℕ) → t ≢ s → is_of t (source_of n (step ∷ made)) ≡ false
-apart_grows airs s n step made others means same t other = grind (arith, none_apart, one_apart, both_apart)
+apart_grows airs s n step made others means same t other = grind (arith, none_apart, one_apart)
 
 -- ---- what its receivers took
 

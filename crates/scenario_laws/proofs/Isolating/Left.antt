@@ -1,6 +1,6 @@
 -- A step that is left out changes nothing of the sink and of the source: it names another sink, or it means another source and puts
 -- the sink on no train and no group.
-use Rattle.std.proofs.Common.{ℕ, ◌≡◌, ◌&&◌, ◌∙◌, cond, not, Bool, true, List, [], ◌∷◌, ◌++◌, Option, None, is_some, arith}
+use Rattle.std.proofs.Common.{ℕ, ◌≡◌, ◌∙◌, cond, not, Bool, true, List, [], ◌∷◌, ◌++◌, Option, None, is_some, arith}
 use Rattle.std.proofs.Common.{sym, ap, subst}
 use Rattle.std.specs.Option.{option_or}
 use Rattle.std.proofs.lemmas.Bool.{false≢true}
@@ -11,11 +11,11 @@ use Rattle.group_sink.specs.Calls.{Call}
 use Rattle.sink_history.specs.Calls as links
 use Rattle.scenario_text.specs.declared.step.Step.{Step}
 use Rattle.scenario_history.specs.Boxes.{box_of, handed_by, handed_up}
-use Rattle.scenario_history.specs.Sinks.{is_of, moved, sink_calls, source_of}
+use Rattle.scenario_history.specs.Sinks.{is_of, sink_calls, source_of}
 use Rattle.source_machine.specs.Airs.{Airs}
 use Rattle.scenario_history.specs.Steps.{chosen_given, last_given, steps_of_source}
-use Rattle.scenario_history.specs.Worlds.{life, the_world}
-use Rattle.sink_history.specs.Lives.{lived_at, made_of, version_given}
+use Rattle.scenario_history.specs.Worlds.{life}
+use Rattle.sink_history.specs.Lives.{made_of, version_given}
 use Rattle.scenario_laws.specs.Isolation.{units_by}
 use Rattle.scenario_laws.specs.Only.{is_other, sink_in}
 use Rattle.scenario_laws.proofs.Isolating.Lives.{alike_itself, alike_then}
@@ -69,9 +69,6 @@ left_out airs s n step made others leaves same = record {
 pass : {A : Type 0} (hit : Bool) (x y : A) → not hit ≡ true → cond hit x y ≡ y
 pass hit x y other = grind (arith, false≢true)
 
-pass_and : {A : Type 0} (hit more : Bool) (x y : A) → not hit ≡ true → cond (hit && more) x y ≡ y
-pass_and hit more x y other = grind (arith, false≢true)
-
 pub record Quiet (step : Step) : Type 0 where
   pub chosen : chosen_given step ≡ None
   pub version : version_given step ≡ None
@@ -85,23 +82,15 @@ quiet n step other = grind (arith, false≢true)
 made_other : (n : ℕ) (step : Step) (made : List Step) → is_other n (sink_in step) ≡ true → made_of n (step ∷ made) ≡ made_of n made
 made_other n step made other = grind (arith, pass)
 
-named_life : (n : ℕ) (named : Option ℕ) (line : Step) (made : List Step) (sink : Option Settings) (calls : List links.Call)
-    → is_other n named ≡ true → lived_at the_world n named line made sink calls ≡ calls
-named_life n named line made sink calls other = grind (arith, pass)
-
 life_other : (n : ℕ) (step : Step) (made : List Step) → is_other n (sink_in step) ≡ true → life n (step ∷ made) ≡ life n made
-life_other n step made other = grind (arith, pass, named_life)
+life_other n step made other = grind (arith, pass)
 
 source_other : (n : ℕ) (step : Step) (made : List Step) → is_other n (sink_in step) ≡ true → source_of n (step ∷ made) ≡ source_of n made
 source_other n step made other = grind (arith, pass)
 
-moved_other : (n : ℕ) (named : Option ℕ) (line : Step) (made : List Step) (calls : List Call) → is_other n named ≡ true
-    → moved n named line made calls ≡ calls
-moved_other n named line made calls other = grind (arith, pass)
-
 calls_other : (airs : Airs) (n : ℕ) (step : Step) (made : List Step) → is_other n (sink_in step) ≡ true
     → sink_calls airs n (step ∷ made) ≡ sink_calls airs n made
-calls_other airs n step made other = grind (arith, pass, pass_and, moved_other)
+calls_other airs n step made other = grind (arith, pass, false≢true)
 
 box_other : (n : ℕ) (step : Step) (made : List Step) → is_other n (sink_in step) ≡ true → box_of n (step ∷ made) ≡ box_of n made
 box_other n step made other = grind (arith, pass)

@@ -120,10 +120,6 @@ train_same sink made a b train same = ap (λ sight. sink_line sink (train_words 
 
 -- ---- what a line prints that names the sink
 
-printed_some : (source : Source) (line : Step) (made : Settings) (a b : List Call) → Alike made.setup made.mtu a b
-    → printed_of source line made a ≡ printed_of source line made b
-printed_some source line made a b same = grind (arith, serve_same, tell_same, read_line_same, drain_same, shown_same, train_same, views_same)
-
 printed_sourced : (line : Step) (source source' : Source) → Sourced line source source' → (made : Settings) (calls : List Call)
     → printed_of source line made calls ≡ printed_of source' line made calls
 printed_sourced (steps.Announce sink) source source' sourced made calls = cc (sourced refl)
@@ -132,4 +128,5 @@ printed_sourced _ source source' sourced made calls = refl
 
 pub printed_same : (line : Step) (source source' : Source) (made made' : Option Settings) (a b : List Call) → Sourced line source source'
     → made ≡ made' → LivesAlike made a b → printed_where source line made a ≡ printed_where source' line made' b
-printed_same line source source' made made' a b sourced sinks_same same = grind (arith, printed_some, printed_sourced)
+printed_same line source source' made made' a b sourced sinks_same same =
+    grind (arith, printed_sourced, serve_same, tell_same, read_line_same, drain_same, shown_same, train_same, views_same)

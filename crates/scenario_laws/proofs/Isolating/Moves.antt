@@ -68,10 +68,6 @@ lived_some source (steps.ARead sink link) made a b same = grows made.setup made.
 lived_some source (steps.ADrain sink link) made a b same = drains made.setup made.mtu link a b same
 lived_some source _ made a b same = same
 
-pub lives_grow : (line : Step) (source source' : Source) → Sourced line source source' → (made : Option Settings) (a b : List Call)
-    → LivesAlike made a b → LivesAlike made (lived_by source line made a) (lived_by source' line made b)
-lives_grow line source source' sourced made a b same = grind (arith, lived_sourced, lived_some)
-
 lives_if : (hit : Bool) (made : Option Settings) (a b a' b' : List Call) → LivesAlike made a b → LivesAlike made a' b'
     → LivesAlike made (cond hit a' a) (cond hit b' b)
 lives_if true made a b a' b' before later = later
@@ -80,7 +76,7 @@ lives_if false made a b a' b' before later = before
 named_lives : (n : ℕ) (named : Option ℕ) (line : Step) (earlier others : List Step) (made : Option Settings) (a b : List Call)
     → Sourced line (source_at earlier) (source_at others) → LivesAlike made a b
     → LivesAlike made (lived_at the_world n named line earlier made a) (lived_at the_world n named line others made b)
-named_lives n named line earlier others made a b sourced same = grind (arith, lives_if, lives_grow)
+named_lives n named line earlier others made a b sourced same = grind (arith, lives_if, lived_sourced, lived_some)
 
 born_lives : (hit : Bool) (new : Settings) (mtu : Option ℕ) (made : Option Settings) (a b : List Call) → LivesAlike made a b
     → LivesAlike (cond hit (Some new) made) (cond hit (born mtu) a) (cond hit (born mtu) b)
@@ -111,12 +107,6 @@ received_some : (line : Step) (source source' : Source) → Sourced line source 
 received_some line source source' sourced made a a' b b' calls calls' before later took =
     cc (train_sourced line source source' sourced, before.sight, later.sight, took)
 
-received_same : (line : Step) (source source' : Source) → Sourced line source source'
-    → (made : Option Settings) (a a' b b' : List Call) (calls calls' : List sinks.Call)
-    → LivesAlike made a b → LivesAlike made a' b' → calls ≡ calls'
-    → received_by source line made a a' calls ≡ received_by source' line made b b' calls'
-received_same line source source' sourced made a a' b b' calls calls' before later took = grind (arith, received_some)
-
 pub cond_same : {A : Type 0} (hit : Bool) (x x' y y' : A) → x ≡ x' → y ≡ y' → cond hit x y ≡ cond hit x' y'
 cond_same hit x x' y y' then otherwise = cc
 
@@ -126,7 +116,7 @@ pub moved_same : (n : ℕ) (named : Option ℕ) (line : Step) (earlier others : 
     → LivesAlike (made_of n earlier) (life n earlier) (life n others)
     → LivesAlike (made_of n earlier) (life n (line ∷ earlier)) (life n (line ∷ others)) → calls ≡ calls'
     → moved n named line earlier calls ≡ moved n named line others calls'
-moved_same n named line earlier others calls calls' sourced sink_same before later took = grind (arith, cond_same, received_same)
+moved_same n named line earlier others calls calls' sourced sink_same before later took = grind (arith, cond_same, received_some)
 
 -- ---- the source that the sink is of
 

@@ -135,12 +135,8 @@ none_one made b t event m calls true (Some box) later is =
     none_units b t m box (handed_at calls event) (ne_eqb box b (λ same. omega (arith, older, later, same)))
 none_one made b t event m calls false box later is = refl
 
-none_at : (airs : Airs) (made : List Step) (b t : ℕ) (last_open : Option ℕ) → sinks_made made ≤ b
-    → valid_for b (closing_at airs t made last_open) ≡ []
-none_at airs made b t last_open later = grind (arith, none_flat, none_one)
-
 none_step : (airs : Airs) (made : List Step) (b : ℕ) (step : Step) → sinks_made made ≤ b → valid_for b (handed_by airs made step) ≡ []
-none_step airs made b step later = grind (arith, none_at, valid_append)
+none_step airs made b step later = grind (arith, valid_append, none_flat, none_one)
 
 more_made : (step : Step) (count : ℕ) → count ≤ sinks_made_by step count
 more_made (steps.Sink sink streams slots mtu) count = omega arith

@@ -74,11 +74,8 @@ get_front : (xs ys : List (List ℕ)) → Extends xs (xs ++ ys)
 get_front (x ∷ xs) ys (suc k) octets is = get_front xs ys k octets is
 get_front xs ys k octets is = search (none-some)
 
-unit_extends : (hit : Bool) (octets : List ℕ) (units : List (List ℕ)) → Extends units (cond hit (units ++ octets ∷ []) units)
-unit_extends hit octets units = grind (arith, get_front)
-
 step_extends : (bis : ℕ) (step : Step) (own : List Step) → Extends (given bis (source_calls own)) (given bis (source_calls (step ∷ own)))
-step_extends bis step own = grind (arith, unit_extends)
+step_extends bis step own = grind (arith, get_front)
 
 own_extends : (mine : Bool) (bis : ℕ) (step : Step) (own : List Step)
     → Extends (given bis (source_calls own)) (given bis (source_calls (cond mine (step ∷ own) own)))

@@ -6,7 +6,7 @@ use Rattle.delegator_history.specs.Trains.{Settings}
 use Rattle.sink_history.specs.Calls.{Call, born}
 use Rattle.scenario_text.specs.declared.step.Step.{Step}
 use Rattle.scenario_text.specs.declared.step.Step.TheVariants as steps
-use Rattle.sink_history.specs.Lives.{Source, horizon_of, lived, lived_at, lived_by, made_by, made_of, named_by, with_drain}
+use Rattle.sink_history.specs.Lives.{Source, horizon_of, lived, lived_at, lived_by, made_by, made_of, named_by}
 use Rattle.sink_history.specs.Moves.{train_by}
 use Rattle.scenario_history.specs.Worlds.{life, source_at, the_world}
 use Rattle.scenario_laws.proofs.Versions.Lives.{AreQuietCalls, drained_same, quiet_drained, quiet_served}
@@ -66,10 +66,6 @@ abbrev pub QuietLife : Option Settings → List Call → Type 0
 QuietLife None calls = Unit {0}
 QuietLife (Some made) calls = AreQuietCalls made.setup calls
 
-quiet_lived : (source : Source) (step : Step) (made : Settings) (calls : List Call) → AreQuietCalls made.setup calls
-    → HearsNear made calls (train_by source step) → AreQuietCalls made.setup (lived_by source step (Some made) calls)
-quiet_lived source step made calls quiet near = grind (arith, quiet_served, quiet_drained)
-
 quiet_if : (b : Bool) (one made : Option Settings) (first calls : List Call) → QuietLife one first → QuietLife made calls
     → QuietLife (cond b one made) (cond b first calls)
 quiet_if true one made first calls is quiet = is
@@ -87,7 +83,7 @@ quiet_chosen false made first calls is quiet = quiet
 quiet_of_made : (source : Source) (step : Step) (made : Option Settings) (calls : List Call) → QuietLife made calls
     → ((sink : Settings) → made ≡ Some sink → HearsNear sink calls (train_by source step))
     → QuietLife made (lived_by source step made calls)
-quiet_of_made source this made calls quiet near = grind (arith, quiet_lived)
+quiet_of_made source this made calls quiet near = grind (arith, quiet_served, quiet_drained)
 
 quiet_at : (n : ℕ) (named : Option ℕ) (step : Step) (earlier : List Step) (made : Option Settings) (calls : List Call)
     → QuietLife made calls
@@ -116,13 +112,9 @@ is_quiet made other calls far quiet = record { within = far.within; quiet = quie
 
 -- ---- its life
 
-drain_same : (link : ℕ) (made other : Option Settings) (calls : List Call) → AreFar made other → QuietLife made calls
-    → with_drain other link calls ≡ with_drain made link calls
-drain_same link made other calls far quiet = grind (arith, drained_same)
-
 lived_same : (source : Source) (step : Step) (made other : Option Settings) (calls : List Call) → AreFar made other → QuietLife made calls
     → lived_by source step other calls ≡ lived_by source step made calls
-lived_same source step made other calls far quiet = grind (arith, drain_same)
+lived_same source step made other calls far quiet = grind (arith, drained_same)
 
 at_same : (n : ℕ) (named : Option ℕ) (step : Step) (earlier : List Step) (made other : Option Settings) (calls others : List Call)
     → AreFar made other → QuietLife made calls

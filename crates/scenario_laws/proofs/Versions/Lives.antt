@@ -10,7 +10,7 @@ use Rattle.delegator_history.specs.Trains.{Setup, brought_by}
 use Rattle.sink_history.specs.Calls as links
 use Rattle.sink_history.specs.Calls.{Call, step_by, steps_of, with_step, writes_waiting}
 use Rattle.sink_history.specs.Drains.{drained, repeated, told_and_read, told_out}
-use Rattle.sink_history.specs.Links.{Acts, acts_by, acts_of, changed, notices_waiting, reads_waiting}
+use Rattle.sink_history.specs.Links.{Acts, acts_by, acts_of, notices_waiting, reads_waiting}
 use Rattle.assistant_machine.specs.Links.{waiting_of}
 use Rattle.scenario_laws.proofs.Versions.Trains.{BringsNear, brought_same, reaching}
 
@@ -52,15 +52,10 @@ quiet_before : (setup : Setup) (step : Option Step) (steps : List Step) → AreQ
 quiet_before setup None steps quiet = quiet
 quiet_before setup (Some step) steps quiet = quiet.0
 
-changed_same : (far : ℕ) (setup : Setup) (before now : List Step) (acts : Acts)
-    → sight_of (reaching far setup) before ≡ sight_of setup before
-    → sight_of (reaching far setup) now ≡ sight_of setup now → changed (reaching far setup) before now acts ≡ changed setup before now acts
-changed_same far setup before now acts same same_now = cc (same_now, same)
-
 by_same : (far : ℕ) (setup : Setup) (mtu : Option ℕ) (link : ℕ) (call : Call) (before now : List Step) (acts : Acts)
     → sight_of (reaching far setup) before ≡ sight_of setup before → sight_of (reaching far setup) now ≡ sight_of setup now
     → acts_by (reaching far setup) mtu link call before now acts ≡ acts_by setup mtu link call before now acts
-by_same far setup mtu link call before now acts same same_now = grind (arith, changed_same)
+by_same far setup mtu link call before now acts same same_now = grind (arith, same_now, same)
 
 pub acts_same : (far : ℕ) (setup : Setup) (mtu : Option ℕ) (link : ℕ) (calls : List Call) → setup.horizon ≤ far → AreQuietCalls setup calls
     → acts_of (reaching far setup) mtu link calls ≡ acts_of setup mtu link calls

@@ -83,11 +83,6 @@ says_second : said_in 1 (plain second_version) ≡ a_step (steps.Scenario 2)
 unfolding read_of step_of row_of first_row_of decimal_in numerals
 says_second = refl
 
--- a history that says no step
-first_refusal : (boxes version : ℕ) (made : List Step) → made ≡ []
-    → refusal_said airs_of boxes made (a_step (steps.Scenario version)) ≡ None
-first_refusal boxes version made none = cc (none)
-
 first_says : (made : List Step) → made ≡ [] → said_in (version_of made) (plain first_version) ≡ a_step (steps.Scenario 1)
 first_says made none = subst (λ before. said_in (version_of before) (plain first_version) ≡ a_step (steps.Scenario 1)) (sym none) says_first
 
@@ -100,7 +95,7 @@ SaysVersion history version line = said_after history (plain line) ≡ a_step (s
 
 its_refusal : (starts : List Account) (history : List TextLine) (version : ℕ) (line : List ℕ) → said_of history ≡ []
     → SaysVersion history version line → (Its starts).refusal history (plain line) ≡ None
-its_refusal starts history version line none says = search (first_refusal)
+its_refusal starts history version line none says = grind (arith, none)
 
 its_output : (starts : List Account) (history : List TextLine) (version : ℕ) (line : List ℕ) → SaysVersion history version line
     → (Its starts).output history (plain line) ≡ []

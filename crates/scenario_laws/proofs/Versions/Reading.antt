@@ -148,10 +148,7 @@ said_misfit (Err NoMemory) is = absurd is
 said_misfit (Ok None) is = absurd is
 said_misfit (Ok (Some this)) is = absurd is
 
-said_on : (version : ℕ) (line : TextLine) → (said_in 2 line ≡ said_in version line) ⊎ IsUnsaid (said_in version line)
-said_on version line = grind (arith, reads_on, said_misfit)
-
 -- a line that is of the grammar of a version says the same in a later one
 pub said_later : (version later : ℕ) (line : TextLine) → IsLater version later
     → (said_in later line ≡ said_in version line) ⊎ IsUnsaid (said_in version line)
-said_later version later line h3 = grind (arith, said_on)
+said_later version later line h3 = grind (arith, reads_on, said_misfit)

@@ -2,14 +2,13 @@
 -- TimeOrder. Lists of steps have the newest first; where a list is called `own` its steps are those of one source.
 use Rattle.std.proofs.Common.{ℕ, ◌≡◌, ◌⊎◌, ◌≤◌, ◌||◌, ◌&&◌, not, cond, ltb, Bool, true, false, List, [], ◌∷◌, Option, None, Some, arith}
 use Rattle.std.proofs.Common.{refl, sym, subst, ◌∙◌, ap, ap₂, inl, inr}
-use Rattle.std.specs.Prelude.{is_none}
 use Rattle.std.specs.Option.{option_map, option_or}
 use Rattle.big_info.specs.declared.info.BigInfo.{BigInfo}
 use Rattle.big_info.specs.Rows.{first_fault}
 use Rattle.isoal_base.specs.Air.{Air}
 use Rattle.source_machine.specs.Airs.{airs_of}
 use Rattle.source_machine.specs.Calls.{Setup, Call}
-use Rattle.source_machine.specs.Faults.{give_fault, is_in_time}
+use Rattle.source_machine.specs.Faults.{give_fault}
 use Rattle.source_machine.specs.UnitFaults.{UnitFault}
 use Rattle.source_machine.specs.UnitFaults as give_faults
 use Rattle.sink_history.specs.Calls as links
@@ -77,11 +76,6 @@ time_stays true true later in_time stays is = ap (λ b. b || in_time) (stays ref
 time_stays true false true in_time stays is = refl
 time_stays true false false in_time stays is = is
 
-in_time_stays : (ahead : Bool) (setup : Setup) (calls : List Call) (bis : ℕ) (framing : Bool) (time : Option ℕ)
-    → (setup.ahead ≡ true → ahead ≡ true) → cond framing (is_none time) (is_in_time setup calls bis time) ≡ true
-    → cond framing (is_none time) (is_in_time (with_ahead ahead setup) calls bis time) ≡ true
-in_time_stays ahead setup calls bis framing time stays is = grind (arith, framed_same, time_stays)
-
 -- why a unit is refused, by the tests in their order
 abbrev fault_by : (beyond long timed waits : Bool) → Option UnitFault
 fault_by beyond long timed waits =
@@ -98,7 +92,7 @@ fault_lasts false false true later waits stays = inl (ap (λ b. option_map give_
 give_lasts : (ahead : Bool) (setup : Setup) (calls : List Call) (airs : List Air) (bis : ℕ) (time : Option ℕ) (octets : List ℕ)
     → (setup.ahead ≡ true → ahead ≡ true) → Lasts (option_map give_refusal (give_fault setup calls airs bis time octets))
     (option_map give_refusal (give_fault (with_ahead ahead setup) calls airs bis time octets))
-give_lasts ahead setup calls airs bis time octets stays = search (fault_lasts, ltb, with_ahead, in_time_stays)
+give_lasts ahead setup calls airs bis time octets stays = grind (arith, fault_lasts, ltb, with_ahead, framed_same, time_stays)
 
 unit_lasts : (own : List Step) (bis : ℕ) (time : Option ℕ) (octets : List ℕ)
     → Lasts (option_map give_refusal (give_fault (setup_of own) (source_calls own) (airs_of (setup_of own) (source_calls own)) bis time

@@ -73,12 +73,9 @@ said_lasts : (boxes : ℕ) (made : List Step) (said later : Said) → has_relay 
     → Lasts (refusal_said airs_of boxes made said) (refusal_said airs_of boxes (seconds made) later)
 said_lasts boxes made said later plain calm h6 = grind (arith, seconds, same_lasts, unsaid_gone)
 
-gone_some : (reason : Option Refusal) → IsGone reason → reason ≡ None → ⊥
-gone_some reason gone none = grind (arith, none-some)
-
 said_same : (boxes : ℕ) (made : List Step) (said later : Said) → (later ≡ said) ⊎ IsUnsaid said
     → refusal_said airs_of boxes made said ≡ None → later ≡ said
-said_same boxes made said later h4 none = grind (arith, gone_some, unsaid_gone)
+said_same boxes made said later h4 none = grind (arith, unsaid_gone, none-some)
 
 -- ---- trains that are given
 

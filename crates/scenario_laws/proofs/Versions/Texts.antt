@@ -2,7 +2,7 @@
 -- comments. Both have the same number of octets, so that the limit of a text cuts both alike.
 use Rattle.std.proofs.Common.{ℕ, suc, ◌≡◌, ◌⊎◌, ◌≤◌, ◌<◌, ◌+◌, ◌==◌, cond, eqb, Bool, true, false, List, [], ◌∷◌, ◌++◌, length, refl}
 use Rattle.std.proofs.Common.{sym, ◌∙◌, ap, ap₂, subst, append_assoc, inl, inr, arith}
-use Rattle.std.specs.Prelude.{bytes_eq, codes}
+use Rattle.std.specs.Prelude.{codes}
 use Rattle.std.specs.List.{AllByRecursion}
 use Rattle.std.proofs.lemmas.Bool.{cases_lt, le-leb, lt-leb}
 use Rattle.std.proofs.lemmas.List.{append-nil}
@@ -166,17 +166,12 @@ line_turn taken line second one other clean clean_too same within turns = elim (
       (subst (TurnOn (lines_from true (taken + length line) line one)) (sym there_is) (turns fits))
 ]
 
--- the line of the version, or another line that is neither empty nor a comment
-first_turn : (is_it : Bool) (taken : ℕ) (line : List ℕ) (lines : List (List ℕ)) → Clean line → taken ≤ text_limit
-    → bytes_eq line first_version ≡ is_it
-    → TurnOn (from taken (line ++ behind lines)) (from taken (cond is_it second_version line ++ behind lines))
-first_turn is_it taken line lines clean within is = grind (arith, bytes_eq-Decides, line_turn, first_clean, second_clean, version_turn)
-
 blank_or : (blank : Bool) (taken : ℕ) (line : List ℕ) (lines : List (List ℕ)) → Clean line → taken ≤ text_limit → is_blank line ≡ blank
     → ((taken' : ℕ) → taken' ≤ text_limit → TurnOn (from taken' (text_of lines)) (from taken' (text_of (migrated_lines lines))))
     → TurnOn (from taken (line ++ behind lines)) (from taken
     (text_of (cond blank (line ∷ migrated_lines lines) (migrated_line line ∷ lines))))
-blank_or blank taken line lines clean within is turns = grind (arith, first_turn, behind_migrated, line_turn, blank_turn)
+blank_or blank taken line lines clean within is turns =
+    grind (arith, behind_migrated, line_turn, blank_turn, bytes_eq-Decides, first_clean, second_clean, version_turn)
 
 lines_turn : (lines : List (List ℕ)) (taken : ℕ) → AreClean lines → taken ≤ text_limit
     → TurnOn (from taken (text_of lines)) (from taken (text_of (migrated_lines lines)))

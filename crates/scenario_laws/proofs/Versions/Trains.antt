@@ -105,33 +105,18 @@ near_if : (b : Bool) (one other : Brought) → BringsNear one → BringsNear oth
 near_if true one other is also = is
 near_if false one other is also = also
 
-near_group : (setup : Setup) (capability : Capability) (wishes : List Wish) (slot : ℕ) (train : Train) (base : Endpoint) (info : BigInfo)
-    (encrypted : Bool)
-    (fault : Option GroupFault) → FoundNear fault → BringsNear (by_group setup capability wishes slot train base info encrypted fault)
-near_group setup capability wishes slot train base info encrypted fault near = grind (arith, near_if)
-
 near_info : (setup : Setup) (capability : Capability) (wishes : List Wish) (slot : ℕ) (train : Train) (base : Endpoint) (encrypted : Bool)
     (read : Result BigInfo BigFault) → ((info : BigInfo) → read ≡ Ok info → FoundNear (first_fault setup.horizon info))
     → BringsNear (by_info setup capability wishes slot train base encrypted read)
-near_info setup capability wishes slot train base encrypted read near = grind (arith, near_group)
-
-near_big_info : (setup : Setup) (capability : Capability) (wishes : List Wish) (slot : ℕ) (train : Train) (base : Endpoint)
-    (found : Option (List ℕ))
-    → ((octets : List ℕ) → (info : BigInfo) → found ≡ Some octets → info_of octets ≡ Ok info → FoundNear (first_fault setup.horizon info))
-    → BringsNear (by_big_info setup capability wishes slot train base found)
-near_big_info setup capability wishes slot train base found near = grind (arith, near_info)
+near_info setup capability wishes slot train base encrypted read near = grind (arith, near_if)
 
 near_endpoint : (setup : Setup) (capability : Capability) (wishes : List Wish) (slot : ℕ) (train : Train) (read : Result Endpoint BaseFault)
     → ReadsNear setup train → BringsNear (by_endpoint setup capability wishes slot train read)
-near_endpoint setup capability wishes slot train read near = grind (arith, near_big_info)
-
-near_base : (setup : Setup) (capability : Capability) (wishes : List Wish) (slot : ℕ) (train : Train) (found : Option (List ℕ))
-    → ReadsNear setup train → BringsNear (by_base setup capability wishes slot train found)
-near_base setup capability wishes slot train found near = grind (arith, near_endpoint)
+near_endpoint setup capability wishes slot train read near = grind (arith, near_info)
 
 near_slot : (setup : Setup) (sight : Sight) (train : Train) (found : Option ℕ) → ReadsNear setup train
     → BringsNear (by_slot setup sight train found)
-near_slot setup sight train found near = grind (arith, near_if, near_base)
+near_slot setup sight train found near = grind (arith, near_if, near_endpoint)
 
 near_id : (setup : Setup) (sight : Sight) (train : Train) (id : Option (List ℕ)) → ReadsNear setup train
     → BringsNear (by_broadcast_id setup sight train id)
