@@ -3,7 +3,7 @@
 
   --scenario FILE     keeps the scenario that was run
   --handles WORDS     names the handles of a server, as log_in.py takes them
-  --program EXPLAIN   runs this program; else ./explain, which proves and builds it first where that is due
+  --program EXPLAIN   runs this program, which answers line by line; else the one that is built
   --demanded          tells only what the standards demand
 
 Exit status 0: nothing that the standards demand differs. 3: something does. 1: the log can't be read, or has no server of the Broadcast

@@ -1,8 +1,8 @@
 """A Scan Delegator for logs to try the tools on, over the host of Bumble: written after the Broadcast Audio Scan Service 1.0, sections 3.1
 and 3.2, and after nothing of this project's code. log_record.py uses it.
 
-What the service leaves to a server is chosen by words: the first Source_ID and whether it is used again, what a source that is there already
-is answered, and whether a notification comes before the response."""
+What the service leaves to a server is chosen by words: the first Source_ID and whether it is used again, what a source that is there
+already is answered, and whether a notification comes before the response."""
 import asyncio
 import dataclasses
 import struct
@@ -68,6 +68,7 @@ class Delegator:
         return source.octets() if source else b''
 
     async def tell(self, slot: int) -> None:
+        """Notifies all clients that asked for it."""
         await self.host.notify_subscribers(self.states[slot], self.value(slot))
 
     async def written(self, _: typing.Any, octets: bytes) -> None:
@@ -77,7 +78,10 @@ class Delegator:
         if self.ways.is_told_first:
             await self.tell(slot)
         else:
-            asyncio.get_running_loop().call_later(0.002, lambda: asyncio.ensure_future(self.tell(slot)))
+            asyncio.get_running_loop().call_later(0.002, self.tell_soon, slot)
+
+    def tell_soon(self, slot: int) -> None:
+        asyncio.ensure_future(self.tell(slot))
 
     def serve(self, octets: bytes) -> int | None:
         """Does an operation, and gives the slot whose value changed."""

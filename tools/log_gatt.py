@@ -151,7 +151,7 @@ class Gatt:
     def mtu(self, connection: int) -> int:
         return self.mtus.get(connection, LEAST_MTU)
 
-    def asked(self, exchange: Exchange, server: Server, pdu: bytes) -> Iterator[Written | Asked | Value]:
+    def asked(self, exchange: Exchange, server: Server, pdu: bytes) -> Iterator[Written | Asked | Value | Told]:
         """What a request says as it is sent."""
         table, opcode = self.table(server), pdu[0]
         handle = int.from_bytes(pdu[1:3], 'little')

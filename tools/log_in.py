@@ -4,7 +4,7 @@
   --out FILE          writes the scenario there in place of standard output
   --handles WORDS     names the handles of a server whose discovery isn't in the log, in hexadecimal digits:
                       control=12,states=15+18,pac=20,locations=23,contexts=26
-  --program EXPLAIN   runs this program; else ./explain, which proves and builds it first where that is due
+  --program EXPLAIN   runs this program, which answers line by line; else the one that is built
 
 Each server of the Broadcast Audio Scan Service is a sink, each client of it a link. Exit status 1: the log can't be read, or has no such
 server, as a line tells. docs/logs.md tells more."""
@@ -23,6 +23,7 @@ import log_program  # noqa: E402
 import log_survey  # noqa: E402
 
 TOP = os.path.dirname(os.path.dirname(os.path.realpath(__file__)))
+BUILT = os.path.join(TOP, 'crates', 'explain_command', 'out', 'explain_command')
 FAULTS = (log_files.LogFault, log_survey.Missing, log_program.ProgramFault, log_gatt.WordFault, OSError)
 
 
@@ -32,7 +33,7 @@ def parser(name: str, what: str) -> argparse.ArgumentParser:
     words.add_argument('--version', action=command_words.Version, default=argparse.SUPPRESS, help='prints the version of the repository')
     words.add_argument('log', help='a btsnoop file: HCI by H4, or the Linux monitor\'s; it may be in a gzip')
     words.add_argument('--handles', metavar='WORDS', help='the handles of a server, as control=12,states=15+18, in hexadecimal digits')
-    words.add_argument('--program', metavar='EXPLAIN', default=os.path.join(TOP, 'explain'), help='runs this program; else ./explain')
+    words.add_argument('--program', metavar='EXPLAIN', default=BUILT, help='runs this program; else the one that is built')
     return words
 
 
@@ -41,6 +42,8 @@ def laid(asked: argparse.Namespace, copy: typing.TextIO | None,
     """Lays a log beside the logic, and gives what was found."""
     given = log_gatt.handles_of(asked.handles)
     found = log_survey.survey(asked.log, given)
+    if asked.program == BUILT and not os.path.exists(BUILT):
+        raise log_program.ProgramFault('the program `explain` is not built here; ./prove builds it, or --program names one')
     program = log_program.Program(asked.program, copy)
     try:
         laying = log_lay.Laying(found, program, given, tell)

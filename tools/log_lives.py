@@ -93,8 +93,8 @@ async def scanning() -> LISTED:
 
 async def counting() -> LISTED:
     """Source_IDs that begin with 1 and aren't used again."""
-    return await plain(add(1, (1, b'')), add(2, (1, b'')), bytes([5, 1]), add(3, (2, b'')), modify(3, (6, b'')), bytes([5, 2]), bytes([5, 3]),
-                       add(4, ANY), modify(4, pa=0), ways=Ways(first_id=1, is_counting=True))
+    return await plain(add(1, (1, b'')), add(2, (1, b'')), bytes([5, 1]), add(3, (2, b'')), modify(3, (6, b'')), bytes([5, 2]),
+                       bytes([5, 3]), add(4, ANY), modify(4, pa=0), ways=Ways(first_id=1, is_counting=True))
 
 
 async def told_first() -> LISTED:
@@ -203,7 +203,8 @@ def synced(number: int, sync: int = 1, is_past: bool = False) -> typing.Any:
 
 
 def reported(data: bytes, sync: int = 1, status: int = 0) -> typing.Any:
-    return hci.HCI_LE_Periodic_Advertising_Report_Event(sync_handle=sync, tx_power=0, rssi=-50, cte_type=0xFF, data_status=status, data=data)
+    return hci.HCI_LE_Periodic_Advertising_Report_Event(sync_handle=sync, tx_power=0, rssi=-50, cte_type=0xFF, data_status=status,
+                                                      data=data)
 
 
 def info(streams: int, encryption: int = 0, sync: int = 1) -> typing.Any:
@@ -351,6 +352,6 @@ async def own_long() -> LISTED:
 
 
 LIVES = {it.__name__: it for it in (
-    adds, modifies, removes, lengths, other_codes, opcodes, full, known, known_taken, reserved, unknown, scanning, counting, told_first, small,
-    middle, commands, unasked, two, returns, monitor, follows, rejoins, loses, encrypted, past, parts, own_service, own_opcodes, own_lengths,
-    own_long)} | {f'drawn{it}': drawn(it) for it in range(1, 7)}
+    adds, modifies, removes, lengths, other_codes, opcodes, full, known, known_taken, reserved, unknown, scanning, counting, told_first,
+    small, middle, commands, unasked, two, returns, monitor, follows, rejoins, loses, encrypted, past, parts, own_service, own_opcodes,
+    own_lengths, own_long)} | {f'drawn{it}': drawn(it) for it in range(1, 7)}

@@ -135,7 +135,8 @@ class Radio:
             self.laying.left['train'] += 1
         elif answer[0] == 'OtherTrain':
             if slot not in sink.still:
-                self.laying.differ(Server(self.laying.now.adapter, ''), 'OneTrain', 'synchronized to a second train', 'OtherTrain', line + 1)
+                server = Server(self.laying.now.adapter, '')
+                self.laying.differ(server, 'OneTrain', 'synchronized to a second train', 'OtherTrain', line + 1)
             sink.still.add(slot)
         return answer
 

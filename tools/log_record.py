@@ -19,7 +19,7 @@ import argparse  # noqa: E402
 
 import command_words  # noqa: E402
 import log_files  # noqa: E402
-from log_files import MONITOR, Packet, Writer  # noqa: E402
+from log_files import Packet, Writer  # noqa: E402
 
 BEGIN = 1_790_000_000_000_000  # µs since 1970, when each log begins
 STEP = 1250  # µs from one record to the next
@@ -55,7 +55,9 @@ class World:
         import log_delegator
         air, clock = links.LocalLink(), iter(range(BEGIN, BEGIN + 10 ** 12, STEP))
         self.controllers = [controller.Controller(f'C{it}', link=air, public_address=ADDRESSES[it]) for it in range(assistants + 1)]
-        self.devices, self.logs, self.clients = [], [], []
+        self.devices: list[typing.Any] = []
+        self.logs: list[Snoop] = []
+        self.clients: list[Client] = []
         for it in range(assistants + 1):
             hosted = host.Host(self.controllers[it], AsyncPipeSink(self.controllers[it]))
             self.devices.append(device.Device(address=hci.Address(ADDRESSES[it]), host=hosted))

@@ -45,7 +45,8 @@ RULES = {
     'NoResponse': Rule('each request has a response', f'{ATT}, section 3.4.5'),
     # Notices.
     'NoNotice': Rule('each change of a slot is told to each client that asked for notices', f'{BASS}, section 3.2'),
-    'OneNotice': Rule('a change is told by one notice', document='scenario-language.md', words='by one\nnotice with the slot\'s whole value'),
+    'OneNotice': Rule('a change is told by one notice', document='scenario-language.md',
+                      words='by one notice with the slot\'s whole value'),
     'NotAsked': Rule('a client that set no notices gets none', 'Core 5.2, volume 3 part G, section 3.3.3.3'),
     'Cut': Rule('a notice has the first MTU - 3 octets of the value, or the whole value', f'{ATT}, section 3.4.7.1'),
     # Values of a slot.

@@ -99,9 +99,9 @@ def scenarios(explain: str, replay: str, counts: Counter[str]) -> Iterator[str]:
 
 @step(seconds=60, wants=('tshark',))
 def check(replay: str, explain: str) -> Faults:
-    """The logs of corpus/logs are laid beside the logic by tools/log_check.py, and told to have what told.txt says. A hundred faults put into
-    those that agree are found. Bent logs end in one line, in little memory. Each rule that is called this project's own has its words in a
-    page, each cause a rule. tshark finds nothing malformed in the logs."""
+    """The logs of corpus/logs are laid beside the logic by tools/log_check.py, and told to have what told.txt says. A hundred faults put
+    into those that agree are found. Bent logs end in one line, in little memory. Each rule that is called this project's own has its
+    words in a page, each cause a rule. tshark finds nothing malformed in the logs."""
     counts: Counter[str] = Counter()
     yield from rules()
     yield from told(explain, counts)

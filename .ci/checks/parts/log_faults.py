@@ -45,7 +45,7 @@ def line_of(name: str, laying: log_lay.Laying) -> str:
 
 class Place(typing.NamedTuple):
     """A record in which a fault can be put."""
-    index: int
+    record: int
     kind: str
     pdu: bytes
     octets: tuple[int, ...] = ()  # of the PDU, of which a bit can be another one
@@ -59,23 +59,23 @@ def places(packets: list[Packet], is_radio_in: bool) -> list[Place]:
     for happening in reader.read(packets):
         if not isinstance(happening.what, log_hci.Attribute):
             continue
-        pdu, index = happening.what.pdu, happening.record - 1
+        pdu, record = happening.what.pdu, happening.record
         for said in gatt.said(happening):
             if isinstance(said.what, log_gatt.Written):
                 written = said.what.octets
             elif isinstance(said.what, log_gatt.Answered) and written[:1] != b'\x04':
-                found.append(Place(index, 'reply', pdu))
+                found.append(Place(record, 'reply', pdu))
             elif isinstance(said.what, log_gatt.Value):
                 front = 3 if said.what.way != 'read' else 1
                 value, place = said.what.octets, (said.server, said.what.slot)
                 if said.what.way != 'read':
-                    found.append(Place(index, 'notice', pdu))
+                    found.append(Place(record, 'notice', pdu))
                 is_known = fronts.get(place) == value[:12] and len(value) > 0
                 fronts[place] = value[:12]
                 octets = [it for it in range(0 if is_known else 1, len(value)) if is_radio_in or it < PLACE_OF_PA or
                           it in (14,) or it > PLACE_OF_STREAMS + 4]
                 if len(value) == len(pdu) - front and octets and not (not is_radio_in and len(value) > 20):
-                    found.append(Place(index, 'state', pdu, tuple(front + it for it in octets)))
+                    found.append(Place(record, 'state', pdu, tuple(front + it for it in octets)))
     return found
 
 
@@ -109,7 +109,7 @@ def planted(source: str, folder: str, number: int) -> Iterator[tuple[str, str, s
     while made < number:
         name, is_own = draw.choice(agreeing)
         packets = list(log_files.read_log(os.path.join(source, name)))
-        fitting = [it for it in places(packets, is_own) if it.kind == kinds[made % 3] and packets[it.index].octets[8:] == it.pdu]
+        fitting = [it for it in places(packets, is_own) if it.kind == kinds[made % 3] and packets[it.record - 1].octets[8:] == it.pdu]
         if not fitting:
             continue
         place = draw.choice(fitting)
@@ -117,22 +117,22 @@ def planted(source: str, folder: str, number: int) -> Iterator[tuple[str, str, s
         path = os.path.join(folder, f'planted{made}')
         with open(path, 'wb') as file:
             writer = Writer(file)
-            for index, packet in enumerate(packets):
-                if index != place.index:
+            for packet in packets:
+                if packet.record != place.record:
                     writer.write(packet)
                 elif pdu is not None:
                     front = packet.octets[:2] + struct.pack('<HHH', len(pdu) + 4, len(pdu), 4)
                     writer.write(packet._replace(octets=front + pdu))
         told = 'is dropped' if pdu is None else f'{place.pdu.hex()} is {pdu.hex()}'
-        yield name, f'{place.kind} of record {place.index + 1}: {told}', path
+        yield name, f'{place.kind} of record {place.record}: {told}', path
         made += 1
 
 
 def bent(source: str, folder: str) -> Iterator[tuple[str, str]]:
     """Logs that can't be taken."""
     draw = random.Random(5)
-    with gzip.open(os.path.join(source, names(source)[0])) as file:
-        whole = file.read()
+    with gzip.open(os.path.join(source, names(source)[0])) as zipped:
+        whole = zipped.read()
     path = os.path.join(folder, 'bent')
 
     def put(octets: bytes) -> str:
