@@ -159,6 +159,14 @@ impl AssistJoined {
         self.writes.pop_front()
     }
 
+    /// The first write that waits, which waits on; `None` exactly where none waits.
+    pub fn first_write(&self) -> Option<&[u8]>
+        ensures write { IfSome result (λ write. slice_get self.now.writes 0 ≡ Some write.now) }
+        ensures none { IfNone result (self.now.writes ≡ []) }
+    {
+        Some(self.writes.front()?.as_slice())
+    }
+
     /// Takes a notice of a slot. Where an MTU is set and the value has at least MTU - 3 octets, it may have been cut: a read
     /// of the slot waits then. Else the value is the view of the slot.
     ///
@@ -211,6 +219,14 @@ impl AssistJoined {
         ensures stands { (slots : ℕ) (calls : List Call) → StandsFor slots calls self.old → StandsFor slots (all_asked ∷ calls) self.new }
     {
         self.reads.fill(true);
+    }
+
+    /// How many slots the server has.
+    pub fn slot_count(&self) -> u8
+        ensures count { result ≡ length self.now.views }
+        ensures slots { (slots : ℕ) (calls : List Call) → StandsFor slots calls self.now → result ≡ slots }
+    {
+        self.views.len() as u8
     }
 
     /// The view of a slot; `None` exactly where it is empty or there is no such slot.
