@@ -7,7 +7,7 @@ use Rattle.bcast_io.specs.TextLines.{TextLine, past, newline, text_limit, line_o
 use Rattle.unit_outlets.specs.Account.{Account}
 use Rattle.scenario_history.specs.Runs.{Rules, out, out_unless, accepted_of, accepted_unless}
 use Rattle.replay_lines.specs.Replayed.{brought_by}
-use Rattle.replay_lines.proofs.Citable.{units_rest}
+use Rattle.replay_lines.proofs.Endings.{units_rest}
 use Rattle.scenario_text.specs.declared.step.Step.{Step}
 use Rattle.scenario_history.specs.Boxes.{SinkUnit, handed_up}
 use Rattle.scenario_history.specs.Lines.{rules_of, steps_of}

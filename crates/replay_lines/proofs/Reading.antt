@@ -4,7 +4,7 @@ use Rattle.std.proofs.lemmas.Bool.{lt-ltb, le-ltb}
 use Rattle.std.proofs.lemmas.List.{append-nil}
 use Rattle.std.specs.Io.KnownBytes.{Consumes, IsAtEnd}
 use Rattle.bcast_io.specs.Documents.{ReadWhole, ReadPast, ReadFront, document_limit}
-use Rattle.replay_lines.proofs.Citable.{told}
+use Rattle.replay_lines.proofs.Completing.{told}
 use Rattle.scenario_toml.specs.Document.{Meaning, no_toml, no_form, lines, meaning_of}
 use Rattle.replay_lines.specs.declared.cause.Cause.TheVariants.{TooLong, BadToml, BadDocument}
 use Rattle.replay_lines.specs.Documents.{DocumentIs, WholeIs}

@@ -14,7 +14,7 @@ use Rattle.replay_lines.specs.Replayed.{Broken, Comes, Done, FaultCut, OutletFau
 use Rattle.replay_lines.specs.World.{World}
 use Rattle.replay_lines.specs.declared.ending.Ending.{Ending}
 use Rattle.replay_lines.specs.declared.ending.Ending.TheVariants as endings
-use Rattle.replay_lines.proofs.Citable.{rest_of}
+use Rattle.replay_lines.proofs.Completing.{rest_of}
 use Rattle.scenario_history.specs.Boxes.{SinkUnit, Took}
 use Rattle.source_machine.specs.Airs.{Airs}
 use Rattle.scenario_history.specs.Transcript.{transcript_of, transcript_end, units_of}
