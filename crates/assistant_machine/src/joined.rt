@@ -1,9 +1,10 @@
-ghost use Rattle.std.specs.Prelude.{ℕ, ◌≡◌, ◌≢◌, ◌≤◌, ◌<◌, ◌∷◌, [], true};
+ghost use Rattle.std.specs.Prelude.{All, ℕ, ◌≡◌, ◌≢◌, ◌≤◌, ◌<◌, ◌∷◌, [], true};
 ghost use Rattle.std.specs.Prelude.{false, length, replicate, drop, slice_get, slice_set, slice_index_or, option_copied};
 ghost use Rattle.std.specs.Prelude.{option_to_list, Option, Some, None, List, ◌++◌, Ok, Err};
 ghost use Rattle.std.specs.Prelude.{IfOk, IfErr, IfSome, IfNone, OnSome, OnOk, OnErr};
 ghost use Rattle.bass_operations.specs.Layout.{MetadataFits, spelling, wishes_of};
 ghost use Rattle.receive_state.specs.Faults.{IsFault};
+ghost use Rattle.receive_state.specs.Layout.{HasSpelling};
 ghost use Rattle.receive_state.specs.Reading.{state_of};
 ghost use Rattle.receive_state.specs.declared.fault.StateFault.TheVariants as state_faults;
 ghost use Rattle.bass_operations.specs.declared.operation.Operation.TheVariants as operations;
@@ -11,7 +12,7 @@ ghost use Rattle.assistant_machine.specs.Answers.{IsCause, answer_of, by_reading
 ghost use Rattle.assistant_machine.specs.Calls.{Call, limited, put, sent, told, all_asked, asked, read as gives};
 ghost use Rattle.assistant_machine.specs.Cuts.{asks};
 ghost use Rattle.assistant_machine.specs.Views.{reading_of, view_of};
-ghost use Rattle.assistant_machine.specs.State.Assistants.{IsLowest, NoneWaits, StandsFor, after_notice};
+ghost use Rattle.assistant_machine.specs.State.Assistants.{IsLowest, IsSpelledView, NoneWaits, StandsFor, after_notice};
 ghost use Rattle.assistant_machine.specs.State.Assistants.{after_read, joined, with_reading, with_write};
 ghost use Rattle.assistant_machine.specs.declared.fault.NoticeTaken.TheVariants.{View};
 ghost use Rattle.assistant_machine.specs.declared.fault.NoticeFault.TheVariants.{Memory as NoMemory};
@@ -49,7 +50,7 @@ impl Model for AssistJoined {
       reads = a.reads.items;
     } };
 
-    ghost invariant = { λ a. Keeps (vec_len a.views) (vec_len a.reads) };
+    ghost invariant = { λ a. Keeps (vec_len a.views) (vec_len a.reads) a.views.items };
 }
 
 impl AssistJoined {
@@ -234,6 +235,7 @@ impl AssistJoined {
         ensures view { option_copied result ≡ slice_index_or self.now.views slot None }
         ensures calls { (slots : ℕ) (calls : List Call) → StandsFor slots calls self.now → slot < slots
             → option_copied result ≡ view_of slot calls }
+        ensures spelled { IfSome result (λ state. HasSpelling state.now) }
     {
         self.views.get(usize::from(slot))?.as_ref()
     }
@@ -337,6 +339,7 @@ impl AssistJoined {
 /// What a slot has by its octets: a state, or no source.
 fn view_in(alloc: Global, value: &[u8]) -> Result<Option<ReceiveState>, NoticeFault>
     ensures ok { IfOk result (λ view. state_of value.now ≡ Ok view) }
+    ensures spelled { IfOk result IsSpelledView }
     ensures cause { IfErr result (λ fault. IsCause fault (by_reading (state_of value.now))) }
     ensures memory { result ≡ Err NoMemory → IsFault state_faults.Memory value.now }
 {
@@ -350,6 +353,7 @@ fn view_in(alloc: Global, value: &[u8]) -> Result<Option<ReceiveState>, NoticeFa
 /// Empty views of so many slots, and no read of them that waits.
 fn empty_slots(alloc: Global, slots: u8) -> Result<(Vec<Option<ReceiveState>>, Vec<bool>), Memory>
     ensures views { IfOk result (λ made. made.0.items ≡ replicate slots None) }
+    ensures spelled { IfOk result (λ made. All IsSpelledView made.0.items) }
     ensures reads { IfOk result (λ made. made.1.items ≡ replicate slots false) }
 {
     let mut views = Vec::with_capacity(alloc, usize::from(slots))?;
