@@ -3,55 +3,22 @@ import math
 import re
 import subprocess
 from collections import Counter
-from collections.abc import Iterator
+from collections.abc import Iterator, Sequence
 
 from checks.parts import comparing, scenarios
+from checks.parts.mistakes import BASE, DOCUMENTS, HEARD, MISTAKES, OTHER, RECORD, SECOND, WANTED
 from checks.parts.running import run
 from checks.parts.steps import Faults, step
 
-GROUP = 'group unframed 20000 40000 8 10000 100 100 2 1 1 1 0 0 1800 1'
-BASE = ['subgroup 0600000000 02010802020103046400', 'meta 03020400', 'bis 1 050301000000', 'bis 2 050302000000']
-WANTED = ['add 0 0 000000000000 0 000000 2 65535 ffffffff -', 'serve 0', 'announce 0', 'end']
-RECORD = 'pac 0 0600000000 03018000020202050464006400 -'
-HEARD = ['scenario 2', GROUP, *BASE, 'start 0', 'sink 0 2 1']
-SECOND = ['source 1', GROUP.replace('unframed', 'framed'), 'ident 0 010000000000 1 010000', 'start 0']
-OTHER = ['add 0 0 010000000000 1 010000 2 65535 ffffffff -', 'serve 0', 'announce 0', 'end']
-
 LONGEST = 120  # seconds for a text
-# a mistake, its lines, and words of a note of the line that has it
-MISTAKES = [
-    ('no record', [*HEARD, *WANTED], 'the sink has no record: no `pac` line names it'),
-    ('an empty record', [*HEARD, 'pac 0 0600000000 - -', *WANTED], 'stream 1 of subgroup 0 is not taken: Frequency'),
-    ('the wrong ear', [*HEARD, RECORD, 'locate 0 04000000', *WANTED], 'stream 2 of subgroup 0 is not taken: Location'),
-    ('another codec', [*HEARD, 'pac 0 ff01000200 - -', *WANTED], 'stream 1 of subgroup 0 is not taken: Codec'),
-    ('another context', [*HEARD, RECORD, 'context 0 0200 0000', *WANTED], 'stream 1 of subgroup 0 is not taken: Context'),
-    ('no wish', [*HEARD, RECORD, 'add 0 0 000000000000 0 000000 2 65535', *WANTED[1:]],
-     'stream 1 of subgroup 0 is not taken: a record fits'),
-    ('a train that was not lost', [*HEARD[:-1], *SECOND, 'sink 0 2 2', RECORD, 'source 0', *WANTED[:-1], 'source 1', *OTHER],
-     '`lose` comes before another train'),
-    ('no scenario first', ['event'], 'the first step is `scenario 1` or `scenario 2`'),
-    ('a second scenario', ['scenario 1', 'scenario 1'], '`scenario` is the first step, and stands once'),
-    ('no group', ['scenario 1', 'start 0'], '`group` comes first'),
-    ('a second group', ['scenario 1', GROUP, GROUP], 'has a `group`'),
-    ('a bare subgroup', ['scenario 1', GROUP, BASE[0], 'start 0'], 'has no `bis` yet'),
-    ('no start', ['scenario 1', GROUP, 'event'], '`start` comes before it'),
-    ('a source that stopped', ['scenario 1', GROUP, 'start 0', 'stop', 'event'], 'has stopped'),
-    ('a cipher', ['scenario 1', GROUP, 'cipher 0000000000000000 00000000000000000000000000000000', 'start 0', 'event'], 'has a `cipher`'),
-    ('an SDU interval that fits no ISO interval', ['scenario 1', GROUP.replace('8 10000', '8 7500'), 'start 0'],
-     'UnframedMultiple: the ISO interval of an unframed group, ISO x 1250 = 10000 us, is a multiple of SDU, here 7500 us'),
-    ('a word that does not fit', ['scenario 1', 'sink 0 1 5'], 'word 3 is 5 where stands SLOTS = a decimal from 1 to 4'),
-    ('a word that is missing', ['scenario 1', 'unit 1 -'], 'word 3 is missing, which is OCTETS'),
-    ('a word too many', ['scenario 1', 'event # the first'], 'word 1 is one too many; the line is event'),
-    ('no line', ['scenario 1', 'Event'], 'no line of the language begins with the word Event'),
-    ('a line of version 2', ['scenario 1', 'assist 0 1'], 'begins a line of version 2'),
-    ('a refused write', [*HEARD, 'remove 0 7', 'serve 0', 'end'], 'no slot has this Source_ID'),
-    ('no such sink', ['scenario 1', 'serve 3'], 'no sink of this number lives'),
-]
 STREAM = 'stream 1 of subgroup 0 is not taken: '
 # Broadcast_ID 000000, and a BASE of one subgroup of LC3 with stream 1 and no value.
 TRAIN = 'train 0 17000 06165218000000 11165118409c000101060000000000000100'
 # A BIGInfo: its first 32 bits are 100 of offset in 14, the unit of that, ISO = 3 in 12, and NUMBIS = 2 in 5.
 SHORT_ISO = '222c64800110' + '21000000080710640000000000102740060000ffffffff3f0000000000'
+# a BASE of the two streams, and a BIGInfo of ISO = 8 and NUMBIS = 1
+BASE_OF_TWO = '29165118409c0001' + '02' + '0600000000' + '0a02010802020103046400' + '00' + '0106050301000000' + '0206050302000000'
+ONE_BIS = '222c64000408' + '21000000080710640000000000102740060000ffffffff3f0000000000'
 # octets that are no BASE, and what is wrong with them: three octets of delay, subgroups, and in each Num_BIS, a codec and two lists
 BAD_BASES = [
     ('409c', 'the octets end within the field that begins at octet 0'),
@@ -89,6 +56,8 @@ COMPARED = [
     *[(f'BadBase {octets}', [*HEARD, RECORD, *WANTED[:2],
                              f'train 0 17000 06165218000000 {len(octets) // 2 + 3:02x}165118{octets} -', 'end'], words)
       for octets, words in BAD_BASES],
+    ('a stream above NUMBIS', [*HEARD, RECORD, *WANTED[:2], f'train 0 17000 06165218000000 {BASE_OF_TWO} {ONE_BIS}', 'end'],
+     'stream 2 of subgroup 0 is not taken: a record fits, but it is above NUMBIS, which is 1'),
     ('Codec', [*HEARD, 'pac 0 ff01000200 - -', *WANTED], f'{STREAM}Codec: CODEC of its subgroup is not that of the record; '
      'here 0600000000 and ff01000200'),
     ('Frequency', [*HEARD, RECORD.replace('03018000', '03010700'), *WANTED], 'here 8 and 0700'),
@@ -185,8 +154,15 @@ PLACED = re.compile(rb'  # unit (\d) (\d+) at (\d+): source \d')
 COUNTED = re.compile(rb'  # sink (\d) stream (\d+) of source \d: units (\d+) valid, (\d+) lost, \d+ never begun, (\d+) slots')
 # a name, the words, the text, what is written, the exit status, and what is said on standard error
 ENDS: list[tuple[str, list[str | bytes], bytes, bytes, int, bytes]] = [
-    ('words', ['--toml'], b'scenario 1\nend\n', b'', 2, b'usage: explain\n'),
-    ('a word that is no text', [b'\xff'], b'', b'', 2, b'usage: explain\n'),
+    ('a word', ['--migrate'], b'scenario 1\nend\n', b'', 2, b'usage: explain [--toml]\n'),
+    ('two words', ['--toml', '--toml'], b'version = 1\nsteps = []\n', b'', 2, b'usage: explain [--toml]\n'),
+    ('a word that is no text', [b'\xff'], b'', b'', 2, b'usage: explain [--toml]\n'),
+    ('a document', ['--toml'], b'steps = ["end"]\nversion = 1\n', b'1 scenario 1\n2 end\n', 0, b''),
+    ('a document without `end`', ['--toml'], b'steps = []\nversion = 1\n', b'1 scenario 1\n  line 2: NoEnd\n', 1, b''),
+    ('a document that is none', ['--toml'], b'version = 1\n', b'  line 0: BadDocument\n'
+     b'  # the key steps is missing: expected an array of texts, each a line\n', 1, b''),
+    ('a document that is too long', ['--toml'], b'#' * 1048577,
+     b'  line 0: TextTooLong\n  # the document has more than 1048576 octets\n', 1, b''),
     ('a mark', [], b'# a note\n\nscenario 1\nend\n', b'1 # a note\n2 \n3 scenario 1\n4 end\n', 0, b''),
     ('a refusal', [], b'scenario 1\nend\nend\n', b'1 scenario 1\n2 end\n3 end\n  line 3: AfterEnd\n  # a step follows `end`\n', 1, b''),
     ('no octet', [], b'', b'  line 1: NoEnd\n', 1, b''),
@@ -240,30 +216,52 @@ def notes_differ(octets: bytes, is_done: bool) -> str | None:
     return f'its counts are {+counts}, not {wanted}' if is_done and +counts != wanted else None
 
 
-def difference(replay: str, explain: str, text: bytes) -> str | None:
+def lines_differ(explain: str, text: bytes, words: Sequence[str], got: bytes, is_done: bool) -> str | None:
+    """How the lines of an explanation differ from those of the text, or None. A document is explained as the lines are that it stands for;
+    of these one that is too long isn't told."""
+    lines, lent = lines_in(got), text.split(b'\n')
+    if lines is None:
+        return 'its lines are not numbered'
+    if words:
+        again = run(explain, b''.join(it + b'\n' for it in lines), patience=LONGEST).stdout if lines else got
+        return None if again == got or b': LineTooLong\n' in got else f'its lines are explained by {again[-300:]!r}'
+    if lines != lent[:len(lines)] or is_done and lines != lent[:-1] + [it for it in lent[-1:] if it]:
+        return 'its lines are not those of the text'
+    return None
+
+
+def difference(replay: str, explain: str, text: bytes, words: Sequence[str]) -> str | None:
     """What differs, or None."""
     try:
-        wanted, got = (run(it, text, patience=LONGEST) for it in (replay, explain))
+        wanted, got = (run(it, text, words, patience=LONGEST) for it in (replay, explain))
     except (OSError, subprocess.TimeoutExpired) as error:
         return str(error)
     if (got.returncode, got.stderr) != (wanted.returncode, wanted.stderr):
         return f'status {got.returncode} {got.stderr!r}, not {wanted.returncode} {wanted.stderr!r}'
     if told(got.stdout) != wanted.stdout:
         return f'tells {told(got.stdout)[-300:]!r}, not {wanted.stdout[-300:]!r}'
-    lines, lent = lines_in(got.stdout), text.split(b'\n')
-    if lines is None or lines != lent[:len(lines)] or wanted.returncode == 0 and lines != lent[:-1] + [it for it in lent[-1:] if it]:
-        return 'its lines are not those of the text'
-    return notes_differ(got.stdout, wanted.returncode == 0)
+    is_done = wanted.returncode == 0
+    return lines_differ(explain, text, words, got.stdout, is_done) or notes_differ(got.stdout, is_done)
 
 
 def notes_of(explain: str, lines: list[str]) -> list[str]:
     """The rows that `explain` writes of a scenario."""
-    return run(explain, '\n'.join([*lines, '']).encode()).stdout.decode().split('\n')
+    return rows_of(explain, '\n'.join([*lines, '']))
+
+
+def rows_of(explain: str, text: str, words: Sequence[str] = ()) -> list[str]:
+    """The rows that `explain` writes of a text."""
+    return run(explain, text.encode(), words).stdout.decode().split('\n')
 
 
 def mistakes(explain: str) -> Iterator[str]:
-    """Each mistake that no note names, and each answer to a train of which none has what was compared."""
-    for name, lines, words in MISTAKES + COMPARED:
+    """Each mistake that has not its note, and each answer to a train of which no note has what was compared."""
+    told_of: list[tuple[str, list[str], str]] = [(name, notes_of(explain, lines), note) for name, lines, note in MISTAKES]
+    told_of += [(name, rows_of(explain, document, ['--toml']), note) for name, document, note in DOCUMENTS]
+    for name, got, note in told_of:
+        if f'  # {note}' not in got:
+            yield '\n'.join([f'{name}: no note is {note!r}:', *got])
+    for name, lines, words in COMPARED:
         got = notes_of(explain, lines)
         if not any(row.startswith('  # ') and words in row for row in got):
             yield '\n'.join([f'{name}: no note has {words!r}:', *got])
@@ -292,11 +290,13 @@ def ends(explain: str) -> Iterator[str]:
 @step(seconds=8)
 def check(replay: str, explain: str) -> Faults:
     """Of the examples, the worked rows and the corpus `explain` tells the rows that `replay` writes and each line with its number, and ends
-    as it does; each `unit` row has its notes, the sum in them is its time, and the counts at the end are those of the rows. Mistakes and
-    answers to trains have notes with the words that are meant, and the program's ends are tried."""
-    found = list(scenarios.plain_runs())
-    yield from comparing.each(found, lambda it: difference(replay, explain, it.text))
+    as it does; each `unit` row has its notes, the sum in them is its time, and the counts at the end are those of the rows. It tells
+    documents as the lines that they stand for. Mistakes have the notes that are meant, answers to trains what was compared, and the
+    program's ends are tried."""
+    found = list(scenarios.told_runs())
+    yield from comparing.each(found, lambda it: difference(replay, explain, it.text, it.words))
     yield from mistakes(explain)
     yield from unit_notes(explain)
     yield from ends(explain)
-    return f'{len(found)} scenarios, {len(MISTAKES)} mistakes, {len(COMPARED)} trains, {len(UNITS)} runs and {len(ENDS) + 1} ends'
+    mistaken = f'{len(MISTAKES)} mistakes, {len(DOCUMENTS)} in documents, {len(COMPARED)} trains'
+    return f'{len(found)} scenarios and documents, {mistaken}, {len(UNITS)} runs and {len(ENDS) + 1} ends'

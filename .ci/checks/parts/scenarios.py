@@ -231,3 +231,8 @@ def everything() -> Iterator[Scenario]:
 def plain_runs() -> Iterator[Scenario]:
     """All that is a text of the language, which the tools can read: no word stands behind the program's name."""
     return (it for it in everything() if not it.words and it.text)
+
+
+def told_runs() -> Iterator[Scenario]:
+    """The same, and each document in TOML: all that `explain` takes."""
+    return (it for it in everything() if it.words in ([], ['--toml']) and it.text)

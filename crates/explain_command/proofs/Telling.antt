@@ -196,7 +196,7 @@ same_place place other is = sym (numbered place) ∙ ap place_of is ∙ numbered
 appends_known : (old : List ℕ) (new : Option (List ℕ)) (xs now : List ℕ) → new ≡ Some now → now ≡ old ++ xs → Appends (Some old) new xs
 appends_known old new xs now is grown = subst (λ n. Appends (Some old) n xs) (sym is) grown
 
-keeps_itself : (kept : Option (List ℕ)) → Keeps kept kept
+pub keeps_itself : (kept : Option (List ℕ)) → Keeps kept kept
 keeps_itself None = tt
 keeps_itself (Some t) = refl
 

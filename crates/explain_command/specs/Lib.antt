@@ -2,3 +2,5 @@ pub mod Boxes
 pub mod Rows
 pub mod Statuses
 pub mod Told
+pub mod ToldDocument
+pub mod ToldIn

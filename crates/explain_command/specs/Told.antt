@@ -22,10 +22,10 @@ told_world left reads taken writes rows boxes = record {
 }
 
 -- The explanation ends as its run did, unless the notes behind its last line could not be written: `writes` and `writes'` are the sink's
--- counts of faults before and after that.
-abbrev pub EndsSo : Ending → Ending → ℕ → ℕ → Type 0
-EndsSo ran ending writes writes' =
-    ((ending ≡ ran) × (writes' ≡ writes)) ⊎ ((ending ≡ WriteFault) × Rose writes writes') ⊎ ((ending ≡ Memory) × (writes' ≡ writes))
+-- counts of faults before and after that, and `stopped` is how an explanation ends that was stopped so.
+abbrev pub EndsSo : {A : Type 0} → (Ending → A) → A → A → ℕ → ℕ → Type 0
+EndsSo stopped ran ended writes writes' =
+    ((ended ≡ ran) × (writes' ≡ writes)) ⊎ ((ended ≡ stopped WriteFault) × Rose writes writes') ⊎ ((ended ≡ stopped Memory) × (writes' ≡ writes))
 
 -- `before` and `after` are the rows among the sink's octets that tell lines of the scenario.
 pub record Told (old new : World) (before after : Option (List ℕ)) (ending : Ending) : Type 0 where
@@ -44,4 +44,4 @@ pub record Told (old new : World) (before after : Option (List ℕ)) (ending : E
   pub lines_kept : Keeps lines after
   -- the notes behind the last line leave that
   pub kept : Keeps taken new.taken
-  pub ends : EndsSo ran ending writes new.writes
+  pub ends : EndsSo (λ fault. fault) ran ending writes new.writes

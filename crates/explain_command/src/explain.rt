@@ -1,24 +1,17 @@
-//! The call that the program makes.
-ghost use Rattle.std.specs.Prelude.{◌≡◌, ℕ, List, Some, map, true, IfOk};
+ghost use Rattle.std.specs.Prelude.{◌≡◌, ℕ, List, Some, map, true};
 ghost use Rattle.bcast_io.specs.TextLines.{lines_of};
-ghost use Rattle.unit_outlets.specs.Account.{Account};
 ghost use Rattle.scenario_history.specs.Airs.{MeetAirs};
 ghost use Rattle.source_machine.specs.Airs.{Airs};
 ghost use Rattle.replay_steps.specs.Untaken.{UntakenBy};
-ghost use Rattle.explain_command.specs.Boxes.{fresh_boxes};
 ghost use Rattle.explain_command.specs.Rows.{lines_at};
 ghost use Rattle.explain_command.specs.Told.{Told, told_world};
 
 use crate::explainer::Explainer;
 use crate::rows::ExplainedRows;
-use bcast_base::Memory;
 use bcast_io::{ByteSink, ByteSource};
 use replay_lines::{Ending, run_heard};
 use std::alloc::Global;
-use unit_outlets::{Outlet, Tally};
-
-/// How many boxes the program has.
-const BOXES: usize = 8;
+use unit_outlets::Outlet;
 
 /// Runs the scenario that the source gives, a step a line, and explains it: each line is written behind its number, then the rows of
 /// the transcript that it brings, each behind two blanks, and then notes, each behind two blanks and `# `. Each `sink` line takes the
@@ -46,28 +39,4 @@ pub fn explain<S: ByteSource, W: ByteSink + Drop>(
     let mut explainer = Explainer::new(alloc);
     let ran = run_heard(alloc, source, sink, &mut explainer, outlets);
     explainer.close(ran, sink)
-}
-
-/// The same with eight boxes that took nothing yet: one for each sink that may live.
-pub(crate) fn explain_with_tallies<S: ByteSource, W: ByteSink + Drop>(
-    alloc: Global,
-    source: &mut S,
-    sink: &mut ExplainedRows<W>,
-) -> Result<Ending, Memory>
-    ensures { IfOk result (λ ending. (ends : List Account)
-        × Told (told_world (S.left source.old) (S.faults source.old) W.contents W.faults sink.old fresh_boxes)
-        (told_world (S.left source.new) (S.faults source.new) W.contents W.faults sink.new ends)
-        (lines_at sink.old.place (W.contents sink.old.inner)) (lines_at sink.new.place (W.contents sink.new.inner)) ending) }
-{
-    let mut outlets: Vec<Box<dyn Outlet>> = Vec::new(alloc);
-    'boxes: for _ in 0..BOXES {
-        match Box::new(alloc, Tally::new()) {
-            Ok(tally) => match outlets.push(tally) {
-                Ok(()) => continue 'boxes,
-                Err(_) => return Err(Memory),
-            },
-            Err(_) => return Err(Memory),
-        }
-    }
-    Ok(explain(alloc, source, sink, &mut outlets))
 }

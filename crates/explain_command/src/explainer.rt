@@ -56,7 +56,7 @@ impl Explainer {
     ) -> Ending
         ensures kept { Keeps (told_at sink.old.place (W.contents sink.old.inner)) (told_at sink.new.place (W.contents sink.new.inner)) }
         ensures lines { Keeps (lines_at sink.old.place (W.contents sink.old.inner)) (lines_at sink.new.place (W.contents sink.new.inner)) }
-        ensures ends { EndsSo ran result (W.faults sink.old.inner) (W.faults sink.new.inner) }
+        ensures ends { EndsSo (λ fault. fault) ran result (W.faults sink.old.inner) (W.faults sink.new.inner) }
     {
         if self.lacks_memory {
             return Ending::Memory;

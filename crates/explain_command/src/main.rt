@@ -1,15 +1,17 @@
 //! The program `explain`: reads a scenario, runs it line by line and writes each line with what it brings, and notes that say why.
 #![tactic(auto)]
 
+mod document;
 mod explain;
 mod explainer;
 mod place;
+mod program;
 mod rows;
 mod status;
 
 use bcast_base::Memory;
 use bcast_io::{ReadSource, WriteSink};
-use explain::explain_with_tallies;
+use program::{Form, explain_with_tallies};
 use replay_lines::Ending;
 use rows::ExplainedRows;
 use status::Status;
@@ -30,20 +32,29 @@ fn main(rt: HostRuntime) -> ExitCode {
 
 /// Runs the program over standard input and output.
 fn run<R: Input + Print + Env + AllocGlobal>(rt: &R) -> Result<Status, Memory> {
-    if has_words(rt)? {
+    let Some(form) = form_of(rt)? else {
         return Ok(Status::Usage);
-    }
+    };
     let mut source = ReadSource::new(rt.reader());
     let mut sink = ExplainedRows::new(WriteSink::new(io::writer(rt)));
-    let ending = explain_with_tallies(rt.alloc(), &mut source, &mut sink)?;
-    Ok(Status::Ended(ending))
+    explain_with_tallies(rt.alloc(), form, &mut source, &mut sink)
 }
 
-/// Whether words stand behind the program's name.
-fn has_words<R: Env + AllocGlobal>(rt: &R) -> Result<bool, Memory> {
-    match env::args(rt) {
-        Ok(args) => Ok(args.count() > 1),
-        Err(error) if error.kind() == io::ErrorKind::InvalidData => Ok(true),
-        Err(_) => Err(Memory),
+/// What the words behind the program's name ask for: lines without words, a document by `--toml`.
+fn form_of<R: Env + AllocGlobal>(rt: &R) -> Result<Option<Form>, Memory> {
+    let mut args = match env::args(rt) {
+        Ok(args) => args,
+        Err(error) if error.kind() == io::ErrorKind::InvalidData => return Ok(None),
+        Err(_) => return Err(Memory),
+    };
+    drop(args.next());
+    let first = args.next();
+    if args.next().is_some() {
+        return Ok(None);
+    }
+    match first {
+        None => Ok(Some(Form::Lines)),
+        Some(word) if word.as_str() == "--toml" => Ok(Some(Form::Toml)),
+        Some(_) => Ok(None),
     }
 }

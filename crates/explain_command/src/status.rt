@@ -1,18 +1,30 @@
 ghost use Rattle.std.specs.Prelude.{◌≡◌, option_copied};
-ghost use Rattle.explain_command.specs.Statuses.{ending_number, ending_text, exit_number, text_of};
+ghost use Rattle.explain_command.specs.Statuses.{ending_number, ending_text, exit_number, status_in_toml, text_of};
 
-use replay_lines::Ending;
+use replay_lines::{Cause, Ending};
 
 /// How the program ended.
 #[derive(Clone, Copy, Debug, PartialEq, Eq)]
 pub enum Status {
-    /// There are words behind its name, and it takes none.
+    /// There are other words behind its name than `--toml`.
     Usage,
     /// The scenario was run, to this ending.
     Ended(Ending),
+    /// The document was refused for this, and no line was run.
+    NotRun(Cause),
 }
 
 impl Status {
+    /// That of a document which ended so.
+    pub(crate) fn of_document(ended: Result<Ending, Cause>) -> Status
+        ensures { result ≡ status_in_toml ended }
+    {
+        match ended {
+            Ok(ending) => Status::Ended(ending),
+            Err(cause) => Status::NotRun(cause),
+        }
+    }
+
     /// The exit status of the program, which is that of `replay`.
     pub(crate) fn exit_code(self) -> u8
         ensures { result ≡ exit_number self }
@@ -20,6 +32,7 @@ impl Status {
         match self {
             Status::Usage => 2,
             Status::Ended(ending) => code_of(ending),
+            Status::NotRun(_) => 1,
         }
     }
 
@@ -28,8 +41,9 @@ impl Status {
         ensures { option_copied result ≡ text_of self }
     {
         match self {
-            Status::Usage => Some("usage: explain"),
+            Status::Usage => Some("usage: explain [--toml]"),
             Status::Ended(ending) => message_of(ending),
+            Status::NotRun(_) => None,
         }
     }
 }

@@ -1,21 +1,17 @@
 //! What is kept of a scenario for its notes, and the notes of a line.
 ghost use Rattle.std.specs.Prelude.{◌≡◌, ◌⊎◌, length, take, OnErr, OnOk};
 
-use crate::ears::Ears;
-use crate::group::put_fault;
-use crate::misfits::put_misfit;
-use crate::phases::{ABSENT, Source, order_of};
-use crate::refusals::row_of;
 use crate::rows::{is_joined, put_row_note};
-use crate::slots::put_slots;
-use crate::trains::{Train, is_ignored, put_compared};
-use crate::words::{digit_of, streams_at, word_at};
 use bcast_base::{Memory, Octets};
+use refusal_notes::{
+    ABSENT, Source, order_of, put_fault, put_misfit, put_subevent, row_of, word_at,
+};
 use replay_steps::Machine;
 use scenario_lines::read_line_in;
 use scenario_text::Step;
 use scenario_words::Word;
 use std::alloc::Global;
+use train_notes::{Ears, Train, digit_of, is_ignored, put_compared, put_slots, streams_at};
 use transcript_text::Refusal;
 use unit_notes::{Units, put_note};
 
@@ -148,7 +144,7 @@ impl Notes {
         reason: Refusal,
     ) -> Result<(), Memory> {
         match (reason, step) {
-            (Refusal::BadLine { word }, _) => put_misfit(rows, line, word),
+            (Refusal::BadLine { word }, _) => put_misfit(rows, self.alloc, line, word),
             (Refusal::BadGroup { fault }, _) => {
                 let group = self.units.numbers(self.source());
                 put_fault(rows, fault, group, self.chosen().has_cipher)
@@ -162,6 +158,9 @@ impl Notes {
                     &self.second,
                 );
                 put_note(rows, &[Word::Text(order.as_bytes())])
+            }
+            (Refusal::NoSuchSubevent, Some(step)) => {
+                put_subevent(rows, &step, self.units.numbers(self.source()))
             }
             (_, _) => put_note(rows, &[Word::Text(row_of(reason).as_bytes())]),
         }
@@ -183,6 +182,7 @@ impl Notes {
                 if row.starts_with(b"train ") {
                     train = row;
                 }
+                self.ears.served(machine, row)?;
                 put_row_note(rows, row)?;
                 self.put_answer(rows, row, machine, train)?;
                 start = end + 1;
@@ -221,6 +221,7 @@ impl Notes {
         )?;
         if answer == b"NotWanted".as_slice() {
             put_slots(rows, self.alloc, machine, sink, train.identity)?;
+            self.ears.put_waiting(rows, sink)?;
         }
         if !is_ignored(answer) {
             self.ears.follow(sink, Some(train.identity));

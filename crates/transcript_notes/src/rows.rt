@@ -1,7 +1,7 @@
 //! Notes of the rows of the transcript that a line brought.
 use crate::answers::{of_dropped, of_forged, of_heard, of_reply, of_train};
-use crate::words::word_at;
 use bcast_base::{Memory, Octets};
+use refusal_notes::word_at;
 use scenario_words::Word;
 use unit_notes::put_note;
 

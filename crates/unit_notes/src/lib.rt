@@ -4,6 +4,7 @@
 
 mod asking;
 mod closing;
+mod early;
 mod fate;
 mod ledger;
 mod marks;
@@ -12,10 +13,12 @@ mod note;
 mod numbers;
 mod pdus;
 mod schedule;
+mod showing;
 mod telling;
 mod unit_row;
 mod units;
 
 pub use note::put_note;
 pub use numbers::{Numbers, quotient};
+pub use showing::shown;
 pub use units::Units;

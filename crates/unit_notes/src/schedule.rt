@@ -13,6 +13,8 @@ pub(crate) struct Schedule {
     /// How many events were performed, and whether the last one is open.
     performed: u64,
     is_open: bool,
+    /// How many units each stream was given before the first event, by its index.
+    given: [u64; 32],
 }
 
 /// A source of which no line was said.
@@ -24,6 +26,7 @@ pub(crate) const UNSAID: Schedule = Schedule {
     first: 0,
     performed: 0,
     is_open: false,
+    given: [0; 32],
 };
 
 impl Schedule {
@@ -44,6 +47,7 @@ impl Schedule {
                 }
             }
             Step::Start { first } => self.first = *first,
+            Step::Unit { bis, .. } => self.give(bis.get()),
             Step::Event => {
                 self.performed = self.performed.saturating_add(1);
                 self.is_open = true;
@@ -51,6 +55,36 @@ impl Schedule {
             Step::Stop | Step::Terminate { .. } => self.is_open = false,
             _ => {}
         }
+    }
+
+    /// A stream is given a unit.
+    fn give(&mut self, bis: u8) {
+        if self.performed == 0 && bis < 32 {
+            let given = self.given[bis as usize];
+            self.given[bis as usize] = given.saturating_add(1);
+        }
+    }
+
+    /// How many units a stream was given before the first event.
+    pub(crate) fn given(&self, bis: u8) -> u64 {
+        if bis < 32 {
+            self.given[bis as usize]
+        } else {
+            0
+        }
+    }
+
+    /// How many events a payload is sent ahead at most.
+    pub(crate) fn horizon(&self) -> u64 {
+        let groups = quotient(self.numbers.nse, self.numbers.bn);
+        self.numbers
+            .pto
+            .saturating_mul(groups.saturating_sub(self.numbers.irc))
+    }
+
+    /// Whether an event is one of those whose units go into the first one.
+    pub(crate) fn is_early(&self, event: u64) -> bool {
+        event <= self.first.saturating_add(self.horizon())
     }
 
     /// The event `back` events before the last one, where it was performed.

@@ -1,4 +1,5 @@
 //! The notes of units, and the counts.
+use crate::early::put_short;
 use crate::fate::{Fate, Foretold};
 use crate::ledger::Stream;
 use crate::marks::has;
@@ -40,12 +41,17 @@ impl Units {
             Some(told) => told.fate == Fate::Empty,
             None => false,
         };
-        self.count(stream, unit.is_valid, is_empty)?;
+        let is_first = self.count(stream, unit.is_valid, is_empty)?;
         match found {
             Some(told) => {
                 let is_so = (told.fate == Fate::Valid) == unit.is_valid;
                 told.put(rows, self.schedule(source), is_so)?;
-                told.put_moment(rows, self.schedule(source))
+                told.put_moment(rows, self.schedule(source))?;
+                if is_first {
+                    put_short(rows, self.schedule(source), unit.bis, told.event)
+                } else {
+                    Ok(())
+                }
             }
             None => put_note(
                 rows,
@@ -75,19 +81,21 @@ impl Units {
         None
     }
 
-    /// Counts a unit.
-    fn count(&mut self, stream: Stream, is_valid: bool, is_empty: bool) -> Result<(), Memory> {
+    /// Counts a unit, and answers whether it is the first slot without one.
+    fn count(&mut self, stream: Stream, is_valid: bool, is_empty: bool) -> Result<bool, Memory> {
         let place = self.place_for(stream)?;
-        if let Some(ledger) = self.ledgers.get_mut(place) {
-            if is_valid {
-                ledger.valid = ledger.valid.saturating_add(1);
-            } else if is_empty {
-                ledger.empty = ledger.empty.saturating_add(1);
-            } else {
-                ledger.lost = ledger.lost.saturating_add(1);
-            }
+        let Some(ledger) = self.ledgers.get_mut(place) else {
+            return Ok(false);
+        };
+        if is_valid {
+            ledger.valid = ledger.valid.saturating_add(1);
+        } else if is_empty {
+            ledger.empty = ledger.empty.saturating_add(1);
+            return Ok(ledger.empty == 1);
+        } else {
+            ledger.lost = ledger.lost.saturating_add(1);
         }
-        Ok(())
+        Ok(false)
     }
 
     /// Puts the notes of the units that were never begun, and counts them.

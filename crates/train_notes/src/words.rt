@@ -6,19 +6,8 @@ use std::alloc::Global;
 /// The most octets of a word of a line.
 const MOST: usize = 4500;
 
-/// The word of a line at this place, from 0.
-pub(crate) fn word_at(line: &[u8], place: u64) -> Option<&[u8]> {
-    let mut words = Cursor::new(line);
-    'words: for _ in 0..place {
-        if words.word().is_err() {
-            return None;
-        }
-    }
-    words.word().ok()
-}
-
 /// The digit that a word begins with, as a number of a sink.
-pub(crate) fn digit_of(word: &[u8]) -> u8 {
+pub fn digit_of(word: &[u8]) -> u8 {
     match word.first() {
         Some(digit) => digit.saturating_sub(b'0'),
         None => 0,
@@ -26,7 +15,7 @@ pub(crate) fn digit_of(word: &[u8]) -> u8 {
 }
 
 /// The streams that the words from this place on name, which rise; none where one names none.
-pub(crate) fn streams_at(line: &[u8], place: u64) -> BisSet {
+pub fn streams_at(line: &[u8], place: u64) -> BisSet {
     let mut words = Cursor::new(line);
     'words: for _ in 0..place {
         if words.word().is_err() {

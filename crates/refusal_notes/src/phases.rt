@@ -3,7 +3,7 @@ use scenario_text::Step;
 
 /// How far a source has come.
 #[derive(Clone, Copy, PartialEq, Eq)]
-pub(crate) enum Phase {
+pub enum Phase {
     Absent,
     Described,
     Sending,
@@ -12,21 +12,21 @@ pub(crate) enum Phase {
 
 /// What the lines of a source said, as far as the order of lines asks for it.
 #[derive(Clone, Copy)]
-pub(crate) struct Source {
-    pub(crate) phase: Phase,
-    pub(crate) is_framed: bool,
-    pub(crate) has_ident: bool,
-    pub(crate) has_cipher: bool,
-    pub(crate) has_subgroup: bool,
+pub struct Source {
+    pub phase: Phase,
+    pub is_framed: bool,
+    pub has_ident: bool,
+    pub has_cipher: bool,
+    pub has_subgroup: bool,
     /// Whether the last subgroup has no stream.
-    pub(crate) is_bare: bool,
+    pub is_bare: bool,
     /// Of `ident`, else 0.
-    pub(crate) address_type: u8,
-    pub(crate) sid: u8,
+    pub address_type: u8,
+    pub sid: u8,
 }
 
 /// A source of which no line was said.
-pub(crate) const ABSENT: Source = Source {
+pub const ABSENT: Source = Source {
     phase: Phase::Absent,
     is_framed: false,
     has_ident: false,
@@ -39,7 +39,7 @@ pub(crate) const ABSENT: Source = Source {
 
 impl Source {
     /// Notes a step of this source that was made.
-    pub(crate) fn made(&mut self, step: &Step) {
+    pub fn made(&mut self, step: &Step) {
         match step {
             Step::Group { framing, .. } => {
                 self.phase = Phase::Described;
@@ -124,7 +124,7 @@ fn relaying(first: &Source, second: &Source) -> &'static str {
 }
 
 /// Which order a step breaks, where `is_begun` tells whether `scenario` was made.
-pub(crate) fn order_of(
+pub fn order_of(
     step: &Step,
     is_begun: bool,
     chosen: &Source,

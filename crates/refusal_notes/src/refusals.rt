@@ -2,7 +2,7 @@
 use transcript_text::Refusal;
 
 /// The row of the language that holds where a line is refused so, for the refusals that ask for nothing else.
-pub(crate) fn row_of(reason: Refusal) -> &'static str {
+pub fn row_of(reason: Refusal) -> &'static str {
     match reason {
         Refusal::TextTooLong => "this line holds octet 67108865 of the text",
         Refusal::LineTooLong => "the line has more than 9000 octets without its end",

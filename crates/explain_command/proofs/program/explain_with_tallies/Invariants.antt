@@ -1,7 +1,7 @@
 use Rattle.std.proofs.Common.{◌≡◌, true, None, map, replicate}
 use Rattle.unit_outlets.specs.Account.{fresh}
-use Rattle.explain_command.proofs.explain.explain_with_tallies.OwnLists.{own-1}
-use Rattle.explain_command.proofs.explain.explain_with_tallies.Given as goal
+use Rattle.explain_command.proofs.program.explain_with_tallies.OwnLists.{own-1}
+use Rattle.explain_command.proofs.program.explain_with_tallies.Given as goal
 
 abbrev pub invariant-boxes : goal.invariant-boxes
 invariant-boxes g l = map (λ z. (own-1.entry z.vtable).1.account z.value) l.outlets.items ≡ replicate l.counter (fresh true 0 None)

@@ -8,7 +8,7 @@ use std::alloc::Global;
 use unit_notes::put_note;
 
 /// Puts by what each filled slot of a sink is known, where no train is wanted by which it is the same.
-pub(crate) fn put_slots(
+pub fn put_slots(
     rows: &mut Octets,
     alloc: Global,
     machine: &Machine,
@@ -28,6 +28,31 @@ pub(crate) fn put_slots(
         }
     }
     Ok(())
+}
+
+/// By what the slot of a sink with this Source_ID is known.
+pub(crate) fn identity_of(
+    alloc: Global,
+    machine: &Machine,
+    sink: u8,
+    source_id: u8,
+) -> Result<Option<Identity>, Memory> {
+    if sink > 7 {
+        return Ok(None);
+    }
+    'slots: for slot in 0..8u8 {
+        if let Some(octets) = machine.state_of(sink, slot)? {
+            match decode_state(alloc, octets.as_slice()) {
+                Ok(Some(state)) if state.source_id == source_id => {
+                    let of = Identity::of(state.address_type, state.sid, state.broadcast_id);
+                    return Ok(Some(of));
+                }
+                Err(StateFault::Memory) => return Err(Memory),
+                _ => {}
+            }
+        }
+    }
+    Ok(None)
 }
 
 /// Puts by what a slot is known. Where the train is known by the same, the slot has no wish for it.

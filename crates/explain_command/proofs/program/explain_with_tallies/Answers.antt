@@ -4,9 +4,10 @@ use Rattle.std.proofs.lemmas.List.{map-append, replicate_more}
 use Rattle.unit_outlets.specs.Account.{Account, fresh}
 use Rattle.explain_command.specs.Boxes.{fresh_boxes}
 use Rattle.explain_command.specs.Rows.{lines_at}
-use Rattle.explain_command.specs.Told.{Told, told_world}
-use Rattle.explain_command.proofs.explain.explain_with_tallies.OwnLists.{own-1, at-1-1}
-use Rattle.explain_command.proofs.explain.explain_with_tallies.Goals as goal
+use Rattle.explain_command.specs.Told.{told_world}
+use Rattle.explain_command.specs.ToldIn.{ToldIn}
+use Rattle.explain_command.proofs.program.explain_with_tallies.OwnLists.{own-1, at-1-1}
+use Rattle.explain_command.proofs.program.explain_with_tallies.Goals as goal
 
 pub boxes-preserved : goal.boxes-preserved
 boxes-preserved g c =
@@ -25,10 +26,10 @@ returns g c =
     let count : c.boxes.counter ≡ 8 = omega (arith, c.boxes-test.false, c.boxes.auto.counter-end) in
     let all : map (λ z. (own-1.entry z.vtable).1.account z.value) c.boxes.outlets.items ≡ fresh_boxes =
     c.boxes.invariant ∙ ap (λ n. replicate n (fresh true 0 None)) count in
-    let ends = map (λ z. (own-1.entry z.vtable).1.account z.value) c.explain.new.outlets.items in
+    let ends = map (λ z. (own-1.entry z.vtable).1.account z.value) c.explain_in.new.outlets.items in
     let P : List Account → Type 0 = λ starts.
-    Told (told_world (g.S.ByteSource.left c.args.source.now) (g.S.ByteSource.faults c.args.source.now) g.W.ByteSink.contents g.W.ByteSink.faults c.args.sink.now starts)
-    (told_world (g.S.ByteSource.left c.explain.new.source) (g.S.ByteSource.faults c.explain.new.source) g.W.ByteSink.contents g.W.ByteSink.faults c.explain.new.sink ends)
+    ToldIn c.args.form (told_world (g.S.ByteSource.left c.args.source.now) (g.S.ByteSource.faults c.args.source.now) g.W.ByteSink.contents g.W.ByteSink.faults c.args.sink.now starts)
+    (told_world (g.S.ByteSource.left c.explain_in.new.source) (g.S.ByteSource.faults c.explain_in.new.source) g.W.ByteSink.contents g.W.ByteSink.faults c.explain_in.new.sink ends)
     (lines_at c.args.sink.now.place (g.W.ByteSink.contents c.args.sink.now.inner))
-    (lines_at c.explain.new.sink.place (g.W.ByteSink.contents c.explain.new.sink.inner)) c.explain.result in
-    (ends, subst P all c.explain.ensures.told)
+    (lines_at c.explain_in.new.sink.place (g.W.ByteSink.contents c.explain_in.new.sink.inner)) c.explain_in.result in
+    (ends, subst P all c.explain_in.ensures)

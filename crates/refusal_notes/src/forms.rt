@@ -60,8 +60,8 @@ pub(crate) const SECOND: [(&str, u64); 11] = [
     ("relay N B B", 0),
 ];
 
-/// What stands at each place.
-pub(crate) const PLACES: [(&str, &str); 43] = [
+/// What each place takes.
+pub(crate) const PLACES: [(&str, &str); 50] = [
     ("VERSION", "1 or 2"),
     ("FRAMING", "`unframed` or `framed`"),
     ("ORIGIN", "a decimal from 3000 to 2^48 (us)"),
@@ -108,7 +108,24 @@ pub(crate) const PLACES: [(&str, &str); 43] = [
     ("BISSYNC", "4 octets"),
     ("CODE", "16 octets"),
     (
-        "OCTETS",
-        "pairs of hexadecimal digits, or `-` for none, of at most the octets of this line",
+        "TIME",
+        "`-` or a decimal of at most 2^62 (us), in `train` a decimal from 0 to 2^48 (us)",
     ),
+    ("LOSE", "0 to 255"),
+    ("SOURCE", "0 to 255"),
+    ("SLOT", "0 to 255"),
+    ("REASON", "0 to 255"),
+    ("EXT", "at most 255 octets, or `-`"),
+    ("ADV", "at most 1650 octets, or `-`"),
+    ("ACAD", "at most 255 octets, or `-`"),
+];
+
+/// The most octets of the place OCTETS of each line that has it, in words.
+pub(crate) const MOST_OCTETS: [(&str, &str); 6] = [
+    ("unit", "at most 4095 octets, or `-` for none"),
+    ("inject", "at most 300 octets, or `-` for none"),
+    ("control", "at most 300 octets, or `-` for none"),
+    ("write", "at most 512 octets, or `-` for none"),
+    ("awrite", "at most 512 octets, or `-` for none"),
+    ("forge", "at most 1024 octets, or `-` for none"),
 ];

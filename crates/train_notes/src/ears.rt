@@ -3,10 +3,14 @@ ghost use Rattle.std.specs.Prelude.{◌<◌, vec_len, IfSome};
 
 use crate::bases::put_base_fault;
 use crate::compared::{is_list, put_fitting, put_values};
-use crate::trains::Identity;
+use crate::trains::{Identity, Train};
+use crate::unwanted::put_unwanted;
+use crate::wishes::Wants;
 use base_grammar::{Base, decode_base};
+use bass_operations::Wishes;
 use bcast_base::{Bis, BisSet, Memory, Octets};
 use pacs_records::{Capability, NotTaken, PacRecord, PushFault, Records, takes};
+use replay_steps::Machine;
 use scenario_text::Step;
 use scenario_words::{Word, put_words};
 use std::alloc::Global;
@@ -24,19 +28,32 @@ struct Ear {
     followed: Option<Identity>,
 }
 
+/// What the streams of a BASE are tested by, and which of them are taken.
+#[derive(Clone, Copy)]
+pub(crate) struct Asked<'a> {
+    capability: &'a Capability,
+    base: &'a Base,
+    /// What the slot wants, where it is known.
+    pub(crate) wishes: Option<&'a Wishes>,
+    pub(crate) num_bis: u8,
+    taken: BisSet,
+}
+
 /// The sinks that live.
 #[derive(Drop)]
-pub(crate) struct Ears {
+pub struct Ears {
     alloc: Global,
     ears: Vec<Ear>,
+    wants: Wants,
 }
 
 impl Ears {
     /// None.
-    pub(crate) fn new(alloc: Global) -> Ears {
+    pub fn new(alloc: Global) -> Ears {
         Ears {
             alloc,
             ears: Vec::new(alloc),
+            wants: Wants::new(alloc),
         }
     }
 
@@ -48,11 +65,12 @@ impl Ears {
     }
 
     /// Notes a step that was made.
-    pub(crate) fn made(&mut self, step: Step) -> Result<(), Memory> {
+    pub fn made(&mut self, step: Step) -> Result<(), Memory> {
         match step {
             Step::Sink { sink, .. } => self.add(sink),
             Step::Drop { sink } => {
                 self.remove(sink);
+                self.wants.drop_sink(sink);
                 Ok(())
             }
             Step::Tuned { sink, .. } => {
@@ -88,8 +106,18 @@ impl Ears {
                 }
                 Ok(())
             }
-            _ => Ok(()),
+            step => self.wants.made(step),
         }
+    }
+
+    /// Notes that a write was served, where a row of the transcript says so.
+    pub fn served(&mut self, machine: &Machine, row: &[u8]) -> Result<(), Memory> {
+        self.wants.served(machine, row)
+    }
+
+    /// Puts how many writes wait on each link of a sink.
+    pub fn put_waiting(&self, rows: &mut Octets, sink: u8) -> Result<(), Memory> {
+        self.wants.put_waiting(rows, sink)
     }
 
     /// A new sink.
@@ -131,7 +159,7 @@ impl Ears {
     }
 
     /// A sink is where this train put it, or where `tuned` did.
-    pub(crate) fn follow(&mut self, sink: u8, train: Option<Identity>) {
+    pub fn follow(&mut self, sink: u8, train: Option<Identity>) {
         if let Some(place) = self.place_of(sink) {
             self.ears[place].followed = train;
         }
@@ -143,6 +171,7 @@ impl Ears {
         &self,
         rows: &mut Octets,
         sink: u8,
+        train: &Train,
         octets: &[u8],
         taken: BisSet,
     ) -> Result<(), Memory> {
@@ -150,7 +179,16 @@ impl Ears {
             return Ok(());
         };
         match decode_base(self.alloc, octets) {
-            Ok(base) => put_streams(rows, &self.ears[place].capability, &base, taken),
+            Ok(base) => {
+                let asked = Asked {
+                    capability: &self.ears[place].capability,
+                    base: &base,
+                    wishes: self.wants.wanted(sink, train.identity),
+                    num_bis: train.num_bis(),
+                    taken,
+                };
+                put_streams(rows, &asked)
+            }
             Err(fault) => put_base_fault(rows, fault),
         }
     }
@@ -171,13 +209,8 @@ fn push_record(records: &mut Records, record: PacRecord) -> Result<(), Memory> {
 }
 
 /// Puts a note for each stream of a BASE.
-fn put_streams(
-    rows: &mut Octets,
-    capability: &Capability,
-    base: &Base,
-    taken: BisSet,
-) -> Result<(), Memory> {
-    if capability.entries.count() == 0 {
+fn put_streams(rows: &mut Octets, asked: &Asked<'_>) -> Result<(), Memory> {
+    if asked.capability.entries.count() == 0 {
         return put_note(
             rows,
             &[Word::Text(b"the sink has no record: no `pac` line names it, so no stream fits")],
@@ -185,28 +218,22 @@ fn put_streams(
     }
     'streams: for number in 1..32u8 {
         if let Some(bis) = Bis::new(number) {
-            put_stream(rows, capability, base, bis, taken.has(bis))?;
+            put_stream(rows, asked, bis)?;
         }
     }
     Ok(())
 }
 
 /// Puts the note of a stream.
-fn put_stream(
-    rows: &mut Octets,
-    capability: &Capability,
-    base: &Base,
-    bis: Bis,
-    is_taken: bool,
-) -> Result<(), Memory> {
-    let Some(effective) = base.effective(bis) else {
+fn put_stream(rows: &mut Octets, asked: &Asked<'_>, bis: Bis) -> Result<(), Memory> {
+    let Some(effective) = asked.base.effective(bis) else {
         return Ok(());
     };
-    let unmet = takes(capability, base, bis).err();
+    let is_taken = asked.taken.has(bis);
+    let unmet = takes(asked.capability, asked.base, bis).err();
     let row = match unmet {
         None if is_taken => "is taken: a record fits, and the slot wants it",
-        None =>
-            "is not taken: a record fits; so the slot doesn't want it, it is above NUMBIS, or the sink takes no more",
+        None => "is not taken: a record fits, but",
         Some(reason) => row_of(reason),
     };
     put_words(
@@ -220,8 +247,9 @@ fn put_stream(
         ],
     )?;
     match unmet {
-        Some(reason) => put_values(rows, reason, &effective, capability)?,
-        None => put_fitting(rows, &effective, capability)?,
+        Some(reason) => put_values(rows, reason, &effective, asked.capability)?,
+        None if is_taken => put_fitting(rows, &effective, asked.capability)?,
+        None => put_unwanted(rows, asked, bis, effective.subgroup)?,
     }
     rows.push(b'\n')
 }

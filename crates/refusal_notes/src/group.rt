@@ -26,7 +26,7 @@ fn say(text: &'static str) -> Word<'static> {
 }
 
 /// Puts the row of the group check that holds, with its numbers.
-pub(crate) fn put_fault(
+pub fn put_fault(
     rows: &mut Octets,
     fault: GroupFault,
     of: &Numbers,

@@ -2,12 +2,11 @@
 ghost use Rattle.std.specs.Prelude.{◌≤◌};
 
 use crate::ears::Ears;
-use crate::group::put_fault;
-use crate::phases::Source;
 use crate::words::octets_at;
 use base_grammar::{broadcast_id, service_data, structure};
 use bcast_base::{BisSet, Memory, Octets};
 use big_info::{BigInfo, Limits, check_group_within, decode_big_info};
+use refusal_notes::{Source, put_fault};
 use scenario_words::Word;
 use std::alloc::Global;
 use unit_notes::{Numbers, put_note};
@@ -20,13 +19,27 @@ const BIG_INFO: u8 = 0x2c;
 
 /// By what a slot and a train are the same.
 #[derive(Clone, Copy)]
-pub(crate) struct Identity {
+pub struct Identity {
     address_type: u8,
     sid: u8,
     broadcast_id: [u8; 3],
 }
 
 impl Identity {
+    /// By these.
+    pub(crate) fn of(address_type: u8, sid: u8, broadcast_id: [u8; 3]) -> Identity {
+        Identity {
+            address_type,
+            sid,
+            broadcast_id,
+        }
+    }
+
+    /// Whether both are the same.
+    pub(crate) fn is(self, other: Identity) -> bool {
+        self.is_of(other.address_type, other.sid, &other.broadcast_id)
+    }
+
     /// Whether it is by these.
     pub(crate) fn is_of(self, address_type: u8, sid: u8, broadcast_id: &[u8; 3]) -> bool {
         self.address_type == address_type
@@ -37,15 +50,15 @@ impl Identity {
 
 /// A train that a sink heard.
 #[derive(Drop)]
-pub(crate) struct Train {
-    pub(crate) identity: Identity,
+pub struct Train {
+    pub identity: Identity,
     advertised: Octets,
     acad: Octets,
 }
 
 impl Train {
     /// The train of a source that a line or a row `train N TIME EXT ADV ACAD` tells, where its EXT has a Broadcast_ID.
-    pub(crate) fn read(alloc: Global, row: &[u8], source: &Source) -> Option<Train> {
+    pub fn read(alloc: Global, row: &[u8], source: &Source) -> Option<Train> {
         let ext = octets_at(alloc, row, 3)?;
         let identity = Identity {
             address_type: source.address_type,
@@ -66,6 +79,17 @@ impl Train {
             .flatten()
     }
 
+    /// NUMBIS of the group that is announced, or 0.
+    pub(crate) fn num_bis(&self) -> u8 {
+        let Some(octets) = self.big_info() else {
+            return 0;
+        };
+        match decode_big_info(octets) {
+            Ok(info) => info.num_bis,
+            Err(_) => 0,
+        }
+    }
+
     /// The octets that are announced as BIGInfo.
     fn big_info(&self) -> Option<&[u8]> {
         structure(self.acad.as_slice(), BIG_INFO).ok().flatten()
@@ -73,7 +97,7 @@ impl Train {
 }
 
 /// Whether an answer to a train leaves the sink where it was.
-pub(crate) fn is_ignored(answer: &[u8]) -> bool {
+pub fn is_ignored(answer: &[u8]) -> bool {
     answer == b"NotWanted".as_slice()
         || answer == b"OtherTrain".as_slice()
         || answer == b"AlreadyOnGroup".as_slice()
@@ -87,7 +111,7 @@ fn has_base(answer: &[u8]) -> bool {
 }
 
 /// Puts what was compared for the answer of a sink to a train, which takes these streams of it.
-pub(crate) fn put_compared(
+pub fn put_compared(
     rows: &mut Octets,
     answer: &[u8],
     train: &Train,
@@ -111,7 +135,7 @@ pub(crate) fn put_compared(
         };
     }
     match train.base() {
-        Some(octets) if has_base(answer) => ears.put_reasons(rows, sink, octets, taken),
+        Some(octets) if has_base(answer) => ears.put_reasons(rows, sink, train, octets, taken),
         _ => Ok(()),
     }
 }
