@@ -1,6 +1,6 @@
 -- What an explanation of a document promises of the outside before it and after it, by how it ended. The form of documents and the
 -- program are this project's own.
-use Rattle.std.specs.Prelude.{ℕ, ◌≡◌, ◌≢◌, ◌⊎◌, true, [], List, Option, None, Some, Ok, Err}
+use Rattle.std.specs.Prelude.{ℕ, ◌≡◌, ◌≢◌, ◌⊎◌, true, List, Option, None, Some, Ok, Err}
 use Rattle.std.specs.Io.KnownBytes.{Keeps}
 use Rattle.bcast_base.specs.Counts.{Rose}
 use Rattle.explain_command.specs.Rows.{line_row}
