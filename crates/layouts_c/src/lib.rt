@@ -1,0 +1,7 @@
+//! What a program in C calls of the layouts.
+#![tactic(auto)]
+
+mod base;
+mod checks;
+mod info;
+mod state;

@@ -1,0 +1,4 @@
+mod Agreeing
+mod Free
+mod Kept
+mod Wished

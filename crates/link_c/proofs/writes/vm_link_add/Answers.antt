@@ -1,0 +1,24 @@
+use Rattle.std.proofs.Common.{◌≡◌, true, refl, sym, ◌∙◌}
+use Rattle.std.proofs.lemmas.Bool.{le-ltb}
+use Rattle.link_c.specs.Wishes.{are_free}
+use Rattle.link_c.proofs.Free.{read_free}
+use Rattle.link_c.proofs.writes.vm_link_add.Goals as goal
+
+pub returns-in-Ok-clause-values : goal.returns-in-Ok-clause-values
+returns-in-Ok-clause-values c = λ wishes _ is.
+    let free : are_free c.args.bis_sync.now ≡ true = sym c.are_free.ensures ∙ c.if-not-are_free.false in (
+      refl,
+      (
+        le-ltb 1 c.args.address_type c.if-address_type-gt1.false,
+        (
+          refl,
+          (
+            le-ltb 15 c.args.sid c.if-sid-gt15.false,
+            (
+              refl,
+              (le-ltb 2 c.args.pa_sync c.if-pa_sync-gt2.false, (refl, (refl, read_free c.args.bis_sync.now c.args.metadata.now wishes free is))),
+            ),
+          ),
+        ),
+      ),
+    )

@@ -1,0 +1,5 @@
+pub mod Agreement
+pub mod Lending
+pub mod Links
+pub mod Owned
+pub mod Wishes

@@ -1,0 +1,36 @@
+-- All that the ticks handed up ends with what they handed since the sink was put on its group.
+use Rattle.std.proofs.Common.{◌≡◌, Bool, true, false, List, [], ◌∷◌, ◌++◌, Option, Some, None, append-nil, append_assoc, ap, refl, sym, ◌∙◌}
+use Rattle.std.specs.Prelude.{◌&&◌, not, if◌then◌else◌}
+use Rattle.delegator_control.specs.Groups.{has_group}
+use Rattle.delegator_history.specs.Sights.{Sight}
+use Rattle.delegator_history.specs.States.{sight_of}
+use Rattle.delegator_history.specs.Trains.{Setup}
+use Rattle.delegator_machine.specs.Calls.{Call, control, hear, tick, steps_of}
+use Rattle.delegator_machine.specs.Groups.{group_calls, joining_given, with_leave, with_step}
+use Rattle.group_sink.specs.Calls as sinks
+use Rattle.group_sink.specs.Handing.{handed_at, handed_since}
+use Rattle.sync_reference.specs.Joining.{Joining}
+use Rattle.unit_outlets.specs.Handed.{Handed}
+use Rattle.sink_c.specs.Sinks.{all_handed}
+
+abbrev Ends : List Handed → List sinks.Call → Type 0
+Ends all calls = (earlier : List Handed) × (all ≡ earlier ++ handed_since calls)
+
+by_leave : (left : Bool) (all : List Handed) (calls : List sinks.Call) → Ends all calls → Ends all (if left then sinks.leave ∷ calls else calls)
+by_leave true all calls ends = (all, sym (append-nil all))
+by_leave false all calls ends = ends
+
+by_step : (joining : Option Joining) (before after : Sight) (all : List Handed) (calls : List sinks.Call) → Ends all calls → Ends all (with_step joining before after calls)
+by_step None before after all calls ends = by_leave (has_group before.place && not (has_group after.place)) all calls ends
+by_step (Some joining) before after all calls ends = (all, sym (append-nil all))
+
+pub ends_with : (setup : Setup) (calls : List Call) → Ends (all_handed setup calls) (group_calls setup calls)
+ends_with setup [] = ([], refl)
+ends_with setup (control step ∷ calls) =
+    let before = sight_of setup (steps_of calls) in
+    by_step (joining_given setup before step) before (sight_of setup (step ∷ steps_of calls)) (all_handed setup calls) (group_calls setup calls) (ends_with setup calls)
+ends_with setup (hear event bis subevent octets ∷ calls) = ends_with setup calls
+ends_with setup (tick event ∷ calls) =
+    let rest = ends_with setup calls in
+    let units = handed_at (group_calls setup calls) event in
+    (rest.0, ap (λ all. all ++ units) rest.1 ∙ append_assoc rest.0 (handed_since (group_calls setup calls)) units)

@@ -1,0 +1,3 @@
+mod AllHanded
+mod Handing
+mod Kept

@@ -1,0 +1,5 @@
+pub mod Announced
+pub mod Lending
+pub mod Owned
+pub mod Sources
+pub mod Starts

@@ -1,0 +1,3 @@
+mod Framings
+mod Handing
+mod Kept
