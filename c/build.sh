@@ -16,22 +16,14 @@ top=$(dirname "$c")
 mkdir -p "${1:-$top/build/c}"
 out=$(cd "${1:-$top/build/c}" && pwd)
 
-# Where the static library of a crate is, proved and built first where it has to be.
-archive() {
-    if [ -n "$archives" ]; then echo "$archives/lib$1.a"; return; fi
-    (cd "$top/crates/$1" && rt lib >&2)
-    echo "$top/crates/$1/out/lib$1.a"
-}
-
 # The names that an archive defines, or that it calls.
 names() { "${NM:-nm}" -P "$@" 2>/dev/null | awk 'NF > 1 && $1 !~ /:$/ { print $1 }' | sort; }
 
-archives=${2:+$(cd "$2" && pwd)}
+if [ $# -eq 2 ]; then archives=$(cd "$2" && pwd); else archives=$out/archives; python3 "$top/tools/archives.py" "$archives"; fi
 script="CREATE $out/libvicemint.a"
 for crate in $CRATES; do
-    at=$(archive "$crate")
     script="$script
-ADDLIB $at"
+ADDLIB $archives/lib$crate.a"
 done
 rm -f "$out/libvicemint.a"
 printf '%s\nSAVE\nEND\n' "$script" | "${AR:-ar}" -M

@@ -5,8 +5,10 @@ import subprocess
 import typing
 from collections.abc import Sequence
 
+import archives as static
 from checks import TOP
 from checks.parts.files import write
+from crate_sums import in_order, listed
 
 C = os.path.join(TOP, 'c')
 LIMIT = 3600  # seconds for proofs
@@ -103,7 +105,12 @@ class Library(typing.NamedTuple):
 
 
 def library(room: str, archives: str) -> Library:
-    """The library as c/build.sh makes it of the crates, or of archives that are there, and runs the example."""
+    """The library as c/build.sh makes it of archives that are there, or of those of the crates, and runs the example. Where `rt ci` has just
+    proved the crates below, they are taken as they were built."""
     folder = os.path.join(room, 'library')
+    lower = [name for name in in_order(listed()[0], *static.CRATES) if name not in static.CRATES]
+    if not archives and all(os.path.isdir(f'{TOP}/crates/{name}/out/rlib/{name}.rlib') for name in lower):
+        archives = os.path.join(room, 'archives')
+        done([os.path.join(TOP, 'tools', 'archives.py'), '--built', archives], LIMIT)
     done([os.path.join(C, 'build.sh'), folder, *([archives] if archives else [])], LIMIT)
     return Library(folder, room)

@@ -6,10 +6,10 @@ import os
 import re
 from collections.abc import Iterator
 
+from archives import CRATES
 from checks import TOP
 from checks.parts.files import text_of
 
-CRATES = 'sink_c', 'link_c', 'source_c', 'stream_c', 'layouts_c'
 EXPORT = re.compile(r'pub extern "C" fn (\w+)\s*\(([^)]*)\)(?:\s*->\s*(\w+))?')
 PROTOTYPE = re.compile(r'^(void|vm_status_t) (\w+)\(([^;{]*)\);', re.M)
 STRUCT = re.compile(r'pub struct (\w+) \{(.*?)\n\}', re.S)
