@@ -8,7 +8,7 @@
 #include <stdlib.h>
 #include <string.h>
 
-enum { SINKS = 8, LINKS = 4, SOURCES = 2, WORDS = 80, VALUE = 512, UNIT = 4095, PDU = 253, STREAMS = 31 };
+enum { SINKS = 8, LINKS = 4, SOURCES = 2, WORDS = 80, VALUE = 512, VIEW = 9000, UNIT = 4095, PDU = 253, STREAMS = 31 };
 
 typedef struct { uint8_t *at; vm_size_t count; } octets_t;
 

@@ -165,12 +165,48 @@ static wished_t wished(char **w)
     return it;
 }
 
+/* An operation with a reserved value, which add and modify refuse, is written as its octets: the first ones, then the subgroups. */
+static void put_octets(vm_link_t *link, const uint8_t *first, vm_size_t count, const wished_t *it)
+{
+    octets_t room = room_of(count + 1 + it->count * 4 + it->metadata.count);
+    vm_size_t end = 0, next = 0;
+    memcpy(room.at, first, (size_t)count);
+    end = count;
+    room.at[end++] = (uint8_t)it->count;
+    for (vm_size_t n = 0; n < it->count; n++) {
+        for (int octet = 0; octet < 4; octet++) {
+            room.at[end++] = (uint8_t)(it->streams[n] >> 8 * octet);
+        }
+        vm_size_t own = (vm_size_t)it->metadata.at[next] + 1;
+        memcpy(room.at + end, it->metadata.at + next, (size_t)own);
+        end += own;
+        next += own;
+    }
+    octets_t write = copied(room.at, end);
+    NEED(vm_link_put(link, write.at, write.count));
+    free(write.at);
+    free(room.at);
+}
+
 static void run_add(char **w)
 {
     wished_t it = wished(w + 9);
     octets_t address = octets(w[4]), id = octets(w[6]);
-    NEED(vm_link_add(link_of(w), small(w[3]), address.at, small(w[5]), id.at, small(w[7]), (uint16_t)number(w[8]), it.streams, it.count,
-                     it.metadata.at, it.metadata.count));
+    uint16_t interval = (uint16_t)number(w[8]);
+    vm_status_t status = TRIED(vm_link_add(link_of(w), small(w[3]), address.at, small(w[5]), id.at, small(w[7]), interval, it.streams,
+                                           it.count, it.metadata.at, it.metadata.count));
+    if (status == VM_RANGE) {
+        uint8_t first[15] = { 2, small(w[3]) };
+        memcpy(first + 2, address.at, 6);
+        first[8] = small(w[5]);
+        memcpy(first + 9, id.at, 3);
+        first[12] = small(w[7]);
+        first[13] = (uint8_t)interval;
+        first[14] = (uint8_t)(interval >> 8);
+        put_octets(link_of(w), first, sizeof first, &it);
+    } else if (status != VM_OK) {
+        fail("an operation", status);
+    }
     free(it.metadata.at);
     free(address.at);
     free(id.at);
@@ -179,7 +215,15 @@ static void run_add(char **w)
 static void run_modify(char **w)
 {
     wished_t it = wished(w + 6);
-    NEED(vm_link_modify(link_of(w), small(w[3]), small(w[4]), (uint16_t)number(w[5]), it.streams, it.count, it.metadata.at, it.metadata.count));
+    uint16_t interval = (uint16_t)number(w[5]);
+    vm_status_t status = TRIED(
+        vm_link_modify(link_of(w), small(w[3]), small(w[4]), interval, it.streams, it.count, it.metadata.at, it.metadata.count));
+    if (status == VM_RANGE) {
+        uint8_t first[5] = { 3, small(w[3]), small(w[4]), (uint8_t)interval, (uint8_t)(interval >> 8) };
+        put_octets(link_of(w), first, sizeof first, &it);
+    } else if (status != VM_OK) {
+        fail("an operation", status);
+    }
     free(it.metadata.at);
 }
 
@@ -230,7 +274,7 @@ static void run_state(char **w)
 
 static void run_view(char **w)
 {
-    octets_t room = room_of(VALUE);
+    octets_t room = room_of(VIEW);
     vm_size_t count = 0;
     NEED(vm_link_view(link_of(w), small(w[3]), room.at, room.count, &count));
     begin("view", w);
