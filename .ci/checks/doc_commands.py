@@ -25,6 +25,7 @@ BY_HAND = {
     'python3 bench/run.py': 'it measures for some minutes, and each machine has figures of its own',
     'python3 tools/choose.py --sink front': 'a sweep of 1,070 runs takes minutes',
     'python3 tools/capture_': 'it needs scapy, or a capture of the air; the step `captures` tries both ways',
+    'python3 tools/log_check.py btsnoop_hci.log': 'it needs a log of a device; the step `logs` reads 73',
     'python3 tools/audio.py out speech.wav': 'nobody has this sound; docs/simulate.md makes one, and goes the same way',
     'tools/install': 'it writes into a folder that the reader chooses',
 }
