@@ -12,7 +12,7 @@ import subprocess
 import sys
 
 sys.dont_write_bytecode = True
-from build import proved  # noqa: E402
+from build import proved, tell_version  # noqa: E402
 from crate_sums import SPEAKER, TOP, Kept, in_order, listed  # noqa: E402
 from kit_rt import kit, say, stop_where_tested  # noqa: E402
 
@@ -52,6 +52,8 @@ def main(words: list[str]) -> int:
     if words in (['-h'], ['--help']):
         print(USAGE)
         return 0
+    if words == ['--version']:
+        return tell_version()
     is_built = words[:1] == ['--built']
     left = words[is_built:]
     if len(left) != 1 or left[0].startswith('-'):
