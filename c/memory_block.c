@@ -5,8 +5,8 @@
  * frames of 100 octets each 10 ms, and each frame is sent three times; `ahead` it is sent in the events 15 and 30 before its own too.
  *
  *     streams   unframed   framed    ahead
- *           1      2,000    2,400    5,120
- *           2      2,512    3,104    8,656
+ *           1      2,080    2,480    5,200
+ *           2      2,592    3,184    8,736
  *
  * bench/c_sizes.py measures it. A source and an assistant come on top: vm_block_most tells what a product needed.
  *
