@@ -170,6 +170,7 @@ pub extern "C" fn vm_stream_close(stream: &mut VmStream) -> u32
     ensures room { (stay : Stay) (calls : List Call) → Stands stay calls stream.old → room_in stream.new ≡ room_in stream.old }
     ensures same { result ≡ counter_ends → stream.new.kept ≡ stream.old.kept }
     ensures ends { (stay : Stay) (calls : List Call) → Stands stay calls stream.old → opened stay calls < 2 ^ 39 → result ≢ counter_ends }
+    ensures either { result ≢ ok → result ≢ counter_ends → result ≡ memory }
 {
     let machine = stream.lend();
     if machine.receiver.open_event() >= 1 << 39 {
