@@ -64,6 +64,7 @@ pub extern "C" fn vm_link_put(link: &mut VmLink, write: &[u8]) -> u32
         → LinkStands slots (puts write.now ∷ calls) link.new }
     ensures same { result ≢ ok → link.new.kept ≡ link.old.kept }
     ensures put { result ≡ ok → writes_in link.new ≡ writes_in link.old ++ write.now ∷ [] }
+    ensures either { result ≢ ok → result ≡ memory }
 {
     match link.lend().assistant.raw(write) {
         Ok(()) => OK,
@@ -157,6 +158,7 @@ pub extern "C" fn vm_link_remove(link: &mut VmLink, source_id: u8) -> u32
         → LinkStands slots (puts (spelling (operations.Remove source_id)) ∷ calls) link.new }
     ensures put { result ≡ ok → writes_in link.new ≡ writes_in link.old ++ spelling (operations.Remove source_id) ∷ [] }
     ensures same { result ≢ ok → link.new.kept ≡ link.old.kept }
+    ensures either { result ≢ ok → result ≡ memory }
 {
     match link.lend().assistant.remove(source_id) {
         Ok(()) => OK,
@@ -172,6 +174,7 @@ pub extern "C" fn vm_link_code(link: &mut VmLink, source_id: u8, code: &[u8; 16]
         → LinkStands slots (puts (spelling (operations.Code source_id code.now)) ∷ calls) link.new }
     ensures put { result ≡ ok → writes_in link.new ≡ writes_in link.old ++ spelling (operations.Code source_id code.now) ∷ [] }
     ensures same { result ≢ ok → link.new.kept ≡ link.old.kept }
+    ensures either { result ≢ ok → result ≡ memory }
 {
     match link.lend().assistant.code(source_id, *code) {
         Ok(()) => OK,

@@ -1,5 +1,5 @@
 //! What a device says of a sink: its records, locations, contexts and MTU.
-ghost use Rattle.std.specs.Prelude.{◌≡◌, ◌≢◌, ◌∷◌, ◌<◌, List, length, IfOk, IfErr, IsSome};
+ghost use Rattle.std.specs.Prelude.{◌≤◌, ◌≡◌, ◌≢◌, ◌∷◌, ◌<◌, List, length, IfOk, IfErr, IsSome};
 ghost use Rattle.base_grammar.specs.Layout.{lc3};
 ghost use Rattle.ltv_codec.specs.Layout.{AreLtvs};
 ghost use Rattle.delegator_history.specs.States.{contexts_set, locations_set, mtu_set, record_added};
@@ -107,6 +107,7 @@ pub extern "C" fn vm_sink_set_mtu(sink: &mut VmSink, mtu: u16) -> u32
     ensures units { waiting_in sink.new ≡ waiting_in sink.old }
     ensures room { room_in sink.new ≡ room_in sink.old }
     ensures same { result ≢ ok → sink.new.kept ≡ sink.old.kept }
+    ensures in_range { 23 ≤ mtu → mtu ≤ 517 → result ≡ ok }
 {
     if mtu < 23 || mtu > 517 {
         return RANGE;

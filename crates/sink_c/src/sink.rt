@@ -11,7 +11,7 @@ ghost use Rattle.delegator_history.specs.Values.{value_at};
 ghost use Rattle.group_sink.specs.Hearings.{hearing_of};
 ghost use Rattle.c_values.specs.Numbers.{control_c, heard_c, reply_c, train_c};
 ghost use Rattle.sink_c.specs.Sinks.{Stands, notices_of, room_in, waiting_in};
-ghost use Rattle.c_values.specs.Statuses.{empty, ok, range, no_slot};
+ghost use Rattle.c_values.specs.Statuses.{empty, ok, range, no_slot, memory};
 
 use crate::handle::VmSink;
 use crate::machine::SinkMachine;
@@ -84,6 +84,7 @@ pub extern "C" fn vm_sink_write(sink: &mut VmSink, write: &[u8], reply: &mut VmR
     ensures units { waiting_in sink.new ≡ waiting_in sink.old }
     ensures room { room_in sink.new ≡ room_in sink.old }
     ensures same { result ≢ ok → (sink.new.kept ≡ sink.old.kept) × (reply.new ≡ reply.old) }
+    ensures either { result ≢ ok → result ≡ memory }
 {
     match sink.lend().delegator.serve(write) {
         Ok(answer) => {
@@ -120,6 +121,7 @@ pub extern "C" fn vm_sink_train(
     ensures room { room_in sink.new ≡ room_in sink.old }
     ensures same { result ≢ ok → (sink.new.kept ≡ sink.old.kept) × (heard.new ≡ heard.old) }
     ensures in_range { now ≤ 2 ^ 61 → result ≢ range }
+    ensures either { result ≢ ok → result ≢ range → result ≡ memory }
 {
     if now > 1 << 61 {
         return RANGE;
@@ -179,6 +181,7 @@ pub extern "C" fn vm_sink_control(sink: &mut VmSink, pdu: &[u8], heard: &mut VmH
     ensures units { waiting_in sink.new ≡ waiting_in sink.old }
     ensures room { room_in sink.new ≡ room_in sink.old }
     ensures same { result ≢ ok → (sink.new.kept ≡ sink.old.kept) × (heard.new ≡ heard.old) }
+    ensures either { result ≢ ok → result ≡ memory }
 {
     match sink.lend().delegator.control(pdu) {
         Ok(answer) => {
@@ -198,6 +201,7 @@ pub extern "C" fn vm_sink_lost(sink: &mut VmSink) -> u32
     ensures units { waiting_in sink.new ≡ waiting_in sink.old }
     ensures room { room_in sink.new ≡ room_in sink.old }
     ensures same { result ≢ ok → sink.new.kept ≡ sink.old.kept }
+    ensures either { result ≢ ok → result ≡ memory }
 {
     match sink.lend().delegator.lost() {
         Ok(()) => OK,

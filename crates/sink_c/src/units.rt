@@ -53,6 +53,7 @@ pub extern "C" fn vm_sink_tick(sink: &mut VmSink, event: u64) -> u32
     ensures room { (setup : Setup) (calls : List Call) → Stands setup calls sink.old → room_in sink.new ≡ room_in sink.old }
     ensures same { result ≡ range → sink.new.kept ≡ sink.old.kept }
     ensures in_range { event < 2 ^ 39 → result ≢ range }
+    ensures either { result ≢ ok → result ≢ range → result ≡ memory }
 {
     if event >= 1 << 39 {
         return RANGE;
