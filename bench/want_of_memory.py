@@ -1,7 +1,7 @@
 #!/usr/bin/env python3
 """want_of_memory.py [SCENARIO ..]: runs the built program on each scenario, each time with one more allocation that finds no
 memory: the first, the second, and so on, until a run makes no allocation that fails. Each such run must end with status 6, for
-Memory, and what it wrote must be a front of the transcript. Where no scenario is named, those of examples/ are run, and the stored
+Memory, and what it wrote must be a prefix of the transcript. Where no scenario is named, those of examples/ are run, and the stored
 run of the program.
 
 It is no part of the gate: a contract can't say that memory is found. The allocator of the C library is stood in for by a few lines
@@ -58,7 +58,7 @@ def main() -> int:
             counts = list(pool.map(lambda path: tried(path, allocator), paths))
     for path, count in zip(paths, counts):
         if count is not None:
-            print(f'{path}: {count} allocations refused in turn, each answered with Memory and a front of the transcript')
+            print(f'{path}: {count} allocations refused in turn, each answered with Memory and a prefix of the transcript')
     return 1 if None in counts else 0
 
 

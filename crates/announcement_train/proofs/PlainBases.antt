@@ -1,12 +1,12 @@
--- The plain BASE has a spelling, and takes each index once.
+-- The plain BASE has an encoding, and takes each index once.
 use Rattle.std.proofs.Common.{ℕ, zero, suc, ◌≡◌, ◌+◌, ◌*◌, ◌≤◌, ◌<◌, ◌||◌, true, false, eqb, ltb, cond, List, []}
 use Rattle.std.proofs.Common.{◌∷◌, ◌++◌, map, length, Option, Result, Err, Some, None, refl, sym, ap, ◌∙◌, subst, arith, length-append}
 use Rattle.std.specs.List.{flat_map, list_any, range_with_len}
 use Rattle.std.proofs.lemmas.Bool.{cond-false, le-ltb, ne_eqb}
 use Rattle.std.proofs.lemmas.List.{append-nil}
-use Rattle.bcast_base.specs.Spelling.{number}
+use Rattle.bcast_base.specs.Encoding.{number}
 use Rattle.bcast_base.proofs.Citable.{number-length}
-use Rattle.base_grammar.specs.Layout.{Endpoint, endpoint, lc3, bis_of, entry, indices, spelling, stands_in, subgroup}
+use Rattle.base_grammar.specs.Layout.{Endpoint, endpoint, lc3, bis_of, entry, indices, encoding, stands_in, subgroup}
 use Rattle.base_grammar.specs.Draft.{Refuses, entry_fault, finish_fault, size_fault, with_entry}
 use Rattle.base_grammar.specs.declared.fault.DraftFault.{DraftFault}
 use Rattle.base_grammar.specs.declared.fault.DraftFault.TheVariants.{IndexTwice, Memory, NoBis, TooLong}
@@ -47,8 +47,8 @@ entries_length : (start n : ℕ) → length (flat_map entry (map plain_entry (ra
 entries_length start zero = refl
 entries_length start (suc n) = let rest : length (flat_map entry (map plain_entry (range_with_len (start + 1) n))) ≡ 2 * n = entries_length (start + 1) n in omega arith
 
-spelling_length : (delay n : ℕ) → length (spelling (plain_base_of delay n)) ≡ 12 + 2 * n
-spelling_length delay n = omega (
+encoding_length : (delay n : ℕ) → length (encoding (plain_base_of delay n)) ≡ 12 + 2 * n
+encoding_length delay n = omega (
   arith,
   length-append (number 3 delay) (1 ∷ (subgroup (plain_subgroup n) ++ [])),
   number-length 3 delay,
@@ -62,10 +62,10 @@ entries_count start (suc n) = let rest : length (map plain_entry (range_with_len
 
 pub plain_finishes : (delay n : ℕ) → 1 ≤ n → n ≤ 31 → finish_fault (plain_base_of delay n) ≡ None
 plain_finishes delay n least most =
-    ap (λ fault. size_fault fault (length (spelling (plain_base_of delay n))))
+    ap (λ fault. size_fault fault (length (encoding (plain_base_of delay n))))
     (cond-false (eqb (length (plain_entries n)) 0) (Some NoBis) None (ne_eqb (length (plain_entries n)) 0 (λ none. omega (arith, entries_count 1 n))))
-    ∙ cond-false (ltb 252 (length (spelling (plain_base_of delay n)))) (Some TooLong) None
-    (le-ltb 252 (length (spelling (plain_base_of delay n))) (omega (arith, spelling_length delay n)))
+    ∙ cond-false (ltb 252 (length (encoding (plain_base_of delay n)))) (Some TooLong) None
+    (le-ltb 252 (length (encoding (plain_base_of delay n))) (omega (arith, encoding_length delay n)))
 
 -- the next entry is refused for want of memory alone, and else is put
 pub wants_memory : (v : Endpoint) (delay n bis : ℕ) (fault : DraftFault) → v ≡ plain_base_of delay n → bis ≡ n + 1
@@ -81,5 +81,5 @@ put_is v new delay n bis v_is bis_is new_is =
     ∙ ap (λ b. with_entry (plain_entry b) (plain_base_of delay n)) bis_is
     ∙ ap (λ es. endpoint delay (record { codec = lc3; config = []; metadata = []; entries = es } ∷ [])) (sym (entries_more n))
 
-pub plain_is_small : (delay n : ℕ) → n ≤ 31 → ltb 252 (length (spelling (plain_base_of delay n))) ≡ false
-plain_is_small delay n most = le-ltb 252 (length (spelling (plain_base_of delay n))) (omega (arith, spelling_length delay n))
+pub plain_is_small : (delay n : ℕ) → n ≤ 31 → ltb 252 (length (encoding (plain_base_of delay n))) ≡ false
+plain_is_small delay n most = le-ltb 252 (length (encoding (plain_base_of delay n))) (omega (arith, encoding_length delay n))

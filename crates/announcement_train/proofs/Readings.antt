@@ -3,7 +3,7 @@ use Rattle.std.proofs.Common.{ℕ, ◌≡◌, ◌+◌, ◌*◌, ◌/◌, ◌≤�
 use Rattle.std.proofs.lemmas.Bool.{cond-false, le-ltb}
 use Rattle.std.proofs.lemmas.List.{append-nil, length-drop, take_all}
 use Rattle.std.proofs.lemmas.Nat.{div-mul-add}
-use Rattle.bcast_base.specs.Spelling.{number}
+use Rattle.bcast_base.specs.Encoding.{number}
 use Rattle.ltv_codec.specs.declared.ltvs.Ltv.{Ltv}
 use Rattle.ltv_codec.specs.Layout.{structure}
 use Rattle.ltv_codec.proofs.Citable.{list_read}
@@ -12,14 +12,14 @@ use Rattle.base_grammar.specs.AdReading.{ads_read, ads_of, id_in, id_from, broad
 use Rattle.base_grammar.specs.Layout.{Endpoint, BaseIs}
 use Rattle.big_info.specs.declared.info.BigInfo.{BigInfo}
 use Rattle.big_info.specs.declared.info.Cipher.{Cipher}
-use Rattle.big_info.specs.Layout.{CipherIs, Spells}
+use Rattle.big_info.specs.Layout.{CipherIs, Encodes}
 use Rattle.announcement_train.specs.declared.train.Train.{Train}
 use Rattle.announcement_train.specs.Layout.{IsTrain, announced, basic_audio_announcement, info_ad, service_ad}
 use Rattle.announcement_train.specs.Told.{Tells, TellsBase, TellsInfo}
 
 one_listed : (ad : Ltv) → length ad.value ≤ 254 → ads_of (structure ad) ≡ Ok (ad ∷ [])
 one_listed ad fits =
-    ap (ads_read (structure ad)) (list_read (ad ∷ []) (structure ad) (record { fit = (fits, tt); spelled = sym (append-nil (structure ad)) }))
+    ap (ads_read (structure ad)) (list_read (ad ∷ []) (structure ad) (record { fit = (fits, tt); encoded = sym (append-nil (structure ad)) }))
 
 -- the content behind each UUID
 broadcast_found : (content : List ℕ) → first_service broadcast_audio_announcement (service_ad broadcast_audio_announcement content ∷ []) ≡ Some content
@@ -45,7 +45,7 @@ id_read id three =
     ∙ ap id_in (broadcast_found id) ∙ three_found id three
 
 base_length : (base : Endpoint) (octets : List ℕ) → BaseIs base octets → length octets ≤ 252
-base_length base octets is = omega (arith, ap length is.spelled, is.base.small)
+base_length base octets is = omega (arith, ap length is.encoded, is.base.small)
 
 base_told : (base : Endpoint) (octets : List ℕ) → BaseIs base octets → TellsBase (structure (service_ad basic_audio_announcement octets)) base
 base_told base octets is = record {
@@ -60,11 +60,11 @@ cipher_length : (cipher : Option Cipher) (octets : List ℕ) → CipherIs cipher
 cipher_length None octets is = omega (arith, ap length is)
 cipher_length (Some cipher) octets is = omega (arith, ap length is.2, length-append cipher.giv cipher.gskd, is.0, is.1)
 
-info_length : (info : BigInfo) (rfu : ℕ) (octets : List ℕ) → Spells info rfu octets → length octets ≤ 57
+info_length : (info : BigInfo) (rfu : ℕ) (octets : List ℕ) → Encodes info rfu octets → length octets ≤ 57
 info_length info rfu octets is =
     omega (arith, cipher_length info.cipher (drop 33 octets) is.cipher, length-drop 33 octets)
 
-info_told : (info : BigInfo) (octets : List ℕ) → Spells info 0 octets → TellsInfo (structure (info_ad octets)) info
+info_told : (info : BigInfo) (octets : List ℕ) → Encodes info 0 octets → TellsInfo (structure (info_ad octets)) info
 info_told info octets is = record {
   ads = info_ad octets ∷ [];
   list = one_listed (info_ad octets) (omega (arith, info_length info 0 octets is));

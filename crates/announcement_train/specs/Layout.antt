@@ -4,13 +4,13 @@
 -- tells of, with the BIG_Offset in units of 30 µs, and what stands in SeedAccessAddress, BaseCRCInit and ChM, is this
 -- project's own.
 use Rattle.std.specs.Prelude.{ℕ, ◌+◌, ◌-◌, ◌*◌, ◌^◌, ◌≡◌, ◌==◌, List, ◌++◌, length, if◌then◌else◌}
-use Rattle.bcast_base.specs.Spelling.{number}
+use Rattle.bcast_base.specs.Encoding.{number}
 use Rattle.ltv_codec.specs.declared.ltvs.Ltv.{Ltv}
 use Rattle.ltv_codec.specs.Layout.{structure}
 use Rattle.base_grammar.specs.Ad.{service_data_type, broadcast_audio_announcement}
 use Rattle.base_grammar.specs.Layout.{Endpoint, BaseIs}
 use Rattle.big_info.specs.declared.info.BigInfo.{BigInfo}
-use Rattle.big_info.specs.Layout.{Spells}
+use Rattle.big_info.specs.Layout.{Encodes}
 use Rattle.announcement_train.specs.declared.train.Train.{Train}
 
 -- the UUID of the Basic Audio Announcement Service
@@ -56,5 +56,5 @@ pub record IsTrain (broadcast_id : List ℕ) (base : Endpoint) (info : BigInfo) 
   pub base_is : BaseIs base base_octets
   pub adv : train.adv ≡ structure (service_ad basic_audio_announcement base_octets)
   pub info_octets : List ℕ
-  pub info_is : Spells (announced info event) 0 info_octets
+  pub info_is : Encodes (announced info event) 0 info_octets
   pub acad : train.acad ≡ structure (info_ad info_octets)

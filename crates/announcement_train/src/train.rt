@@ -1,6 +1,6 @@
 ghost use Rattle.std.specs.Prelude.{◌≡◌, ◌≤◌, ◌<◌, ◌*◌, ◌^◌, ℕ, List, length, IfOk};
 ghost use Rattle.ltv_codec.specs.Layout.{structure};
-ghost use Rattle.big_info.specs.Layout.{Spells};
+ghost use Rattle.big_info.specs.Layout.{Encodes};
 ghost use Rattle.big_info.specs.Widths.{FitsWidths};
 ghost use Rattle.announcement_train.specs.Layout.{IsTrain, announced, info_ad, lead, service_ad};
 
@@ -78,8 +78,8 @@ fn service_list(alloc: Global, uuid: u16, content: &[u8]) -> Result<Octets, Memo
 fn info_list(alloc: Global, info: &BigInfo, event: u64) -> Result<Octets, Memory>
     requires widths { FitsWidths info.now }
     requires count { event * info.now.bn < 2 ^ 39 }
-    ensures { IfOk result (λ octets. (spelled : List ℕ) × Spells (announced info.now event) 0 spelled
-        × (octets ≡ structure (info_ad spelled))) }
+    ensures { IfOk result (λ octets. (encoded : List ℕ) × Encodes (announced info.now event) 0 encoded
+        × (octets ≡ structure (info_ad encoded))) }
 {
     let mut octets = [0u8; 57];
     let count = encode_big_info(&announced_info(info, event), &mut octets);

@@ -6,8 +6,8 @@ use Rattle.std.specs.List.{AllByRecursion}
 use Rattle.std.proofs.lemmas.Bool.{false≢true, leb-false}
 use Rattle.assistant_machine.specs.Cuts.{asks}
 use Rattle.receive_state.specs.Cuts.{cut}
-use Rattle.assistant_machine.specs.Links.{Act, made, told, served, joined, forged, Language, Notice, Agrees, AreFounded, AreReadBack, IsReadBack}
-use Rattle.assistant_machine.specs.Links.{delivered_of, first_asked, first_told, if_its, is_forged, notices_of, value_of, view_of, waiting_of, waits_of}
+use Rattle.assistant_machine.specs.Links.{Act, made, notified, served, joined, forged, Language, Notice, Agrees, AreFounded, AreReadBack, IsReadBack}
+use Rattle.assistant_machine.specs.Links.{delivered_of, first_asked, first_notified, if_its, is_forged, notices_of, value_of, view_of, waiting_of, waits_of}
 
 -- the value that the last notice of a slot carries
 abbrev last_for : {V : Type 0} → ℕ → List (Notice V) → Option V
@@ -45,7 +45,7 @@ delivered_within [] founded = omega arith
 delivered_within (made slot value ∷ earlier) founded =
     let h : delivered_of earlier ≤ length (notices_of earlier) = delivered_within earlier founded in
     subst (λ n. delivered_of earlier ≤ n) (sym (length-append (notices_of earlier) (record { slot = slot; value = value } ∷ []))) (omega (arith, h))
-delivered_within (told ∷ earlier) founded = founded.1
+delivered_within (notified ∷ earlier) founded = founded.1
 delivered_within (served slot ∷ earlier) founded = delivered_within earlier founded
 delivered_within (joined ∷ earlier) founded = omega arith
 delivered_within (forged slot octets ∷ earlier) founded = delivered_within earlier founded
@@ -56,16 +56,16 @@ drop_more (suc n) [] x h = absurd (omega arith)
 drop_more (suc n) (y ∷ xs) x h = drop_more n xs x (omega arith)
 
 -- the first of those that wait, and the rest
-record Front {A : Type 0} (n : ℕ) (xs : List A) : Type 0 where
+record Prefix {A : Type 0} (n : ℕ) (xs : List A) : Type 0 where
   first : A
   rest : List A
   is : drop n xs ≡ first ∷ rest
   behind : drop (suc n) xs ≡ rest
 
-front : {A : Type 0} (n : ℕ) (xs : List A) → n < length xs → Front n xs
-front n [] h = absurd (omega arith)
-front zero (x ∷ xs) h = record { first = x; rest = xs; is = refl; behind = refl }
-front (suc n) (x ∷ xs) h = let f : Front n xs = front n xs (omega arith) in record { first = f.first; rest = f.rest; is = f.is; behind = f.behind }
+prefix : {A : Type 0} (n : ℕ) (xs : List A) → n < length xs → Prefix n xs
+prefix n [] h = absurd (omega arith)
+prefix zero (x ∷ xs) h = record { first = x; rest = xs; is = refl; behind = refl }
+prefix (suc n) (x ∷ xs) h = let f : Prefix n xs = prefix n xs (omega arith) in record { first = f.first; rest = f.rest; is = f.is; behind = f.behind }
 
 -- ---- values that are read back
 
@@ -79,7 +79,7 @@ value_back : {V : Type 0} (language : Language V) (slot : ℕ) (acts : List (Act
 value_back language slot [] back = back
 value_back language slot (made at value ∷ earlier) back =
     chosen_back language (at == slot) value (value_of language slot earlier) back.0 (value_back language slot earlier back.1)
-value_back language slot (told ∷ earlier) back = value_back language slot earlier back
+value_back language slot (notified ∷ earlier) back = value_back language slot earlier back
 value_back language slot (served at ∷ earlier) back = value_back language slot earlier back
 value_back language slot (joined ∷ earlier) back = value_back language slot earlier back
 value_back language slot (forged at octets ∷ earlier) back = value_back language slot earlier back
@@ -112,35 +112,35 @@ made_settled true waits new old view before is e f = absurd (no_some new e)
 made_settled false waits new old view before is e f = is e f
 
 told_settled : {V : Type 0} (language : Language V) (slot : ℕ) (notice : Notice V) (b q waits : Bool) (view value : V)
-    → (asks language.mtu (cut language.mtu (language.spell notice.value)) ≡ q) → IsReadBack language value
+    → (asks language.mtu (cut language.mtu (language.encode notice.value)) ≡ q) → IsReadBack language value
     → ((if b then Some notice.value else None) ≡ Some notice.value → notice.value ≡ value)
     → ((if b then Some notice.value else None) ≡ None → waits ≡ false → view ≡ value)
     → unwrap_or (if_its (b && q) (Some true)) waits ≡ false
-    → unwrap_or (if_its (b && not q) (language.reading (cut language.mtu (language.spell notice.value)))) view ≡ value
+    → unwrap_or (if_its (b && not q) (language.reading (cut language.mtu (language.encode notice.value)))) view ≡ value
 told_settled language slot notice false q waits view value is back carries none quiet = none refl quiet
 told_settled language slot notice true true waits view value is back carries none quiet = absurd (false≢true (sym quiet))
 told_settled language slot notice true false waits view value is back carries none quiet =
-    let whole : cut language.mtu (language.spell notice.value) ≡ language.spell notice.value = uncut language.mtu (language.spell notice.value) is in
+    let whole : cut language.mtu (language.encode notice.value) ≡ language.encode notice.value = uncut language.mtu (language.encode notice.value) is in
     let same : notice.value ≡ value = carries refl in
-    ap (λ o. unwrap_or o view) (ap language.reading whole ∙ ap (λ v. language.reading (language.spell v)) same ∙ back)
+    ap (λ o. unwrap_or o view) (ap language.reading whole ∙ ap (λ v. language.reading (language.encode v)) same ∙ back)
 
 served_settled : {V : Type 0} (language : Language V) (b waits : Bool) (view value : V) (before : Option V) → IsReadBack language value
     → (before ≡ None → waits ≡ false → view ≡ value)
     → before ≡ None → unwrap_or (if_its b (Some false)) waits ≡ false
-    → unwrap_or (if_its b (language.reading (language.spell value))) view ≡ value
+    → unwrap_or (if_its b (language.reading (language.encode value))) view ≡ value
 served_settled language true waits view value before back is none quiet = ap (λ o. unwrap_or o view) back
 served_settled language false waits view value before back is none quiet = is none quiet
 
 told_is : {V : Type 0} (language : Language V) (slot : ℕ) (notice : Notice V) (rest waiting : List (Notice V)) (waits : Bool) (view value : V)
     → waiting ≡ notice ∷ rest → IsReadBack language value → IsSettled slot (notice ∷ rest) waits view value
-    → IsSettled slot rest (unwrap_or (first_asked language slot waiting) waits) (unwrap_or (first_told language slot waiting) view) value
+    → IsSettled slot rest (unwrap_or (first_asked language slot waiting) waits) (unwrap_or (first_notified language slot waiting) view) value
 told_is language slot notice rest waiting waits view value is back s =
-    let P : List (Notice _) → Type 0 = λ waiting. IsSettled slot rest (unwrap_or (first_asked language slot waiting) waits) (unwrap_or (first_told language slot waiting) view) value in
+    let P : List (Notice _) → Type 0 = λ waiting. IsSettled slot rest (unwrap_or (first_asked language slot waiting) waits) (unwrap_or (first_notified language slot waiting) view) value in
     let here : Option _ = if notice.slot == slot then Some notice.value else None in
     subst P (sym is) (record {
       last = λ carried e. s.last carried (ap (λ o. option_or o here) e);
       settled = λ none quiet.
-          told_settled language slot notice (notice.slot == slot) (asks language.mtu (cut language.mtu (language.spell notice.value))) waits view value refl back
+          told_settled language slot notice (notice.slot == slot) (asks language.mtu (cut language.mtu (language.encode notice.value))) waits view value refl back
           (λ e. s.last notice.value (ap (λ o. option_or o here) none ∙ e))
           (λ e. s.settled (ap (λ o. option_or o here) none ∙ e)) quiet;
     })
@@ -160,15 +160,15 @@ settles language slot (made at value ∷ earlier) founded back plain =
       settled = λ none quiet. made_settled (at == slot) (waits_of language slot earlier) value (value_of language slot earlier) (view_of language slot earlier)
           (last_for slot (waiting_of earlier)) s.settled (sym is ∙ none) quiet;
     }
-settles language slot (told ∷ earlier) founded back plain =
-    let f : Front (delivered_of earlier) (notices_of earlier) = front (delivered_of earlier) (notices_of earlier) founded.1 in
+settles language slot (notified ∷ earlier) founded back plain =
+    let f : Prefix (delivered_of earlier) (notices_of earlier) = prefix (delivered_of earlier) (notices_of earlier) founded.1 in
     let s = settles language slot earlier founded.0 back plain in
     let waits : Bool = waits_of language slot earlier in
     let view = view_of language slot earlier in
     let value = value_of language slot earlier in
     let S : List (Notice _) → Type 0 = λ waiting. IsSettled slot waiting waits view value in
     let R : List (Notice _) → Type 0 = λ rest.
-    IsSettled slot rest (unwrap_or (first_asked language slot (waiting_of earlier)) waits) (unwrap_or (first_told language slot (waiting_of earlier)) view) value in
+    IsSettled slot rest (unwrap_or (first_asked language slot (waiting_of earlier)) waits) (unwrap_or (first_notified language slot (waiting_of earlier)) view) value in
     subst R (sym f.behind)
     (told_is language slot f.first f.rest (waiting_of earlier) waits view value f.is (value_back language slot earlier back) (subst S f.is s))
 settles language slot (served at ∷ earlier) founded back plain =

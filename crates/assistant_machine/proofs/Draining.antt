@@ -4,7 +4,7 @@ use Rattle.std.specs.Prelude.{◌==◌, unwrap_or}
 use Rattle.std.specs.List.{AllByRecursion, filter, range_with_len}
 use Rattle.std.proofs.lemmas.Bool.{cases_eq, eq-eqb}
 use Rattle.assistant_machine.specs.Links.{Act, served, Language, Notice, AreFounded, AreReadBack}
-use Rattle.assistant_machine.specs.Links.{delivered_of, drained, if_its, is_forged, notices_of, reads_of, serve_all, tell_all, told_out, value_of, view_of, waiting_of, waits_of}
+use Rattle.assistant_machine.specs.Links.{delivered_of, drained, if_its, is_forged, notices_of, reads_of, serve_all, tell_all, notified_out, value_of, view_of, waiting_of, waits_of}
 use Rattle.assistant_machine.proofs.Agreement.{agrees, delivered_within}
 
 -- ---- notices
@@ -44,7 +44,7 @@ drop_all zero (x ∷ xs) h = absurd (omega arith)
 drop_all (suc n) [] h = refl
 drop_all (suc n) (x ∷ xs) h = drop_all n xs (omega arith)
 
-none_waits_then : {V : Type 0} (acts : List (Act V)) → AreFounded acts → waiting_of (told_out acts) ≡ []
+none_waits_then : {V : Type 0} (acts : List (Act V)) → AreFounded acts → waiting_of (notified_out acts) ≡ []
 none_waits_then acts founded =
     let n : ℕ = length (waiting_of acts) in
     let l : n ≡ length (notices_of acts) - delivered_of acts = length-drop (delivered_of acts) (notices_of acts) in
@@ -114,7 +114,7 @@ drained_agrees language slots slot acts below founded back plain =
     let n : ℕ = length (waiting_of acts) in
     let l : n ≡ length (notices_of acts) - delivered_of acts = length-drop (delivered_of acts) (notices_of acts) in
     let h : delivered_of acts ≤ length (notices_of acts) = delivered_within acts founded in
-    let out = told_out acts in
+    let out = notified_out acts in
     let reads : List ℕ = reads_of language slots out in
     let P : List (Notice _) → Type 0 = λ waiting. AllByRecursion (λ notice. (notice.slot == slot) ≡ false) waiting in
     agrees language slot (serve_all reads out)

@@ -6,7 +6,7 @@ use Rattle.std.proofs.lemmas.Bool.{cases_eq, eq-eqb, ltb-false, ltb-true, ne_eqb
 use Rattle.std.proofs.lemmas.List.{length-set}
 use Rattle.std.proofs.lemmas.Option.{slice_get_within}
 use Rattle.receive_state.specs.declared.state.ReceiveState.{ReceiveState}
-use Rattle.assistant_machine.specs.Calls.{Call, limited, put, sent, told, all_asked, asked, read, mtu_of, sent_of, writes_of}
+use Rattle.assistant_machine.specs.Calls.{Call, limited, put, sent, notified, all_asked, asked, read, mtu_of, sent_of, writes_of}
 use Rattle.assistant_machine.specs.Cuts.{asks}
 use Rattle.assistant_machine.specs.Views.{if_slot, reading_of, view_of, waits_of}
 use Rattle.assistant_machine.specs.State.Assistants.{Assistant, IsLowest, StandsFor, after_notice, after_read, joined, with_read, with_reading, with_write}
@@ -153,13 +153,13 @@ sent_stands slots write rest calls a some s = record {
 -- ---- a value that was told or read
 
 view_told : (slot at : ℕ) (value : List ℕ) (calls : List Call) (q : Bool) (r : Option (Option ReceiveState)) → asks (mtu_of calls) value ≡ q
-    → reading_of value ≡ r → unwrap_or (if_slot ((at == slot) && not q) r) (view_of slot calls) ≡ view_of slot (told at value ∷ calls)
+    → reading_of value ≡ r → unwrap_or (if_slot ((at == slot) && not q) r) (view_of slot calls) ≡ view_of slot (notified at value ∷ calls)
 view_told slot at value calls q r e f =
     ap (λ (q : Bool). unwrap_or (if_slot ((at == slot) && not q) r) (view_of slot calls)) (sym e)
     ∙ ap (λ r. unwrap_or (if_slot ((at == slot) && not (asks (mtu_of calls) value)) r) (view_of slot calls)) (sym f)
 
 waits_told : (slot at : ℕ) (value : List ℕ) (calls : List Call) (q : Bool) → asks (mtu_of calls) value ≡ q
-    → unwrap_or (if_slot ((at == slot) && q) (Some true)) (waits_of slot calls) ≡ waits_of slot (told at value ∷ calls)
+    → unwrap_or (if_slot ((at == slot) && q) (Some true)) (waits_of slot calls) ≡ waits_of slot (notified at value ∷ calls)
 waits_told slot at value calls q e =
     ap (λ (q : Bool). unwrap_or (if_slot ((at == slot) && q) (Some true)) (waits_of slot calls)) (sym e)
 
@@ -172,7 +172,7 @@ elsewhere slots at slot past below = ne_eqb at slot (λ e. omega arith)
 
 -- the value asks, and the slot is there
 pub asking_stands : (slots at : ℕ) (value : List ℕ) (calls : List Call) (a : Assistant) → asks a.mtu value ≡ true → at < length a.views
-    → StandsFor slots calls a → StandsFor slots (told at value ∷ calls) (with_read at a)
+    → StandsFor slots calls a → StandsFor slots (notified at value ∷ calls) (with_read at a)
 asking_stands slots at value calls a e within s =
     let e' : asks (mtu_of calls) value ≡ true = ap (λ mtu. asks mtu value) (sym s.mtu) ∙ e in
     let inside : at < length a.reads = subst (λ n. at < n) (s.views_count ∙ sym s.reads_count) within in record {
@@ -189,7 +189,7 @@ asking_stands slots at value calls a e within s =
 
 -- the value tells, and the slot is there
 pub telling_stands : (slots at : ℕ) (value : List ℕ) (calls : List Call) (a : Assistant) (r : Option (Option ReceiveState)) → asks a.mtu value ≡ false
-    → reading_of value ≡ r → at < length a.views → StandsFor slots calls a → StandsFor slots (told at value ∷ calls) (with_reading at r a)
+    → reading_of value ≡ r → at < length a.views → StandsFor slots calls a → StandsFor slots (notified at value ∷ calls) (with_reading at r a)
 telling_stands slots at value calls a None e f within s =
     let e' : asks (mtu_of calls) value ≡ false = ap (λ mtu. asks mtu value) (sym s.mtu) ∙ e in record {
       views_count = s.views_count;
@@ -217,7 +217,7 @@ telling_stands slots at value calls a (Some view) e f within s =
 
 -- the value of no slot
 pub nowhere_stands : (slots at : ℕ) (value : List ℕ) (calls : List Call) (a : Assistant) → length a.views ≤ at → StandsFor slots calls a
-    → StandsFor slots (told at value ∷ calls) a
+    → StandsFor slots (notified at value ∷ calls) a
 nowhere_stands slots at value calls a past s =
     let past' : slots ≤ at = subst (λ n. n ≤ at) s.views_count past in record {
       views_count = s.views_count;
@@ -278,9 +278,9 @@ by_there true there not_there P is isnt = is refl
 by_there false there not_there P is isnt = isnt refl
 
 pub notice_stands : (slots at : ℕ) (value : List ℕ) (calls : List Call) (a : Assistant) → StandsFor slots calls a
-    → StandsFor slots (told at value ∷ calls) (after_notice at value a)
+    → StandsFor slots (notified at value ∷ calls) (after_notice at value a)
 notice_stands slots at value calls a s =
-    let P : Assistant → Type 0 = λ a. StandsFor slots (told at value ∷ calls) a in
+    let P : Assistant → Type 0 = λ a. StandsFor slots (notified at value ∷ calls) a in
     let t : Bool = nat_lt at (length a.views) in
     by_there (asks a.mtu value) (if t then with_read at a else a) (after_read at value a) P
     (λ e. by_there t (with_read at a) a P (λ h. asking_stands slots at value calls a e (ltb-true at (length a.views) h) s)

@@ -6,7 +6,7 @@ pub data Call : Type 0 where
   limited : (mtu : ℕ) → Call  -- from now on a notice is cut to MTU - 3 octets
   put : (octets : List ℕ) → Call  -- a write is put behind those that wait
   sent : Call  -- the first write that waits is sent
-  told : (slot : ℕ) (value : List ℕ) → Call  -- a notice of a slot comes with this value
+  notified : (slot : ℕ) (value : List ℕ) → Call  -- a notice of a slot comes with this value
   all_asked : Call  -- a read of each slot is wanted
   asked : (slot : ℕ) → Call  -- the read of a slot that was wanted is made
   read : (slot : ℕ) (value : List ℕ) → Call  -- a read of a slot gives this value

@@ -6,16 +6,16 @@ use Rattle.std.specs.List.{AllByRecursion, filter, range_with_len}
 use Rattle.assistant_machine.specs.Cuts.{asks}
 use Rattle.receive_state.specs.Cuts.{cut}
 
--- how values are spelled and read, the value that a slot has before any other, and the MTU of the link, where it has one
+-- how values are encoded and read, the value that a slot has before any other, and the MTU of the link, where it has one
 pub record Language (V : Type 0) : Type 0 where
-  pub spell : V → List ℕ
+  pub encode : V → List ℕ
   pub reading : List ℕ → Option V
   pub empty : V
   pub mtu : Option ℕ
 
 pub data Act (V : Type 0) : Type 0 where
   made : (slot : ℕ) (value : V) → Act V  -- a slot has a new value, which is to be told
-  told : Act V  -- the first notice that waits is delivered
+  notified : Act V  -- the first notice that waits is delivered
   served : (slot : ℕ) → Act V  -- a read of a slot is served
   joined : Act V  -- the link is joined anew
   forged : (slot : ℕ) (octets : List ℕ) → Act V  -- a notice comes that no server sent
@@ -47,7 +47,7 @@ notices_of (_ ∷ earlier) = notices_of earlier
 -- how many of them were delivered
 abbrev pub delivered_of : {V : Type 0} → List (Act V) → ℕ
 delivered_of [] = 0
-delivered_of (told ∷ earlier) = suc (delivered_of earlier)
+delivered_of (notified ∷ earlier) = suc (delivered_of earlier)
 delivered_of (joined ∷ earlier) = 0
 delivered_of (_ ∷ earlier) = delivered_of earlier
 
@@ -58,7 +58,7 @@ waiting_of acts = drop (delivered_of acts) (notices_of acts)
 -- a notice is delivered only where one waits
 abbrev pub AreFounded : {V : Type 0} → List (Act V) → Type 0
 AreFounded [] = Unit {0}
-AreFounded (told ∷ earlier) = AreFounded earlier × (delivered_of earlier < length (notices_of earlier))
+AreFounded (notified ∷ earlier) = AreFounded earlier × (delivered_of earlier < length (notices_of earlier))
 AreFounded (_ ∷ earlier) = AreFounded earlier
 
 -- ---- the client
@@ -71,14 +71,14 @@ if_its false given = None
 abbrev pub told_by : {V : Type 0} → Language V → ℕ → ℕ → List ℕ → Option V
 told_by language slot at octets = if_its ((at == slot) && not (asks language.mtu octets)) (language.reading octets)
 
-abbrev pub first_told : {V : Type 0} → Language V → ℕ → List (Notice V) → Option V
-first_told language slot [] = None
-first_told language slot (notice ∷ rest) = told_by language slot notice.slot (cut language.mtu (language.spell notice.value))
+abbrev pub first_notified : {V : Type 0} → Language V → ℕ → List (Notice V) → Option V
+first_notified language slot [] = None
+first_notified language slot (notice ∷ rest) = told_by language slot notice.slot (cut language.mtu (language.encode notice.value))
 
 abbrev pub view_given : {V : Type 0} → Language V → ℕ → Act V → List (Act V) → Option V
 view_given language slot (made at value) earlier = None
-view_given language slot told earlier = first_told language slot (waiting_of earlier)
-view_given language slot (served at) earlier = if_its (at == slot) (language.reading (language.spell (value_of language slot earlier)))
+view_given language slot notified earlier = first_notified language slot (waiting_of earlier)
+view_given language slot (served at) earlier = if_its (at == slot) (language.reading (language.encode (value_of language slot earlier)))
 view_given language slot joined earlier = Some language.empty
 view_given language slot (forged at octets) earlier = told_by language slot at octets
 
@@ -93,11 +93,11 @@ asked_by language slot at octets = if_its ((at == slot) && asks language.mtu oct
 
 abbrev pub first_asked : {V : Type 0} → Language V → ℕ → List (Notice V) → Option Bool
 first_asked language slot [] = None
-first_asked language slot (notice ∷ rest) = asked_by language slot notice.slot (cut language.mtu (language.spell notice.value))
+first_asked language slot (notice ∷ rest) = asked_by language slot notice.slot (cut language.mtu (language.encode notice.value))
 
 abbrev pub wait_given : {V : Type 0} → Language V → ℕ → Act V → List (Act V) → Option Bool
 wait_given language slot (made at value) earlier = None
-wait_given language slot told earlier = first_asked language slot (waiting_of earlier)
+wait_given language slot notified earlier = first_asked language slot (waiting_of earlier)
 wait_given language slot (served at) earlier = if_its (at == slot) (Some false)
 wait_given language slot joined earlier = Some true
 wait_given language slot (forged at octets) earlier = asked_by language slot at octets
@@ -116,9 +116,9 @@ is_forged (joined ∷ earlier) = false
 is_forged (forged slot octets ∷ earlier) = true
 is_forged (_ ∷ earlier) = is_forged earlier
 
--- each value that a slot had is read as it was spelled
+-- each value that a slot had is read as it was encoded
 abbrev pub IsReadBack : {V : Type 0} → Language V → V → Type 0
-IsReadBack language value = language.reading (language.spell value) ≡ Some value
+IsReadBack language value = language.reading (language.encode value) ≡ Some value
 
 abbrev pub AreReadBack : {V : Type 0} → Language V → List (Act V) → Type 0
 AreReadBack language [] = IsReadBack language language.empty
@@ -136,7 +136,7 @@ Agrees language slot acts = NoneWaits slot acts → waits_of language slot acts 
 -- so many notices are delivered
 abbrev pub tell_all : {V : Type 0} → ℕ → List (Act V) → List (Act V)
 tell_all zero acts = acts
-tell_all (suc count) acts = told ∷ tell_all count acts
+tell_all (suc count) acts = notified ∷ tell_all count acts
 
 -- reads of these slots are served
 abbrev pub serve_all : {V : Type 0} → List ℕ → List (Act V) → List (Act V)
@@ -148,9 +148,9 @@ abbrev pub reads_of : {V : Type 0} → Language V → ℕ → List (Act V) → L
 reads_of language slots acts = filter (λ slot. waits_of language slot acts) (range_with_len 0 slots)
 
 -- all notices that wait are delivered in order
-abbrev pub told_out : {V : Type 0} → List (Act V) → List (Act V)
-told_out acts = tell_all (length (waiting_of acts)) acts
+abbrev pub notified_out : {V : Type 0} → List (Act V) → List (Act V)
+notified_out acts = tell_all (length (waiting_of acts)) acts
 
 -- and then all reads that wait are served
 abbrev pub drained : {V : Type 0} → Language V → ℕ → List (Act V) → List (Act V)
-drained language slots acts = serve_all (reads_of language slots (told_out acts)) (told_out acts)
+drained language slots acts = serve_all (reads_of language slots (notified_out acts)) (notified_out acts)

@@ -5,7 +5,7 @@ use Rattle.assistant_machine.specs.Cuts.{asks}
 use Rattle.receive_state.specs.Reading.{state_of}
 use Rattle.receive_state.specs.declared.fault.StateFault.{StateFault}
 use Rattle.receive_state.specs.declared.state.ReceiveState.{ReceiveState}
-use Rattle.assistant_machine.specs.Calls.{Call, told, all_asked, asked, read, mtu_of}
+use Rattle.assistant_machine.specs.Calls.{Call, notified, all_asked, asked, read, mtu_of}
 
 -- what a slot has, where the octets are a value: a state, or no source
 abbrev pub told_of : Result (Option ReceiveState) StateFault → Option (Option ReceiveState)
@@ -21,7 +21,7 @@ if_slot false given = None
 
 -- what a call after these gives as the view of a slot
 abbrev pub view_given : ℕ → Call → List Call → Option (Option ReceiveState)
-view_given slot (told at value) earlier = if_slot ((at == slot) && not (asks (mtu_of earlier) value)) (reading_of value)
+view_given slot (notified at value) earlier = if_slot ((at == slot) && not (asks (mtu_of earlier) value)) (reading_of value)
 view_given slot (read at value) earlier = if_slot (at == slot) (reading_of value)
 view_given slot _ earlier = None
 
@@ -32,7 +32,7 @@ view_of slot (call ∷ earlier) = unwrap_or (view_given slot call earlier) (view
 
 -- what a call after these says of whether a read of a slot is wanted
 abbrev pub want_given : ℕ → Call → List Call → Option Bool
-want_given slot (told at value) earlier = if_slot ((at == slot) && asks (mtu_of earlier) value) (Some true)
+want_given slot (notified at value) earlier = if_slot ((at == slot) && asks (mtu_of earlier) value) (Some true)
 want_given slot all_asked earlier = Some true
 want_given slot (asked at) earlier = if_slot (at == slot) (Some false)
 want_given slot _ earlier = None

@@ -2,17 +2,17 @@ ghost use Rattle.std.specs.Prelude.{All, ℕ, ◌≡◌, ◌≢◌, ◌≤◌, �
 ghost use Rattle.std.specs.Prelude.{false, length, replicate, drop, slice_get, slice_set, slice_index_or, option_copied};
 ghost use Rattle.std.specs.Prelude.{option_to_list, Option, Some, None, List, ◌++◌, Ok, Err};
 ghost use Rattle.std.specs.Prelude.{IfOk, IfErr, IfSome, IfNone, OnSome, OnOk, OnErr};
-ghost use Rattle.bass_operations.specs.Layout.{MetadataFits, spelling, wishes_of};
+ghost use Rattle.bass_operations.specs.Layout.{MetadataFits, encoding, wishes_of};
 ghost use Rattle.receive_state.specs.Faults.{IsFault};
-ghost use Rattle.receive_state.specs.Layout.{HasSpelling};
+ghost use Rattle.receive_state.specs.Layout.{HasEncoding};
 ghost use Rattle.receive_state.specs.Reading.{state_of};
 ghost use Rattle.receive_state.specs.declared.fault.StateFault.TheVariants as state_faults;
 ghost use Rattle.bass_operations.specs.declared.operation.Operation.TheVariants as operations;
 ghost use Rattle.assistant_machine.specs.Answers.{IsCause, answer_of, by_reading};
-ghost use Rattle.assistant_machine.specs.Calls.{Call, limited, put, sent, told, all_asked, asked, read as gives};
+ghost use Rattle.assistant_machine.specs.Calls.{Call, limited, put, sent, notified, all_asked, asked, read as gives};
 ghost use Rattle.assistant_machine.specs.Cuts.{asks};
 ghost use Rattle.assistant_machine.specs.Views.{reading_of, view_of};
-ghost use Rattle.assistant_machine.specs.State.Assistants.{IsLowest, IsSpelledView, NoneWaits, StandsFor, after_notice};
+ghost use Rattle.assistant_machine.specs.State.Assistants.{IsLowest, IsEncodedView, NoneWaits, StandsFor, after_notice};
 ghost use Rattle.assistant_machine.specs.State.Assistants.{after_read, joined, with_reading, with_write};
 ghost use Rattle.assistant_machine.specs.declared.fault.NoticeTaken.TheVariants.{View};
 ghost use Rattle.assistant_machine.specs.declared.fault.NoticeFault.TheVariants.{Memory as NoMemory};
@@ -83,9 +83,9 @@ impl AssistJoined {
     #[tactic(auto, using(crate::proofs::Standing::put_stands))]
     pub fn add(&mut self, op: AddSource) -> Result<(), Memory>
         requires { MetadataFits op.wishes }
-        ensures ok { OnOk result (self.new ≡ with_write (spelling (operations.Add op)) self.old) }
+        ensures ok { OnOk result (self.new ≡ with_write (encoding (operations.Add op)) self.old) }
         ensures stands { OnOk result ((slots : ℕ) (calls : List Call) → StandsFor slots calls self.old
-            → StandsFor slots (put (spelling (operations.Add op)) ∷ calls) self.new) }
+            → StandsFor slots (put (encoding (operations.Add op)) ∷ calls) self.new) }
         ensures err { OnErr result (self.new ≡ self.old) }
     {
         self.put_operation(&Operation::Add(op))
@@ -95,9 +95,9 @@ impl AssistJoined {
     #[tactic(auto, using(crate::proofs::Standing::put_stands))]
     pub fn modify(&mut self, op: ModifySource) -> Result<(), Memory>
         requires { MetadataFits op.wishes }
-        ensures ok { OnOk result (self.new ≡ with_write (spelling (operations.Modify op)) self.old) }
+        ensures ok { OnOk result (self.new ≡ with_write (encoding (operations.Modify op)) self.old) }
         ensures stands { OnOk result ((slots : ℕ) (calls : List Call) → StandsFor slots calls self.old
-            → StandsFor slots (put (spelling (operations.Modify op)) ∷ calls) self.new) }
+            → StandsFor slots (put (encoding (operations.Modify op)) ∷ calls) self.new) }
         ensures err { OnErr result (self.new ≡ self.old) }
     {
         self.put_operation(&Operation::Modify(op))
@@ -106,9 +106,9 @@ impl AssistJoined {
     /// A Remove Source waits as the last write.
     #[tactic(auto, using(crate::proofs::Standing::put_stands))]
     pub fn remove(&mut self, source_id: u8) -> Result<(), Memory>
-        ensures ok { OnOk result (self.new ≡ with_write (spelling (operations.Remove source_id)) self.old) }
+        ensures ok { OnOk result (self.new ≡ with_write (encoding (operations.Remove source_id)) self.old) }
         ensures stands { OnOk result ((slots : ℕ) (calls : List Call) → StandsFor slots calls self.old
-            → StandsFor slots (put (spelling (operations.Remove source_id)) ∷ calls) self.new) }
+            → StandsFor slots (put (encoding (operations.Remove source_id)) ∷ calls) self.new) }
         ensures err { OnErr result (self.new ≡ self.old) }
     {
         self.put_operation(&Operation::Remove { source_id })
@@ -117,9 +117,9 @@ impl AssistJoined {
     /// A Set Broadcast_Code waits as the last write.
     #[tactic(auto, using(crate::proofs::Standing::put_stands))]
     pub fn code(&mut self, source_id: u8, code: [u8; 16]) -> Result<(), Memory>
-        ensures ok { OnOk result (self.new ≡ with_write (spelling (operations.Code source_id code)) self.old) }
+        ensures ok { OnOk result (self.new ≡ with_write (encoding (operations.Code source_id code)) self.old) }
         ensures stands { OnOk result ((slots : ℕ) (calls : List Call) → StandsFor slots calls self.old
-            → StandsFor slots (put (spelling (operations.Code source_id code)) ∷ calls) self.new) }
+            → StandsFor slots (put (encoding (operations.Code source_id code)) ∷ calls) self.new) }
         ensures err { OnErr result (self.new ≡ self.old) }
     {
         self.put_operation(&Operation::Code { source_id, code })
@@ -165,7 +165,7 @@ impl AssistJoined {
         ensures write { IfSome result (λ write. slice_get self.now.writes 0 ≡ Some write.now) }
         ensures none { IfNone result (self.now.writes ≡ []) }
     {
-        Some(self.writes.front()?.as_slice())
+        Some(self.writes.prefix()?.as_slice())
     }
 
     /// Takes a notice of a slot. Where an MTU is set and the value has at least MTU - 3 octets, it may have been cut: a read
@@ -180,7 +180,7 @@ impl AssistJoined {
         ensures step { result ≢ Err NoMemory → self.new ≡ after_notice slot value.now self.old }
         ensures err { OnErr result (self.new ≡ self.old) }
         ensures stands { result ≢ Err NoMemory → (slots : ℕ) (calls : List Call) → StandsFor slots calls self.old
-            → StandsFor slots (told slot value.now ∷ calls) self.new }
+            → StandsFor slots (notified slot value.now ∷ calls) self.new }
     {
         self.hear(slot, value)
     }
@@ -235,7 +235,7 @@ impl AssistJoined {
         ensures view { option_copied result ≡ slice_index_or self.now.views slot None }
         ensures calls { (slots : ℕ) (calls : List Call) → StandsFor slots calls self.now → slot < slots
             → option_copied result ≡ view_of slot calls }
-        ensures spelled { IfSome result (λ state. HasSpelling state.now) }
+        ensures encoded { IfSome result (λ state. HasEncoding state.now) }
     {
         self.views.get(usize::from(slot))?.as_ref()
     }
@@ -305,7 +305,7 @@ impl AssistJoined {
     /// Puts an operation behind the writes that wait.
     fn put_operation(&mut self, op: &Operation) -> Result<(), Memory>
         requires { MetadataFits (wishes_of op.now) }
-        ensures ok { OnOk result (self.new ≡ with_write (spelling op.now) self.old) }
+        ensures ok { OnOk result (self.new ≡ with_write (encoding op.now) self.old) }
         ensures err { OnErr result (self.new ≡ self.old) }
     {
         let octets = encode_operation(self.alloc, op)?;
@@ -339,7 +339,7 @@ impl AssistJoined {
 /// What a slot has by its octets: a state, or no source.
 fn view_in(alloc: Global, value: &[u8]) -> Result<Option<ReceiveState>, NoticeFault>
     ensures ok { IfOk result (λ view. state_of value.now ≡ Ok view) }
-    ensures spelled { IfOk result IsSpelledView }
+    ensures encoded { IfOk result IsEncodedView }
     ensures cause { IfErr result (λ fault. IsCause fault (by_reading (state_of value.now))) }
     ensures memory { result ≡ Err NoMemory → IsFault state_faults.Memory value.now }
 {
@@ -353,7 +353,7 @@ fn view_in(alloc: Global, value: &[u8]) -> Result<Option<ReceiveState>, NoticeFa
 /// Empty views of so many slots, and no read of them that waits.
 fn empty_slots(alloc: Global, slots: u8) -> Result<(Vec<Option<ReceiveState>>, Vec<bool>), Memory>
     ensures views { IfOk result (λ made. made.0.items ≡ replicate slots None) }
-    ensures spelled { IfOk result (λ made. All IsSpelledView made.0.items) }
+    ensures encoded { IfOk result (λ made. All IsEncodedView made.0.items) }
     ensures reads { IfOk result (λ made. made.1.items ≡ replicate slots false) }
 {
     let mut views = Vec::with_capacity(alloc, usize::from(slots))?;

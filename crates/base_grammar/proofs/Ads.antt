@@ -2,7 +2,7 @@
 use Rattle.std.proofs.Common.{◌≡◌, ℕ, List, [], ◌∷◌, ◌++◌, length, take, Result, Ok, Err, refl, sym, ap, ◌∙◌}
 use Rattle.std.specs.Result.{result_unwrap_or}
 use Rattle.std.proofs.lemmas.List.{take_at, append-nil}
-use Rattle.bcast_base.specs.Spelling.{IsOctets}
+use Rattle.bcast_base.specs.Encoding.{IsOctets}
 use Rattle.ltv_codec.specs.declared.fault.LtvBad.{LtvBad}
 use Rattle.ltv_codec.specs.declared.fault.LtvBad.TheVariants.{ZeroLength, Short}
 use Rattle.ltv_codec.specs.declared.ltvs.Ltv.{Ltv}
@@ -38,9 +38,9 @@ stands_end [] h = absurd h
 stands_end (count ∷ ignored) h = h
 
 pub listed_at : (place : ℕ) (octets : List ℕ) → IsBad (ZeroLength place) octets → Listed place octets
-listed_at place octets (ltvs, front, rest, l, there, stands, parts) =
-    let front_is : take place octets ≡ front = ap (take place) parts ∙ take_at front rest place there in
-    record { ltvs = ltvs; left = rest; list = rw front_is l; ends = stands_end rest stands; parts = rw front_is parts }
+listed_at place octets (ltvs, prefix, rest, l, there, stands, parts) =
+    let prefix_is : take place octets ≡ prefix = ap (take place) parts ∙ take_at prefix rest place there in
+    record { ltvs = ltvs; left = rest; list = rw prefix_is l; ends = stands_end rest stands; parts = rw prefix_is parts }
 
 pub listed_read : (place : ℕ) (octets : List ℕ) → IsBad (ZeroLength place) octets → AreLtvs (take place octets)
 listed_read place octets h =
@@ -76,19 +76,19 @@ read_short place octets fits h = short_by place octets (ltvs_of octets) fits ref
 pub short_read : (place : ℕ) (octets : List ℕ) → IsAdShort place octets → ads_of octets ≡ Err place
 short_read place octets h = ap (ads_read octets) (bad_read (Short place) octets h)
 
-ads_read_at : (ads : List Ltv) (octets front : List ℕ) (ignored : List ℕ) → IsLtvList ads front → octets ≡ front ++ 0 ∷ ignored → ads_of octets ≡ Ok ads
-ads_read_at ads octets front ignored l parts =
-    let bad : IsBad (ZeroLength (length front)) octets = (ads, front, 0 ∷ ignored, l, refl, refl, parts) in
-    let front_is : take (length front) octets ≡ front = ap (take (length front)) parts ∙ take_at front (0 ∷ ignored) (length front) refl in
-    ap (ads_read octets) (bad_read (ZeroLength (length front)) octets bad)
-    ∙ ap (λ (os : List ℕ). Ok (ltvs_in os)) front_is
-    ∙ ap (λ (r : Result (List Ltv) LtvBad). Ok (result_unwrap_or r [])) (list_read ads front l)
+ads_read_at : (ads : List Ltv) (octets prefix : List ℕ) (ignored : List ℕ) → IsLtvList ads prefix → octets ≡ prefix ++ 0 ∷ ignored → ads_of octets ≡ Ok ads
+ads_read_at ads octets prefix ignored l parts =
+    let bad : IsBad (ZeroLength (length prefix)) octets = (ads, prefix, 0 ∷ ignored, l, refl, refl, parts) in
+    let prefix_is : take (length prefix) octets ≡ prefix = ap (take (length prefix)) parts ∙ take_at prefix (0 ∷ ignored) (length prefix) refl in
+    ap (ads_read octets) (bad_read (ZeroLength (length prefix)) octets bad)
+    ∙ ap (λ (os : List ℕ). Ok (ltvs_in os)) prefix_is
+    ∙ ap (λ (r : Result (List Ltv) LtvBad). Ok (result_unwrap_or r [])) (list_read ads prefix l)
 
-ads_by : (ads : List Ltv) (octets front left : List ℕ) → IsLtvList ads front → IsEnd left → octets ≡ front ++ left → ads_of octets ≡ Ok ads
-ads_by ads octets front [] l ends parts =
-    let same : octets ≡ front = parts ∙ append-nil front in
-    ap (ads_read octets) (ap ltvs_of same ∙ list_read ads front l)
-ads_by ads octets front (count ∷ ignored) l ends parts = ads_read_at ads octets front ignored l (parts ∙ ap (λ (n : ℕ). front ++ n ∷ ignored) ends)
+ads_by : (ads : List Ltv) (octets prefix left : List ℕ) → IsLtvList ads prefix → IsEnd left → octets ≡ prefix ++ left → ads_of octets ≡ Ok ads
+ads_by ads octets prefix [] l ends parts =
+    let same : octets ≡ prefix = parts ∙ append-nil prefix in
+    ap (ads_read octets) (ap ltvs_of same ∙ list_read ads prefix l)
+ads_by ads octets prefix (count ∷ ignored) l ends parts = ads_read_at ads octets prefix ignored l (parts ∙ ap (λ (n : ℕ). prefix ++ n ∷ ignored) ends)
 
 pub ads_read_so : (ads : List Ltv) (octets : List ℕ) → IsAdList ads octets → ads_of octets ≡ Ok ads
 ads_read_so ads octets l = ads_by ads octets l.listed l.left l.list l.ends l.parts

@@ -1,4 +1,4 @@
--- What is spelled as a BASE is read.
+-- What is encoded as a BASE is read.
 use Rattle.std.proofs.Common.{◌≡◌, ℕ, suc, ◌≤◌, Bool, true, false, cond, ltb, List, [], ◌∷◌, ◌++◌, length, map, Some, Result, Ok, Err, refl, sym, ap, subst, ◌∙◌, append_assoc, arith}
 use Rattle.std.specs.Prelude.{IfOk}
 use Rattle.std.specs.List.{flat_map, AllByRecursion}
@@ -6,13 +6,13 @@ use Rattle.std.proofs.lemmas.Bool.{ltb-false, le-ltb}
 use Rattle.std.proofs.lemmas.List.{append-nil}
 use Rattle.std.proofs.lemmas.List.Concat.{flat_map-cons}
 use Rattle.bcast_base.specs.Reading.{octets_in, number_in, place_in}
-use Rattle.bcast_base.specs.Spelling.{IsOctets, counted}
+use Rattle.bcast_base.specs.Encoding.{IsOctets, counted}
 use Rattle.bcast_base.proofs.Citable.{octets_again, number_again}
 use Rattle.base_grammar.specs.declared.fault.BaseFault.{BaseFault}
 use Rattle.base_grammar.specs.declared.fault.BaseFault.TheVariants.{TooLong}
 use Rattle.base_grammar.specs.declared.subgroup.BaseEntry.{BaseEntry}
 use Rattle.base_grammar.specs.declared.subgroup.Subgroup.{Subgroup}
-use Rattle.base_grammar.specs.Layout.{Endpoint, is_lc3, entry, subgroup, spelling, bis_of, indices, stands_in, AreNew, IsConfig, EntryFits, SubgroupFits, HasEntry, IsBase, BaseIs}
+use Rattle.base_grammar.specs.Layout.{Endpoint, is_lc3, entry, subgroup, encoding, bis_of, indices, stands_in, AreNew, IsConfig, EntryFits, SubgroupFits, HasEntry, IsBase, BaseIs}
 use Rattle.base_grammar.specs.Reading.{run_at, index_at, entry_at, entries_at, streams_at, subgroup_at, subgroups_at, count_at, fields_of, base_of, told}
 use Rattle.bcast_base.specs.Tries.{Answers}
 use Rattle.base_grammar.proofs.Steps.{none_run, none_index, none_streams, none_subgroups}
@@ -95,11 +95,11 @@ subgroups_again whole before (s ∷ ss) rest fit streams are_new =
       subgroups_again whole (before ++ map bis_of s.entries) ss rest fit.1 streams.1 (AreNew-second before (map bis_of s.entries) (indices ss) all),
     ) refl
 
-fields_again : (whole : List ℕ) (v : Endpoint) → IsBase v → whole ≡ spelling v → fields_of whole ≡ Ok v
+fields_again : (whole : List ℕ) (v : Endpoint) → IsBase v → whole ≡ encoding v → fields_of whole ≡ Ok v
 unfolding fields_of
-fields_again whole v b spelled =
+fields_again whole v b encoded =
     let delay : number_in 3 whole ≡ Some (v.delay, length v.subgroups ∷ flat_map subgroup v.subgroups) =
-    ap (number_in 3) spelled ∙ number_again 3 v.delay (length v.subgroups ∷ flat_map subgroup v.subgroups) b.delay in
+    ap (number_in 3) encoded ∙ number_again 3 v.delay (length v.subgroups ∷ flat_map subgroup v.subgroups) b.delay in
     let others : subgroups_at whole [] (length v.subgroups) (flat_map subgroup v.subgroups) ≡ Ok (v.subgroups, []) =
     ap (subgroups_at whole [] (length v.subgroups)) (sym (append-nil (flat_map subgroup v.subgroups))) ∙ subgroups_again whole [] v.subgroups [] b.fits b.streams b.once in
     rw (delay, count_again whole (length v.subgroups) (flat_map subgroup v.subgroups) b.some, others) refl
@@ -109,8 +109,8 @@ fields_again whole v b spelled =
 pub base_again : (v : Endpoint) (octets : List ℕ) → BaseIs v octets → base_of octets ≡ Ok v
 unfolding base_of
 base_again v octets b =
-    let short : ltb 252 (length octets) ≡ false = le-ltb _ _ (omega (arith, b.base.small, ap length b.spelled)) in
-    rw short (fields_again octets v b.base b.spelled)
+    let short : ltb 252 (length octets) ≡ false = le-ltb _ _ (omega (arith, b.base.small, ap length b.encoded)) in
+    rw short (fields_again octets v b.base b.encoded)
 
 not_long : {A : Type 0} (b : Bool) (r : Result A BaseFault) (x : A) → cond b (Err TooLong) r ≡ Ok x → (b ≡ false) × (r ≡ Ok x)
 not_long true r x e = absurd cc
@@ -123,8 +123,8 @@ base_takes octets v fits e =
     let short : length octets ≤ 252 = ltb-false _ _ g.0 in
     let t = fields_take octets v fits g.1 in
     record {
-      base = record { delay = t.delay; some = t.some; streams = t.streams; fits = t.fit; once = t.once; small = omega (arith, short, ap length t.spelled) };
-      spelled = t.spelled;
+      base = record { delay = t.delay; some = t.some; streams = t.streams; fits = t.fit; once = t.once; small = omega (arith, short, ap length t.encoded) };
+      encoded = t.encoded;
     }
 
 pub found_base : (octets : List ℕ) (result : Result Endpoint BaseFault) → IsOctets octets → Answers told result (base_of octets) → IfOk result (λ base. BaseIs base octets)

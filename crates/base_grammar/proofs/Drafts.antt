@@ -16,7 +16,7 @@ use Rattle.base_grammar.specs.declared.subgroup.Subgroup.{Subgroup}
 use Rattle.base_grammar.specs.Draft.{last_of, closed, with_last, IsDraft, opened, is_empty_last, subgroup_fault, metadata_fault, entry_fault, size_fault, draft_fault, finish_fault, Refuses}
 use Rattle.base_grammar.specs.Layout.{Endpoint, endpoint, is_lc3, subgroup, bis_of, indices, stands_in, AreNew, IsConfig, EntryFits, SubgroupFits, HasEntry, IsBase}
 use Rattle.base_grammar.proofs.Loops.{indices-push}
-use Rattle.base_grammar.proofs.Sizes.{length-spelling}
+use Rattle.base_grammar.proofs.Sizes.{length-encoding}
 use Rattle.base_grammar.proofs.Steps.{positive}
 use Rattle.base_grammar.proofs.Taken.{AreNew-then}
 
@@ -91,7 +91,7 @@ indices-with_last change extra (s ∷ other ∷ others) more h =
 -- ---- what a draft keeps
 
 nothing_read : AreLtvs []
-nothing_read = record { ltvs = []; list = record { fit = tt; spelled = refl } }
+nothing_read = record { ltvs = []; list = record { fit = tt; encoded = refl } }
 
 not_refused : (b : Bool) (fault : DraftFault) (x : Unit {0}) → Refuses (cond b (Some fault) None) (Ok x) → b ≡ false
 not_refused true fault x h = absurd cc
@@ -180,8 +180,8 @@ draft_done v d e =
       streams = all_streams v.subgroups d.streams parts.1;
       fits = d.fits;
       once = d.once;
-      small = omega (arith, length-spelling v, parts.2);
+      small = omega (arith, length-encoding v, parts.2);
     }
 
 pub finish_is : (v : Endpoint) → finish_fault v ≡ draft_fault v.subgroups (4 + length (flat_map subgroup v.subgroups))
-finish_is v = ap (draft_fault v.subgroups) (length-spelling v)
+finish_is v = ap (draft_fault v.subgroups) (length-encoding v)

@@ -11,7 +11,7 @@ use Rattle.ltv_codec.specs.Reading.{bad_of}
 use Rattle.ltv_codec.specs.declared.fault.LtvBad.{LtvBad}
 use Rattle.base_grammar.specs.declared.fault.BaseFault.{BaseFault}
 use Rattle.base_grammar.specs.declared.fault.BaseFault.TheVariants as faults
-use Rattle.bcast_base.specs.Spelling.{IsOctets}
+use Rattle.bcast_base.specs.Encoding.{IsOctets}
 use Rattle.base_grammar.specs.Layout.{Endpoint, stands_in, BaseIs}
 use Rattle.base_grammar.specs.Rows.{run_fault}
 use Rattle.bcast_base.specs.Tries.{Answers}
@@ -35,8 +35,8 @@ not_due row h e = subst IsDue e h
 goes_on : (place : ℕ) (due : Due) (field after rest : List ℕ) (fault : Option BaseFault) → Meets place due field → rest ≡ field ++ after → Halts place due rest fault → ⊥
 goes_on place due field after rest fault m e h =
     let enough : ltb (length rest) (width due.row) ≡ false = le-ltb _ _ (omega (arith, ap length e, length-append field after, m.whole)) in
-    let front : take (width due.row) rest ≡ field = ap (take (width due.row)) e ∙ take_at field after (width due.row) m.whole in
-    let here : field_fault due.row place due rest ≡ None = rw (enough, front) m.sound in
+    let prefix : take (width due.row) rest ≡ field = ap (take (width due.row)) e ∙ take_at field after (width due.row) m.whole in
+    let here : field_fault due.row place due rest ≡ None = rw (enough, prefix) m.sound in
     not_due due.row m.is_due (h.none (sym h.stands ∙ due_cut due.row place due rest m.is_due ∙ here))
 
 -- two runs of whole fields in the same octets, behind which it halts

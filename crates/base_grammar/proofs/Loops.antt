@@ -11,27 +11,27 @@ use Rattle.bcast_base.specs.Tries.{◌>>=◌, FindsOrWants}
 use Rattle.base_grammar.specs.Reading.{told, entry_at, entries_at, subgroup_at, subgroups_at}
 
 -- what was read before, and what is still read
-abbrev pub with_front : {A : Type 0} → List A → Result (List A × List ℕ) BaseFault → Result (List A × List ℕ) BaseFault
-with_front front read = read >>= λ x. Ok (front ++ x.0, x.1)
+abbrev pub with_prefix : {A : Type 0} → List A → Result (List A × List ℕ) BaseFault → Result (List A × List ℕ) BaseFault
+with_prefix prefix read = read >>= λ x. Ok (prefix ++ x.0, x.1)
 
 pub failed : {A B : Type 0} (found : Option BaseFault) (one : Result A BaseFault) (total : Result B BaseFault) → ((f : BaseFault) → one ≡ Err f → total ≡ Err f)
     → FindsOrWants found one → FindsOrWants found total
 failed None one total h e = tt
 failed (Some f) one total h e = h f e
 
-regroup : {A : Type 0} (front : List A) (x : A) (read : Result (List A × List ℕ) BaseFault) → with_front front (read >>= λ y. Ok (x ∷ y.0, y.1)) ≡ with_front (front ++ x ∷ []) read
-regroup front x (Ok y) = ap (λ (xs : List _). Ok (xs, y.1)) (sym (append_assoc front (x ∷ []) y.0))
-regroup front x (Err f) = refl
+regroup : {A : Type 0} (prefix : List A) (x : A) (read : Result (List A × List ℕ) BaseFault) → with_prefix prefix (read >>= λ y. Ok (x ∷ y.0, y.1)) ≡ with_prefix (prefix ++ x ∷ []) read
+regroup prefix x (Ok y) = ap (λ (xs : List _). Ok (xs, y.1)) (sym (append_assoc prefix (x ∷ []) y.0))
+regroup prefix x (Err f) = refl
 
-done : {A : Type 0} (front : List A) (rest : List ℕ) (read : Result (List A × List ℕ) BaseFault) → read ≡ Ok ([], rest) → with_front front read ≡ Ok (front, rest)
-done front rest read e = ap (with_front front) e ∙ ap (λ (xs : List _). Ok (xs, rest)) (append-nil front)
+done : {A : Type 0} (prefix : List A) (rest : List ℕ) (read : Result (List A × List ℕ) BaseFault) → read ≡ Ok ([], rest) → with_prefix prefix read ≡ Ok (prefix, rest)
+done prefix rest read e = ap (with_prefix prefix) e ∙ ap (λ (xs : List _). Ok (xs, rest)) (append-nil prefix)
 
 -- ---- entries
 
 -- the entries so far, and what is read of the others
 pub record Entering (whole : List ℕ) (is_list : Bool) (before : List ℕ) (count : ℕ) (from : List ℕ) (entries : List BaseEntry) (i : ℕ) (rest : List ℕ) : Type 0 where
   pub shorter : length rest ≤ length from
-  pub same : with_front entries (entries_at whole is_list (before ++ map bis_of entries) (count - i) rest) ≡ entries_at whole is_list before count from
+  pub same : with_prefix entries (entries_at whole is_list (before ++ map bis_of entries) (count - i) rest) ≡ entries_at whole is_list before count from
 
 pub entering_next : (whole : List ℕ) (is_list : Bool) (before : List ℕ) (count : ℕ) (from : List ℕ) (entries : List BaseEntry) (i : ℕ) (rest : List ℕ) (e : BaseEntry) (after : List ℕ)
     → i < count → entry_at whole is_list (before ++ map bis_of entries) rest ≡ Ok (e, after) → length after ≤ length rest → Entering whole is_list before count from entries i rest
@@ -41,12 +41,12 @@ entering_next whole is_list before count from entries i rest e after lt read h s
     let k : count - i ≡ suc (count - (i + 1)) = omega arith in
     let there : (before ++ map bis_of entries) ++ e.bis ∷ [] ≡ before ++ map bis_of (entries ++ e ∷ []) =
     append_assoc before (map bis_of entries) (e.bis ∷ []) ∙ ap (λ (bs : List ℕ). before ++ bs) (sym (map_push bis_of entries e)) in
-    let one : with_front entries (entries_at whole is_list (before ++ map bis_of entries) (count - i) rest)
-    ≡ with_front (entries ++ e ∷ []) (entries_at whole is_list ((before ++ map bis_of entries) ++ e.bis ∷ []) (count - (i + 1)) after) =
+    let one : with_prefix entries (entries_at whole is_list (before ++ map bis_of entries) (count - i) rest)
+    ≡ with_prefix (entries ++ e ∷ []) (entries_at whole is_list ((before ++ map bis_of entries) ++ e.bis ∷ []) (count - (i + 1)) after) =
     rw (k, read) (regroup entries e (entries_at whole is_list ((before ++ map bis_of entries) ++ e.bis ∷ []) (count - (i + 1)) after)) in
     record {
       shorter = omega (arith, h, s.shorter);
-      same = ap (λ (bs : List ℕ). with_front (entries ++ e ∷ []) (entries_at whole is_list bs (count - (i + 1)) after)) (sym there) ∙ sym one ∙ s.same;
+      same = ap (λ (bs : List ℕ). with_prefix (entries ++ e ∷ []) (entries_at whole is_list bs (count - (i + 1)) after)) (sym there) ∙ sym one ∙ s.same;
     }
 
 pub entering_err : (f : BaseFault) (whole : List ℕ) (is_list : Bool) (before : List ℕ) (count : ℕ) (from : List ℕ) (entries : List BaseEntry) (i : ℕ) (rest : List ℕ)
@@ -55,7 +55,7 @@ pub entering_err : (f : BaseFault) (whole : List ℕ) (is_list : Bool) (before :
 unfolding entries_at
 entering_err f whole is_list before count from entries i rest lt e s =
     let k : count - i ≡ suc (count - (i + 1)) = omega arith in
-    let one : with_front entries (entries_at whole is_list (before ++ map bis_of entries) (count - i) rest) ≡ Err f = rw (k, e) refl in
+    let one : with_prefix entries (entries_at whole is_list (before ++ map bis_of entries) (count - i) rest) ≡ Err f = rw (k, e) refl in
     sym s.same ∙ one
 
 pub entering_failed : (fault : BaseFault) (whole : List ℕ) (is_list : Bool) (before : List ℕ) (count : ℕ) (from : List ℕ) (entries : List BaseEntry) (i : ℕ) (rest : List ℕ)
@@ -77,7 +77,7 @@ entering_done whole is_list before count from entries i rest le s =
 -- the subgroups so far, and what is read of the others
 pub record Grouping (whole : List ℕ) (count : ℕ) (from : List ℕ) (subgroups : List Subgroup) (i : ℕ) (rest : List ℕ) : Type 0 where
   pub shorter : length rest ≤ length from
-  pub same : with_front subgroups (subgroups_at whole (indices subgroups) (count - i) rest) ≡ subgroups_at whole [] count from
+  pub same : with_prefix subgroups (subgroups_at whole (indices subgroups) (count - i) rest) ≡ subgroups_at whole [] count from
 
 pub indices-push : (subgroups : List Subgroup) (s : Subgroup) → indices (subgroups ++ s ∷ []) ≡ indices subgroups ++ map bis_of s.entries
 indices-push subgroups s =
@@ -90,12 +90,12 @@ pub grouping_next : (whole : List ℕ) (count : ℕ) (from : List ℕ) (subgroup
 unfolding subgroups_at
 grouping_next whole count from subgroups i rest s after lt read h g =
     let k : count - i ≡ suc (count - (i + 1)) = omega arith in
-    let one : with_front subgroups (subgroups_at whole (indices subgroups) (count - i) rest)
-    ≡ with_front (subgroups ++ s ∷ []) (subgroups_at whole (indices subgroups ++ map bis_of s.entries) (count - (i + 1)) after) =
+    let one : with_prefix subgroups (subgroups_at whole (indices subgroups) (count - i) rest)
+    ≡ with_prefix (subgroups ++ s ∷ []) (subgroups_at whole (indices subgroups ++ map bis_of s.entries) (count - (i + 1)) after) =
     rw (k, read) (regroup subgroups s (subgroups_at whole (indices subgroups ++ map bis_of s.entries) (count - (i + 1)) after)) in
     record {
       shorter = omega (arith, h, g.shorter);
-      same = ap (λ (bs : List ℕ). with_front (subgroups ++ s ∷ []) (subgroups_at whole bs (count - (i + 1)) after)) (indices-push subgroups s) ∙ sym one ∙ g.same;
+      same = ap (λ (bs : List ℕ). with_prefix (subgroups ++ s ∷ []) (subgroups_at whole bs (count - (i + 1)) after)) (indices-push subgroups s) ∙ sym one ∙ g.same;
     }
 
 pub grouping_err : (f : BaseFault) (whole : List ℕ) (count : ℕ) (from : List ℕ) (subgroups : List Subgroup) (i : ℕ) (rest : List ℕ)
@@ -103,7 +103,7 @@ pub grouping_err : (f : BaseFault) (whole : List ℕ) (count : ℕ) (from : List
 unfolding subgroups_at
 grouping_err f whole count from subgroups i rest lt e g =
     let k : count - i ≡ suc (count - (i + 1)) = omega arith in
-    let one : with_front subgroups (subgroups_at whole (indices subgroups) (count - i) rest) ≡ Err f = rw (k, e) refl in
+    let one : with_prefix subgroups (subgroups_at whole (indices subgroups) (count - i) rest) ≡ Err f = rw (k, e) refl in
     sym g.same ∙ one
 
 pub grouping_failed : (fault : BaseFault) (whole : List ℕ) (count : ℕ) (from : List ℕ) (subgroups : List Subgroup) (i : ℕ) (rest : List ℕ)

@@ -3,11 +3,11 @@ use Rattle.std.proofs.Common.{◌≡◌, ℕ, ◌+◌, List, [], ◌∷◌, ◌+
 use Rattle.std.specs.Option.{option_or}
 use Rattle.std.proofs.lemmas.Option.{same_Some}
 use Rattle.std.proofs.lemmas.List.Concat.{flat_map-cons}
-use Rattle.bcast_base.specs.Spelling.{IsOctets}
+use Rattle.bcast_base.specs.Encoding.{IsOctets}
 use Rattle.bcast_base.specs.Reading.{counted_in}
 use Rattle.bcast_base.proofs.Citable.{counted_again}
 use Rattle.ltv_codec.specs.declared.ltvs.Ltv.{Ltv}
-use Rattle.ltv_codec.specs.Layout.{structure, spelling, IsLtvList, AreLtvs}
+use Rattle.ltv_codec.specs.Layout.{structure, encoding, IsLtvList, AreLtvs}
 use Rattle.ltv_codec.specs.Reading.{ltvs_in}
 use Rattle.ltv_codec.proofs.Citable.{list_in, reads}
 use Rattle.base_grammar.specs.Ad.{service_in, first_service}
@@ -23,7 +23,7 @@ pub unfound_first : (uuid : ℕ) (list : List ℕ) → IsOctets list → AreLtvs
 unfound_first uuid list fits good = record { ads = ltvs_in list; is = list_in list fits (reads list good); same = refl }
 
 -- the structure at the front, and the list behind it
-record Front (ads : List Ltv) (body after : List ℕ) : Type 0 where
+record Prefix (ads : List Ltv) (body after : List ℕ) : Type 0 where
   ad : Ltv
   others : List Ltv
   all : ads ≡ ad ∷ others
@@ -35,19 +35,19 @@ same_pair a b c d e =
     let same = same_Some (a, b) (c, d) e in
     (ap (λ (p : List ℕ × List ℕ). p.0) same, ap (λ (p : List ℕ × List ℕ). p.1) same)
 
-spelled : (ad : Ltv) (others : List Ltv) (rest : List ℕ) → IsLtvList (ad ∷ others) rest → rest ≡ length (ad.kind ∷ ad.value) ∷ ((ad.kind ∷ ad.value) ++ spelling others)
-spelled ad others rest l =
+encoded : (ad : Ltv) (others : List Ltv) (rest : List ℕ) → IsLtvList (ad ∷ others) rest → rest ≡ length (ad.kind ∷ ad.value) ∷ ((ad.kind ∷ ad.value) ++ encoding others)
+encoded ad others rest l =
     let count : 1 + length ad.value ≡ length (ad.kind ∷ ad.value) = omega arith in
-    l.spelled ∙ flat_map-cons structure ad others ∙ ap (λ (n : ℕ). n ∷ ad.kind ∷ (ad.value ++ spelling others)) count
+    l.encoded ∙ flat_map-cons structure ad others ∙ ap (λ (n : ℕ). n ∷ ad.kind ∷ (ad.value ++ encoding others)) count
 
-front_of : (ads : List Ltv) (rest body after : List ℕ) → IsLtvList ads rest → counted_in rest ≡ Some (body, after) → Front ads body after
-front_of [] rest body after l e =
-    let none : counted_in rest ≡ None = ap counted_in l.spelled in
+prefix_of : (ads : List Ltv) (rest body after : List ℕ) → IsLtvList ads rest → counted_in rest ≡ Some (body, after) → Prefix ads body after
+prefix_of [] rest body after l e =
+    let none : counted_in rest ≡ None = ap counted_in l.encoded in
     absurd cc
-front_of (ad ∷ others) rest body after l e =
-    let read : counted_in rest ≡ Some (ad.kind ∷ ad.value, spelling others) = ap counted_in (spelled ad others rest l) ∙ counted_again (ad.kind ∷ ad.value) (spelling others) in
-    let same = same_pair (ad.kind ∷ ad.value) (spelling others) body after (sym read ∙ e) in
-    record { ad = ad; others = others; all = refl; body_is = sym same.0; is = record { fit = l.fit.1; spelled = sym same.1 } }
+prefix_of (ad ∷ others) rest body after l e =
+    let read : counted_in rest ≡ Some (ad.kind ∷ ad.value, encoding others) = ap counted_in (encoded ad others rest l) ∙ counted_again (ad.kind ∷ ad.value) (encoding others) in
+    let same = same_pair (ad.kind ∷ ad.value) (encoding others) body after (sym read ∙ e) in
+    record { ad = ad; others = others; all = refl; body_is = sym same.0; is = record { fit = l.fit.1; encoded = sym same.1 } }
 
 none_or : (found other : Option (List ℕ)) → found ≡ None → option_or found other ≡ other
 none_or None other e = refl
@@ -59,7 +59,7 @@ some_or (Some x) other content e = e
 
 pub unfound_next : (uuid : ℕ) (list rest body after : List ℕ) → counted_in rest ≡ Some (body, after) → service_of uuid body ≡ None → Unfound uuid list rest → Unfound uuid list after
 unfound_next uuid list rest body after e none u =
-    let f = front_of u.ads rest body after u.is e in
+    let f = prefix_of u.ads rest body after u.is e in
     let here : service_in uuid f.ad ≡ None = ap (service_of uuid) (sym f.body_is) ∙ none in
     let step : first_service uuid u.ads ≡ first_service uuid f.others = ap (first_service uuid) f.all ∙ none_or (service_in uuid f.ad) (first_service uuid f.others) here in
     record { ads = f.others; is = f.is; same = sym step ∙ u.same }
@@ -67,7 +67,7 @@ unfound_next uuid list rest body after e none u =
 pub unfound_found : (uuid : ℕ) (list rest body after content : List ℕ) → counted_in rest ≡ Some (body, after) → service_of uuid body ≡ Some content → Unfound uuid list rest
     → first_service uuid (ltvs_in list) ≡ Some content
 unfound_found uuid list rest body after content e found u =
-    let f = front_of u.ads rest body after u.is e in
+    let f = prefix_of u.ads rest body after u.is e in
     let here : service_in uuid f.ad ≡ Some content = ap (service_of uuid) (sym f.body_is) ∙ found in
     sym u.same ∙ ap (first_service uuid) f.all ∙ some_or (service_in uuid f.ad) (first_service uuid f.others) content here
 
@@ -77,5 +77,5 @@ unfound_none uuid list rest e u = sym u.same ∙ ended u.ads u.is
     ended : (ads : List Ltv) → IsLtvList ads rest → first_service uuid ads ≡ None
     ended [] l = refl
     ended (ad ∷ others) l =
-        let read : counted_in rest ≡ Some (ad.kind ∷ ad.value, spelling others) = ap counted_in (spelled ad others rest l) ∙ counted_again (ad.kind ∷ ad.value) (spelling others) in
+        let read : counted_in rest ≡ Some (ad.kind ∷ ad.value, encoding others) = ap counted_in (encoded ad others rest l) ∙ counted_again (ad.kind ∷ ad.value) (encoding others) in
         absurd cc

@@ -5,11 +5,11 @@ use Rattle.std.specs.Option.{SomeIff}
 use Rattle.std.proofs.lemmas.List.{length-append}
 use Rattle.std.proofs.lemmas.List.Concat.{flat_map-cons}
 use Rattle.std.proofs.lemmas.List.Folds.{length-flat_map-take}
-use Rattle.bcast_base.specs.Spelling.{number}
+use Rattle.bcast_base.specs.Encoding.{number}
 use Rattle.bcast_base.proofs.Citable.{number-length}
 use Rattle.base_grammar.specs.declared.subgroup.BaseEntry.{BaseEntry}
 use Rattle.base_grammar.specs.declared.subgroup.Subgroup.{Subgroup}
-use Rattle.base_grammar.specs.Layout.{Endpoint, entry, subgroup, spelling}
+use Rattle.base_grammar.specs.Layout.{Endpoint, entry, subgroup, encoding}
 
 -- an item is no longer than all of them
 pub item_small : {X : Type 0} (f : X → List ℕ) (xs : List X) (i n : ℕ) (x : X) → i < length xs → x ≡ get_or xs i x → length (flat_map f xs) ≤ n → length (f x) ≤ n
@@ -44,8 +44,8 @@ length-subgroup s =
       length-append s.metadata (flat_map entry s.entries),
     )
 
-pub length-spelling : (v : Endpoint) → length (spelling v) ≡ 4 + length (flat_map subgroup v.subgroups)
-length-spelling v = omega (arith, length-append (number 3 v.delay) (length v.subgroups ∷ flat_map subgroup v.subgroups), number-length 3 v.delay)
+pub length-encoding : (v : Endpoint) → length (encoding v) ≡ 4 + length (flat_map subgroup v.subgroups)
+length-encoding v = omega (arith, length-append (number 3 v.delay) (length v.subgroups ∷ flat_map subgroup v.subgroups), number-length 3 v.delay)
 
 pub none_if : {A : Type 0} (o : Option A) (P : Type 0) (v : A) → o ≡ None → ¬ P → SomeIff o P v
 none_if None P v e h = h

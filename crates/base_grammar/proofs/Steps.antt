@@ -2,7 +2,7 @@
 use Rattle.std.proofs.Common.{◌≡◌, ℕ, zero, suc, ◌≤◌, Bool, true, false, cond, ltb, eqb, List, Option, Some, None, Ok, refl, ap, arith}
 use Rattle.std.specs.Option.{option_map}
 use Rattle.std.proofs.lemmas.Bool.{ltb-false, le-ltb, ne_eqb}
-use Rattle.bcast_base.specs.Spelling.{IsOctets}
+use Rattle.bcast_base.specs.Encoding.{IsOctets}
 use Rattle.ltv_codec.specs.Reading.{bad_of}
 use Rattle.ltv_codec.proofs.Citable.{are_read, reads}
 use Rattle.ltv_codec.specs.declared.fault.LtvBad.{LtvBad}

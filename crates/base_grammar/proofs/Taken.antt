@@ -1,14 +1,14 @@
--- What is read of a BASE is spelled so.
+-- What is read of a BASE is encoded so.
 use Rattle.std.proofs.Common.{◌≡◌, ℕ, zero, suc, ◌<◌, ◌≤◌, ◌^◌, Bool, true, false, List, [], ◌∷◌, ◌++◌, length, map, Ok, refl, sym, ap, subst, ◌∙◌, append_assoc, arith}
 use Rattle.std.specs.List.{flat_map, AllByRecursion}
 use Rattle.std.proofs.lemmas.List.{append-nil}
 use Rattle.std.proofs.lemmas.List.Concat.{flat_map-cons}
 use Rattle.bcast_base.specs.Reading.{octet_in, octets_in, number_in, place_in, Takes}
-use Rattle.bcast_base.specs.Spelling.{IsOctets, octet, number, counted}
-use Rattle.bcast_base.proofs.Citable.{IsOctets-front, Takes-then, octet_takes, octets_take, number_takes, bind_ok, ok_is}
+use Rattle.bcast_base.specs.Encoding.{IsOctets, octet, number, counted}
+use Rattle.bcast_base.proofs.Citable.{IsOctets-prefix, Takes-then, octet_takes, octets_take, number_takes, bind_ok, ok_is}
 use Rattle.base_grammar.specs.declared.subgroup.BaseEntry.{BaseEntry}
 use Rattle.base_grammar.specs.declared.subgroup.Subgroup.{Subgroup}
-use Rattle.base_grammar.specs.Layout.{Endpoint, endpoint, is_lc3, entry, subgroup, spelling, bis_of, indices, stands_in, AreNew, IsConfig, EntryFits, SubgroupFits, HasEntry}
+use Rattle.base_grammar.specs.Layout.{Endpoint, endpoint, is_lc3, entry, subgroup, encoding, bis_of, indices, stands_in, AreNew, IsConfig, EntryFits, SubgroupFits, HasEntry}
 use Rattle.base_grammar.specs.Rows.{subgroups_fault, streams_fault, index_fault, run_fault}
 use Rattle.bcast_base.specs.Tries.{◌>>=◌}
 use Rattle.base_grammar.specs.Reading.{field_at, unless, run_at, index_at, entry_at, entries_at, streams_at, subgroup_at, subgroups_at, count_at, ended, fields_of}
@@ -27,10 +27,10 @@ run_takes whole is_list from value rest fits e =
     let count = octet_takes from a.0.0 a.0.1 (field_ok whole from (octet_in from) a.0 a.1) in
     let run = octets_take a.0.0 a.0.1 b.0.0 b.0.1 (field_ok whole a.0.1 (octets_in a.0.0 a.0.1) b.0 b.1) in
     let both = Takes-then from (octet a.0.0) a.0.1 b.0.0 b.0.1 count run.0 in
-    let spelled : Takes from (counted b.0.0) b.0.1 = subst (λ (n : ℕ). Takes from (n ∷ b.0.0) b.0.1) (sym run.1) both in
-    let run_fits : IsOctets b.0.0 = IsOctets-front b.0.0 b.0.1 (subst IsOctets run.0.parts (count.fits fits)) in
+    let encoded : Takes from (counted b.0.0) b.0.1 = subst (λ (n : ℕ). Takes from (n ∷ b.0.0) b.0.1) (sym run.1) both in
+    let run_fits : IsOctets b.0.0 = IsOctets-prefix b.0.0 b.0.1 (subst IsOctets run.0.parts (count.fits fits)) in
     subst (λ (x : List ℕ × List ℕ). Takes from (counted x.0) x.1 × IsConfig is_list x.0) g.1
-    (spelled, run_none (place_in whole a.0.1) is_list b.0.0 run_fits g.0)
+    (encoded, run_none (place_in whole a.0.1) is_list b.0.0 run_fits g.0)
 
 pub index_takes : (whole before from : List ℕ) (bis : ℕ) (rest : List ℕ) → index_at whole before from ≡ Ok (bis, rest)
     → Takes from (octet bis) rest × ((1 ≤ bis) × (bis ≤ 31) × (stands_in before bis ≡ false))
@@ -196,7 +196,7 @@ pub record FieldsTaken (from : List ℕ) (v : Endpoint) : Type 0 where
   pub streams : AllByRecursion HasEntry v.subgroups
   pub fit : AllByRecursion SubgroupFits v.subgroups
   pub once : AreNew [] (indices v.subgroups)
-  pub spelled : from ≡ spelling v
+  pub encoded : from ≡ encoding v
 
 pub fields_take : (whole : List ℕ) (v : Endpoint) → IsOctets whole → fields_of whole ≡ Ok v → FieldsTaken whole v
 unfolding fields_of
@@ -220,6 +220,6 @@ fields_take whole v fits e =
       streams = t2.streams;
       fit = t2.fit;
       once = t2.are_new;
-      spelled = all ∙ ap (λ (n : ℕ). number 3 a.0.0 ++ (n ∷ flat_map subgroup c.0.0)) (sym t2.many);
+      encoded = all ∙ ap (λ (n : ℕ). number 3 a.0.0 ++ (n ∷ flat_map subgroup c.0.0)) (sym t2.many);
     } in
     subst (FieldsTaken whole) last.1 found

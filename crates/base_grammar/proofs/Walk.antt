@@ -46,8 +46,8 @@ pub at_first : (whole : List ℕ) → At whole first_due whole
 unfolding due_behind AllMeet
 at_first whole = record { fields = []; meet = tt; parts = refl; is = refl }
 
-place_there : (whole front rest : List ℕ) → whole ≡ front ++ rest → place_in whole rest ≡ length front
-place_there whole front rest e = omega (arith, ap length e, length-append front rest)
+place_there : (whole prefix rest : List ℕ) → whole ≡ prefix ++ rest → place_in whole rest ≡ length prefix
+place_there whole prefix rest e = omega (arith, ap length e, length-append prefix rest)
 
 -- a field that meets its row
 pub at_next : (whole : List ℕ) (due : Due) (rest field after : List ℕ) → At whole due rest → IsDue due.row → rest ≡ field ++ after → length field ≡ width due.row
@@ -98,8 +98,8 @@ pub stop_field : (whole : List ℕ) (due : Due) (rest field after : List ℕ) (f
     → row_fault due.row (place_in whole rest) due field ≡ Some fault → AtCut fault whole
 stop_field whole due rest field after fault a is_due e long wrong =
     let enough : ltb (length rest) (width due.row) ≡ false = le-ltb _ _ (omega (arith, ap length e, length-append field after, long)) in
-    let front : take (width due.row) rest ≡ field = ap (take (width due.row)) e ∙ take_at field after (width due.row) long in
-    at_stop whole due rest fault a (due_cut due.row (place_in whole rest) due rest is_due ∙ rw (enough, front) wrong)
+    let prefix : take (width due.row) rest ≡ field = ap (take (width due.row)) e ∙ take_at field after (width due.row) long in
+    at_stop whole due rest fault a (due_cut due.row (place_in whole rest) due rest is_due ∙ rw (enough, prefix) wrong)
 
 -- ---- what reading comes to
 

@@ -6,7 +6,7 @@ use Rattle.base_grammar.specs.declared.fault.DraftFault.{DraftFault}
 use Rattle.base_grammar.specs.declared.fault.DraftFault.TheVariants.{NoSubgroup, NoBis, IndexTwice, TooLong, Memory}
 use Rattle.base_grammar.specs.declared.subgroup.BaseEntry.{BaseEntry}
 use Rattle.base_grammar.specs.declared.subgroup.Subgroup.{Subgroup}
-use Rattle.base_grammar.specs.Layout.{Endpoint, endpoint, indices, stands_in, spelling, AreNew, HasEntry, SubgroupFits}
+use Rattle.base_grammar.specs.Layout.{Endpoint, endpoint, indices, stands_in, encoding, AreNew, HasEntry, SubgroupFits}
 
 -- the last subgroup
 abbrev pub last_of : List Subgroup → Option Subgroup
@@ -79,7 +79,7 @@ draft_fault [] octets = Some NoSubgroup
 draft_fault (s ∷ others) octets = size_fault (empty_fault (last_of (s ∷ others))) octets
 
 abbrev pub finish_fault : Endpoint → Option DraftFault
-finish_fault v = draft_fault v.subgroups (length (spelling v))
+finish_fault v = draft_fault v.subgroups (length (encoding v))
 
 -- a step is refused exactly so, but that memory may be wanting
 abbrev pub Refuses : Option DraftFault → Result (Unit {0}) DraftFault → Type 0

@@ -4,7 +4,7 @@
 use Rattle.std.specs.Prelude.{ℕ, ◌<◌, ◌≤◌, ◌^◌, ◌≡◌, ◌==◌, Bool, false, IsTrue, List, [], ◌∷◌, ◌++◌, length, map}
 use Rattle.std.specs.List.{flat_map, list_any, AllByRecursion}
 use Rattle.std.specs.Str.{bytes_eq}
-use Rattle.bcast_base.specs.Spelling.{number, counted}
+use Rattle.bcast_base.specs.Encoding.{number, counted}
 use Rattle.ltv_codec.specs.Layout.{AreLtvs}
 use Rattle.base_grammar.specs.declared.subgroup.BaseEntry.{BaseEntry}
 use Rattle.base_grammar.specs.declared.subgroup.Subgroup.{Subgroup}
@@ -24,7 +24,7 @@ lc3 = 6 ∷ 0 ∷ 0 ∷ 0 ∷ 0 ∷ []
 abbrev pub is_lc3 : List ℕ → Bool
 is_lc3 codec = bytes_eq codec lc3
 
--- ---- the spelling
+-- ---- the encoding
 
 abbrev pub entry : BaseEntry → List ℕ
 entry e = e.bis ∷ counted e.config
@@ -32,8 +32,8 @@ entry e = e.bis ∷ counted e.config
 abbrev pub subgroup : Subgroup → List ℕ
 subgroup s = length s.entries ∷ (s.codec ++ (counted s.config ++ (counted s.metadata ++ flat_map entry s.entries)))
 
-abbrev pub spelling : Endpoint → List ℕ
-spelling v = number 3 v.delay ++ (length v.subgroups ∷ flat_map subgroup v.subgroups)
+abbrev pub encoding : Endpoint → List ℕ
+encoding v = number 3 v.delay ++ (length v.subgroups ∷ flat_map subgroup v.subgroups)
 
 -- ---- the rows that the fields have to meet
 
@@ -78,9 +78,9 @@ pub record IsBase (v : Endpoint) : Type 0 where
   pub streams : AllByRecursion HasEntry v.subgroups
   pub fits : AllByRecursion SubgroupFits v.subgroups
   pub once : AreNew [] (indices v.subgroups)
-  pub small : length (spelling v) ≤ 252
+  pub small : length (encoding v) ≤ 252
 
 -- the octets are this BASE
 pub record BaseIs (v : Endpoint) (octets : List ℕ) : Type 0 where
   pub base : IsBase v
-  pub spelled : octets ≡ spelling v
+  pub encoded : octets ≡ encoding v

@@ -73,7 +73,7 @@ pub fn write_ad(into: &mut Octets, kind: u8, from: &[u8]) -> Result<(), Memory>
     put
 }
 
-// Puts the structure at the end, or a front of it where memory runs out.
+// Puts the structure at the end, or a prefix of it where memory runs out.
 fn put_structure(into: &mut Octets, kind: u8, from: &[u8]) -> Result<(), Memory>
     requires { length from.now ≤ 254 }
     ensures ok { OnOk result (into.new ≡ into.old ++ ltv.structure (record { kind = kind; value = from.now })) }

@@ -3,7 +3,7 @@ ghost use Rattle.std.specs.Prelude.{◌≡◌, ◌↔◌, ℕ, List, Ok, Err};
 ghost use Rattle.base_grammar.specs.Ad.{IsAdList, IsAdShort};
 ghost use Rattle.base_grammar.specs.AdReading.{ads_of};
 ghost use Rattle.ltv_codec.specs.declared.ltvs.Ltv.{Ltv};
-ghost use Rattle.bcast_base.specs.Spelling.{IsOctets};
+ghost use Rattle.bcast_base.specs.Encoding.{IsOctets};
 
 /// Octets are read as an AD list exactly where they are its structures up to the end or to a length octet of 0.
 pub fn ad_list_is_read()

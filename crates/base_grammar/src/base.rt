@@ -6,7 +6,7 @@ use crate::subgroup::Subgroup;
 use bcast_base::Bis;
 use std::marker::Model;
 
-/// A BASE (Basic Audio Profile 1.0, section 3.7.2.2): a presentation delay and subgroups, which have a spelling of at most
+/// A BASE (Basic Audio Profile 1.0, section 3.7.2.2): a presentation delay and subgroups, which have an encoding of at most
 /// 252 octets. It has at least one subgroup, each subgroup has at least one entry, and each index stands once.
 #[derive(Drop)]
 pub struct Base {

@@ -1,4 +1,4 @@
-//! How many octets are left of some room behind a spelling.
+//! How many octets are left of some room behind an encoding.
 ghost use Rattle.std.specs.Prelude.{◌-◌, ◌≤◌, length};
 ghost use Rattle.std.specs.List.{flat_map};
 ghost use Rattle.std.specs.Option.{SomeIff};

@@ -3,7 +3,7 @@ use Rattle.std.proofs.Common.{◌≡◌, ℕ, ◌<◌, ◌≤◌, Bool, true, fa
 use Rattle.std.specs.Prelude.{IsOk, IfOk, IfErr}
 use Rattle.std.proofs.lemmas.Bool.{ltb-false, ltb-true, lt-ltb, le-ltb}
 use Rattle.bcast_base.specs.Layout.{reserved_from}
-use Rattle.bcast_base.specs.Spelling.{IsOctets}
+use Rattle.bcast_base.specs.Encoding.{IsOctets}
 use Rattle.bcast_base.proofs.Citable.{IsOctets-rest, reserved_first, first_reserved, reserved_none, none_reserved}
 use Rattle.bass_operations.specs.declared.fault.OpFault.{OpFault}
 use Rattle.bass_operations.specs.declared.fault.OpFault.TheVariants.{Empty, Opcode, Length, Rfu, BisTwice, Memory}

@@ -1,8 +1,8 @@
--- The fields before the subgroups: what is read of them is spelled so, and what is spelled so is read.
+-- The fields before the subgroups: what is read of them is encoded so, and what is encoded so is read.
 use Rattle.std.proofs.Common.{◌≡◌, ℕ, ◌+◌, ◌^◌, ◌<◌, List, [], ◌++◌, length, Some, refl, ap, subst, ◌∙◌, arith}
 use Rattle.std.proofs.lemmas.List.{length-append}
 use Rattle.bcast_base.specs.Reading.{octet_in, octets_in, number_in}
-use Rattle.bcast_base.specs.Spelling.{IsOctets, octet, number}
+use Rattle.bcast_base.specs.Encoding.{IsOctets, octet, number}
 use Rattle.bcast_base.specs.Steps.{◌>>=◌}
 use Rattle.bcast_base.proofs.Citable.{octet_takes, octets_take, octets_again, number_takes, number_again, number-length, bind_some, some_is}
 use Rattle.bass_operations.specs.declared.operation.AddSource.{AddSource}

@@ -4,18 +4,18 @@ use Rattle.std.proofs.lemmas.Bool.{le-ltb}
 use Rattle.std.specs.List.{flat_map}
 use Rattle.bcast_base.specs.Layout.{laid, reserved_from}
 use Rattle.bcast_base.specs.Reading.{octet_in, octets_in}
-use Rattle.bcast_base.specs.Spelling.{IsOctets, octet}
+use Rattle.bcast_base.specs.Encoding.{IsOctets, octet}
 use Rattle.bcast_base.specs.Steps.{◌>>=◌, whole}
 use Rattle.bcast_base.proofs.Citable.{IsOctets-rest, octet_takes, octets_take, bind_some, some_is, reserved_none, none_reserved}
 use Rattle.bass_operations.specs.declared.fault.OpFault.{OpFault}
 use Rattle.bass_operations.specs.declared.fault.OpFault.TheVariants.{Opcode}
 use Rattle.bass_operations.specs.declared.operation.Operation.{Operation}
 use Rattle.bass_operations.specs.declared.operation.Operation.TheVariants.{ScanStopped, ScanStarted, Add, Modify, Code, Remove}
-use Rattle.bass_operations.specs.Layout.{fields, spelling, wishes_of, IsLaid, OpIs, FitsWidths}
+use Rattle.bass_operations.specs.Layout.{fields, encoding, wishes_of, IsLaid, OpIs, FitsWidths}
 use Rattle.bass_operations.specs.Reading.{wishes_in, add_head_in, modify_head_in, add_in, modify_in, code_in, remove_in, alone, op_in, op_of, judged, answered, fault_of, first_fault}
 use Rattle.bass_operations.specs.Twice.{twice_of}
 use Rattle.bass_operations.proofs.Heads.{add_before, add_head_takes, add_head_again, modify_before, modify_head_takes, modify_head_again, octets_again_at}
-use Rattle.bass_operations.proofs.Spelled.{wish_fields, wishes_take, wishes_again}
+use Rattle.bass_operations.proofs.Encoded.{wish_fields, wishes_take, wishes_again}
 use Rattle.bass_operations.proofs.Twice.{none_twice, twice_none}
 
 few : (n : ℕ) → n < 256 → n ≤ 255
@@ -31,12 +31,12 @@ add_laid rest op h e =
     let t = add_head_takes rest a.0 h a.1 in
     let s = wishes_take a.0.1 a.0.2 b.0 t.octets b.1 in
     let parts : rest ≡ add_before a.0.0 (length b.0) (laid (flat_map wish_fields b.0)) =
-    t.parts ∙ (ap (add_before a.0.0 a.0.1) s.spelled ∙ ap (λ (n : ℕ). add_before a.0.0 n (laid (flat_map wish_fields b.0))) (sym s.counted)) in
+    t.parts ∙ (ap (add_before a.0.0 a.0.1) s.encoded ∙ ap (λ (n : ℕ). add_before a.0.0 n (laid (flat_map wish_fields b.0))) (sym s.counted)) in
     let read : Operation = Add (record a.0.0 { wishes = b.0 }) in
     subst (λ (o : Operation). IsLaid o (2 ∷ rest)) (some_is read op b.2)
     (record {
       widths = record { address = t.address; broadcast_id = t.broadcast_id; pa_interval = t.pa_interval; wishes = (subst (λ (n : ℕ). n ≤ 255) (sym s.counted) (few a.0.1 t.few), s.fit) };
-      spelled = ap (λ (x : List ℕ). 2 ∷ x) parts;
+      encoded = ap (λ (x : List ℕ). 2 ∷ x) parts;
     })
 
 pub modify_laid : (rest : List ℕ) (op : Operation) → IsOctets rest → modify_in rest ≡ Some op → IsLaid op (3 ∷ rest)
@@ -47,12 +47,12 @@ modify_laid rest op h e =
     let t = modify_head_takes rest a.0 h a.1 in
     let s = wishes_take a.0.1 a.0.2 b.0 t.octets b.1 in
     let parts : rest ≡ modify_before a.0.0 (length b.0) (laid (flat_map wish_fields b.0)) =
-    t.parts ∙ (ap (modify_before a.0.0 a.0.1) s.spelled ∙ ap (λ (n : ℕ). modify_before a.0.0 n (laid (flat_map wish_fields b.0))) (sym s.counted)) in
+    t.parts ∙ (ap (modify_before a.0.0 a.0.1) s.encoded ∙ ap (λ (n : ℕ). modify_before a.0.0 n (laid (flat_map wish_fields b.0))) (sym s.counted)) in
     let read : Operation = Modify (record a.0.0 { wishes = b.0 }) in
     subst (λ (o : Operation). IsLaid o (3 ∷ rest)) (some_is read op b.2)
     (record {
       widths = record { pa_interval = t.pa_interval; wishes = (subst (λ (n : ℕ). n ≤ 255) (sym s.counted) (few a.0.1 t.few), s.fit) };
-      spelled = ap (λ (x : List ℕ). 3 ∷ x) parts;
+      encoded = ap (λ (x : List ℕ). 3 ∷ x) parts;
     })
 
 whole_some : {A B : Type 0} (read : Option (A × List B)) (x : A) → whole read ≡ Some x → read ≡ Some (x, [])
@@ -69,7 +69,7 @@ code_laid rest op e =
     let t1 = octets_take 16 a.0.1 b.0 [] (whole_some (octets_in 16 a.0.1) b.0 b.1) in
     let read : Operation = Code a.0.0 b.0 in
     subst (λ (o : Operation). IsLaid o (4 ∷ rest)) (some_is read op b.2)
-    (record { widths = t1.1; spelled = ap (λ (x : List ℕ). 4 ∷ x) (t0.parts ∙ ap (λ (x : List ℕ). a.0.0 ∷ x) t1.0.parts) })
+    (record { widths = t1.1; encoded = ap (λ (x : List ℕ). 4 ∷ x) (t0.parts ∙ ap (λ (x : List ℕ). a.0.0 ∷ x) t1.0.parts) })
 
 pub remove_laid : (rest : List ℕ) (op : Operation) → remove_in rest ≡ Some op → IsLaid op (5 ∷ rest)
 unfolding remove_in
@@ -77,10 +77,10 @@ remove_laid rest op e =
     let a = bind_some (whole (octet_in rest)) (λ source. Some (Remove source)) op e in
     let t = octet_takes rest a.0 [] (whole_some (octet_in rest) a.0 a.1) in
     let read : Operation = Remove a.0 in
-    subst (λ (o : Operation). IsLaid o (5 ∷ rest)) (some_is read op a.2) (record { widths = tt; spelled = ap (λ (x : List ℕ). 5 ∷ x) t.parts })
+    subst (λ (o : Operation). IsLaid o (5 ∷ rest)) (some_is read op a.2) (record { widths = tt; encoded = ap (λ (x : List ℕ). 5 ∷ x) t.parts })
 
-alone_laid : (code : ℕ) (rest : List ℕ) (read op : Operation) → FitsWidths read → spelling read ≡ code ∷ [] → alone read rest ≡ Some op → IsLaid op (code ∷ rest)
-alone_laid code [] read op w s e = subst (λ (o : Operation). IsLaid o (code ∷ [])) (some_is read op e) (record { widths = w; spelled = sym s })
+alone_laid : (code : ℕ) (rest : List ℕ) (read op : Operation) → FitsWidths read → encoding read ≡ code ∷ [] → alone read rest ≡ Some op → IsLaid op (code ∷ rest)
+alone_laid code [] read op w s e = subst (λ (o : Operation). IsLaid o (code ∷ [])) (some_is read op e) (record { widths = w; encoded = sym s })
 alone_laid code (octet ∷ rest) read op w s e = absurd cc
 
 pub op_laid : (code : ℕ) (rest : List ℕ) (op : Operation) → IsOctets rest → op_in code rest ≡ Some op → IsLaid op (code ∷ rest)
@@ -104,21 +104,21 @@ pub record IsRead (op : Operation) (octets : List ℕ) : Type 0 where
 
 pub laid_read : (op : Operation) (octets : List ℕ) → IsLaid op octets → IsRead op octets
 unfolding op_in add_in modify_in code_in remove_in
-laid_read ScanStopped octets l = record { opcode = 0; rest = []; parts = l.spelled; known = omega arith; read = refl }
-laid_read ScanStarted octets l = record { opcode = 1; rest = []; parts = l.spelled; known = omega arith; read = refl }
+laid_read ScanStopped octets l = record { opcode = 0; rest = []; parts = l.encoded; known = omega arith; read = refl }
+laid_read ScanStarted octets l = record { opcode = 1; rest = []; parts = l.encoded; known = omega arith; read = refl }
 laid_read (Add add) octets l =
     let tail = laid (flat_map wish_fields add.wishes) in
     let head = add_head_again add (length add.wishes) tail l.widths.address l.widths.broadcast_id l.widths.pa_interval in
     let wishes = wishes_again add.wishes l.widths.wishes.1 in
-    record { opcode = 2; rest = add_before add (length add.wishes) tail; parts = l.spelled; known = omega arith; read = rw (head, wishes) refl }
+    record { opcode = 2; rest = add_before add (length add.wishes) tail; parts = l.encoded; known = omega arith; read = rw (head, wishes) refl }
 laid_read (Modify modify) octets l =
     let tail = laid (flat_map wish_fields modify.wishes) in
     let head = modify_head_again modify (length modify.wishes) tail l.widths.pa_interval in
     let wishes = wishes_again modify.wishes l.widths.wishes.1 in
-    record { opcode = 3; rest = modify_before modify (length modify.wishes) tail; parts = l.spelled; known = omega arith; read = rw (head, wishes) refl }
+    record { opcode = 3; rest = modify_before modify (length modify.wishes) tail; parts = l.encoded; known = omega arith; read = rw (head, wishes) refl }
 laid_read (Code source_id code) octets l =
-    record { opcode = 4; rest = source_id ∷ (code ++ []); parts = l.spelled; known = omega arith; read = rw (octets_again_at 16 code [] l.widths) refl }
-laid_read (Remove source_id) octets l = record { opcode = 5; rest = source_id ∷ []; parts = l.spelled; known = omega arith; read = refl }
+    record { opcode = 4; rest = source_id ∷ (code ++ []); parts = l.encoded; known = omega arith; read = rw (octets_again_at 16 code [] l.widths) refl }
+laid_read (Remove source_id) octets l = record { opcode = 5; rest = source_id ∷ []; parts = l.encoded; known = omega arith; read = refl }
 
 -- ---- the first fault
 

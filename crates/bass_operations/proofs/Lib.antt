@@ -4,5 +4,5 @@ pub mod Judged
 pub mod Loops
 pub mod Opcodes
 pub mod Read
-pub mod Spelled
+pub mod Encoded
 pub mod Twice

@@ -72,48 +72,48 @@ are_end count i rest total le so_far =
     sym (ends_empty (count - i) rest none_left) ∙ so_far
 
 -- the wishes so far, and those that are read behind them
-abbrev pub with_front : List Wish → Option (List Wish) → Option (List Wish)
-with_front front read = read >>= λ wishes. Some (front ++ wishes)
+abbrev pub with_prefix : List Wish → Option (List Wish) → Option (List Wish)
+with_prefix prefix read = read >>= λ wishes. Some (prefix ++ wishes)
 
-regroup : (front : List Wish) (wish : Wish) (read : Option (List Wish)) → with_front front (read >>= λ wishes. Some (wish ∷ wishes)) ≡ with_front (front ++ wish ∷ []) read
-regroup front wish None = refl
-regroup front wish (Some wishes) = ap (λ (ws : List Wish). Some ws) (sym (append_assoc front (wish ∷ []) wishes))
+regroup : (prefix : List Wish) (wish : Wish) (read : Option (List Wish)) → with_prefix prefix (read >>= λ wishes. Some (wish ∷ wishes)) ≡ with_prefix (prefix ++ wish ∷ []) read
+regroup prefix wish None = refl
+regroup prefix wish (Some wishes) = ap (λ (ws : List Wish). Some ws) (sym (append_assoc prefix (wish ∷ []) wishes))
 
-pub read_next : (front : List Wish) (count i : ℕ) (from : List ℕ) (group : Subgroup) (after : List ℕ) (total : Option (List Wish)) → i < count → subgroup_in from ≡ Some (group, after)
-    → with_front front (wishes_in (count - i) from) ≡ total → with_front (front ++ wish_of group ∷ []) (wishes_in (count - (i + 1)) after) ≡ total
-read_next front count i from group after total lt e so_far =
-    let one : with_front front (wishes_in (count - i) from) ≡ with_front (front ++ wish_of group ∷ []) (wishes_in (count - (i + 1)) after) =
-    ap (λ (n : ℕ). with_front front (wishes_in n from)) (one_left count i lt)
-    ∙ (ap (with_front front) (wishes_suc (count - (i + 1)) from group after e) ∙ regroup front (wish_of group) (wishes_in (count - (i + 1)) after)) in
+pub read_next : (prefix : List Wish) (count i : ℕ) (from : List ℕ) (group : Subgroup) (after : List ℕ) (total : Option (List Wish)) → i < count → subgroup_in from ≡ Some (group, after)
+    → with_prefix prefix (wishes_in (count - i) from) ≡ total → with_prefix (prefix ++ wish_of group ∷ []) (wishes_in (count - (i + 1)) after) ≡ total
+read_next prefix count i from group after total lt e so_far =
+    let one : with_prefix prefix (wishes_in (count - i) from) ≡ with_prefix (prefix ++ wish_of group ∷ []) (wishes_in (count - (i + 1)) after) =
+    ap (λ (n : ℕ). with_prefix prefix (wishes_in n from)) (one_left count i lt)
+    ∙ (ap (with_prefix prefix) (wishes_suc (count - (i + 1)) from group after e) ∙ regroup prefix (wish_of group) (wishes_in (count - (i + 1)) after)) in
     sym one ∙ so_far
 
-pub read_never : (front : List Wish) (count i : ℕ) (from : List ℕ) (total : Option (List Wish)) → i < count → subgroup_in from ≡ None
-    → with_front front (wishes_in (count - i) from) ≡ total → is_some total ≡ true → ⊥
-read_never front count i from total lt e so_far some =
-    let one : with_front front (wishes_in (count - i) from) ≡ None =
-    ap (λ (n : ℕ). with_front front (wishes_in n from)) (one_left count i lt) ∙ ap (with_front front) (wishes_none (count - (i + 1)) from e) in
+pub read_never : (prefix : List Wish) (count i : ℕ) (from : List ℕ) (total : Option (List Wish)) → i < count → subgroup_in from ≡ None
+    → with_prefix prefix (wishes_in (count - i) from) ≡ total → is_some total ≡ true → ⊥
+read_never prefix count i from total lt e so_far some =
+    let one : with_prefix prefix (wishes_in (count - i) from) ≡ None =
+    ap (λ (n : ℕ). with_prefix prefix (wishes_in n from)) (one_left count i lt) ∙ ap (with_prefix prefix) (wishes_none (count - (i + 1)) from e) in
     let none : total ≡ None = sym so_far ∙ one in
     let no : is_some total ≡ false = ap (λ (r : Option (List Wish)). is_some r) none in
     cc
 
-nothing_left : (front : List Wish) (read total : Option (List Wish)) (rest : List ℕ) → is_some read ≡ eqb (length rest) 0 → with_front front read ≡ total → is_some total ≡ true
-    → read ≡ wishes_in 0 rest → total ≡ Some front
+nothing_left : (prefix : List Wish) (read total : Option (List Wish)) (rest : List ℕ) → is_some read ≡ eqb (length rest) 0 → with_prefix prefix read ≡ total → is_some total ≡ true
+    → read ≡ wishes_in 0 rest → total ≡ Some prefix
 unfolding wishes_in subgroups_in
-nothing_left front read total [] e so_far some same =
+nothing_left prefix read total [] e so_far some same =
     let done : read ≡ Some [] = same in
-    let all : with_front front read ≡ Some front = ap (with_front front) done ∙ ap (λ (ws : List Wish). Some ws) (append-nil front) in
+    let all : with_prefix prefix read ≡ Some prefix = ap (with_prefix prefix) done ∙ ap (λ (ws : List Wish). Some ws) (append-nil prefix) in
     sym so_far ∙ all
-nothing_left front read total (octet ∷ rest) e so_far some same =
+nothing_left prefix read total (octet ∷ rest) e so_far some same =
     let done : read ≡ None = same in
-    let none : total ≡ None = sym so_far ∙ ap (with_front front) done in
+    let none : total ≡ None = sym so_far ∙ ap (with_prefix prefix) done in
     let no : is_some total ≡ false = ap (λ (r : Option (List Wish)). is_some r) none in
     absurd cc
 
-pub read_end : (front : List Wish) (count i : ℕ) (rest : List ℕ) (total : Option (List Wish)) → count ≤ i → with_front front (wishes_in (count - i) rest) ≡ total → is_some total ≡ true
-    → total ≡ Some front
-read_end front count i rest total le so_far some =
+pub read_end : (prefix : List Wish) (count i : ℕ) (rest : List ℕ) (total : Option (List Wish)) → count ≤ i → with_prefix prefix (wishes_in (count - i) rest) ≡ total → is_some total ≡ true
+    → total ≡ Some prefix
+read_end prefix count i rest total le so_far some =
     let none_left : count - i ≡ 0 = omega arith in
-    nothing_left front (wishes_in (count - i) rest) total rest (ends_empty (count - i) rest none_left) so_far some (ap (λ (n : ℕ). wishes_in n rest) none_left)
+    nothing_left prefix (wishes_in (count - i) rest) total rest (ends_empty (count - i) rest none_left) so_far some (ap (λ (n : ℕ). wishes_in n rest) none_left)
 
 -- ---- streams
 

@@ -5,7 +5,7 @@ use Rattle.std.specs.Prelude.{IfOk, IsOk}
 use Rattle.std.specs.List.{flat_map}
 use Rattle.bcast_base.specs.Layout.{reserved_from}
 use Rattle.bcast_base.specs.Reading.{place_in}
-use Rattle.bcast_base.specs.Spelling.{IsOctets}
+use Rattle.bcast_base.specs.Encoding.{IsOctets}
 use Rattle.bcast_base.specs.Subgroups.{subgroup_fields, reserved_in}
 use Rattle.bcast_base.proofs.Citable.{IsOctets-rest, number-length, reserved_found}
 use Rattle.bass_operations.specs.declared.fault.OpFault.{OpFault}
@@ -23,7 +23,7 @@ use Rattle.bass_operations.specs.Twice.{twice_of, twice_from}
 use Rattle.bass_operations.proofs.Heads.{add_head_takes, add_before-length, modify_head_takes, modify_before-length}
 use Rattle.bass_operations.proofs.Judged.{judged_by}
 use Rattle.bass_operations.proofs.Loops.{twice_found}
-use Rattle.bass_operations.proofs.Spelled.{wish_fields, fields_same, groups_of_wishes, wishes_take}
+use Rattle.bass_operations.proofs.Encoded.{wish_fields, fields_same, groups_of_wishes, wishes_take}
 
 -- the first place that is there
 abbrev pub or_place : Option ℕ → Option ℕ → Option ℕ

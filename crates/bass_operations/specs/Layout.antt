@@ -3,7 +3,7 @@
 use Rattle.std.specs.Prelude.{ℕ, ◌≡◌, ◌<◌, ◌≤◌, ◌^◌, List, [], ◌∷◌, length, nat_lt}
 use Rattle.std.specs.List.{flat_map, AllByRecursion}
 use Rattle.bcast_base.specs.Layout.{Field, free, unless, laid, NoneReserved}
-use Rattle.bcast_base.specs.Spelling.{octet, number}
+use Rattle.bcast_base.specs.Encoding.{octet, number}
 use Rattle.bcast_base.specs.Subgroups.{Subgroup, subgroup_fields}
 use Rattle.bass_operations.specs.declared.operation.AddSource.{AddSource}
 use Rattle.bass_operations.specs.declared.operation.ModifySource.{ModifySource}
@@ -41,8 +41,8 @@ fields (Code source_id code) = free (octet 4) ∷ free (octet source_id) ∷ fre
 fields (Remove source_id) = free (octet 5) ∷ free (octet source_id) ∷ []
 
 -- the octets of an operation
-abbrev pub spelling : Operation → List ℕ
-spelling op = laid (fields op)
+abbrev pub encoding : Operation → List ℕ
+encoding op = laid (fields op)
 
 -- what is wanted of each subgroup
 abbrev pub wishes_of : Operation → List Wish
@@ -87,7 +87,7 @@ FitsWidths (Remove source_id) = Unit {0}
 -- the octets are the fields of the operation, reserved values and streams that stand twice among them
 pub record IsLaid (op : Operation) (octets : List ℕ) : Type 0 where
   pub widths : FitsWidths op
-  pub spelled : octets ≡ spelling op
+  pub encoded : octets ≡ encoding op
 
 -- the octets are the operation
 pub record OpIs (op : Operation) (octets : List ℕ) : Type 0 where

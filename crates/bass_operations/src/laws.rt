@@ -1,6 +1,6 @@
 //! Which octets are an operation, and what is wrong with all others.
 ghost use Rattle.std.specs.Prelude.{◌≡◌, ◌≢◌, ◌↔◌, ℕ, List, Ok, Err, Some, None};
-ghost use Rattle.bcast_base.specs.Spelling.{IsOctets};
+ghost use Rattle.bcast_base.specs.Encoding.{IsOctets};
 ghost use Rattle.bass_operations.specs.Faults.{IsFault};
 ghost use Rattle.bass_operations.specs.Layout.{OpIs};
 ghost use Rattle.bass_operations.specs.Reading.{op_of};

@@ -9,7 +9,7 @@ use Rattle.std.specs.Int.{w64, to_le_bytes}
 use Rattle.bcast_base.specs.Numbers.{sum_from}
 use Rattle.bcast_base.proofs.Places.{sum_from-cons}
 use Rattle.bcast_base.specs.Reading.{octet_in, octets_in, number_in, counted_in, Takes}
-use Rattle.bcast_base.specs.Spelling.{IsOctets, octet, number, counted}
+use Rattle.bcast_base.specs.Encoding.{IsOctets, octet, number, counted}
 
 pub IsOctets-drop : (n : ℕ) (octets : List ℕ) → IsOctets octets → IsOctets (drop n octets)
 IsOctets-drop n octets h i = rw get_or-drop (h (n + i))
@@ -24,8 +24,8 @@ IsOctets-take n octets h i =
 pub IsOctets-rest : (first : ℕ) (octets : List ℕ) → IsOctets (first ∷ octets) → IsOctets octets
 IsOctets-rest first octets h i = h (suc i)
 
-pub IsOctets-front : (front rest : List ℕ) → IsOctets (front ++ rest) → IsOctets front
-IsOctets-front front rest h = subst IsOctets (take_at front rest (length front) refl) (IsOctets-take (length front) (front ++ rest) h)
+pub IsOctets-prefix : (prefix rest : List ℕ) → IsOctets (prefix ++ rest) → IsOctets prefix
+IsOctets-prefix prefix rest h = subst IsOctets (take_at prefix rest (length prefix) refl) (IsOctets-take (length prefix) (prefix ++ rest) h)
 
 -- a test that did not fail
 pub guard_some : {A : Type 0} (b : Bool) (x y : A) → cond b None (Some x) ≡ Some y → (b ≡ false) × (x ≡ y)
@@ -122,12 +122,12 @@ eight_octets value =
     let at7 : value / 281474976710656 / 256 ≡ value / 72057594037927936 = omega arith in
     rw (at2, at3, at4, at5, at6, at7) refl
 
-pub front_of_eight : (k value : ℕ) → k ≤ 8 → take k (to_le_bytes w64 value) ≡ number k value
-front_of_eight k value h =
+pub prefix_of_eight : (k value : ℕ) → k ≤ 8 → take k (to_le_bytes w64 value) ≡ number k value
+prefix_of_eight k value h =
     let e : 8 ≡ k + (8 - k) = omega arith in
     ap (take k) (eight_octets value) ∙ ap (λ (n : ℕ). take k (number n value)) e ∙ take_number k (8 - k) value
 
--- the octets of a number are those that spell it
+-- the octets of a number are those that encode it
 pub number_once : (k value : ℕ) (octets : List ℕ) → IsOctets octets → length octets ≡ k → value ≡ sum_from 0 octets → octets ≡ number k value
 number_once k value octets h long e = rw (e, ← long) (sym (number_back octets h))
 
@@ -137,8 +137,8 @@ number_takes k from value rest h e =
     let long : k ≤ length from = ltb-false _ _ g.0 in
     let fits = IsOctets-take k from h in
     let len : length (take k from) ≡ k = omega (arith, length-take k from) in
-    let front : take k from ≡ number k (sum_from 0 (take k from)) = number_once k (sum_from 0 (take k from)) (take k from) fits len refl in
-    let parts : from ≡ number k (sum_from 0 (take k from)) ++ drop k from = sym (take-append-drop k from) ∙ ap (λ (x : List ℕ). x ++ drop k from) front in
+    let prefix : take k from ≡ number k (sum_from 0 (take k from)) = number_once k (sum_from 0 (take k from)) (take k from) fits len refl in
+    let parts : from ≡ number k (sum_from 0 (take k from)) ++ drop k from = sym (take-append-drop k from) ∙ ap (λ (x : List ℕ). x ++ drop k from) prefix in
     let taken : Takes from (number k (sum_from 0 (take k from))) (drop k from) = record { parts = parts; fits = IsOctets-drop k from } in
     let small : sum_from 0 (take k from) < 2 ^ (8 * k) = subst (λ (n : ℕ). sum_from 0 (take k from) < 2 ^ (8 * n)) len (number_below (take k from) fits) in
     subst (λ (p : ℕ × List ℕ). Takes from (number k p.0) p.1 × (p.0 < 2 ^ (8 * k))) g.1 (taken, small)
@@ -151,8 +151,8 @@ number_again k value rest lt =
 
 -- the number of the octets that were taken has room in as many
 pub octets_below : (k : ℕ) (from value rest : List ℕ) (n : ℕ) → IsOctets from → octets_in k from ≡ Some (value, rest) → n ≡ sum_from 0 value → n < 2 ^ (8 * k)
-octets_below k from value rest n h e spelled =
+octets_below k from value rest n h e encoded =
     let t = octets_take k from value rest e in
-    let fits : IsOctets value = IsOctets-front value rest (subst IsOctets t.0.parts h) in
+    let fits : IsOctets value = IsOctets-prefix value rest (subst IsOctets t.0.parts h) in
     let small : sum_from 0 value < 2 ^ (8 * k) = subst (λ (m : ℕ). sum_from 0 value < 2 ^ (8 * m)) t.1 (number_below value fits) in
-    omega (arith, spelled, small)
+    omega (arith, encoded, small)

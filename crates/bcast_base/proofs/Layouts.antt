@@ -6,7 +6,7 @@ use Rattle.bcast_base.specs.Layout.{Field, laid, NoneReserved, FirstReserved, re
 -- the same, where the fields begin at a place
 abbrev FirstFrom : ℕ → ℕ → List Field → Type 0
 FirstFrom start place fields =
-    (front : List Field) × (field : Field) × (back : List Field) × (fields ≡ front ++ field ∷ back) × NoneReserved front × (field.reserved ≡ true) × (place ≡ start + length (laid front))
+    (prefix : List Field) × (field : Field) × (back : List Field) × (fields ≡ prefix ++ field ∷ back) × NoneReserved prefix × (field.reserved ≡ true) × (place ≡ start + length (laid prefix))
 
 step_first : (start place : ℕ) (field : Field) (fields : List Field) (next : Option ℕ) (b : Bool) → field.reserved ≡ b → cond b (Some start) next ≡ Some place
     → (next ≡ Some place → FirstFrom (start + length field.octets) place fields) → FirstFrom start place (field ∷ fields)
@@ -38,12 +38,12 @@ none_only : (start : ℕ) (fields : List Field) → NoneReserved fields → rese
 none_only start [] h = refl
 none_only start (field ∷ fields) h = rw h.0 (none_only (start + length field.octets) fields h.1)
 
-first_only : (start : ℕ) (front : List Field) (field : Field) (back : List Field) → NoneReserved front → field.reserved ≡ true
-    → reserved_from start (front ++ field ∷ back) ≡ Some (start + length (laid front))
+first_only : (start : ℕ) (prefix : List Field) (field : Field) (back : List Field) → NoneReserved prefix → field.reserved ≡ true
+    → reserved_from start (prefix ++ field ∷ back) ≡ Some (start + length (laid prefix))
 first_only start [] field back h t = rw t (ap (λ (n : ℕ). Some n) (sym (add-zero start)))
-first_only start (first ∷ front) field back h t =
-    let there : start + length first.octets + length (laid front) ≡ start + length (laid (first ∷ front)) = omega (arith, length-append first.octets (laid front)) in
-    rw h.0 (first_only (start + length first.octets) front field back h.1 t ∙ ap (λ (n : ℕ). Some n) there)
+first_only start (first ∷ prefix) field back h t =
+    let there : start + length first.octets + length (laid prefix) ≡ start + length (laid (first ∷ prefix)) = omega (arith, length-append first.octets (laid prefix)) in
+    rw h.0 (first_only (start + length first.octets) prefix field back h.1 t ∙ ap (λ (n : ℕ). Some n) there)
 
 pub reserved_first : (place : ℕ) (fields : List Field) → reserved_from 0 fields ≡ Some place → FirstReserved place fields
 reserved_first place fields e =

@@ -8,11 +8,11 @@ use Rattle.std.proofs.Math.ListN.{set, length-set}
 use Rattle.bcast_base.specs.Numbers.{sum_from}
 
 -- octets after others stand at the places after theirs
-pub sum_from-append : (i : ℕ) (front back : List ℕ) → sum_from i (front ++ back) ≡ sum_from i front + sum_from (i + length front) back
+pub sum_from-append : (i : ℕ) (prefix back : List ℕ) → sum_from i (prefix ++ back) ≡ sum_from i prefix + sum_from (i + length prefix) back
 sum_from-append i [] back = rw (add-zero i) (sym (zero-add (sum_from i back)))
-sum_from-append i (octet ∷ front) back =
-    let rest : sum_from (i + 1) (front ++ back) ≡ sum_from (i + 1) front + sum_from (i + 1 + length front) back = sum_from-append (i + 1) front back in
-    let place : i + 1 + length front ≡ i + length (octet ∷ front) = omega arith in
+sum_from-append i (octet ∷ prefix) back =
+    let rest : sum_from (i + 1) (prefix ++ back) ≡ sum_from (i + 1) prefix + sum_from (i + 1 + length prefix) back = sum_from-append (i + 1) prefix back in
+    let place : i + 1 + length prefix ≡ i + length (octet ∷ prefix) = omega arith in
     rw (rest, place) (omega arith)
 
 -- one place on, each octet counts 256 times as much

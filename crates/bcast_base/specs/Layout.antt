@@ -26,7 +26,7 @@ NoneReserved fields = AllByRecursion (λ field. field.reserved ≡ false) fields
 -- the first field with a reserved value is the one at this place
 abbrev pub FirstReserved : ℕ → List Field → Type 0
 FirstReserved place fields =
-    (front : List Field) × (field : Field) × (back : List Field) × (fields ≡ front ++ field ∷ back) × NoneReserved front × (field.reserved ≡ true) × (place ≡ length (laid front))
+    (prefix : List Field) × (field : Field) × (back : List Field) × (fields ≡ prefix ++ field ∷ back) × NoneReserved prefix × (field.reserved ≡ true) × (place ≡ length (laid prefix))
 
 -- the same as a number, where the fields begin at this place
 abbrev pub reserved_from : ℕ → List Field → Option ℕ

@@ -3,7 +3,7 @@ pub mod Counts
 pub mod Numbers
 pub mod Layout
 pub mod Reading
-pub mod Spelling
+pub mod Encoding
 pub mod Steps
 pub mod Subgroups
 pub mod Tries

@@ -2,7 +2,7 @@
 -- Numbers have the least octet first (Core 5.2, volume 6 part B, section 1.2).
 use Rattle.std.specs.Prelude.{ℕ, ◌≡◌, ◌++◌, ◌-◌, List, [], ◌∷◌, length, take, drop, Option, Some, None, nat_lt, if◌then◌else◌}
 use Rattle.bcast_base.specs.Numbers.{sum_from}
-use Rattle.bcast_base.specs.Spelling.{IsOctets}
+use Rattle.bcast_base.specs.Encoding.{IsOctets}
 
 -- k octets as they are
 abbrev pub octets_in : ℕ → List ℕ → Option (List ℕ × List ℕ)
@@ -13,7 +13,7 @@ abbrev pub octet_in : List ℕ → Option (ℕ × List ℕ)
 octet_in [] = None
 octet_in (octet ∷ rest) = Some (octet, rest)
 
--- the number that k octets spell
+-- the number that k octets encode
 abbrev pub number_in : ℕ → List ℕ → Option (ℕ × List ℕ)
 number_in k from = if nat_lt (length from) k then None else Some (sum_from 0 (take k from), drop k from)
 

@@ -4,7 +4,7 @@
 use Rattle.std.specs.Prelude.{ℕ, zero, suc, ◌<◌, ◌^◌, List, [], ◌∷◌, ◌++◌, length, Option, Some, None, Bool, nat_lt, ◌==◌, ◌&&◌, not, if◌then◌else◌}
 use Rattle.bcast_base.specs.Layout.{Field, free, unless}
 use Rattle.bcast_base.specs.Reading.{number_in, counted_in, place_in}
-use Rattle.bcast_base.specs.Spelling.{octet, number, counted}
+use Rattle.bcast_base.specs.Encoding.{octet, number, counted}
 use Rattle.bcast_base.specs.Steps.{◌>>=◌}
 
 pub record Subgroup : Type 0 where

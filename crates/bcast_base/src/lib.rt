@@ -15,8 +15,8 @@ mod writing;
 pub use bis::{Bis, BisSet};
 pub use items::{Calls, EventPdus, Items, Times};
 pub use laws::{
-    are_octets, place_is_cut, read_is_spelled, reserved_is_first, spelled_is_read,
-    subgroups_are_spelled,
+    are_octets, encoded_is_read, place_is_cut, read_is_encoded, reserved_is_first,
+    subgroups_are_encoded,
 };
 pub use memory::{Kept, Memory};
 pub use numbers::{read_le, write_le};

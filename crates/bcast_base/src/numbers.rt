@@ -1,7 +1,7 @@
 ghost use Rattle.std.specs.Prelude.{◌≤◌, ◌<◌, ◌^◌, ◌*◌, length};
 ghost use Rattle.bcast_base.specs.Numbers.{Le};
 
-/// The number that at most 8 octets spell, the least octet first.
+/// The number that at most 8 octets encode, the least octet first.
 #[tactic(auto, using(crate::proofs::Places::one_more_read))]
 pub fn read_le(from: &[u8]) -> u64
     requires { length from.now ≤ 8 }
@@ -15,7 +15,7 @@ pub fn read_le(from: &[u8]) -> u64
     value
 }
 
-/// Spells a number over the whole of `into`, the least octet first.
+/// Encodes a number over the whole of `into`, the least octet first.
 pub fn write_le(value: u64, into: &mut [u8])
     requires room { length into.old ≤ 8 }
     requires fits { value < 2 ^ (8 * length into.old) }

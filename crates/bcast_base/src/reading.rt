@@ -33,7 +33,7 @@ pub fn array_at<const N: usize>(from: &[u8]) -> Option<([u8; N], &[u8])>
     Some((array, rest))
 }
 
-/// The number that the first `k` octets spell, the least octet first, and the octets after them, or nothing where there
+/// The number that the first `k` octets encode, the least octet first, and the octets after them, or nothing where there
 /// are fewer. `k` is at most 8.
 pub fn number_at(from: &[u8], k: usize) -> Option<(u64, &[u8])>
     requires { k ≤ 8 }

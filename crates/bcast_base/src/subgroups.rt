@@ -6,7 +6,7 @@ use crate::reading::{counted_at, number_at, place_of};
 use crate::writing::{put_counted, put_number};
 use crate::{Memory, Octets};
 
-/// A subgroup of an operation or of a receive state, lent from the octets that spell it (Broadcast Audio Scan Service 1.0,
+/// A subgroup of an operation or of a receive state, lent from the octets that encode it (Broadcast Audio Scan Service 1.0,
 /// sections 3.1.1.4 and 3.2).
 #[derive(Clone, Copy)]
 pub struct LentSubgroup<'a> {
@@ -66,7 +66,7 @@ pub fn put_subgroup(out: &mut Octets, bits: u32, metadata: &[u8]) -> Result<(), 
     put
 }
 
-// Puts the fields of a subgroup at the end, or a front of them where memory runs out.
+// Puts the fields of a subgroup at the end, or a prefix of them where memory runs out.
 fn put_fields(out: &mut Octets, bits: u32, metadata: &[u8]) -> Result<(), Memory>
     requires { length metadata.now < 256 }
     ensures ok { OnOk result (out.new ≡ out.old ++ subgroup (record { bits = bits; metadata = metadata.now })) }

@@ -1,10 +1,10 @@
 ghost use Rattle.std.specs.Prelude.{◌≡◌, ◌<◌, ◌≤◌, ◌*◌, ◌^◌, ◌++◌, length, OnOk, OnErr};
-ghost use Rattle.bcast_base.specs.Spelling.{number, counted};
+ghost use Rattle.bcast_base.specs.Encoding.{number, counted};
 
 use crate::{Memory, Octets};
 
 /// Puts the `k` octets of a number at the end, the least octet first. `k` is at most 8, and the number has room in them.
-#[tactic(auto, using(crate::proofs::Fields::front_of_eight))]
+#[tactic(auto, using(crate::proofs::Fields::prefix_of_eight))]
 pub fn put_number(out: &mut Octets, value: u64, k: usize) -> Result<(), Memory>
     requires few { k ≤ 8 }
     requires room { value < 2 ^ (8 * k) }

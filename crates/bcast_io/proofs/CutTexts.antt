@@ -93,24 +93,24 @@ lines-cut : (e : Bool) (text : List ℕ) (whole : List (List ℕ)) (rest : List 
     → All NoNewline whole → NoNewline rest → lines_of e text ≡ map line_of whole ++ line_behind e text rest
 lines-cut e text whole rest together apart unended = elim (cases_lt text_limit (length text)) [
   | inl more ↦
-      let front : List ℕ = concat (map with_end whole) in
+      let prefix : List ℕ = concat (map with_end whole) in
       let later : List ℕ = drop text_limit text in
-      let long : length front + length rest ≡ text_limit =
-      sym (length-append front rest) ∙ sym (ap length together) ∙ length-take-le text_limit text (omega arith) in
+      let long : length prefix + length rest ≡ text_limit =
+      sym (length-append prefix rest) ∙ sym (ap length together) ∙ length-take-le text_limit text (omega arith) in
       let some : 0 < length later = omega (arith, length-drop text_limit text) in
-      let all : text ≡ front ++ (rest ++ later) = sym (take-append-drop text_limit text) ∙ ap (λ l. l ++ later) together ∙ append_assoc front rest later in
+      let all : text ≡ prefix ++ (rest ++ later) = sym (take-append-drop text_limit text) ∙ ap (λ l. l ++ later) together ∙ append_assoc prefix rest later in
       ap (lines_from e 0 []) all ∙ lines-whole e 0 whole (rest ++ later) apart (omega arith)
       ∙ ap (λ ls. map line_of whole ++ ls) (
-      lines-limit e (0 + length front) rest later unended (omega arith) some
+      lines-limit e (0 + length prefix) rest later unended (omega arith) some
       ∙ sym (ap (λ b. cond b (last_line e rest) (past ∷ [])) (lt-leb (length text) text_limit more))
       )
   | inr within ↦
-      let front : List ℕ = concat (map with_end whole) in
-      let all : text ≡ front ++ rest = sym (take_all text_limit text within) ∙ together in
-      let long : length text ≡ length front + length rest = ap length all ∙ length-append front rest in
+      let prefix : List ℕ = concat (map with_end whole) in
+      let all : text ≡ prefix ++ rest = sym (take_all text_limit text within) ∙ together in
+      let long : length text ≡ length prefix + length rest = ap length all ∙ length-append prefix rest in
       ap (lines_from e 0 []) all ∙ lines-whole e 0 whole rest apart (omega arith)
       ∙ ap (λ ls. map line_of whole ++ ls) (
-      lines-rest e (0 + length front) rest unended (omega arith)
+      lines-rest e (0 + length prefix) rest unended (omega arith)
       ∙ sym (ap (λ b. cond b (last_line e rest) (past ∷ [])) (le-leb (length text) text_limit within))
       )
 ]

@@ -96,10 +96,10 @@ Finds-whole old new at within end before fits short empty line part ahead taken 
     let named : plain octets ≡ line_of (take 9001 (old.part ++ octets)) = rw (empty, take_all 9001 octets (omega (arith, count)), le-leb (length octets) line_limit (omega (arith, count))) refl in
     (octets, line, Reads-line old new octets (plain octets) before split (part ∙ empty) (omega (arith, count)) (omega arith) named)
 
--- a front of what was ahead ended no line and went to the line so far
-pub Reads-front : (old new : Reading) (n : ℕ) → n ≤ length old.ahead → NoNewline (take n old.ahead) → new.ahead ≡ drop n old.ahead
+-- a prefix of what was ahead ended no line and went to the line so far
+pub Reads-prefix : (old new : Reading) (n : ℕ) → n ≤ length old.ahead → NoNewline (take n old.ahead) → new.ahead ≡ drop n old.ahead
     → new.part ≡ take 9001 (old.part ++ take n old.ahead) → new.taken ≡ old.taken + n → old.taken + n ≤ text_limit → Reads old new [] []
-Reads-front old new n within none ahead part taken fits =
+Reads-prefix old new n within none ahead part taken fits =
     let octets = take n old.ahead in
     let count : length octets ≡ n = length-take-le n old.ahead within in
     Reads-part old new octets none (sym (take-append-drop n old.ahead) ∙ ap (λ l. octets ++ l) (sym ahead)) part (omega arith) (omega arith)

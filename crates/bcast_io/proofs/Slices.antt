@@ -10,10 +10,10 @@ part-drop xs i n j h =
     ap (take (j - (i + n))) (sym (drop-drop n i xs)) ∙ sym (drop-take n (j - (i + n)) (drop i xs)) ∙ sym (ap (λ k. drop n (take k (drop i xs))) whole)
 
 -- as much of more was put behind a list as it has room for
-pub kept_front : (most : ℕ) (front more : List ℕ) (n : ℕ) → length front ≤ most → n ≡ min (length more) (most - length front)
-    → front ++ take n more ≡ take most (front ++ more)
-kept_front most front more n within count =
-    let room = most - length front in
-    let all : length front + room ≡ most = omega arith in
+pub kept_prefix : (most : ℕ) (prefix more : List ℕ) (n : ℕ) → length prefix ≤ most → n ≡ min (length more) (most - length prefix)
+    → prefix ++ take n more ≡ take most (prefix ++ more)
+kept_prefix most prefix more n within count =
+    let room = most - length prefix in
+    let all : length prefix + room ≡ most = omega arith in
     let cut : take n more ≡ take room more = ap (λ m. take m more) (omega arith) ∙ take_min room more in
-    ap (λ l. front ++ l) cut ∙ sym (take-append-add front more room) ∙ ap (λ m. take m (front ++ more)) all
+    ap (λ l. prefix ++ l) cut ∙ sym (take-append-add prefix more room) ∙ ap (λ m. take m (prefix ++ more)) all

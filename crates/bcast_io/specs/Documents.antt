@@ -23,8 +23,8 @@ pub record ReadPast (left left' : Option (List ℕ)) : Type 0 where
   pub consumed : Consumes left left' octets
   pub long : length octets ≡ document_limit + 1
 
--- a front of the input was read, of at most so many octets
-pub record ReadFront (most : ℕ) (left left' : Option (List ℕ)) : Type 0 where
+-- a prefix of the input was read, of at most so many octets
+pub record ReadPrefix (most : ℕ) (left left' : Option (List ℕ)) : Type 0 where
   pub octets : List ℕ
   pub consumed : Consumes left left' octets
   pub least : length octets ≤ most
@@ -33,5 +33,5 @@ pub record ReadFront (most : ℕ) (left left' : Option (List ℕ)) : Type 0 wher
 abbrev pub ReadsDocument : Option (List ℕ) → Option (List ℕ) → Result Document Unread → Type 0
 ReadsDocument left left' (Ok (Whole document)) = ReadWhole left left' document
 ReadsDocument left left' (Ok TooLong) = ReadPast left left'
-ReadsDocument left left' (Err Failed) = ReadFront document_limit left left'
-ReadsDocument left left' (Err Memory) = ReadFront (document_limit + 1) left left'
+ReadsDocument left left' (Err Failed) = ReadPrefix document_limit left left'
+ReadsDocument left left' (Err Memory) = ReadPrefix (document_limit + 1) left left'

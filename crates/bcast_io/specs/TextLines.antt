@@ -34,7 +34,7 @@ last_line true [] = []
 last_line true (x ∷ xs) = line_of (x ∷ xs) ∷ []
 
 -- The lines of what follows `taken` octets of a text, of which the last are `part`, the line so far. What follows is the
--- rest of the text, or a front of it, whose last line is not whole yet. A line past the limit of the text is the last.
+-- rest of the text, or a prefix of it, whose last line is not whole yet. A line past the limit of the text is the last.
 unfoldable pub lines_from : Bool → ℕ → List ℕ → List ℕ → List TextLine
 lines_from at_end taken part [] = last_line at_end part
 lines_from at_end taken part (x ∷ xs) =
@@ -42,7 +42,7 @@ lines_from at_end taken part (x ∷ xs) =
     else (if x == newline then line_of part ∷ lines_from at_end (taken + 1) [] xs
     else lines_from at_end (taken + 1) (part ++ x ∷ []) xs)
 
--- the lines of a text, or the whole lines of a front of it
+-- the lines of a text, or the whole lines of a prefix of it
 abbrev pub lines_of : Bool → List ℕ → List TextLine
 lines_of at_end text = lines_from at_end 0 [] text
 
@@ -57,7 +57,7 @@ with_end octets = octets ++ newline ∷ []
 abbrev pub line_behind : Bool → List ℕ → List ℕ → List TextLine
 line_behind at_end text rest = if nat_le (length text) text_limit then last_line at_end rest else past ∷ []
 
--- These are the lines of a text, or the whole lines of a front of it: with their ends, put together, they are the text, up to
+-- These are the lines of a text, or the whole lines of a prefix of it: with their ends, put together, they are the text, up to
 -- its limit; each goes to its first end; and none is split or joined with another.
 pub record AreLines (at_end : Bool) (text : List ℕ) (lines : List TextLine) : Type 0 where
   -- the octets of each line that has an end, and those behind the last end

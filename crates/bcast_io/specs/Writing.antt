@@ -2,17 +2,17 @@
 use Rattle.std.specs.Prelude.{ℕ, ◌≡◌, ◌<◌, List, ◌++◌, length, Option}
 use Rattle.std.specs.Io.KnownBytes.{Appends}
 
--- known octets grew by a front of these
-pub record AppendsFront (old new : Option (List ℕ)) (from : List ℕ) : Type 0 where
-  pub front : List ℕ
+-- known octets grew by a prefix of these
+pub record AppendsPrefix (old new : Option (List ℕ)) (from : List ℕ) : Type 0 where
+  pub prefix : List ℕ
   pub rest : List ℕ
-  pub whole : from ≡ front ++ rest
-  pub appended : Appends old new front
+  pub whole : from ≡ prefix ++ rest
+  pub appended : Appends old new prefix
 
--- known octets grew by a front of these, and octets of them are left
+-- known octets grew by a prefix of these, and octets of them are left
 pub record AppendsShort (old new : Option (List ℕ)) (from : List ℕ) : Type 0 where
-  pub front : List ℕ
+  pub prefix : List ℕ
   pub rest : List ℕ
-  pub whole : from ≡ front ++ rest
-  pub appended : Appends old new front
+  pub whole : from ≡ prefix ++ rest
+  pub appended : Appends old new prefix
   pub some : 0 < length rest

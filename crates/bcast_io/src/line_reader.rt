@@ -232,13 +232,13 @@ impl LineReader {
         let count = ahead.len().min(TEXT_LIMIT - self.taken);
         match find_newline(&ahead[..count]) {
             Some(at) => Some(self.take_line(at)),
-            None => self.take_front(count),
+            None => self.take_prefix(count),
         }
     }
 
     // Takes all that may be taken of a line whose end is not ahead. It is not inlined, since it comes seldom.
     #[inline(never)]
-    fn take_front(&mut self, n: usize) -> Option<LineRead>
+    fn take_prefix(&mut self, n: usize) -> Option<LineRead>
         requires going { self.old.over ≡ false }
         requires most { n ≡ min (length self.old.ahead) (text_limit - self.old.taken) }
         requires fits { self.old.taken ≤ text_limit }

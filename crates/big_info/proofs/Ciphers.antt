@@ -46,7 +46,7 @@ one_cipher (Some one) (Some other) octets h k =
     let gskd : one.gskd ≡ other.gskd = sym (drop_at one.giv one.gskd 8 h.0) ∙ ap (drop 8) same ∙ drop_at other.giv other.gskd 8 k.0 in
     ap (λ (x : List ℕ). cipher_of x one.gskd) giv ∙ ap (λ (x : List ℕ). cipher_of other.giv x) gskd
 
--- a cipher has one spelling
+-- a cipher has one encoding
 pub one_behind : (cipher : Option Cipher) (one other : List ℕ) → CipherIs cipher one → CipherIs cipher other → one ≡ other
 one_behind None one other h k = h ∙ sym k
 one_behind (Some cipher) one other h k = h.2 ∙ sym k.2

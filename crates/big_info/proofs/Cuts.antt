@@ -10,7 +10,7 @@ use Rattle.big_info.specs.declared.big_fault.BigFault.{BigFault}
 use Rattle.big_info.specs.declared.big_fault.BigFault.TheVariants.{Length}
 use Rattle.big_info.specs.declared.info.BigInfo.{BigInfo}
 use Rattle.big_info.specs.declared.info.Cipher.{Cipher}
-use Rattle.big_info.specs.Layout.{BigIs, CipherIs, Spells}
+use Rattle.big_info.specs.Layout.{BigIs, CipherIs, Encodes}
 use Rattle.big_info.specs.Reading.{cut, info_from, cipher_from, info_of}
 use Rattle.big_info.proofs.Fields.{stacked, AllFit, widths, values, rebuilt, number-stacked, all_fit}
 
@@ -55,7 +55,7 @@ fields_are info rfu number cipher fit e c =
     let all : cuts 0 widths number ≡ values info rfu = ap (cuts 0 widths) (e ∙ omega arith) ∙ cuts_are 0 widths (values info rfu) 0 (omega arith) fit in
     ap (λ (xs : List ℕ). rebuilt xs cipher) all ∙ ap (λ (x : Option Cipher). rebuilt (values info rfu) x) (sym c)
 
-number_is : (info : BigInfo) (rfu : ℕ) (octets : List ℕ) → Spells info rfu octets → sum_from 0 (take 33 octets) ≡ stacked widths (values info rfu)
+number_is : (info : BigInfo) (rfu : ℕ) (octets : List ℕ) → Encodes info rfu octets → sum_from 0 (take 33 octets) ≡ stacked widths (values info rfu)
 number_is info rfu octets s = sym s.fields ∙ number-stacked info rfu
 
 -- the length tells whether a cipher follows
@@ -82,7 +82,7 @@ read_by octets info rfu (Some cipher) c h whole fit number =
     ∙ ap (λ (x : Cipher). Ok (info_from (sum_from 0 (take 33 octets)) (Some x))) (cipher_is cipher (drop 33 octets) h)
     ∙ ap (λ (x : BigInfo). Ok x) (fields_are info rfu (sum_from 0 (take 33 octets)) (Some cipher) fit number c)
 
-pub info_read : (octets : List ℕ) (info : BigInfo) (rfu : ℕ) → Spells info rfu octets → info_of octets ≡ Ok info
+pub info_read : (octets : List ℕ) (info : BigInfo) (rfu : ℕ) → Encodes info rfu octets → info_of octets ≡ Ok info
 info_read octets info rfu s = read_by octets info rfu info.cipher refl s.cipher s.whole (all_fit info rfu s.widths s.rfu_width) (number_is info rfu octets s)
 
 pub is_exact : (octets : List ℕ) (result : Result BigInfo BigFault) → IfOk result (λ info. BigIs info octets) → OnErr result ((length octets ≢ 33) × (length octets ≢ 57))

@@ -3,7 +3,7 @@ use Rattle.std.proofs.Common.{◌≡◌, ◌<◌, ℕ, ◌+◌, ◌*◌, ◌/◌
 use Rattle.std.proofs.lemmas.Nat.{mod-mul-add, div-mul-add}
 use Rattle.big_info.specs.declared.info.BigInfo.{BigInfo}
 use Rattle.big_info.specs.declared.info.Cipher.{Cipher}
-use Rattle.big_info.specs.Layout.{Spells, number_of}
+use Rattle.big_info.specs.Layout.{Encodes, number_of}
 use Rattle.big_info.specs.Widths.{FitsWidths}
 use Rattle.big_info.proofs.Ciphers.{one_cipher}
 
@@ -103,7 +103,7 @@ all_fit info rfu h k = (
 )
 
 -- octets are of one info alone
-pub one_info : (one other : BigInfo) (r s : ℕ) (octets : List ℕ) → Spells one r octets → Spells other s octets → one ≡ other
+pub one_info : (one other : BigInfo) (r s : ℕ) (octets : List ℕ) → Encodes one r octets → Encodes other s octets → one ≡ other
 one_info one other r s octets h k =
     let same : stacked widths (values one r) ≡ stacked widths (values other s) = sym (number-stacked one r) ∙ h.fields ∙ sym k.fields ∙ number-stacked other s in
     let fields : values one r ≡ values other s = stacked_once widths (values one r) (values other s) (all_fit one r h.widths h.rfu_width) (all_fit other s k.widths k.rfu_width) same in

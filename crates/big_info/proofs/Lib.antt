@@ -5,5 +5,5 @@ pub mod Words
 pub mod Ciphers
 pub mod Fields
 pub mod Cuts
-pub mod Spellings
+pub mod Encodings
 pub mod Citable

@@ -21,7 +21,7 @@ no_fault greatest info count all enough = none
     none RangeIso = all.none RangeIso (omega arith)
     none fault = all.none fault (omega arith)
 
--- a smaller reach is within a greater one
+-- a smaller horizon is within a greater one
 pub no_fault_within : (greatest : ℕ) (info : BigInfo) → greatest ≤ 31 → NoFault greatest info → NoFault 31 info
 no_fault_within greatest info h none Horizon = grind (arith, nat_tests, none Horizon)
 no_fault_within greatest info h none fault = none fault

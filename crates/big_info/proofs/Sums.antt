@@ -1,4 +1,4 @@
--- The number that octets spell, from the words that they are joined of.
+-- The number that octets encode, from the words that they are joined of.
 use Rattle.std.proofs.Common.{◌≡◌, ◌≤◌, ◌<◌, ℕ, zero, suc, ◌+◌, ◌*◌, ◌^◌, List, [], ◌∷◌, ◌++◌, length, take, drop, get_or, sym, ◌∙◌, ap, arith, zero-add, length-take-le}
 use Rattle.std.proofs.Common.{length-take, length-drop, subst}
 use Rattle.std.proofs.Math.Seq.{take-add}
@@ -15,10 +15,10 @@ sum_from-places (suc i) octets =
     next ∙ sum_from-suc i octets ∙ ap (λ (n : ℕ). 256 * n) (sum_from-places i octets) ∙ rw (pow-suc 256 i) (omega arith)
 
 -- octets after others
-pub sum_from-join : (front back : List ℕ) → sum_from 0 (front ++ back) ≡ sum_from 0 front + 256 ^ length front * sum_from 0 back
-sum_from-join front back =
-    sum_from-append 0 front back
-    ∙ ap (λ (n : ℕ). sum_from 0 front + n) (ap (λ (i : ℕ). sum_from i back) (zero-add (length front)) ∙ sum_from-places (length front) back)
+pub sum_from-join : (prefix back : List ℕ) → sum_from 0 (prefix ++ back) ≡ sum_from 0 prefix + 256 ^ length prefix * sum_from 0 back
+sum_from-join prefix back =
+    sum_from-append 0 prefix back
+    ∙ ap (λ (n : ℕ). sum_from 0 prefix + n) (ap (λ (i : ℕ). sum_from i back) (zero-add (length prefix)) ∙ sum_from-places (length prefix) back)
 
 -- the first octets, with those of a word more
 pub sum_from-word : (place count : ℕ) (octets : List ℕ) → place ≤ length octets
@@ -37,7 +37,7 @@ sum_from-more place octets inside =
     ∙ ap (λ (n : ℕ). sum_from 0 (take place octets) + 256 ^ n * sum_from 0 (get_or octets place 0 ∷ [])) (length-take-le place octets (omega arith))
     ∙ omega arith
 
--- octets spell a number of 8 bits each
+-- octets encode a number of 8 bits each
 sum_from-below : (octets : List ℕ) → ((i : ℕ) → i < length octets → get_or octets i 0 < 256) → sum_from 0 octets < 2 ^ (8 * length octets)
 sum_from-below [] fits = omega arith
 sum_from-below (octet ∷ octets) fits =

@@ -1,4 +1,4 @@
--- The layout of the BIGInfo (Core 5.2, volume 6 part B, section 4.4.6.11): the number that its first 33 octets spell
+-- The layout of the BIGInfo (Core 5.2, volume 6 part B, section 4.4.6.11): the number that its first 33 octets encode
 -- is the sum of field × 2 ^ (first bit). Behind them an encrypted group has GIV and GSKD.
 use Rattle.std.specs.Prelude.{ℕ, ◌+◌, ◌*◌, ◌^◌, ◌<◌, ◌≤◌, ◌≡◌, List, [], ◌++◌, length, take, drop, slice_index, Option, Some, None, is_some, if◌then◌else◌}
 use Rattle.bcast_base.specs.Numbers.{Le}
@@ -25,8 +25,8 @@ CipherIs (Some cipher) octets = (length cipher.giv ≡ 8) × (length cipher.gskd
 abbrev pub octet_count : BigInfo → ℕ
 octet_count info = if is_some info.cipher then 57 else 33
 
--- the octets spell the info, with this number as RFU
-pub record Spells (info : BigInfo) (rfu : ℕ) (octets : List ℕ) : Type 0 where
+-- the octets encode the info, with this number as RFU
+pub record Encodes (info : BigInfo) (rfu : ℕ) (octets : List ℕ) : Type 0 where
   pub widths : FitsWidths info
   pub rfu_width : rfu < 2 ^ 8
   pub whole : 33 ≤ length octets
@@ -35,7 +35,7 @@ pub record Spells (info : BigInfo) (rfu : ℕ) (octets : List ℕ) : Type 0 wher
 
 -- RFU is free
 abbrev pub BigIs : BigInfo → List ℕ → Type 0
-BigIs info octets = (rfu : ℕ) × Spells info rfu octets
+BigIs info octets = (rfu : ℕ) × Encodes info rfu octets
 
 -- the octets are the same, but for the one of RFU
 pub record SameButRfu (one other : List ℕ) : Type 0 where

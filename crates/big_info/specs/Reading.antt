@@ -1,5 +1,5 @@
 -- Reading a BIGInfo (Core 5.2, volume 6 part B, section 4.4.6.11): each field is cut by division out of the number that the
--- first 33 octets spell. Behind them an encrypted group has GIV and GSKD.
+-- first 33 octets encode. Behind them an encrypted group has GIV and GSKD.
 use Rattle.std.specs.Prelude.{ℕ, ◌/◌, ◌%◌, ◌^◌, ◌==◌, List, length, take, drop, Option, Some, None, Result, Ok, Err, if◌then◌else◌}
 use Rattle.bcast_base.specs.Numbers.{sum_from}
 use Rattle.big_info.specs.declared.big_fault.BigFault.{BigFault}

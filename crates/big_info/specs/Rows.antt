@@ -16,7 +16,7 @@ is_unframed info = info.framing == 0
 abbrev pub is_framed : BigInfo → Bool
 is_framed info = info.framing == 1
 
--- whether the fault holds of the info, where a group may reach `greatest` events ahead
+-- whether the fault holds of the info, where the horizon of a group is at most `greatest`
 abbrev pub has_fault : ℕ → BigInfo → GroupFault → Bool
 has_fault greatest info RangeIso = nat_lt info.iso_interval 4 || nat_lt 3200 info.iso_interval || (info.num_bis == 0)
 has_fault greatest info RangeSdu = nat_lt info.sdu_interval 255 || (info.max_sdu == 0)

@@ -1,6 +1,6 @@
 ghost use Rattle.std.specs.Prelude.{◌≡◌, take, drop, Some};
 ghost use Rattle.bcast_base.specs.Numbers.{Le};
-ghost use Rattle.big_info.specs.Layout.{CipherIs, Spells, number_of, octet_count};
+ghost use Rattle.big_info.specs.Layout.{CipherIs, Encodes, number_of, octet_count};
 ghost use Rattle.big_info.specs.Widths.{FitsWidths};
 
 use crate::info::{BigInfo, Cipher};
@@ -11,7 +11,7 @@ use crate::word::put_word;
 pub fn encode_big_info(info: &BigInfo, into: &mut [u8; 57]) -> usize
     requires { FitsWidths info.now }
     ensures count { result ≡ octet_count info.now }
-    ensures layout { Spells info.now 0 (take result into.new) }
+    ensures layout { Encodes info.now 0 (take result into.new) }
     ensures rest { drop result into.new ≡ drop result into.old }
 {
     write_fields(info, into);

@@ -97,7 +97,7 @@ pub fn check_group_within(info: &BigInfo, limits: Limits) -> Result<Group, Group
     }
 }
 
-/// The first fault that holds, where a group may reach `greatest` events ahead.
+/// The first fault that holds, where the horizon of a group is at most `greatest`.
 fn first(info: &BigInfo, greatest: u8) -> Option<GroupFault>
     requires { FitsWidths info.now }
     ensures none { IfNone result (NoFault greatest info.now) }

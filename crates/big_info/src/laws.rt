@@ -9,7 +9,7 @@ pub fn octets_are_of_one_info()
 {}
 
 /// Octets of the layout of one info are the same but for RFU, so that what is read is written again.
-pub fn info_has_one_spelling()
+pub fn info_has_one_encoding()
     ensures { (info : BigInfo) (one other : List ℕ) → AreOctets one → AreOctets other → BigIs info one → BigIs info other
         → SameButRfu one other }
 {}

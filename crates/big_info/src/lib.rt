@@ -20,5 +20,5 @@ pub use encode::encode_big_info;
 pub use fault::GroupFault;
 pub use group::{Group, check_group, check_group_within};
 pub use info::{BigInfo, Cipher};
-pub use laws::{info_has_one_spelling, octets_are_of_one_info};
+pub use laws::{info_has_one_encoding, octets_are_of_one_info};
 pub use limits::Limits;

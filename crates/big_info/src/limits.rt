@@ -1,4 +1,4 @@
-/// How far a group may reach.
+/// The greatest horizon of a group.
 #[derive(Clone, Copy)]
 pub struct Limits {
     /// The most events ahead that a group may send a payload, at most 31.

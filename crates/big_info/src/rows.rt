@@ -26,7 +26,7 @@ pub const ORDER: [GroupFault; 14] = [
     GroupFault::Encrypted,
 ];
 
-/// Whether this fault holds of the info, where a group may reach `greatest` events ahead.
+/// Whether this fault holds of the info, where the horizon of a group is at most `greatest`.
 pub fn holds(info: &BigInfo, greatest: u8, fault: GroupFault) -> bool
     requires { FitsWidths info.now }
     ensures { result ≡ has_fault greatest info.now fault }

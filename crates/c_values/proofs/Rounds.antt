@@ -106,21 +106,21 @@ short_of : (before kept after : Kept) (units came : List Handed) (unit : Handed)
     → after.waiting ≡ kept.waiting → after.room ≡ kept.room
     → Lacks kept.room (length kept.waiting) unit → Went before kept came → Behind kept.waiting before.waiting came unit
     → Brought before units after false
-short_of before kept after units came unit most front waiting room lacks is at =
+short_of before kept after units came unit most prefix waiting room lacks is at =
     let few : at.count < length came = at.few in
-    let shorter : length came ≡ length (take most units) = ap length front in
+    let shorter : length came ≡ length (take most units) = ap length prefix in
     let least = length-take most units in
     record {
       whole = λ no. absurd (Prim.grind (arith, no));
       part = λ _. (
         at.count,
         omega (arith, few, shorter, least),
-        waiting ∙ at.is ∙ ap (λ xs. before.waiting ++ take at.count xs) front
+        waiting ∙ at.is ∙ ap (λ xs. before.waiting ++ take at.count xs) prefix
             ∙ ap (λ xs. before.waiting ++ xs) (take-take at.count most units (omega (arith, few, shorter, least))),
       );
       room = room ∙ is.room;
       served = λ has. absurd (no_miss before kept came unit lacks is at (omega (arith, has.count, shorter, least))
-          (subst (All (IsWithin before.room.octets)) (sym front) (All-take (IsWithin before.room.octets) most units has.octets)));
+          (subst (All (IsWithin before.room.octets)) (sym prefix) (All-take (IsWithin before.room.octets) most units has.octets)));
     }
 
 all_of : (before kept after : Kept) (units : List Handed) → after.waiting ≡ kept.waiting → after.room ≡ kept.room
@@ -147,9 +147,9 @@ ended_by (Some unit) (Ok _) before kept after units is grew lacks counts waiting
 ended_by None (Err Failed) before kept after units is grew lacks counts waiting room hands caused = absurd (Prim.omega (arith, caused.0.0))
 ended_by None (Err Memory) before kept after units is grew lacks counts waiting room hands caused = absurd (Prim.grind (arith, counts (omega (arith, caused.0.0))))
 ended_by (Some unit) (Err fault) before kept after units is grew lacks counts waiting room hands caused =
-    let front = take hands.0 units in
-    let came = went before kept front hands.2 in
-    short_of before kept after units front unit hands.0 refl waiting room lacks came (cut before kept front unit grew is came)
+    let prefix = take hands.0 units in
+    let came = went before kept prefix hands.2 in
+    short_of before kept after units prefix unit hands.0 refl waiting room lacks came (cut before kept prefix unit grew is came)
 
 pub ended : (handed : Result (Unit {0}) TakerFault) (before kept after : Kept) (units : List Handed) → kept.round.began ≤ length kept.waiting
     → IfSome kept.round.missed (Lacks kept.room (length kept.waiting)) → (0 < kept.round.wants → IsSome kept.round.missed)

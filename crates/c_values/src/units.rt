@@ -33,7 +33,7 @@ pub struct Missed {
 }
 
 /// What a tick or a close hands over: how many units waited as it began, the first unit that found no memory, which is noted and not
-/// kept, and how many were refused behind it. So a front of its units waits.
+/// kept, and how many were refused behind it. So a prefix of its units waits.
 #[derive(Drop)]
 pub struct Round {
     pub began: usize,

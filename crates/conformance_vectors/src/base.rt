@@ -48,9 +48,9 @@ fn drafted(alloc: Global, first: Bis, second: Bis, third: Bis) -> Option<Base> {
     draft.finish().ok()
 }
 
-fn spells(alloc: Global, base: &Base, octets: &[u8]) -> bool {
+fn encodes(alloc: Global, base: &Base, octets: &[u8]) -> bool {
     match encode_base(alloc, base) {
-        Ok(spelled) => spelled.as_slice() == octets,
+        Ok(encoded) => encoded.as_slice() == octets,
         Err(_) => false,
     }
 }
@@ -64,12 +64,12 @@ fn a_draft_may_have_two_subgroups(rt: HostRuntime) {
     let Some(base) = drafted(rt.alloc(), first, second, third) else {
         return assert!(rt; false);
     };
-    assert!(rt; spells(rt.alloc(), &base, &TWO_SUBGROUPS));
+    assert!(rt; encodes(rt.alloc(), &base, &TWO_SUBGROUPS));
 }
 
 fn is_written_as_read(alloc: Global, octets: &[u8]) -> bool {
     match decode_base(alloc, octets) {
-        Ok(base) => spells(alloc, &base, octets),
+        Ok(base) => encodes(alloc, &base, octets),
         Err(_) => false,
     }
 }

@@ -79,7 +79,7 @@ const LOCKED: BigInfo = BigInfo {
     ..PLAIN
 };
 
-fn spells(info: &BigInfo, octets: &[u8]) -> bool {
+fn encodes(info: &BigInfo, octets: &[u8]) -> bool {
     let mut into = [0; 57];
     if !info.fits() {
         return false;
@@ -88,10 +88,10 @@ fn spells(info: &BigInfo, octets: &[u8]) -> bool {
     &into[..len] == octets
 }
 
-// Whether octets are read as an info that has this spelling.
+// Whether octets are read as an info that has this encoding.
 fn reads(from: &[u8], octets: &[u8]) -> bool {
     match decode_big_info(from) {
-        Ok(info) => spells(&info, octets),
+        Ok(info) => encodes(&info, octets),
         Err(_) => false,
     }
 }
@@ -105,7 +105,7 @@ const SPELLED: [(&BigInfo, &[u8]); 3] = [
 #[test]
 fn each_info_has_its_octets(rt: HostRuntime) {
     for (info, octets) in SPELLED {
-        assert!(rt; spells(info, octets));
+        assert!(rt; encodes(info, octets));
         assert!(rt; reads(octets, octets));
     }
     assert!(rt; reads(&[0xff; 33], &FILLED));

@@ -7,16 +7,16 @@ const CONFIG: [u8; 16] = [2, 1, 3, 2, 2, 1, 5, 3, 1, 0, 0, 0, 3, 4, 40, 0];
 
 const FREQUENCY: [u8; 3] = [2, 1, 8];
 
-fn spells(alloc: Global, list: &Ltvs, octets: &[u8]) -> bool {
+fn encodes(alloc: Global, list: &Ltvs, octets: &[u8]) -> bool {
     match encode_ltvs(alloc, list) {
-        Ok(spelled) => spelled.as_slice() == octets,
+        Ok(encoded) => encoded.as_slice() == octets,
         Err(_) => false,
     }
 }
 
 fn is_written_as_read(alloc: Global, octets: &[u8]) -> bool {
     match decode_ltvs(alloc, octets) {
-        Ok(list) => spells(alloc, &list, octets),
+        Ok(list) => encodes(alloc, &list, octets),
         Err(_) => false,
     }
 }
@@ -24,7 +24,7 @@ fn is_written_as_read(alloc: Global, octets: &[u8]) -> bool {
 fn is_pushed(alloc: Global) -> bool {
     let mut list = Ltvs::new(alloc);
     match list.push(2, &[2, 0]) {
-        Ok(()) => spells(alloc, &list, &[3, 2, 2, 0]),
+        Ok(()) => encodes(alloc, &list, &[3, 2, 2, 0]),
         Err(_) => false,
     }
 }

@@ -25,7 +25,7 @@ fn is_written_as_read(alloc: Global, octets: &[u8]) -> bool {
         return false;
     };
     match encode_operation(alloc, &op) {
-        Ok(spelled) => spelled.as_slice() == octets,
+        Ok(encoded) => encoded.as_slice() == octets,
         Err(_) => false,
     }
 }

@@ -23,7 +23,7 @@ fn is_written_as_read(alloc: Global, octets: &[u8]) -> bool {
         return false;
     };
     match encode_pacs(alloc, &records) {
-        Ok(spelled) => spelled.as_slice() == octets,
+        Ok(encoded) => encoded.as_slice() == octets,
         Err(_) => false,
     }
 }

@@ -16,19 +16,19 @@ const TWO_GROUPS: [u8; 29] = [
     0, 4, 3, 2, 4, 0,
 ];
 
-fn spells(alloc: Global, state: &ReceiveState, octets: &[u8]) -> bool {
+fn encodes(alloc: Global, state: &ReceiveState, octets: &[u8]) -> bool {
     if !state.fits() {
         return false;
     }
     match encode_state(alloc, Some(state)) {
-        Ok(spelled) => spelled.as_slice() == octets,
+        Ok(encoded) => encoded.as_slice() == octets,
         Err(_) => false,
     }
 }
 
 fn is_written_as_read(alloc: Global, octets: &[u8]) -> bool {
     match decode_state(alloc, octets) {
-        Ok(Some(state)) => spells(alloc, &state, octets),
+        Ok(Some(state)) => encodes(alloc, &state, octets),
         _ => false,
     }
 }

@@ -1,7 +1,7 @@
 -- Looking for slots.
 use Rattle.std.proofs.Common.{ℕ, suc, ◌≡◌, ◌+◌, ◌-◌, ◌<◌, ◌≤◌, Bool, true, false, List, [], ◌∷◌, length, get_or, Option, Some, None, refl, sym, ap, ◌∙◌, arith}
 use Rattle.std.specs.Prelude.{is_some, if◌then◌else◌}
-use Rattle.delegator_history.specs.Sights.{Entry, entry_at}
+use Rattle.delegator_history.specs.Snapshots.{Entry, entry_at}
 use Rattle.delegator_history.specs.Writes.{slot_where, has_id, slot_with, unused_from}
 
 -- a slot that is found stands among the slots, and is what is sought

@@ -14,7 +14,7 @@ pub struct Slot {
 }
 
 impl Model for Slot {
-    ghost use Rattle.delegator_history.specs.Sights.{Entry};
+    ghost use Rattle.delegator_history.specs.Snapshots.{Entry};
     ghost use Rattle.delegator_choices.specs.State.Slots.{EntryFits, entry};
 
     ghost Value = { Entry };

@@ -5,10 +5,10 @@ use Rattle.std.specs.Str.{bytes_eq}
 use Rattle.std.proofs.Math.Bool.{beq}
 use Rattle.std.proofs.lemmas.List.{append_cancel_left}
 use Rattle.std.proofs.lemmas.Slice.Eq.{bytes_eq-Decides}
-use Rattle.receive_state.specs.Layout.{spelling}
+use Rattle.receive_state.specs.Layout.{encoding}
 use Rattle.delegator_history.specs.declared.notice.Notice.{Notice}
 use Rattle.delegator_history.specs.Notices.{change}
-use Rattle.delegator_history.specs.Sights.{Entry}
+use Rattle.delegator_history.specs.Snapshots.{Entry}
 use Rattle.delegator_history.specs.Values.{Status, received, value}
 
 abbrev pub one : ℕ → List ℕ → List Notice
@@ -34,7 +34,7 @@ differ false true apart is = cc
 differ false false apart is = absurd cc
 
 -- one value is of one PA_Sync_State
-pub one_sync : (before now : Status) (entry : Entry) → spelling (received before entry) ≡ spelling (received now entry) → before.is_synced ≡ now.is_synced
+pub one_sync : (before now : Status) (entry : Entry) → encoding (received before entry) ≡ encoding (received now entry) → before.is_synced ≡ now.is_synced
 one_sync before now entry is =
     let behind_type = ap (drop 2) is in
     let behind_address = ap (drop 1) (append_cancel_left entry.source.address _ _ behind_type) in
@@ -42,8 +42,8 @@ one_sync before now entry is =
     same_sync before.is_synced now.is_synced (ap (λ octets. get_or octets 0 0) behind_id)
 
 pub synced_anew : (slot : ℕ) (before now : Status) (entry : Entry) → not (beq before.is_synced now.is_synced) ≡ true
-    → change slot (spelling (received before entry)) (spelling (received now entry)) ≡ one slot (spelling (received now entry))
-synced_anew slot before now entry apart = told slot (spelling (received before entry)) (spelling (received now entry)) (λ is. differ before.is_synced now.is_synced apart (one_sync before now entry is))
+    → change slot (encoding (received before entry)) (encoding (received now entry)) ≡ one slot (encoding (received now entry))
+synced_anew slot before now entry apart = told slot (encoding (received before entry)) (encoding (received now entry)) (λ is. differ before.is_synced now.is_synced apart (one_sync before now entry is))
 
 -- a slot that was filled, and is emptied
 pub emptied : (slot : ℕ) (status : Status) (held : Option Entry) (entry : Entry) → held ≡ Some entry

@@ -15,10 +15,10 @@ use Rattle.big_info.specs.Rows.{first_fault}
 use Rattle.pacs_records.specs.declared.capability.Capability.{Capability}
 use Rattle.delegator_history.specs.declared.train_heard.TrainHeard.TheVariants as answers
 use Rattle.delegator_history.specs.Notices.{change, changes}
-use Rattle.delegator_history.specs.Sights.{Entry, Place, idle, on_train, on_group, Sight, is_on, is_on_group, entry_at}
+use Rattle.delegator_history.specs.Snapshots.{Entry, Place, idle, on_train, on_group, Snapshot, is_on, is_on_group, entry_at}
 use Rattle.delegator_history.specs.Steps.{Done, after, wishes_at}
-use Rattle.delegator_history.specs.Trains.{Setup, Train, Brought, ignored, heard, taken, base_in, big_info_in, first_candidates, is_elsewhere, is_wanted, joining_of, set_with, sets_with}
-use Rattle.delegator_history.specs.Trains.{are_none, by_base, by_big_info, by_broadcast_id, by_endpoint, by_group, by_info, by_slot, by_streams, brought_by}
+use Rattle.delegator_history.specs.Trains.{Setup, Train, TrainOutcome, ignored, heard, taken, base_in, big_info_in, first_candidates, is_elsewhere, is_wanted, big_sync_of, set_with, sets_with}
+use Rattle.delegator_history.specs.Trains.{are_none, by_base, by_big_info, by_broadcast_id, by_endpoint, by_group, by_info, by_slot, by_streams, outcome_by}
 use Rattle.delegator_history.specs.Values.{Status, received, status_of, value, value_at}
 use Rattle.delegator_history.specs.Writes.{slot_where}
 use Rattle.delegator_history.proofs.Citable.{one_changes}
@@ -28,12 +28,12 @@ use Rattle.delegator_control.proofs.Changes.{elsewhere}
 
 -- ---- the slot of what a train brings
 
-abbrev pub slot_of_brought : Brought → Option ℕ
-slot_of_brought (ignored answer) = None
-slot_of_brought (heard slot answer encrypted) = Some slot
-slot_of_brought (taken slot bits encrypted joining) = Some slot
+abbrev pub slot_of_outcome : TrainOutcome → Option ℕ
+slot_of_outcome (ignored answer) = None
+slot_of_outcome (heard slot answer encrypted) = Some slot
+slot_of_outcome (taken slot bits encrypted big_sync) = Some slot
 
-of_choice : (b : Bool) (one other : Brought) (slot : ℕ) → slot_of_brought one ≡ Some slot → slot_of_brought other ≡ Some slot → slot_of_brought (if b then one else other) ≡ Some slot
+of_choice : (b : Bool) (one other : TrainOutcome) (slot : ℕ) → slot_of_outcome one ≡ Some slot → slot_of_outcome other ≡ Some slot → slot_of_outcome (if b then one else other) ≡ Some slot
 of_choice true one other slot p q = p
 of_choice false one other slot p q = q
 
@@ -43,81 +43,81 @@ pub by_none : (slot : ℕ) (train : Train) (base : Endpoint) (info : BigInfo) (e
     → by_streams slot train base info encrypted streams ≡ heard slot answers.NoneTaken (Some encrypted)
 by_none slot train base info encrypted streams none =
     cond-true (are_none streams) (heard slot answers.NoneTaken (Some encrypted))
-    (taken slot (map (set_with 0) streams) encrypted (joining_of train base info (sets_with 0 streams))) none
+    (taken slot (map (set_with 0) streams) encrypted (big_sync_of train base info (sets_with 0 streams))) none
 
 pub by_some : (slot : ℕ) (train : Train) (base : Endpoint) (info : BigInfo) (encrypted : Bool) (streams : List (List ℕ)) → are_none streams ≡ false
-    → by_streams slot train base info encrypted streams ≡ taken slot (map (set_with 0) streams) encrypted (joining_of train base info (sets_with 0 streams))
+    → by_streams slot train base info encrypted streams ≡ taken slot (map (set_with 0) streams) encrypted (big_sync_of train base info (sets_with 0 streams))
 by_some slot train base info encrypted streams some =
     cond-false (are_none streams) (heard slot answers.NoneTaken (Some encrypted))
-    (taken slot (map (set_with 0) streams) encrypted (joining_of train base info (sets_with 0 streams))) some
+    (taken slot (map (set_with 0) streams) encrypted (big_sync_of train base info (sets_with 0 streams))) some
 
 -- ---- the stages keep the slot
 
 of_streams : (slot : ℕ) (train : Train) (base : Endpoint) (info : BigInfo) (encrypted : Bool) (streams : List (List ℕ))
-    → slot_of_brought (by_streams slot train base info encrypted streams) ≡ Some slot
+    → slot_of_outcome (by_streams slot train base info encrypted streams) ≡ Some slot
 of_streams slot train base info encrypted streams = of_choice (are_none streams) _ _ slot refl refl
 
 of_group : (setup : Setup) (capability : Capability) (wishes : List Wish) (slot : ℕ) (train : Train) (base : Endpoint) (info : BigInfo) (encrypted : Bool) (fault : Option GroupFault)
-    → slot_of_brought (by_group setup capability wishes slot train base info encrypted fault) ≡ Some slot
+    → slot_of_outcome (by_group setup capability wishes slot train base info encrypted fault) ≡ Some slot
 of_group setup capability wishes slot train base info encrypted (Some fault) = refl
 of_group setup capability wishes slot train base info encrypted None =
     of_streams slot train base info encrypted (first_candidates capability base info.num_bis setup.streams wishes base.subgroups)
 
 of_info : (setup : Setup) (capability : Capability) (wishes : List Wish) (slot : ℕ) (train : Train) (base : Endpoint) (encrypted : Bool) (info : Result BigInfo BigFault)
-    → slot_of_brought (by_info setup capability wishes slot train base encrypted info) ≡ Some slot
+    → slot_of_outcome (by_info setup capability wishes slot train base encrypted info) ≡ Some slot
 of_info setup capability wishes slot train base encrypted (Err fault) = refl
 of_info setup capability wishes slot train base encrypted (Ok info) = of_group setup capability wishes slot train base info encrypted (first_fault setup.horizon info)
 
 of_big_info : (setup : Setup) (capability : Capability) (wishes : List Wish) (slot : ℕ) (train : Train) (base : Endpoint) (octets : Option (List ℕ))
-    → slot_of_brought (by_big_info setup capability wishes slot train base octets) ≡ Some slot
+    → slot_of_outcome (by_big_info setup capability wishes slot train base octets) ≡ Some slot
 of_big_info setup capability wishes slot train base None = refl
 of_big_info setup capability wishes slot train base (Some octets) = of_info setup capability wishes slot train base (length octets == 57) (info_of octets)
 
 of_endpoint : (setup : Setup) (capability : Capability) (wishes : List Wish) (slot : ℕ) (train : Train) (base : Result Endpoint BaseFault)
-    → slot_of_brought (by_endpoint setup capability wishes slot train base) ≡ Some slot
+    → slot_of_outcome (by_endpoint setup capability wishes slot train base) ≡ Some slot
 of_endpoint setup capability wishes slot train (Err fault) = refl
 of_endpoint setup capability wishes slot train (Ok base) = of_big_info setup capability wishes slot train base (big_info_in train.acad)
 
 of_base : (setup : Setup) (capability : Capability) (wishes : List Wish) (slot : ℕ) (train : Train) (octets : Option (List ℕ))
-    → slot_of_brought (by_base setup capability wishes slot train octets) ≡ Some slot
+    → slot_of_outcome (by_base setup capability wishes slot train octets) ≡ Some slot
 of_base setup capability wishes slot train None = refl
 of_base setup capability wishes slot train (Some octets) = of_endpoint setup capability wishes slot train (base_of octets)
 
 -- ---- a slot of the sink, which is on no other train or group
 
-pub record IsNear (slot : ℕ) (sight : Sight) : Type 0 where
-  pub within : slot < length sight.slots
-  pub near : is_elsewhere sight.place slot ≡ false
+pub record IsNear (slot : ℕ) (snapshot : Snapshot) : Type 0 where
+  pub within : slot < length snapshot.slots
+  pub near : is_elsewhere snapshot.place slot ≡ false
 
-near_on : (setup : Setup) (sight : Sight) (train : Train) (other slot : ℕ) (b : Bool)
-    → slot_of_brought (if b then ignored answers.AlreadyOnGroup else by_base setup sight.capability (wishes_at (entry_at sight.slots other)) other train (base_in train.adv)) ≡ Some slot → other ≡ slot
-near_on setup sight train other slot true is = absurd cc
-near_on setup sight train other slot false is =
-    let same : Some other ≡ Some slot = sym (of_base setup sight.capability (wishes_at (entry_at sight.slots other)) other train (base_in train.adv)) ∙ is in cc
+near_on : (setup : Setup) (snapshot : Snapshot) (train : Train) (other slot : ℕ) (b : Bool)
+    → slot_of_outcome (if b then ignored answers.AlreadyOnGroup else by_base setup snapshot.capability (wishes_at (entry_at snapshot.slots other)) other train (base_in train.adv)) ≡ Some slot → other ≡ slot
+near_on setup snapshot train other slot true is = absurd cc
+near_on setup snapshot train other slot false is =
+    let same : Some other ≡ Some slot = sym (of_base setup snapshot.capability (wishes_at (entry_at snapshot.slots other)) other train (base_in train.adv)) ∙ is in cc
 
-near_at : (setup : Setup) (sight : Sight) (train : Train) (other slot : ℕ) (b : Bool) → is_elsewhere sight.place other ≡ b → other < length sight.slots
-    → slot_of_brought (if b then ignored answers.OtherTrain
-    else (if is_on_group sight.place other then ignored answers.AlreadyOnGroup
-    else by_base setup sight.capability (wishes_at (entry_at sight.slots other)) other train (base_in train.adv))) ≡ Some slot
-    → IsNear slot sight
-near_at setup sight train other slot true away within is = absurd cc
-near_at setup sight train other slot false away within is =
-    let same : other ≡ slot = near_on setup sight train other slot (is_on_group sight.place other) is in
-    subst (λ s. IsNear s sight) same (record { within = within; near = away })
+near_at : (setup : Setup) (snapshot : Snapshot) (train : Train) (other slot : ℕ) (b : Bool) → is_elsewhere snapshot.place other ≡ b → other < length snapshot.slots
+    → slot_of_outcome (if b then ignored answers.OtherTrain
+    else (if is_on_group snapshot.place other then ignored answers.AlreadyOnGroup
+    else by_base setup snapshot.capability (wishes_at (entry_at snapshot.slots other)) other train (base_in train.adv))) ≡ Some slot
+    → IsNear slot snapshot
+near_at setup snapshot train other slot true away within is = absurd cc
+near_at setup snapshot train other slot false away within is =
+    let same : other ≡ slot = near_on setup snapshot train other slot (is_on_group snapshot.place other) is in
+    subst (λ s. IsNear s snapshot) same (record { within = within; near = away })
 
-near_slot : (setup : Setup) (sight : Sight) (train : Train) (slot : ℕ) (test : Option Entry → Bool) (place : Option ℕ) → slot_where test 0 sight.slots ≡ place
-    → slot_of_brought (by_slot setup sight train place) ≡ Some slot → IsNear slot sight
-near_slot setup sight train slot test None at is = absurd cc
-near_slot setup sight train slot test (Some other) at is =
-    near_at setup sight train other slot (is_elsewhere sight.place other) refl (omega (arith, (found test 0 sight.slots other at).within)) is
+near_slot : (setup : Setup) (snapshot : Snapshot) (train : Train) (slot : ℕ) (test : Option Entry → Bool) (place : Option ℕ) → slot_where test 0 snapshot.slots ≡ place
+    → slot_of_outcome (by_slot setup snapshot train place) ≡ Some slot → IsNear slot snapshot
+near_slot setup snapshot train slot test None at is = absurd cc
+near_slot setup snapshot train slot test (Some other) at is =
+    near_at setup snapshot train other slot (is_elsewhere snapshot.place other) refl (omega (arith, (found test 0 snapshot.slots other at).within)) is
 
-near_id : (setup : Setup) (sight : Sight) (train : Train) (slot : ℕ) (id : Option (List ℕ)) → slot_of_brought (by_broadcast_id setup sight train id) ≡ Some slot → IsNear slot sight
-near_id setup sight train slot None is = absurd cc
-near_id setup sight train slot (Some id) is =
-    near_slot setup sight train slot (is_wanted train.address_type train.sid id) (slot_where (is_wanted train.address_type train.sid id) 0 sight.slots) refl is
+near_id : (setup : Setup) (snapshot : Snapshot) (train : Train) (slot : ℕ) (id : Option (List ℕ)) → slot_of_outcome (by_broadcast_id setup snapshot train id) ≡ Some slot → IsNear slot snapshot
+near_id setup snapshot train slot None is = absurd cc
+near_id setup snapshot train slot (Some id) is =
+    near_slot setup snapshot train slot (is_wanted train.address_type train.sid id) (slot_where (is_wanted train.address_type train.sid id) 0 snapshot.slots) refl is
 
-pub is_near : (setup : Setup) (sight : Sight) (train : Train) (slot : ℕ) → slot_of_brought (brought_by setup sight train) ≡ Some slot → IsNear slot sight
-is_near setup sight train slot is = near_id setup sight train slot (broadcast_id_of train.ext) is
+pub is_near : (setup : Setup) (snapshot : Snapshot) (train : Train) (slot : ℕ) → slot_of_outcome (outcome_by setup snapshot train) ≡ Some slot → IsNear slot snapshot
+is_near setup snapshot train slot is = near_id setup snapshot train slot (broadcast_id_of train.ext) is
 
 -- a slot that wants the train is filled
 pub wanted_filled : (address_type sid : ℕ) (id : List ℕ) (entry : Option Entry) → is_wanted address_type sid id entry ≡ true → is_some entry ≡ true
@@ -138,7 +138,7 @@ off_other (on_train s) slot i near other = ne_eqb s i (λ same. other (sym same 
 off_other (on_group None) slot i near other = refl
 off_other (on_group (Some s)) slot i near other = ne_eqb s i (λ same. other (sym same ∙ eqb-true s slot (not-false (s == slot) near)))
 
-pub near_changes : (n slot : ℕ) (before now : Sight) → slot < n → now.slots ≡ before.slots → is_elsewhere before.place slot ≡ false → is_elsewhere now.place slot ≡ false
+pub near_changes : (n slot : ℕ) (before now : Snapshot) → slot < n → now.slots ≡ before.slots → is_elsewhere before.place slot ≡ false → is_elsewhere now.place slot ≡ false
     → changes n before now ≡ change slot (value_at before slot) (value_at now slot)
 near_changes n slot before now within same near near_now =
     one_changes n slot before now within
@@ -161,22 +161,22 @@ group_status slot encrypted streams =
     λ i. record { is_synced = sym (same_slot slot) i; is_encrypted = sym (same_slot slot) i && encrypted; bits = if sym (same_slot slot) i then streams else [] }
 
 -- a sink whose notice was put, and that then stands there
-abbrev pub stands_at : Sight → Place → Bool → List ℕ → Sight
-stands_at sight place encrypted streams = record sight { place = place; encrypted = encrypted; taken = streams }
+abbrev pub stands_at : Snapshot → Place → Bool → List ℕ → Snapshot
+stands_at snapshot place encrypted streams = record snapshot { place = place; encrypted = encrypted; taken = streams }
 
 pub went_to : (m mid now : Machine) (slot : ℕ) (place : Place) (encrypted : Bool) (streams : List ℕ) (done : Done) (status : Status) → slot < m.setup.slots
-    → is_elsewhere m.sight.place slot ≡ false → is_elsewhere place slot ≡ false
-    → mid ≡ record m { waiting = m.waiting ++ change slot (value_at m.sight slot) (value (option_map (received status) (entry_at m.sight.slots slot))) }
-    → now ≡ record mid { sight = stands_at mid.sight place encrypted streams }
-    → stands_at m.sight place encrypted streams ≡ after done m.sight
+    → is_elsewhere m.snapshot.place slot ≡ false → is_elsewhere place slot ≡ false
+    → mid ≡ record m { waiting = m.waiting ++ change slot (value_at m.snapshot slot) (value (option_map (received status) (entry_at m.snapshot.slots slot))) }
+    → now ≡ record mid { snapshot = stands_at mid.snapshot place encrypted streams }
+    → stands_at m.snapshot place encrypted streams ≡ after done m.snapshot
     → status ≡ status_of place encrypted streams slot
     → now ≡ moved done m
 went_to m mid now slot place encrypted streams done status within near near_now noted is does stands =
-    let end : Sight = stands_at m.sight place encrypted streams in
-    let one : change slot (value_at m.sight slot) (value (option_map (received status) (entry_at m.sight.slots slot))) ≡ changes m.setup.slots m.sight end =
-    (λ i. change slot (value_at m.sight slot) (value (option_map (received (stands i)) (entry_at m.sight.slots slot))))
-    ∙ sym (near_changes m.setup.slots slot m.sight end within refl near near_now) in
+    let end : Snapshot = stands_at m.snapshot place encrypted streams in
+    let one : change slot (value_at m.snapshot slot) (value (option_map (received status) (entry_at m.snapshot.slots slot))) ≡ changes m.setup.slots m.snapshot end =
+    (λ i. change slot (value_at m.snapshot slot) (value (option_map (received (stands i)) (entry_at m.snapshot.slots slot))))
+    ∙ sym (near_changes m.setup.slots slot m.snapshot end within refl near near_now) in
     is
-    ∙ ap (λ (a : Machine). record a { sight = stands_at a.sight place encrypted streams }) noted
-    ∙ (λ i. record m { sight = end; waiting = m.waiting ++ one i })
-    ∙ (λ i. record m { sight = does i; waiting = m.waiting ++ changes m.setup.slots m.sight (does i) })
+    ∙ ap (λ (a : Machine). record a { snapshot = stands_at a.snapshot place encrypted streams }) noted
+    ∙ (λ i. record m { snapshot = end; waiting = m.waiting ++ one i })
+    ∙ (λ i. record m { snapshot = does i; waiting = m.waiting ++ changes m.setup.slots m.snapshot (does i) })

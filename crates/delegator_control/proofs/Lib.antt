@@ -2,7 +2,7 @@ pub mod Apart
 pub mod Changes
 pub mod Followed
 pub mod Serving
-pub mod Spelled
+pub mod Encoded
 pub mod Standing
 pub mod Streams
 pub mod Wanting

@@ -5,15 +5,15 @@ use Rattle.bass_operations.specs.declared.operation.AddSource.{AddSource}
 use Rattle.bass_operations.specs.declared.operation.ModifySource.{ModifySource}
 use Rattle.bass_operations.specs.declared.operation.Operation.{Operation}
 use Rattle.bass_operations.specs.declared.operation.Operation.TheVariants.{Add, Modify, Code, Remove}
-use Rattle.receive_state.specs.Layout.{spelling}
+use Rattle.receive_state.specs.Layout.{encoding}
 use Rattle.delegator_history.specs.declared.notice.Notice.{Notice}
 use Rattle.delegator_history.specs.declared.replies.Cause.{Cause}
 use Rattle.delegator_history.specs.declared.replies.Cause.TheVariants as causes
 use Rattle.delegator_history.specs.declared.replies.Reply.{Reply}
 use Rattle.delegator_history.specs.declared.replies.Reply.TheVariants.{Accepted}
 use Rattle.delegator_history.specs.Notices.{change, changes}
-use Rattle.delegator_history.specs.Sights as sights
-use Rattle.delegator_history.specs.Sights.{Wanted, Entry, Sight, is_on, entry_at}
+use Rattle.delegator_history.specs.Snapshots as snapshots
+use Rattle.delegator_history.specs.Snapshots.{Wanted, Entry, Snapshot, is_on, entry_at}
 use Rattle.delegator_history.specs.Steps.{Done, nothing, added, modified, removed, after, placed, place_given, place_wanted, wanting}
 use Rattle.delegator_history.specs.Values.{received, status_of, state_at, value, value_at}
 use Rattle.delegator_history.specs.Writes.{slot_where, has_source, slot_with, empty_slot, least_unused, entry_of, operated, value_written, is_synced, cause_read, reply_by, done_read}
@@ -25,78 +25,78 @@ use Rattle.delegator_control.specs.State.Places.{place_by}
 use Rattle.delegator_control.specs.State.Puts.{Puts}
 use Rattle.delegator_control.specs.State.Statuses.{status_at}
 use Rattle.delegator_control.proofs.Changes.{filled_one, filled_value}
-use Rattle.delegator_control.proofs.Spelled.{synced_is_on}
+use Rattle.delegator_control.proofs.Encoded.{synced_is_on}
 use Rattle.delegator_control.proofs.Standing.{moved_nothing}
 
-pub refused : (op : Operation) (m : Machine) (cause : Cause) (reply : Reply) → cause_read m.sight (Ok op) ≡ Some cause → reply ≡ reply_by (Some cause) → Replies op m m reply
+pub refused : (op : Operation) (m : Machine) (cause : Cause) (reply : Reply) → cause_read m.snapshot (Ok op) ≡ Some cause → reply ≡ reply_by (Some cause) → Replies op m m reply
 refused op m cause reply holds is = record {
   reply = is ∙ ap reply_by (sym holds);
-  step = sym (ap (λ c. moved (done_read m.sight (Ok op) c) m) holds ∙ moved_nothing m);
+  step = sym (ap (λ c. moved (done_read m.snapshot (Ok op) c) m) holds ∙ moved_nothing m);
 }
 
-pub accepted : (op : Operation) (m now : Machine) (reply : Reply) → cause_read m.sight (Ok op) ≡ None → reply ≡ Accepted → now ≡ moved (operated m.sight.slots op) m → Replies op m now reply
+pub accepted : (op : Operation) (m now : Machine) (reply : Reply) → cause_read m.snapshot (Ok op) ≡ None → reply ≡ Accepted → now ≡ moved (operated m.snapshot.slots op) m → Replies op m now reply
 accepted op m now reply none is done = record {
   reply = is ∙ ap reply_by (sym none);
-  step = done ∙ ap (λ c. moved (done_read m.sight (Ok op) c) m) (sym none);
+  step = done ∙ ap (λ c. moved (done_read m.snapshot (Ok op) c) m) (sym none);
 }
 
 -- ---- Add Source
 
-abbrev known_in : Sight → AddSource → Bool
-known_in sight add = is_some (slot_where (has_source add.address_type add.sid add.broadcast_id) 0 sight.slots)
+abbrev known_in : Snapshot → AddSource → Bool
+known_in snapshot add = is_some (slot_where (has_source add.address_type add.sid add.broadcast_id) 0 snapshot.slots)
 
 add_rows : Bool → Bool → Bool → Option Cause
 add_rows known full long = if known then Some causes.Known else (if full then Some causes.NoRoom else (if long then Some causes.ValueTooLong else None))
 
-add_cause : (sight : Sight) (add : AddSource) → cause_read sight (Ok (Add add))
-    ≡ add_rows (known_in sight add) (is_none (empty_slot sight.slots)) (nat_lt 512 (length (value_written sight (operated sight.slots (Add add)))))
+add_cause : (snapshot : Snapshot) (add : AddSource) → cause_read snapshot (Ok (Add add))
+    ≡ add_rows (known_in snapshot add) (is_none (empty_slot snapshot.slots)) (nat_lt 512 (length (value_written snapshot (operated snapshot.slots (Add add)))))
 unfolding add_rows
-add_cause sight add = refl
+add_cause snapshot add = refl
 
-pub add_known : (sight : Sight) (add : AddSource) (found : Option ℕ) → found ≡ slot_where (has_source add.address_type add.sid add.broadcast_id) 0 sight.slots
-    → is_some found ≡ true → cause_read sight (Ok (Add add)) ≡ Some causes.Known
+pub add_known : (snapshot : Snapshot) (add : AddSource) (found : Option ℕ) → found ≡ slot_where (has_source add.address_type add.sid add.broadcast_id) 0 snapshot.slots
+    → is_some found ≡ true → cause_read snapshot (Ok (Add add)) ≡ Some causes.Known
 unfolding add_rows
-add_known sight add found is some =
-    add_cause sight add ∙ ap (λ known. add_rows known (is_none (empty_slot sight.slots)) (nat_lt 512 (length (value_written sight (operated sight.slots (Add add)))))) (ap is_some (sym is) ∙ some)
+add_known snapshot add found is some =
+    add_cause snapshot add ∙ ap (λ known. add_rows known (is_none (empty_slot snapshot.slots)) (nat_lt 512 (length (value_written snapshot (operated snapshot.slots (Add add)))))) (ap is_some (sym is) ∙ some)
 
-pub add_full : (sight : Sight) (add : AddSource) (found : Option ℕ) → found ≡ slot_where (has_source add.address_type add.sid add.broadcast_id) 0 sight.slots
-    → is_some found ≡ false → empty_slot sight.slots ≡ None → cause_read sight (Ok (Add add)) ≡ Some causes.NoRoom
+pub add_full : (snapshot : Snapshot) (add : AddSource) (found : Option ℕ) → found ≡ slot_where (has_source add.address_type add.sid add.broadcast_id) 0 snapshot.slots
+    → is_some found ≡ false → empty_slot snapshot.slots ≡ None → cause_read snapshot (Ok (Add add)) ≡ Some causes.NoRoom
 unfolding add_rows
-add_full sight add found is none full =
-    add_cause sight add
-    ∙ ap (λ known. add_rows known (is_none (empty_slot sight.slots)) (nat_lt 512 (length (value_written sight (operated sight.slots (Add add)))))) (ap is_some (sym is) ∙ none)
-    ∙ ap (λ o. add_rows false (is_none o) (nat_lt 512 (length (value_written sight (operated sight.slots (Add add)))))) full
+add_full snapshot add found is none full =
+    add_cause snapshot add
+    ∙ ap (λ known. add_rows known (is_none (empty_slot snapshot.slots)) (nat_lt 512 (length (value_written snapshot (operated snapshot.slots (Add add)))))) (ap is_some (sym is) ∙ none)
+    ∙ ap (λ o. add_rows false (is_none o) (nat_lt 512 (length (value_written snapshot (operated snapshot.slots (Add add)))))) full
 
-pub add_long : (sight : Sight) (add : AddSource) (found : Option ℕ) (slot : ℕ) (long : Bool) → found ≡ slot_where (has_source add.address_type add.sid add.broadcast_id) 0 sight.slots
-    → is_some found ≡ false → empty_slot sight.slots ≡ Some slot → slot < length sight.slots
-    → nat_lt 512 (length (spelling (received (status_of sight.place sight.encrypted sight.taken slot) (entry_of (least_unused sight.slots) add)))) ≡ long
-    → cause_read sight (Ok (Add add)) ≡ (if long then Some causes.ValueTooLong else None)
+pub add_long : (snapshot : Snapshot) (add : AddSource) (found : Option ℕ) (slot : ℕ) (long : Bool) → found ≡ slot_where (has_source add.address_type add.sid add.broadcast_id) 0 snapshot.slots
+    → is_some found ≡ false → empty_slot snapshot.slots ≡ Some slot → slot < length snapshot.slots
+    → nat_lt 512 (length (encoding (received (status_of snapshot.place snapshot.encrypted snapshot.taken slot) (entry_of (least_unused snapshot.slots) add)))) ≡ long
+    → cause_read snapshot (Ok (Add add)) ≡ (if long then Some causes.ValueTooLong else None)
 unfolding add_rows
-add_long sight add found slot long is none there within value =
-    let entry : Entry = entry_of (least_unused sight.slots) add in
-    let written : nat_lt 512 (length (value_written sight (operated sight.slots (Add add)))) ≡ long =
-    ap (λ o. nat_lt 512 (length (value_written sight (added (unwrap_or o 0) entry)))) there
-    ∙ ap (λ v. nat_lt 512 (length v)) (filled_value slot sight (Some entry) None within) ∙ value in
-    add_cause sight add
-    ∙ ap (λ known. add_rows known (is_none (empty_slot sight.slots)) (nat_lt 512 (length (value_written sight (operated sight.slots (Add add)))))) (ap is_some (sym is) ∙ none)
-    ∙ ap (λ o. add_rows false (is_none o) (nat_lt 512 (length (value_written sight (operated sight.slots (Add add)))))) there
+add_long snapshot add found slot long is none there within value =
+    let entry : Entry = entry_of (least_unused snapshot.slots) add in
+    let written : nat_lt 512 (length (value_written snapshot (operated snapshot.slots (Add add)))) ≡ long =
+    ap (λ o. nat_lt 512 (length (value_written snapshot (added (unwrap_or o 0) entry)))) there
+    ∙ ap (λ v. nat_lt 512 (length v)) (filled_value slot snapshot (Some entry) None within) ∙ value in
+    add_cause snapshot add
+    ∙ ap (λ known. add_rows known (is_none (empty_slot snapshot.slots)) (nat_lt 512 (length (value_written snapshot (operated snapshot.slots (Add add)))))) (ap is_some (sym is) ∙ none)
+    ∙ ap (λ o. add_rows false (is_none o) (nat_lt 512 (length (value_written snapshot (operated snapshot.slots (Add add)))))) there
     ∙ ap (add_rows false false) written
 
 -- ---- Modify, Code and Remove
 
-pub modify_unknown : (sight : Sight) (modify : ModifySource) → slot_with modify.source_id sight.slots ≡ None → cause_read sight (Ok (Modify modify)) ≡ Some causes.SourceUnknown
-modify_unknown sight modify none =
-    ap (λ o. if is_none o then Some causes.SourceUnknown else (if nat_lt 512 (length (value_written sight (operated sight.slots (Modify modify)))) then Some causes.ValueTooLong else None)) none
+pub modify_unknown : (snapshot : Snapshot) (modify : ModifySource) → slot_with modify.source_id snapshot.slots ≡ None → cause_read snapshot (Ok (Modify modify)) ≡ Some causes.SourceUnknown
+modify_unknown snapshot modify none =
+    ap (λ o. if is_none o then Some causes.SourceUnknown else (if nat_lt 512 (length (value_written snapshot (operated snapshot.slots (Modify modify)))) then Some causes.ValueTooLong else None)) none
 
 abbrev pub wanted_by : ModifySource → Wanted
 wanted_by modify = record { pa_sync = modify.pa_sync; wishes = modify.wishes }
 
-pub modify_long : (sight : Sight) (modify : ModifySource) (slot : ℕ) (long : Bool) → slot_with modify.source_id sight.slots ≡ Some slot
-    → nat_lt 512 (length (value_at (after (modified slot (wanted_by modify)) sight) slot)) ≡ long
-    → cause_read sight (Ok (Modify modify)) ≡ (if long then Some causes.ValueTooLong else None)
-modify_long sight modify slot long there value =
+pub modify_long : (snapshot : Snapshot) (modify : ModifySource) (slot : ℕ) (long : Bool) → slot_with modify.source_id snapshot.slots ≡ Some slot
+    → nat_lt 512 (length (value_at (after (modified slot (wanted_by modify)) snapshot) slot)) ≡ long
+    → cause_read snapshot (Ok (Modify modify)) ≡ (if long then Some causes.ValueTooLong else None)
+modify_long snapshot modify slot long there value =
     ap (λ o. if is_none o then Some causes.SourceUnknown
-    else (if nat_lt 512 (length (value_written sight (modified (unwrap_or o 0) (wanted_by modify)))) then Some causes.ValueTooLong else None)) there
+    else (if nat_lt 512 (length (value_written snapshot (modified (unwrap_or o 0) (wanted_by modify)))) then Some causes.ValueTooLong else None)) there
     ∙ ap (λ b. if b then Some causes.ValueTooLong else None) value
 
 code_by : (found : Option ℕ) (some : Bool) → is_some found ≡ some
@@ -106,112 +106,112 @@ code_by None false is = refl
 code_by (Some slot) true is = refl
 code_by (Some slot) false is = absurd cc
 
-pub code_cause : (sight : Sight) (source_id : ℕ) (found : Option ℕ) (some : Bool) (code : List ℕ) → found ≡ slot_with source_id sight.slots → is_some found ≡ some
-    → cause_read sight (Ok (Code source_id code)) ≡ (if some then Some causes.NoDecrypt else Some causes.SourceUnknown)
-code_cause sight source_id found some code is holds =
+pub code_cause : (snapshot : Snapshot) (source_id : ℕ) (found : Option ℕ) (some : Bool) (code : List ℕ) → found ≡ slot_with source_id snapshot.slots → is_some found ≡ some
+    → cause_read snapshot (Ok (Code source_id code)) ≡ (if some then Some causes.NoDecrypt else Some causes.SourceUnknown)
+code_cause snapshot source_id found some code is holds =
     ap (λ o. if is_none o then Some causes.SourceUnknown else Some causes.NoDecrypt) (sym is) ∙ code_by found some holds
 
-pub remove_unknown : (sight : Sight) (source_id : ℕ) → slot_with source_id sight.slots ≡ None → cause_read sight (Ok (Remove source_id)) ≡ Some causes.SourceUnknown
-remove_unknown sight source_id none =
-    ap (λ o. if is_none o then Some causes.SourceUnknown else (if is_synced (state_at sight (unwrap_or (slot_with source_id sight.slots) 0)) then Some causes.StillSynced else None)) none
+pub remove_unknown : (snapshot : Snapshot) (source_id : ℕ) → slot_with source_id snapshot.slots ≡ None → cause_read snapshot (Ok (Remove source_id)) ≡ Some causes.SourceUnknown
+remove_unknown snapshot source_id none =
+    ap (λ o. if is_none o then Some causes.SourceUnknown else (if is_synced (state_at snapshot (unwrap_or (slot_with source_id snapshot.slots) 0)) then Some causes.StillSynced else None)) none
 
-pub remove_synced : (sight : Sight) (source_id slot : ℕ) (entry : Entry) (synced : Bool) → slot_with source_id sight.slots ≡ Some slot
-    → entry_at sight.slots slot ≡ Some entry → is_on sight.place slot ≡ synced
-    → cause_read sight (Ok (Remove source_id)) ≡ (if synced then Some causes.StillSynced else None)
-remove_synced sight source_id slot entry synced there held on =
-    ap (λ o. if is_none o then Some causes.SourceUnknown else (if is_synced (state_at sight (unwrap_or o 0)) then Some causes.StillSynced else None)) there
-    ∙ ap (λ e. if is_synced (option_map (received (status_of sight.place sight.encrypted sight.taken slot)) e) then Some causes.StillSynced else None) held
-    ∙ ap (λ b. if b then Some causes.StillSynced else None) (synced_is_on sight.place sight.encrypted sight.taken slot entry ∙ on)
+pub remove_synced : (snapshot : Snapshot) (source_id slot : ℕ) (entry : Entry) (synced : Bool) → slot_with source_id snapshot.slots ≡ Some slot
+    → entry_at snapshot.slots slot ≡ Some entry → is_on snapshot.place slot ≡ synced
+    → cause_read snapshot (Ok (Remove source_id)) ≡ (if synced then Some causes.StillSynced else None)
+remove_synced snapshot source_id slot entry synced there held on =
+    ap (λ o. if is_none o then Some causes.SourceUnknown else (if is_synced (state_at snapshot (unwrap_or o 0)) then Some causes.StillSynced else None)) there
+    ∙ ap (λ e. if is_synced (option_map (received (status_of snapshot.place snapshot.encrypted snapshot.taken slot)) e) then Some causes.StillSynced else None) held
+    ∙ ap (λ b. if b then Some causes.StillSynced else None) (synced_is_on snapshot.place snapshot.encrypted snapshot.taken slot entry ∙ on)
 
 -- ---- what is done
 
 -- a slot that is filled or emptied, and a sink that moves
-pub filled_done : (m : Machine) (slot : ℕ) (entry : Option Entry) (moves : Move) (done : Done) (value_now : List ℕ) → slot < m.setup.slots → slot < length m.sight.slots
-    → ((now : sights.Place) → place_by m.sight.place moves ≡ Some now → is_on m.sight.place slot ≡ true)
-    → after done m.sight ≡ placed (place_by m.sight.place moves) None None (record m.sight { slots = set m.sight.slots slot entry })
-    → value_now ≡ value (option_map (received (status_of (placed (place_by m.sight.place moves) None None m.sight).place
-    (placed (place_by m.sight.place moves) None None m.sight).encrypted (placed (place_by m.sight.place moves) None None m.sight).taken slot)) entry)
+pub filled_done : (m : Machine) (slot : ℕ) (entry : Option Entry) (moves : Move) (done : Done) (value_now : List ℕ) → slot < m.setup.slots → slot < length m.snapshot.slots
+    → ((now : snapshots.Place) → place_by m.snapshot.place moves ≡ Some now → is_on m.snapshot.place slot ≡ true)
+    → after done m.snapshot ≡ placed (place_by m.snapshot.place moves) None None (record m.snapshot { slots = set m.snapshot.slots slot entry })
+    → value_now ≡ value (option_map (received (status_of (placed (place_by m.snapshot.place moves) None None m.snapshot).place
+    (placed (place_by m.snapshot.place moves) None None m.snapshot).encrypted (placed (place_by m.snapshot.place moves) None None m.snapshot).taken slot)) entry)
     → record m {
-      sight = placed (place_by m.sight.place moves) None None (record m.sight { slots = set m.sight.slots slot entry });
-      waiting = m.waiting ++ change slot (value_at m.sight slot) value_now;
+      snapshot = placed (place_by m.snapshot.place moves) None None (record m.snapshot { slots = set m.snapshot.slots slot entry });
+      waiting = m.waiting ++ change slot (value_at m.snapshot slot) value_now;
     }
     ≡ moved done m
 filled_done m slot entry moves done value_now within there on does is =
-    let end : Sight = placed (place_by m.sight.place moves) None None (record m.sight { slots = set m.sight.slots slot entry }) in
-    let one : changes m.setup.slots m.sight end ≡ change slot (value_at m.sight slot) value_now =
-    filled_one m.setup.slots slot m.sight entry moves within on
-    ∙ ap (change slot (value_at m.sight slot)) (filled_value slot m.sight entry (place_by m.sight.place moves) there ∙ sym is) in
-    (λ i. record m { sight = end; waiting = m.waiting ++ sym one i })
-    ∙ (λ i. record m { sight = sym does i; waiting = m.waiting ++ changes m.setup.slots m.sight (sym does i) })
+    let end : Snapshot = placed (place_by m.snapshot.place moves) None None (record m.snapshot { slots = set m.snapshot.slots slot entry }) in
+    let one : changes m.setup.slots m.snapshot end ≡ change slot (value_at m.snapshot slot) value_now =
+    filled_one m.setup.slots slot m.snapshot entry moves within on
+    ∙ ap (change slot (value_at m.snapshot slot)) (filled_value slot m.snapshot entry (place_by m.snapshot.place moves) there ∙ sym is) in
+    (λ i. record m { snapshot = end; waiting = m.waiting ++ sym one i })
+    ∙ (λ i. record m { snapshot = sym does i; waiting = m.waiting ++ changes m.setup.slots m.snapshot (sym does i) })
 
 -- a slot that changes, and the place stays
 slot_done : (m now : Machine) (slot : ℕ) (entry : Option Entry) (slots : List (Option Entry)) (waiting : List Notice) (done : Done) (value_now : List ℕ)
-    → slot < m.setup.slots → slot < length m.sight.slots
-    → now ≡ record m { sight = record m.sight { slots = slots }; waiting = waiting }
-    → slots ≡ set m.sight.slots slot entry → waiting ≡ m.waiting ++ change slot (value_at m.sight slot) value_now
-    → after done m.sight ≡ record m.sight { slots = set m.sight.slots slot entry }
-    → value_now ≡ value (option_map (received (status_of m.sight.place m.sight.encrypted m.sight.taken slot)) entry)
+    → slot < m.setup.slots → slot < length m.snapshot.slots
+    → now ≡ record m { snapshot = record m.snapshot { slots = slots }; waiting = waiting }
+    → slots ≡ set m.snapshot.slots slot entry → waiting ≡ m.waiting ++ change slot (value_at m.snapshot slot) value_now
+    → after done m.snapshot ≡ record m.snapshot { slots = set m.snapshot.slots slot entry }
+    → value_now ≡ value (option_map (received (status_of m.snapshot.place m.snapshot.encrypted m.snapshot.taken slot)) entry)
     → now ≡ moved done m
 slot_done m now slot entry slots waiting done value_now within there is filled waits does will =
     is
-    ∙ (λ i. record m { sight = record m.sight { slots = filled i }; waiting = waits i })
+    ∙ (λ i. record m { snapshot = record m.snapshot { slots = filled i }; waiting = waits i })
     ∙ filled_done m slot entry Stay done value_now within there (λ place e. absurd cc) does will
 
-pub add_done : (m now : Machine) (add : AddSource) (slot : ℕ) (slots : List (Option Entry)) (waiting : List Notice) → empty_slot m.sight.slots ≡ Some slot
-    → slot < m.setup.slots → slot < length m.sight.slots
-    → now ≡ record m { sight = record m.sight { slots = slots }; waiting = waiting }
-    → slots ≡ set m.sight.slots slot (Some (entry_of (least_unused m.sight.slots) add))
-    → waiting ≡ m.waiting ++ change slot (value_at m.sight slot) (spelling (received (status_of m.sight.place m.sight.encrypted m.sight.taken slot) (entry_of (least_unused m.sight.slots) add)))
-    → now ≡ moved (operated m.sight.slots (Add add)) m
+pub add_done : (m now : Machine) (add : AddSource) (slot : ℕ) (slots : List (Option Entry)) (waiting : List Notice) → empty_slot m.snapshot.slots ≡ Some slot
+    → slot < m.setup.slots → slot < length m.snapshot.slots
+    → now ≡ record m { snapshot = record m.snapshot { slots = slots }; waiting = waiting }
+    → slots ≡ set m.snapshot.slots slot (Some (entry_of (least_unused m.snapshot.slots) add))
+    → waiting ≡ m.waiting ++ change slot (value_at m.snapshot slot) (encoding (received (status_of m.snapshot.place m.snapshot.encrypted m.snapshot.taken slot) (entry_of (least_unused m.snapshot.slots) add)))
+    → now ≡ moved (operated m.snapshot.slots (Add add)) m
 add_done m now add slot slots waiting empty within there is filled waits =
-    let entry : Entry = entry_of (least_unused m.sight.slots) add in
-    slot_done m now slot (Some entry) slots waiting (added slot entry) (spelling (received (status_of m.sight.place m.sight.encrypted m.sight.taken slot) entry)) within there is filled waits refl refl
+    let entry : Entry = entry_of (least_unused m.snapshot.slots) add in
+    slot_done m now slot (Some entry) slots waiting (added slot entry) (encoding (received (status_of m.snapshot.place m.snapshot.encrypted m.snapshot.taken slot) entry)) within there is filled waits refl refl
     ∙ ap (λ o. moved (added (unwrap_or o 0) entry) m) (sym empty)
 
-pub remove_done : (m now : Machine) (source_id slot : ℕ) (slots : List (Option Entry)) (waiting : List Notice) → slot_with source_id m.sight.slots ≡ Some slot
-    → slot < m.setup.slots → slot < length m.sight.slots
-    → now ≡ record m { sight = record m.sight { slots = slots }; waiting = waiting }
-    → slots ≡ set m.sight.slots slot None → waiting ≡ m.waiting ++ change slot (value_at m.sight slot) []
-    → now ≡ moved (operated m.sight.slots (Remove source_id)) m
+pub remove_done : (m now : Machine) (source_id slot : ℕ) (slots : List (Option Entry)) (waiting : List Notice) → slot_with source_id m.snapshot.slots ≡ Some slot
+    → slot < m.setup.slots → slot < length m.snapshot.slots
+    → now ≡ record m { snapshot = record m.snapshot { slots = slots }; waiting = waiting }
+    → slots ≡ set m.snapshot.slots slot None → waiting ≡ m.waiting ++ change slot (value_at m.snapshot slot) []
+    → now ≡ moved (operated m.snapshot.slots (Remove source_id)) m
 remove_done m now source_id slot slots waiting held within there is emptied waits =
     slot_done m now slot None slots waiting (removed slot) [] within there is emptied waits refl refl
     ∙ ap (λ o. moved (removed (unwrap_or o 0)) m) (sym held)
 
 -- a slot that is modified, and a sink that moves
-pub modified_is : (sight : Sight) (slot : ℕ) (entry : Entry) (wanted : Wanted) (moves : Move) → entry_at sight.slots slot ≡ Some entry
-    → place_by sight.place moves ≡ place_given sight (modified slot wanted)
-    → after (modified slot wanted) sight ≡ placed (place_by sight.place moves) None None (record sight { slots = set sight.slots slot (Some (record entry { wanted = wanted })) })
-modified_is sight slot entry wanted moves held same =
-    λ i. placed (sym same i) None None (record sight { slots = set sight.slots slot (wanting wanted (held i)) })
+pub modified_is : (snapshot : Snapshot) (slot : ℕ) (entry : Entry) (wanted : Wanted) (moves : Move) → entry_at snapshot.slots slot ≡ Some entry
+    → place_by snapshot.place moves ≡ place_given snapshot (modified slot wanted)
+    → after (modified slot wanted) snapshot ≡ placed (place_by snapshot.place moves) None None (record snapshot { slots = set snapshot.slots slot (Some (record entry { wanted = wanted })) })
+modified_is snapshot slot entry wanted moves held same =
+    λ i. placed (sym same i) None None (record snapshot { slots = set snapshot.slots slot (wanting wanted (held i)) })
 
-stays_on : (b : Bool) (place : Option sights.Place) (now : sights.Place) → (if b then place else None) ≡ Some now → b ≡ true
+stays_on : (b : Bool) (place : Option snapshots.Place) (now : snapshots.Place) → (if b then place else None) ≡ Some now → b ≡ true
 stays_on true place now e = refl
 stays_on false place now e = absurd cc
 
-pub modify_value : (sight : Sight) (slot : ℕ) (entry : Entry) (wanted : Wanted) (moves : Move) → slot < length sight.slots → entry_at sight.slots slot ≡ Some entry
-    → place_by sight.place moves ≡ place_given sight (modified slot wanted)
-    → value_at (after (modified slot wanted) sight) slot
-    ≡ spelling (received (status_of (placed (place_by sight.place moves) None None sight).place (placed (place_by sight.place moves) None None sight).encrypted
-    (placed (place_by sight.place moves) None None sight).taken slot) (record entry { wanted = wanted }))
-modify_value sight slot entry wanted moves there held same =
-    ap (λ s. value_at s slot) (modified_is sight slot entry wanted moves held same)
-    ∙ filled_value slot sight (Some (record entry { wanted = wanted })) (place_by sight.place moves) there
+pub modify_value : (snapshot : Snapshot) (slot : ℕ) (entry : Entry) (wanted : Wanted) (moves : Move) → slot < length snapshot.slots → entry_at snapshot.slots slot ≡ Some entry
+    → place_by snapshot.place moves ≡ place_given snapshot (modified slot wanted)
+    → value_at (after (modified slot wanted) snapshot) slot
+    ≡ encoding (received (status_of (placed (place_by snapshot.place moves) None None snapshot).place (placed (place_by snapshot.place moves) None None snapshot).encrypted
+    (placed (place_by snapshot.place moves) None None snapshot).taken slot) (record entry { wanted = wanted }))
+modify_value snapshot slot entry wanted moves there held same =
+    ap (λ s. value_at s slot) (modified_is snapshot slot entry wanted moves held same)
+    ∙ filled_value slot snapshot (Some (record entry { wanted = wanted })) (place_by snapshot.place moves) there
 
 pub modify_done : (m now : Machine) (modify : ModifySource) (slot : ℕ) (entry : Entry) (moves : Move) (slots : List (Option Entry)) (waiting : List Notice)
-    → slot_with modify.source_id m.sight.slots ≡ Some slot → slot < m.setup.slots → slot < length m.sight.slots
-    → entry_at m.sight.slots slot ≡ Some entry → place_by m.sight.place moves ≡ place_given m.sight (modified slot (wanted_by modify))
-    → now ≡ record m { sight = placed (place_by m.sight.place moves) None None (record m.sight { slots = slots }); waiting = waiting }
-    → slots ≡ set m.sight.slots slot (Some (record entry { wanted = wanted_by modify }))
-    → waiting ≡ m.waiting ++ change slot (value_at m.sight slot) (spelling (received (status_of (placed (place_by m.sight.place moves) None None m.sight).place
-    (placed (place_by m.sight.place moves) None None m.sight).encrypted (placed (place_by m.sight.place moves) None None m.sight).taken slot)
+    → slot_with modify.source_id m.snapshot.slots ≡ Some slot → slot < m.setup.slots → slot < length m.snapshot.slots
+    → entry_at m.snapshot.slots slot ≡ Some entry → place_by m.snapshot.place moves ≡ place_given m.snapshot (modified slot (wanted_by modify))
+    → now ≡ record m { snapshot = placed (place_by m.snapshot.place moves) None None (record m.snapshot { slots = slots }); waiting = waiting }
+    → slots ≡ set m.snapshot.slots slot (Some (record entry { wanted = wanted_by modify }))
+    → waiting ≡ m.waiting ++ change slot (value_at m.snapshot slot) (encoding (received (status_of (placed (place_by m.snapshot.place moves) None None m.snapshot).place
+    (placed (place_by m.snapshot.place moves) None None m.snapshot).encrypted (placed (place_by m.snapshot.place moves) None None m.snapshot).taken slot)
     (record entry { wanted = wanted_by modify })))
-    → now ≡ moved (operated m.sight.slots (Modify modify)) m
+    → now ≡ moved (operated m.snapshot.slots (Modify modify)) m
 modify_done m now modify slot entry moves slots waiting found within there held same is filled waits =
     is
-    ∙ (λ i. record m { sight = placed (place_by m.sight.place moves) None None (record m.sight { slots = filled i }); waiting = waits i })
+    ∙ (λ i. record m { snapshot = placed (place_by m.snapshot.place moves) None None (record m.snapshot { slots = filled i }); waiting = waits i })
     ∙ filled_done m slot (Some (record entry { wanted = wanted_by modify })) moves (modified slot (wanted_by modify)) _ within there
-    (λ place e. stays_on (is_on m.sight.place slot) (place_wanted m.sight slot (wanted_by modify)) place (sym same ∙ e))
-    (modified_is m.sight slot entry (wanted_by modify) moves held same) refl
+    (λ place e. stays_on (is_on m.snapshot.place slot) (place_wanted m.snapshot slot (wanted_by modify)) place (sym same ∙ e))
+    (modified_is m.snapshot slot entry (wanted_by modify) moves held same) refl
     ∙ ap (λ o. moved (modified (unwrap_or o 0) (wanted_by modify)) m) (sym found)
 
 -- ---- a slot that was put, or not
@@ -228,81 +228,81 @@ puts_yes v slot entry before slots slots_now waiting waiting_now true is puts = 
 puts_yes v slot entry before slots slots_now waiting waiting_now false is puts = absurd cc
 
 -- nothing changed
-pub same_rest : (m now : Machine) (slots : List (Option Entry)) (waiting : List Notice) → now ≡ record m { sight = record m.sight { slots = slots }; waiting = waiting }
-    → slots ≡ m.sight.slots → waiting ≡ m.waiting → now ≡ m
-same_rest m now slots waiting is slots_same waiting_same = is ∙ (λ i. record m { sight = record m.sight { slots = slots_same i }; waiting = waiting_same i })
+pub same_rest : (m now : Machine) (slots : List (Option Entry)) (waiting : List Notice) → now ≡ record m { snapshot = record m.snapshot { slots = slots }; waiting = waiting }
+    → slots ≡ m.snapshot.slots → waiting ≡ m.waiting → now ≡ m
+same_rest m now slots waiting is slots_same waiting_same = is ∙ (λ i. record m { snapshot = record m.snapshot { slots = slots_same i }; waiting = waiting_same i })
 
 pub add_refused : (m now : Machine) (add : AddSource) (known : Option ℕ) (slot : ℕ) (filled : Entry) (reply : Reply)
-    → known ≡ slot_where (has_source add.address_type add.sid add.broadcast_id) 0 m.sight.slots → is_some known ≡ false
-    → empty_slot m.sight.slots ≡ Some slot → slot < length m.sight.slots → filled ≡ entry_of (least_unused m.sight.slots) add
-    → nat_lt 512 (length (spelling (received (status_of m.sight.place m.sight.encrypted m.sight.taken slot) filled))) ≡ true
+    → known ≡ slot_where (has_source add.address_type add.sid add.broadcast_id) 0 m.snapshot.slots → is_some known ≡ false
+    → empty_slot m.snapshot.slots ≡ Some slot → slot < length m.snapshot.slots → filled ≡ entry_of (least_unused m.snapshot.slots) add
+    → nat_lt 512 (length (encoding (received (status_of m.snapshot.place m.snapshot.encrypted m.snapshot.taken slot) filled))) ≡ true
     → now ≡ m → reply ≡ reply_by (Some causes.ValueTooLong) → Replies (Add add) m now reply
 add_refused m now add known slot filled reply is none empty there fills long same told =
-    let wide = subst (λ (f : Entry). nat_lt 512 (length (spelling (received (status_of m.sight.place m.sight.encrypted m.sight.taken slot) f))) ≡ true) fills long in
+    let wide = subst (λ (f : Entry). nat_lt 512 (length (encoding (received (status_of m.snapshot.place m.snapshot.encrypted m.snapshot.taken slot) f))) ≡ true) fills long in
     subst (λ (k : Machine). Replies (Add add) m k reply) (sym same)
-    (refused (Add add) m causes.ValueTooLong reply (add_long m.sight add known slot true is none empty there wide) told)
+    (refused (Add add) m causes.ValueTooLong reply (add_long m.snapshot add known slot true is none empty there wide) told)
 
 pub add_accepted : (m now : Machine) (add : AddSource) (known : Option ℕ) (slot : ℕ) (filled : Entry) (slots : List (Option Entry)) (waiting : List Notice)
-    → known ≡ slot_where (has_source add.address_type add.sid add.broadcast_id) 0 m.sight.slots → is_some known ≡ false
-    → empty_slot m.sight.slots ≡ Some slot → slot < m.setup.slots → slot < length m.sight.slots → filled ≡ entry_of (least_unused m.sight.slots) add
-    → nat_lt 512 (length (spelling (received (status_of m.sight.place m.sight.encrypted m.sight.taken slot) filled))) ≡ false
-    → now ≡ record m { sight = record m.sight { slots = slots }; waiting = waiting } → slots ≡ set m.sight.slots slot (Some filled)
-    → waiting ≡ m.waiting ++ change slot (value_at m.sight slot) (spelling (received (status_of m.sight.place m.sight.encrypted m.sight.taken slot) filled))
+    → known ≡ slot_where (has_source add.address_type add.sid add.broadcast_id) 0 m.snapshot.slots → is_some known ≡ false
+    → empty_slot m.snapshot.slots ≡ Some slot → slot < m.setup.slots → slot < length m.snapshot.slots → filled ≡ entry_of (least_unused m.snapshot.slots) add
+    → nat_lt 512 (length (encoding (received (status_of m.snapshot.place m.snapshot.encrypted m.snapshot.taken slot) filled))) ≡ false
+    → now ≡ record m { snapshot = record m.snapshot { slots = slots }; waiting = waiting } → slots ≡ set m.snapshot.slots slot (Some filled)
+    → waiting ≡ m.waiting ++ change slot (value_at m.snapshot slot) (encoding (received (status_of m.snapshot.place m.snapshot.encrypted m.snapshot.taken slot) filled))
     → Replies (Add add) m now Accepted
 add_accepted m now add known slot filled slots waiting is none empty within there fills short does filled_so waits =
-    let status = status_of m.sight.place m.sight.encrypted m.sight.taken slot in
-    let narrow = subst (λ (f : Entry). nat_lt 512 (length (spelling (received (status_of m.sight.place m.sight.encrypted m.sight.taken slot) f))) ≡ false) fills short in
-    accepted (Add add) m now Accepted (add_long m.sight add known slot false is none empty there narrow) refl
-    (add_done m now add slot slots waiting empty within there does (filled_so ∙ ap (λ f. set m.sight.slots slot (Some f)) fills)
-    (waits ∙ ap (λ f. m.waiting ++ change slot (value_at m.sight slot) (spelling (received status f))) fills))
+    let status = status_of m.snapshot.place m.snapshot.encrypted m.snapshot.taken slot in
+    let narrow = subst (λ (f : Entry). nat_lt 512 (length (encoding (received (status_of m.snapshot.place m.snapshot.encrypted m.snapshot.taken slot) f))) ≡ false) fills short in
+    accepted (Add add) m now Accepted (add_long m.snapshot add known slot false is none empty there narrow) refl
+    (add_done m now add slot slots waiting empty within there does (filled_so ∙ ap (λ f. set m.snapshot.slots slot (Some f)) fills)
+    (waits ∙ ap (λ f. m.waiting ++ change slot (value_at m.snapshot slot) (encoding (received status f))) fills))
 
 pub remove_accepted : (m now : Machine) (source_id slot : ℕ) (entry : Entry) (slots : List (Option Entry)) (waiting : List Notice)
-    → slot_with source_id m.sight.slots ≡ Some slot → entry_at m.sight.slots slot ≡ Some entry → is_on m.sight.place slot ≡ false
-    → slot < m.setup.slots → slot < length m.sight.slots
-    → now ≡ record m { sight = record m.sight { slots = slots }; waiting = waiting } → slots ≡ set m.sight.slots slot None
-    → waiting ≡ m.waiting ++ change slot (value_at m.sight slot) [] → Replies (Remove source_id) m now Accepted
+    → slot_with source_id m.snapshot.slots ≡ Some slot → entry_at m.snapshot.slots slot ≡ Some entry → is_on m.snapshot.place slot ≡ false
+    → slot < m.setup.slots → slot < length m.snapshot.slots
+    → now ≡ record m { snapshot = record m.snapshot { slots = slots }; waiting = waiting } → slots ≡ set m.snapshot.slots slot None
+    → waiting ≡ m.waiting ++ change slot (value_at m.snapshot slot) [] → Replies (Remove source_id) m now Accepted
 remove_accepted m now source_id slot entry slots waiting found held off within there does emptied waits =
-    accepted (Remove source_id) m now Accepted (remove_synced m.sight source_id slot entry false found held off) refl
+    accepted (Remove source_id) m now Accepted (remove_synced m.snapshot source_id slot entry false found held off) refl
     (remove_done m now source_id slot slots waiting found within there does emptied waits)
 
 pub modify_refused : (m now : Machine) (modify : ModifySource) (slot : ℕ) (entry : Entry) (moves : Move) (filled : Entry) (reply : Reply)
-    → slot_with modify.source_id m.sight.slots ≡ Some slot → slot < length m.sight.slots → entry_at m.sight.slots slot ≡ Some entry
-    → place_by m.sight.place moves ≡ place_given m.sight (modified slot (wanted_by modify)) → filled ≡ record entry { wanted = wanted_by modify }
-    → nat_lt 512 (length (spelling (received (status_at slot (placed (place_by m.sight.place moves) None None m.sight)) filled))) ≡ true
+    → slot_with modify.source_id m.snapshot.slots ≡ Some slot → slot < length m.snapshot.slots → entry_at m.snapshot.slots slot ≡ Some entry
+    → place_by m.snapshot.place moves ≡ place_given m.snapshot (modified slot (wanted_by modify)) → filled ≡ record entry { wanted = wanted_by modify }
+    → nat_lt 512 (length (encoding (received (status_at slot (placed (place_by m.snapshot.place moves) None None m.snapshot)) filled))) ≡ true
     → now ≡ m → reply ≡ reply_by (Some causes.ValueTooLong) → Replies (Modify modify) m now reply
 modify_refused m now modify slot entry moves filled reply found there held same fills long unchanged told =
-    let wide : nat_lt 512 (length (value_at (after (modified slot (wanted_by modify)) m.sight) slot)) ≡ true =
-    ap (λ v. nat_lt 512 (length v)) (modify_value m.sight slot entry (wanted_by modify) moves there held same
-    ∙ ap (λ f. spelling (received (status_at slot (placed (place_by m.sight.place moves) None None m.sight)) f)) (sym fills)) ∙ long in
+    let wide : nat_lt 512 (length (value_at (after (modified slot (wanted_by modify)) m.snapshot) slot)) ≡ true =
+    ap (λ v. nat_lt 512 (length v)) (modify_value m.snapshot slot entry (wanted_by modify) moves there held same
+    ∙ ap (λ f. encoding (received (status_at slot (placed (place_by m.snapshot.place moves) None None m.snapshot)) f)) (sym fills)) ∙ long in
     subst (λ (k : Machine). Replies (Modify modify) m k reply) (sym unchanged)
-    (refused (Modify modify) m causes.ValueTooLong reply (modify_long m.sight modify slot true found wide) told)
+    (refused (Modify modify) m causes.ValueTooLong reply (modify_long m.snapshot modify slot true found wide) told)
 
 pub modify_accepted : (m now : Machine) (modify : ModifySource) (slot : ℕ) (entry : Entry) (moves : Move) (filled : Entry) (slots : List (Option Entry)) (waiting : List Notice)
-    → slot_with modify.source_id m.sight.slots ≡ Some slot → slot < m.setup.slots → slot < length m.sight.slots → entry_at m.sight.slots slot ≡ Some entry
-    → place_by m.sight.place moves ≡ place_given m.sight (modified slot (wanted_by modify)) → filled ≡ record entry { wanted = wanted_by modify }
-    → nat_lt 512 (length (spelling (received (status_at slot (placed (place_by m.sight.place moves) None None m.sight)) filled))) ≡ false
-    → now ≡ record m { sight = placed (place_by m.sight.place moves) None None (record m.sight { slots = slots }); waiting = waiting }
-    → slots ≡ set m.sight.slots slot (Some filled)
-    → waiting ≡ m.waiting ++ change slot (value_at m.sight slot) (spelling (received (status_at slot (placed (place_by m.sight.place moves) None None m.sight)) filled))
+    → slot_with modify.source_id m.snapshot.slots ≡ Some slot → slot < m.setup.slots → slot < length m.snapshot.slots → entry_at m.snapshot.slots slot ≡ Some entry
+    → place_by m.snapshot.place moves ≡ place_given m.snapshot (modified slot (wanted_by modify)) → filled ≡ record entry { wanted = wanted_by modify }
+    → nat_lt 512 (length (encoding (received (status_at slot (placed (place_by m.snapshot.place moves) None None m.snapshot)) filled))) ≡ false
+    → now ≡ record m { snapshot = placed (place_by m.snapshot.place moves) None None (record m.snapshot { slots = slots }); waiting = waiting }
+    → slots ≡ set m.snapshot.slots slot (Some filled)
+    → waiting ≡ m.waiting ++ change slot (value_at m.snapshot slot) (encoding (received (status_at slot (placed (place_by m.snapshot.place moves) None None m.snapshot)) filled))
     → Replies (Modify modify) m now Accepted
 modify_accepted m now modify slot entry moves filled slots waiting found within there held same fills short does filled_so waits =
-    let narrow : nat_lt 512 (length (value_at (after (modified slot (wanted_by modify)) m.sight) slot)) ≡ false =
-    ap (λ v. nat_lt 512 (length v)) (modify_value m.sight slot entry (wanted_by modify) moves there held same
-    ∙ ap (λ f. spelling (received (status_at slot (placed (place_by m.sight.place moves) None None m.sight)) f)) (sym fills)) ∙ short in
-    accepted (Modify modify) m now Accepted (modify_long m.sight modify slot false found narrow) refl
-    (modify_done m now modify slot entry moves slots waiting found within there held same does (filled_so ∙ ap (λ f. set m.sight.slots slot (Some f)) fills)
-    (waits ∙ ap (λ f. m.waiting ++ change slot (value_at m.sight slot) (spelling (received (status_at slot (placed (place_by m.sight.place moves) None None m.sight)) f))) fills))
+    let narrow : nat_lt 512 (length (value_at (after (modified slot (wanted_by modify)) m.snapshot) slot)) ≡ false =
+    ap (λ v. nat_lt 512 (length v)) (modify_value m.snapshot slot entry (wanted_by modify) moves there held same
+    ∙ ap (λ f. encoding (received (status_at slot (placed (place_by m.snapshot.place moves) None None m.snapshot)) f)) (sym fills)) ∙ short in
+    accepted (Modify modify) m now Accepted (modify_long m.snapshot modify slot false found narrow) refl
+    (modify_done m now modify slot entry moves slots waiting found within there held same does (filled_so ∙ ap (λ f. set m.snapshot.slots slot (Some f)) fills)
+    (waits ∙ ap (λ f. m.waiting ++ change slot (value_at m.snapshot slot) (encoding (received (status_at slot (placed (place_by m.snapshot.place moves) None None m.snapshot)) f))) fills))
 
-code_does : (sight : Sight) (source_id : ℕ) (code : List ℕ) (cause : Option Cause) → done_read sight (Ok (Code source_id code)) cause ≡ nothing
-code_does sight source_id code None = refl
-code_does sight source_id code (Some cause) = refl
+code_does : (snapshot : Snapshot) (source_id : ℕ) (code : List ℕ) (cause : Option Cause) → done_read snapshot (Ok (Code source_id code)) cause ≡ nothing
+code_does snapshot source_id code None = refl
+code_does snapshot source_id code (Some cause) = refl
 
-code_replies : (m : Machine) (source_id : ℕ) (code : List ℕ) (reply : Reply) → reply ≡ reply_by (cause_read m.sight (Ok (Code source_id code))) → Replies (Code source_id code) m m reply
+code_replies : (m : Machine) (source_id : ℕ) (code : List ℕ) (reply : Reply) → reply ≡ reply_by (cause_read m.snapshot (Ok (Code source_id code))) → Replies (Code source_id code) m m reply
 code_replies m source_id code reply is = record {
   reply = is;
-  step = sym (ap (λ done. moved done m) (code_does m.sight source_id code (cause_read m.sight (Ok (Code source_id code)))) ∙ moved_nothing m);
+  step = sym (ap (λ done. moved done m) (code_does m.snapshot source_id code (cause_read m.snapshot (Ok (Code source_id code)))) ∙ moved_nothing m);
 }
 
 pub code_case : (op : Operation) (source_id : ℕ) (code : List ℕ) (m : Machine) (reply : Reply) → op ≡ Code source_id code
-    → ((other : List ℕ) → reply ≡ reply_by (cause_read m.sight (Ok (Code source_id other)))) → Replies op m m reply
+    → ((other : List ℕ) → reply ≡ reply_by (cause_read m.snapshot (Ok (Code source_id other)))) → Replies op m m reply
 code_case op source_id code m reply is told = subst (λ (o : Operation). Replies o m m reply) (sym is) (code_replies m source_id code reply (told code))

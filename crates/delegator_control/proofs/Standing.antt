@@ -11,69 +11,69 @@ use Rattle.delegator_history.specs.Trains.{Setup}
 use Rattle.delegator_history.specs.declared.notice.Notice.{Notice}
 use Rattle.std.specs.Option.{option_or}
 use Rattle.delegator_history.specs.Notices.{changes, is_told, mtu_by, mtu_in, waiting}
-use Rattle.delegator_history.specs.Sights.{Entry, idle}
+use Rattle.delegator_history.specs.Snapshots.{Entry, idle}
 use Rattle.delegator_history.specs.Values.{value_at}
-use Rattle.delegator_history.specs.States.{Step, told, mtu_set, answered, done_by, entry_in, sight_of}
+use Rattle.delegator_history.specs.States.{Step, notified, mtu_set, answered, done_by, entry_in, snapshot_of}
 use Rattle.delegator_history.specs.Steps.{Done, nothing, left, after}
-use Rattle.delegator_history.proofs.Citable.{sight_goes_on, waiting_goes_on, none_change}
+use Rattle.delegator_history.proofs.Citable.{snapshot_goes_on, waiting_goes_on, none_change}
 use Rattle.delegator_control.specs.State.Machines.{Machine, StandsFor, moved, step_on}
 
 pub moved_nothing : (m : Machine) → moved nothing m ≡ m
 moved_nothing m =
-    let none : changes m.setup.slots m.sight m.sight ≡ [] = none_change m.setup.slots m.sight m.sight (λ i. refl) in
+    let none : changes m.setup.slots m.snapshot m.snapshot ≡ [] = none_change m.setup.slots m.snapshot m.snapshot (λ i. refl) in
     λ i. record m { waiting = (ap (λ more. m.waiting ++ more) none ∙ append-nil m.waiting) i }
 
 -- a step that is done
 pub stands_done : (step : Step) (steps : List Step) (m now : Machine) → is_told step ≡ 0 → mtu_by step ≡ None
-    → now ≡ moved (done_by m.setup m.sight step) m → StandsFor steps m → StandsFor (step ∷ steps) now
+    → now ≡ moved (done_by m.setup m.snapshot step) m → StandsFor steps m → StandsFor (step ∷ steps) now
 stands_done step steps m now quiet silent is h =
-    let sight : after (done_by m.setup m.sight step) m.sight ≡ sight_of m.setup (step ∷ steps) =
-    ap (λ s. after (done_by m.setup s step) s) h.sight ∙ sym (sight_goes_on m.setup step steps) in
-    let more : changes m.setup.slots m.sight (after (done_by m.setup m.sight step) m.sight) ≡ changes m.setup.slots (sight_of m.setup steps) (sight_of m.setup (step ∷ steps)) =
-    λ i. changes m.setup.slots (h.sight i) (sight i) in
-    let waits : m.waiting ++ changes m.setup.slots m.sight (after (done_by m.setup m.sight step) m.sight) ≡ waiting m.setup (step ∷ steps) =
+    let snapshot : after (done_by m.setup m.snapshot step) m.snapshot ≡ snapshot_of m.setup (step ∷ steps) =
+    ap (λ s. after (done_by m.setup s step) s) h.snapshot ∙ sym (snapshot_goes_on m.setup step steps) in
+    let more : changes m.setup.slots m.snapshot (after (done_by m.setup m.snapshot step) m.snapshot) ≡ changes m.setup.slots (snapshot_of m.setup steps) (snapshot_of m.setup (step ∷ steps)) =
+    λ i. changes m.setup.slots (h.snapshot i) (snapshot i) in
+    let waits : m.waiting ++ changes m.setup.slots m.snapshot (after (done_by m.setup m.snapshot step) m.snapshot) ≡ waiting m.setup (step ∷ steps) =
     (λ i. h.waiting i ++ more i)
-    ∙ ap (λ k. drop k (waiting m.setup steps) ++ changes m.setup.slots (sight_of m.setup steps) (sight_of m.setup (step ∷ steps))) (sym quiet)
+    ∙ ap (λ k. drop k (waiting m.setup steps) ++ changes m.setup.slots (snapshot_of m.setup steps) (snapshot_of m.setup (step ∷ steps))) (sym quiet)
     ∙ sym (waiting_goes_on m.setup step steps) in
     let mtu : m.mtu ≡ mtu_in (step ∷ steps) = h.mtu ∙ ap (λ o. option_or o (mtu_in steps)) (sym silent) in
-    subst (StandsFor (step ∷ steps)) (sym is) (record { sight = sight; waiting = waits; mtu = mtu })
+    subst (StandsFor (step ∷ steps)) (sym is) (record { snapshot = snapshot; waiting = waits; mtu = mtu })
 
 -- a step that changes nothing of what the sink has
-no_more : (step : Step) (steps : List Step) (m : Machine) → after (done_by m.setup (sight_of m.setup steps) step) (sight_of m.setup steps) ≡ sight_of m.setup steps
-    → changes m.setup.slots (sight_of m.setup steps) (sight_of m.setup (step ∷ steps)) ≡ []
+no_more : (step : Step) (steps : List Step) (m : Machine) → after (done_by m.setup (snapshot_of m.setup steps) step) (snapshot_of m.setup steps) ≡ snapshot_of m.setup steps
+    → changes m.setup.slots (snapshot_of m.setup steps) (snapshot_of m.setup (step ∷ steps)) ≡ []
 no_more step steps m same =
-    ap (changes m.setup.slots (sight_of m.setup steps)) (sight_goes_on m.setup step steps ∙ same)
-    ∙ none_change m.setup.slots (sight_of m.setup steps) (sight_of m.setup steps) (λ i. refl)
+    ap (changes m.setup.slots (snapshot_of m.setup steps)) (snapshot_goes_on m.setup step steps ∙ same)
+    ∙ none_change m.setup.slots (snapshot_of m.setup steps) (snapshot_of m.setup steps) (λ i. refl)
 
-pub stands_told : (steps : List Step) (m : Machine) → StandsFor steps m → StandsFor (told ∷ steps) (step_on told m)
+pub stands_told : (steps : List Step) (m : Machine) → StandsFor steps m → StandsFor (notified ∷ steps) (step_on notified m)
 stands_told steps m h = record {
-  sight = h.sight ∙ sym (sight_goes_on m.setup told steps);
+  snapshot = h.snapshot ∙ sym (snapshot_goes_on m.setup notified steps);
   waiting = ap (drop 1) h.waiting ∙ sym (append-nil (drop 1 (waiting m.setup steps)))
-      ∙ ap (λ more. drop 1 (waiting m.setup steps) ++ more) (sym (no_more told steps m refl)) ∙ sym (waiting_goes_on m.setup told steps);
+      ∙ ap (λ more. drop 1 (waiting m.setup steps) ++ more) (sym (no_more notified steps m refl)) ∙ sym (waiting_goes_on m.setup notified steps);
   mtu = h.mtu;
 }
 
 pub stands_mtu : (mtu : ℕ) (steps : List Step) (m : Machine) → StandsFor steps m → StandsFor (mtu_set mtu ∷ steps) (step_on (mtu_set mtu) m)
 stands_mtu mtu steps m h = record {
-  sight = h.sight ∙ sym (sight_goes_on m.setup (mtu_set mtu) steps);
+  snapshot = h.snapshot ∙ sym (snapshot_goes_on m.setup (mtu_set mtu) steps);
   waiting = h.waiting ∙ sym (append-nil (waiting m.setup steps))
       ∙ ap (λ more. waiting m.setup steps ++ more) (sym (no_more (mtu_set mtu) steps m refl)) ∙ sym (waiting_goes_on m.setup (mtu_set mtu) steps);
   mtu = refl;
 }
 
 -- a step that changes no value gives no notice
-pub moved_setting : (m : Machine) (done : Done) → ((i : ℕ) → value_at m.sight i ≡ value_at (after done m.sight) i) → record m { sight = after done m.sight } ≡ moved done m
+pub moved_setting : (m : Machine) (done : Done) → ((i : ℕ) → value_at m.snapshot i ≡ value_at (after done m.snapshot) i) → record m { snapshot = after done m.snapshot } ≡ moved done m
 moved_setting m done same =
-    λ i. record m { sight = after done m.sight; waiting = (sym (append-nil m.waiting) ∙ ap (λ more. m.waiting ++ more) (sym (none_change m.setup.slots m.sight (after done m.sight) same))) i }
+    λ i. record m { snapshot = after done m.snapshot; waiting = (sym (append-nil m.waiting) ∙ ap (λ more. m.waiting ++ more) (sym (none_change m.setup.slots m.snapshot (after done m.snapshot) same))) i }
 
 -- ---- a control PDU
 
-pub control_leaves : (m : Machine) (octets : List ℕ) (heard : ControlHeard) (leaves : Bool) → heard ≡ control_heard m.sight.place octets → done_heard heard ≡ (if leaves then left else nothing)
-    → leaves ≡ true → done_by_control m.sight.place octets ≡ left
+pub control_leaves : (m : Machine) (octets : List ℕ) (heard : ControlHeard) (leaves : Bool) → heard ≡ control_heard m.snapshot.place octets → done_heard heard ≡ (if leaves then left else nothing)
+    → leaves ≡ true → done_by_control m.snapshot.place octets ≡ left
 control_leaves m octets heard leaves is done so = ap done_heard (sym is) ∙ done ∙ ap (λ b. if b then left else nothing) so
 
-pub control_stays : (m : Machine) (octets : List ℕ) (heard : ControlHeard) (leaves : Bool) → heard ≡ control_heard m.sight.place octets → done_heard heard ≡ (if leaves then left else nothing)
-    → leaves ≡ false → m ≡ moved (done_by_control m.sight.place octets) m
+pub control_stays : (m : Machine) (octets : List ℕ) (heard : ControlHeard) (leaves : Bool) → heard ≡ control_heard m.snapshot.place octets → done_heard heard ≡ (if leaves then left else nothing)
+    → leaves ≡ false → m ≡ moved (done_by_control m.snapshot.place octets) m
 control_stays m octets heard leaves is done so =
     sym (moved_nothing m) ∙ ap (λ d. moved d m) (sym (ap done_heard (sym is) ∙ done ∙ ap (λ b. if b then left else nothing) so))
 
@@ -86,9 +86,9 @@ left_alone controls.ControlLength is = absurd cc
 left_alone controls.MapIgnored is = absurd cc
 left_alone controls.Left is = refl
 
-pub control_left : (m : Machine) (octets : List ℕ) (heard : ControlHeard) (leaves : Bool) → heard ≡ control_heard m.sight.place octets → done_heard heard ≡ (if leaves then left else nothing)
-    → leaves ≡ true → control_heard m.sight.place octets ≡ controls.Left
-control_left m octets heard leaves is done so = left_alone (control_heard m.sight.place octets) (control_leaves m octets heard leaves is done so)
+pub control_left : (m : Machine) (octets : List ℕ) (heard : ControlHeard) (leaves : Bool) → heard ≡ control_heard m.snapshot.place octets → done_heard heard ≡ (if leaves then left else nothing)
+    → leaves ≡ true → control_heard m.snapshot.place octets ≡ controls.Left
+control_left m octets heard leaves is done so = left_alone (control_heard m.snapshot.place octets) (control_leaves m octets heard leaves is done so)
 
 -- ---- a new machine
 
@@ -99,7 +99,7 @@ none_at start (suc n) = ap (λ slots. None ∷ slots) (none_at (start + 1) n)
 pub stands_new : (setup : Setup) (n : ℕ) (slots : List (Option Entry)) (entries : List PacRecord) (waits : List Notice) → setup.slots ≡ n → slots ≡ replicate n None → entries ≡ [] → waits ≡ []
     → StandsFor [] (record {
       setup = setup;
-      sight = record { slots = slots; place = idle; encrypted = false; taken = []; capability = record { entries = entries; locations = 0; contexts = 0xFFFF } };
+      snapshot = record { slots = slots; place = idle; encrypted = false; taken = []; capability = record { entries = entries; locations = 0; contexts = 0xFFFF } };
       waiting = waits;
       mtu = None;
     })
@@ -107,7 +107,7 @@ unfolding answered
 stands_new setup n slots entries waits count none empty quiet =
     let all : slots ≡ map (entry_in []) (range_with_len 0 setup.slots) = none ∙ none_at 0 n ∙ ap (λ k. map (entry_in []) (range_with_len 0 k)) (sym count) in
     record {
-      sight = λ i. record { slots = all i; place = idle; encrypted = false; taken = []; capability = record { entries = empty i; locations = 0; contexts = 0xFFFF } };
+      snapshot = λ i. record { slots = all i; place = idle; encrypted = false; taken = []; capability = record { entries = empty i; locations = 0; contexts = 0xFFFF } };
       waiting = quiet;
       mtu = refl;
     }

@@ -21,10 +21,10 @@ use Rattle.big_info.specs.Rows.{first_fault}
 use Rattle.bcast_base.specs.declared.memory.Memory.{Memory}
 use Rattle.bcast_base.specs.Tries.{Finds}
 use Rattle.pacs_records.specs.declared.capability.Capability.{Capability}
-use Rattle.delegator_history.specs.Trains.{Setup, Train, Brought, are_none, big_info_in, by_base, by_big_info, by_endpoint, by_group, by_info, first_candidates}
+use Rattle.delegator_history.specs.Trains.{Setup, Train, TrainOutcome, are_none, big_info_in, by_base, by_big_info, by_endpoint, by_group, by_info, first_candidates}
 use Rattle.delegator_history.specs.declared.replies.Cause.{Cause}
 use Rattle.delegator_history.specs.declared.replies.Reply.{Reply}
-use Rattle.delegator_history.specs.Sights.{Sight}
+use Rattle.delegator_history.specs.Snapshots.{Snapshot}
 use Rattle.delegator_history.specs.Writes.{cause_of_fault, cause_read}
 use Rattle.delegator_control.specs.Following.{has_base}
 use Rattle.delegator_control.specs.Serving.{Serves, has_value, wants_for, wants_memory}
@@ -52,25 +52,25 @@ op_kept (Code source_id code) cause some = absurd omega (arith, some)
 op_kept (Remove source_id) cause some = absurd omega (arith, some)
 
 -- memory is wanted for an operation that is read where one of its subgroups is kept
-pub fault_wants : (fault : OpFault) (octets : List ℕ) (sight : Sight) → cause_of_fault fault ≡ None → IsFault fault octets
-    → ((op : Operation) → OpIs op octets → op_of octets ≡ Ok op) → wants_memory sight (op_of octets) ≡ true
-fault_wants faults.Empty octets sight none is reads = absurd cc
-fault_wants faults.Opcode octets sight none is reads = absurd cc
-fault_wants faults.Length octets sight none is reads = absurd cc
-fault_wants (faults.Rfu place) octets sight none is reads = absurd cc
-fault_wants (faults.BisTwice bis) octets sight none is reads = absurd cc
-fault_wants faults.Memory octets sight none (op, laid, some) reads =
-    ap (wants_memory sight) (reads op laid) ∙ op_kept op (cause_read sight (Ok op)) some
+pub fault_wants : (fault : OpFault) (octets : List ℕ) (snapshot : Snapshot) → cause_of_fault fault ≡ None → IsFault fault octets
+    → ((op : Operation) → OpIs op octets → op_of octets ≡ Ok op) → wants_memory snapshot (op_of octets) ≡ true
+fault_wants faults.Empty octets snapshot none is reads = absurd cc
+fault_wants faults.Opcode octets snapshot none is reads = absurd cc
+fault_wants faults.Length octets snapshot none is reads = absurd cc
+fault_wants (faults.Rfu place) octets snapshot none is reads = absurd cc
+fault_wants (faults.BisTwice bis) octets snapshot none is reads = absurd cc
+fault_wants faults.Memory octets snapshot none (op, laid, some) reads =
+    ap (wants_memory snapshot) (reads op laid) ∙ op_kept op (cause_read snapshot (Ok op)) some
 
 -- what an operation wants that is served
 pub served_wants : (op : Operation) (octets : List ℕ) (before after : Machine) (result : Result Reply Memory) → op_of octets ≡ Ok op → Serves op before after result
-    → OnErr result (wants_memory before.sight (op_of octets) ≡ true)
+    → OnErr result (wants_memory before.snapshot (op_of octets) ≡ true)
 served_wants op octets before after (Ok reply) read serves = tt
-served_wants op octets before after (Err memory) read serves = ap (wants_memory before.sight) read ∙ serves.1
+served_wants op octets before after (Err memory) read serves = ap (wants_memory before.snapshot) read ∙ serves.1
 
 -- ---- the stages behind the BASE
 
-of_choice : (b : Bool) (one other : Brought) → has_base one ≡ true → has_base other ≡ true → has_base (if b then one else other) ≡ true
+of_choice : (b : Bool) (one other : TrainOutcome) → has_base one ≡ true → has_base other ≡ true → has_base (if b then one else other) ≡ true
 of_choice true one other p q = p
 of_choice false one other p q = q
 

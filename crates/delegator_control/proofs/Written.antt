@@ -22,8 +22,8 @@ no_op (faults.BisTwice bis) cause octets fails is = fails
 no_op faults.Memory cause octets fails is = absurd cc
 
 pub fault_step : (m : Machine) (octets : List ℕ) (fault : OpFault) (cause : Cause) → Finds (told fault) (op_of octets) → cause_of_fault fault ≡ Some cause
-    → m ≡ moved (done_by_write m.sight octets) m
+    → m ≡ moved (done_by_write m.snapshot octets) m
 fault_step m octets fault cause fails is =
-    sym (moved_nothing m) ∙ ap (λ read. moved (done_read m.sight read (cause_read m.sight read)) m) (sym (no_op fault cause octets fails is))
+    sym (moved_nothing m) ∙ ap (λ read. moved (done_read m.snapshot read (cause_read m.snapshot read)) m) (sym (no_op fault cause octets fails is))
 
 -- ---- what an operation keeps to

@@ -8,7 +8,7 @@ use Rattle.bcast_base.specs.declared.memory.Memory.{Memory}
 use Rattle.delegator_history.specs.declared.replies.Cause.{Cause}
 use Rattle.delegator_history.specs.declared.replies.Cause.TheVariants.{ValueTooLong}
 use Rattle.delegator_history.specs.declared.replies.Reply.{Reply}
-use Rattle.delegator_history.specs.Sights.{Sight}
+use Rattle.delegator_history.specs.Snapshots.{Snapshot}
 use Rattle.delegator_history.specs.Writes.{cause_read, reply_by, done_read}
 use Rattle.delegator_control.specs.State.Machines.{Machine, moved}
 
@@ -31,16 +31,16 @@ wants_for (Remove source_id) cause = is_none cause
 wants_for op cause = false
 
 -- memory may be wanted for octets that are read so; octets that are no operation want none
-abbrev pub wants_memory : Sight → Result Operation OpFault → Bool
-wants_memory sight (Err fault) = false
-wants_memory sight (Ok op) = wants_for op (cause_read sight (Ok op))
+abbrev pub wants_memory : Snapshot → Result Operation OpFault → Bool
+wants_memory snapshot (Err fault) = false
+wants_memory snapshot (Ok op) = wants_for op (cause_read snapshot (Ok op))
 
 -- the reply by the first cause that holds; an accepted operation is done, and a refused one changes nothing
 pub record Replies (op : Operation) (before after : Machine) (told : Reply) : Type 0 where
-  pub reply : told ≡ reply_by (cause_read before.sight (Ok op))
-  pub step : after ≡ moved (done_read before.sight (Ok op) (cause_read before.sight (Ok op))) before
+  pub reply : told ≡ reply_by (cause_read before.snapshot (Ok op))
+  pub step : after ≡ moved (done_read before.snapshot (Ok op) (cause_read before.snapshot (Ok op))) before
 
 -- or memory ran out where some was wanted, and nothing changed
 abbrev pub Serves : Operation → Machine → Machine → Result Reply Memory → Type 0
 Serves op before after (Ok reply) = Replies op before after reply
-Serves op before after (Err memory) = (after ≡ before) × (wants_for op (cause_read before.sight (Ok op)) ≡ true)
+Serves op before after (Err memory) = (after ≡ before) × (wants_for op (cause_read before.snapshot (Ok op)) ≡ true)

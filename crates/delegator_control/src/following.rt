@@ -1,7 +1,7 @@
 //! How a sink goes on the train or the group of a slot.
 ghost use Rattle.std.specs.Prelude.{◌≡◌, ◌<◌, ◌++◌, false, option_map, vec_len, Option, Bool, Some, OnOk, OnErr};
 ghost use Rattle.delegator_history.specs.Notices.{change};
-ghost use Rattle.delegator_history.specs.Sights.{entry_at};
+ghost use Rattle.delegator_history.specs.Snapshots.{entry_at};
 ghost use Rattle.delegator_history.specs.Steps.{encrypted_on, followed, joined};
 ghost use Rattle.delegator_history.specs.Trains.{is_elsewhere};
 ghost use Rattle.delegator_history.specs.Values.{received, value, value_at};
@@ -62,8 +62,8 @@ impl ScanDelegator {
         requires within { slot < vec_len self.old.slots }
         ensures ok { OnOk result (machine self.new ≡ record (machine self.old) {
           waiting = (machine self.old).waiting
-              ++ change slot (value_at (machine self.old).sight slot)
-              (value (option_map (received (status_seen status.now)) (entry_at (machine self.old).sight.slots slot)));
+              ++ change slot (value_at (machine self.old).snapshot slot)
+              (value (option_map (received (status_seen status.now)) (entry_at (machine self.old).snapshot.slots slot)));
         }) }
         ensures place { self.new.place ≡ self.old.place }
         ensures err { OnErr result (machine self.new ≡ machine self.old) }

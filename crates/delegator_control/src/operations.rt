@@ -1,7 +1,7 @@
 //! What operations that were read do to a sink.
 ghost use Rattle.std.specs.Prelude.{◌≡◌, ◌<◌, ◌+◌, ◌&&◌, ℕ, List, drop, length, nat_lt, vec_len, Some, Ok};
 ghost use Rattle.bass_operations.specs.declared.operation.Operation.TheVariants as ops;
-ghost use Rattle.delegator_history.specs.Sights.{Sight, entry_at};
+ghost use Rattle.delegator_history.specs.Snapshots.{Snapshot, entry_at};
 ghost use Rattle.delegator_history.specs.Steps.{modified, place_given, same_streams};
 ghost use Rattle.delegator_history.specs.Values.{value_at};
 ghost use Rattle.delegator_history.specs.Writes.{cause_read, entry_of, reply_by, slot_with};
@@ -41,7 +41,7 @@ impl ScanDelegator {
 
     // Set Broadcast_Code.
     fn refuse_code(&self, source_id: u8) -> Reply
-        ensures { (code : List ℕ) → result ≡ reply_by (cause_read (machine self.now).sight (Ok (ops.Code source_id code))) }
+        ensures { (code : List ℕ) → result ≡ reply_by (cause_read (machine self.now).snapshot (Ok (ops.Code source_id code))) }
     {
         let found = find_slot(&self.slots, &Sought::SourceId(source_id));
         if found.is_some() {
@@ -130,11 +130,11 @@ impl ScanDelegator {
     fn put(&mut self, slot: u8, filled: Slot, moves: Move) -> Result<bool, Memory>
         requires { slot < vec_len self.old.slots }
         ensures puts { Puts (written_value slot filled moves self.old) slot filled
-            (value_at (machine self.old).sight slot) self.old.slots.items self.new.slots.items self.old.waiting.items
+            (value_at (machine self.old).snapshot slot) self.old.slots.items self.new.slots.items self.old.waiting.items
             self.new.waiting.items result }
         ensures rest { machine self.new
             ≡ record (machine self.old) {
-              sight = record (machine self.old).sight { slots = self.new.slots.items };
+              snapshot = record (machine self.old).snapshot { slots = self.new.slots.items };
               waiting = self.new.waiting.items;
             } }
         ensures place { self.new.place ≡ self.old.place }
@@ -161,8 +161,8 @@ fn is_too_long(value: &Octets) -> bool
 
 /// What a Modify Source of a slot does to the place of the sink.
 fn move_wanted(place: &Place, slot: u8, held: &Slot, pa_sync: u8, wishes: &Wishes) -> Move
-    ensures { (sight : Sight) → entry_at sight.slots slot ≡ Some held.now
-        → place_by (place_of place.now) result ≡ place_given (standing place.now sight)
+    ensures { (snapshot : Snapshot) → entry_at snapshot.slots slot ≡ Some held.now
+        → place_by (place_of place.now) result ≡ place_given (standing place.now snapshot)
         (modified slot (record { pa_sync = pa_sync; wishes = wishes.now })) }
 {
     if !place.is_on(slot) {

@@ -1,6 +1,6 @@
 //! Where the sink is, by what may be done then.
 ghost use Rattle.std.specs.Prelude.{◌≡◌, [], None, Some, false, if◌then◌else◌};
-ghost use Rattle.delegator_history.specs.Sights.{Sight, on_group, on_train, is_on, is_on_group, slot_of};
+ghost use Rattle.delegator_history.specs.Snapshots.{Snapshot, on_group, on_train, is_on, is_on_group, slot_of};
 ghost use Rattle.delegator_history.specs.Steps.{place_left, placed};
 ghost use Rattle.delegator_history.specs.Trains.{is_elsewhere};
 ghost use Rattle.delegator_control.specs.declared.place.Place.TheVariants as places;
@@ -78,8 +78,8 @@ impl SinkOnTrain {
 impl SinkOnGroup {
     /// Leaves the group, and the train too where it is of no slot.
     fn off_group(self) -> Place
-        ensures { (sight : Sight) → standing result sight
-            ≡ placed (place_left (place_of (places.OnGroup self))) None None (standing (places.OnGroup self) sight) }
+        ensures { (snapshot : Snapshot) → standing result snapshot
+            ≡ placed (place_left (place_of (places.OnGroup self))) None None (standing (places.OnGroup self) snapshot) }
     {
         match self.slot {
             None => Place::Idle(SinkIdle),
@@ -173,8 +173,8 @@ pub(crate) enum Move {
 
 /// Makes the change.
 pub(crate) fn make_move(place: &mut Place, moves: Move)
-    ensures { (sight : Sight) → standing place.new sight
-        ≡ placed (place_by (place_of place.old) moves) None None (standing place.old sight) }
+    ensures { (snapshot : Snapshot) → standing place.new snapshot
+        ≡ placed (place_by (place_of place.old) moves) None None (standing place.old snapshot) }
 {
     let old = replace(place, Place::Idle(SinkIdle));
     *place = match moves {
@@ -186,7 +186,7 @@ pub(crate) fn make_move(place: &mut Place, moves: Move)
 
 /// Puts the sink on a group of no slot. It takes no memory.
 pub(crate) fn join(place: &mut Place, alloc: Global)
-    ensures { (sight : Sight) → standing place.new sight ≡ placed (Some (on_group None)) None None (standing place.old sight) }
+    ensures { (snapshot : Snapshot) → standing place.new snapshot ≡ placed (Some (on_group None)) None None (standing place.old snapshot) }
 {
     let old = replace(place, Place::Idle(SinkIdle));
     *place = Place::OnGroup(off(old).on_group(alloc));
@@ -194,7 +194,7 @@ pub(crate) fn join(place: &mut Place, alloc: Global)
 
 /// Puts the sink on the train of the slot.
 pub(crate) fn join_train(place: &mut Place, slot: u8, encrypted: bool)
-    ensures { (sight : Sight) → standing place.new sight ≡ record sight { place = on_train slot; encrypted = encrypted; taken = [] } }
+    ensures { (snapshot : Snapshot) → standing place.new snapshot ≡ record snapshot { place = on_train slot; encrypted = encrypted; taken = [] } }
 {
     let old = replace(place, Place::Idle(SinkIdle));
     *place = Place::OnTrain(off(old).on_train(slot, encrypted));
@@ -202,8 +202,8 @@ pub(crate) fn join_train(place: &mut Place, slot: u8, encrypted: bool)
 
 /// Puts the sink on the group of the slot, with these streams of each subgroup.
 pub(crate) fn join_group(place: &mut Place, slot: u8, encrypted: bool, taken: TakenBits)
-    ensures { (sight : Sight) → standing place.new sight
-        ≡ record sight { place = on_group (Some slot); encrypted = encrypted; taken = taken } }
+    ensures { (snapshot : Snapshot) → standing place.new snapshot
+        ≡ record snapshot { place = on_group (Some slot); encrypted = encrypted; taken = taken } }
 {
     let old = replace(place, Place::Idle(SinkIdle));
     *place = Place::OnGroup(off(old).on_train(slot, encrypted).on_group(taken));
@@ -220,7 +220,7 @@ fn off(place: Place) -> SinkIdle {
 
 /// Takes the sink off its group.
 fn off_group(place: Place) -> Place
-    ensures { (sight : Sight) → standing result sight ≡ placed (place_left (place_of place)) None None (standing place sight) }
+    ensures { (snapshot : Snapshot) → standing result snapshot ≡ placed (place_left (place_of place)) None None (standing place snapshot) }
 {
     match place {
         Place::OnGroup(on) => on.off_group(),

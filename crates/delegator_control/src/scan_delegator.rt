@@ -35,10 +35,10 @@ pub struct ScanDelegator {
 impl ScanDelegator {
     ghost use Rattle.std.specs.Prelude.{List, [], ◌∷◌};
     ghost use Rattle.bass_operations.specs.Reading.{op_of};
-    ghost use Rattle.delegator_history.specs.Sights.{entry_at, slot_of};
-    ghost use Rattle.delegator_history.specs.States.{Step, control_heard as controlled, put_on, told, train_lost, written};
+    ghost use Rattle.delegator_history.specs.Snapshots.{entry_at, slot_of};
+    ghost use Rattle.delegator_history.specs.States.{Step, control_heard as controlled, sync_to_group, notified, train_lost, written};
     ghost use Rattle.delegator_history.specs.Steps.{lost, tuned};
-    ghost use Rattle.sync_reference.specs.Joining.{Joining};
+    ghost use Rattle.sync_reference.specs.BigSync.{BigSync};
     ghost use Rattle.delegator_history.specs.Controls.{control_heard, done_by_control};
     ghost use Rattle.delegator_history.specs.Values.{value_at};
     ghost use Rattle.delegator_history.specs.Writes.{reply_of, done_by_write};
@@ -58,7 +58,7 @@ impl ScanDelegator {
         ScanDelegator::within(alloc, streams, slots, Limits::VERSION_1)
     }
 
-    /// The same with 1 to 8 slots, and groups that reach as far as the limits say.
+    /// The same with 1 to 8 slots, and groups with at most the horizon of the limits.
     pub fn within(
         alloc: Global,
         streams: u8,
@@ -94,10 +94,10 @@ impl ScanDelegator {
     /// Source, for the value of its slot, which is made before it is found too long, and for the notice of a Remove Source that
     /// is accepted; the sink is then as before.
     pub fn serve(&mut self, write: &[u8]) -> Result<Reply, Memory>
-        ensures answer { IfOk result (λ reply. reply ≡ reply_of (machine self.old).sight write.now) }
-        ensures step { OnOk result (machine self.new ≡ moved (done_by_write (machine self.old).sight write.now) (machine self.old)) }
+        ensures answer { IfOk result (λ reply. reply ≡ reply_of (machine self.old).snapshot write.now) }
+        ensures step { OnOk result (machine self.new ≡ moved (done_by_write (machine self.old).snapshot write.now) (machine self.old)) }
         ensures err { OnErr result (machine self.new ≡ machine self.old) }
-        ensures memory { OnErr result (wants_memory (machine self.old).sight (op_of write.now) ≡ true) }
+        ensures memory { OnErr result (wants_memory (machine self.old).snapshot (op_of write.now) ≡ true) }
         ensures stands { OnOk result ((steps : List Step) → StandsFor steps (machine self.old)
             → StandsFor (written write.now ∷ steps) (machine self.new)) }
     {
@@ -109,34 +109,34 @@ impl ScanDelegator {
     pub fn lost(&mut self) -> Result<(), Memory>
         ensures step { OnOk result (machine self.new ≡ moved lost (machine self.old)) }
         ensures err { OnErr result (machine self.new ≡ machine self.old) }
-        ensures memory { OnErr result (IsSome (slot_of (machine self.old).sight.place)) }
+        ensures memory { OnErr result (IsSome (slot_of (machine self.old).snapshot.place)) }
         ensures stands { OnOk result ((steps : List Step) → StandsFor steps (machine self.old)
             → StandsFor (train_lost ∷ steps) (machine self.new)) }
     {
         self.go(Move::Off)
     }
 
-    /// The sink is put on a group of no slot: it leaves what it was on. Memory is wanted only where this was the train or the
+    /// The sink is synchronized to a BIG of no slot: it leaves what it was on. Memory is wanted only where this was the train or the
     /// group of a slot; the sink is then as before.
     pub fn tune(&mut self) -> Result<(), Memory>
         ensures step { OnOk result (machine self.new ≡ moved tuned (machine self.old)) }
         ensures err { OnErr result (machine self.new ≡ machine self.old) }
-        ensures memory { OnErr result (IsSome (slot_of (machine self.old).sight.place)) }
-        ensures stands { OnOk result ((steps : List Step) (joining : Joining) → StandsFor steps (machine self.old)
-            → StandsFor (put_on joining ∷ steps) (machine self.new)) }
+        ensures memory { OnErr result (IsSome (slot_of (machine self.old).snapshot.place)) }
+        ensures stands { OnOk result ((steps : List Step) (big_sync : BigSync) → StandsFor steps (machine self.old)
+            → StandsFor (sync_to_group big_sync ∷ steps) (machine self.new)) }
     {
-        self.put_on_group()
+        self.sync_on_group()
     }
 
     /// A PDU is heard as a control PDU (Core 5.2, volume 6 part B, section 2.6.3). The answer is the first that holds. A
     /// terminate takes the sink off its group; it stays on the train of its slot. Memory is wanted only for Left, on the group
     /// of a slot; the sink is then as before.
     pub fn control(&mut self, pdu: &[u8]) -> Result<ControlHeard, Memory>
-        ensures answer { IfOk result (λ heard. heard ≡ control_heard (machine self.old).sight.place pdu.now) }
-        ensures step { OnOk result (machine self.new ≡ moved (done_by_control (machine self.old).sight.place pdu.now) (machine self.old)) }
+        ensures answer { IfOk result (λ heard. heard ≡ control_heard (machine self.old).snapshot.place pdu.now) }
+        ensures step { OnOk result (machine self.new ≡ moved (done_by_control (machine self.old).snapshot.place pdu.now) (machine self.old)) }
         ensures err { OnErr result (machine self.new ≡ machine self.old) }
-        ensures memory { OnErr result (control_heard (machine self.old).sight.place pdu.now ≡ ControlHeard.Left) }
-        ensures slot { OnErr result (IsSome (slot_of (machine self.old).sight.place)) }
+        ensures memory { OnErr result (control_heard (machine self.old).snapshot.place pdu.now ≡ ControlHeard.Left) }
+        ensures slot { OnErr result (IsSome (slot_of (machine self.old).snapshot.place)) }
         ensures stands { OnOk result ((steps : List Step) → StandsFor steps (machine self.old)
             → StandsFor (controlled pdu.now ∷ steps) (machine self.new)) }
     {
@@ -146,8 +146,8 @@ impl ScanDelegator {
     /// The first notice that waits, its value cut to the MTU but three octets where an MTU is set. It takes no memory.
     pub fn next_notice(&mut self) -> Option<Notice>
         ensures notice { result ≡ option_map (handed_out (machine self.old).mtu) (slice_get (machine self.old).waiting 0) }
-        ensures step { machine self.new ≡ step_on told (machine self.old) }
-        ensures stands { (steps : List Step) → StandsFor steps (machine self.old) → StandsFor (told ∷ steps) (machine self.new) }
+        ensures step { machine self.new ≡ step_on notified (machine self.old) }
+        ensures stands { (steps : List Step) → StandsFor steps (machine self.old) → StandsFor (notified ∷ steps) (machine self.new) }
     {
         self.take_notice()
     }
@@ -163,8 +163,8 @@ impl ScanDelegator {
     /// filled.
     pub fn read_state(&self, slot: u8) -> Result<Octets, Memory>
         requires { slot < vec_len self.now.slots }
-        ensures value { IfOk result (λ octets. octets ≡ value_at (machine self.now).sight slot) }
-        ensures memory { OnErr result (IsSome (entry_at (machine self.now).sight.slots slot)) }
+        ensures value { IfOk result (λ octets. octets ≡ value_at (machine self.now).snapshot slot) }
+        ensures memory { OnErr result (IsSome (entry_at (machine self.now).snapshot.slots slot)) }
     {
         let status = status_after(&self.place, slot, Move::Stay);
         value_as(self.alloc, &self.slots[usize::from(slot)], &status)
@@ -172,10 +172,10 @@ impl ScanDelegator {
 
     // The octets as an operation.
     fn serve_write(&mut self, write: &[u8]) -> Result<Reply, Memory>
-        ensures answer { IfOk result (λ reply. reply ≡ reply_of (machine self.old).sight write.now) }
-        ensures step { OnOk result (machine self.new ≡ moved (done_by_write (machine self.old).sight write.now) (machine self.old)) }
+        ensures answer { IfOk result (λ reply. reply ≡ reply_of (machine self.old).snapshot write.now) }
+        ensures step { OnOk result (machine self.new ≡ moved (done_by_write (machine self.old).snapshot write.now) (machine self.old)) }
         ensures err { OnErr result (machine self.new ≡ machine self.old) }
-        ensures memory { OnErr result (wants_memory (machine self.old).sight (op_of write.now) ≡ true) }
+        ensures memory { OnErr result (wants_memory (machine self.old).snapshot (op_of write.now) ≡ true) }
     {
         read_is_operation();
         match decode_operation(self.alloc, write) {
@@ -188,10 +188,10 @@ impl ScanDelegator {
     }
 
     // Puts the sink on a group of no slot, off what it was on. After want of memory it is where it was.
-    fn put_on_group(&mut self) -> Result<(), Memory>
+    fn sync_on_group(&mut self) -> Result<(), Memory>
         ensures step { OnOk result (machine self.new ≡ moved tuned (machine self.old)) }
         ensures err { OnErr result (machine self.new ≡ machine self.old) }
-        ensures memory { OnErr result (IsSome (slot_of (machine self.old).sight.place)) }
+        ensures memory { OnErr result (IsSome (slot_of (machine self.old).snapshot.place)) }
     {
         self.note_move(Move::Off)?;
         join(&mut self.place, self.alloc);
@@ -200,11 +200,11 @@ impl ScanDelegator {
 
     // Hears a control PDU, and leaves the group where that is terminated. After want of memory the sink is where it was.
     fn hear_control(&mut self, pdu: &[u8]) -> Result<ControlHeard, Memory>
-        ensures answer { IfOk result (λ heard. heard ≡ control_heard (machine self.old).sight.place pdu.now) }
-        ensures step { OnOk result (machine self.new ≡ moved (done_by_control (machine self.old).sight.place pdu.now) (machine self.old)) }
+        ensures answer { IfOk result (λ heard. heard ≡ control_heard (machine self.old).snapshot.place pdu.now) }
+        ensures step { OnOk result (machine self.new ≡ moved (done_by_control (machine self.old).snapshot.place pdu.now) (machine self.old)) }
         ensures err { OnErr result (machine self.new ≡ machine self.old) }
-        ensures memory { OnErr result (control_heard (machine self.old).sight.place pdu.now ≡ ControlHeard.Left) }
-        ensures slot { OnErr result (IsSome (slot_of (machine self.old).sight.place)) }
+        ensures memory { OnErr result (control_heard (machine self.old).snapshot.place pdu.now ≡ ControlHeard.Left) }
+        ensures slot { OnErr result (IsSome (slot_of (machine self.old).snapshot.place)) }
     {
         let heard = heard_control(&self.place, pdu);
         if !leaves(heard) {
@@ -217,7 +217,7 @@ impl ScanDelegator {
     // Takes the first notice that waits, its value cut to the MTU where one is set.
     fn take_notice(&mut self) -> Option<Notice>
         ensures notice { result ≡ option_map (handed_out (machine self.old).mtu) (slice_get (machine self.old).waiting 0) }
-        ensures step { machine self.new ≡ step_on told (machine self.old) }
+        ensures step { machine self.new ≡ step_on notified (machine self.old) }
     {
         let notice = self.waiting.pop_front()?;
         Some(cut(notice, self.mtu))
@@ -227,7 +227,7 @@ impl ScanDelegator {
     pub(crate) fn go(&mut self, moves: Move) -> Result<(), Memory>
         ensures step { OnOk result (machine self.new ≡ gone (place_by (place_of self.old.place) moves) (machine self.old)) }
         ensures err { OnErr result (machine self.new ≡ machine self.old) }
-        ensures memory { OnErr result (IsSome (slot_of (machine self.old).sight.place)) }
+        ensures memory { OnErr result (IsSome (slot_of (machine self.old).snapshot.place)) }
     {
         self.note_move(moves)?;
         make_move(&mut self.place, moves);
@@ -240,7 +240,7 @@ impl ScanDelegator {
             ≡ record (machine self.old) { waiting = (gone (place_by (place_of self.old.place) moves) (machine self.old)).waiting }) }
         ensures place { self.new.place ≡ self.old.place }
         ensures err { OnErr result (machine self.new ≡ machine self.old) }
-        ensures memory { OnErr result (IsSome (slot_of (machine self.old).sight.place)) }
+        ensures memory { OnErr result (IsSome (slot_of (machine self.old).snapshot.place)) }
     {
         let Some(slot) = self.place.slot() else {
             return Ok(());

@@ -19,8 +19,8 @@ impl ScanDelegator {
         requires metadata_count { length entry.metadata < 256 }
         requires caps { entry.codec ≡ lc3 → AreLtvs entry.caps }
         requires metadata { AreLtvs entry.metadata }
-        ensures refused { IfErr result (λ fault. RefusesPush fault (machine self.old).sight.capability.entries entry) }
-        ensures fits { OnOk result (length (value ((machine self.old).sight.capability.entries ++ entry ∷ [])) ≤ greatest_value) }
+        ensures refused { IfErr result (λ fault. RefusesPush fault (machine self.old).snapshot.capability.entries entry) }
+        ensures fits { OnOk result (length (value ((machine self.old).snapshot.capability.entries ++ entry ∷ [])) ≤ greatest_value) }
         ensures step { OnOk result (machine self.new ≡ moved (recorded entry) (machine self.old)) }
         ensures err { OnErr result (machine self.new ≡ machine self.old) }
         ensures stands { OnOk result ((steps : List Step) → StandsFor steps (machine self.old)

@@ -3,15 +3,15 @@ ghost use Rattle.std.specs.Prelude.{◌≡◌, ◌≤◌, ◌<◌, ◌∷◌, �
 ghost use Rattle.base_grammar.specs.Reading.{wants};
 ghost use Rattle.big_info.specs.Rows.{first_fault};
 ghost use Rattle.big_info.specs.Widths.{FitsWidths};
-ghost use Rattle.delegator_history.specs.Sights.{entry_at};
+ghost use Rattle.delegator_history.specs.Snapshots.{entry_at};
 ghost use Rattle.delegator_history.specs.States.{Step, train_heard};
 ghost use Rattle.delegator_history.specs.Trains as trains;
-ghost use Rattle.delegator_history.specs.Trains.{answer_of, base_in, big_info_in, brought_by, by_base, by_big_info};
-ghost use Rattle.delegator_history.specs.Trains.{by_group, by_slot, by_streams, done_brought, first_candidates, heard};
+ghost use Rattle.delegator_history.specs.Trains.{answer_of, base_in, big_info_in, outcome_by, by_base, by_big_info};
+ghost use Rattle.delegator_history.specs.Trains.{by_group, by_slot, by_streams, done_by_outcome, first_candidates, heard};
 ghost use Rattle.delegator_history.specs.declared.train_heard.TrainHeard.TheVariants as answers;
-ghost use Rattle.delegator_choices.specs.State.Brings.{brought_of};
+ghost use Rattle.delegator_choices.specs.State.Brings.{outcome_of};
 ghost use Rattle.delegator_control.specs.Following.{has_base, is_followed};
-ghost use Rattle.delegator_control.specs.State.Brings.{train_of, IsBrought};
+ghost use Rattle.delegator_control.specs.State.Brings.{train_of, IsOutcome};
 ghost use Rattle.delegator_control.specs.State.Machines.{machine, moved, StandsFor};
 
 use crate::scan_delegator::ScanDelegator;
@@ -20,7 +20,7 @@ use base_grammar::{Base, BaseFault, broadcast_id, decode_base};
 use bass_operations::Wishes;
 use bcast_base::{BisSet, Memory};
 use big_info::{BigInfo, Group, check_group_within, decode_big_info};
-use delegator_choices::{Brought, Chosen, Sought, choose, find_slot, joining_at};
+use delegator_choices::{Chosen, Sought, TrainOutcome, big_sync_at, choose, find_slot};
 use delegator_history::TrainHeard;
 
 /// The octets of the BIGInfo of an encrypted group.
@@ -38,11 +38,11 @@ impl ScanDelegator {
         adv: &[u8],
         acad: &[u8],
         now: u64,
-    ) -> Result<Brought, Memory>
+    ) -> Result<TrainOutcome, Memory>
         requires { now ≤ 2 ^ 61 }
-        ensures brought { IfOk result (λ brought. brought_of brought ≡ brought_by (machine self.now).setup (machine self.now).sight
+        ensures outcome { IfOk result (λ outcome. outcome_of outcome ≡ outcome_by (machine self.now).setup (machine self.now).snapshot
             (record { address_type = address_type; sid = sid; ext = ext.now; adv = adv.now; acad = acad.now; now = now })) }
-        ensures memory { OnErr result (has_base (brought_by (machine self.now).setup (machine self.now).sight
+        ensures memory { OnErr result (has_base (outcome_by (machine self.now).setup (machine self.now).snapshot
             (record { address_type = address_type; sid = sid; ext = ext.now; adv = adv.now; acad = acad.now; now = now })) ≡ true) }
     {
         self.bring_train(&Train {
@@ -55,31 +55,31 @@ impl ScanDelegator {
         })
     }
 
-    /// Follows the train that brought this to the sink as it is. Memory is wanted with none of the first four answers; the sink
+    /// Follows the train that has this outcome for the sink as it is. Memory is wanted with none of the first four answers; the sink
     /// is then as before.
-    pub fn follow(&mut self, brought: Brought) -> Result<TrainHeard, Memory>
-        requires { IsBrought brought (machine self.old) }
-        ensures answer { IfOk result (λ heard. heard ≡ answer_of (brought_of brought)) }
-        ensures step { OnOk result (machine self.new ≡ moved (done_brought (brought_of brought)) (machine self.old)) }
+    pub fn follow(&mut self, outcome: TrainOutcome) -> Result<TrainHeard, Memory>
+        requires { IsOutcome outcome (machine self.old) }
+        ensures answer { IfOk result (λ heard. heard ≡ answer_of (outcome_of outcome)) }
+        ensures step { OnOk result (machine self.new ≡ moved (done_by_outcome (outcome_of outcome)) (machine self.old)) }
         ensures err { OnErr result (machine self.new ≡ machine self.old) }
-        ensures memory { OnErr result (is_followed (brought_of brought) ≡ true) }
+        ensures memory { OnErr result (is_followed (outcome_of outcome) ≡ true) }
         ensures stands { OnOk result ((steps : List Step) (train : trains.Train)
-            → brought_of brought ≡ brought_by (machine self.old).setup (machine self.old).sight train
+            → outcome_of outcome ≡ outcome_by (machine self.old).setup (machine self.old).snapshot train
             → StandsFor steps (machine self.old) → StandsFor (train_heard train ∷ steps) (machine self.new)) }
     {
-        self.follow_brought(brought)
+        self.follow_outcome(outcome)
     }
 
     // By the source that it is of.
-    fn bring_train(&self, train: &Train<'_>) -> Result<Brought, Memory>
+    fn bring_train(&self, train: &Train<'_>) -> Result<TrainOutcome, Memory>
         requires { train.now.heard_at ≤ 2 ^ 61 }
-        ensures brought { IfOk result (λ brought. brought_of brought
-            ≡ brought_by (machine self.now).setup (machine self.now).sight (train_of train.now)) }
+        ensures outcome { IfOk result (λ outcome. outcome_of outcome
+            ≡ outcome_by (machine self.now).setup (machine self.now).snapshot (train_of train.now)) }
         ensures memory { OnErr result
-            (has_base (brought_by (machine self.now).setup (machine self.now).sight (train_of train.now)) ≡ true) }
+            (has_base (outcome_by (machine self.now).setup (machine self.now).snapshot (train_of train.now)) ≡ true) }
     {
         let Some(id) = broadcast_id(train.ext) else {
-            return Ok(Brought::Ignored(TrainHeard::NoBroadcastId));
+            return Ok(TrainOutcome::Ignored(TrainHeard::NoBroadcastId));
         };
         let wanted = Sought::Wanted {
             address_type: train.address_type,
@@ -88,26 +88,26 @@ impl ScanDelegator {
         };
         let found = find_slot(&self.slots, &wanted);
         let Some(slot) = found else {
-            return Ok(Brought::Ignored(TrainHeard::NotWanted));
+            return Ok(TrainOutcome::Ignored(TrainHeard::NotWanted));
         };
         self.bring_wanted(slot, train)
     }
 
     // By the place of the sink, where the slot wants the train.
-    fn bring_wanted(&self, slot: u8, train: &Train<'_>) -> Result<Brought, Memory>
+    fn bring_wanted(&self, slot: u8, train: &Train<'_>) -> Result<TrainOutcome, Memory>
         requires time { train.now.heard_at ≤ 2 ^ 61 }
         requires within { slot < vec_len self.now.slots }
         requires filled { is_some (entry_at self.now.slots.items slot) ≡ true }
-        ensures brought { IfOk result (λ brought. brought_of brought
-            ≡ by_slot (machine self.now).setup (machine self.now).sight (train_of train.now) (Some slot)) }
-        ensures memory { OnErr result (has_base (by_slot (machine self.now).setup (machine self.now).sight (train_of train.now) (Some slot))
+        ensures outcome { IfOk result (λ outcome. outcome_of outcome
+            ≡ by_slot (machine self.now).setup (machine self.now).snapshot (train_of train.now) (Some slot)) }
+        ensures memory { OnErr result (has_base (by_slot (machine self.now).setup (machine self.now).snapshot (train_of train.now) (Some slot))
             ≡ true) }
     {
         if self.place.is_elsewhere(slot) {
-            return Ok(Brought::Ignored(TrainHeard::OtherTrain));
+            return Ok(TrainOutcome::Ignored(TrainHeard::OtherTrain));
         }
         if self.place.is_on_group(slot) {
-            return Ok(Brought::Ignored(TrainHeard::AlreadyOnGroup));
+            return Ok(TrainOutcome::Ignored(TrainHeard::AlreadyOnGroup));
         }
         let Some(held) = &self.slots[usize::from(slot)] else {
             unreachable!()
@@ -116,13 +116,18 @@ impl ScanDelegator {
     }
 
     // By the octets that are announced as BASE.
-    fn bring_base(&self, slot: u8, wishes: &Wishes, train: &Train<'_>) -> Result<Brought, Memory>
+    fn bring_base(
+        &self,
+        slot: u8,
+        wishes: &Wishes,
+        train: &Train<'_>,
+    ) -> Result<TrainOutcome, Memory>
         requires { train.now.heard_at ≤ 2 ^ 61 }
-        ensures brought { IfOk result (λ brought. brought_of brought
-            ≡ by_base (machine self.now).setup (machine self.now).sight.capability wishes.now slot (train_of train.now)
+        ensures outcome { IfOk result (λ outcome. outcome_of outcome
+            ≡ by_base (machine self.now).setup (machine self.now).snapshot.capability wishes.now slot (train_of train.now)
             (base_in train.now.adv.now)) }
         ensures memory { OnErr result
-            (has_base (by_base (machine self.now).setup (machine self.now).sight.capability wishes.now slot (train_of train.now)
+            (has_base (by_base (machine self.now).setup (machine self.now).snapshot.capability wishes.now slot (train_of train.now)
             (base_in train.now.adv.now)) ≡ true) }
     {
         let Some(octets) = base_octets(train.adv) else {
@@ -141,10 +146,10 @@ impl ScanDelegator {
         wishes: &Wishes,
         train: &Train<'_>,
         base: &Base,
-    ) -> Result<Brought, Memory>
+    ) -> Result<TrainOutcome, Memory>
         requires { train.now.heard_at ≤ 2 ^ 61 }
-        ensures { IfOk result (λ brought. brought_of brought
-            ≡ by_big_info (machine self.now).setup (machine self.now).sight.capability wishes.now slot (train_of train.now) base.now
+        ensures { IfOk result (λ outcome. outcome_of outcome
+            ≡ by_big_info (machine self.now).setup (machine self.now).snapshot.capability wishes.now slot (train_of train.now) base.now
             (big_info_in train.now.acad.now)) }
     {
         let Some(octets) = big_info_octets(train.acad) else {
@@ -168,11 +173,11 @@ impl ScanDelegator {
         base: &Base,
         info: &BigInfo,
         encrypted: bool,
-    ) -> Result<Brought, Memory>
+    ) -> Result<TrainOutcome, Memory>
         requires time { train.now.heard_at ≤ 2 ^ 61 }
         requires widths { FitsWidths info.now }
-        ensures { IfOk result (λ brought. brought_of brought
-            ≡ by_group (machine self.now).setup (machine self.now).sight.capability wishes.now slot
+        ensures { IfOk result (λ outcome. outcome_of outcome
+            ≡ by_group (machine self.now).setup (machine self.now).snapshot.capability wishes.now slot
             (train_of train.now) base.now info.now encrypted (first_fault self.now.limits.horizon info.now)) }
     {
         match check_group_within(info, self.limits) {
@@ -190,9 +195,9 @@ impl ScanDelegator {
         base: &Base,
         group: &Group,
         encrypted: bool,
-    ) -> Result<Brought, Memory>
+    ) -> Result<TrainOutcome, Memory>
         requires { train.now.heard_at ≤ 2 ^ 61 }
-        ensures { IfOk result (λ brought. brought_of brought
+        ensures { IfOk result (λ outcome. outcome_of outcome
             ≡ by_streams slot (train_of train.now) base.now group.now.info encrypted
             (first_candidates self.now.capability base.now group.now.info.num_bis self.now.streams wishes.now base.now.subgroups)) }
     {
@@ -208,25 +213,25 @@ impl ScanDelegator {
         if which == BisSet::new() {
             return Ok(heard_so(slot, TrainHeard::NoneTaken, Some(encrypted)));
         }
-        Ok(Brought::Taken {
+        Ok(TrainOutcome::Taken {
             slot,
             bits,
             encrypted,
-            joining: joining_at(group, which, base.delay(), train.heard_at),
+            big_sync: big_sync_at(group, which, base.delay(), train.heard_at),
         })
     }
 
     // Goes where a train brings the sink, and answers the train. After want of memory the sink is where it was.
-    fn follow_brought(&mut self, brought: Brought) -> Result<TrainHeard, Memory>
-        requires { IsBrought brought (machine self.old) }
-        ensures answer { IfOk result (λ heard. heard ≡ answer_of (brought_of brought)) }
-        ensures step { OnOk result (machine self.new ≡ moved (done_brought (brought_of brought)) (machine self.old)) }
+    fn follow_outcome(&mut self, outcome: TrainOutcome) -> Result<TrainHeard, Memory>
+        requires { IsOutcome outcome (machine self.old) }
+        ensures answer { IfOk result (λ heard. heard ≡ answer_of (outcome_of outcome)) }
+        ensures step { OnOk result (machine self.new ≡ moved (done_by_outcome (outcome_of outcome)) (machine self.old)) }
         ensures err { OnErr result (machine self.new ≡ machine self.old) }
-        ensures memory { OnErr result (is_followed (brought_of brought) ≡ true) }
+        ensures memory { OnErr result (is_followed (outcome_of outcome) ≡ true) }
     {
-        match brought {
-            Brought::Ignored(answer) => Ok(answer),
-            Brought::Heard {
+        match outcome {
+            TrainOutcome::Ignored(answer) => Ok(answer),
+            TrainOutcome::Heard {
                 slot,
                 answer,
                 encrypted,
@@ -234,24 +239,24 @@ impl ScanDelegator {
                 self.go_on_train(slot, encrypted)?;
                 Ok(answer)
             }
-            Brought::Taken {
+            TrainOutcome::Taken {
                 slot,
                 bits,
                 encrypted,
-                joining,
+                big_sync,
             } => {
                 self.go_on_group(slot, bits, encrypted)?;
-                Ok(TrainHeard::OnGroup(joining.which))
+                Ok(TrainHeard::OnGroup(big_sync.which))
             }
         }
     }
 }
 
 /// The sink is then on the train.
-fn heard_so(slot: u8, answer: TrainHeard, encrypted: Option<bool>) -> Brought
-    ensures { brought_of result ≡ heard slot answer encrypted }
+fn heard_so(slot: u8, answer: TrainHeard, encrypted: Option<bool>) -> TrainOutcome
+    ensures { outcome_of result ≡ heard slot answer encrypted }
 {
-    Brought::Heard {
+    TrainOutcome::Heard {
         slot,
         answer,
         encrypted,
@@ -259,8 +264,8 @@ fn heard_so(slot: u8, answer: TrainHeard, encrypted: Option<bool>) -> Brought
 }
 
 /// What octets bring that are no BASE.
-fn bad_base(slot: u8, fault: BaseFault) -> Result<Brought, Memory>
-    ensures brought { IfOk result (λ brought. (wants fault ≡ false) × (brought_of brought ≡ heard slot answers.BadBase None)) }
+fn bad_base(slot: u8, fault: BaseFault) -> Result<TrainOutcome, Memory>
+    ensures outcome { IfOk result (λ outcome. (wants fault ≡ false) × (outcome_of outcome ≡ heard slot answers.BadBase None)) }
     ensures memory { OnErr result (wants fault ≡ true) }
 {
     match fault {

@@ -2,9 +2,9 @@
 ghost use Rattle.std.specs.Prelude.{◌≡◌, ◌≢◌, ◌<◌, ◌≤◌, ◌+◌, ◌++◌, ◌∷◌, [], drop, length, if◌then◌else◌, get_or, option_map};
 ghost use Rattle.std.specs.Prelude.{None, IfOk, IsSome, IsTrue, OnOk, OnErr};
 ghost use Rattle.std.specs.List.{AllByRecursion};
-ghost use Rattle.receive_state.specs.Layout.{spelling};
+ghost use Rattle.receive_state.specs.Layout.{encoding};
 ghost use Rattle.delegator_history.specs.Notices.{change};
-ghost use Rattle.delegator_history.specs.Sights.{Sight};
+ghost use Rattle.delegator_history.specs.Snapshots.{Snapshot};
 ghost use Rattle.delegator_history.specs.Steps.{placed};
 ghost use Rattle.delegator_history.specs.Values.{Status as StatusSeen, encryption_of, received, value};
 ghost use Rattle.delegator_choices.specs.State.Slots.{EntryFits};
@@ -37,8 +37,8 @@ pub(crate) struct Status<'a> {
 
 /// How a sink that is there stands to a slot after a change of its place.
 pub(crate) fn status_after(place: &Place, slot: u8, moves: Move) -> Status<'_>
-    ensures same { (sight : Sight) → status_seen result ≡ status_at slot
-        (placed (place_by (place_of place.now) moves) None None (standing place.now sight)) }
+    ensures same { (snapshot : Snapshot) → status_seen result ≡ status_at slot
+        (placed (place_by (place_of place.now) moves) None None (standing place.now snapshot)) }
 {
     let is_synced = match moves {
         Move::Off => false,
@@ -76,17 +76,17 @@ pub(crate) fn value_filled(
     slot: &Slot,
     status: &Status<'_>,
 ) -> Result<Octets, Memory>
-    ensures { IfOk result (λ octets. octets ≡ spelling (received (status_seen status.now) slot.now)) }
+    ensures { IfOk result (λ octets. octets ≡ encoding (received (status_seen status.now) slot.now)) }
 {
     let wishes = slot.wishes();
-    let front = front_of(alloc, slot, status);
-    let mut out = begin_state(alloc, &front, wishes.count() as u8, room_for(wishes))?;
+    let prefix = prefix_of(alloc, slot, status);
+    let mut out = begin_state(alloc, &prefix, wishes.count() as u8, room_for(wishes))?;
     put_groups(&mut out, wishes, status.bits)?;
     Ok(out)
 }
 
 /// The state of a slot that is filled, without its subgroups.
-fn front_of(alloc: Global, slot: &Slot, status: &Status<'_>) -> ReceiveState
+fn prefix_of(alloc: Global, slot: &Slot, status: &Status<'_>) -> ReceiveState
     ensures same { result ≡ record (received (status_seen status.now) slot.now) { groups = [] } }
     ensures fits { EntryFits slot.now }
 {
@@ -197,7 +197,7 @@ fn note_filled(
     after: &Status<'_>,
 ) -> Result<(), Memory>
     ensures ok { OnOk result (waiting.new.items ≡ waiting.old.items ++ change slot
-        (spelling (received (status_seen before.now) filled.now)) (spelling (received (status_seen after.now) filled.now))) }
+        (encoding (received (status_seen before.now) filled.now)) (encoding (received (status_seen after.now) filled.now))) }
     ensures err { OnErr result (waiting.new.items ≡ waiting.old.items) }
 {
     let now = value_filled(alloc, filled, after)?;
@@ -238,7 +238,7 @@ fn note_refilled(
     now: Octets,
 ) -> Result<(), Memory>
     ensures ok { OnOk result (waiting.new.items ≡ waiting.old.items ++ change slot
-        (spelling (received (status_seen before.now) filled.now)) now) }
+        (encoding (received (status_seen before.now) filled.now)) now) }
     ensures err { OnErr result (waiting.new.items ≡ waiting.old.items) }
 {
     if ends_otherwise(&now, filled) {
@@ -250,7 +250,7 @@ fn note_refilled(
 
 /// The octets end otherwise than the value of the slot, however the sink stands to it: not with the last metadata.
 fn ends_otherwise(octets: &Octets, slot: &Slot) -> bool
-    ensures { IsTrue result → (status : StatusSeen) → spelling (received status slot.now) ≢ octets.now }
+    ensures { IsTrue result → (status : StatusSeen) → encoding (received status slot.now) ≢ octets.now }
 {
     let wishes = slot.wishes();
     let count = wishes.count();

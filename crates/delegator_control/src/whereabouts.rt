@@ -8,7 +8,7 @@ use crate::scan_delegator::ScanDelegator;
 impl ScanDelegator {
     /// Whether the sink is on a group, of a slot's source or of no slot. It takes no memory.
     pub fn is_on_group(&self) -> bool
-        ensures { result ≡ has_group (machine self.now).sight.place }
+        ensures { result ≡ has_group (machine self.now).snapshot.place }
     {
         match &self.place {
             Place::Idle(_) | Place::OnTrain(_) => false,

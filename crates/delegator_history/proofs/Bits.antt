@@ -6,7 +6,7 @@ use Rattle.std.proofs.lemmas.Bool.{eqb-true}
 use Rattle.bass_operations.specs.declared.wishes.Wish.{Wish}
 use Rattle.receive_state.specs.declared.state.GroupState.{GroupState}
 use Rattle.receive_state.specs.declared.state.ReceiveState.{ReceiveState}
-use Rattle.delegator_history.specs.Sights.{Entry, Place, idle, on_train, on_group}
+use Rattle.delegator_history.specs.Snapshots.{Entry, Place, idle, on_train, on_group}
 use Rattle.delegator_history.specs.Values.{status_of, groups_from, received, HasBit}
 
 -- no bit is set where none is taken

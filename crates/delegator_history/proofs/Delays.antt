@@ -1,4 +1,4 @@
--- Whatever is read of octets that spell a BASE, it has the presentation delay of that BASE.
+-- Whatever is read of octets that encode a BASE, it has the presentation delay of that BASE.
 use Rattle.std.proofs.Common.{◌≡◌, ℕ, ◌∷◌, Bool, true, false, cond, ltb, List, [], length, Some, Result, Ok, Err, sym, ap, ◌∙◌, subst}
 use Rattle.std.specs.List.{flat_map}
 use Rattle.std.proofs.lemmas.Option.{some_pair_parts}
@@ -40,5 +40,5 @@ unfolding base_of
 delay_read base read octets is given =
     let first = first_is octets read (short_enough (ltb 252 (length octets)) (fields_of octets) read given) in
     let others : List ℕ = length base.subgroups ∷ flat_map subgroup base.subgroups in
-    let spelled : number_in 3 octets ≡ Some (base.delay, others) = ap (number_in 3) is.spelled ∙ number_again 3 base.delay others is.base.delay in
-    (some_pair_parts read.delay base.delay first.0 others (sym first.1 ∙ spelled)).0
+    let encoded : number_in 3 octets ≡ Some (base.delay, others) = ap (number_in 3) is.encoded ∙ number_again 3 base.delay others is.base.delay in
+    (some_pair_parts read.delay base.delay first.0 others (sym first.1 ∙ encoded)).0

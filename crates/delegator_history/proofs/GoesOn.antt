@@ -8,11 +8,11 @@ use Rattle.std.proofs.lemmas.List.{append-nil}
 use Rattle.pacs_records.specs.declared.capability.Capability.{Capability}
 use Rattle.delegator_history.specs.declared.source.Source.{Source}
 use Rattle.delegator_history.specs.LastGiven.{last_given}
-use Rattle.delegator_history.specs.Sights.{Wanted, Entry, Place, Sight, slot_of, is_on, entry_at}
+use Rattle.delegator_history.specs.Snapshots.{Wanted, Entry, Place, Snapshot, slot_of, is_on, entry_at}
 use Rattle.delegator_history.specs.Steps.{Done, nothing, added, modified, removed, tuned, followed, joined, lost, left, recorded, located, opened}
 use Rattle.delegator_history.specs.Steps.{place_given, encryption_given, taken_given, wanting, slots_after, capability_after, placed, after}
 use Rattle.delegator_history.specs.Trains.{Setup}
-use Rattle.delegator_history.specs.States.{Answered, Step, answered, done_by, sight_in, sight_of, place_in, encrypted_in, encrypted_where, taken_in}
+use Rattle.delegator_history.specs.States.{Answered, Step, answered, done_by, snapshot_in, snapshot_of, place_in, encrypted_in, encrypted_where, taken_in}
 use Rattle.delegator_history.specs.States.{source_by, wanted_by, entry_from, unwanted, source_in, wanted_in, entry_in, records_in, capability_in}
 use Rattle.delegator_history.proofs.Lists.{map_changes_first, map_at}
 use Rattle.delegator_history.proofs.Places.{place_goes_on, encryption_goes_on, taken_goes_on, not_on}
@@ -27,7 +27,7 @@ not_eq a b not = go (a == b) refl
     go false is = refl
 
 -- an entry of which the step says nothing
-same_entry : (steps : List Answered) (before : Sight) (done : Done) (slot : ℕ) → source_by slot done ≡ None → wanted_by slot done ≡ None
+same_entry : (steps : List Answered) (before : Snapshot) (done : Done) (slot : ℕ) → source_by slot done ≡ None → wanted_by slot done ≡ None
     → entry_in (record { before = before; done = done } ∷ steps) slot ≡ entry_in steps slot
 same_entry steps before done slot s w = λ i. entry_from
     (unwrap_or (option_or (s i) (last_given (λ step. source_by slot step.done) steps)) None)
@@ -45,17 +45,17 @@ wanting_source : (source : Option Source) (wanted other : Wanted) → entry_from
 wanting_source None wanted other = refl
 wanting_source (Some source) wanted other = refl
 
-added_here : (steps : List Answered) (before : Sight) (slot : ℕ) (entry : Entry) → entry_in (record { before = before; done = added slot entry } ∷ steps) slot ≡ Some entry
+added_here : (steps : List Answered) (before : Snapshot) (slot : ℕ) (entry : Entry) → entry_in (record { before = before; done = added slot entry } ∷ steps) slot ≡ Some entry
 added_here steps before slot entry = λ i. entry_from
     (unwrap_or (option_or (if_so (slot == slot) (Some (Some entry.source)) None (eq-eqb slot slot refl) i) (last_given (λ step. source_by slot step.done) steps)) None)
     (unwrap_or (option_or (if_so (slot == slot) (Some entry.wanted) None (eq-eqb slot slot refl) i) (last_given (λ step. wanted_by slot step.done) steps)) unwanted)
 
-removed_here : (steps : List Answered) (before : Sight) (slot : ℕ) → entry_in (record { before = before; done = removed slot } ∷ steps) slot ≡ None
+removed_here : (steps : List Answered) (before : Snapshot) (slot : ℕ) → entry_in (record { before = before; done = removed slot } ∷ steps) slot ≡ None
 removed_here steps before slot = λ i. entry_from
     (unwrap_or (option_or (if_so (slot == slot) (Some None) None (eq-eqb slot slot refl) i) (last_given (λ step. source_by slot step.done) steps)) None)
     (wanted_in steps slot)
 
-modified_here : (steps : List Answered) (before : Sight) (slot : ℕ) (wanted : Wanted)
+modified_here : (steps : List Answered) (before : Snapshot) (slot : ℕ) (wanted : Wanted)
     → entry_in (record { before = before; done = modified slot wanted } ∷ steps) slot ≡ wanting wanted (entry_in steps slot)
 modified_here steps before slot wanted =
     (λ i. entry_from (source_in steps slot)
@@ -65,7 +65,7 @@ modified_here steps before slot wanted =
 zero_more : (slot : ℕ) → 0 + slot ≡ slot
 zero_more slot = omega arith
 
-slots_go_on : (n : ℕ) (steps : List Answered) (before : Sight) (done : Done)
+slots_go_on : (n : ℕ) (steps : List Answered) (before : Snapshot) (done : Done)
     → map (entry_in (record { before = before; done = done } ∷ steps)) (range_with_len 0 n) ≡ slots_after done (map (entry_in steps) (range_with_len 0 n))
 slots_go_on n steps before nothing = refl
 slots_go_on n steps before (added slot entry) =
@@ -98,7 +98,7 @@ no_record : (steps : List Answered) (locations contexts : ℕ)
     → ◌≡◌ {A = Capability} (record { entries = records_in steps ++ []; locations = locations; contexts = contexts }) (record { entries = records_in steps; locations = locations; contexts = contexts })
 no_record steps locations contexts = λ i. record { entries = append-nil (records_in steps) i; locations = locations; contexts = contexts }
 
-capability_goes_on : (steps : List Answered) (before : Sight) (done : Done)
+capability_goes_on : (steps : List Answered) (before : Snapshot) (done : Done)
     → capability_in (record { before = before; done = done } ∷ steps) ≡ capability_after done (capability_in steps)
 capability_goes_on steps before nothing = no_record steps (capability_in steps).locations (capability_in steps).contexts
 capability_goes_on steps before (added slot entry) = no_record steps (capability_in steps).locations (capability_in steps).contexts
@@ -115,27 +115,27 @@ capability_goes_on steps before (opened contexts) = no_record steps (capability_
 
 -- ---- all of it
 
-placed_place : (before : Sight) (given : Option Place) (encryption : Option Bool) (taken : Option (List ℕ)) (sight : Sight) → sight.place ≡ before.place
-    → unwrap_or given before.place ≡ (placed given encryption taken sight).place
-placed_place before None encryption taken sight same = sym same
-placed_place before (Some place) encryption taken sight same = refl
+placed_place : (before : Snapshot) (given : Option Place) (encryption : Option Bool) (taken : Option (List ℕ)) (snapshot : Snapshot) → snapshot.place ≡ before.place
+    → unwrap_or given before.place ≡ (placed given encryption taken snapshot).place
+placed_place before None encryption taken snapshot same = sym same
+placed_place before (Some place) encryption taken snapshot same = refl
 
-placed_slots : (given : Option Place) (encryption : Option Bool) (taken : Option (List ℕ)) (sight : Sight) → sight.slots ≡ (placed given encryption taken sight).slots
-placed_slots None encryption taken sight = refl
-placed_slots (Some place) encryption taken sight = refl
+placed_slots : (given : Option Place) (encryption : Option Bool) (taken : Option (List ℕ)) (snapshot : Snapshot) → snapshot.slots ≡ (placed given encryption taken snapshot).slots
+placed_slots None encryption taken snapshot = refl
+placed_slots (Some place) encryption taken snapshot = refl
 
-placed_capability : (given : Option Place) (encryption : Option Bool) (taken : Option (List ℕ)) (sight : Sight) → sight.capability ≡ (placed given encryption taken sight).capability
-placed_capability None encryption taken sight = refl
-placed_capability (Some place) encryption taken sight = refl
+placed_capability : (given : Option Place) (encryption : Option Bool) (taken : Option (List ℕ)) (snapshot : Snapshot) → snapshot.capability ≡ (placed given encryption taken snapshot).capability
+placed_capability None encryption taken snapshot = refl
+placed_capability (Some place) encryption taken snapshot = refl
 
 in_goes_on : (n : ℕ) (steps : List Answered) (done : Done) → ((s : ℕ) → is_on (place_in steps) s ≡ false → encrypted_in steps s ≡ false)
-    → sight_in n (record { before = sight_in n steps; done = done } ∷ steps) ≡ after done (sight_in n steps)
+    → snapshot_in n (record { before = snapshot_in n steps; done = done } ∷ steps) ≡ after done (snapshot_in n steps)
 in_goes_on n steps done off =
-    let S : Sight = sight_in n steps in
+    let S : Snapshot = snapshot_in n steps in
     let given : Option Place = place_given S done in
-    let changed : Sight = record S { slots = slots_after done S.slots; capability = capability_after done S.capability } in
+    let changed : Snapshot = record S { slots = slots_after done S.slots; capability = capability_after done S.capability } in
     let a : Answered = record { before = S; done = done } in
-    let end : Sight = placed given (encryption_given done) (taken_given done) changed in
+    let end : Snapshot = placed given (encryption_given done) (taken_given done) changed in
     let slots : map (entry_in (a ∷ steps)) (range_with_len 0 n) ≡ end.slots =
     slots_go_on n steps S done ∙ placed_slots given (encryption_given done) (taken_given done) changed in
     let place : place_in (a ∷ steps) ≡ end.place =
@@ -147,6 +147,6 @@ in_goes_on n steps done off =
     capability_goes_on steps S done ∙ placed_capability given (encryption_given done) (taken_given done) changed in
     λ i. record { slots = slots i; place = place i; encrypted = encrypted i; taken = taken i; capability = capability i }
 
-pub sight_goes_on : (setup : Setup) (step : Step) (steps : List Step) → sight_of setup (step ∷ steps) ≡ after (done_by setup (sight_of setup steps) step) (sight_of setup steps)
+pub snapshot_goes_on : (setup : Setup) (step : Step) (steps : List Step) → snapshot_of setup (step ∷ steps) ≡ after (done_by setup (snapshot_of setup steps) step) (snapshot_of setup steps)
 unfolding answered
-sight_goes_on setup step steps = in_goes_on setup.slots (answered setup steps) (done_by setup (sight_of setup steps) step) (not_on setup steps)
+snapshot_goes_on setup step steps = in_goes_on setup.slots (answered setup steps) (done_by setup (snapshot_of setup steps) step) (not_on setup steps)

@@ -1,9 +1,9 @@
 mod Bits
-mod Brought
+mod TrainOutcome
 pub mod Citable
 mod Delays
 mod GoesOn
-mod Joinings
+mod BigSyncs
 mod Lasts
 mod Lists
 mod Octets

@@ -3,14 +3,14 @@ use Rattle.std.proofs.Common.{◌≡◌, ◌<◌, ◌+◌, ◌-◌, ◌*◌, ◌
 use Rattle.std.proofs.lemmas.List.{drop_at, length-append, length-take, take-append-drop}
 use Rattle.std.proofs.lemmas.Option.{none-some, same_Some}
 use Rattle.bcast_base.specs.Numbers.{sum_from}
-use Rattle.bcast_base.specs.Spelling.{IsOctets, number}
-use Rattle.bcast_base.proofs.Citable.{IsOctets-front, IsOctets-rest, number-length, number_again, number_once}
+use Rattle.bcast_base.specs.Encoding.{IsOctets, number}
+use Rattle.bcast_base.proofs.Citable.{IsOctets-prefix, IsOctets-rest, number-length, number_again, number_once}
 use Rattle.ltv_codec.specs.Layout.{structure}
 use Rattle.base_grammar.specs.Ad.{broadcast_audio_announcement}
-use Rattle.base_grammar.specs.Layout.{Endpoint, spelling}
+use Rattle.base_grammar.specs.Layout.{Endpoint, encoding}
 use Rattle.big_info.specs.declared.info.BigInfo.{BigInfo}
 use Rattle.big_info.specs.declared.info.Cipher.{Cipher}
-use Rattle.big_info.specs.Layout.{CipherIs, Spells, number_of}
+use Rattle.big_info.specs.Layout.{CipherIs, Encodes, number_of}
 use Rattle.big_info.specs.Widths.{FitsWidths}
 use Rattle.announcement_train.specs.declared.train.Train.{Train}
 use Rattle.announcement_train.specs.Layout.{IsTrain, announced, basic_audio_announcement, info_ad, lead, service_ad}
@@ -22,12 +22,12 @@ cipher_only : (cipher : Option Cipher) (octets : List ℕ) → CipherIs cipher o
 cipher_only None octets is = is
 cipher_only (Some cipher) octets is = is.2
 
-info_only : (info : BigInfo) (octets : List ℕ) → IsOctets octets → Spells info 0 octets → octets ≡ info_octets info
+info_only : (info : BigInfo) (octets : List ℕ) → IsOctets octets → Encodes info 0 octets → octets ≡ info_octets info
 info_only info octets fits is =
     let parts : octets ≡ take 33 octets ++ drop 33 octets = sym (take-append-drop 33 octets) in
-    let front : IsOctets (take 33 octets) = IsOctets-front (take 33 octets) (drop 33 octets) (subst IsOctets parts fits) in
+    let prefix : IsOctets (take 33 octets) = IsOctets-prefix (take 33 octets) (drop 33 octets) (subst IsOctets parts fits) in
     let long : length (take 33 octets) ≡ 33 = omega (arith, length-take 33 octets, is.whole) in
-    parts ∙ ap (λ (os : List ℕ). os ++ drop 33 octets) (number_once 33 (number_of info 0) (take 33 octets) front long is.fields)
+    parts ∙ ap (λ (os : List ℕ). os ++ drop 33 octets) (number_once 33 (number_of info 0) (take 33 octets) prefix long is.fields)
     ∙ ap (λ (os : List ℕ). number 33 (number_of info 0) ++ os) (cipher_only info.cipher (drop 33 octets) is.cipher)
 
 number_small : (info : BigInfo) → FitsWidths info → number_of info 0 < 2 ^ (8 * 33)
@@ -59,8 +59,8 @@ first_is : (short : Bool) (one other : ℕ × List ℕ) → cond short None (Som
 first_is true one other is = absurd (none-some other is)
 first_is false one other is = ap (λ (field : ℕ × List ℕ). field.0) (same_Some one other is)
 
-info_spelled : (info : BigInfo) → FitsWidths info → CipherIs info.cipher (cipher_octets info.cipher) → Spells info 0 (info_octets info)
-info_spelled info fits cipher =
+info_encoded : (info : BigInfo) → FitsWidths info → CipherIs info.cipher (cipher_octets info.cipher) → Encodes info 0 (info_octets info)
+info_encoded info fits cipher =
     let all : ℕ = number_of info 0 in
     let behind : List ℕ = cipher_octets info.cipher in
     let octets : List ℕ = number 33 all ++ behind in
@@ -108,11 +108,11 @@ train_is broadcast_id base info event anchor may = record {
   three = may.three;
   time = omega (arith, may.late);
   ext = refl;
-  base_octets = spelling base;
-  base_is = record { base = may.base_is; spelled = refl };
+  base_octets = encoding base;
+  base_is = record { base = may.base_is; encoded = refl };
   adv = refl;
   info_octets = info_octets (announced info event);
-  info_is = info_spelled (announced info event) (announced_fits info event may.widths may.count) may.cipher;
+  info_is = info_encoded (announced info event) (announced_fits info event may.widths may.count) may.cipher;
   acad = refl;
 }
 
@@ -138,5 +138,5 @@ train_only broadcast_id base info event anchor train is fits =
     let info_is : acad ≡ info_octets (announced info event) = info_only (announced info event) acad own is.info_is in
     ap (λ n. made n train.ext train.adv train.acad) time
     ∙ ap (λ os. made (anchor - lead) os train.adv train.acad) is.ext
-    ∙ ap (λ os. made (anchor - lead) (service broadcast_id) os train.acad) (is.adv ∙ ap base_list is.base_is.spelled)
-    ∙ ap (λ os. made (anchor - lead) (service broadcast_id) (base_list (spelling base)) os) (is.acad ∙ ap info_list info_is)
+    ∙ ap (λ os. made (anchor - lead) (service broadcast_id) os train.acad) (is.adv ∙ ap base_list is.base_is.encoded)
+    ∙ ap (λ os. made (anchor - lead) (service broadcast_id) (base_list (encoding base)) os) (is.acad ∙ ap info_list info_is)

@@ -4,28 +4,28 @@ use Rattle.std.specs.Prelude.{◌==◌, ◌&&◌, not, unwrap_or, if◌then◌el
 use Rattle.std.specs.Option.{option_or}
 use Rattle.std.proofs.lemmas.Bool.{eqb-true, eq-eqb}
 use Rattle.delegator_history.specs.LastGiven.{last_given}
-use Rattle.delegator_history.specs.Sights.{Place, Sight, idle, on_train, on_group, slot_of, is_slot, is_on, is_on_group, entry_at}
+use Rattle.delegator_history.specs.Snapshots.{Place, Snapshot, idle, on_train, on_group, slot_of, is_slot, is_on, is_on_group, entry_at}
 use Rattle.delegator_history.specs.Steps.{Done, nothing, added, modified, removed, tuned, followed, joined, lost, left, recorded, located, opened}
 use Rattle.delegator_history.specs.Steps.{same_streams, wishes_at, place_left, place_given, place_after, encryption_given, encrypted_on, taken_given, taken_on, placed}
 use Rattle.delegator_history.specs.Trains.{Setup}
-use Rattle.delegator_history.specs.States.{Answered, Step, answered, done_by, sight_in, place_in, encryption_by, encrypted_in, encrypted_where, taken_in}
+use Rattle.delegator_history.specs.States.{Answered, Step, answered, done_by, snapshot_in, place_in, encryption_by, encrypted_in, encrypted_where, taken_in}
 
 -- ---- what is given with a place
 
 -- no place, no encryption and no streams
-pub none_given : (sight : Sight) (done : Done) → place_given sight done ≡ None → (encryption_given done ≡ None) × (taken_given done ≡ None)
-none_given sight nothing e = (refl, refl)
-none_given sight (added slot entry) e = (refl, refl)
-none_given sight (modified slot wanted) e = (refl, refl)
-none_given sight (removed slot) e = (refl, refl)
-none_given sight tuned e = absurd cc
-none_given sight (followed slot encrypted) e = absurd cc
-none_given sight (joined slot encrypted taken) e = absurd cc
-none_given sight lost e = absurd cc
-none_given sight left e = (refl, refl)
-none_given sight (recorded entry) e = (refl, refl)
-none_given sight (located locations) e = (refl, refl)
-none_given sight (opened contexts) e = (refl, refl)
+pub none_given : (snapshot : Snapshot) (done : Done) → place_given snapshot done ≡ None → (encryption_given done ≡ None) × (taken_given done ≡ None)
+none_given snapshot nothing e = (refl, refl)
+none_given snapshot (added slot entry) e = (refl, refl)
+none_given snapshot (modified slot wanted) e = (refl, refl)
+none_given snapshot (removed slot) e = (refl, refl)
+none_given snapshot tuned e = absurd cc
+none_given snapshot (followed slot encrypted) e = absurd cc
+none_given snapshot (joined slot encrypted taken) e = absurd cc
+none_given snapshot lost e = absurd cc
+none_given snapshot left e = (refl, refl)
+none_given snapshot (recorded entry) e = (refl, refl)
+none_given snapshot (located locations) e = (refl, refl)
+none_given snapshot (opened contexts) e = (refl, refl)
 
 -- the group of a slot comes with streams
 wanted_group : (a b c : Bool) (slot other : ℕ) → (if a then (if b then Some idle else (if c then Some (on_train slot) else None)) else None) ≡ Some (on_group (Some other)) → ⊥
@@ -40,20 +40,20 @@ left_group (on_train slot) other e = cc
 left_group (on_group None) other e = cc
 left_group (on_group (Some slot)) other e = cc
 
-pub group_given : (sight : Sight) (done : Done) (slot : ℕ) → place_given sight done ≡ Some (on_group (Some slot)) → (taken : List ℕ) × (taken_given done ≡ Some taken)
-group_given sight nothing slot e = absurd cc
-group_given sight (added other entry) slot e = absurd cc
-group_given sight (modified other wanted) slot e =
-    absurd (wanted_group (is_on sight.place other) (wanted.pa_sync == 0) (is_on_group sight.place other && not (same_streams wanted.wishes (wishes_at (entry_at sight.slots other)))) other slot e)
-group_given sight (removed other) slot e = absurd cc
-group_given sight tuned slot e = absurd cc
-group_given sight (followed other encrypted) slot e = absurd cc
-group_given sight (joined other encrypted taken) slot e = (taken, refl)
-group_given sight lost slot e = absurd cc
-group_given sight left slot e = absurd (left_group sight.place slot e)
-group_given sight (recorded entry) slot e = absurd cc
-group_given sight (located locations) slot e = absurd cc
-group_given sight (opened contexts) slot e = absurd cc
+pub group_given : (snapshot : Snapshot) (done : Done) (slot : ℕ) → place_given snapshot done ≡ Some (on_group (Some slot)) → (taken : List ℕ) × (taken_given done ≡ Some taken)
+group_given snapshot nothing slot e = absurd cc
+group_given snapshot (added other entry) slot e = absurd cc
+group_given snapshot (modified other wanted) slot e =
+    absurd (wanted_group (is_on snapshot.place other) (wanted.pa_sync == 0) (is_on_group snapshot.place other && not (same_streams wanted.wishes (wishes_at (entry_at snapshot.slots other)))) other slot e)
+group_given snapshot (removed other) slot e = absurd cc
+group_given snapshot tuned slot e = absurd cc
+group_given snapshot (followed other encrypted) slot e = absurd cc
+group_given snapshot (joined other encrypted taken) slot e = (taken, refl)
+group_given snapshot lost slot e = absurd cc
+group_given snapshot left slot e = absurd (left_group snapshot.place slot e)
+group_given snapshot (recorded entry) slot e = absurd cc
+group_given snapshot (located locations) slot e = absurd cc
+group_given snapshot (opened contexts) slot e = absurd cc
 
 -- ---- the place
 
@@ -62,9 +62,9 @@ or_then None p d = refl
 or_then (Some x) p d = refl
 
 pub place_goes_on : (n : ℕ) (steps : List Answered) (done : Done)
-    → place_in (record { before = sight_in n steps; done = done } ∷ steps) ≡ place_after (sight_in n steps) done
+    → place_in (record { before = snapshot_in n steps; done = done } ∷ steps) ≡ place_after (snapshot_in n steps) done
 place_goes_on n steps done =
-    or_then (place_given (sight_in n steps) done) (last_given (λ step. place_given step.before step.done) steps) idle
+    or_then (place_given (snapshot_in n steps) done) (last_given (λ step. place_given step.before step.done) steps) idle
 
 -- ---- encryption
 
@@ -84,7 +84,7 @@ pub not_on : (setup : Setup) (steps : List Step) (slot : ℕ) → is_on (place_i
 unfolding answered
 not_on setup [] slot off = refl
 not_on setup (step ∷ earlier) slot off =
-    let before : Sight = sight_in setup.slots (answered setup earlier) in
+    let before : Snapshot = snapshot_in setup.slots (answered setup earlier) in
     let done : Done = done_by setup before step in
     let off_after : is_on (place_after before done) slot ≡ false =
     ap (λ p. is_on p slot) (sym (place_goes_on setup.slots (answered setup earlier) done)) ∙ off in
@@ -106,14 +106,14 @@ encryption_here n steps slot (Some given) off = refl
 encryption_here n steps slot None off = kept steps slot (slot_of (place_in steps)) (is_on (place_in steps) slot) refl off
 
 encryption_on : (n : ℕ) (steps : List Answered) (done : Done) (place : Place) (slot : Option ℕ) → slot_of place ≡ slot
-    → place_after (sight_in n steps) done ≡ place
+    → place_after (snapshot_in n steps) done ≡ place
     → ((s : ℕ) → is_on (place_in steps) s ≡ false → encrypted_in steps s ≡ false)
-    → encrypted_where (record { before = sight_in n steps; done = done } ∷ steps) slot
+    → encrypted_where (record { before = snapshot_in n steps; done = done } ∷ steps) slot
     ≡ encrypted_on slot (place_in steps) (encryption_given done) (encrypted_where steps (slot_of (place_in steps)))
 encryption_on n steps done place None is there off = refl
 encryption_on n steps done place (Some slot) is there off =
-    let on : is_on (place_after (sight_in n steps) done) slot ≡ true = ap (λ p. is_on p slot) there ∙ on_itself slot place is in
-    ap (λ o. unwrap_or (option_or o (last_given (encryption_by slot) steps)) false) (choose (is_on (place_after (sight_in n steps) done) slot) (encryption_given done) (Some false) on)
+    let on : is_on (place_after (snapshot_in n steps) done) slot ≡ true = ap (λ p. is_on p slot) there ∙ on_itself slot place is in
+    ap (λ o. unwrap_or (option_or o (last_given (encryption_by slot) steps)) false) (choose (is_on (place_after (snapshot_in n steps) done) slot) (encryption_given done) (Some false) on)
     ∙ encryption_here n steps slot (encryption_given done) (off slot)
 
 -- a place that stays keeps it
@@ -126,24 +126,24 @@ where_none : (steps : List Answered) (slot : Option ℕ) → slot ≡ None → e
 where_none steps None e = refl
 where_none steps (Some slot) e = absurd cc
 
-pub encryption_goes_on : (n : ℕ) (steps : List Answered) (done : Done) (given : Option Place) → place_given (sight_in n steps) done ≡ given
-    → ((s : ℕ) → is_on (place_in steps) s ≡ false → encrypted_in steps s ≡ false) → (sight : Sight)
-    → sight.place ≡ place_in steps → sight.encrypted ≡ encrypted_where steps (slot_of (place_in steps))
-    → encrypted_where (record { before = sight_in n steps; done = done } ∷ steps) (slot_of (place_in (record { before = sight_in n steps; done = done } ∷ steps)))
-    ≡ (placed given (encryption_given done) (taken_given done) sight).encrypted
-encryption_goes_on n steps done None is off sight p e =
+pub encryption_goes_on : (n : ℕ) (steps : List Answered) (done : Done) (given : Option Place) → place_given (snapshot_in n steps) done ≡ given
+    → ((s : ℕ) → is_on (place_in steps) s ≡ false → encrypted_in steps s ≡ false) → (snapshot : Snapshot)
+    → snapshot.place ≡ place_in steps → snapshot.encrypted ≡ encrypted_where steps (slot_of (place_in steps))
+    → encrypted_where (record { before = snapshot_in n steps; done = done } ∷ steps) (slot_of (place_in (record { before = snapshot_in n steps; done = done } ∷ steps)))
+    ≡ (placed given (encryption_given done) (taken_given done) snapshot).encrypted
+encryption_goes_on n steps done None is off snapshot p e =
     let P : Place = place_in steps in
-    let after : place_after (sight_in n steps) done ≡ P = ap (λ o. unwrap_or o P) is in
-    let a : Answered = record { before = sight_in n steps; done = done } in
+    let after : place_after (snapshot_in n steps) done ≡ P = ap (λ o. unwrap_or o P) is in
+    let a : Answered = record { before = snapshot_in n steps; done = done } in
     ap (λ q. encrypted_where (a ∷ steps) (slot_of q)) (place_goes_on n steps done ∙ after)
     ∙ encryption_on n steps done P (slot_of P) refl after off
-    ∙ ap (λ o. encrypted_on (slot_of P) P o (encrypted_where steps (slot_of P))) (none_given (sight_in n steps) done is).0
+    ∙ ap (λ o. encrypted_on (slot_of P) P o (encrypted_where steps (slot_of P))) (none_given (snapshot_in n steps) done is).0
     ∙ encryption_stays steps (slot_of P) P refl (encrypted_where steps (slot_of P)) (where_none steps (slot_of P))
     ∙ sym e
-encryption_goes_on n steps done (Some place) is off sight p e =
+encryption_goes_on n steps done (Some place) is off snapshot p e =
     let P : Place = place_in steps in
-    let after : place_after (sight_in n steps) done ≡ place = ap (λ o. unwrap_or o P) is in
-    let a : Answered = record { before = sight_in n steps; done = done } in
+    let after : place_after (snapshot_in n steps) done ≡ place = ap (λ o. unwrap_or o P) is in
+    let a : Answered = record { before = snapshot_in n steps; done = done } in
     ap (λ q. encrypted_where (a ∷ steps) (slot_of q)) (place_goes_on n steps done ∙ after)
     ∙ encryption_on n steps done place (slot_of place) refl after off
     ∙ (λ i. encrypted_on (slot_of place) (sym p i) (encryption_given done) (sym e i))
@@ -168,20 +168,20 @@ taken_there steps a (on_group (Some slot)) old some =
     ap (λ o. unwrap_or (option_or o (last_given (λ step. taken_given step.done) steps)) []) t.1
     ∙ ap (λ o. unwrap_or o old) (sym t.1)
 
-pub taken_goes_on : (n : ℕ) (steps : List Answered) (done : Done) (given : Option Place) → place_given (sight_in n steps) done ≡ given → (sight : Sight)
-    → sight.taken ≡ taken_in steps (place_in steps)
-    → taken_in (record { before = sight_in n steps; done = done } ∷ steps) (place_in (record { before = sight_in n steps; done = done } ∷ steps))
-    ≡ (placed given (encryption_given done) (taken_given done) sight).taken
-taken_goes_on n steps done None is sight t =
+pub taken_goes_on : (n : ℕ) (steps : List Answered) (done : Done) (given : Option Place) → place_given (snapshot_in n steps) done ≡ given → (snapshot : Snapshot)
+    → snapshot.taken ≡ taken_in steps (place_in steps)
+    → taken_in (record { before = snapshot_in n steps; done = done } ∷ steps) (place_in (record { before = snapshot_in n steps; done = done } ∷ steps))
+    ≡ (placed given (encryption_given done) (taken_given done) snapshot).taken
+taken_goes_on n steps done None is snapshot t =
     let P : Place = place_in steps in
-    let a : Answered = record { before = sight_in n steps; done = done } in
-    let after : place_after (sight_in n steps) done ≡ P = ap (λ o. unwrap_or o P) is in
+    let a : Answered = record { before = snapshot_in n steps; done = done } in
+    let after : place_after (snapshot_in n steps) done ≡ P = ap (λ o. unwrap_or o P) is in
     ap (taken_in (a ∷ steps)) (place_goes_on n steps done ∙ after)
-    ∙ taken_stays steps a P (none_given (sight_in n steps) done is).1
+    ∙ taken_stays steps a P (none_given (snapshot_in n steps) done is).1
     ∙ sym t
-taken_goes_on n steps done (Some place) is sight t =
+taken_goes_on n steps done (Some place) is snapshot t =
     let P : Place = place_in steps in
-    let a : Answered = record { before = sight_in n steps; done = done } in
-    let after : place_after (sight_in n steps) done ≡ place = ap (λ o. unwrap_or o P) is in
+    let a : Answered = record { before = snapshot_in n steps; done = done } in
+    let after : place_after (snapshot_in n steps) done ≡ place = ap (λ o. unwrap_or o P) is in
     ap (taken_in (a ∷ steps)) (place_goes_on n steps done ∙ after)
-    ∙ taken_there steps a place sight.taken (λ slot on. group_given (sight_in n steps) done slot (is ∙ ap (λ p. Some p) on))
+    ∙ taken_there steps a place snapshot.taken (λ slot on. group_given (snapshot_in n steps) done slot (is ∙ ap (λ p. Some p) on))

@@ -6,8 +6,8 @@ use Rattle.std.proofs.lemmas.Slice.Eq.{bytes_eq-Decides}
 use Rattle.std.proofs.lemmas.List.{drop-append-le, drop_min}
 use Rattle.delegator_history.specs.declared.notice.Notice.{Notice}
 use Rattle.delegator_history.specs.Notices.{change, changes, notices, is_told, delivered, waiting}
-use Rattle.delegator_history.specs.Sights.{Sight}
-use Rattle.delegator_history.specs.States.{Step, sight_of}
+use Rattle.delegator_history.specs.Snapshots.{Snapshot}
+use Rattle.delegator_history.specs.States.{Step, snapshot_of}
 use Rattle.delegator_history.specs.Trains.{Setup}
 use Rattle.delegator_history.specs.Values.{value_at}
 use Rattle.delegator_history.proofs.Lists.{flat_none, flat_one}
@@ -24,11 +24,11 @@ drop_drop (suc d) t (x ∷ xs) =
     ap (λ k. drop k (x ∷ xs)) next ∙ drop_drop d t xs
 
 pub waiting_goes_on : (setup : Setup) (step : Step) (steps : List Step)
-    → waiting setup (step ∷ steps) ≡ drop (is_told step) (waiting setup steps) ++ changes setup.slots (sight_of setup steps) (sight_of setup (step ∷ steps))
+    → waiting setup (step ∷ steps) ≡ drop (is_told step) (waiting setup steps) ++ changes setup.slots (snapshot_of setup steps) (snapshot_of setup (step ∷ steps))
 waiting_goes_on setup step steps =
     let all : List Notice = notices setup steps in
     let d : ℕ = delivered setup steps in
-    let more : List Notice = changes setup.slots (sight_of setup steps) (sight_of setup (step ∷ steps)) in
+    let more : List Notice = changes setup.slots (snapshot_of setup steps) (snapshot_of setup (step ∷ steps)) in
     drop-append-le (min (d + is_told step) (length all)) all more (min-le_right (d + is_told step) (length all))
     ∙ ap (λ xs. xs ++ more) (drop_min (d + is_told step) all ∙ drop_drop d (is_told step) all)
 
@@ -39,11 +39,11 @@ no_change slot before after same =
     ap (λ b. if b then [] else record { slot = slot; value = after } ∷ []) ((bytes_eq-Decides before after).1 same)
 
 -- of a step that changes no value
-pub none_change : (n : ℕ) (before after : Sight) → ((i : ℕ) → value_at before i ≡ value_at after i) → changes n before after ≡ []
+pub none_change : (n : ℕ) (before after : Snapshot) → ((i : ℕ) → value_at before i ≡ value_at after i) → changes n before after ≡ []
 none_change n before after same = flat_none (λ i. change i (value_at before i) (value_at after i)) 0 n (λ i least below. no_change i (value_at before i) (value_at after i) (same i))
 
 -- of a step that may change the value of one slot
-pub one_changes : (n slot : ℕ) (before after : Sight) → slot < n → ((i : ℕ) → i ≢ slot → value_at before i ≡ value_at after i)
+pub one_changes : (n slot : ℕ) (before after : Snapshot) → slot < n → ((i : ℕ) → i ≢ slot → value_at before i ≡ value_at after i)
     → changes n before after ≡ change slot (value_at before slot) (value_at after slot)
 one_changes n slot before after within same =
     flat_one (λ i. change i (value_at before i) (value_at after i)) 0 n slot (omega arith) (omega arith)

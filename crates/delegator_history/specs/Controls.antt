@@ -10,7 +10,7 @@ use Rattle.iso_pdu.specs.Layout.{Content, control}
 use Rattle.iso_pdu.specs.Reading.{read_of}
 use Rattle.delegator_history.specs.declared.train_heard.ControlHeard.{ControlHeard}
 use Rattle.delegator_history.specs.declared.train_heard.ControlHeard.TheVariants.{NotOnGroup, Malformed, NotControl, UnknownOpcode, ControlLength, MapIgnored, Left}
-use Rattle.delegator_history.specs.Sights.{Place, on_group}
+use Rattle.delegator_history.specs.Snapshots.{Place, on_group}
 use Rattle.delegator_history.specs.Steps.{Done, nothing, left}
 
 abbrev pub told_by : Result Control ControlFault → ControlHeard

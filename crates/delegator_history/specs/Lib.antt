@@ -4,7 +4,7 @@ pub mod LastGiven
 pub mod Notices
 pub mod Octets
 pub mod Rows
-pub mod Sights
+pub mod Snapshots
 pub mod States
 pub mod Steps
 pub mod Trains

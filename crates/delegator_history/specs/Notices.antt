@@ -5,8 +5,8 @@ use Rattle.std.specs.List.{flat_map, range_with_len}
 use Rattle.std.specs.Str.{bytes_eq}
 use Rattle.delegator_history.specs.declared.notice.Notice.{Notice}
 use Rattle.delegator_history.specs.LastGiven.{last_given}
-use Rattle.delegator_history.specs.Sights.{Sight}
-use Rattle.delegator_history.specs.States.{Step, mtu_set, told, sight_of}
+use Rattle.delegator_history.specs.Snapshots.{Snapshot}
+use Rattle.delegator_history.specs.States.{Step, mtu_set, notified, snapshot_of}
 use Rattle.delegator_history.specs.Trains.{Setup}
 use Rattle.delegator_history.specs.Values.{value_at}
 use Rattle.receive_state.specs.Cuts.{cut}
@@ -16,17 +16,17 @@ abbrev pub change : ℕ → List ℕ → List ℕ → List Notice
 change slot before after = if bytes_eq before after then [] else record { slot = slot; value = after } ∷ []
 
 -- the notices of a step of a sink with so many slots
-abbrev pub changes : ℕ → Sight → Sight → List Notice
+abbrev pub changes : ℕ → Snapshot → Snapshot → List Notice
 changes slots before after = flat_map (λ slot. change slot (value_at before slot) (value_at after slot)) (range_with_len 0 slots)
 
 abbrev pub notices : Setup → List Step → List Notice
 notices setup [] = []
-notices setup (step ∷ earlier) = notices setup earlier ++ changes setup.slots (sight_of setup earlier) (sight_of setup (step ∷ earlier))
+notices setup (step ∷ earlier) = notices setup earlier ++ changes setup.slots (snapshot_of setup earlier) (snapshot_of setup (step ∷ earlier))
 
 -- ---- how many were handed out
 
 abbrev pub is_told : Step → ℕ
-is_told told = 1
+is_told notified = 1
 is_told _ = 0
 
 -- each time that one was asked for, while there were any

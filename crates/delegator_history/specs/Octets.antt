@@ -1,10 +1,10 @@
 -- The octets of a train, as those of its parts (Basic Audio Profile 1.0, section 3.7.2; Core 5.2, volume 6 part B, section
 -- 4.4.6.11).
 use Rattle.std.specs.Prelude.{ℕ, ◌-◌, ◌*◌, ◌<◌, ◌≤◌, ◌≡◌, ◌^◌, List, [], ◌++◌, length, Option, Some, None}
-use Rattle.bcast_base.specs.Spelling.{number}
+use Rattle.bcast_base.specs.Encoding.{number}
 use Rattle.ltv_codec.specs.Layout.{structure}
 use Rattle.base_grammar.specs.Ad.{broadcast_audio_announcement}
-use Rattle.base_grammar.specs.Layout.{Endpoint, IsBase, spelling}
+use Rattle.base_grammar.specs.Layout.{Endpoint, IsBase, encoding}
 use Rattle.big_info.specs.declared.info.BigInfo.{BigInfo}
 use Rattle.big_info.specs.declared.info.Cipher.{Cipher}
 use Rattle.big_info.specs.Layout.{CipherIs, number_of}
@@ -26,7 +26,7 @@ abbrev pub train_of : List ℕ → Endpoint → BigInfo → ℕ → ℕ → Trai
 train_of broadcast_id base info event anchor = record {
   time = anchor - lead;
   ext = structure (service_ad broadcast_audio_announcement broadcast_id);
-  adv = structure (service_ad basic_audio_announcement (spelling base));
+  adv = structure (service_ad basic_audio_announcement (encoding base));
   acad = structure (info_ad (info_octets (announced info event)));
 }
 

@@ -7,10 +7,10 @@ use Rattle.pacs_records.specs.declared.record.PacRecord.{PacRecord}
 use Rattle.delegator_history.specs.declared.source.Source.{Source}
 use Rattle.delegator_history.specs.Controls.{done_by_control}
 use Rattle.delegator_history.specs.LastGiven.{last_given}
-use Rattle.delegator_history.specs.Sights.{Wanted, Entry, Place, idle, on_group, Sight, slot_of, is_on}
+use Rattle.delegator_history.specs.Snapshots.{Wanted, Entry, Place, idle, on_group, Snapshot, slot_of, is_on}
 use Rattle.delegator_history.specs.Steps.{Done, nothing, added, modified, removed, tuned, lost, recorded, located, opened, place_given, place_after, encryption_given, taken_given}
-use Rattle.delegator_history.specs.Trains.{Setup, Train, brought_by, done_brought}
-use Rattle.sync_reference.specs.Joining.{Joining}
+use Rattle.delegator_history.specs.Trains.{Setup, Train, outcome_by, done_by_outcome}
+use Rattle.sync_reference.specs.BigSync.{BigSync}
 use Rattle.delegator_history.specs.Writes.{done_by_write}
 
 -- a call
@@ -19,30 +19,30 @@ pub data Step : Type 0 where
   locations_set : (locations : ℕ) → Step
   contexts_set : (contexts : ℕ) → Step
   mtu_set : (mtu : ℕ) → Step
-  put_on : (joining : Joining) → Step  -- put on a group of no slot
+  sync_to_group : (big_sync : BigSync) → Step  -- synchronized to a BIG of no slot
   written : (octets : List ℕ) → Step  -- a write was served
   train_heard : (train : Train) → Step
   train_lost : Step
   control_heard : (octets : List ℕ) → Step
-  told : Step  -- the next notice was asked for
+  notified : Step  -- the next notice was asked for
 
 -- a step with what the sink had before it
 pub record Answered : Type 0 where
-  pub before : Sight
+  pub before : Snapshot
   pub done : Done
 
 -- what a step does to what the sink has
-abbrev pub done_by : Setup → Sight → Step → Done
-done_by setup sight (record_added entry) = recorded entry
-done_by setup sight (locations_set locations) = located locations
-done_by setup sight (contexts_set contexts) = opened contexts
-done_by setup sight (mtu_set mtu) = nothing
-done_by setup sight (put_on joining) = tuned
-done_by setup sight (written octets) = done_by_write sight octets
-done_by setup sight (train_heard train) = done_brought (brought_by setup sight train)
-done_by setup sight train_lost = lost
-done_by setup sight (control_heard octets) = done_by_control sight.place octets
-done_by setup sight told = nothing
+abbrev pub done_by : Setup → Snapshot → Step → Done
+done_by setup snapshot (record_added entry) = recorded entry
+done_by setup snapshot (locations_set locations) = located locations
+done_by setup snapshot (contexts_set contexts) = opened contexts
+done_by setup snapshot (mtu_set mtu) = nothing
+done_by setup snapshot (sync_to_group big_sync) = tuned
+done_by setup snapshot (written octets) = done_by_write snapshot octets
+done_by setup snapshot (train_heard train) = done_by_outcome (outcome_by setup snapshot train)
+done_by setup snapshot train_lost = lost
+done_by setup snapshot (control_heard octets) = done_by_control snapshot.place octets
+done_by setup snapshot notified = nothing
 
 -- ---- a slot
 
@@ -92,7 +92,7 @@ abbrev pub encrypted_where : List Answered → Option ℕ → Bool
 encrypted_where steps None = false
 encrypted_where steps (Some slot) = encrypted_in steps slot
 
--- the train that put the sink on the group of its slot says which streams are taken
+-- the train that synchronized the sink to the BIG of its slot says which streams are taken
 abbrev pub taken_in : List Answered → Place → List ℕ
 taken_in steps (on_group (Some slot)) = unwrap_or (last_given (λ step. taken_given step.done) steps) []
 taken_in steps _ = []
@@ -124,8 +124,8 @@ capability_in steps = record {
 
 -- ---- all of it
 
-abbrev pub sight_in : ℕ → List Answered → Sight
-sight_in slots steps = record {
+abbrev pub snapshot_in : ℕ → List Answered → Snapshot
+snapshot_in slots steps = record {
   slots = map (entry_in steps) (range_with_len 0 slots);
   place = place_in steps;
   encrypted = encrypted_where steps (slot_of (place_in steps));
@@ -137,9 +137,9 @@ sight_in slots steps = record {
 unfoldable pub answered : Setup → List Step → List Answered
 answered setup [] = []
 answered setup (step ∷ earlier) =
-    let before = sight_in setup.slots (answered setup earlier) in
+    let before = snapshot_in setup.slots (answered setup earlier) in
     record { before = before; done = done_by setup before step } ∷ answered setup earlier
 
 -- what the sink has after these steps
-abbrev pub sight_of : Setup → List Step → Sight
-sight_of setup steps = sight_in setup.slots (answered setup steps)
+abbrev pub snapshot_of : Setup → List Step → Snapshot
+snapshot_of setup steps = snapshot_in setup.slots (answered setup steps)

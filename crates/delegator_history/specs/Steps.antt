@@ -5,7 +5,7 @@ use Rattle.std.specs.Str.{bytes_eq}
 use Rattle.bass_operations.specs.declared.wishes.Wish.{Wish}
 use Rattle.pacs_records.specs.declared.capability.Capability.{Capability}
 use Rattle.pacs_records.specs.declared.record.PacRecord.{PacRecord}
-use Rattle.delegator_history.specs.Sights.{Wanted, Entry, Place, idle, on_train, on_group, Sight, slot_of, is_on, is_on_group, entry_at}
+use Rattle.delegator_history.specs.Snapshots.{Wanted, Entry, Place, idle, on_train, on_group, Snapshot, slot_of, is_on, is_on_group, entry_at}
 
 -- what was done by a step
 pub data Done : Type 0 where
@@ -13,7 +13,7 @@ pub data Done : Type 0 where
   added : (slot : ℕ) (entry : Entry) → Done  -- an accepted Add Source
   modified : (slot : ℕ) (wanted : Wanted) → Done  -- an accepted Modify Source
   removed : (slot : ℕ) → Done  -- an accepted Remove Source
-  tuned : Done  -- put on a group of no slot
+  tuned : Done  -- synchronized to a BIG of no slot
   -- a train of the slot answered NoBase to NoneTaken; from BadGroup on with whether a Broadcast_Code is required
   followed : (slot : ℕ) (encrypted : Option Bool) → Done
   joined : (slot : ℕ) (encrypted : Bool) (taken : List ℕ) → Done  -- a train of the slot answered OnGroup
@@ -34,10 +34,10 @@ wishes_at None = []
 wishes_at (Some entry) = entry.wanted.wishes
 
 -- the place after a Modify Source of a slot whose train or group the sink is on, where it changes
-abbrev pub place_wanted : Sight → ℕ → Wanted → Option Place
-place_wanted sight slot wanted =
+abbrev pub place_wanted : Snapshot → ℕ → Wanted → Option Place
+place_wanted snapshot slot wanted =
     if wanted.pa_sync == 0 then Some idle
-    else (if is_on_group sight.place slot && not (same_streams wanted.wishes (wishes_at (entry_at sight.slots slot))) then Some (on_train slot) else None)
+    else (if is_on_group snapshot.place slot && not (same_streams wanted.wishes (wishes_at (entry_at snapshot.slots slot))) then Some (on_train slot) else None)
 
 -- the place after the group was left
 abbrev pub place_left : Place → Option Place
@@ -47,17 +47,17 @@ place_left (on_group None) = Some idle
 place_left (on_group (Some slot)) = Some (on_train slot)
 
 -- the place that a step gives the sink, where it gives one
-abbrev pub place_given : Sight → Done → Option Place
-place_given sight (modified slot wanted) = if is_on sight.place slot then place_wanted sight slot wanted else None
-place_given sight tuned = Some (on_group None)
-place_given sight (followed slot encrypted) = Some (on_train slot)
-place_given sight (joined slot encrypted taken) = Some (on_group (Some slot))
-place_given sight lost = Some idle
-place_given sight left = place_left sight.place
-place_given sight _ = None
+abbrev pub place_given : Snapshot → Done → Option Place
+place_given snapshot (modified slot wanted) = if is_on snapshot.place slot then place_wanted snapshot slot wanted else None
+place_given snapshot tuned = Some (on_group None)
+place_given snapshot (followed slot encrypted) = Some (on_train slot)
+place_given snapshot (joined slot encrypted taken) = Some (on_group (Some slot))
+place_given snapshot lost = Some idle
+place_given snapshot left = place_left snapshot.place
+place_given snapshot _ = None
 
-abbrev pub place_after : Sight → Done → Place
-place_after sight done = unwrap_or (place_given sight done) sight.place
+abbrev pub place_after : Snapshot → Done → Place
+place_after snapshot done = unwrap_or (place_given snapshot done) snapshot.place
 
 -- ---- the slots
 
@@ -103,16 +103,16 @@ capability_after _ capability = capability
 -- ---- all of it
 
 -- a place that is given changes what goes with it, to what is given with it
-abbrev pub placed : Option Place → Option Bool → Option (List ℕ) → Sight → Sight
-placed None encryption taken sight = sight
-placed (Some place) encryption taken sight = record sight {
+abbrev pub placed : Option Place → Option Bool → Option (List ℕ) → Snapshot → Snapshot
+placed None encryption taken snapshot = snapshot
+placed (Some place) encryption taken snapshot = record snapshot {
   place = place;
-  encrypted = encrypted_on (slot_of place) sight.place encryption sight.encrypted;
-  taken = taken_on place taken sight.taken;
+  encrypted = encrypted_on (slot_of place) snapshot.place encryption snapshot.encrypted;
+  taken = taken_on place taken snapshot.taken;
 }
 
-abbrev pub after : Done → Sight → Sight
-after done sight = placed (place_given sight done) (encryption_given done) (taken_given done) (record sight {
-  slots = slots_after done sight.slots;
-  capability = capability_after done sight.capability;
+abbrev pub after : Done → Snapshot → Snapshot
+after done snapshot = placed (place_given snapshot done) (encryption_given done) (taken_given done) (record snapshot {
+  slots = slots_after done snapshot.slots;
+  capability = capability_after done snapshot.capability;
 })

@@ -19,10 +19,10 @@ use Rattle.ltv_codec.specs.declared.ltvs.Ltv.{Ltv}
 use Rattle.ltv_codec.specs.Values.{first_of}
 use Rattle.pacs_records.specs.declared.capability.Capability.{Capability}
 use Rattle.pacs_records.specs.Reasons.{stream_not_taken}
-use Rattle.sync_reference.specs.Joining.{Joining}
+use Rattle.sync_reference.specs.BigSync.{BigSync}
 use Rattle.delegator_history.specs.declared.train_heard.TrainHeard.{TrainHeard}
 use Rattle.delegator_history.specs.declared.train_heard.TrainHeard.TheVariants as answers
-use Rattle.delegator_history.specs.Sights.{Entry, Place, Sight, idle, on_train, on_group, is_on_group, entry_at}
+use Rattle.delegator_history.specs.Snapshots.{Entry, Place, Snapshot, idle, on_train, on_group, is_on_group, entry_at}
 use Rattle.delegator_history.specs.Steps.{Done, nothing, followed, joined, wishes_at}
 use Rattle.delegator_history.specs.Writes.{has, has_source, slot_where}
 
@@ -36,7 +36,7 @@ pub record Train : Type 0 where
   pub acad : List ℕ
   pub now : ℕ
 
--- the limits of a sink: the streams that it takes at once, its slots, and how far a group may reach
+-- the limits of a sink: the streams that it takes at once, its slots, and the greatest horizon of a group
 pub record Setup : Type 0 where
   pub streams : ℕ
   pub slots : ℕ
@@ -48,10 +48,10 @@ pub record Settings : Type 0 where
   pub mtu : Option ℕ
 
 -- what a train brings, with the slot that it is of
-pub data Brought : Type 0 where
-  ignored : (answer : TrainHeard) → Brought  -- one of the first four answers
-  heard : (slot : ℕ) (answer : TrainHeard) (encrypted : Option Bool) → Brought  -- NoBase to NoneTaken
-  taken : (slot : ℕ) (bits : List ℕ) (encrypted : Bool) (joining : Joining) → Brought  -- OnGroup
+pub data TrainOutcome : Type 0 where
+  ignored : (answer : TrainHeard) → TrainOutcome  -- one of the first four answers
+  heard : (slot : ℕ) (answer : TrainHeard) (encrypted : Option Bool) → TrainOutcome  -- NoBase to NoneTaken
+  taken : (slot : ℕ) (bits : List ℕ) (encrypted : Bool) (big_sync : BigSync) → TrainOutcome  -- OnGroup
 
 -- ---- the streams that are taken
 
@@ -102,8 +102,8 @@ big_info_in acad = found_in (first_of 0x2C) (ads_of acad)
 abbrev pub offset_of : BigInfo → ℕ
 offset_of info = info.big_offset * (if info.big_offset_units == 1 then 300 else 30)
 
-abbrev pub joining_of : Train → Endpoint → BigInfo → ℕ → Joining
-joining_of train base info which = record {
+abbrev pub big_sync_of : Train → Endpoint → BigInfo → ℕ → BigSync
+big_sync_of train base info which = record {
   info = info;
   which = which;
   first = info.bis_payload_count / info.bn;
@@ -114,29 +114,29 @@ joining_of train base info which = record {
 -- ---- the answers, each behind those before it
 
 -- a sink takes one stream at least, so there is no candidate exactly where no stream is among the first
-abbrev pub by_streams : ℕ → Train → Endpoint → BigInfo → Bool → List (List ℕ) → Brought
+abbrev pub by_streams : ℕ → Train → Endpoint → BigInfo → Bool → List (List ℕ) → TrainOutcome
 by_streams slot train base info encrypted streams =
     if are_none streams then heard slot answers.NoneTaken (Some encrypted)
-    else taken slot (map (set_with 0) streams) encrypted (joining_of train base info (sets_with 0 streams))
+    else taken slot (map (set_with 0) streams) encrypted (big_sync_of train base info (sets_with 0 streams))
 
-abbrev pub by_group : Setup → Capability → List Wish → ℕ → Train → Endpoint → BigInfo → Bool → Option GroupFault → Brought
+abbrev pub by_group : Setup → Capability → List Wish → ℕ → Train → Endpoint → BigInfo → Bool → Option GroupFault → TrainOutcome
 by_group setup capability wishes slot train base info encrypted (Some fault) = heard slot (answers.BadGroup fault) (Some encrypted)
 by_group setup capability wishes slot train base info encrypted None =
     by_streams slot train base info encrypted (first_candidates capability base info.num_bis setup.streams wishes base.subgroups)
 
-abbrev pub by_info : Setup → Capability → List Wish → ℕ → Train → Endpoint → Bool → Result BigInfo BigFault → Brought
+abbrev pub by_info : Setup → Capability → List Wish → ℕ → Train → Endpoint → Bool → Result BigInfo BigFault → TrainOutcome
 by_info setup capability wishes slot train base encrypted (Err fault) = heard slot answers.BadBigInfo None
 by_info setup capability wishes slot train base encrypted (Ok info) = by_group setup capability wishes slot train base info encrypted (first_fault setup.horizon info)
 
-abbrev pub by_big_info : Setup → Capability → List Wish → ℕ → Train → Endpoint → Option (List ℕ) → Brought
+abbrev pub by_big_info : Setup → Capability → List Wish → ℕ → Train → Endpoint → Option (List ℕ) → TrainOutcome
 by_big_info setup capability wishes slot train base None = heard slot answers.NoBigInfo None
 by_big_info setup capability wishes slot train base (Some octets) = by_info setup capability wishes slot train base (length octets == 57) (info_of octets)
 
-abbrev pub by_endpoint : Setup → Capability → List Wish → ℕ → Train → Result Endpoint BaseFault → Brought
+abbrev pub by_endpoint : Setup → Capability → List Wish → ℕ → Train → Result Endpoint BaseFault → TrainOutcome
 by_endpoint setup capability wishes slot train (Err fault) = heard slot answers.BadBase None
 by_endpoint setup capability wishes slot train (Ok base) = by_big_info setup capability wishes slot train base (big_info_in train.acad)
 
-abbrev pub by_base : Setup → Capability → List Wish → ℕ → Train → Option (List ℕ) → Brought
+abbrev pub by_base : Setup → Capability → List Wish → ℕ → Train → Option (List ℕ) → TrainOutcome
 by_base setup capability wishes slot train None = heard slot answers.NoBase None
 by_base setup capability wishes slot train (Some octets) = by_endpoint setup capability wishes slot train (base_of octets)
 
@@ -146,38 +146,38 @@ is_elsewhere idle slot = false
 is_elsewhere (on_train other) slot = not (other == slot)
 is_elsewhere (on_group other) slot = not (is_on_group (on_group other) slot)
 
-abbrev pub by_slot : Setup → Sight → Train → Option ℕ → Brought
-by_slot setup sight train None = ignored answers.NotWanted
-by_slot setup sight train (Some slot) =
-    if is_elsewhere sight.place slot then ignored answers.OtherTrain
-    else (if is_on_group sight.place slot then ignored answers.AlreadyOnGroup
-    else by_base setup sight.capability (wishes_at (entry_at sight.slots slot)) slot train (base_in train.adv))
+abbrev pub by_slot : Setup → Snapshot → Train → Option ℕ → TrainOutcome
+by_slot setup snapshot train None = ignored answers.NotWanted
+by_slot setup snapshot train (Some slot) =
+    if is_elsewhere snapshot.place slot then ignored answers.OtherTrain
+    else (if is_on_group snapshot.place slot then ignored answers.AlreadyOnGroup
+    else by_base setup snapshot.capability (wishes_at (entry_at snapshot.slots slot)) slot train (base_in train.adv))
 
 -- the slot has the source, and its train is wanted
 abbrev pub is_wanted : ℕ → ℕ → List ℕ → Option Entry → Bool
 is_wanted address_type sid broadcast_id slot = has_source address_type sid broadcast_id slot && has (λ entry. not (entry.wanted.pa_sync == 0)) slot
 
-abbrev pub by_broadcast_id : Setup → Sight → Train → Option (List ℕ) → Brought
-by_broadcast_id setup sight train None = ignored answers.NoBroadcastId
-by_broadcast_id setup sight train (Some id) = by_slot setup sight train (slot_where (is_wanted train.address_type train.sid id) 0 sight.slots)
+abbrev pub by_broadcast_id : Setup → Snapshot → Train → Option (List ℕ) → TrainOutcome
+by_broadcast_id setup snapshot train None = ignored answers.NoBroadcastId
+by_broadcast_id setup snapshot train (Some id) = by_slot setup snapshot train (slot_where (is_wanted train.address_type train.sid id) 0 snapshot.slots)
 
 -- what a train brings
-abbrev pub brought_by : Setup → Sight → Train → Brought
-brought_by setup sight train = by_broadcast_id setup sight train (broadcast_id_of train.ext)
+abbrev pub outcome_by : Setup → Snapshot → Train → TrainOutcome
+outcome_by setup snapshot train = by_broadcast_id setup snapshot train (broadcast_id_of train.ext)
 
 -- the group that it puts the sink on
-abbrev pub joining_in : Brought → Option Joining
-joining_in (ignored answer) = None
-joining_in (heard slot answer encrypted) = None
-joining_in (taken slot bits encrypted joining) = Some joining
+abbrev pub big_sync_in : TrainOutcome → Option BigSync
+big_sync_in (ignored answer) = None
+big_sync_in (heard slot answer encrypted) = None
+big_sync_in (taken slot bits encrypted big_sync) = Some big_sync
 
-abbrev pub answer_of : Brought → TrainHeard
+abbrev pub answer_of : TrainOutcome → TrainHeard
 answer_of (ignored answer) = answer
 answer_of (heard slot answer encrypted) = answer
-answer_of (taken slot bits encrypted joining) = answers.OnGroup joining.which
+answer_of (taken slot bits encrypted big_sync) = answers.OnGroup big_sync.which
 
 -- what it does
-abbrev pub done_brought : Brought → Done
-done_brought (ignored answer) = nothing
-done_brought (heard slot answer encrypted) = followed slot encrypted
-done_brought (taken slot bits encrypted joining) = joined slot encrypted bits
+abbrev pub done_by_outcome : TrainOutcome → Done
+done_by_outcome (ignored answer) = nothing
+done_by_outcome (heard slot answer encrypted) = followed slot encrypted
+done_by_outcome (taken slot bits encrypted big_sync) = joined slot encrypted bits

@@ -7,8 +7,8 @@ use Rattle.receive_state.specs.declared.state.Encryption.{Encryption}
 use Rattle.receive_state.specs.declared.state.Encryption.TheVariants as keys
 use Rattle.receive_state.specs.declared.state.GroupState.{GroupState}
 use Rattle.receive_state.specs.declared.state.ReceiveState.{ReceiveState}
-use Rattle.receive_state.specs.Layout.{spelling}
-use Rattle.delegator_history.specs.Sights.{Entry, Place, Sight, is_on, is_on_group, entry_at}
+use Rattle.receive_state.specs.Layout.{encoding}
+use Rattle.delegator_history.specs.Snapshots.{Entry, Place, Snapshot, is_on, is_on_group, entry_at}
 
 -- how the sink stands to a slot: on its train or group, a Broadcast_Code required, and the streams taken of each subgroup
 pub record Status : Type 0 where
@@ -45,16 +45,16 @@ received status entry = record {
 }
 
 -- the state of a slot
-abbrev pub state_at : Sight → ℕ → Option ReceiveState
-state_at sight slot = option_map (received (status_of sight.place sight.encrypted sight.taken slot)) (entry_at sight.slots slot)
+abbrev pub state_at : Snapshot → ℕ → Option ReceiveState
+state_at snapshot slot = option_map (received (status_of snapshot.place snapshot.encrypted snapshot.taken slot)) (entry_at snapshot.slots slot)
 
 -- the octets of a state
 abbrev pub value : Option ReceiveState → List ℕ
 value None = []
-value (Some state) = spelling state
+value (Some state) = encoding state
 
-abbrev pub value_at : Sight → ℕ → List ℕ
-value_at sight slot = value (state_at sight slot)
+abbrev pub value_at : Snapshot → ℕ → List ℕ
+value_at snapshot slot = value (state_at snapshot slot)
 
 -- some bit of a stream is set
 abbrev pub HasBit : ReceiveState → Type 0

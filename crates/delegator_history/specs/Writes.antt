@@ -14,7 +14,7 @@ use Rattle.delegator_history.specs.declared.replies.Cause.{Cause}
 use Rattle.delegator_history.specs.declared.replies.Cause.TheVariants as causes
 use Rattle.delegator_history.specs.declared.replies.Reply.{Reply}
 use Rattle.delegator_history.specs.declared.replies.Reply.TheVariants.{Accepted, Refused}
-use Rattle.delegator_history.specs.Sights.{Entry, Sight}
+use Rattle.delegator_history.specs.Snapshots.{Entry, Snapshot}
 use Rattle.delegator_history.specs.Steps.{Done, nothing, added, modified, removed, after}
 use Rattle.delegator_history.specs.Values.{state_at, value_at}
 
@@ -71,10 +71,10 @@ operated slots (Remove source_id) = removed (unwrap_or (slot_with source_id slot
 -- ---- the causes
 
 -- the value that an Add or a Modify Source gives a slot
-abbrev pub value_written : Sight → Done → List ℕ
-value_written sight (added slot entry) = value_at (after (added slot entry) sight) slot
-value_written sight (modified slot wanted) = value_at (after (modified slot wanted) sight) slot
-value_written sight done = []
+abbrev pub value_written : Snapshot → Done → List ℕ
+value_written snapshot (added slot entry) = value_at (after (added slot entry) snapshot) slot
+value_written snapshot (modified slot wanted) = value_at (after (modified slot wanted) snapshot) slot
+value_written snapshot done = []
 
 -- synchronised, or a bit of a stream is set
 abbrev pub is_synced : Option ReceiveState → Bool
@@ -85,17 +85,17 @@ abbrev pub is_unknown : List (Option Entry) → ℕ → Bool
 is_unknown slots source_id = is_none (slot_with source_id slots)
 
 -- the cause holds of an operation
-abbrev pub holds : Sight → Operation → Cause → Bool
-holds sight (Modify modify) causes.SourceUnknown = is_unknown sight.slots modify.source_id
-holds sight (Code source_id code) causes.SourceUnknown = is_unknown sight.slots source_id
-holds sight (Remove source_id) causes.SourceUnknown = is_unknown sight.slots source_id
-holds sight (Code source_id code) causes.NoDecrypt = true
-holds sight (Add add) causes.Known = is_some (slot_where (has_source add.address_type add.sid add.broadcast_id) 0 sight.slots)
-holds sight (Add add) causes.NoRoom = is_none (empty_slot sight.slots)
-holds sight (Add add) causes.ValueTooLong = nat_lt 512 (length (value_written sight (operated sight.slots (Add add))))
-holds sight (Modify modify) causes.ValueTooLong = nat_lt 512 (length (value_written sight (operated sight.slots (Modify modify))))
-holds sight (Remove source_id) causes.StillSynced = is_synced (state_at sight (unwrap_or (slot_with source_id sight.slots) 0))
-holds sight _ _ = false
+abbrev pub holds : Snapshot → Operation → Cause → Bool
+holds snapshot (Modify modify) causes.SourceUnknown = is_unknown snapshot.slots modify.source_id
+holds snapshot (Code source_id code) causes.SourceUnknown = is_unknown snapshot.slots source_id
+holds snapshot (Remove source_id) causes.SourceUnknown = is_unknown snapshot.slots source_id
+holds snapshot (Code source_id code) causes.NoDecrypt = true
+holds snapshot (Add add) causes.Known = is_some (slot_where (has_source add.address_type add.sid add.broadcast_id) 0 snapshot.slots)
+holds snapshot (Add add) causes.NoRoom = is_none (empty_slot snapshot.slots)
+holds snapshot (Add add) causes.ValueTooLong = nat_lt 512 (length (value_written snapshot (operated snapshot.slots (Add add))))
+holds snapshot (Modify modify) causes.ValueTooLong = nat_lt 512 (length (value_written snapshot (operated snapshot.slots (Modify modify))))
+holds snapshot (Remove source_id) causes.StillSynced = is_synced (state_at snapshot (unwrap_or (slot_with source_id snapshot.slots) 0))
+holds snapshot _ _ = false
 
 -- the causes of an operation, in the order of test
 abbrev pub operation_causes : List Cause
@@ -110,13 +110,13 @@ cause_of_fault (faults.Rfu place) = Some causes.Rfu
 cause_of_fault (faults.BisTwice bis) = Some causes.BisTwice
 cause_of_fault faults.Memory = None
 
-abbrev pub cause_read : Sight → Result Operation OpFault → Option Cause
-cause_read sight (Err fault) = cause_of_fault fault
-cause_read sight (Ok op) = find (holds sight op) operation_causes
+abbrev pub cause_read : Snapshot → Result Operation OpFault → Option Cause
+cause_read snapshot (Err fault) = cause_of_fault fault
+cause_read snapshot (Ok op) = find (holds snapshot op) operation_causes
 
 -- the first cause that holds
-abbrev pub cause_of : Sight → List ℕ → Option Cause
-cause_of sight octets = cause_read sight (op_of octets)
+abbrev pub cause_of : Snapshot → List ℕ → Option Cause
+cause_of snapshot octets = cause_read snapshot (op_of octets)
 
 -- ---- the answer
 
@@ -131,13 +131,13 @@ abbrev pub reply_by : Option Cause → Reply
 reply_by None = Accepted
 reply_by (Some cause) = Refused (code_of cause) cause
 
-abbrev pub reply_of : Sight → List ℕ → Reply
-reply_of sight octets = reply_by (cause_of sight octets)
+abbrev pub reply_of : Snapshot → List ℕ → Reply
+reply_of snapshot octets = reply_by (cause_of snapshot octets)
 
-abbrev pub done_read : Sight → Result Operation OpFault → Option Cause → Done
-done_read sight (Ok op) None = operated sight.slots op
-done_read sight read cause = nothing
+abbrev pub done_read : Snapshot → Result Operation OpFault → Option Cause → Done
+done_read snapshot (Ok op) None = operated snapshot.slots op
+done_read snapshot read cause = nothing
 
 -- what a write does
-abbrev pub done_by_write : Sight → List ℕ → Done
-done_by_write sight octets = done_read sight (op_of octets) (cause_of sight octets)
+abbrev pub done_by_write : Snapshot → List ℕ → Done
+done_by_write snapshot octets = done_read snapshot (op_of octets) (cause_of snapshot octets)

@@ -1,14 +1,14 @@
 //! What an announced train is, and what it makes of a sink.
 ghost use Rattle.std.specs.Prelude.{◌≡◌, ℕ, List, Bool};
-ghost use Rattle.bcast_base.specs.Spelling.{IsOctets};
+ghost use Rattle.bcast_base.specs.Encoding.{IsOctets};
 ghost use Rattle.base_grammar.specs.Layout.{Endpoint};
 ghost use Rattle.big_info.specs.declared.info.BigInfo.{BigInfo};
 ghost use Rattle.announcement_train.specs.Layout.{IsTrain};
 ghost use Rattle.announcement_train.specs.Told.{Tells};
 ghost use Rattle.announcement_train.specs.declared.train.Train.{Train};
-ghost use Rattle.delegator_history.specs.Sights.{Sight};
-ghost use Rattle.delegator_history.specs.Trains.{Setup, brought_by, taken};
-ghost use Rattle.sync_reference.specs.Joining.{Joining};
+ghost use Rattle.delegator_history.specs.Snapshots.{Snapshot};
+ghost use Rattle.delegator_history.specs.Trains.{Setup, outcome_by, taken};
+ghost use Rattle.sync_reference.specs.BigSync.{BigSync};
 ghost use Rattle.delegator_history.specs.Announced.{IsOnGroup, heard_as};
 ghost use Rattle.delegator_history.specs.Octets.{MayAnnounce, train_of};
 ghost use Rattle.delegator_history.specs.Rows.{IsWorked, a_train};
@@ -25,14 +25,14 @@ pub fn a_source_has_one_train()
     ensures worked { IsWorked a_train }
 {}
 
-/// A sink that is put on a group by a train that tells of an event of it is where the group's source is: its group has the
+/// A sink that is synchronized to a BIG by a train that tells of an event of it is where the group's source is: its group has the
 /// numbers of the source's, which is not encrypted; its first event is the one that is told of, its anchor is that event's,
 /// and its presentation delay is that of the BASE. It takes some streams, each with an index from 1 to Num_BIS.
 pub fn a_sink_is_put_where_its_source_is()
-    ensures { (setup : Setup) (sight : Sight) (address_type sid : ℕ) (train : Train) (broadcast_id : List ℕ) (base : Endpoint)
+    ensures { (setup : Setup) (snapshot : Snapshot) (address_type sid : ℕ) (train : Train) (broadcast_id : List ℕ) (base : Endpoint)
         (info : BigInfo) (event anchor : ℕ)
-        (slot : ℕ) (bits : List ℕ) (encrypted : Bool) (joining : Joining)
+        (slot : ℕ) (bits : List ℕ) (encrypted : Bool) (big_sync : BigSync)
         → Tells train broadcast_id base info event anchor
-        → brought_by setup sight (heard_as address_type sid train) ≡ taken slot bits encrypted joining
-        → IsOnGroup base info event anchor joining }
+        → outcome_by setup snapshot (heard_as address_type sid train) ≡ taken slot bits encrypted big_sync
+        → IsOnGroup base info event anchor big_sync }
 {}

@@ -2,8 +2,8 @@
 ghost use Rattle.std.specs.Prelude.{◌≡◌, ◌↔◌, ◌∷◌, ◌++◌, drop, ℕ, List, Option, Some};
 ghost use Rattle.delegator_history.specs.LastGiven.{last_given, IsLastGiven};
 ghost use Rattle.delegator_history.specs.Notices.{changes, is_told, waiting};
-ghost use Rattle.delegator_history.specs.Sights.{Sight, on_group};
-ghost use Rattle.delegator_history.specs.States.{Step, done_by, sight_of};
+ghost use Rattle.delegator_history.specs.Snapshots.{Snapshot, on_group};
+ghost use Rattle.delegator_history.specs.States.{Step, done_by, snapshot_of};
 ghost use Rattle.delegator_history.specs.Steps.{after};
 ghost use Rattle.delegator_history.specs.Trains.{Setup};
 ghost use Rattle.delegator_history.specs.Values.{state_at, HasBit};
@@ -17,15 +17,15 @@ pub fn last_given_is_last<S, A>()
 /// What a sink has after a step is what the step makes of what it had, and the notices that wait are those that waited, but
 /// for one that was handed out, and those of the step.
 pub fn a_step_goes_on()
-    ensures sight { (setup : Setup) (step : Step) (steps : List Step)
-        → sight_of setup (step ∷ steps) ≡ after (done_by setup (sight_of setup steps) step) (sight_of setup steps) }
+    ensures snapshot { (setup : Setup) (step : Step) (steps : List Step)
+        → snapshot_of setup (step ∷ steps) ≡ after (done_by setup (snapshot_of setup steps) step) (snapshot_of setup steps) }
     ensures waiting { (setup : Setup) (step : Step) (steps : List Step)
-        → waiting setup (step ∷ steps) ≡ drop (is_told step) (waiting setup steps) ++ changes setup.slots (sight_of setup steps)
-        (sight_of setup (step ∷ steps)) }
+        → waiting setup (step ∷ steps) ≡ drop (is_told step) (waiting setup steps) ++ changes setup.slots (snapshot_of setup steps)
+        (snapshot_of setup (step ∷ steps)) }
 {}
 
 /// A set bit of a stream stands only in the slot whose group the sink is on.
 pub fn bits_stand_on_the_group()
-    ensures { (sight : Sight) (slot : ℕ) (state : ReceiveState) → state_at sight slot ≡ Some state → HasBit state
-        → sight.place ≡ on_group (Some slot) }
+    ensures { (snapshot : Snapshot) (slot : ℕ) (state : ReceiveState) → state_at snapshot slot ≡ Some state → HasBit state
+        → snapshot.place ≡ on_group (Some slot) }
 {}

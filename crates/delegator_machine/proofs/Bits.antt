@@ -1,7 +1,7 @@
 -- A set bit of a stream stands only in the slot whose group the sink is on, whatever the sink has.
 use Rattle.delegator_history.proofs.Citable.{bits_on}
-use Rattle.delegator_history.specs.Sights.{Sight, entry_at}
+use Rattle.delegator_history.specs.Snapshots.{Snapshot, entry_at}
 use Rattle.delegator_machine.specs.Bits.{BitsStand}
 
-pub bits_stand : (sight : Sight) → BitsStand sight
-bits_stand sight = record { only = λ slot state is has. bits_on sight.place sight.encrypted sight.taken slot (entry_at sight.slots slot) state is has }
+pub bits_stand : (snapshot : Snapshot) → BitsStand snapshot
+bits_stand snapshot = record { only = λ slot state is has. bits_on snapshot.place snapshot.encrypted snapshot.taken slot (entry_at snapshot.slots slot) state is has }

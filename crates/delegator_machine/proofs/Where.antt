@@ -2,17 +2,17 @@
 use Rattle.std.proofs.Common.{◌≡◌, Bool, true, false, List, [], ◌∷◌, Option, Some, None, option_map, refl, sym, ◌∙◌, ap}
 use Rattle.std.specs.Option.{option_or}
 use Rattle.std.specs.Prelude.{is_some, if◌then◌else◌}
-use Rattle.delegator_history.specs.Sights.{Sight}
-use Rattle.delegator_history.specs.States.{Step, answered, sight_of}
+use Rattle.delegator_history.specs.Snapshots.{Snapshot}
+use Rattle.delegator_history.specs.States.{Step, answered, snapshot_of}
 use Rattle.delegator_history.specs.Steps.{after}
 use Rattle.delegator_history.specs.Trains.{Setup}
-use Rattle.sync_reference.specs.Joining.{Joining}
-use Rattle.delegator_history.proofs.Citable.{sight_goes_on}
+use Rattle.sync_reference.specs.BigSync.{BigSync}
+use Rattle.delegator_history.proofs.Citable.{snapshot_goes_on}
 use Rattle.group_sink.specs.Calls as sinks
 use Rattle.group_sink.specs.Calls.{place}
 use Rattle.delegator_control.specs.Groups.{has_group}
 use Rattle.delegator_machine.specs.Calls.{Call, control, hear, tick, steps_of}
-use Rattle.delegator_machine.specs.Groups.{joining_given, last_joining, by_numbers, with_leave, with_step, group_calls}
+use Rattle.delegator_machine.specs.Groups.{big_sync_given, last_big_sync, by_numbers, with_leave, with_step, group_calls}
 use Rattle.delegator_machine.proofs.Places.{comes_on, stays_off}
 
 -- ---- one step
@@ -23,59 +23,59 @@ leaves_both true true past before off = before
 leaves_both true false past before off = refl
 leaves_both false is past before off = before ∙ sym (off refl)
 
-step_both : (given : Option Joining) (before after : Sight) (past : List sinks.Call) → is_some (place past) ≡ has_group before.place
+step_both : (given : Option BigSync) (before after : Snapshot) (past : List sinks.Call) → is_some (place past) ≡ has_group before.place
     → (given ≡ None → has_group before.place ≡ false → has_group after.place ≡ false)
-    → ((joining : Joining) → given ≡ Some joining → has_group after.place ≡ true)
+    → ((big_sync : BigSync) → given ≡ Some big_sync → has_group after.place ≡ true)
     → is_some (place (with_step given before after past)) ≡ has_group after.place
 step_both None before after past both off on = leaves_both (has_group before.place) (has_group after.place) past both (off refl)
-step_both (Some joining) before after past both off on = sym (on joining refl)
+step_both (Some big_sync) before after past both off on = sym (on big_sync refl)
 
-leaves_where : (was is : Bool) (past : List sinks.Call) (last : Option Joining) → place past ≡ (if was then option_map by_numbers last else None)
+leaves_where : (was is : Bool) (past : List sinks.Call) (last : Option BigSync) → place past ≡ (if was then option_map by_numbers last else None)
     → (was ≡ false → is ≡ false) → place (with_leave was is past) ≡ (if is then option_map by_numbers last else None)
 leaves_where true true past last before off = before
 leaves_where true false past last before off = refl
 leaves_where false is past last before off = before ∙ ap (λ on. if on then option_map by_numbers last else None) (sym (off refl))
 
-step_where : (given : Option Joining) (before after : Sight) (past : List sinks.Call) (last : Option Joining)
+step_where : (given : Option BigSync) (before after : Snapshot) (past : List sinks.Call) (last : Option BigSync)
     → place past ≡ (if has_group before.place then option_map by_numbers last else None)
     → (given ≡ None → has_group before.place ≡ false → has_group after.place ≡ false)
-    → ((joining : Joining) → given ≡ Some joining → has_group after.place ≡ true)
+    → ((big_sync : BigSync) → given ≡ Some big_sync → has_group after.place ≡ true)
     → place (with_step given before after past) ≡ (if has_group after.place then option_map by_numbers (option_or given last) else None)
 step_where None before after past last is off on = leaves_where (has_group before.place) (has_group after.place) past last is (off refl)
-step_where (Some joining) before after past last is off on =
-    ap (λ there. if there then Some (by_numbers joining) else None) (sym (on joining refl))
+step_where (Some big_sync) before after past last is off on =
+    ap (λ there. if there then Some (by_numbers big_sync) else None) (sym (on big_sync refl))
 
 -- ---- all calls
 
-off_after : (setup : Setup) (step : Step) (earlier : List Step) → joining_given setup (sight_of setup earlier) step ≡ None
-    → has_group (sight_of setup earlier).place ≡ false → has_group (sight_of setup (step ∷ earlier)).place ≡ false
+off_after : (setup : Setup) (step : Step) (earlier : List Step) → big_sync_given setup (snapshot_of setup earlier) step ≡ None
+    → has_group (snapshot_of setup earlier).place ≡ false → has_group (snapshot_of setup (step ∷ earlier)).place ≡ false
 off_after setup step earlier none off =
-    ap (λ (s : Sight). has_group s.place) (sight_goes_on setup step earlier) ∙ stays_off setup (sight_of setup earlier) step none off
+    ap (λ (s : Snapshot). has_group s.place) (snapshot_goes_on setup step earlier) ∙ stays_off setup (snapshot_of setup earlier) step none off
 
-on_after : (setup : Setup) (step : Step) (earlier : List Step) (joining : Joining) → joining_given setup (sight_of setup earlier) step ≡ Some joining
-    → has_group (sight_of setup (step ∷ earlier)).place ≡ true
-on_after setup step earlier joining is =
-    ap (λ (s : Sight). has_group s.place) (sight_goes_on setup step earlier) ∙ comes_on setup (sight_of setup earlier) step joining is
+on_after : (setup : Setup) (step : Step) (earlier : List Step) (big_sync : BigSync) → big_sync_given setup (snapshot_of setup earlier) step ≡ Some big_sync
+    → has_group (snapshot_of setup (step ∷ earlier)).place ≡ true
+on_after setup step earlier big_sync is =
+    ap (λ (s : Snapshot). has_group s.place) (snapshot_goes_on setup step earlier) ∙ comes_on setup (snapshot_of setup earlier) step big_sync is
 
-idle_first : (setup : Setup) → has_group (sight_of setup []).place ≡ false
+idle_first : (setup : Setup) → has_group (snapshot_of setup []).place ≡ false
 unfolding answered
 idle_first setup = refl
 
-pub both_on : (setup : Setup) (calls : List Call) → is_some (place (group_calls setup calls)) ≡ has_group (sight_of setup (steps_of calls)).place
+pub both_on : (setup : Setup) (calls : List Call) → is_some (place (group_calls setup calls)) ≡ has_group (snapshot_of setup (steps_of calls)).place
 both_on setup [] = sym (idle_first setup)
 both_on setup (control step ∷ calls) =
     let earlier : List Step = steps_of calls in
-    step_both (joining_given setup (sight_of setup earlier) step) (sight_of setup earlier) (sight_of setup (step ∷ earlier)) (group_calls setup calls)
+    step_both (big_sync_given setup (snapshot_of setup earlier) step) (snapshot_of setup earlier) (snapshot_of setup (step ∷ earlier)) (group_calls setup calls)
     (both_on setup calls) (off_after setup step earlier) (on_after setup step earlier)
 both_on setup (hear event bis subevent octets ∷ calls) = both_on setup calls
 both_on setup (tick event ∷ calls) = both_on setup calls
 
 pub where_it_is : (setup : Setup) (calls : List Call)
-    → place (group_calls setup calls) ≡ (if has_group (sight_of setup (steps_of calls)).place then option_map by_numbers (last_joining setup (steps_of calls)) else None)
-where_it_is setup [] = ap (λ on. if on then option_map by_numbers (last_joining setup []) else None) (sym (idle_first setup))
+    → place (group_calls setup calls) ≡ (if has_group (snapshot_of setup (steps_of calls)).place then option_map by_numbers (last_big_sync setup (steps_of calls)) else None)
+where_it_is setup [] = ap (λ on. if on then option_map by_numbers (last_big_sync setup []) else None) (sym (idle_first setup))
 where_it_is setup (control step ∷ calls) =
     let earlier : List Step = steps_of calls in
-    step_where (joining_given setup (sight_of setup earlier) step) (sight_of setup earlier) (sight_of setup (step ∷ earlier)) (group_calls setup calls)
-    (last_joining setup earlier) (where_it_is setup calls) (off_after setup step earlier) (on_after setup step earlier)
+    step_where (big_sync_given setup (snapshot_of setup earlier) step) (snapshot_of setup earlier) (snapshot_of setup (step ∷ earlier)) (group_calls setup calls)
+    (last_big_sync setup earlier) (where_it_is setup calls) (off_after setup step earlier) (on_after setup step earlier)
 where_it_is setup (hear event bis subevent octets ∷ calls) = where_it_is setup calls
 where_it_is setup (tick event ∷ calls) = where_it_is setup calls

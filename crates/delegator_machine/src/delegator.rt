@@ -3,8 +3,8 @@ ghost use Rattle.std.specs.Prelude.{IfOk, IsOk, IsSome, OnOk, OnErr};
 ghost use Rattle.bass_operations.specs.Reading.{op_of};
 ghost use Rattle.delegator_history.specs.Controls.{control_heard};
 ghost use Rattle.delegator_history.specs.Notices.{handed_out, mtu_in, waiting};
-ghost use Rattle.delegator_history.specs.Sights.{entry_at, slot_of};
-ghost use Rattle.delegator_history.specs.States.{control_heard as controlled, put_on, sight_of, told, train_lost, written};
+ghost use Rattle.delegator_history.specs.Snapshots.{entry_at, slot_of};
+ghost use Rattle.delegator_history.specs.States.{control_heard as controlled, sync_to_group, snapshot_of, notified, train_lost, written};
 ghost use Rattle.delegator_history.specs.Trains.{Setup};
 ghost use Rattle.delegator_history.specs.Values.{value_at};
 ghost use Rattle.delegator_history.specs.Writes.{reply_of};
@@ -29,7 +29,7 @@ use group_sink::GroupSink;
 use isoal_base::Hearing;
 use std::alloc::Global;
 use std::marker::Model;
-use sync_reference::Joining;
+use sync_reference::BigSync;
 use unit_outlets::{TakerFault, UnitTaker};
 
 /// A Scan Delegator: a Broadcast Sink that is told by assistants which sources to receive (Basic Audio Profile 1.0, section
@@ -49,7 +49,7 @@ impl Model for Delegator {
 
     ghost view = { λ a. record { scan = machine a.scan; sink = a.sink } };
 
-    ghost invariant = { λ a. BitsStand (machine a.scan).sight };
+    ghost invariant = { λ a. BitsStand (machine a.scan).snapshot };
 }
 
 impl Delegator {
@@ -64,7 +64,7 @@ impl Delegator {
         Delegator::within(alloc, streams, slots, Limits::VERSION_1)
     }
 
-    /// The same with 1 to 8 slots, and groups that reach as far as the limits say.
+    /// The same with 1 to 8 slots, and groups with at most the horizon of the limits.
     pub fn within(
         alloc: Global,
         streams: u8,
@@ -101,7 +101,7 @@ impl Delegator {
         requires delay { delay < 2 ^ 24 }
         ensures stands { (setup : Setup) (calls : List Call) → StandsFor setup calls self.old
             → OnOk result (StandsFor setup
-            (control (put_on (record {
+            (control (sync_to_group (record {
               info = group.now.info;
               which = which;
               first = event;
@@ -111,9 +111,9 @@ impl Delegator {
         ensures settings { settings_of self.new ≡ settings_of self.old }
         ensures err { OnErr result (self.new ≡ self.old) }
         ensures memory { (setup : Setup) (calls : List Call) → StandsFor setup calls self.old
-            → OnErr result ((0 < which) ⊎ IsSome (slot_of (sight_of setup (steps_of calls)).place)) }
+            → OnErr result ((0 < which) ⊎ IsSome (slot_of (snapshot_of setup (steps_of calls)).place)) }
     {
-        self.put_on(&Joining {
+        self.sync_to_group(&BigSync {
             group: *group,
             which,
             first: event,
@@ -124,17 +124,17 @@ impl Delegator {
 
     /// Puts the sink on a group of no slot: `tune` with its arguments as one. Memory is wanted only for streams, and where it was
     /// on the train or the group of a slot; all is then as before.
-    pub fn put_on(&mut self, joining: &Joining) -> Result<(), Memory>
+    pub fn sync_to_group(&mut self, big_sync: &BigSync) -> Result<(), Memory>
         ensures stands { (setup : Setup) (calls : List Call) → StandsFor setup calls self.old
-            → OnOk result (StandsFor setup (control (put_on joining.now) ∷ calls) self.new) }
+            → OnOk result (StandsFor setup (control (sync_to_group big_sync.now) ∷ calls) self.new) }
         ensures settings { settings_of self.new ≡ settings_of self.old }
         ensures err { OnErr result (self.new ≡ self.old) }
         ensures memory { (setup : Setup) (calls : List Call) → StandsFor setup calls self.old
-            → OnErr result ((0 < joining.now.which) ⊎ IsSome (slot_of (sight_of setup (steps_of calls)).place)) }
+            → OnErr result ((0 < big_sync.now.which) ⊎ IsSome (slot_of (snapshot_of setup (steps_of calls)).place)) }
     {
-        let receivers = self.sink.receivers(&by_numbers(joining))?;
+        let receivers = self.sink.receivers(&by_numbers(big_sync))?;
         self.scan.tune()?;
-        self.sink.put_on(receivers);
+        self.sink.sync_to_group(receivers);
         Ok(())
     }
 
@@ -144,13 +144,13 @@ impl Delegator {
     /// Source that is accepted; all is then as before.
     pub fn serve(&mut self, write: &[u8]) -> Result<Reply, Memory>
         ensures answer { (setup : Setup) (calls : List Call) → StandsFor setup calls self.old
-            → IfOk result (λ reply. reply ≡ reply_of (sight_of setup (steps_of calls)) write.now) }
+            → IfOk result (λ reply. reply ≡ reply_of (snapshot_of setup (steps_of calls)) write.now) }
         ensures stands { (setup : Setup) (calls : List Call) → StandsFor setup calls self.old
             → OnOk result (StandsFor setup (control (written write.now) ∷ calls) self.new) }
         ensures settings { settings_of self.new ≡ settings_of self.old }
         ensures err { OnErr result (self.new ≡ self.old) }
         ensures memory { (setup : Setup) (calls : List Call) → StandsFor setup calls self.old
-            → OnErr result (wants_memory (sight_of setup (steps_of calls)) (op_of write.now) ≡ true) }
+            → OnErr result (wants_memory (snapshot_of setup (steps_of calls)) (op_of write.now) ≡ true) }
         ensures operation { OnErr result (IsOk (op_of write.now)) }
     {
         let was_on_group = self.scan.is_on_group();
@@ -167,7 +167,7 @@ impl Delegator {
         ensures settings { settings_of self.new ≡ settings_of self.old }
         ensures err { OnErr result (self.new ≡ self.old) }
         ensures memory { (setup : Setup) (calls : List Call) → StandsFor setup calls self.old
-            → OnErr result (IsSome (slot_of (sight_of setup (steps_of calls)).place)) }
+            → OnErr result (IsSome (slot_of (snapshot_of setup (steps_of calls)).place)) }
     {
         let was_on_group = self.scan.is_on_group();
         self.scan.lost()?;
@@ -180,15 +180,15 @@ impl Delegator {
     /// of a slot; all is then as before.
     pub fn control(&mut self, pdu: &[u8]) -> Result<ControlHeard, Memory>
         ensures answer { (setup : Setup) (calls : List Call) → StandsFor setup calls self.old
-            → IfOk result (λ heard. heard ≡ control_heard (sight_of setup (steps_of calls)).place pdu.now) }
+            → IfOk result (λ heard. heard ≡ control_heard (snapshot_of setup (steps_of calls)).place pdu.now) }
         ensures stands { (setup : Setup) (calls : List Call) → StandsFor setup calls self.old
             → OnOk result (StandsFor setup (control (controlled pdu.now) ∷ calls) self.new) }
         ensures settings { settings_of self.new ≡ settings_of self.old }
         ensures err { OnErr result (self.new ≡ self.old) }
         ensures memory { (setup : Setup) (calls : List Call) → StandsFor setup calls self.old
-            → OnErr result (control_heard (sight_of setup (steps_of calls)).place pdu.now ≡ ControlHeard.Left) }
+            → OnErr result (control_heard (snapshot_of setup (steps_of calls)).place pdu.now ≡ ControlHeard.Left) }
         ensures slot { (setup : Setup) (calls : List Call) → StandsFor setup calls self.old
-            → OnErr result (IsSome (slot_of (sight_of setup (steps_of calls)).place)) }
+            → OnErr result (IsSome (slot_of (snapshot_of setup (steps_of calls)).place)) }
     {
         let was_on_group = self.scan.is_on_group();
         let heard = self.scan.control(pdu)?;
@@ -237,11 +237,11 @@ impl Delegator {
     /// The first notice that waits, its value cut to the MTU but three octets where an MTU is set. It takes no memory.
     pub fn next_notice(&mut self) -> Option<Notice>
         ensures notice { result ≡ option_map (handed_out self.old.scan.mtu) (slice_get self.old.scan.waiting 0) }
-        ensures step { self.new ≡ record self.old { scan = step_on told self.old.scan } }
+        ensures step { self.new ≡ record self.old { scan = step_on notified self.old.scan } }
         ensures answer { (setup : Setup) (calls : List Call) → StandsFor setup calls self.old
             → result ≡ option_map (handed_out (mtu_in (steps_of calls))) (slice_get (waiting setup (steps_of calls)) 0) }
         ensures stands { (setup : Setup) (calls : List Call) → StandsFor setup calls self.old
-            → StandsFor setup (control told ∷ calls) self.new }
+            → StandsFor setup (control notified ∷ calls) self.new }
         ensures settings { settings_of self.new ≡ settings_of self.old }
     {
         self.scan.next_notice()
@@ -260,9 +260,9 @@ impl Delegator {
     pub fn read_state(&self, slot: u8) -> Result<Octets, Memory>
         requires { slot < self.now.scan.setup.slots }
         ensures value { (setup : Setup) (calls : List Call) → StandsFor setup calls self.now
-            → IfOk result (λ octets. octets ≡ value_at (sight_of setup (steps_of calls)) slot) }
+            → IfOk result (λ octets. octets ≡ value_at (snapshot_of setup (steps_of calls)) slot) }
         ensures memory { (setup : Setup) (calls : List Call) → StandsFor setup calls self.now
-            → OnErr result (IsSome (entry_at (sight_of setup (steps_of calls)).slots slot)) }
+            → OnErr result (IsSome (entry_at (snapshot_of setup (steps_of calls)).slots slot)) }
     {
         self.scan.read_state(slot)
     }
@@ -271,7 +271,7 @@ impl Delegator {
     pub(crate) fn settle(&mut self, was_on_group: bool)
         ensures scan { self.new.scan ≡ self.old.scan }
         ensures sink { (calls : List sinks.Call) → SinkStands calls self.old.sink
-            → SinkStands (with_leave was_on_group (has_group self.old.scan.sight.place) calls) self.new.sink }
+            → SinkStands (with_leave was_on_group (has_group self.old.scan.snapshot.place) calls) self.new.sink }
     {
         if has_left(was_on_group, self.scan.is_on_group()) {
             self.sink.leave();

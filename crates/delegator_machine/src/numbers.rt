@@ -3,18 +3,18 @@ ghost use Rattle.delegator_history.specs.Announced.{numbers_alone};
 ghost use Rattle.delegator_machine.specs.Groups.{by_numbers};
 
 use big_info::{BigInfo, Group};
-use sync_reference::Joining;
+use sync_reference::BigSync;
 
 /// The same with the numbers of the group that a receiver goes by.
-pub(crate) fn by_numbers(joining: &Joining) -> Joining
-    ensures { result ≡ by_numbers joining.now }
+pub(crate) fn by_numbers(big_sync: &BigSync) -> BigSync
+    ensures { result ≡ by_numbers big_sync.now }
 {
-    Joining {
-        group: alone(&joining.group),
-        which: joining.which,
-        first: joining.first,
-        anchor: joining.anchor,
-        delay: joining.delay,
+    BigSync {
+        group: alone(&big_sync.group),
+        which: big_sync.which,
+        first: big_sync.first,
+        anchor: big_sync.anchor,
+        delay: big_sync.delay,
     }
 }
 

@@ -1,7 +1,7 @@
 //! What is set of a Scan Delegator: its capability, and the MTU.
 ghost use Rattle.std.specs.Prelude.{◌≡◌, ◌≤◌, ◌<◌, ◌∷◌, ◌++◌, [], List, Some, length, OnOk, OnErr, IfErr};
 ghost use Rattle.base_grammar.specs.Layout.{lc3};
-ghost use Rattle.delegator_history.specs.States.{contexts_set, locations_set, mtu_set, record_added, sight_of};
+ghost use Rattle.delegator_history.specs.States.{contexts_set, locations_set, mtu_set, record_added, snapshot_of};
 ghost use Rattle.delegator_history.specs.Trains.{Setup};
 ghost use Rattle.ltv_codec.specs.Layout.{AreLtvs};
 ghost use Rattle.pacs_records.specs.Layout.{greatest_value, value};
@@ -21,9 +21,9 @@ impl Delegator {
         requires caps { entry.codec ≡ lc3 → AreLtvs entry.caps }
         requires metadata { AreLtvs entry.metadata }
         ensures refused { (setup : Setup) (calls : List Call) → StandsFor setup calls self.old
-            → IfErr result (λ fault. RefusesPush fault (sight_of setup (steps_of calls)).capability.entries entry) }
+            → IfErr result (λ fault. RefusesPush fault (snapshot_of setup (steps_of calls)).capability.entries entry) }
         ensures fits { (setup : Setup) (calls : List Call) → StandsFor setup calls self.old
-            → OnOk result (length (value ((sight_of setup (steps_of calls)).capability.entries ++ entry ∷ [])) ≤ greatest_value) }
+            → OnOk result (length (value ((snapshot_of setup (steps_of calls)).capability.entries ++ entry ∷ [])) ≤ greatest_value) }
         ensures stands { (setup : Setup) (calls : List Call) → StandsFor setup calls self.old
             → OnOk result (StandsFor setup (control (record_added entry) ∷ calls) self.new) }
         ensures settings { settings_of self.new ≡ settings_of self.old }

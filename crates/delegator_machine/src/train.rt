@@ -1,9 +1,9 @@
 //! A train that is heard.
 ghost use Rattle.std.specs.Prelude.{◌≡◌, ◌≤◌, ◌^◌, ◌∷◌, List, option_copied, option_map, true, None, Some, IfOk, IsSome, OnOk, OnErr};
-ghost use Rattle.delegator_history.specs.States.{sight_of, train_heard};
-ghost use Rattle.delegator_history.specs.Trains.{Setup, Train, answer_of, brought_by};
+ghost use Rattle.delegator_history.specs.States.{snapshot_of, train_heard};
+ghost use Rattle.delegator_history.specs.Trains.{Setup, Train, answer_of, outcome_by};
 ghost use Rattle.group_sink.specs.Calls as sinks;
-ghost use Rattle.sync_reference.specs.Joining.{Joining};
+ghost use Rattle.sync_reference.specs.BigSync.{BigSync};
 ghost use Rattle.group_sink.specs.State.Sinks.{StandsFor as SinkStands};
 ghost use Rattle.group_sink.specs.State.Steps.{fresh_on};
 ghost use Rattle.delegator_control.specs.Following.{is_followed};
@@ -17,12 +17,12 @@ use crate::numbers::by_numbers;
 use bcast_base::Memory;
 use delegator_history::TrainHeard;
 use group_sink::{GroupReceivers, GroupSink};
-use sync_reference::Joining;
+use sync_reference::BigSync;
 
 impl Delegator {
     /// Hears a train, at this time in µs: the data of its extended advertising, of its periodic advertising, and its additional
     /// controller data (Basic Audio Profile 1.0, sections 3.7.2 and 6.5). The answer is the first that holds. The first four
-    /// change nothing, and want no memory; a train that is taken puts the sink on its group. After want of memory all is as
+    /// change nothing, and want no memory; a train that is taken synchronizes the sink to its BIG. After want of memory all is as
     /// before.
     pub fn train(
         &mut self,
@@ -36,7 +36,7 @@ impl Delegator {
         requires { now ≤ 2 ^ 61 }
         ensures answer { let train : Train = train_of address_type sid ext.now adv.now acad.now now in
             (setup : Setup) (calls : List Call) → StandsFor setup calls self.old
-            → IfOk result (λ heard. heard ≡ answer_of (brought_by setup (sight_of setup (steps_of calls)) train)) }
+            → IfOk result (λ heard. heard ≡ answer_of (outcome_by setup (snapshot_of setup (steps_of calls)) train)) }
         ensures stands { let train : Train = train_of address_type sid ext.now adv.now acad.now now in
             (setup : Setup) (calls : List Call) → StandsFor setup calls self.old
             → OnOk result (StandsFor setup (control (train_heard train) ∷ calls) self.new) }
@@ -44,11 +44,11 @@ impl Delegator {
         ensures err { OnErr result (self.new ≡ self.old) }
         ensures memory { let train : Train = train_of address_type sid ext.now adv.now acad.now now in
             (setup : Setup) (calls : List Call) → StandsFor setup calls self.old
-            → OnErr result (is_followed (brought_by setup (sight_of setup (steps_of calls)) train) ≡ true) }
+            → OnErr result (is_followed (outcome_by setup (snapshot_of setup (steps_of calls)) train) ≡ true) }
     {
-        let brought = self.scan.bring(address_type, sid, ext, adv, acad, now)?;
-        let made = receivers_of(&self.sink, brought.joining())?;
-        let heard = self.scan.follow(brought)?;
+        let outcome = self.scan.bring(address_type, sid, ext, adv, acad, now)?;
+        let made = receivers_of(&self.sink, outcome.big_sync())?;
+        let heard = self.scan.follow(outcome)?;
         join(&mut self.sink, made);
         Ok(heard)
     }
@@ -57,25 +57,25 @@ impl Delegator {
 /// The receivers of a group that a train brings.
 fn receivers_of(
     sink: &GroupSink,
-    joining: Option<&Joining>,
+    big_sync: Option<&BigSync>,
 ) -> Result<Option<GroupReceivers>, Memory>
-    ensures made { IfOk result (λ made. made ≡ option_map (λ joining. fresh_on (by_numbers joining)) (option_copied joining.entry)) }
-    ensures memory { OnErr result (IsSome (option_copied joining.entry)) }
+    ensures made { IfOk result (λ made. made ≡ option_map (λ big_sync. fresh_on (by_numbers big_sync)) (option_copied big_sync.entry)) }
+    ensures memory { OnErr result (IsSome (option_copied big_sync.entry)) }
 {
-    let Some(joining) = joining else {
+    let Some(big_sync) = big_sync else {
         return Ok(None);
     };
-    let made = sink.receivers(&by_numbers(joining))?;
+    let made = sink.receivers(&by_numbers(big_sync))?;
     Ok(Some(made))
 }
 
 /// Puts the sink on the group of these receivers, where there are any.
 fn join(sink: &mut GroupSink, made: Option<GroupReceivers>)
     ensures none { made ≡ None → sink.new ≡ sink.old }
-    ensures some { (joining : Joining) (calls : List sinks.Call) → made ≡ Some (fresh_on joining)
-        → SinkStands (sinks.tune joining ∷ calls) sink.new }
+    ensures some { (big_sync : BigSync) (calls : List sinks.Call) → made ≡ Some (fresh_on big_sync)
+        → SinkStands (sinks.tune big_sync ∷ calls) sink.new }
 {
     if let Some(receivers) = made {
-        sink.put_on(receivers);
+        sink.sync_to_group(receivers);
     }
 }

@@ -1,4 +1,4 @@
--- A new player stands for no calls; after want of memory what it has is a front of what is decided.
+-- A new player stands for no calls; after want of memory what it has is a prefix of what is decided.
 use Rattle.std.proofs.Common.{◌≡◌, ◌+◌, ◌-◌, ℕ, List, [], ◌∷◌, ◌++◌, length, take, replicate, None, sym, ap, ◌∙◌, subst, arith}
 use Rattle.std.proofs.Math.Seq.{take-append-add}
 use Rattle.std.specs.List.{flat_map, range_with_len}
@@ -10,7 +10,7 @@ use Rattle.isoal_framed.specs.State.Windows.{Window, Stands}
 use Rattle.isoal_framed.proofs.Citable.{new_stands}
 use Rattle.example_player.specs.declared.player.Player.{Player}
 use Rattle.example_player.specs.declared.playlist.Playlist.{Playlist}
-use Rattle.example_player.specs.Played.{PlayedFront, Plays, handed_by}
+use Rattle.example_player.specs.Played.{PlayedPrefix, Plays, handed_by}
 
 nothing_decided : (stay : Stay) → decided stay [] ≡ []
 nothing_decided stay =
@@ -29,21 +29,21 @@ plays_nothing stay window playlist is none =
     }
 
 -- the list after a close that kept so many of the units owed
-pub front_kept : (stay : Stay) (calls : List Call) (n : ℕ) (before : List Handed) → before ≡ decided stay calls
+pub prefix_kept : (stay : Stay) (calls : List Call) (n : ℕ) (before : List Handed) → before ≡ decided stay calls
     → decided stay (close ∷ calls) ≡ decided stay calls ++ gained stay calls
     → before ++ take n (gained stay calls) ≡ take (length before + n) (decided stay (close ∷ calls))
-front_kept stay calls n before played gains =
-    sym (ap (λ all. take (length before + n) all) (gains ∙ ap (λ front. front ++ gained stay calls) (sym played))
+prefix_kept stay calls n before played gains =
+    sym (ap (λ all. take (length before + n) all) (gains ∙ ap (λ prefix. prefix ++ gained stay calls) (sym played))
     ∙ take-append-add before (gained stay calls) n)
 
-pub plays_front : (stay : Stay) (calls : List Call) (player : Player) (window : Window) (playlist : Playlist) (n : ℕ)
+pub plays_prefix : (stay : Stay) (calls : List Call) (player : Player) (window : Window) (playlist : Playlist) (n : ℕ)
     → Plays stay calls player → Stands (close ∷ calls) window → window.stay ≡ player.receiver.stay
     → handed_by playlist ≡ handed_by player.playlist ++ take n (gained stay calls)
     → decided stay (close ∷ calls) ≡ decided stay calls ++ gained stay calls
-    → PlayedFront stay (close ∷ calls) (record { receiver = window; playlist = playlist })
-plays_front stay calls player window playlist n plays stands same kept gains = record {
+    → PlayedPrefix stay (close ∷ calls) (record { receiver = window; playlist = playlist })
+plays_prefix stay calls player window playlist n plays stands same kept gains = record {
   stay_is = same ∙ plays.stay_is;
   stands = stands;
   count = length (handed_by player.playlist) + n;
-  played = kept ∙ front_kept stay calls n (handed_by player.playlist) plays.played gains;
+  played = kept ∙ prefix_kept stay calls n (handed_by player.playlist) plays.played gains;
 }

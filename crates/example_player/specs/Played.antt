@@ -33,7 +33,7 @@ pub record Plays (stay : Stay) (calls : List Call) (player : Player) : Type 0 wh
   pub played : played_by player ≡ decided stay calls
 
 -- the same, but for units at the end that found no memory
-pub record PlayedFront (stay : Stay) (calls : List Call) (player : Player) : Type 0 where
+pub record PlayedPrefix (stay : Stay) (calls : List Call) (player : Player) : Type 0 where
   pub stay_is : player.receiver.stay ≡ stay
   pub stands : Stands calls player.receiver
   pub count : ℕ

@@ -2,7 +2,7 @@
 ghost use Rattle.std.specs.Prelude.{◌≡◌, ◌≤◌, ◌<◌, ◌+◌, ◌^◌, ◌∷◌, [], ℕ, List, IfOk, OnOk};
 ghost use Rattle.isoal_base.specs.Stays.{Stay, Call, hear, close};
 ghost use Rattle.isoal_framed.specs.Struck.{Fit, FromSource, InOrder, Sent, closed_end, struck};
-ghost use Rattle.example_player.specs.Played.{PlayedFront, Plays, handed_by, open_event_of, played_by};
+ghost use Rattle.example_player.specs.Played.{PlayedPrefix, Plays, handed_by, open_event_of, played_by};
 
 use crate::playlist::Playlist;
 use bcast_base::{Bis, Memory};
@@ -56,8 +56,8 @@ impl Player {
         requires { open_event_of self.old < 2 ^ 39 }
         ensures plays { (stay : Stay) (calls : List Call) → Plays stay calls self.old
             → OnOk result (Plays stay (close ∷ calls) self.new) }
-        ensures front { (stay : Stay) (calls : List Call) → Plays stay calls self.old
-            → PlayedFront stay (close ∷ calls) self.new }
+        ensures prefix { (stay : Stay) (calls : List Call) → Plays stay calls self.old
+            → PlayedPrefix stay (close ∷ calls) self.new }
         ensures event { open_event_of self.new ≡ open_event_of self.old + 1 }
     {
         match self.receiver.close(&mut self.playlist) {

@@ -2,8 +2,8 @@
 use Rattle.std.proofs.Common.{◌≡◌, ℕ, ◌+◌, true, List, Option, Some, Ok, Err, refl, ap, subst, inl, inr}
 use Rattle.std.specs.Io.KnownBytes.{Keeps}
 use Rattle.bcast_base.specs.Counts.{Rose}
-use Rattle.bcast_io.specs.Documents.{ReadFront, document_limit}
-use Rattle.bcast_io.specs.Writing.{AppendsFront, AppendsShort}
+use Rattle.bcast_io.specs.Documents.{ReadPrefix, document_limit}
+use Rattle.bcast_io.specs.Writing.{AppendsPrefix, AppendsShort}
 use Rattle.unit_outlets.specs.Account.{Account}
 use Rattle.replay_lines.specs.declared.cause.Cause.{Cause}
 use Rattle.replay_lines.specs.declared.ending.Ending.{Ending}
@@ -23,8 +23,8 @@ use Rattle.explain_command.proofs.Telling.{keeps_itself}
 abbrev pub behind : Option (List ℕ) → ℕ → Option (List ℕ) → ℕ → List Account → World
 behind left reads taken writes boxes = record { left = left; reads = reads; taken = taken; writes = writes; boxes = boxes }
 
-front_of_short : (kept kept' : Option (List ℕ)) (octets : List ℕ) → AppendsShort kept kept' octets → AppendsFront kept kept' octets
-front_of_short kept kept' octets p = record { front = p.front; rest = p.rest; whole = p.whole; appended = p.appended }
+prefix_of_short : (kept kept' : Option (List ℕ)) (octets : List ℕ) → AppendsShort kept kept' octets → AppendsPrefix kept kept' octets
+prefix_of_short kept kept' octets p = record { prefix = p.prefix; rest = p.rest; whole = p.whole; appended = p.appended }
 
 -- ---- a refused document
 
@@ -34,7 +34,7 @@ module _ (cause : Cause) (kept taken : Option (List ℕ)) where
   puts_as_told (Ok endings.Done) puts = absurd puts
   puts_as_told (Ok (endings.Refused line reason)) puts = absurd puts
   puts_as_told (Ok endings.ReadFault) puts = absurd puts
-  puts_as_told (Ok endings.WriteFault) puts = front_of_short kept taken (cause_line cause) puts
+  puts_as_told (Ok endings.WriteFault) puts = prefix_of_short kept taken (cause_line cause) puts
   puts_as_told (Ok endings.OutletFault) puts = absurd puts
   puts_as_told (Ok endings.Memory) puts = puts
 
@@ -90,13 +90,13 @@ module _ (old : World) (left : Option (List ℕ)) (reads : ℕ) (before : Option
 
   -- ---- a document that wasn't read, or not run
 
-  pub told_unread : ReadFront document_limit old.left left → Rose old.reads reads
+  pub told_unread : ReadPrefix document_limit old.left left → Rose old.reads reads
       → ToldDocument old (behind left reads old.taken old.writes old.boxes) before before (Ok endings.ReadFault)
-  told_unread front rose = record {
+  told_unread prefix rose = record {
     ran = Ok endings.ReadFault;
     taken = old.taken;
     writes = old.writes;
-    run = record { run = failed_toml old left reads front rose laws; write_fault = λ is. absurd cc; no_write_fault = λ other. refl };
+    run = record { run = failed_toml old left reads prefix rose laws; write_fault = λ is. absurd cc; no_write_fault = λ other. refl };
     lines = before;
     told = inr (tt, keeps_itself before);
     lines_kept = keeps_itself before;
@@ -104,13 +104,13 @@ module _ (old : World) (left : Option (List ℕ)) (reads : ℕ) (before : Option
     ends = inl (refl, refl);
   }
 
-  pub told_wanting : ReadFront (document_limit + 1) old.left left → reads ≡ old.reads
+  pub told_wanting : ReadPrefix (document_limit + 1) old.left left → reads ≡ old.reads
       → ToldDocument old (behind left reads old.taken old.writes old.boxes) before before (Ok endings.Memory)
-  told_wanting front same = record {
+  told_wanting prefix same = record {
     ran = Ok endings.Memory;
     taken = old.taken;
     writes = old.writes;
-    run = record { run = wanting_toml old left reads front same laws; write_fault = λ is. absurd cc; no_write_fault = λ other. refl };
+    run = record { run = wanting_toml old left reads prefix same laws; write_fault = λ is. absurd cc; no_write_fault = λ other. refl };
     lines = before;
     told = inr (tt, keeps_itself before);
     lines_kept = keeps_itself before;

@@ -6,7 +6,7 @@ use Rattle.std.proofs.Math.Seq.{take-add}
 use Rattle.std.proofs.lemmas.List.{drop-drop, get_or-take, length-drop, length-take, take-append-le}
 use Rattle.std.specs.Io.KnownBytes.{Appends, Keeps}
 use Rattle.bcast_io.proofs.Citable.{Appends-nothing, Appends-then}
-use Rattle.bcast_io.specs.Writing.{AppendsFront, AppendsShort}
+use Rattle.bcast_io.specs.Writing.{AppendsPrefix, AppendsShort}
 use Rattle.explain_command.specs.declared.place.Place.{Place}
 use Rattle.explain_command.specs.declared.place.Place.TheVariants.{Start, Blank, Blanks, Mark, Within, Beside, Line}
 use Rattle.explain_command.specs.Rows.{lines_at, lines_told, next, next_in_row, number_of, picked, picked_at, place_after, takes, tells_line, told, told_at}
@@ -28,17 +28,17 @@ module _ (picks : Place → ℕ → Bool) where
       picked_over (picks place x) x (picked picks (next place x) (xs ++ ys)) (picked picks (next place x) xs)
       (picked picks (place_after (next place x) xs) ys) (picked_append (next place x) xs ys)
 
--- a front of octets that tell nothing tells nothing
-front_nothing : (xs ys : List ℕ) → xs ++ ys ≡ [] → xs ≡ []
-front_nothing [] ys is = refl
-front_nothing (x ∷ xs) ys is = absurd cc
+-- a prefix of octets that tell nothing tells nothing
+prefix_nothing : (xs ys : List ℕ) → xs ++ ys ≡ [] → xs ≡ []
+prefix_nothing [] ys is = refl
+prefix_nothing (x ∷ xs) ys is = absurd cc
 
 rest_nothing : (xs ys : List ℕ) → xs ++ ys ≡ [] → ys ≡ []
 rest_nothing [] ys is = is
 rest_nothing (x ∷ xs) ys is = absurd cc
 
-silent_front : (place : Place) (xs ys : List ℕ) → told place (xs ++ ys) ≡ [] → told place xs ≡ []
-silent_front place xs ys is = front_nothing (told place xs) (told (place_after place xs) ys) (sym (picked_append takes place xs ys) ∙ is)
+silent_prefix : (place : Place) (xs ys : List ℕ) → told place (xs ++ ys) ≡ [] → told place xs ≡ []
+silent_prefix place xs ys is = prefix_nothing (told place xs) (told (place_after place xs) ys) (sym (picked_append takes place xs ys) ∙ is)
 
 silent_rest : (place : Place) (xs ys : List ℕ) → told place (xs ++ ys) ≡ [] → told (place_after place xs) ys ≡ []
 silent_rest place xs ys is = rest_nothing (told place xs) (told (place_after place xs) ys) (sym (picked_append takes place xs ys) ∙ is)
@@ -102,11 +102,11 @@ before_row place beside row silent none at is = (
   picked_append tells_line place beside row ∙ ap (λ l. l ++ lines_told (place_after place beside) row) none ∙ ap (λ p. lines_told p row) at ∙ is,
 )
 
--- A front of what is left of octets that tell nothing was written. `initial` is the place of the first of all octets, `place` that of
+-- A prefix of what is left of octets that tell nothing was written. `initial` is the place of the first of all octets, `place` that of
 -- the first that is left, and `now` that behind the front.
 pub record PassedOn (initial place now : Place) (octets rest : List ℕ) (done count : ℕ) : Type 0 where
   pub at : now ≡ place_after initial (take (done + count) octets)
-  pub front : told place (take count rest) ≡ []
+  pub prefix : told place (take count rest) ≡ []
   pub left : told now (drop (done + count) octets) ≡ []
 
 pub passed_on : (initial place now : Place) (octets rest : List ℕ) (done count : ℕ) → rest ≡ drop done octets
@@ -118,7 +118,7 @@ passed_on initial place now octets rest done count is came none at =
     record {
       at = at ∙ ap (λ p. place_after p (take count rest)) came ∙ sym (after_append initial (take done octets) (take count rest))
           ∙ ap (place_after initial) (ap (λ l. take done octets ++ take count l) is ∙ sym (take-add done count octets));
-      front = silent_front place (take count rest) (drop count rest) parts;
+      prefix = silent_prefix place (take count rest) (drop count rest) parts;
       left = ap (λ p. told p (drop (done + count) octets)) at ∙ ap (told (place_after place (take count rest))) (sym left)
           ∙ silent_rest place (take count rest) (drop count rest) parts;
     }
@@ -157,17 +157,17 @@ told_row place x (y ∷ ys) taken row =
     let P : Bool → Type 0 = λ b. (if b then x ∷ told (next place x) (y ∷ ys) else told (next place x) (y ∷ ys)) ≡ x ∷ y ∷ ys in
     subst P (sym taken) (ap (λ l. x ∷ l) same)
 
-front_row : (n : ℕ) (xs : List ℕ) → IsRow xs → IsRow (take n xs)
-front_row n xs row k less =
+prefix_row : (n : ℕ) (xs : List ℕ) → IsRow xs → IsRow (take n xs)
+prefix_row n xs row k less =
     let count : length (take n xs) ≡ min n (length xs) = length-take n xs in
     let same : get_or (take n xs) k 0 ≡ get_or xs k 0 = get_or-take n xs k 0 (omega arith) in
     λ is. row k (omega arith) (sym same ∙ is)
 
-told_front : (place : Place) (n : ℕ) (row : List ℕ) → 0 < length row → takes place (get_or row 0 0) ≡ true → IsRow row
+told_prefix : (place : Place) (n : ℕ) (row : List ℕ) → 0 < length row → takes place (get_or row 0 0) ≡ true → IsRow row
     → told place (take n row) ≡ take n row
-told_front place n [] some taken is = absurd (omega arith)
-told_front place zero (x ∷ xs) some taken is = refl
-told_front place (suc n) (x ∷ xs) some taken is = told_row place x (take n xs) taken (front_row (suc n) (x ∷ xs) is)
+told_prefix place n [] some taken is = absurd (omega arith)
+told_prefix place zero (x ∷ xs) some taken is = refl
+told_prefix place (suc n) (x ∷ xs) some taken is = told_row place x (take n xs) taken (prefix_row (suc n) (x ∷ xs) is)
 
 -- ---- what a sink that tells its octets is seen to have taken
 
@@ -263,27 +263,27 @@ unwritten place kept kept' k = unwritten_of takes place kept kept' k
 pub lines_unwritten : (place : Place) (kept kept' : Option (List ℕ)) → Keeps kept kept' → Keeps (lines_at place kept) (lines_at place kept')
 lines_unwritten place kept kept' k = unwritten_of tells_line place kept kept' k
 
--- a front of a row of the transcript was written, which begins with the octets that are to be written
+-- a prefix of a row of the transcript was written, which begins with the octets that are to be written
 pub row_written : (place after : Place) (kept kept' : Option (List ℕ)) (count : ℕ) (from row : List ℕ) → row ≡ take (length row) from
     → count ≤ length row → 1 ≤ length row → takes place (get_or from 0 0) ≡ true → IsRow row
     → Appends kept kept' (take count row) → after ≡ place_after place (take count row)
     → Appends (told_at place kept) (told_at after kept') (take count from)
-row_written place after kept kept' count from row front within some taken is a at =
-    let first : get_or row 0 0 ≡ get_or from 0 0 = ap (λ l. get_or l 0 0) front ∙ get_or-take (length row) from 0 0 (omega arith) in
-    let tells : told place (take count row) ≡ take count row = told_front place count row (omega arith) (ap (takes place) first ∙ taken) is in
-    let parts : row ++ drop (length row) from ≡ from = ap (λ l. l ++ drop (length row) from) front ∙ take-append-drop (length row) from in
+row_written place after kept kept' count from row prefix within some taken is a at =
+    let first : get_or row 0 0 ≡ get_or from 0 0 = ap (λ l. get_or l 0 0) prefix ∙ get_or-take (length row) from 0 0 (omega arith) in
+    let tells : told place (take count row) ≡ take count row = told_prefix place count row (omega arith) (ap (takes place) first ∙ taken) is in
+    let parts : row ++ drop (length row) from ≡ from = ap (λ l. l ++ drop (length row) from) prefix ∙ take-append-drop (length row) from in
     let same : take count row ≡ take count from = sym (take-append-le count row (drop (length row) from) within) ∙ ap (take count) parts in
     subst (λ xs. Appends (told_at place kept) (told_at after kept') xs) (tells ∙ same)
     (subst (λ p. Appends (told_at place kept) (told_at p kept') (told place (take count row))) (sym at) (appended takes place kept kept' (take count row) a))
 
--- the same front leaves the rows that tell lines
+-- the same prefix leaves the rows that tell lines
 pub row_beside : (place after : Place) (kept kept' : Option (List ℕ)) (count : ℕ) (from row : List ℕ) → row ≡ take (length row) from
     → 1 ≤ length row → takes place (get_or from 0 0) ≡ true → IsRow row
     → Appends kept kept' (take count row) → after ≡ place_after place (take count row)
     → Keeps (lines_at place kept) (lines_at after kept')
-row_beside place after kept kept' count from row front some taken is a at =
-    let first : get_or row 0 0 ≡ get_or from 0 0 = ap (λ l. get_or l 0 0) front ∙ get_or-take (length row) from 0 0 (omega arith) in
-    let tells : told place (take count row) ≡ take count row = told_front place count row (omega arith) (ap (takes place) first ∙ taken) is in
+row_beside place after kept kept' count from row prefix some taken is a at =
+    let first : get_or row 0 0 ≡ get_or from 0 0 = ap (λ l. get_or l 0 0) prefix ∙ get_or-take (length row) from 0 0 (omega arith) in
+    let tells : told place (take count row) ≡ take count row = told_prefix place count row (omega arith) (ap (takes place) first ∙ taken) is in
     let none : lines_told place (take count row) ≡ [] = none_other takes tells_line taken_apart place (take count row) tells in
     keeps_nothing (lines_at place kept) (lines_at after kept') (lines_told place (take count row)) none
     (subst (λ p. Appends (lines_at place kept) (lines_at p kept') (lines_told place (take count row))) (sym at)
@@ -315,9 +315,9 @@ module _ (initial place : Place) (octets : List ℕ) (done : ℕ) (came : place 
       (lines_told place (take count rest)) so_far step)
 
   -- the sink failed at the rest
-  pub lines_cut : (kept' : Option (List ℕ)) → Keeps kept kept' → AppendsFront (lines_at initial first) (lines_at place kept') (lines_told initial octets)
+  pub lines_cut : (kept' : Option (List ℕ)) → Keeps kept kept' → AppendsPrefix (lines_at initial first) (lines_at place kept') (lines_told initial octets)
   lines_cut kept' keeps = record {
-    front = lines_told initial (take done octets);
+    prefix = lines_told initial (take done octets);
     rest = lines_told place (drop done octets);
     whole = ap (lines_told initial) (sym (take-append-drop done octets)) ∙ picked_append tells_line initial (take done octets) (drop done octets)
         ∙ ap (λ p. lines_told initial (take done octets) ++ lines_told p (drop done octets)) (sym came);
@@ -326,14 +326,14 @@ module _ (initial place : Place) (octets : List ℕ) (done : ℕ) (came : place 
   }
 
 -- nothing of a row was put
-pub front_none : (a : Option (List ℕ)) (row : List ℕ) → AppendsFront a a row
-front_none a row = record { front = []; rest = row; whole = refl; appended = Appends-nothing a }
+pub prefix_none : (a : Option (List ℕ)) (row : List ℕ) → AppendsPrefix a a row
+prefix_none a row = record { prefix = []; rest = row; whole = refl; appended = Appends-nothing a }
 
 -- octets were written of which none is of a row that tells a line
 pub keeps_either : {T E : Type 0} (result : Result T E) (a b : Option (List ℕ)) (xs : List ℕ) → xs ≡ []
-    → MatchResult result (λ _. Appends a b xs) (λ _. AppendsFront a b xs) → Keeps a b
+    → MatchResult result (λ _. Appends a b xs) (λ _. AppendsPrefix a b xs) → Keeps a b
 keeps_either (Ok x) a b xs is p = keeps_nothing a b xs is p
-keeps_either (Err e) a b xs is p = keeps_nothing a b p.front (front_nothing p.front p.rest (sym p.whole ∙ is)) p.appended
+keeps_either (Err e) a b xs is p = keeps_nothing a b p.prefix (prefix_nothing p.prefix p.rest (sym p.whole ∙ is)) p.appended
 
 -- the rows behind the first octets tell a line, and these tell nothing of either kind
 pub row_behind : (place : Place) (rows : List ℕ) (n : ℕ) → told place (take n rows) ≡ [] → lines_told place (take n rows) ≡ []
@@ -344,21 +344,21 @@ row_behind place rows n silent none at is =
     let whole : rows ≡ take n rows ++ drop n rows = sym (take-append-drop n rows) in
     (ap (told place) whole ∙ both.0, ap (lines_told place) whole ∙ both.1)
 
--- octets of the transcript were written, and then a front of the rest
+-- octets of the transcript were written, and then a prefix of the rest
 pub written_more : (a b c : Option (List ℕ)) (n k : ℕ) (xs : List ℕ) → Appends a b (take n xs) → Appends b c (take k (drop n xs)) → Appends a c (take (n + k) xs)
 written_more a b c n k xs p q = subst (Appends a c) (sym (take-add n k xs)) (Appends-then a b c (take n xs) (take k (drop n xs)) p q)
 
 pub written_short : (a b c : Option (List ℕ)) (n : ℕ) (xs : List ℕ) → n < length xs → Appends a b (take n xs) → Keeps b c → AppendsShort a c xs
 written_short a b c n xs some p keeps = record {
-  front = take n xs;
+  prefix = take n xs;
   rest = drop n xs;
   whole = sym (take-append-drop n xs);
   appended = appends_kept a b c (take n xs) p keeps;
   some = omega (arith, length-drop n xs, some);
 }
 
--- the same octets, or a front of them, were written
+-- the same octets, or a prefix of them, were written
 pub either_is : {T E : Type 0} (result : Result T E) (a b : Option (List ℕ)) (xs ys : List ℕ) → xs ≡ ys
-    → MatchResult result (λ _. Appends a b xs) (λ _. AppendsFront a b xs) → MatchResult result (λ _. Appends a b ys) (λ _. AppendsFront a b ys)
+    → MatchResult result (λ _. Appends a b xs) (λ _. AppendsPrefix a b xs) → MatchResult result (λ _. Appends a b ys) (λ _. AppendsPrefix a b ys)
 either_is (Ok x) a b xs ys is p = subst (Appends a b) is p
-either_is (Err e) a b xs ys is p = subst (AppendsFront a b) is p
+either_is (Err e) a b xs ys is p = subst (AppendsPrefix a b) is p

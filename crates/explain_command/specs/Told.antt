@@ -38,7 +38,7 @@ pub record Told (old new : World) (before after : Option (List ℕ)) (ending : E
   -- tells.
   pub run : Heard old (record { left = new.left; reads = new.reads; taken = taken; writes = writes; boxes = new.boxes }) ran
   -- The rows that tell lines were put for the lines of the text in order, each with its number from 1, up to the line at which the run
-  -- ended; of the line before which it failed a front.
+  -- ended; of the line before which it failed a prefix.
   pub lines : Option (List ℕ)
   pub told : LinesTold line_row old.left new.left (record { told = None; rows = before }) (record { told = None; rows = lines }) ran
   pub lines_kept : Keeps lines after

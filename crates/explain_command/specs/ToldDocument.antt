@@ -72,7 +72,7 @@ pub record ToldDocument (old new : World) (before after : Option (List ℕ)) (re
   pub kept : Keeps taken new.taken
   pub ends : EndsSo stopped_for ran result writes new.writes
 
--- A document was refused for this cause: the line of the refusal was put, or a front of it, and notes behind it, which may have failed.
+-- A document was refused for this cause: the line of the refusal was put, or a prefix of it, and notes behind it, which may have failed.
 pub record RefusalTold (cause : Cause) (kept kept' : Option (List ℕ)) (writes writes' : ℕ) (before after : Option (List ℕ))
     (result : TomlEnding) : Type 0 where
   pub ran : TomlEnding

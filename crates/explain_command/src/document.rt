@@ -4,7 +4,7 @@ ghost use Rattle.std.specs.Io.KnownBytes.{Keeps};
 ghost use Rattle.bcast_base.specs.Counts.{Rose};
 ghost use Rattle.scenario_history.specs.Airs.{MeetAirs};
 ghost use Rattle.source_machine.specs.Airs.{Airs};
-ghost use Rattle.replay_steps.specs.Untaken.{UntakenBy};
+ghost use Rattle.replay_steps.specs.Unassigned.{UnassignedBy};
 ghost use Rattle.replay_lines.specs.Standing.{lines_over, standing_of};
 ghost use Rattle.replay_lines.specs.State.Runs.{Refuses};
 ghost use Rattle.replay_lines.specs.declared.ending.Ending.TheVariants as endings;
@@ -32,7 +32,7 @@ const PIECE: usize = 65_536;
 /// `Err` has the cause for which the document is refused: then the line of the refusal, of number 0, was written and notes behind it,
 /// and no line was run. The rows of the transcript are those of `replay --toml`. `TooLong` comes once octet 1,048,577 was read, and no
 /// read follows. `ReadFault`, `WriteFault` and `OutletFault` come only where the count of the source, of the sink or of a box rose. After
-/// `WriteFault` and `Memory` a front of the transcript was written, or all of it.
+/// `WriteFault` and `Memory` a prefix of the transcript was written, or all of it.
 pub fn explain_toml<S: ByteSource, W: ByteSink + Drop>(
     alloc: Global,
     source: &mut S,
@@ -43,8 +43,8 @@ pub fn explain_toml<S: ByteSource, W: ByteSink + Drop>(
         (told_world (S.left source.new) (S.faults source.new) W.contents W.faults sink.new (map account outlets.new.items))
         (lines_at sink.old.place (W.contents sink.old.inner)) (lines_at sink.new.place (W.contents sink.new.inner)) result }
     // A box that no accepted `sink` line of the document takes stays the same.
-    ensures untaken { (document : List ℕ) (airs : Airs) → S.left source.old ≡ Some document → MeetAirs airs
-        → UntakenBy airs (map account outlets.old.items) (lines_over (standing_of document)) outlets.old.items outlets.new.items }
+    ensures unassigned { (document : List ℕ) (airs : Airs) → S.left source.old ≡ Some document → MeetAirs airs
+        → UnassignedBy airs (map account outlets.old.items) (lines_over (standing_of document)) outlets.old.items outlets.new.items }
 {
     want_of_memory_before_a_document();
     match read_document(alloc, source) {
@@ -81,7 +81,7 @@ fn refuse<W: ByteSink + Drop>(
 }
 
 /// Writes the line of the refusal of a document.
-#[tactic(auto, using(crate::proofs::Telling::front_none, crate::proofs::Telling::keeps_itself))]
+#[tactic(auto, using(crate::proofs::Telling::prefix_none, crate::proofs::Telling::keeps_itself))]
 fn write_refusal<W: ByteSink + Drop>(
     alloc: Global,
     cause: Cause,

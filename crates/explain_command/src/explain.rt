@@ -2,7 +2,7 @@ ghost use Rattle.std.specs.Prelude.{◌≡◌, ℕ, List, Some, map, true};
 ghost use Rattle.bcast_io.specs.TextLines.{lines_of};
 ghost use Rattle.scenario_history.specs.Airs.{MeetAirs};
 ghost use Rattle.source_machine.specs.Airs.{Airs};
-ghost use Rattle.replay_steps.specs.Untaken.{UntakenBy};
+ghost use Rattle.replay_steps.specs.Unassigned.{UnassignedBy};
 ghost use Rattle.explain_command.specs.Rows.{lines_at};
 ghost use Rattle.explain_command.specs.Told.{Told, told_world};
 
@@ -21,7 +21,7 @@ use unit_outlets::Outlet;
 /// The rows with a number are the lines of the text that were read, in order and from 1, up to the one at which the run ended. The rows
 /// of the transcript are those of `replay`, whatever the notes say: where the sink tells its octets, and those that it has are
 /// whole rows, they are what `run_text` writes. `Done` and `Refused` come where they come of `run_text`. `ReadFault`, `WriteFault` and
-/// `OutletFault` come only where the count of the source, of the sink or of a box rose. After `WriteFault` and `Memory` a front of
+/// `OutletFault` come only where the count of the source, of the sink or of a box rose. After `WriteFault` and `Memory` a prefix of
 /// the transcript was written, or all of it.
 pub fn explain<S: ByteSource, W: ByteSink + Drop>(
     alloc: Global,
@@ -33,8 +33,8 @@ pub fn explain<S: ByteSource, W: ByteSink + Drop>(
         (told_world (S.left source.new) (S.faults source.new) W.contents W.faults sink.new (map account outlets.new.items))
         (lines_at sink.old.place (W.contents sink.old.inner)) (lines_at sink.new.place (W.contents sink.new.inner)) result }
     // A box that no accepted `sink` line takes stays the same.
-    ensures untaken { (text : List ℕ) (airs : Airs) → S.left source.old ≡ Some text → MeetAirs airs
-        → UntakenBy airs (map account outlets.old.items) (lines_of true text) outlets.old.items outlets.new.items }
+    ensures unassigned { (text : List ℕ) (airs : Airs) → S.left source.old ≡ Some text → MeetAirs airs
+        → UnassignedBy airs (map account outlets.old.items) (lines_of true text) outlets.old.items outlets.new.items }
 {
     let mut explainer = Explainer::new(alloc);
     let ran = run_heard(alloc, source, sink, &mut explainer, outlets);

@@ -2,7 +2,7 @@ ghost use Rattle.std.specs.Prelude.{◌≡◌, ◌≢◌, ◌<◌, ◌≤◌, �
 ghost use Rattle.std.specs.Io.{WritesAtMost};
 ghost use Rattle.std.specs.Io.KnownBytes.{Appends, Keeps, WriteAppends};
 ghost use Rattle.bcast_io.specs.Causes.{SinkCause};
-ghost use Rattle.bcast_io.specs.Writing.{AppendsFront, AppendsShort};
+ghost use Rattle.bcast_io.specs.Writing.{AppendsPrefix, AppendsShort};
 ghost use Rattle.explain_command.specs.Rows.{lines_at, lines_told, newline, place_after, takes, told, told_at};
 
 use crate::place::{Place, are_lines, opening};
@@ -40,7 +40,7 @@ impl<W: ByteSink + Drop> ExplainedRows<W> {
     }
 
     /// Writes rows that tell neither the transcript nor lines, each with its newline. Octets that would be taken for some of these are
-    /// not written. A refusal leaves a front of them, which may end in a row. The faults are those of the sink that they go to.
+    /// not written. A refusal leaves a prefix of them, which may end in a row. The faults are those of the sink that they go to.
     pub fn tell(&mut self, rows: &[u8]) -> Result<(), SinkFault>
         ensures kept { Keeps (told_at self.old.place (W.contents self.old.inner)) (told_at self.new.place (W.contents self.new.inner)) }
         ensures lines { Keeps (lines_at self.old.place (W.contents self.old.inner)) (lines_at self.new.place (W.contents self.new.inner)) }
@@ -54,14 +54,14 @@ impl<W: ByteSink + Drop> ExplainedRows<W> {
     }
 
     /// Writes a row that tells a line behind rows that tell neither the transcript nor lines: of `rows` the row is what stands behind
-    /// the first `beside` octets. A refusal leaves a front of all. The faults are those of the sink that they go to. `Memory` comes
+    /// the first `beside` octets. A refusal leaves a prefix of all. The faults are those of the sink that they go to. `Memory` comes
     /// also where the rows would be taken for others; nothing is written then.
     pub fn tell_line(&mut self, rows: &[u8], beside: usize) -> Result<(), SinkFault>
         requires { beside ≤ length rows.now }
         ensures kept { Keeps (told_at self.old.place (W.contents self.old.inner)) (told_at self.new.place (W.contents self.new.inner)) }
         ensures lines { MatchResult result
             (λ _. Appends (lines_at self.old.place (W.contents self.old.inner)) (lines_at self.new.place (W.contents self.new.inner)) (drop beside rows.now))
-            (λ _. AppendsFront (lines_at self.old.place (W.contents self.old.inner)) (lines_at self.new.place (W.contents self.new.inner)) (drop beside rows.now)) }
+            (λ _. AppendsPrefix (lines_at self.old.place (W.contents self.old.inner)) (lines_at self.new.place (W.contents self.new.inner)) (drop beside rows.now)) }
         ensures ok { OnOk result (W.faults self.new.inner ≡ W.faults self.old.inner) }
         ensures cause { IfErr result (SinkCause (W.faults self.old.inner) (W.faults self.new.inner)) }
     {
@@ -71,7 +71,7 @@ impl<W: ByteSink + Drop> ExplainedRows<W> {
         self.pass(rows)
     }
 
-    /// Writes octets of the transcript. After a refusal a front of them was written, and not all. The faults are those of the sink that
+    /// Writes octets of the transcript. After a refusal a prefix of them was written, and not all. The faults are those of the sink that
     /// they go to. `Memory` comes also within a row that tells a line.
     pub fn write_all(&mut self, octets: &[u8]) -> Result<(), SinkFault>
         ensures ok { OnOk result (Appends (told_at self.old.place (W.contents self.old.inner)) (told_at self.new.place (W.contents self.new.inner)) octets.now) }
@@ -93,7 +93,7 @@ impl<W: ByteSink + Drop> ExplainedRows<W> {
         ensures kept { Keeps (told_at self.old.place (W.contents self.old.inner)) (told_at self.new.place (W.contents self.new.inner)) }
         ensures lines { MatchResult result
             (λ _. Appends (lines_at self.old.place (W.contents self.old.inner)) (lines_at self.new.place (W.contents self.new.inner)) (lines_told self.old.place octets.now))
-            (λ _. AppendsFront (lines_at self.old.place (W.contents self.old.inner)) (lines_at self.new.place (W.contents self.new.inner)) (lines_told self.old.place octets.now)) }
+            (λ _. AppendsPrefix (lines_at self.old.place (W.contents self.old.inner)) (lines_at self.new.place (W.contents self.new.inner)) (lines_told self.old.place octets.now)) }
         ensures passed { OnOk result (self.new.place ≡ place_after self.old.place octets.now) }
         ensures ok { OnOk result (W.faults self.new.inner ≡ W.faults self.old.inner) }
         ensures cause { IfErr result (SinkCause (W.faults self.old.inner) (W.faults self.new.inner)) }
@@ -170,7 +170,7 @@ impl<W: ByteSink + Drop> ByteSink for ExplainedRows<W> {
 
 /// The octets up to the first newline, and this.
 fn first_row(from: &[u8]) -> &[u8]
-    ensures front { result.now ≡ take (length result.now) from.now }
+    ensures prefix { result.now ≡ take (length result.now) from.now }
     ensures within { length result.now ≤ length from.now }
     ensures some { 0 < length from.now → 1 ≤ length result.now }
     ensures apart { (k : ℕ) → k + 1 < length result.now → slice_index result.now k ≢ newline }

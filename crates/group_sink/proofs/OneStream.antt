@@ -16,7 +16,7 @@ use Rattle.isoal_framed.specs.Tokens.{Token, starts, goes_on, missing}
 use Rattle.isoal_framed.specs.Units.{Fate, whole, broken, undecided, fate_at, units, handed_of as handed_fate}
 use Rattle.isoal_framed.proofs.Citable.{close_gains, decides_nothing}
 use Rattle.group_sink.specs.Calls.{Call, tune, hear, tick, leave, place}
-use Rattle.sync_reference.specs.Joining.{Joining}
+use Rattle.sync_reference.specs.BigSync.{BigSync}
 use Rattle.group_sink.specs.Handing.{units_at_close, units_on, handed_by, handed_at, handed_since, bis_of, of_stream}
 use Rattle.group_sink.specs.Streams.{is_in, number_of, stay_on, stream_calls, streams_of, with_hear}
 use Rattle.group_sink.proofs.Sets.{flat_map_filter, is_member, member_is}
@@ -114,58 +114,58 @@ one_of g bis start (suc n) least below others = elim (cases_eq start bis) [
 ]
 
 -- what a tick hands of a stream
-abbrev part : ℕ → List Call → Joining → ℕ → ℕ → List Handed
-part event calls joining bis c = of_stream bis (cond (is_in joining.which c) (units_on event calls joining c) [])
+abbrev part : ℕ → List Call → BigSync → ℕ → ℕ → List Handed
+part event calls big_sync bis c = of_stream bis (cond (is_in big_sync.which c) (units_on event calls big_sync c) [])
 
-parts : (event : ℕ) (calls : List Call) (joining : Joining) (bis : ℕ)
-    → of_stream bis (handed_by event calls (Some joining)) ≡ flat_map (part event calls joining bis) (range_with_len 1 31)
-parts event calls joining bis =
-    ap (of_stream bis) (sym (flat_map_filter (is_in joining.which) (units_on event calls joining) (range_with_len 1 31)))
-    ∙ of_flat_map bis (λ c. cond (is_in joining.which c) (units_on event calls joining c) []) (range_with_len 1 31)
+parts : (event : ℕ) (calls : List Call) (big_sync : BigSync) (bis : ℕ)
+    → of_stream bis (handed_by event calls (Some big_sync)) ≡ flat_map (part event calls big_sync bis) (range_with_len 1 31)
+parts event calls big_sync bis =
+    ap (of_stream bis) (sym (flat_map_filter (is_in big_sync.which) (units_on event calls big_sync) (range_with_len 1 31)))
+    ∙ of_flat_map bis (λ c. cond (is_in big_sync.which c) (units_on event calls big_sync c) []) (range_with_len 1 31)
 
 part_cases : (taken own : Bool) (bis : ℕ) (units : List Handed) → of_stream bis units ≡ cond own units []
     → of_stream bis (cond taken units []) ≡ cond taken (cond own units []) []
 part_cases true own bis units is = is
 part_cases false own bis units is = refl
 
-part_is : (event : ℕ) (calls : List Call) (joining : Joining) (bis c : ℕ)
-    → part event calls joining bis c ≡ cond (is_in joining.which c) (cond (eqb c bis) (units_on event calls joining c) []) []
-part_is event calls joining bis c =
-    part_cases (is_in joining.which c) (eqb c bis) bis (units_on event calls joining c)
-    (of_units (leb (opened (stay_on joining c) (stream_calls (stay_on joining c) calls)) event) bis (stay_on joining c) (stream_calls (stay_on joining c) calls))
+part_is : (event : ℕ) (calls : List Call) (big_sync : BigSync) (bis c : ℕ)
+    → part event calls big_sync bis c ≡ cond (is_in big_sync.which c) (cond (eqb c bis) (units_on event calls big_sync c) []) []
+part_is event calls big_sync bis c =
+    part_cases (is_in big_sync.which c) (eqb c bis) bis (units_on event calls big_sync c)
+    (of_units (leb (opened (stay_on big_sync c) (stream_calls (stay_on big_sync c) calls)) event) bis (stay_on big_sync c) (stream_calls (stay_on big_sync c) calls))
 
 nothing : (taken : Bool) → cond taken (let none : List Handed = [] in none) [] ≡ []
 nothing true = refl
 nothing false = refl
 
-part_other : (event : ℕ) (calls : List Call) (joining : Joining) (bis c : ℕ) → c ≢ bis → part event calls joining bis c ≡ []
-part_other event calls joining bis c apart =
-    part_is event calls joining bis c
-    ∙ ap (λ units. cond (is_in joining.which c) units []) (cond-false (eqb c bis) (units_on event calls joining c) [] (ne_eqb c bis apart))
-    ∙ nothing (is_in joining.which c)
+part_other : (event : ℕ) (calls : List Call) (big_sync : BigSync) (bis c : ℕ) → c ≢ bis → part event calls big_sync bis c ≡ []
+part_other event calls big_sync bis c apart =
+    part_is event calls big_sync bis c
+    ∙ ap (λ units. cond (is_in big_sync.which c) units []) (cond-false (eqb c bis) (units_on event calls big_sync c) [] (ne_eqb c bis apart))
+    ∙ nothing (is_in big_sync.which c)
 
-of_tick : (event : ℕ) (calls : List Call) (joining : Joining) (bis : ℕ) → Contains (streams_of joining.which) bis
-    → of_stream bis (handed_by event calls (Some joining)) ≡ units_on event calls joining bis
-of_tick event calls joining bis at =
-    let is : (is_in joining.which bis ≡ true) × (1 ≤ bis) × (bis ≤ 31) = member_is joining.which bis at in
+of_tick : (event : ℕ) (calls : List Call) (big_sync : BigSync) (bis : ℕ) → Contains (streams_of big_sync.which) bis
+    → of_stream bis (handed_by event calls (Some big_sync)) ≡ units_on event calls big_sync bis
+of_tick event calls big_sync bis at =
+    let is : (is_in big_sync.which bis ≡ true) × (1 ≤ bis) × (bis ≤ 31) = member_is big_sync.which bis at in
     let greatest : bis ≤ 31 = is.2 in
-    parts event calls joining bis
-    ∙ one_of (part event calls joining bis) bis 1 31 is.1 (omega arith) (part_other event calls joining bis)
-    ∙ part_is event calls joining bis bis
-    ∙ cond-true (is_in joining.which bis) (cond (eqb bis bis) (units_on event calls joining bis) []) [] is.0
-    ∙ cond-true (eqb bis bis) (units_on event calls joining bis) [] (eq-eqb bis bis refl)
+    parts event calls big_sync bis
+    ∙ one_of (part event calls big_sync bis) bis 1 31 is.1 (omega arith) (part_other event calls big_sync bis)
+    ∙ part_is event calls big_sync bis bis
+    ∙ cond-true (is_in big_sync.which bis) (cond (eqb bis bis) (units_on event calls big_sync bis) []) [] is.0
+    ∙ cond-true (eqb bis bis) (units_on event calls big_sync bis) [] (eq-eqb bis bis refl)
 
-of_no_tick : (event : ℕ) (calls : List Call) (joining : Joining) (bis : ℕ) → ¬ Contains (streams_of joining.which) bis
-    → of_stream bis (handed_by event calls (Some joining)) ≡ []
-of_no_tick event calls joining bis out =
-    parts event calls joining bis
-    ∙ none_of (part event calls joining bis) 1 31 (λ c least below. elim (cases_eq c bis) [
-      | inr apart ↦ part_other event calls joining bis c apart
-      | inl same ↦ elim (cases_Bool (is_in joining.which c)) [
-        | inl taken ↦ absurd (out (subst (λ b. Contains (streams_of joining.which) b) same (is_member joining.which c least (omega arith) taken)))
+of_no_tick : (event : ℕ) (calls : List Call) (big_sync : BigSync) (bis : ℕ) → ¬ Contains (streams_of big_sync.which) bis
+    → of_stream bis (handed_by event calls (Some big_sync)) ≡ []
+of_no_tick event calls big_sync bis out =
+    parts event calls big_sync bis
+    ∙ none_of (part event calls big_sync bis) 1 31 (λ c least below. elim (cases_eq c bis) [
+      | inr apart ↦ part_other event calls big_sync bis c apart
+      | inl same ↦ elim (cases_Bool (is_in big_sync.which c)) [
+        | inl taken ↦ absurd (out (subst (λ b. Contains (streams_of big_sync.which) b) same (is_member big_sync.which c least (omega arith) taken)))
         | inr free ↦
-            part_is event calls joining bis c
-            ∙ cond-false (is_in joining.which c) (cond (eqb c bis) (units_on event calls joining c) []) [] free
+            part_is event calls big_sync bis c
+            ∙ cond-false (is_in big_sync.which c) (cond (eqb c bis) (units_on event calls big_sync c) []) [] free
       ]
     ])
 
@@ -186,52 +186,52 @@ record Adds (stay : Stay) (f : List stays.Call → List Handed) : Type 0 where
   hears : (number : ℕ) → (octets : List ℕ) → (calls : List stays.Call) → f (stays.hear number octets ∷ calls) ≡ f calls
   closes : (calls : List stays.Call) → f (stays.close ∷ calls) ≡ f calls ++ units_at_close stay calls
 
-stream_hands : (joining : Joining) (bis : ℕ) (f : List stays.Call → List Handed) → Adds (stay_on joining bis) f → (calls : List Call)
-    → place calls ≡ Some joining → Contains (streams_of joining.which) bis → of_stream bis (handed_since calls) ≡ f (stream_calls (stay_on joining bis) calls)
-stream_hands joining bis f adds [] is at = sym adds.begins
-stream_hands joining bis f adds (tune other ∷ calls) is at = sym adds.begins
-stream_hands joining bis f adds (hear event other subevent octets ∷ calls) is at =
-    stream_hands joining bis f adds calls is at
-    ∙ sym (hear_hands f adds.hears (eqb other bis) (number_of joining.info event subevent) octets (stream_calls (stay_on joining bis) calls))
-stream_hands joining bis f adds (tick event ∷ calls) is at =
+stream_hands : (big_sync : BigSync) (bis : ℕ) (f : List stays.Call → List Handed) → Adds (stay_on big_sync bis) f → (calls : List Call)
+    → place calls ≡ Some big_sync → Contains (streams_of big_sync.which) bis → of_stream bis (handed_since calls) ≡ f (stream_calls (stay_on big_sync bis) calls)
+stream_hands big_sync bis f adds [] is at = sym adds.begins
+stream_hands big_sync bis f adds (tune other ∷ calls) is at = sym adds.begins
+stream_hands big_sync bis f adds (hear event other subevent octets ∷ calls) is at =
+    stream_hands big_sync bis f adds calls is at
+    ∙ sym (hear_hands f adds.hears (eqb other bis) (number_of big_sync.info event subevent) octets (stream_calls (stay_on big_sync bis) calls))
+stream_hands big_sync bis f adds (tick event ∷ calls) is at =
     of_append bis (handed_since calls) (handed_at calls event)
-    ∙ ap (λ xs. xs ++ of_stream bis (handed_at calls event)) (stream_hands joining bis f adds calls is at)
-    ∙ ap (λ xs. f (stream_calls (stay_on joining bis) calls) ++ xs)
-    (ap (λ p. of_stream bis (handed_by event calls p)) is ∙ of_tick event calls joining bis at)
-    ∙ sym (close_hands f (leb (opened (stay_on joining bis) (stream_calls (stay_on joining bis) calls)) event)
-    (stream_calls (stay_on joining bis) calls) _ (adds.closes (stream_calls (stay_on joining bis) calls)))
-stream_hands joining bis f adds (leave ∷ calls) is at = sym adds.begins
+    ∙ ap (λ xs. xs ++ of_stream bis (handed_at calls event)) (stream_hands big_sync bis f adds calls is at)
+    ∙ ap (λ xs. f (stream_calls (stay_on big_sync bis) calls) ++ xs)
+    (ap (λ p. of_stream bis (handed_by event calls p)) is ∙ of_tick event calls big_sync bis at)
+    ∙ sym (close_hands f (leb (opened (stay_on big_sync bis) (stream_calls (stay_on big_sync bis) calls)) event)
+    (stream_calls (stay_on big_sync bis) calls) _ (adds.closes (stream_calls (stay_on big_sync bis) calls)))
+stream_hands big_sync bis f adds (leave ∷ calls) is at = sym adds.begins
 
-pub unframed_hands : (joining : Joining) (calls : List Call) (bis : ℕ) → joining.info.framing ≡ 0 → place calls ≡ Some joining
-    → Contains (streams_of joining.which) bis → of_stream bis (handed_since calls) ≡ handed (stay_on joining bis) (stream_calls (stay_on joining bis) calls)
-unframed_hands joining calls bis plain is at =
-    let stay : Stay = stay_on joining bis in
-    stream_hands joining bis (handed stay) (record {
+pub unframed_hands : (big_sync : BigSync) (calls : List Call) (bis : ℕ) → big_sync.info.framing ≡ 0 → place calls ≡ Some big_sync
+    → Contains (streams_of big_sync.which) bis → of_stream bis (handed_since calls) ≡ handed (stay_on big_sync bis) (stream_calls (stay_on big_sync bis) calls)
+unframed_hands big_sync calls bis plain is at =
+    let stay : Stay = stay_on big_sync bis in
+    stream_hands big_sync bis (handed stay) (record {
       begins = refl;
       hears = λ number octets past. refl;
       closes = λ past. ap (λ units. handed stay past ++ units)
-          (sym (cond-true (eqb joining.info.framing 0) (units_of stay past (opened stay past)) (gained stay past) (eq-eqb joining.info.framing 0 plain)));
+          (sym (cond-true (eqb big_sync.info.framing 0) (units_of stay past (opened stay past)) (gained stay past) (eq-eqb big_sync.info.framing 0 plain)));
     }) calls is at
 
-pub framed_hands : (joining : Joining) (calls : List Call) (bis : ℕ) → joining.info.framing ≡ 1 → place calls ≡ Some joining
-    → Contains (streams_of joining.which) bis → of_stream bis (handed_since calls) ≡ decided (stay_on joining bis) (stream_calls (stay_on joining bis) calls)
-framed_hands joining calls bis framed is at =
-    let stay : Stay = stay_on joining bis in
+pub framed_hands : (big_sync : BigSync) (calls : List Call) (bis : ℕ) → big_sync.info.framing ≡ 1 → place calls ≡ Some big_sync
+    → Contains (streams_of big_sync.which) bis → of_stream bis (handed_since calls) ≡ decided (stay_on big_sync bis) (stream_calls (stay_on big_sync bis) calls)
+framed_hands big_sync calls bis framed is at =
+    let stay : Stay = stay_on big_sync bis in
     let none : stay.first - stay.first ≡ 0 = omega arith in
-    stream_hands joining bis (decided stay) (record {
+    stream_hands big_sync bis (decided stay) (record {
       begins = ap (λ n. units stay.info.max_sdu bis (flat_map (event_tokens stay []) (range_with_len stay.first n))) none;
       hears = λ number octets past. decides_nothing stay past number octets;
       closes = λ past. close_gains stay past ∙ ap (λ added. decided stay past ++ added)
-          (sym (cond-false (eqb joining.info.framing 0) (units_of stay past (opened stay past)) (gained stay past) (ap (λ n. eqb n 0) framed)));
+          (sym (cond-false (eqb big_sync.info.framing 0) (units_of stay past (opened stay past)) (gained stay past) (ap (λ n. eqb n 0) framed)));
     }) calls is at
 
-pub others_hand_nothing : (joining : Joining) (calls : List Call) (bis : ℕ) → place calls ≡ Some joining → ¬ Contains (streams_of joining.which) bis
+pub others_hand_nothing : (big_sync : BigSync) (calls : List Call) (bis : ℕ) → place calls ≡ Some big_sync → ¬ Contains (streams_of big_sync.which) bis
     → of_stream bis (handed_since calls) ≡ []
-others_hand_nothing joining [] bis is out = refl
-others_hand_nothing joining (tune other ∷ calls) bis is out = refl
-others_hand_nothing joining (hear event other subevent octets ∷ calls) bis is out = others_hand_nothing joining calls bis is out
-others_hand_nothing joining (tick event ∷ calls) bis is out =
+others_hand_nothing big_sync [] bis is out = refl
+others_hand_nothing big_sync (tune other ∷ calls) bis is out = refl
+others_hand_nothing big_sync (hear event other subevent octets ∷ calls) bis is out = others_hand_nothing big_sync calls bis is out
+others_hand_nothing big_sync (tick event ∷ calls) bis is out =
     of_append bis (handed_since calls) (handed_at calls event)
-    ∙ ap (λ xs. xs ++ of_stream bis (handed_at calls event)) (others_hand_nothing joining calls bis is out)
-    ∙ ap (λ p. of_stream bis (handed_by event calls p)) is ∙ of_no_tick event calls joining bis out
-others_hand_nothing joining (leave ∷ calls) bis is out = refl
+    ∙ ap (λ xs. xs ++ of_stream bis (handed_at calls event)) (others_hand_nothing big_sync calls bis is out)
+    ∙ ap (λ p. of_stream bis (handed_by event calls p)) is ∙ of_no_tick event calls big_sync bis out
+others_hand_nothing big_sync (leave ∷ calls) bis is out = refl

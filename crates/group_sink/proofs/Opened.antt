@@ -3,7 +3,7 @@ use Rattle.std.proofs.Common.{ℕ, ◌≡◌, ◌+◌, Bool, true, false, cond, 
 use Rattle.isoal_base.specs.Stays as stays
 use Rattle.isoal_base.specs.Stays.{Stay, opened}
 use Rattle.group_sink.specs.Calls.{Call, tune, hear, tick, leave}
-use Rattle.sync_reference.specs.Joining.{Joining}
+use Rattle.sync_reference.specs.BigSync.{BigSync}
 use Rattle.group_sink.specs.Streams.{closes, number_of, stay_on, stream_calls, with_hear}
 
 -- a hear opens no event
@@ -22,16 +22,16 @@ closed_once : (stay : Stay) (first count : ℕ) (calls : List stays.Call) (test 
 closed_once stay first count calls true is = omega (arith, is)
 closed_once stay first count calls false is = is
 
-pub opened_is : (joining : Joining) (calls : List Call) (bis : ℕ)
-    → opened (stay_on joining bis) (stream_calls (stay_on joining bis) calls) ≡ joining.first + closes joining calls
-opened_is joining [] bis = omega arith
-opened_is joining (tune other ∷ calls) bis = omega arith
-opened_is joining (hear event other subevent octets ∷ calls) bis =
-    either_same (stay_on joining bis) (eqb other bis) (number_of joining.info event subevent) octets (stream_calls (stay_on joining bis) calls)
-    ∙ opened_is joining calls bis
-opened_is joining (tick event ∷ calls) bis =
-    let before : opened (stay_on joining bis) (stream_calls (stay_on joining bis) calls) ≡ joining.first + closes joining calls = opened_is joining calls bis in
-    closed_once (stay_on joining bis) joining.first (closes joining calls) (stream_calls (stay_on joining bis) calls)
-    (leb (opened (stay_on joining bis) (stream_calls (stay_on joining bis) calls)) event) before
-    ∙ ap (λ n. joining.first + cond (leb n event) (closes joining calls + 1) (closes joining calls)) before
-opened_is joining (leave ∷ calls) bis = omega arith
+pub opened_is : (big_sync : BigSync) (calls : List Call) (bis : ℕ)
+    → opened (stay_on big_sync bis) (stream_calls (stay_on big_sync bis) calls) ≡ big_sync.first + closes big_sync calls
+opened_is big_sync [] bis = omega arith
+opened_is big_sync (tune other ∷ calls) bis = omega arith
+opened_is big_sync (hear event other subevent octets ∷ calls) bis =
+    either_same (stay_on big_sync bis) (eqb other bis) (number_of big_sync.info event subevent) octets (stream_calls (stay_on big_sync bis) calls)
+    ∙ opened_is big_sync calls bis
+opened_is big_sync (tick event ∷ calls) bis =
+    let before : opened (stay_on big_sync bis) (stream_calls (stay_on big_sync bis) calls) ≡ big_sync.first + closes big_sync calls = opened_is big_sync calls bis in
+    closed_once (stay_on big_sync bis) big_sync.first (closes big_sync calls) (stream_calls (stay_on big_sync bis) calls)
+    (leb (opened (stay_on big_sync bis) (stream_calls (stay_on big_sync bis) calls)) event) before
+    ∙ ap (λ n. big_sync.first + cond (leb n event) (closes big_sync calls + 1) (closes big_sync calls)) before
+opened_is big_sync (leave ∷ calls) bis = omega arith

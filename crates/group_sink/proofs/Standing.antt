@@ -13,7 +13,7 @@ use Rattle.isoal_base.specs.Stays.{Stay, opened}
 use Rattle.group_sink.proofs.Places.{stream_at, stream_set, streams_same}
 use Rattle.group_sink.proofs.Receivers.{answer_is, open_is, owed_is, receiver_close, receiver_hear, receiver_new}
 use Rattle.group_sink.specs.Calls.{Call, tune, hear, tick, place}
-use Rattle.sync_reference.specs.Joining.{Joining}
+use Rattle.sync_reference.specs.BigSync.{BigSync}
 use Rattle.group_sink.specs.Handing.{units_by, units_on, handed_by, handed_at}
 use Rattle.group_sink.specs.Hearings.{hearing_on, hearing_at, hearing_of}
 use Rattle.group_sink.specs.State.Receivers.{closed, fresh, owed_of, receiver_after}
@@ -26,27 +26,27 @@ map_all : {X : Type 0} (f g : ℕ → X) (xs : List ℕ) → ((x : ℕ) → f x 
 map_all f g [] same = refl
 map_all f g (x ∷ xs) same = ap (λ y. y ∷ map f xs) (same x) ∙ ap (λ ys. g x ∷ ys) (map_all f g xs same)
 
--- the sink is put on a group
-pub fresh_stands : (calls : List Call) (joining : Joining) → StandsFor (tune joining ∷ calls) (Some (fresh_on joining))
-fresh_stands calls joining = record {
-  place_is = ap (λ streams. Some (record { info = joining.info; places = places_of joining.which; streams = streams }))
-      (map_all (λ bis. fresh (stay_on joining bis)) (stream_after joining (tune joining ∷ calls)) (streams_of joining.which)
-      (λ bis. receiver_new (stay_on joining bis)));
+-- the sink is synchronized to a BIG
+pub fresh_stands : (calls : List Call) (big_sync : BigSync) → StandsFor (tune big_sync ∷ calls) (Some (fresh_on big_sync))
+fresh_stands calls big_sync = record {
+  place_is = ap (λ streams. Some (record { info = big_sync.info; places = places_of big_sync.which; streams = streams }))
+      (map_all (λ bis. fresh (stay_on big_sync bis)) (stream_after big_sync (tune big_sync ∷ calls)) (streams_of big_sync.which)
+      (λ bis. receiver_new (stay_on big_sync bis)));
 }
 
 -- the receiver of a stream, where it is taken
-abbrev taken_after : Joining → List Call → ℕ → Option Receiver
-taken_after joining calls bis = cond (is_in joining.which bis) (Some (stream_after joining calls bis)) None
+abbrev taken_after : BigSync → List Call → ℕ → Option Receiver
+taken_after big_sync calls bis = cond (is_in big_sync.which bis) (Some (stream_after big_sync calls bis)) None
 
-place_is : (joining : Joining) (calls : List Call) (bis : ℕ) → 1 ≤ bis → bis ≤ 31 → place_on bis (on_after calls joining) ≡ place_in joining.which bis
-place_is joining calls bis least greatest =
-    get_or-map-range_with_len (place_in joining.which) 1 31 (bis - 1) bis 0 (omega arith) (omega arith)
+place_is : (big_sync : BigSync) (calls : List Call) (bis : ℕ) → 1 ≤ bis → bis ≤ 31 → place_on bis (on_after calls big_sync) ≡ place_in big_sync.which bis
+place_is big_sync calls bis least greatest =
+    get_or-map-range_with_len (place_in big_sync.which) 1 31 (bis - 1) bis 0 (omega arith) (omega arith)
 
-stream_is : (joining : Joining) (calls : List Call) (bis : ℕ) → 1 ≤ bis → bis ≤ 31
-    → slice_get (on_after calls joining).streams (place_on bis (on_after calls joining)) ≡ taken_after joining calls bis
-stream_is joining calls bis least greatest =
-    ap (slice_get (on_after calls joining).streams) (place_is joining calls bis least greatest)
-    ∙ stream_at (stream_after joining calls) joining.which bis least greatest
+stream_is : (big_sync : BigSync) (calls : List Call) (bis : ℕ) → 1 ≤ bis → bis ≤ 31
+    → slice_get (on_after calls big_sync).streams (place_on bis (on_after calls big_sync)) ≡ taken_after big_sync calls bis
+stream_is big_sync calls bis least greatest =
+    ap (slice_get (on_after calls big_sync).streams) (place_is big_sync calls bis least greatest)
+    ∙ stream_at (stream_after big_sync calls) big_sync.which bis least greatest
 
 answer_cases : (taken : Bool) (stay : Stay) (calls : List stays.Call) (number : Option ℕ) (octets : List ℕ)
     → answer_at number octets (cond taken (Some (receiver_after stay calls)) None) ≡ cond taken (hearing_on stay calls number octets) hearings.NotTaken
@@ -54,11 +54,11 @@ answer_cases false stay calls number octets = refl
 answer_cases true stay calls None octets = refl
 answer_cases true stay calls (Some number) octets = ap hearings.Heard (answer_is stay calls number octets)
 
-answer_after : (joining : Joining) (calls : List Call) (event bis subevent : ℕ) (octets : List ℕ) → 1 ≤ bis → bis ≤ 31
-    → answer_on event bis subevent octets (on_after calls joining) ≡ hearing_at (Some joining) calls event bis subevent octets
-answer_after joining calls event bis subevent octets least greatest =
-    ap (answer_at (number_of joining.info event subevent) octets) (stream_is joining calls bis least greatest)
-    ∙ answer_cases (is_in joining.which bis) (stay_on joining bis) (stream_calls (stay_on joining bis) calls) (number_of joining.info event subevent) octets
+answer_after : (big_sync : BigSync) (calls : List Call) (event bis subevent : ℕ) (octets : List ℕ) → 1 ≤ bis → bis ≤ 31
+    → answer_on event bis subevent octets (on_after calls big_sync) ≡ hearing_at (Some big_sync) calls event bis subevent octets
+answer_after big_sync calls event bis subevent octets least greatest =
+    ap (answer_at (number_of big_sync.info event subevent) octets) (stream_is big_sync calls bis least greatest)
+    ∙ answer_cases (is_in big_sync.which bis) (stay_on big_sync bis) (stream_calls (stay_on big_sync bis) calls) (number_of big_sync.info event subevent) octets
 
 -- a PDU changes the receiver of its stream, where it is taken, and no other
 hear_cases : (stay : Stay) (calls : List stays.Call) (number : Option ℕ) (octets : List ℕ) → Bounds stay.info
@@ -66,21 +66,21 @@ hear_cases : (stay : Stay) (calls : List stays.Call) (number : Option ℕ) (octe
 hear_cases stay calls None octets bounds = refl
 hear_cases stay calls (Some number) octets bounds = receiver_hear stay calls number octets bounds
 
-hear_own : (joining : Joining) (calls : List Call) (event bis subevent : ℕ) (octets : List ℕ) → Bounds joining.info
-    → hear_at (number_of joining.info event subevent) octets (stream_after joining calls bis)
-    ≡ stream_after joining (hear event bis subevent octets ∷ calls) bis
-hear_own joining calls event bis subevent octets bounds =
-    let past : List stays.Call = stream_calls (stay_on joining bis) calls in
-    hear_cases (stay_on joining bis) past (number_of joining.info event subevent) octets bounds
-    ∙ ap (receiver_after (stay_on joining bis))
-    (sym (cond-true (eqb bis bis) (with_hear (number_of joining.info event subevent) octets past) past (eq-eqb bis bis refl)))
+hear_own : (big_sync : BigSync) (calls : List Call) (event bis subevent : ℕ) (octets : List ℕ) → Bounds big_sync.info
+    → hear_at (number_of big_sync.info event subevent) octets (stream_after big_sync calls bis)
+    ≡ stream_after big_sync (hear event bis subevent octets ∷ calls) bis
+hear_own big_sync calls event bis subevent octets bounds =
+    let past : List stays.Call = stream_calls (stay_on big_sync bis) calls in
+    hear_cases (stay_on big_sync bis) past (number_of big_sync.info event subevent) octets bounds
+    ∙ ap (receiver_after (stay_on big_sync bis))
+    (sym (cond-true (eqb bis bis) (with_hear (number_of big_sync.info event subevent) octets past) past (eq-eqb bis bis refl)))
 
-hear_other : (joining : Joining) (calls : List Call) (event bis subevent : ℕ) (octets : List ℕ) (c : ℕ) → c ≢ bis
-    → stream_after joining calls c ≡ stream_after joining (hear event bis subevent octets ∷ calls) c
-hear_other joining calls event bis subevent octets c apart =
-    let past : List stays.Call = stream_calls (stay_on joining c) calls in
-    ap (receiver_after (stay_on joining c))
-    (sym (cond-false (eqb bis c) (with_hear (number_of joining.info event subevent) octets past) past (ne_eqb bis c (λ same. apart (sym same)))))
+hear_other : (big_sync : BigSync) (calls : List Call) (event bis subevent : ℕ) (octets : List ℕ) (c : ℕ) → c ≢ bis
+    → stream_after big_sync calls c ≡ stream_after big_sync (hear event bis subevent octets ∷ calls) c
+hear_other big_sync calls event bis subevent octets c apart =
+    let past : List stays.Call = stream_calls (stay_on big_sync c) calls in
+    ap (receiver_after (stay_on big_sync c))
+    (sym (cond-false (eqb bis c) (with_hear (number_of big_sync.info event subevent) octets past) past (ne_eqb bis c (λ same. apart (sym same)))))
 
 heard_cases : (taken : Bool) (number : Option ℕ) (octets : List ℕ) (place : ℕ) (receiver now : Receiver) (streams after : List Receiver)
     → hear_at number octets receiver ≡ now → (taken ≡ true → slice_set streams place now ≡ after) → (taken ≡ false → streams ≡ after)
@@ -88,23 +88,23 @@ heard_cases : (taken : Bool) (number : Option ℕ) (octets : List ℕ) (place : 
 heard_cases true number octets place receiver now streams after is written kept = ap (slice_set streams place) is ∙ written refl
 heard_cases false number octets place receiver now streams after is written kept = kept refl
 
-hear_after : (joining : Joining) (calls : List Call) (event bis subevent : ℕ) (octets : List ℕ) → 1 ≤ bis → bis ≤ 31 → Bounds joining.info
-    → hear_on event bis subevent octets (on_after calls joining) ≡ on_after (hear event bis subevent octets ∷ calls) joining
-hear_after joining calls event bis subevent octets least greatest bounds =
+hear_after : (big_sync : BigSync) (calls : List Call) (event bis subevent : ℕ) (octets : List ℕ) → 1 ≤ bis → bis ≤ 31 → Bounds big_sync.info
+    → hear_on event bis subevent octets (on_after calls big_sync) ≡ on_after (hear event bis subevent octets ∷ calls) big_sync
+hear_after big_sync calls event bis subevent octets least greatest bounds =
     let now : List Call = hear event bis subevent octets ∷ calls in
-    let number : Option ℕ = number_of joining.info event subevent in
-    let on : OnGroup = on_after calls joining in
-    ap (λ streams. record { info = joining.info; places = places_of joining.which; streams = streams })
-    (ap (λ found. heard_at number octets (place_on bis on) found on.streams) (stream_is joining calls bis least greatest)
-    ∙ heard_cases (is_in joining.which bis) number octets (place_on bis on) (stream_after joining calls bis) (stream_after joining now bis)
-    on.streams (map (stream_after joining now) (streams_of joining.which))
-    (hear_own joining calls event bis subevent octets bounds)
+    let number : Option ℕ = number_of big_sync.info event subevent in
+    let on : OnGroup = on_after calls big_sync in
+    ap (λ streams. record { info = big_sync.info; places = places_of big_sync.which; streams = streams })
+    (ap (λ found. heard_at number octets (place_on bis on) found on.streams) (stream_is big_sync calls bis least greatest)
+    ∙ heard_cases (is_in big_sync.which bis) number octets (place_on bis on) (stream_after big_sync calls bis) (stream_after big_sync now bis)
+    on.streams (map (stream_after big_sync now) (streams_of big_sync.which))
+    (hear_own big_sync calls event bis subevent octets bounds)
     (λ taken.
-    ap (λ n. slice_set on.streams n (stream_after joining now bis)) (place_is joining calls bis least greatest)
-    ∙ stream_set (stream_after joining calls) (stream_after joining now) joining.which bis least greatest taken
-    (hear_other joining calls event bis subevent octets))
-    (λ free. streams_same (stream_after joining calls) (stream_after joining now) joining.which bis free
-    (hear_other joining calls event bis subevent octets)))
+    ap (λ n. slice_set on.streams n (stream_after big_sync now bis)) (place_is big_sync calls bis least greatest)
+    ∙ stream_set (stream_after big_sync calls) (stream_after big_sync now) big_sync.which bis least greatest taken
+    (hear_other big_sync calls event bis subevent octets))
+    (λ free. streams_same (stream_after big_sync calls) (stream_after big_sync now) big_sync.which bis free
+    (hear_other big_sync calls event bis subevent octets)))
 
 -- a tick
 close_cases : (over : Bool) (stay : Stay) (calls : List stays.Call) → Bounds stay.info
@@ -122,13 +122,13 @@ map_twice : {A B : Type 0} (f : ℕ → A) (g : A → B) (xs : List ℕ) → map
 map_twice f g [] = refl
 map_twice f g (x ∷ xs) = ap (λ ys. g (f x) ∷ ys) (map_twice f g xs)
 
-tick_after : (joining : Joining) (calls : List Call) (event : ℕ) → Bounds joining.info
-    → tick_on event (on_after calls joining) ≡ on_after (tick event ∷ calls) joining
-tick_after joining calls event bounds =
-    ap (λ streams. record { info = joining.info; places = places_of joining.which; streams = streams })
-    (map_twice (stream_after joining calls) (tick_at event) (streams_of joining.which)
-    ∙ map_all (λ bis. tick_at event (stream_after joining calls bis)) (stream_after joining (tick event ∷ calls)) (streams_of joining.which)
-    (λ bis. tick_one event (stay_on joining bis) (stream_calls (stay_on joining bis) calls) bounds))
+tick_after : (big_sync : BigSync) (calls : List Call) (event : ℕ) → Bounds big_sync.info
+    → tick_on event (on_after calls big_sync) ≡ on_after (tick event ∷ calls) big_sync
+tick_after big_sync calls event bounds =
+    ap (λ streams. record { info = big_sync.info; places = places_of big_sync.which; streams = streams })
+    (map_twice (stream_after big_sync calls) (tick_at event) (streams_of big_sync.which)
+    ∙ map_all (λ bis. tick_at event (stream_after big_sync calls bis)) (stream_after big_sync (tick event ∷ calls)) (streams_of big_sync.which)
+    (λ bis. tick_one event (stay_on big_sync bis) (stream_calls (stay_on big_sync bis) calls) bounds))
 
 flat_map_same : (f g : ℕ → List Handed) (xs : List ℕ) → ((x : ℕ) → f x ≡ g x) → flat_map f xs ≡ flat_map g xs
 flat_map_same f g [] same = refl
@@ -140,18 +140,18 @@ owed_one event stay calls bounds =
     ap (λ open_now. cond (leb open_now event) (owed_of (receiver_after stay calls)) []) (open_is stay calls)
     ∙ ap (λ units. cond (leb (opened stay calls) event) units []) (owed_is stay calls bounds)
 
-owed_after : (joining : Joining) (calls : List Call) (event : ℕ) → Bounds joining.info
-    → owed_on event (on_after calls joining) ≡ handed_by event calls (Some joining)
-owed_after joining calls event bounds =
-    flat_map-map (owed_by event) (stream_after joining calls) (streams_of joining.which)
-    ∙ flat_map_same (λ bis. owed_by event (stream_after joining calls bis)) (units_on event calls joining) (streams_of joining.which)
-    (λ bis. owed_one event (stay_on joining bis) (stream_calls (stay_on joining bis) calls) bounds)
+owed_after : (big_sync : BigSync) (calls : List Call) (event : ℕ) → Bounds big_sync.info
+    → owed_on event (on_after calls big_sync) ≡ handed_by event calls (Some big_sync)
+owed_after big_sync calls event bounds =
+    flat_map-map (owed_by event) (stream_after big_sync calls) (streams_of big_sync.which)
+    ∙ flat_map_same (λ bis. owed_by event (stream_after big_sync calls bis)) (units_on event calls big_sync) (streams_of big_sync.which)
+    (λ bis. owed_one event (stay_on big_sync bis) (stream_calls (stay_on big_sync bis) calls) bounds)
 
 -- a sink on a group
-somewhere : (p : Option Joining) (calls : List Call) (on : OnGroup) → Some on ≡ option_map (on_after calls) p
-    → (joining : Joining) × (p ≡ Some joining) × (on ≡ on_after calls joining)
+somewhere : (p : Option BigSync) (calls : List Call) (on : OnGroup) → Some on ≡ option_map (on_after calls) p
+    → (big_sync : BigSync) × (p ≡ Some big_sync) × (on ≡ on_after calls big_sync)
 somewhere None calls on is = absurd (cc)
-somewhere (Some joining) calls on is = (joining, refl, same_Some on (on_after calls joining) is)
+somewhere (Some big_sync) calls on is = (big_sync, refl, same_Some on (on_after calls big_sync) is)
 
 pub some_answers : (calls : List Call) (event bis subevent : ℕ) (octets : List ℕ) (on : OnGroup) → 1 ≤ bis → bis ≤ 31
     → StandsFor calls (Some on) → answer_on event bis subevent octets on ≡ hearing_of calls event bis subevent octets

@@ -8,7 +8,7 @@ use Rattle.isoal_base.specs.Stays.{Stay, opened}
 use Rattle.isoal_unframed.specs.Histories.{units_of}
 use Rattle.isoal_framed.specs.Histories.{gained}
 use Rattle.group_sink.specs.Calls.{Call, tune, hear, tick, leave, place}
-use Rattle.sync_reference.specs.Joining.{Joining}
+use Rattle.sync_reference.specs.BigSync.{BigSync}
 use Rattle.group_sink.specs.Streams.{stay_on, stream_calls, streams_of}
 
 -- what the next close of a stream hands: of an unframed one the units of the open event, of a framed one those that it
@@ -20,21 +20,21 @@ units_at_close stay calls = if stay.info.framing == 0 then units_of stay calls (
 abbrev pub units_by : ℕ → Stay → List stays.Call → List Handed
 units_by event stay calls = if nat_le (opened stay calls) event then units_at_close stay calls else []
 
-abbrev pub units_on : ℕ → List Call → Joining → ℕ → List Handed
-units_on event calls joining bis = units_by event (stay_on joining bis) (stream_calls (stay_on joining bis) calls)
+abbrev pub units_on : ℕ → List Call → BigSync → ℕ → List Handed
+units_on event calls big_sync bis = units_by event (stay_on big_sync bis) (stream_calls (stay_on big_sync bis) calls)
 
-abbrev pub handed_by : ℕ → List Call → Option Joining → List Handed
+abbrev pub handed_by : ℕ → List Call → Option BigSync → List Handed
 handed_by event calls None = []
-handed_by event calls (Some joining) = flat_map (units_on event calls joining) (streams_of joining.which)
+handed_by event calls (Some big_sync) = flat_map (units_on event calls big_sync) (streams_of big_sync.which)
 
 -- what a tick with this event hands after these calls
 abbrev pub handed_at : List Call → ℕ → List Handed
 handed_at calls event = handed_by event calls (place calls)
 
--- what the ticks handed since the sink was put on its group, or left it
+-- what the ticks handed since the sink was synchronized to its BIG, or left it
 abbrev pub handed_since : List Call → List Handed
 handed_since [] = []
-handed_since (tune joining ∷ calls) = []
+handed_since (tune big_sync ∷ calls) = []
 handed_since (hear event bis subevent octets ∷ calls) = handed_since calls
 handed_since (tick event ∷ calls) = handed_since calls ++ handed_at calls event
 handed_since (leave ∷ calls) = []

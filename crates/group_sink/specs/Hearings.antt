@@ -14,7 +14,7 @@ use Rattle.isoal_unframed.specs.Units.{unframed}
 use Rattle.isoal_framed.specs.Histories.{heard_in as segments_in}
 use Rattle.isoal_framed.specs.Tokens.{segmented}
 use Rattle.group_sink.specs.Calls.{Call, place}
-use Rattle.sync_reference.specs.Joining.{Joining}
+use Rattle.sync_reference.specs.BigSync.{BigSync}
 use Rattle.group_sink.specs.Streams.{is_in, stay_on, number_of, stream_calls}
 
 -- what is heard of each number of the window, from the first number of the open event on, of an unframed stream
@@ -35,11 +35,11 @@ abbrev pub hearing_on : Stay → List stays.Call → Option ℕ → List ℕ →
 hearing_on stay calls None octets = hearings.NoNumber
 hearing_on stay calls (Some number) octets = hearings.Heard (heard_on stay calls number octets)
 
-abbrev pub hearing_at : Option Joining → List Call → ℕ → ℕ → ℕ → List ℕ → Hearing
+abbrev pub hearing_at : Option BigSync → List Call → ℕ → ℕ → ℕ → List ℕ → Hearing
 hearing_at None calls event bis subevent octets = hearings.NotOnGroup
-hearing_at (Some joining) calls event bis subevent octets =
-    if is_in joining.which bis
-    then hearing_on (stay_on joining bis) (stream_calls (stay_on joining bis) calls) (number_of joining.info event subevent) octets
+hearing_at (Some big_sync) calls event bis subevent octets =
+    if is_in big_sync.which bis
+    then hearing_on (stay_on big_sync bis) (stream_calls (stay_on big_sync bis) calls) (number_of big_sync.info event subevent) octets
     else hearings.NotTaken
 
 -- the answer after these calls to a PDU in a subevent of an event of a stream

@@ -1,4 +1,4 @@
--- The streams that a sink takes, and what each of them took since the sink was put on its group: a PDU under the payload
+-- The streams that a sink takes, and what each of them took since the sink was synchronized to its BIG: a PDU under the payload
 -- number of its subevent (Core 5.2, volume 6 part B, section 4.4.6), and the closes of its events.
 use Rattle.std.specs.Prelude.{ℕ, ◌+◌, ◌-◌, ◌^◌, ◌==◌, nat_lt, nat_le, ◌&&◌, Bool, List, [], ◌∷◌, Option, Some, None, if◌then◌else◌}
 use Rattle.std.specs.Int.{bit_at}
@@ -8,7 +8,7 @@ use Rattle.radio_schedule.specs.PayloadNumber.{payload_number}
 use Rattle.isoal_base.specs.Stays as stays
 use Rattle.isoal_base.specs.Stays.{Stay, opened}
 use Rattle.group_sink.specs.Calls.{Call, tune, hear, tick, leave}
-use Rattle.sync_reference.specs.Joining.{Joining}
+use Rattle.sync_reference.specs.BigSync.{BigSync}
 
 -- the stream of this index is in the set
 abbrev pub is_in : ℕ → ℕ → Bool
@@ -19,13 +19,13 @@ abbrev pub streams_of : ℕ → List ℕ
 streams_of set = filter (is_in set) (range_with_len 1 31)
 
 -- the stay on a stream
-abbrev pub stay_on : Joining → ℕ → Stay
-stay_on joining bis = record {
-  info = joining.info;
+abbrev pub stay_on : BigSync → ℕ → Stay
+stay_on big_sync bis = record {
+  info = big_sync.info;
   bis = bis;
-  first = joining.first;
-  origin = joining.anchor;
-  delay = joining.delay;
+  first = big_sync.first;
+  origin = big_sync.anchor;
+  delay = big_sync.delay;
 }
 
 -- the payload number of a subevent of an event: none where the group has no such subevent or the number reaches 2^39
@@ -43,22 +43,22 @@ with_hear (Some number) octets calls = stays.hear number octets ∷ calls
 abbrev pub with_tick : Stay → ℕ → List stays.Call → List stays.Call
 with_tick stay event calls = if nat_le (opened stay calls) event then stays.close ∷ calls else calls
 
--- what a stream took since the sink was put on the group, or left it
+-- what a stream took since the sink was synchronized to the BIG, or left it
 abbrev pub stream_calls : Stay → List Call → List stays.Call
 stream_calls stay [] = []
-stream_calls stay (tune joining ∷ calls) = []
+stream_calls stay (tune big_sync ∷ calls) = []
 stream_calls stay (hear event bis subevent octets ∷ calls) =
     if bis == stay.bis then with_hear (number_of stay.info event subevent) octets (stream_calls stay calls)
     else stream_calls stay calls
 stream_calls stay (tick event ∷ calls) = with_tick stay event (stream_calls stay calls)
 stream_calls stay (leave ∷ calls) = []
 
--- how many events were closed since the sink was put on the group, or left it: the ticks that found the open event at most
+-- how many events were closed since the sink was synchronized to the BIG, or left it: the ticks that found the open event at most
 -- theirs
-abbrev pub closes : Joining → List Call → ℕ
-closes joining [] = 0
-closes joining (tune other ∷ calls) = 0
-closes joining (hear event bis subevent octets ∷ calls) = closes joining calls
-closes joining (tick event ∷ calls) =
-    if nat_le (joining.first + closes joining calls) event then closes joining calls + 1 else closes joining calls
-closes joining (leave ∷ calls) = 0
+abbrev pub closes : BigSync → List Call → ℕ
+closes big_sync [] = 0
+closes big_sync (tune other ∷ calls) = 0
+closes big_sync (hear event bis subevent octets ∷ calls) = closes big_sync calls
+closes big_sync (tick event ∷ calls) =
+    if nat_le (big_sync.first + closes big_sync calls) event then closes big_sync calls + 1 else closes big_sync calls
+closes big_sync (leave ∷ calls) = 0

@@ -11,7 +11,7 @@ use bcast_base::{Bis, Memory};
 use isoal_base::Hearing;
 use std::alloc::Global;
 use std::marker::Model;
-use sync_reference::Joining;
+use sync_reference::BigSync;
 use unit_outlets::{TakerFault, UnitTaker};
 
 /// The receivers of a sink that is on a group: one for each stream that it takes, by rising index.
@@ -33,23 +33,23 @@ impl Model for GroupReceivers {
 
 impl GroupReceivers {
     /// Receivers that heard nothing yet. No streams take no memory.
-    pub(crate) fn new(alloc: Global, joining: &Joining) -> Result<GroupReceivers, Memory>
-        ensures { MatchResult result (λ on. on ≡ fresh_on joining.now) (λ _. 0 < joining.now.which) }
+    pub(crate) fn new(alloc: Global, big_sync: &BigSync) -> Result<GroupReceivers, Memory>
+        ensures { MatchResult result (λ on. on ≡ fresh_on big_sync.now) (λ _. 0 < big_sync.now.which) }
     {
         let mut places = [31; 31];
-        let mut streams = Vec::with_capacity(alloc, joining.which.count() as usize)?;
+        let mut streams = Vec::with_capacity(alloc, big_sync.which.count() as usize)?;
         'indices: for index in 1..32u8 {
             let Some(bis) = Bis::new(index) else {
                 continue;
             };
-            let Some(stream) = stream_of(alloc, joining, bis)? else {
+            let Some(stream) = stream_of(alloc, big_sync, bis)? else {
                 continue;
             };
             places[usize::from(index - 1)] = streams.len() as u8;
             streams.push(stream)?;
         }
         Ok(GroupReceivers {
-            numbers: Numbers::new(&joining.group),
+            numbers: Numbers::new(&big_sync.group),
             places,
             streams,
         })

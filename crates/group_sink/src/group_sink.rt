@@ -1,7 +1,7 @@
 ghost use Rattle.std.specs.Prelude.{◌≡◌, ◌≤◌, ◌<◌, ◌^◌, List, [], ◌∷◌, MatchResult, OnOk, OnErr};
 ghost use Rattle.unit_outlets.specs.Handed.{Caused, HandsOver};
 ghost use Rattle.group_sink.specs.Calls.{Call, tune, hear, tick, leave};
-ghost use Rattle.sync_reference.specs.Joining.{Joining};
+ghost use Rattle.sync_reference.specs.BigSync.{BigSync};
 ghost use Rattle.group_sink.specs.Handing.{handed_at};
 ghost use Rattle.group_sink.specs.Hearings.{hearing_of};
 ghost use Rattle.group_sink.specs.State.Sinks.{StandsFor};
@@ -12,7 +12,7 @@ use bcast_base::{Bis, Memory};
 use isoal_base::Hearing;
 use std::alloc::Global;
 use std::marker::Model;
-use sync_reference::Joining;
+use sync_reference::BigSync;
 use unit_outlets::{TakerFault, UnitTaker};
 
 /// A sink. It is idle, or on a group.
@@ -40,16 +40,16 @@ impl GroupSink {
     }
 
     /// The receivers of a group that the sink is to be put on. No streams take no memory.
-    pub fn receivers(&self, joining: &Joining) -> Result<GroupReceivers, Memory>
-        ensures { MatchResult result (λ receivers. AreFor joining.now receivers) (λ _. 0 < joining.now.which) }
+    pub fn receivers(&self, big_sync: &BigSync) -> Result<GroupReceivers, Memory>
+        ensures { MatchResult result (λ receivers. AreFor big_sync.now receivers) (λ _. 0 < big_sync.now.which) }
     {
-        GroupReceivers::new(self.alloc, joining)
+        GroupReceivers::new(self.alloc, big_sync)
     }
 
     /// Puts the sink on the group that these receivers are for. It leaves what it was on, and what it held is dropped. It takes
     /// no memory.
-    pub fn put_on(&mut self, receivers: GroupReceivers)
-        ensures { (joining : Joining) (calls : List Call) → AreFor joining receivers → StandsFor (tune joining ∷ calls) self.new }
+    pub fn sync_to_group(&mut self, receivers: GroupReceivers)
+        ensures { (big_sync : BigSync) (calls : List Call) → AreFor big_sync receivers → StandsFor (tune big_sync ∷ calls) self.new }
     {
         self.group = Some(receivers);
     }
@@ -64,13 +64,13 @@ impl GroupSink {
     /// Puts the sink on a group. It leaves what it was on, and what it held is dropped.
     ///
     /// After want of memory the sink is as before. No streams take no memory.
-    pub fn tune(&mut self, joining: &Joining) -> Result<(), Memory>
-        ensures stands { (calls : List Call) → OnOk result (StandsFor (tune joining.now ∷ calls) self.new) }
+    pub fn tune(&mut self, big_sync: &BigSync) -> Result<(), Memory>
+        ensures stands { (calls : List Call) → OnOk result (StandsFor (tune big_sync.now ∷ calls) self.new) }
         ensures err { OnErr result (self.new ≡ self.old) }
-        ensures some { OnErr result (0 < joining.now.which) }
+        ensures some { OnErr result (0 < big_sync.now.which) }
     {
-        let receivers = self.receivers(joining)?;
-        self.put_on(receivers);
+        let receivers = self.receivers(big_sync)?;
+        self.sync_to_group(receivers);
         Ok(())
     }
 

@@ -9,7 +9,7 @@ use isoal_base::Heard;
 use isoal_framed::FramedIn;
 use isoal_unframed::UnframedIn;
 use std::alloc::Global;
-use sync_reference::Joining;
+use sync_reference::BigSync;
 use unit_outlets::{TakerFault, UnitTaker};
 
 /// What receives a stream, by the framing of its group.
@@ -21,16 +21,16 @@ pub(crate) enum Receiver {
 
 impl Receiver {
     /// A receiver that heard nothing yet.
-    pub(crate) fn new(alloc: Global, joining: &Joining, bis: Bis) -> Result<Receiver, Memory>
-        ensures { IfOk result (λ receiver. receiver ≡ fresh (stay_on joining.now bis)) }
+    pub(crate) fn new(alloc: Global, big_sync: &BigSync, bis: Bis) -> Result<Receiver, Memory>
+        ensures { IfOk result (λ receiver. receiver ≡ fresh (stay_on big_sync.now bis)) }
     {
-        let Joining {
+        let BigSync {
             group,
             first,
             anchor,
             delay,
             ..
-        } = joining;
+        } = big_sync;
         if group.info.framing == 0 {
             let unframed = UnframedIn::new(alloc, group, bis, *first, *anchor, *delay)?;
             return Ok(Receiver::Unframed(unframed));

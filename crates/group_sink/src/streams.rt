@@ -11,21 +11,21 @@ use crate::refuser::Refuser;
 use bcast_base::{Bis, Memory};
 use isoal_base::Hearing;
 use std::alloc::Global;
-use sync_reference::Joining;
+use sync_reference::BigSync;
 use unit_outlets::{TakerFault, UnitTaker};
 
 /// The receiver of a stream on which nothing was heard yet, where the sink takes it.
 pub(crate) fn stream_of(
     alloc: Global,
-    joining: &Joining,
+    big_sync: &BigSync,
     bis: Bis,
 ) -> Result<Option<Receiver>, Memory>
-    ensures { MatchResult result (λ stream. stream ≡ fresh_at joining.now bis) (λ _. Has joining.now.which bis) }
+    ensures { MatchResult result (λ stream. stream ≡ fresh_at big_sync.now bis) (λ _. Has big_sync.now.which bis) }
 {
-    if !joining.which.has(bis) {
+    if !big_sync.which.has(bis) {
         return Ok(None);
     }
-    let stream = Receiver::new(alloc, joining, bis)?;
+    let stream = Receiver::new(alloc, big_sync, bis)?;
     Ok(Some(stream))
 }
 

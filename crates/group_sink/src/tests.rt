@@ -10,7 +10,7 @@ use iso_pdu::PduFault;
 use isoal_base::{Heard, Hearing};
 use std::alloc::Global;
 use std::test::Fail;
-use sync_reference::Joining;
+use sync_reference::BigSync;
 use unit_outlets::{TakerFault, UnitTaker};
 
 /// Units of at most 4 octets every 10 ms on LE 2M, each in one PDU, sent once, on one stream.
@@ -91,7 +91,7 @@ fn the_first_pdu_heard_counts(rt: HostRuntime) -> Result<(), Fail> {
     let other = Bis::new(2).ok_or("no stream")?;
     let mut sink = GroupSink::new(rt.alloc());
     assert_eq!(rt; sink.hear(0, first, 0, &[0, 0]), Hearing::NotOnGroup);
-    sink.tune(&Joining {
+    sink.tune(&BigSync {
         group,
         which: BisSet::new().with(first),
         first: 0,
@@ -146,7 +146,7 @@ fn a_framed_unit_over_two_events_has_the_time_of_its_start(rt: HostRuntime) -> R
     let group = check_group(&info)?;
     let first = Bis::new(1).ok_or("no stream")?;
     let mut sink = GroupSink::new(rt.alloc());
-    sink.tune(&Joining {
+    sink.tune(&BigSync {
         group,
         which: BisSet::new().with(first),
         first: 1,
@@ -193,7 +193,7 @@ fn a_refusal_closes_the_event_of_each_stream(rt: HostRuntime) -> Result<(), Fail
     let first = Bis::new(1).ok_or("no stream")?;
     let other = Bis::new(2).ok_or("no stream")?;
     let mut sink = GroupSink::new(rt.alloc());
-    sink.tune(&Joining {
+    sink.tune(&BigSync {
         group,
         which: BisSet::new().with(first).with(other),
         first: 0,

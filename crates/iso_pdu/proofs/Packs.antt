@@ -6,7 +6,7 @@ use Rattle.std.proofs.Math.Seq.{take-set-lt}
 use borrow.Rule.Slice.PartMut.{put_mid}
 use Rattle.iso_pdu.specs.Layout.{Part, start, more, framed, bit}
 use Rattle.iso_pdu.specs.Reading.{parts_in}
-use Rattle.iso_pdu.specs.Spelling.{offset_octets, segment, segments, pdu}
+use Rattle.iso_pdu.specs.Encoding.{offset_octets, segment, segments, pdu}
 use Rattle.iso_pdu.specs.State.Packing.{Packed, room_in, packed_in, IsPacked}
 use Rattle.iso_pdu.proofs.PartsRead.{parts_from-layout}
 use Rattle.iso_pdu.proofs.PdusRead.{segments-are}
@@ -26,14 +26,14 @@ pub record Puts (max_pdu end : ℕ) (octets : List ℕ) (end' : ℕ) (octets' : 
 
 pub length-packed : (max_pdu end : ℕ) (octets : List ℕ) → length octets ≡ 253 → IsPacked max_pdu end octets
     → 2 + length (segments (parts_in (drop 2 (take end octets)))) ≡ end
-length-packed max_pdu end octets whole packed = omega (arith, ap length packed.spelled, length-take end octets, packed.within, packed.greatest)
+length-packed max_pdu end octets whole packed = omega (arith, ap length packed.encoded, length-take end octets, packed.within, packed.greatest)
 
 -- behind the header and the Length stand the segments
 pub payload-packed : (max_pdu end : ℕ) (octets : List ℕ) → length octets ≡ 253 → IsPacked max_pdu end octets
     → take (end - 2) (drop 2 octets) ≡ segments (parts_in (drop 2 (take end octets)))
 payload-packed max_pdu end octets whole packed =
     let sum : 2 + (end - 2) ≡ end = omega (arith, length-packed max_pdu end octets whole packed) in
-    sym (drop-take 2 (end - 2) octets) ∙ ap (λ (n : ℕ). drop 2 (take n octets)) sum ∙ ap (λ (os : List ℕ). drop 2 os) packed.spelled
+    sym (drop-take 2 (end - 2) octets) ∙ ap (λ (n : ℕ). drop 2 (take n octets)) sum ∙ ap (λ (os : List ℕ). drop 2 os) packed.encoded
 
 -- a put of so many octets more stays within
 pub put_fits : (max_pdu end : ℕ) (octets : List ℕ) (packed : Packed) (count : ℕ) → packed_in max_pdu end octets ≡ packed → length octets ≡ 253
@@ -43,8 +43,8 @@ put_fits max_pdu end octets packed count seen whole sound room =
 
 -- the octets behind a put, where they are a segment's
 abbrev pub PutsOctets : ℕ → List ℕ → ℕ → List ℕ → List ℕ → Type 0
-PutsOctets end octets end' octets' spelled = (first long : ℕ) (rest : List ℕ) → take end octets ≡ first ∷ long ∷ rest
-    → take end' octets' ≡ first ∷ (end' - 2) ∷ (rest ++ spelled)
+PutsOctets end octets end' octets' encoded = (first long : ℕ) (rest : List ℕ) → take end octets ≡ first ∷ long ∷ rest
+    → take end' octets' ≡ first ∷ (end' - 2) ∷ (rest ++ encoded)
 
 pub put_packed : (max_pdu end : ℕ) (octets : List ℕ) (end' : ℕ) (octets' : List ℕ) (part : Part) → length octets ≡ 253 → IsPacked max_pdu end octets
     → length (segment part) ≤ room_in (packed_in max_pdu end octets) → 0 < length (segment part) → end' ≡ end + length (segment part)
@@ -53,28 +53,28 @@ pub put_packed : (max_pdu end : ℕ) (octets : List ℕ) (end' : ℕ) (octets' :
 put_packed max_pdu end octets end' octets' part whole packed room some end'_is put =
     let old = parts_in (drop 2 (take end octets)) in
     let all = old ++ part ∷ [] in
-    let put_is = put 2 (length (segments old)) (segments old) packed.spelled in
+    let put_is = put 2 (length (segments old)) (segments old) packed.encoded in
     let long : 2 + length (segments old) ≡ end = length-packed max_pdu end octets whole packed in
     let longer : length (segments all) ≡ length (segments old) + length (segment part) = ap length (segments-push old part) ∙ length-append (segments old) (segment part) in
     let count : end' - 2 ≡ length (segments all) = omega (arith, longer, long, end'_is) in
     let pushed : take end' octets' ≡ pdu (framed all) = put_is ∙ rw (count, segments-push old part) refl in
     let parts_is : parts_in (drop 2 (take end' octets')) ≡ all = ap (λ (os : List ℕ). parts_in (drop 2 os)) pushed ∙ parts_in-segments all in
     record {
-      packed = record { greatest = packed.greatest; within = omega (arith, long, end'_is, room, packed.within); spelled = pushed ∙ ap (λ (ps : List Part). pdu (framed ps)) (sym parts_is) };
+      packed = record { greatest = packed.greatest; within = omega (arith, long, end'_is, room, packed.within); encoded = pushed ∙ ap (λ (ps : List Part). pdu (framed ps)) (sym parts_is) };
       parts = parts_is;
       room = rw parts_is (omega (arith, longer, long, room, some));
     }
 
 -- what a put of octets leaves, where they are a segment's
-put_spelled : (max_pdu end : ℕ) (octets : List ℕ) (end' : ℕ) (octets' : List ℕ) (part : Part) (header : ℕ) (offset body : List ℕ) (packed : Packed) → packed_in max_pdu end octets ≡ packed
+put_encoded : (max_pdu end : ℕ) (octets : List ℕ) (end' : ℕ) (octets' : List ℕ) (part : Part) (header : ℕ) (offset body : List ℕ) (packed : Packed) → packed_in max_pdu end octets ≡ packed
     → length octets ≡ 253 → IsPacked max_pdu end octets → segment part ≡ header ∷ (length offset + length body) ∷ (offset ++ body) → 2 + length offset + length body ≤ room_in packed
     → end' ≡ end + 2 + length offset + length body → PutsOctets end octets end' octets' (header ∷ (length offset + length body) ∷ (offset ++ body))
     → Puts max_pdu end octets end' octets' part
-put_spelled max_pdu end octets end' octets' part header offset body packed seen whole sound spelled room end'_is put =
-    let long : length (segment part) ≡ 2 + length offset + length body = rw spelled (omega (arith, length-append offset body)) in
+put_encoded max_pdu end octets end' octets' part header offset body packed seen whole sound encoded room end'_is put =
+    let long : length (segment part) ≡ 2 + length offset + length body = rw encoded (omega (arith, length-append offset body)) in
     let room_is : room_in (packed_in max_pdu end octets) ≡ room_in packed = ap room_in seen in
     put_packed max_pdu end octets end' octets' part whole sound (omega (arith, long, room_is, room)) (omega (arith, long)) (omega (arith, long, end'_is))
-    (λ first count rest is. put first count rest is ∙ ap (λ (os : List ℕ). first ∷ (end' - 2) ∷ (rest ++ os)) (sym spelled))
+    (λ first count rest is. put first count rest is ∙ ap (λ (os : List ℕ). first ∷ (end' - 2) ∷ (rest ++ os)) (sym encoded))
 
 pub put_start_packed : (max_pdu end : ℕ) (octets : List ℕ) (end' : ℕ) (octets' : List ℕ) (time header : ℕ) (complete : Bool) (offset body : List ℕ) (packed : Packed)
     → packed_in max_pdu end octets ≡ packed
@@ -85,8 +85,8 @@ put_start_packed max_pdu end octets end' octets' time header complete offset bod
     let long : length offset ≡ 3 = ap length offset_is in
     let head : 2 * bit complete ≡ header = omega (arith, header_is) in
     let count : 3 + length body ≡ length offset + length body = omega (arith, long) in
-    let spelled : segment (start time complete body) ≡ header ∷ (length offset + length body) ∷ (offset ++ body) = rw (head, count, offset_is) refl in
-    put_spelled max_pdu end octets end' octets' (start time complete body) header offset body packed seen whole sound spelled (omega (arith, long, room)) end'_is put
+    let encoded : segment (start time complete body) ≡ header ∷ (length offset + length body) ∷ (offset ++ body) = rw (head, count, offset_is) refl in
+    put_encoded max_pdu end octets end' octets' (start time complete body) header offset body packed seen whole sound encoded (omega (arith, long, room)) end'_is put
 
 pub put_more_packed : (max_pdu end : ℕ) (octets : List ℕ) (end' : ℕ) (octets' : List ℕ) (header : ℕ) (complete : Bool) (body : List ℕ) (packed : Packed) → packed_in max_pdu end octets ≡ packed
     → length octets ≡ 253 → IsPacked max_pdu end octets → header ≡ 1 + 2 * bit complete → 2 + length body ≤ room_in packed
@@ -94,8 +94,8 @@ pub put_more_packed : (max_pdu end : ℕ) (octets : List ℕ) (end' : ℕ) (octe
     → Puts max_pdu end octets end' octets' (more complete body)
 put_more_packed max_pdu end octets end' octets' header complete body packed seen whole sound header_is room end'_is put =
     let count : length body ≡ 0 + length body = omega arith in
-    let spelled : segment (more complete body) ≡ header ∷ (0 + length body) ∷ body = rw (← header_is, ← count) refl in
-    put_spelled max_pdu end octets end' octets' (more complete body) header [] body packed seen whole sound spelled (omega (arith, room)) end'_is put
+    let encoded : segment (more complete body) ≡ header ∷ (0 + length body) ∷ body = rw (← header_is, ← count) refl in
+    put_encoded max_pdu end octets end' octets' (more complete body) header [] body packed seen whole sound encoded (omega (arith, room)) end'_is put
 
 -- two octets, and two slices behind them
 pub written : (octets : List ℕ) (len header count : ℕ) (offset part : List ℕ) (k n m : ℕ) → len + 2 + length offset + length part ≤ length octets

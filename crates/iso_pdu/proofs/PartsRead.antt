@@ -65,9 +65,9 @@ part_at-body (start offset complete octets) header body h =
     let head = h.0 in
     let odd : eqb (header % 2) 1 ≡ false = ne_eqb _ _ (λ e. omega (arith, head.start_bit)) in
     let flag : eqb (header / 2 % 2) 1 ≡ complete = bit_is (header / 2 % 2) complete head.complete_bit in
-    let front : take 3 body ≡ h.1 = rw h.4 (take_at h.1 octets 3 h.2) in
+    let prefix : take 3 body ≡ h.1 = rw h.4 (take_at h.1 octets 3 h.2) in
     let back : drop 3 body ≡ octets = rw h.4 (drop_at h.1 octets 3 h.2) in
-    rw (odd, flag, front, back, ← h.3) refl
+    rw (odd, flag, prefix, back, ← h.3) refl
 part_at-body (more complete octets) header body h =
     let head = h.0 in
     let odd : eqb (header % 2) 1 ≡ true = eq-eqb _ _ head.start_bit in
@@ -78,7 +78,7 @@ pub body_long : (part : Part) (header : ℕ) (body : List ℕ) → BodyIs part h
 body_long (start offset complete octets) header body h e = rw (h.4) (omega (arith, length-append h.1 octets, h.2))
 body_long (more complete octets) header body h e = absurd (omega (arith, (h.0).start_bit))
 
--- ---- what is read is spelled so
+-- ---- what is read is encoded so
 
 before_ok : (part : Part) (read : Result (List Part) PduFault) (parts : List Part) → before part read ≡ Ok parts → (others : List Part) × (read ≡ Ok others) × (part ∷ others ≡ parts)
 before_ok part (Ok others) parts e = (others, refl, cc)
@@ -91,27 +91,27 @@ unless_ok (Some fault) read parts e = absurd cc
 ok_same : (xs ys : List Part) → (let r : List Part → Result (List Part) PduFault = λ zs. Ok zs in r xs ≡ r ys) → xs ≡ ys
 ok_same xs ys e = cc
 
-spelled_within : (n place : ℕ) (octets : List ℕ) (parts : List Part) → length octets ≤ n → parts_from place zero octets ≡ Ok parts → SegmentsAre parts octets
+encoded_within : (n place : ℕ) (octets : List ℕ) (parts : List Part) → length octets ≤ n → parts_from place zero octets ≡ Ok parts → SegmentsAre parts octets
 unfolding parts_from
-spelled_within n place [] parts h e = subst (λ (ps : List Part). SegmentsAre ps []) (ok_same [] parts e) refl
-spelled_within n place (header ∷ []) parts h e = absurd cc
-spelled_within zero place (header ∷ count ∷ octets) parts h e = absurd (omega arith)
-spelled_within (suc n) place (header ∷ count ∷ octets) parts h e =
+encoded_within n place [] parts h e = subst (λ (ps : List Part). SegmentsAre ps []) (ok_same [] parts e) refl
+encoded_within n place (header ∷ []) parts h e = absurd cc
+encoded_within zero place (header ∷ count ∷ octets) parts h e = absurd (omega arith)
+encoded_within (suc n) place (header ∷ count ∷ octets) parts h e =
     let none = unless_ok (fault_at place header count (length octets)) (before (part_at header (take count octets)) (parts_from (place + 1) (suc count) (count ∷ octets))) parts e in
     let fits : (count ≤ length octets) × (header % 2 ≡ 0 → 3 ≤ count) = fault_at-none place header count (length octets) none.0 in
     let read : before (part_at header (take count octets)) (parts_from (place + (count + 2)) zero (drop count octets)) ≡ Ok parts = sym (parts_from-whole place header count octets none.0) ∙ e in
     let first = before_ok (part_at header (take count octets)) (parts_from (place + (count + 2)) zero (drop count octets)) parts read in
     let long : length (take count octets) ≡ count = omega (arith, length-take count octets, fits.0) in
-    let others : SegmentsAre first.0 (drop count octets) = spelled_within n (place + (count + 2)) (drop count octets) first.0 (omega (arith, length-drop count octets)) first.1 in
+    let others : SegmentsAre first.0 (drop count octets) = encoded_within n (place + (count + 2)) (drop count octets) first.0 (omega (arith, length-drop count octets)) first.1 in
     let body : BodyIs (part_at header (take count octets)) header (take count octets) = part_at-is header (take count octets) (λ even. rw long (fits.1 even)) in
     let whole : header ∷ count ∷ octets ≡ (header ∷ count ∷ take count octets) ++ drop count octets = ap (λ (os : List ℕ). header ∷ count ∷ os) (sym (take-append-drop count octets)) in
     subst (λ (ps : List Part). SegmentsAre ps (header ∷ count ∷ octets)) first.2
     (header ∷ count ∷ take count octets, drop count octets, (header, take count octets, body, ap (λ (k : ℕ). header ∷ k ∷ take count octets) (sym long)), others, whole)
 
-pub parts_from-spelled : (place : ℕ) (octets : List ℕ) (parts : List Part) → parts_from place zero octets ≡ Ok parts → SegmentsAre parts octets
-parts_from-spelled place octets parts e = spelled_within (length octets) place octets parts (omega arith) e
+pub parts_from-encoded : (place : ℕ) (octets : List ℕ) (parts : List Part) → parts_from place zero octets ≡ Ok parts → SegmentsAre parts octets
+parts_from-encoded place octets parts e = encoded_within (length octets) place octets parts (omega arith) e
 
--- ---- what is spelled so is read, whatever follows
+-- ---- what is encoded so is read, whatever follows
 
 pub parts_from-segment : (part : Part) (place : ℕ) (first rest : List ℕ) → SegmentIs part first
     → parts_from place zero (first ++ rest) ≡ before part (parts_from (place + length first) zero rest)
@@ -138,10 +138,10 @@ pub befores-err : (parts : List Part) (fault : PduFault) → befores parts (Err 
 befores-err [] fault = refl
 befores-err (part ∷ parts) fault = rw (befores-err parts fault) refl
 
-pub parts_from-segments : (parts : List Part) (place : ℕ) (front rest : List ℕ) → SegmentsAre parts front
-    → parts_from place zero (front ++ rest) ≡ befores parts (parts_from (place + length front) zero rest)
-parts_from-segments [] place front rest h = rw (h, add-zero place) refl
-parts_from-segments (part ∷ parts) place front rest h =
+pub parts_from-segments : (parts : List Part) (place : ℕ) (prefix rest : List ℕ) → SegmentsAre parts prefix
+    → parts_from place zero (prefix ++ rest) ≡ befores parts (parts_from (place + length prefix) zero rest)
+parts_from-segments [] place prefix rest h = rw (h, add-zero place) refl
+parts_from-segments (part ∷ parts) place prefix rest h =
     let first = h.0 in
     let others = h.1 in
     let regrouped : (first ++ others) ++ rest ≡ first ++ (others ++ rest) = append_assoc first others rest in
@@ -229,7 +229,7 @@ first_of_sound (header ∷ count ∷ octets) h e =
     let none = unless_ok (fault_at 0 header count (length octets)) (before (part_at header (take count octets)) (parts_from 1 (suc count) (count ∷ octets))) parts e in
     let read : before (part_at header (take count octets)) (parts_from (0 + (count + 2)) zero (drop count octets)) ≡ Ok parts = sym (parts_from-whole 0 header count octets none.0) ∙ e in
     let first = before_ok (part_at header (take count octets)) (parts_from (0 + (count + 2)) zero (drop count octets)) parts read in
-    let there : parts_of (drop count octets) ≡ Ok first.0 = parts_from-layout 0 (drop count octets) first.0 (parts_from-spelled (0 + (count + 2)) (drop count octets) first.0 first.1) in
+    let there : parts_of (drop count octets) ≡ Ok first.0 = parts_from-layout 0 (drop count octets) first.0 (parts_from-encoded (0 + (count + 2)) (drop count octets) first.0 first.1) in
     let left : length (header ∷ count ∷ octets) - 2 ≡ length octets = omega arith in
     record {
       long = omega arith;

@@ -9,8 +9,8 @@ use Rattle.iso_pdu.specs.declared.fault.PduFault.TheVariants.{Short, LengthDiffe
 use Rattle.iso_pdu.specs.Layout.{Part, start, more, Content, end, fragment, framed, control, bit, IsSegmentHeader, SegmentIs, SegmentsAre, PayloadIs, PduIs, llid, octets_of, HasAtMost}
 use Rattle.iso_pdu.specs.Reading.{part_at, fault_at, before, unless, parts_from, parts_of, framed_of, content_at, read_of}
 use Rattle.iso_pdu.specs.Faults.{StandsShort, StandsNoOffset, AtCut, InFramed, FaultIs}
-use Rattle.iso_pdu.specs.Spelling.{offset_octets, segment, segments, payload_of, pdu}
-use Rattle.iso_pdu.proofs.PartsRead.{fault_at-none, parts_from-whole, part_at-is, parts_from-spelled, parts_from-layout, parts_from-segments, befores, befores-err}
+use Rattle.iso_pdu.specs.Encoding.{offset_octets, segment, segments, payload_of, pdu}
+use Rattle.iso_pdu.proofs.PartsRead.{fault_at-none, parts_from-whole, part_at-is, parts_from-encoded, parts_from-layout, parts_from-segments, befores, befores-err}
 
 -- ---- what is read is of the layout, and the other way round
 
@@ -49,7 +49,7 @@ content_at-ok zero payload content h e = subst (λ (x : Content). Holds 0 payloa
 content_at-ok (suc zero) payload content h e = subst (λ (x : Content). Holds 1 payload x) (good_same (fragment payload) content e) (refl, refl)
 content_at-ok (suc (suc zero)) payload content h e =
     let read = framed_of-ok (parts_of payload) content e in
-    subst (λ (x : Content). Holds 2 payload x) read.2 (refl, parts_from-spelled 0 payload read.0 read.1)
+    subst (λ (x : Content). Holds 2 payload x) read.2 (refl, parts_from-encoded 0 payload read.0 read.1)
 content_at-ok (suc (suc (suc zero))) payload content h e = subst (λ (x : Content). Holds 3 payload x) (good_same (control payload) content e) (refl, refl)
 content_at-ok (suc (suc (suc (suc kind)))) payload content h e = absurd (omega arith)
 
@@ -74,11 +74,11 @@ read_of-layout max_pdu content octets h =
     let within : length payload ≤ max_pdu = omega (arith, ap length is.4, h.1) in
     rw is.4 (read_of-whole max_pdu is.0 payload within ∙ ap (λ (kind : ℕ). content_at kind payload) is.2 ∙ content_at-payload content payload is.3)
 
-pub read_of-spelled : (max_pdu : ℕ) (content : Content) (octets : List ℕ) → read_of max_pdu octets ≡ Ok content → PduIs content octets × (length octets ≤ max_pdu + 2)
+pub read_of-encoded : (max_pdu : ℕ) (content : Content) (octets : List ℕ) → read_of max_pdu octets ≡ Ok content → PduIs content octets × (length octets ≤ max_pdu + 2)
 unfolding read_of
-read_of-spelled max_pdu content [] e = absurd cc
-read_of-spelled max_pdu content (header ∷ []) e = absurd cc
-read_of-spelled max_pdu content (header ∷ count ∷ payload) e =
+read_of-encoded max_pdu content [] e = absurd cc
+read_of-encoded max_pdu content (header ∷ []) e = absurd cc
+read_of-encoded max_pdu content (header ∷ count ∷ payload) e =
     elim (cases_Bool (eqb count (length payload))) [
       | inr differs ↦ let e' : bad LengthDiffers ≡ good content = rw differs at e in absurd cc
       | inl same ↦
@@ -127,7 +127,7 @@ pdu_long max_pdu content octets h =
 -- a fault at the cut of octets that begin at a place
 abbrev CutFrom : (List ℕ → Type 0) → ℕ → ℕ → List ℕ → Type 0
 CutFrom P from place octets =
-    (parts : List Part) × (front : List ℕ) × (rest : List ℕ) × SegmentsAre parts front × (from + length front ≡ place) × P rest × (octets ≡ front ++ rest)
+    (parts : List Part) × (prefix : List ℕ) × (rest : List ℕ) × SegmentsAre parts prefix × (from + length prefix ≡ place) × P rest × (octets ≡ prefix ++ rest)
 
 abbrev FaultFrom : ℕ → PduFault → List ℕ → Type 0
 FaultFrom from Short octets = ⊥
@@ -139,10 +139,10 @@ FaultFrom from (SegmentNoOffset place) octets = CutFrom StandsNoOffset from plac
 cut_later : (P : List ℕ → Type 0) (from place : ℕ) (part : Part) (first others octets : List ℕ) → SegmentIs part first → octets ≡ first ++ others
     → CutFrom P (from + length first) place others → CutFrom P from place octets
 cut_later P from place part first others octets is whole cut =
-    let front = cut.1 in
-    let there : from + length (first ++ front) ≡ place = omega (arith, length-append first front, cut.4) in
-    let joined : octets ≡ (first ++ front) ++ cut.2 = whole ∙ ap (λ (os : List ℕ). first ++ os) cut.6 ∙ sym (append_assoc first front cut.2) in
-    (part ∷ cut.0, first ++ front, cut.2, (first, front, is, cut.3, refl), there, cut.5, joined)
+    let prefix = cut.1 in
+    let there : from + length (first ++ prefix) ≡ place = omega (arith, length-append first prefix, cut.4) in
+    let joined : octets ≡ (first ++ prefix) ++ cut.2 = whole ∙ ap (λ (os : List ℕ). first ++ os) cut.6 ∙ sym (append_assoc first prefix cut.2) in
+    (part ∷ cut.0, first ++ prefix, cut.2, (first, prefix, is, cut.3, refl), there, cut.5, joined)
 
 fault_later : (fault : PduFault) (from : ℕ) (part : Part) (first others octets : List ℕ) → SegmentIs part first → octets ≡ first ++ others → FaultFrom (from + length first) fault others
     → FaultFrom from fault octets
@@ -317,14 +317,14 @@ header_flag : (sc : ℕ) (complete : Bool) → sc < 2 → IsSegmentHeader sc com
 header_flag sc true h = record { start_bit = omega arith; complete_bit = omega arith }
 header_flag sc false h = record { start_bit = omega arith; complete_bit = omega arith }
 
-offset_spelled : (offset : ℕ) → Le offset (offset_octets offset)
-offset_spelled offset = omega arith
+offset_encoded : (offset : ℕ) → Le offset (offset_octets offset)
+offset_encoded offset = omega arith
 
 pub segment-is : (part : Part) → SegmentIs part (segment part)
 segment-is (start offset complete octets) =
     let three : 3 + length octets ≡ length (offset_octets offset ++ octets) = omega arith in
     let header : IsSegmentHeader 0 complete (2 * bit complete) = subst (λ (h : ℕ). IsSegmentHeader 0 complete h) (omega arith) (header_flag 0 complete (omega arith)) in
-    (2 * bit complete, offset_octets offset ++ octets, (header, offset_octets offset, refl, offset_spelled offset, refl), ap (λ (k : ℕ). 2 * bit complete ∷ k ∷ (offset_octets offset ++ octets)) three)
+    (2 * bit complete, offset_octets offset ++ octets, (header, offset_octets offset, refl, offset_encoded offset, refl), ap (λ (k : ℕ). 2 * bit complete ∷ k ∷ (offset_octets offset ++ octets)) three)
 segment-is (more complete octets) =
     (1 + 2 * bit complete, octets, (header_flag 1 complete (omega arith), refl), refl)
 

@@ -28,7 +28,7 @@ StandsNoOffset (header ∷ count ∷ octets) = (count ≤ length octets) × (hea
 -- whole segments up to the place, and there what P says
 abbrev pub AtCut : (List ℕ → Type 0) → ℕ → List ℕ → Type 0
 AtCut P place payload =
-    (parts : List Part) × (front : List ℕ) × (rest : List ℕ) × SegmentsAre parts front × (length front ≡ place) × P rest × (payload ≡ front ++ rest)
+    (parts : List Part) × (prefix : List ℕ) × (rest : List ℕ) × SegmentsAre parts prefix × (length prefix ≡ place) × P rest × (payload ≡ prefix ++ rest)
 
 -- the octets are a header, a Length that is right and at most max_pdu, and a payload of which P holds under LLID 0b10
 abbrev pub InFramed : ℕ → (List ℕ → Type 0) → List ℕ → Type 0

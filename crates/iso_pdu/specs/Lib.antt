@@ -2,5 +2,5 @@ pub mod Control
 pub mod Faults
 pub mod Layout
 pub mod Reading
-pub mod Spelling
+pub mod Encoding
 pub mod State

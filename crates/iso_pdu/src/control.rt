@@ -2,7 +2,7 @@ ghost use Rattle.std.specs.Prelude.{◌≡◌, ◌≤◌, ◌↔◌, ℕ, List, 
 ghost use Rattle.iso_pdu.specs.Control.{ControlIs, ControlFaultIs, control_of, control_number, terminate, terminate_of};
 ghost use Rattle.iso_pdu.specs.Layout.{control};
 ghost use Rattle.iso_pdu.specs.Reading.{read_of};
-ghost use Rattle.iso_pdu.specs.Spelling.{pdu};
+ghost use Rattle.iso_pdu.specs.Encoding.{pdu};
 ghost use Rattle.iso_pdu.specs.declared.control.Control.{Control};
 ghost use Rattle.iso_pdu.specs.declared.control.Control.TheVariants.{Terminate};
 ghost use Rattle.iso_pdu.specs.declared.control.ControlFault.{ControlFault};
@@ -79,7 +79,7 @@ fn read_terminate(fields: &[u8]) -> Result<Control, ControlFault>
 
 /// The whole PDU of BIG_TERMINATE_IND. `instant` is the low 16 bits of the number of the event at which the group ends.
 pub fn write_terminate(reason: u8, instant: u16) -> [u8; 6]
-    ensures spelled { result ≡ pdu (control (terminate reason instant)) }
+    ensures encoded { result ≡ pdu (control (terminate reason instant)) }
     ensures layout { ControlIs (Terminate reason instant) (terminate reason instant) }
     ensures payload { (max_pdu : ℕ) → 4 ≤ max_pdu → read_of max_pdu result ≡ Ok (control (terminate reason instant)) }
     ensures read { control_of (terminate reason instant) ≡ Ok (Terminate reason instant) }

@@ -2,7 +2,7 @@ ghost use Rattle.std.specs.Prelude.{◌≡◌, ◌<◌, ◌≤◌, ◌+◌, ◌-
 ghost use Rattle.iso_pdu.specs.Layout.{start, more, framed, bit};
 ghost use Rattle.iso_pdu.specs.State.Packing.{room_in};
 ghost use Rattle.iso_pdu.specs.Reading.{read_of};
-ghost use Rattle.iso_pdu.specs.Spelling.{segments, pdu, offset_octets};
+ghost use Rattle.iso_pdu.specs.Encoding.{segments, pdu, offset_octets};
 
 use crate::pdu::write_payload;
 use std::marker::Model;
@@ -70,7 +70,7 @@ impl FramedPdu {
         ensures put { self.new ≡ record self.old { parts = self.old.parts ++ start time_offset complete part.now ∷ [] } }
         ensures room { room_in self.new + 5 + length part.now ≡ room_in self.old }
     {
-        let offset = spell_offset(time_offset);
+        let offset = encode_offset(time_offset);
         let header = header_of(0, complete);
         self.end = put_segment(&mut self.octets, self.end, header, &offset, part);
     }
@@ -88,7 +88,7 @@ impl FramedPdu {
     /// Writes the PDU, and answers how many octets it has.
     pub fn write(&self, into: &mut [u8; 253]) -> usize
         ensures count { result ≡ 2 + length (segments self.now.parts) }
-        ensures spelled { take result into.new ≡ pdu (framed self.now.parts) }
+        ensures encoded { take result into.new ≡ pdu (framed self.now.parts) }
         ensures rest { drop result into.new ≡ drop result into.old }
         ensures read { read_of self.now.max_pdu (take result into.new) ≡ Ok (framed self.now.parts) }
     {
@@ -112,7 +112,7 @@ fn header_of(start_bit: u8, complete: bool) -> u8
 }
 
 // The octets of a time offset, the least first.
-fn spell_offset(time_offset: u32) -> [u8; 3]
+fn encode_offset(time_offset: u32) -> [u8; 3]
     requires { time_offset < 2 ^ 24 }
     ensures { result ≡ offset_octets time_offset }
 {

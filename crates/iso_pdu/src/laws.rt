@@ -3,7 +3,7 @@ ghost use Rattle.std.specs.Prelude.{◌≡◌, ◌≤◌, ◌+◌, ◌↔◌, �
 ghost use Rattle.iso_pdu.specs.Faults.{FaultIs};
 ghost use Rattle.iso_pdu.specs.Layout.{Content, PduIs};
 ghost use Rattle.iso_pdu.specs.Reading.{read_of};
-ghost use Rattle.iso_pdu.specs.Spelling.{payload_of, pdu};
+ghost use Rattle.iso_pdu.specs.Encoding.{payload_of, pdu};
 ghost use Rattle.iso_pdu.specs.declared.fault.PduFault.{PduFault};
 
 /// Exactly the octets of the layout are read, each as what it is the layout of.

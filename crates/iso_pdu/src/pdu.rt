@@ -2,7 +2,7 @@ ghost use Rattle.std.specs.Prelude.{◌≡◌, ◌≤◌, ◌+◌, ◌∷◌, le
 ghost use Rattle.iso_pdu.specs.Faults.{FaultIs};
 ghost use Rattle.iso_pdu.specs.Layout.{fragment, end, PduIs, HasAtMost};
 ghost use Rattle.iso_pdu.specs.Reading.{read_of};
-ghost use Rattle.iso_pdu.specs.Spelling.{pdu};
+ghost use Rattle.iso_pdu.specs.Encoding.{pdu};
 ghost use Rattle.iso_pdu.specs.State.Views.{content_of};
 
 use crate::fault::PduFault;
@@ -66,7 +66,7 @@ fn read_fields<'a>(from: &'a [u8], max_pdu: u8) -> Result<Pdu<'a>, PduFault>
 pub fn write_fragment(part: &[u8], into: &mut [u8; 253]) -> usize
     requires { length part.now ≤ 251 }
     ensures count { result ≡ 2 + length part.now }
-    ensures spelled { take result into.new ≡ pdu (fragment part.now) }
+    ensures encoded { take result into.new ≡ pdu (fragment part.now) }
     ensures rest { drop result into.new ≡ drop result into.old }
 {
     write_payload(0b01, part, into)
@@ -76,7 +76,7 @@ pub fn write_fragment(part: &[u8], into: &mut [u8; 253]) -> usize
 pub fn write_end(part: &[u8], into: &mut [u8; 253]) -> usize
     requires { length part.now ≤ 251 }
     ensures count { result ≡ 2 + length part.now }
-    ensures spelled { take result into.new ≡ pdu (end part.now) }
+    ensures encoded { take result into.new ≡ pdu (end part.now) }
     ensures rest { drop result into.new ≡ drop result into.old }
 {
     write_payload(0b00, part, into)
@@ -86,7 +86,7 @@ pub fn write_end(part: &[u8], into: &mut [u8; 253]) -> usize
 pub(crate) fn write_payload(llid: u8, payload: &[u8], into: &mut [u8; 253]) -> usize
     requires { length payload.now ≤ 251 }
     ensures count { result ≡ 2 + length payload.now }
-    ensures spelled { take result into.new ≡ llid ∷ length payload.now ∷ payload.now }
+    ensures encoded { take result into.new ≡ llid ∷ length payload.now ∷ payload.now }
     ensures rest { drop result into.new ≡ drop result into.old }
 {
     into[0] = llid;

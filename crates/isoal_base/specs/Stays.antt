@@ -1,4 +1,4 @@
--- A stay on a stream: from the moment that a sink is put on a group (Core 5.2, volume 6 part B, section 4.4.6), the PDUs
+-- A stay on a stream: from the moment that a sink is synchronized to a BIG (Core 5.2, volume 6 part B, section 4.4.6), the PDUs
 -- that it hears and the events that it closes. Lists of calls have the newest first.
 use Rattle.std.specs.Prelude.{ℕ, ◌+◌, ◌*◌, ◌/◌, ◌≤◌, ◌≡◌, ◌==◌, nat_le, ◌&&◌, Bool, List, [], ◌∷◌, ◌++◌, map, Option, Some, None, if◌then◌else◌}
 use Rattle.std.specs.List.{range_with_len}

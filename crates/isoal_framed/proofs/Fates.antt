@@ -5,117 +5,117 @@ use Rattle.std.proofs.lemmas.List.{append-nil}
 use Rattle.isoal_framed.specs.Units.{Piece, Fate, whole, broken, undecided, NoneComplete, joined, IsWhole, IsTooLong, IsCut, FateIs, fate_after, fate_of}
 
 -- a piece that fits and doesn't complete, and what follows
-goes : (max_sdu : ℕ) (front : List ℕ) (piece : Piece) (run : List Piece) (followed : Bool) → piece.complete ≡ false
-    → length (front ++ piece.octets) ≤ max_sdu
-    → fate_after max_sdu front (piece ∷ run) followed ≡ fate_after max_sdu (front ++ piece.octets) run followed
-goes max_sdu front piece run followed goes_on fits = search (cond-true, le-leb, cond-false)
+goes : (max_sdu : ℕ) (prefix : List ℕ) (piece : Piece) (run : List Piece) (followed : Bool) → piece.complete ≡ false
+    → length (prefix ++ piece.octets) ≤ max_sdu
+    → fate_after max_sdu prefix (piece ∷ run) followed ≡ fate_after max_sdu (prefix ++ piece.octets) run followed
+goes max_sdu prefix piece run followed goes_on fits = search (cond-true, le-leb, cond-false)
 
-stops : (max_sdu : ℕ) (front : List ℕ) (piece : Piece) (run : List Piece) (followed : Bool) → leb (length (front ++ piece.octets)) max_sdu ≡ false
-    → fate_after max_sdu front (piece ∷ run) followed ≡ broken
-stops max_sdu front piece run followed passes = search cond-false
+stops : (max_sdu : ℕ) (prefix : List ℕ) (piece : Piece) (run : List Piece) (followed : Bool) → leb (length (prefix ++ piece.octets)) max_sdu ≡ false
+    → fate_after max_sdu prefix (piece ∷ run) followed ≡ broken
+stops max_sdu prefix piece run followed passes = search cond-false
 
-behind : (front part rest last : List ℕ) → (front ++ part) ++ (rest ++ last) ≡ front ++ ((part ++ rest) ++ last)
-behind front part rest last = append_assoc front part (rest ++ last) ∙ ap (λ xs. front ++ xs) (sym (append_assoc part rest last))
+behind : (prefix part rest last : List ℕ) → (prefix ++ part) ++ (rest ++ last) ≡ prefix ++ ((part ++ rest) ++ last)
+behind prefix part rest last = append_assoc prefix part (rest ++ last) ∙ ap (λ xs. prefix ++ xs) (sym (append_assoc part rest last))
 
-front_fits : (max_sdu : ℕ) (front rest : List ℕ) → length (front ++ rest) ≤ max_sdu → length front ≤ max_sdu
-front_fits max_sdu front rest fits = omega (arith, length-append front rest)
+prefix_fits : (max_sdu : ℕ) (prefix rest : List ℕ) → length (prefix ++ rest) ≤ max_sdu → length prefix ≤ max_sdu
+prefix_fits max_sdu prefix rest fits = omega (arith, length-append prefix rest)
 
-whole_after : (max_sdu : ℕ) (front : List ℕ) (before : List Piece) (last : List ℕ) (others : List Piece) (followed : Bool)
-    → NoneComplete before → length (front ++ (joined before ++ last)) ≤ max_sdu
-    → fate_after max_sdu front (before ++ record { complete = true; octets = last } ∷ others) followed ≡ whole (front ++ (joined before ++ last))
-whole_after max_sdu front [] last others followed first fits = search (cond-true, le-leb)
-whole_after max_sdu front (piece ∷ before) last others followed first fits =
-    let same : (front ++ piece.octets) ++ (joined before ++ last) ≡ front ++ ((piece.octets ++ joined before) ++ last) =
-    behind front piece.octets (joined before) last in
-    let room : length ((front ++ piece.octets) ++ (joined before ++ last)) ≤ max_sdu = subst (λ xs. length xs ≤ max_sdu) (sym same) fits in
-    goes max_sdu front piece (before ++ record { complete = true; octets = last } ∷ others) followed first.0
-    (front_fits max_sdu (front ++ piece.octets) (joined before ++ last) room)
-    ∙ whole_after max_sdu (front ++ piece.octets) before last others followed first.1 room
+whole_after : (max_sdu : ℕ) (prefix : List ℕ) (before : List Piece) (last : List ℕ) (others : List Piece) (followed : Bool)
+    → NoneComplete before → length (prefix ++ (joined before ++ last)) ≤ max_sdu
+    → fate_after max_sdu prefix (before ++ record { complete = true; octets = last } ∷ others) followed ≡ whole (prefix ++ (joined before ++ last))
+whole_after max_sdu prefix [] last others followed first fits = search (cond-true, le-leb)
+whole_after max_sdu prefix (piece ∷ before) last others followed first fits =
+    let same : (prefix ++ piece.octets) ++ (joined before ++ last) ≡ prefix ++ ((piece.octets ++ joined before) ++ last) =
+    behind prefix piece.octets (joined before) last in
+    let room : length ((prefix ++ piece.octets) ++ (joined before ++ last)) ≤ max_sdu = subst (λ xs. length xs ≤ max_sdu) (sym same) fits in
+    goes max_sdu prefix piece (before ++ record { complete = true; octets = last } ∷ others) followed first.0
+    (prefix_fits max_sdu (prefix ++ piece.octets) (joined before ++ last) room)
+    ∙ whole_after max_sdu (prefix ++ piece.octets) before last others followed first.1 room
     ∙ ap whole same
 
-long_after : (max_sdu : ℕ) (front : List ℕ) (before : List Piece) (last : Piece) (others : List Piece) (followed : Bool)
-    → NoneComplete before → max_sdu < length (front ++ (joined before ++ last.octets))
-    → fate_after max_sdu front (before ++ last ∷ others) followed ≡ broken
-long_after max_sdu front [] last others followed first passes = cc (stops max_sdu front last others followed (lt-leb (length (front ++ last.octets)) max_sdu passes))
-long_after max_sdu front (piece ∷ before) last others followed first passes =
-    elim (cases_Bool (leb (length (front ++ piece.octets)) max_sdu)) [
+long_after : (max_sdu : ℕ) (prefix : List ℕ) (before : List Piece) (last : Piece) (others : List Piece) (followed : Bool)
+    → NoneComplete before → max_sdu < length (prefix ++ (joined before ++ last.octets))
+    → fate_after max_sdu prefix (before ++ last ∷ others) followed ≡ broken
+long_after max_sdu prefix [] last others followed first passes = cc (stops max_sdu prefix last others followed (lt-leb (length (prefix ++ last.octets)) max_sdu passes))
+long_after max_sdu prefix (piece ∷ before) last others followed first passes =
+    elim (cases_Bool (leb (length (prefix ++ piece.octets)) max_sdu)) [
       | inl fits ↦
-          goes max_sdu front piece (before ++ last ∷ others) followed first.0 (leb-true (length (front ++ piece.octets)) max_sdu fits)
-          ∙ long_after max_sdu (front ++ piece.octets) before last others followed first.1
-          (subst (λ xs. max_sdu < length xs) (sym (behind front piece.octets (joined before) last.octets)) passes)
-      | inr over ↦ stops max_sdu front piece (before ++ last ∷ others) followed over
+          goes max_sdu prefix piece (before ++ last ∷ others) followed first.0 (leb-true (length (prefix ++ piece.octets)) max_sdu fits)
+          ∙ long_after max_sdu (prefix ++ piece.octets) before last others followed first.1
+          (subst (λ xs. max_sdu < length xs) (sym (behind prefix piece.octets (joined before) last.octets)) passes)
+      | inr over ↦ stops max_sdu prefix piece (before ++ last ∷ others) followed over
     ]
 
-cut_after : (max_sdu : ℕ) (front : List ℕ) (run : List Piece) → NoneComplete run → fate_after max_sdu front run true ≡ broken
-cut_after max_sdu front [] first = refl
-cut_after max_sdu front (piece ∷ run) first = elim (cases_Bool (leb (length (front ++ piece.octets)) max_sdu)) [
-  | inl fits ↦ goes max_sdu front piece run true first.0 (leb-true (length (front ++ piece.octets)) max_sdu fits)
-      ∙ cut_after max_sdu (front ++ piece.octets) run first.1
-  | inr over ↦ stops max_sdu front piece run true over
+cut_after : (max_sdu : ℕ) (prefix : List ℕ) (run : List Piece) → NoneComplete run → fate_after max_sdu prefix run true ≡ broken
+cut_after max_sdu prefix [] first = refl
+cut_after max_sdu prefix (piece ∷ run) first = elim (cases_Bool (leb (length (prefix ++ piece.octets)) max_sdu)) [
+  | inl fits ↦ goes max_sdu prefix piece run true first.0 (leb-true (length (prefix ++ piece.octets)) max_sdu fits)
+      ∙ cut_after max_sdu (prefix ++ piece.octets) run first.1
+  | inr over ↦ stops max_sdu prefix piece run true over
 ]
 
--- what the fate tells, behind a front
-record WholeAfter (max_sdu : ℕ) (front : List ℕ) (run : List Piece) (octets : List ℕ) : Type 0 where
+-- what the fate tells, behind a prefix
+record WholeAfter (max_sdu : ℕ) (prefix : List ℕ) (run : List Piece) (octets : List ℕ) : Type 0 where
   before : List Piece
   last : List ℕ
   others : List Piece
   run_is : run ≡ before ++ record { complete = true; octets = last } ∷ others
   first : NoneComplete before
-  octets_are : octets ≡ front ++ (joined before ++ last)
+  octets_are : octets ≡ prefix ++ (joined before ++ last)
   fits : length octets ≤ max_sdu
 
-record LongAfter (max_sdu : ℕ) (front : List ℕ) (run : List Piece) : Type 0 where
+record LongAfter (max_sdu : ℕ) (prefix : List ℕ) (run : List Piece) : Type 0 where
   before : List Piece
   last : Piece
   others : List Piece
   run_is : run ≡ before ++ last ∷ others
   first : NoneComplete before
-  passes : max_sdu < length (front ++ (joined before ++ last.octets))
+  passes : max_sdu < length (prefix ++ (joined before ++ last.octets))
 
 abbrev Tells : ℕ → List ℕ → List Piece → Bool → Fate → Type 0
-Tells max_sdu front run followed (whole octets) = WholeAfter max_sdu front run octets
-Tells max_sdu front run followed broken = LongAfter max_sdu front run ⊎ IsCut run followed
-Tells max_sdu front run followed (undecided octets) = (octets ≡ front ++ joined run) × (followed ≡ false)
+Tells max_sdu prefix run followed (whole octets) = WholeAfter max_sdu prefix run octets
+Tells max_sdu prefix run followed broken = LongAfter max_sdu prefix run ⊎ IsCut run followed
+Tells max_sdu prefix run followed (undecided octets) = (octets ≡ prefix ++ joined run) × (followed ≡ false)
 
-more_told : (max_sdu : ℕ) (front : List ℕ) (piece : Piece) (run : List Piece) (followed : Bool) (fate : Fate) → piece.complete ≡ false
-    → Tells max_sdu (front ++ piece.octets) run followed fate → Tells max_sdu front (piece ∷ run) followed fate
-more_told max_sdu front piece run followed (whole octets) goes_on told = record {
+more_told : (max_sdu : ℕ) (prefix : List ℕ) (piece : Piece) (run : List Piece) (followed : Bool) (fate : Fate) → piece.complete ≡ false
+    → Tells max_sdu (prefix ++ piece.octets) run followed fate → Tells max_sdu prefix (piece ∷ run) followed fate
+more_told max_sdu prefix piece run followed (whole octets) goes_on told = record {
   before = piece ∷ told.before;
   last = told.last;
   others = told.others;
   run_is = ap (λ xs. piece ∷ xs) told.run_is;
   first = (goes_on, told.first);
-  octets_are = told.octets_are ∙ behind front piece.octets (joined told.before) told.last;
+  octets_are = told.octets_are ∙ behind prefix piece.octets (joined told.before) told.last;
   fits = told.fits;
 }
-more_told max_sdu front piece run followed broken goes_on (inl long) = inl (record {
+more_told max_sdu prefix piece run followed broken goes_on (inl long) = inl (record {
   before = piece ∷ long.before;
   last = long.last;
   others = long.others;
   run_is = ap (λ xs. piece ∷ xs) long.run_is;
   first = (goes_on, long.first);
-  passes = subst (λ xs. max_sdu < length xs) (behind front piece.octets (joined long.before) long.last.octets) long.passes;
+  passes = subst (λ xs. max_sdu < length xs) (behind prefix piece.octets (joined long.before) long.last.octets) long.passes;
 })
-more_told max_sdu front piece run followed broken goes_on (inr cut) = inr ((goes_on, cut.0), cut.1)
-more_told max_sdu front piece run followed (undecided octets) goes_on told = grind (arith, append_assoc)
+more_told max_sdu prefix piece run followed broken goes_on (inr cut) = inr ((goes_on, cut.0), cut.1)
+more_told max_sdu prefix piece run followed (undecided octets) goes_on told = grind (arith, append_assoc)
 
-tells : (max_sdu : ℕ) (front : List ℕ) (run : List Piece) (followed : Bool) → Tells max_sdu front run followed (fate_after max_sdu front run followed)
-tells max_sdu front [] true = inr (tt, refl)
-tells max_sdu front [] false = (sym (append-nil front), refl)
-tells max_sdu front (piece ∷ run) followed = elim (cases_Bool (leb (length (front ++ piece.octets)) max_sdu)) [
-  | inr over ↦ subst (Tells max_sdu front (piece ∷ run) followed) (sym (stops max_sdu front piece run followed over)) (inl (record {
+tells : (max_sdu : ℕ) (prefix : List ℕ) (run : List Piece) (followed : Bool) → Tells max_sdu prefix run followed (fate_after max_sdu prefix run followed)
+tells max_sdu prefix [] true = inr (tt, refl)
+tells max_sdu prefix [] false = (sym (append-nil prefix), refl)
+tells max_sdu prefix (piece ∷ run) followed = elim (cases_Bool (leb (length (prefix ++ piece.octets)) max_sdu)) [
+  | inr over ↦ subst (Tells max_sdu prefix (piece ∷ run) followed) (sym (stops max_sdu prefix piece run followed over)) (inl (record {
     before = [];
     last = piece;
     others = run;
     run_is = refl;
     first = tt;
-    passes = leb-false (length (front ++ piece.octets)) max_sdu over;
+    passes = leb-false (length (prefix ++ piece.octets)) max_sdu over;
   }))
   | inl fits ↦ elim (cases_Bool piece.complete) [
-    | inl complete ↦ subst (Tells max_sdu front (piece ∷ run) followed)
-        (sym (cond-true (leb (length (front ++ piece.octets)) max_sdu)
-        (cond piece.complete (whole (front ++ piece.octets)) (fate_after max_sdu (front ++ piece.octets) run followed)) broken fits
-        ∙ cond-true piece.complete (whole (front ++ piece.octets)) (fate_after max_sdu (front ++ piece.octets) run followed) complete))
+    | inl complete ↦ subst (Tells max_sdu prefix (piece ∷ run) followed)
+        (sym (cond-true (leb (length (prefix ++ piece.octets)) max_sdu)
+        (cond piece.complete (whole (prefix ++ piece.octets)) (fate_after max_sdu (prefix ++ piece.octets) run followed)) broken fits
+        ∙ cond-true piece.complete (whole (prefix ++ piece.octets)) (fate_after max_sdu (prefix ++ piece.octets) run followed) complete))
         (record {
           before = [];
           last = piece.octets;
@@ -123,12 +123,12 @@ tells max_sdu front (piece ∷ run) followed = elim (cases_Bool (leb (length (fr
           run_is = ap (λ flag. record { complete = flag; octets = piece.octets } ∷ run) complete;
           first = tt;
           octets_are = refl;
-          fits = leb-true (length (front ++ piece.octets)) max_sdu fits;
+          fits = leb-true (length (prefix ++ piece.octets)) max_sdu fits;
         })
-    | inr goes_on ↦ subst (Tells max_sdu front (piece ∷ run) followed)
-        (sym (goes max_sdu front piece run followed goes_on (leb-true (length (front ++ piece.octets)) max_sdu fits)))
-        (more_told max_sdu front piece run followed (fate_after max_sdu (front ++ piece.octets) run followed) goes_on
-        (tells max_sdu (front ++ piece.octets) run followed))
+    | inr goes_on ↦ subst (Tells max_sdu prefix (piece ∷ run) followed)
+        (sym (goes max_sdu prefix piece run followed goes_on (leb-true (length (prefix ++ piece.octets)) max_sdu fits)))
+        (more_told max_sdu prefix piece run followed (fate_after max_sdu (prefix ++ piece.octets) run followed) goes_on
+        (tells max_sdu (prefix ++ piece.octets) run followed))
   ]
 ]
 

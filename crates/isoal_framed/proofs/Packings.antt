@@ -5,7 +5,7 @@ use Rattle.std.proofs.lemmas.Bool.{false≢true}
 use Rattle.std.proofs.lemmas.Option.{none-some, slice_get_past, same_Some}
 use Rattle.iso_pdu.specs.Layout.{framed}
 use Rattle.iso_pdu.specs.State.Packing.{room_in}
-use Rattle.iso_pdu.specs.Spelling.{pdu}
+use Rattle.iso_pdu.specs.Encoding.{pdu}
 use Rattle.isoal_base.proofs.Citable.{cases_option}
 use Rattle.isoal_framed.specs.Air.{pdus_ended}
 use Rattle.isoal_framed.specs.Calls.{Timed}

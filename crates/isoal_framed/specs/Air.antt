@@ -1,10 +1,10 @@
 -- FramedAir: what a sender of a framed stream lays (Core 5.2, volume 6 part G, section 2.2). A relation: the acts of
--- each event meet the conditions on their places, and the PDUs are the spelling of these acts.
+-- each event meet the conditions on their places, and the PDUs are the encoding of these acts.
 use Rattle.std.specs.Prelude.{ℕ, suc, ◌+◌, ◌-◌, ◌≡◌, ◌==◌, Bool, List, [], ◌∷◌, ◌++◌, take, drop, Option, Some, None, if◌then◌else◌}
 use Rattle.std.specs.List.{slice_get}
 use Rattle.big_info.specs.declared.info.BigInfo.{BigInfo}
 use Rattle.iso_pdu.specs.Layout.{Part, start, more, framed}
-use Rattle.iso_pdu.specs.Spelling.{pdu}
+use Rattle.iso_pdu.specs.Encoding.{pdu}
 use Rattle.isoal_base.specs.Air.{Laid, Air}
 use Rattle.isoal_framed.specs.Calls.{Call, accept, lay, Timed, accepted}
 use Rattle.isoal_framed.specs.Places.{Act, carries, leaves_out, ends, done, sent, place_of, Comes}

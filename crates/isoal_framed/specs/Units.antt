@@ -48,7 +48,7 @@ pub record IsWhole (max_sdu : ℕ) (run : List Piece) (octets : List ℕ) : Type
   pub octets_are : octets ≡ joined before ++ last
   pub fits : length octets ≤ max_sdu
 
--- a front of the run, in which no token but perhaps the last is complete, has too many octets
+-- a prefix of the run, in which no token but perhaps the last is complete, has too many octets
 pub record IsTooLong (max_sdu : ℕ) (run : List Piece) : Type 0 where
   pub before : List Piece
   pub last : Piece
@@ -67,12 +67,12 @@ FateIs max_sdu run followed broken = IsTooLong max_sdu run ⊎ IsCut run followe
 FateIs max_sdu run followed (undecided octets) =
     ((unit : List ℕ) → ¬ IsWhole max_sdu run unit) × (¬ IsTooLong max_sdu run) × (¬ IsCut run followed) × (octets ≡ joined run)
 
--- the same from left to right, behind a front that is read already
+-- the same from left to right, behind a prefix that is read already
 abbrev pub fate_after : ℕ → List ℕ → List Piece → Bool → Fate
-fate_after max_sdu front [] followed = if followed then broken else undecided front
-fate_after max_sdu front (piece ∷ run) followed =
-    if nat_le (length (front ++ piece.octets)) max_sdu then
-    (if piece.complete then whole (front ++ piece.octets) else fate_after max_sdu (front ++ piece.octets) run followed)
+fate_after max_sdu prefix [] followed = if followed then broken else undecided prefix
+fate_after max_sdu prefix (piece ∷ run) followed =
+    if nat_le (length (prefix ++ piece.octets)) max_sdu then
+    (if piece.complete then whole (prefix ++ piece.octets) else fate_after max_sdu (prefix ++ piece.octets) run followed)
     else broken
 
 abbrev pub fate_of : ℕ → List Piece → Bool → Fate

@@ -1,15 +1,15 @@
 -- Events of a framed stream (Core 5.2, volume 6 part G, section 2.2), worked by hand: their acts, the newest first, and
--- what they spell, with PDUs of at most 10 octets.
+-- what they encode, with PDUs of at most 10 octets.
 use Rattle.std.specs.Prelude.{ℕ, ◌≡◌, true, false, List, [], ◌∷◌}
 use Rattle.isoal_base.specs.Air.{Laid}
 use Rattle.isoal_framed.specs.Air.{AllCome, event_of}
 use Rattle.isoal_framed.specs.Calls.{Timed}
 use Rattle.isoal_framed.specs.Places.{Act, carries, leaves_out, ends}
 
--- these acts come behind the earlier ones, and spell this event
+-- these acts come behind the earlier ones, and encode this event
 pub record IsWorked (units : List Timed) (anchor : ℕ) (earlier acts : List Act) (event : Laid) : Type 0 where
   pub come : AllCome 10 units anchor earlier acts
-  pub spelled : event_of units anchor earlier acts ≡ event
+  pub encoded : event_of units anchor earlier acts ≡ event
 
 abbrev pub long_unit : Timed
 long_unit = record { time = 15000; octets = 0xd0 ∷ 0xd1 ∷ 0xd2 ∷ 0xd3 ∷ 0xd4 ∷ 0xd5 ∷ 0xd6 ∷ 0xd7 ∷ [] }

@@ -21,7 +21,7 @@ use std::alloc::Global;
 use std::marker::Model;
 use unit_outlets::{TakerFault, UnitTaker};
 
-/// The receiver of a framed stream from the moment that a sink is put on a group. It keeps the PDUs of the open event
+/// The receiver of a framed stream from the moment that a sink is synchronized to a BIG. It keeps the PDUs of the open event
 /// and of the H events after it, and the octets of the start that the closed events don't decide.
 #[derive(Drop)]
 pub struct FramedIn {

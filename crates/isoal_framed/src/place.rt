@@ -42,7 +42,7 @@ impl Place {
         requires { length pdu.now ≤ 253 }
         ensures { octets_in self.new ≡ pdu.now }
     {
-        put_front(&mut self.octets, pdu);
+        put_prefix(&mut self.octets, pdu);
         self.count = pdu.len();
     }
 
@@ -55,10 +55,10 @@ impl Place {
 }
 
 /// Puts octets at the front of a buffer.
-fn put_front(buffer: &mut Vec<u8>, octets: &[u8])
+fn put_prefix(buffer: &mut Vec<u8>, octets: &[u8])
     requires { length octets.now ≤ vec_len buffer.old }
     ensures room { vec_len buffer.new ≡ vec_len buffer.old }
-    ensures front { take (length octets.now) buffer.new.items ≡ octets.now }
+    ensures prefix { take (length octets.now) buffer.new.items ≡ octets.now }
 {
     let end = octets.len();
     buffer[0..end].copy_from_slice(octets);

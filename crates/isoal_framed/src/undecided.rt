@@ -91,7 +91,7 @@ impl UndecidedRun {
         let count = started.count + part.len();
         self.append(started.count, part);
         if complete {
-            return valid(so_far, taker, bis, started.time, self.front(count));
+            return valid(so_far, taker, bis, started.time, self.prefix(count));
         }
         self.started = Some(Started {
             time: started.time,
@@ -111,7 +111,7 @@ impl UndecidedRun {
     }
 
     /// The first `count` octets.
-    fn front(&self, count: usize) -> &[u8]
+    fn prefix(&self, count: usize) -> &[u8]
         requires { count ≤ vec_len self.now.octets }
         ensures { result.now ≡ take count self.now.octets.items }
     {

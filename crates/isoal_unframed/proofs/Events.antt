@@ -8,7 +8,7 @@ use Rattle.std.specs.List.{range_with_len, slice_get}
 use Rattle.std.specs.Option.{option_and_then}
 use Rattle.big_info.specs.Schedule.{per_event_of, per_unit_of}
 use Rattle.big_info.specs.declared.info.BigInfo.{BigInfo}
-use Rattle.iso_pdu.specs.Spelling.{pdu}
+use Rattle.iso_pdu.specs.Encoding.{pdu}
 use Rattle.isoal_unframed.proofs.Rows.{map_same, rows}
 use Rattle.isoal_base.specs.Air.{Laid, event_at, pdu_at}
 use Rattle.isoal_unframed.specs.Air.{laid_u, next_event, unframed_air, unit_at}

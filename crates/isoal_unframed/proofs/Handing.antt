@@ -23,9 +23,9 @@ pub get-owed : (stay : Stay) (event : ℕ) (kept : List (Option Content)) (slot 
     → get_or (owed_of stay event kept) slot d ≡ owed_at stay event kept slot
 get-owed stay event kept slot d below = grind (arith, get_or-map-range_with_len)
 
-pub front_more : {A : Type 0} (start first : ℕ) (was now new : List A) → start ≤ first → take start now ≡ take start was
+pub prefix_more : {A : Type 0} (start first : ℕ) (was now new : List A) → start ≤ first → take start now ≡ take start was
     → take first new ≡ take first now → take start new ≡ take start was
-front_more start first was now new order before same = grind (arith, take-take start first new order, take-take start first now order)
+prefix_more start first was now new order before same = grind (arith, take-take start first new order, take-take start first now order)
 
 pub behind_more : {A : Type 0} (first m end : ℕ) (was now new : List A) → drop first now ≡ drop first was
     → drop (first + m) new ≡ drop (first + m) now → first + m ≤ end → drop end new ≡ drop end was

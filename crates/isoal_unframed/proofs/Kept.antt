@@ -59,14 +59,14 @@ kept_same m (cell ∷ cells) a b all same =
     ∙ ap (λ xs. entry_in cell b ∷ xs) (kept_same m cells (drop m a) (drop m b) (all_more m cell cells all) behind)
 
 -- octets moved down to `len`, behind what stands there
-pub moved_front : (block : List ℕ) (len from count : ℕ) → len ≤ from → from + count ≤ length block
+pub moved_prefix : (block : List ℕ) (len from count : ℕ) → len ≤ from → from + count ≤ length block
     → take (len + count) (take len block ++ take count (drop from block) ++ drop (len + count) block) ≡ take len block ++ take count (drop from block)
-moved_front block len from count order room = grind (arith, length-take-le, length-drop, take_at, length-append)
+moved_prefix block len from count order room = grind (arith, length-take-le, length-drop, take_at, length-append)
 
 pub moved_rest : (block : List ℕ) (len from count behind : ℕ) → len ≤ from → from + count ≤ length block → len + count ≤ behind
     → drop behind (take len block ++ take count (drop from block) ++ drop (len + count) block) ≡ drop behind block
 moved_rest block len from count behind order room past =
-    let front : length (take len block) ≡ len = length-take-le len block (omega arith) in
+    let prefix : length (take len block) ≡ len = length-take-le len block (omega arith) in
     let rest : length (drop from block) ≡ length block - from = length-drop from block in
     let part : length (take count (drop from block)) ≡ count = length-take-le count (drop from block) (omega arith) in
     let both : length (take len block ++ take count (drop from block)) ≡ len + count =
@@ -94,7 +94,7 @@ pub gather_more : (m most len from count part at : ℕ) (cells : List Cell) (blo
     → unit_after most (take (len + count) moved) (kept_in m (drop (at + 1) cells) (drop (from + m) moved))
     ≡ unit_after most (take len block) (kept_in m (drop at cells) (drop from block))
 gather_more m most len from count part at cells block moved below is_cell same fits order room copied =
-    grind (arith, moved_front, moved_rest, drop-drop, drop_more)
+    grind (arith, moved_prefix, moved_rest, drop-drop, drop_more)
 
 -- the entry at a place
 pub get-kept : (m at : ℕ) (cells : List Cell) (block : List ℕ) → at < length cells
@@ -157,9 +157,9 @@ kept_cleared m first n cells block within =
     grind (arith, length-take-le, length-replicate, add-mul, kept-append, kept_replicate, drop-drop, drop-kept, take-kept)
 
 -- octets in a slot's places are moved: the entries in front of it and behind it stay
-pub kept_front : (m first : ℕ) (cells : List Cell) (a b : List ℕ) → All (Within m) cells → first ≤ length cells
+pub kept_prefix : (m first : ℕ) (cells : List Cell) (a b : List ℕ) → All (Within m) cells → first ≤ length cells
     → take (first * m) a ≡ take (first * m) b → take first (kept_in m cells a) ≡ take first (kept_in m cells b)
-kept_front m first cells a b all within same = grind (arith, length-take-le, get_or-take, take-kept, kept_same)
+kept_prefix m first cells a b all within same = grind (arith, length-take-le, get_or-take, take-kept, kept_same)
 
 pub kept_behind : (m behind : ℕ) (cells : List Cell) (a b : List ℕ)
     → drop (behind * m) a ≡ drop (behind * m) b → drop behind (kept_in m cells a) ≡ drop behind (kept_in m cells b)
@@ -197,10 +197,10 @@ slot_size : (m first n : ℕ) (cells : List Cell) (items : List ℕ) → first +
     → first * m + n * m ≤ length items
 slot_size m first n cells items within size = grind (arith, add-mul first n m, mul-le (first + n) m (length cells) m within (omega arith))
 
-pub slot_front : (m first n : ℕ) (cells : List Cell) (items ys block : List ℕ) → All (Within m) cells → first + n ≤ length cells
+pub slot_prefix : (m first n : ℕ) (cells : List Cell) (items ys block : List ℕ) → All (Within m) cells → first + n ≤ length cells
     → length items ≡ length cells * m → block ≡ take (first * m) items ++ (ys ++ drop (first * m + n * m) items)
     → take first (kept_in m cells block) ≡ take first (kept_in m cells items)
-slot_front m first n cells items ys block all within size is = grind (arith, slot_size, kept_front, take_at, length-take-le)
+slot_prefix m first n cells items ys block all within size is = grind (arith, slot_size, kept_prefix, take_at, length-take-le)
 
 pub slot_behind : (m first n : ℕ) (cells : List Cell) (items ys block : List ℕ) → first + n ≤ length cells
     → length items ≡ length cells * m → length ys ≡ n * m → block ≡ take (first * m) items ++ (ys ++ drop (first * m + n * m) items)
@@ -208,7 +208,7 @@ pub slot_behind : (m first n : ℕ) (cells : List Cell) (items ys block : List �
 slot_behind m first n cells items ys block within size count is =
     let room : first * m + n * m ≤ length items = slot_size m first n cells items within size in
     let sum : first * m + n * m ≡ (first + n) * m = sym (add-mul first n m) in
-    let front : length (take (first * m) items) ≡ first * m = length-take-le (first * m) items (omega arith) in
+    let prefix : length (take (first * m) items) ≡ first * m = length-take-le (first * m) items (omega arith) in
     kept_behind m (first + n) cells block items
     (ap (λ k. drop k block) (sym sum)
     ∙ ap (drop (first * m + n * m)) (is ∙ sym (append_assoc (take (first * m) items) ys (drop (first * m + n * m) items)))

@@ -97,39 +97,39 @@ abbrev pub Carries : ℕ → List ℕ → List (Option Content) → Type 0
 Carries m unit slot = (r : ℕ) → r < fragments_of m unit → (content : Content) × (slice_get slot r ≡ Some (Some content))
 
 -- padding has no unit
-pub padding_none : (m most : ℕ) (front : List ℕ) (slot : List (Option Content)) → Agrees m None slot → unit_after most front slot ≡ None
-padding_none m most front [] agrees = refl
-padding_none m most front (None ∷ slot) agrees = refl
-padding_none m most front (Some content ∷ slot) agrees =
-    ap (λ c. unit_after most front (Some c ∷ slot)) (agrees 0 content refl)
-    ∙ padding_none m most (front ++ []) slot (λ r other is. agrees (suc r) other is)
+pub padding_none : (m most : ℕ) (prefix : List ℕ) (slot : List (Option Content)) → Agrees m None slot → unit_after most prefix slot ≡ None
+padding_none m most prefix [] agrees = refl
+padding_none m most prefix (None ∷ slot) agrees = refl
+padding_none m most prefix (Some content ∷ slot) agrees =
+    ap (λ c. unit_after most prefix (Some c ∷ slot)) (agrees 0 content refl)
+    ∙ padding_none m most (prefix ++ []) slot (λ r other is. agrees (suc r) other is)
 
 -- where the slot keeps all that carry the unit, it has the unit
-pub carried_unit : (m most : ℕ) (front unit : List ℕ) (slot : List (Option Content)) → 0 < m → length (front ++ unit) ≤ most
-    → Agrees m (Some unit) slot → Carries m unit slot → unit_after most front slot ≡ Some (front ++ unit)
-carried_unit m most front unit [] positive fits agrees carries =
+pub carried_unit : (m most : ℕ) (prefix unit : List ℕ) (slot : List (Option Content)) → 0 < m → length (prefix ++ unit) ≤ most
+    → Agrees m (Some unit) slot → Carries m unit slot → unit_after most prefix slot ≡ Some (prefix ++ unit)
+carried_unit m most prefix unit [] positive fits agrees carries =
     absurd (none-some (Some (carries 0 (omega arith)).0) (carries 0 (omega arith)).1)
-carried_unit m most front unit (None ∷ slot) positive fits agrees carries =
+carried_unit m most prefix unit (None ∷ slot) positive fits agrees carries =
     absurd (none-some (carries 0 (omega arith)).0 (same_Some None (Some (carries 0 (omega arith)).0) (carries 0 (omega arith)).1))
-carried_unit m most front unit (Some content ∷ slot) positive fits agrees carries =
+carried_unit m most prefix unit (Some content ∷ slot) positive fits agrees carries =
     let start : 0 * m ≡ 0 = omega arith in
     let here : content ≡ laid_unit m unit 0 = agrees 0 content refl in
     elim (cases_lt m (length unit)) [
       | inl past ↦
           let count : fragments_of m unit ≡ fragments_of m (drop m unit) + 1 = more_fragments m unit positive past in
           let full : content ≡ fragment (take m unit) = here ∙ laid_full m unit 0 (omega arith) ∙ ap (λ k. fragment (take m (drop k unit))) start in
-          let whole : (front ++ take m unit) ++ drop m unit ≡ front ++ unit =
-          append_assoc front (take m unit) (drop m unit) ∙ ap (λ xs. front ++ xs) (take-append-drop m unit) in
-          ap (λ c. unit_after most front (Some c ∷ slot)) full
-          ∙ carried_unit m most (front ++ take m unit) (drop m unit) slot positive (subst (λ xs. length xs ≤ most) (sym whole) fits)
+          let whole : (prefix ++ take m unit) ++ drop m unit ≡ prefix ++ unit =
+          append_assoc prefix (take m unit) (drop m unit) ∙ ap (λ xs. prefix ++ xs) (take-append-drop m unit) in
+          ap (λ c. unit_after most prefix (Some c ∷ slot)) full
+          ∙ carried_unit m most (prefix ++ take m unit) (drop m unit) slot positive (subst (λ xs. length xs ≤ most) (sym whole) fits)
           (λ r other is. agrees (suc r) other is ∙ ap (laid_unit m unit) (omega arith) ∙ laid_next m unit r positive past)
           (λ r below. carries (suc r) (omega arith))
           ∙ ap Some whole
       | inr small ↦
           let one : fragments_of m unit ≡ 1 = one_fragment m unit positive small in
           let last : content ≡ end unit = here ∙ laid_end m unit 0 (omega arith) ∙ ap (λ k. end (drop k unit)) start in
-          ap (λ c. unit_after most front (Some c ∷ slot)) last
-          ∙ cond-true (leb (length (front ++ unit)) most) (Some (front ++ unit)) None (le-leb (length (front ++ unit)) most fits)
+          ap (λ c. unit_after most prefix (Some c ∷ slot)) last
+          ∙ cond-true (leb (length (prefix ++ unit)) most) (Some (prefix ++ unit)) None (le-leb (length (prefix ++ unit)) most fits)
     ]
 
 carries_more : (content : Content) (slot : List (Option Content)) (n count : ℕ) → count ≡ n + 1
@@ -144,29 +144,29 @@ carries_one content slot count is zero below = (content, refl)
 carries_one content slot count is (suc r) below = absurd (omega arith)
 
 -- a unit that a slot has is the laid one, and the slot keeps all that carry it
-pub unit_carried : (m most : ℕ) (front unit : List ℕ) (slot : List (Option Content)) (octets : List ℕ) → 0 < m
-    → Agrees m (Some unit) slot → unit_after most front slot ≡ Some octets → Carries m unit slot × (octets ≡ front ++ unit)
-unit_carried m most front unit [] octets positive agrees is = absurd (none-some octets is)
-unit_carried m most front unit (None ∷ slot) octets positive agrees is = absurd (none-some octets is)
-unit_carried m most front unit (Some content ∷ slot) octets positive agrees is =
+pub unit_carried : (m most : ℕ) (prefix unit : List ℕ) (slot : List (Option Content)) (octets : List ℕ) → 0 < m
+    → Agrees m (Some unit) slot → unit_after most prefix slot ≡ Some octets → Carries m unit slot × (octets ≡ prefix ++ unit)
+unit_carried m most prefix unit [] octets positive agrees is = absurd (none-some octets is)
+unit_carried m most prefix unit (None ∷ slot) octets positive agrees is = absurd (none-some octets is)
+unit_carried m most prefix unit (Some content ∷ slot) octets positive agrees is =
     let start : 0 * m ≡ 0 = omega arith in
     let here : content ≡ laid_unit m unit 0 = agrees 0 content refl in
     elim (cases_lt m (length unit)) [
       | inl past ↦
           let count : fragments_of m unit ≡ fragments_of m (drop m unit) + 1 = more_fragments m unit positive past in
           let full : content ≡ fragment (take m unit) = here ∙ laid_full m unit 0 (omega arith) ∙ ap (λ k. fragment (take m (drop k unit))) start in
-          let whole : (front ++ take m unit) ++ drop m unit ≡ front ++ unit =
-          append_assoc front (take m unit) (drop m unit) ∙ ap (λ xs. front ++ xs) (take-append-drop m unit) in
-          let rest : Carries m (drop m unit) slot × (octets ≡ (front ++ take m unit) ++ drop m unit) =
-          unit_carried m most (front ++ take m unit) (drop m unit) slot octets positive
+          let whole : (prefix ++ take m unit) ++ drop m unit ≡ prefix ++ unit =
+          append_assoc prefix (take m unit) (drop m unit) ∙ ap (λ xs. prefix ++ xs) (take-append-drop m unit) in
+          let rest : Carries m (drop m unit) slot × (octets ≡ (prefix ++ take m unit) ++ drop m unit) =
+          unit_carried m most (prefix ++ take m unit) (drop m unit) slot octets positive
           (λ r other at. agrees (suc r) other at ∙ ap (laid_unit m unit) (omega arith) ∙ laid_next m unit r positive past)
-          (sym (ap (λ c. unit_after most front (Some c ∷ slot)) full) ∙ is) in
+          (sym (ap (λ c. unit_after most prefix (Some c ∷ slot)) full) ∙ is) in
           (carries_more content slot (fragments_of m (drop m unit)) (fragments_of m unit) count rest.0, rest.1 ∙ whole)
       | inr small ↦
           let one : fragments_of m unit ≡ 1 = one_fragment m unit positive small in
           let last : content ≡ end unit = here ∙ laid_end m unit 0 (omega arith) ∙ ap (λ k. end (drop k unit)) start in
-          let both : (leb (length (front ++ unit)) most ≡ true) × (front ++ unit ≡ octets) =
-          cond_some (leb (length (front ++ unit)) most) (front ++ unit) octets (sym (ap (λ c. unit_after most front (Some c ∷ slot)) last) ∙ is) in
+          let both : (leb (length (prefix ++ unit)) most ≡ true) × (prefix ++ unit ≡ octets) =
+          cond_some (leb (length (prefix ++ unit)) most) (prefix ++ unit) octets (sym (ap (λ c. unit_after most prefix (Some c ∷ slot)) last) ∙ is) in
           (carries_one content slot (fragments_of m unit) one, sym both.1)
     ]
 

@@ -8,7 +8,7 @@ use Rattle.std.proofs.lemmas.Grind.{div_ceil_times}
 use Rattle.std.specs.Int.{div_ceil}
 use Rattle.std.specs.List.{flat_map, range_with_len}
 use Rattle.iso_pdu.specs.Layout.{fragment, end}
-use Rattle.iso_pdu.specs.Spelling.{payload_of, pdu}
+use Rattle.iso_pdu.specs.Encoding.{payload_of, pdu}
 use Rattle.isoal_unframed.proofs.Rows.{flat_map_nothing, flat_map_same, map_same}
 use Rattle.isoal_unframed.specs.Slot.{fragments_of, laid_unit}
 use Rattle.isoal_unframed.specs.State.Sender.{Begins}

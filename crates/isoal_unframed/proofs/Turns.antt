@@ -10,14 +10,14 @@ use Rattle.iso_pdu.specs.Layout.{Content}
 use Rattle.isoal_unframed.specs.State.Cells.{turned}
 
 -- the place of an index
-abbrev pub spot : ℕ → ℕ → ℕ → ℕ
-spot place index window = cond (ltb (place + index) window) (place + index) (place + index - window)
+abbrev pub position : ℕ → ℕ → ℕ → ℕ
+position place index window = cond (ltb (place + index) window) (place + index) (place + index - window)
 
 pub length-turned : (place : ℕ) (kept : List (Option Content)) → place ≤ length kept → length (turned place kept) ≡ length kept
 length-turned place kept within = grind (arith, length-drop, length-take-le, length-append)
 
 pub get-turned : (place index : ℕ) (kept : List (Option Content)) → place ≤ length kept → index < length kept
-    → get_or (turned place kept) index None ≡ get_or kept (spot place index (length kept)) None
+    → get_or (turned place kept) index None ≡ get_or kept (position place index (length kept)) None
 get-turned place index kept within below =
     grind (
       arith,
@@ -41,7 +41,7 @@ take-set_low (suc n) zero x (y ∷ xs) below = refl
 take-set_low (suc n) (suc i) x (y ∷ xs) below = ap (λ ys. y ∷ ys) (take-set_low n i x xs (omega arith))
 
 pub set-turned : (place index : ℕ) (kept : List (Option Content)) (entry : Option Content) → place ≤ length kept → index < length kept
-    → turned place (set kept (spot place index (length kept)) entry) ≡ set (turned place kept) index entry
+    → turned place (set kept (position place index (length kept)) entry) ≡ set (turned place kept) index entry
 set-turned place index kept entry within below =
     let rest : length (drop place kept) ≡ length kept - place = length-drop place kept in
     elim (cases_Bool (ltb (place + index) (length kept))) [
@@ -67,7 +67,7 @@ pub turned_next : (place bn : ℕ) (was now : List (Option Content)) → place +
     → now ≡ take place was ++ (replicate bn None ++ drop (place + bn) was)
     → turned (place + bn) now ≡ drop bn (turned place was) ++ replicate bn None
 turned_next place bn was now within is =
-    let front : length (take place was) ≡ place = length-take-le place was (omega arith) in
+    let prefix : length (take place was) ≡ place = length-take-le place was (omega arith) in
     let many : length (replicate {A = Option Content} bn None) ≡ bn = length-replicate bn None in
     let both : length (take place was ++ replicate bn None) ≡ place + bn = length-append (take place was) (replicate bn None) ∙ omega arith in
     let joined : now ≡ (take place was ++ replicate bn None) ++ drop (place + bn) was =

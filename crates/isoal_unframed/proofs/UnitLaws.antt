@@ -8,30 +8,30 @@ use Rattle.iso_pdu.specs.Layout.{Content, end, fragment}
 use Rattle.isoal_base.proofs.Citable.{cases_option}
 use Rattle.isoal_unframed.specs.Units.{IsUnit, unit_after, unit_of}
 
--- a unit behind a front
-record IsUnitAfter (max_sdu : ℕ) (front : List ℕ) (slot : List (Option Content)) (octets : List ℕ) : Type 0 where
+-- a unit behind a prefix
+record IsUnitAfter (max_sdu : ℕ) (prefix : List ℕ) (slot : List (Option Content)) (octets : List ℕ) : Type 0 where
   fragments : List (List ℕ)
   last : List ℕ
   others : List (Option Content)
   slot_is : slot ≡ map (λ part. Some (fragment part)) fragments ++ Some (end last) ∷ others
-  octets_are : octets ≡ front ++ (concat fragments ++ last)
+  octets_are : octets ≡ prefix ++ (concat fragments ++ last)
   fits : length octets ≤ max_sdu
 
-after_read : (max_sdu : ℕ) (front : List ℕ) (slot : List (Option Content)) (octets : List ℕ)
-    → unit_after max_sdu front slot ≡ Some octets → IsUnitAfter max_sdu front slot octets
-after_read max_sdu front (Some (end part) ∷ slot) octets is =
-    let both : (leb (length (front ++ part)) max_sdu ≡ true) × (front ++ part ≡ octets) =
-    cond_some (leb (length (front ++ part)) max_sdu) (front ++ part) octets is in
+after_read : (max_sdu : ℕ) (prefix : List ℕ) (slot : List (Option Content)) (octets : List ℕ)
+    → unit_after max_sdu prefix slot ≡ Some octets → IsUnitAfter max_sdu prefix slot octets
+after_read max_sdu prefix (Some (end part) ∷ slot) octets is =
+    let both : (leb (length (prefix ++ part)) max_sdu ≡ true) × (prefix ++ part ≡ octets) =
+    cond_some (leb (length (prefix ++ part)) max_sdu) (prefix ++ part) octets is in
     record {
       fragments = [];
       last = part;
       others = slot;
       slot_is = refl;
       octets_are = sym both.1;
-      fits = subst (λ xs. length xs ≤ max_sdu) both.1 (leb-true (length (front ++ part)) max_sdu both.0);
+      fits = subst (λ xs. length xs ≤ max_sdu) both.1 (leb-true (length (prefix ++ part)) max_sdu both.0);
     }
-after_read max_sdu front (Some (fragment part) ∷ slot) octets is =
-    let rest : IsUnitAfter max_sdu (front ++ part) slot octets = after_read max_sdu (front ++ part) slot octets is in
+after_read max_sdu prefix (Some (fragment part) ∷ slot) octets is =
+    let rest : IsUnitAfter max_sdu (prefix ++ part) slot octets = after_read max_sdu (prefix ++ part) slot octets is in
     record {
       fragments = part ∷ rest.fragments;
       last = rest.last;
@@ -40,16 +40,16 @@ after_read max_sdu front (Some (fragment part) ∷ slot) octets is =
       octets_are = grind (arith, append_assoc);
       fits = rest.fits;
     }
-after_read max_sdu front slot octets is = search (none-some, cond_some, leb-true, append_assoc)
+after_read max_sdu prefix slot octets is = search (none-some, cond_some, leb-true, append_assoc)
 
-read_after : (max_sdu : ℕ) (front : List ℕ) (fragments : List (List ℕ)) (last : List ℕ) (others : List (Option Content))
-    → length (front ++ (concat fragments ++ last)) ≤ max_sdu
-    → unit_after max_sdu front (map (λ part. Some (fragment part)) fragments ++ Some (end last) ∷ others) ≡ Some (front ++ (concat fragments ++ last))
-read_after max_sdu front [] last others fits = grind (arith, cond-true, le-leb)
-read_after max_sdu front (part ∷ fragments) last others fits =
-    let same : (front ++ part) ++ (concat fragments ++ last) ≡ front ++ ((part ++ concat fragments) ++ last) =
-    append_assoc front part (concat fragments ++ last) ∙ ap (λ xs. front ++ xs) (sym (append_assoc part (concat fragments) last)) in
-    read_after max_sdu (front ++ part) fragments last others (subst (λ xs. length xs ≤ max_sdu) (sym same) fits)
+read_after : (max_sdu : ℕ) (prefix : List ℕ) (fragments : List (List ℕ)) (last : List ℕ) (others : List (Option Content))
+    → length (prefix ++ (concat fragments ++ last)) ≤ max_sdu
+    → unit_after max_sdu prefix (map (λ part. Some (fragment part)) fragments ++ Some (end last) ∷ others) ≡ Some (prefix ++ (concat fragments ++ last))
+read_after max_sdu prefix [] last others fits = grind (arith, cond-true, le-leb)
+read_after max_sdu prefix (part ∷ fragments) last others fits =
+    let same : (prefix ++ part) ++ (concat fragments ++ last) ≡ prefix ++ ((part ++ concat fragments) ++ last) =
+    append_assoc prefix part (concat fragments ++ last) ∙ ap (λ xs. prefix ++ xs) (sym (append_assoc part (concat fragments) last)) in
+    read_after max_sdu (prefix ++ part) fragments last others (subst (λ xs. length xs ≤ max_sdu) (sym same) fits)
     ∙ ap Some same
 
 pub unit_is : (max_sdu : ℕ) (slot : List (Option Content)) (octets : List ℕ)

@@ -91,7 +91,7 @@ pub closed_kept : (info : BigInfo) (event : ℕ) (was handed now : List (Option 
     → drop (place_of info event + info.bn) handed ≡ drop (place_of info event + info.bn) was
     → now ≡ take (place_of info event) handed ++ (replicate info.bn None ++ drop (place_of info event + info.bn) handed)
     → turned (place_of info (event + 1)) now ≡ drop info.bn (turned (place_of info event) was) ++ replicate info.bn None
-closed_kept info event was handed now size front behind is =
+closed_kept info event was handed now size prefix behind is =
     let within : place_of info event + info.bn ≤ window_of info = place_within info event in
     let same : now ≡ take (place_of info event) was ++ (replicate info.bn None ++ drop (place_of info event + info.bn) was) = grind arith in
     let next : (event % (horizon_of info + 1) + 1) * info.bn ≡ place_of info event + info.bn =

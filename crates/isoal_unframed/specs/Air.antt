@@ -3,7 +3,7 @@ use Rattle.std.specs.Prelude.{ℕ, ◌+◌, ◌*◌, ◌/◌, ◌%◌, ◌==◌,
 use Rattle.std.specs.List.{range_with_len, slice_get}
 use Rattle.big_info.specs.declared.info.BigInfo.{BigInfo}
 use Rattle.big_info.specs.Schedule.{per_unit_of}
-use Rattle.iso_pdu.specs.Spelling.{pdu}
+use Rattle.iso_pdu.specs.Encoding.{pdu}
 use Rattle.isoal_base.specs.Air.{Air, Laid}
 use Rattle.isoal_unframed.specs.Calls.{Call, accept, lay, accepted, begun, events}
 use Rattle.isoal_unframed.specs.Slot.{laid}

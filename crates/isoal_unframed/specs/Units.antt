@@ -20,14 +20,14 @@ pub record IsUnit (max_sdu : ℕ) (slot : List (Option Content)) (octets : List 
   pub octets_are : octets ≡ concat fragments ++ last
   pub fits : length octets ≤ max_sdu
 
--- the same from left to right, behind a front that is read already
+-- the same from left to right, behind a prefix that is read already
 abbrev pub unit_after : ℕ → List ℕ → List (Option Content) → Option (List ℕ)
-unit_after max_sdu front [] = None
-unit_after max_sdu front (None ∷ slot) = None
-unit_after max_sdu front (Some (end part) ∷ slot) = if nat_le (length (front ++ part)) max_sdu then Some (front ++ part) else None
-unit_after max_sdu front (Some (fragment part) ∷ slot) = unit_after max_sdu (front ++ part) slot
-unit_after max_sdu front (Some (framed parts) ∷ slot) = None
-unit_after max_sdu front (Some (control part) ∷ slot) = None
+unit_after max_sdu prefix [] = None
+unit_after max_sdu prefix (None ∷ slot) = None
+unit_after max_sdu prefix (Some (end part) ∷ slot) = if nat_le (length (prefix ++ part)) max_sdu then Some (prefix ++ part) else None
+unit_after max_sdu prefix (Some (fragment part) ∷ slot) = unit_after max_sdu (prefix ++ part) slot
+unit_after max_sdu prefix (Some (framed parts) ∷ slot) = None
+unit_after max_sdu prefix (Some (control part) ∷ slot) = None
 
 abbrev pub unit_of : ℕ → List (Option Content) → Option (List ℕ)
 unit_of max_sdu slot = unit_after max_sdu [] slot
@@ -52,8 +52,8 @@ EndsLast (end octets ∷ parts) = parts ≡ []
 EndsLast (framed segments ∷ parts) = ⊥
 EndsLast (control octets ∷ parts) = ⊥
 
--- a front of a slot's numbers that are kept, with an end at most in the last place and at most so many octets
-pub record IsFront (max_sdu : ℕ) (slot : List (Option Content)) (parts : List Content) : Type 0 where
+-- a prefix of a slot's numbers that are kept, with an end at most in the last place and at most so many octets
+pub record IsPrefix (max_sdu : ℕ) (slot : List (Option Content)) (parts : List Content) : Type 0 where
   pub others : List (Option Content)
   pub slot_is : slot ≡ map Some parts ++ others
   pub ends_last : EndsLast parts
@@ -61,10 +61,10 @@ pub record IsFront (max_sdu : ℕ) (slot : List (Option Content)) (parts : List 
 
 -- Held of a slot: the octets of the longest such front
 pub record IsHeld (max_sdu : ℕ) (slot : List (Option Content)) (octets : ℕ) : Type 0 where
-  pub front : List Content
-  pub is_front : IsFront max_sdu slot front
-  pub longest : (other : List Content) → IsFront max_sdu slot other → length other ≤ length front
-  pub octets_are : octets ≡ count_in front
+  pub prefix : List Content
+  pub is_prefix : IsPrefix max_sdu slot prefix
+  pub longest : (other : List Content) → IsPrefix max_sdu slot other → length other ≤ length prefix
+  pub octets_are : octets ≡ count_in prefix
 
 -- the same from left to right
 abbrev pub held_in : ℕ → List (Option Content) → ℕ

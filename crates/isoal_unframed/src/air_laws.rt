@@ -4,7 +4,7 @@ ghost use Rattle.std.specs.List.{flat_map, range_with_len};
 ghost use Rattle.big_info.specs.Schedule.{per_event_of, per_unit_of};
 ghost use Rattle.big_info.specs.declared.group.Group.{Group};
 ghost use Rattle.big_info.specs.declared.info.BigInfo.{BigInfo};
-ghost use Rattle.iso_pdu.specs.Spelling.{payload_of, pdu};
+ghost use Rattle.iso_pdu.specs.Encoding.{payload_of, pdu};
 ghost use Rattle.isoal_unframed.specs.Slot.{fragments_of, laid, laid_unit};
 ghost use Rattle.isoal_base.specs.Air.{pdu_at};
 ghost use Rattle.isoal_unframed.specs.Air.{laid_u, unframed_air, unit_at};

@@ -16,9 +16,9 @@ pub fn unit_is_assembled()
         → (unit_of max_sdu slot ≡ None) ↔ ((octets : List ℕ) → ¬ IsUnit max_sdu slot octets) }
 {}
 
-/// What is held of a slot, from left to right, are the octets of the longest front of its numbers that are kept, with an
+/// What is held of a slot, from left to right, are the octets of the longest prefix of its numbers that are kept, with an
 /// end at most in the last place and at most `max_sdu` octets.
-pub fn longest_front_is_held()
+pub fn longest_prefix_is_held()
     ensures { (max_sdu : ℕ) (slot : List (Option Content)) (octets : ℕ) → (octets ≡ held_in max_sdu slot) ↔ IsHeld max_sdu slot octets }
 {}
 

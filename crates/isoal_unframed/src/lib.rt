@@ -13,6 +13,6 @@ mod unframed_out;
 mod window;
 
 pub use air_laws::{a_slot_carries_its_unit, each_number_is_laid, slots_add_up, the_rest_waits};
-pub use laws::{longest_front_is_held, unit_is_assembled, units_are_struck};
+pub use laws::{longest_prefix_is_held, unit_is_assembled, units_are_struck};
 pub use unframed_in::UnframedIn;
 pub use unframed_out::UnframedOut;

@@ -76,7 +76,7 @@ impl Ring {
         requires { first + per_unit_of stream.now.group.info ≤ vec_len self.old.cells }
         ensures places { vec_len self.new.cells ≡ vec_len self.old.cells }
         ensures max_pdu { self.new.max_pdu ≡ self.old.max_pdu }
-        ensures front { take first (kept_of self.new) ≡ take first (kept_of self.old) }
+        ensures prefix { take first (kept_of self.new) ≡ take first (kept_of self.old) }
         ensures behind { drop (first + per_unit_of stream.now.group.info) (kept_of self.new)
             ≡ drop (first + per_unit_of stream.now.group.info) (kept_of self.old) }
         ensures hands { HandsOver (handed_of stream.now.bis time
@@ -97,7 +97,7 @@ impl Ring {
         requires { first + places ≤ vec_len self.old.cells }
         ensures places { vec_len self.new.cells ≡ vec_len self.old.cells }
         ensures max_pdu { self.new.max_pdu ≡ self.old.max_pdu }
-        ensures front { take first (kept_of self.new) ≡ take first (kept_of self.old) }
+        ensures prefix { take first (kept_of self.new) ≡ take first (kept_of self.old) }
         ensures behind { drop (first + places) (kept_of self.new) ≡ drop (first + places) (kept_of self.old) }
         ensures unit { unit_of max_sdu (take places (drop first (kept_of self.old))) ≡ option_map (octets_at self.new first) result }
         ensures bound { IfSome result (λ count. first * self.new.max_pdu + count ≤ vec_len self.new.block) }
@@ -204,7 +204,7 @@ fn move_down(block: &mut [u8], from: usize, count: usize, to: usize)
     block.copy_within(from..from + count, to);
 }
 
-/// How many octets are held of a slot: those of the longest front of its parts that has an end at most in the last
+/// How many octets are held of a slot: those of the longest prefix of its parts that has an end at most in the last
 /// place, and at most `max_sdu` octets.
 fn held(cells: &[Cell], max_sdu: usize) -> usize
     ensures bound { result ≤ max_sdu }

@@ -19,7 +19,7 @@ use std::alloc::Global;
 use std::marker::Model;
 use unit_outlets::{TakerFault, UnitTaker};
 
-/// The receiver of an unframed stream from the moment that a sink is put on a group. It keeps the PDUs of the open
+/// The receiver of an unframed stream from the moment that a sink is synchronized to a BIG. It keeps the PDUs of the open
 /// event and of the H events after it, in one block that is a ring of H + 1 events.
 #[derive(Drop)]
 pub struct UnframedIn {

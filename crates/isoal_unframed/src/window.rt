@@ -84,7 +84,7 @@ pub(crate) fn hand_event<T: UnitTaker>(
     requires event { current.event < 2 ^ 39 }
     ensures places { vec_len ring.new.cells ≡ vec_len ring.old.cells }
     ensures max_pdu { ring.new.max_pdu ≡ ring.old.max_pdu }
-    ensures front { take (place_of stream.now.group.info current.event) (kept_of ring.new)
+    ensures prefix { take (place_of stream.now.group.info current.event) (kept_of ring.new)
         ≡ take (place_of stream.now.group.info current.event) (kept_of ring.old) }
     ensures behind { drop (place_of stream.now.group.info current.event + stream.now.group.info.bn) (kept_of ring.new)
         ≡ drop (place_of stream.now.group.info current.event + stream.now.group.info.bn) (kept_of ring.old) }

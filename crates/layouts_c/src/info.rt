@@ -1,6 +1,6 @@
 //! A BIGInfo, and the check of its group.
 ghost use Rattle.std.specs.Prelude.{◌≡◌, ◌≢◌, ◌≤◌, length, take};
-ghost use Rattle.big_info.specs.Layout.{Spells, octet_count};
+ghost use Rattle.big_info.specs.Layout.{Encodes, octet_count};
 ghost use Rattle.big_info.specs.Reading.{info_of};
 ghost use Rattle.big_info.specs.Rows.{first_fault};
 ghost use Rattle.big_info.specs.Widths.{FitsWidths};
@@ -29,7 +29,7 @@ pub extern "C" fn air_big_info_read(from: &[u8], into: &mut AirBigInfo) -> u32
 /// Writes a BIGInfo at the front of the room.
 #[unsafe(no_mangle)]
 pub extern "C" fn air_big_info_write(info: &AirBigInfo, room: &mut [u8], count: &mut usize) -> u32
-    ensures written { result ≡ ok → Spells (big_info info.now) 0 (take count.new room.new) }
+    ensures written { result ≡ ok → Encodes (big_info info.now) 0 (take count.new room.new) }
     ensures wide { ¬ FitsWidths (big_info info.now) → result ≡ range }
     ensures fits { FitsWidths (big_info info.now) → result ≢ range }
     ensures same { result ≢ ok → (room.new ≡ room.old) × (count.new ≡ count.old) }

@@ -10,7 +10,7 @@ use Rattle.assistant_machine.specs.Views as views
 use Rattle.assistant_machine.specs.Views.{if_slot, reading_of}
 use Rattle.receive_state.specs.Cuts.{cut}
 use Rattle.receive_state.specs.declared.state.ReceiveState.{ReceiveState}
-use Rattle.link_c.specs.Agreement.{Acts, begun, calls_of, first_given, language, spelled}
+use Rattle.link_c.specs.Agreement.{Acts, begun, calls_of, first_given, language, encoded}
 
 same_if : {A : Type 0} (is : Bool) (given : Option A) → if_slot is given ≡ if_its is given
 same_if true given = refl
@@ -27,7 +27,7 @@ given_mtu mtu (notice ∷ rest) calls = refl
 same_mtu : (mtu : Option ℕ) (acts : Acts) → mtu_of (calls_of mtu acts) ≡ mtu
 same_mtu mtu [] = begun_mtu mtu
 same_mtu mtu (links.made slot value ∷ earlier) = same_mtu mtu earlier
-same_mtu mtu (links.told ∷ earlier) = given_mtu mtu (waiting_of earlier) (calls_of mtu earlier) ∙ same_mtu mtu earlier
+same_mtu mtu (links.notified ∷ earlier) = given_mtu mtu (waiting_of earlier) (calls_of mtu earlier) ∙ same_mtu mtu earlier
 same_mtu mtu (links.served slot ∷ earlier) = same_mtu mtu earlier
 same_mtu mtu (links.joined ∷ earlier) = begun_mtu mtu
 same_mtu mtu (links.forged slot octets ∷ earlier) = same_mtu mtu earlier
@@ -48,10 +48,10 @@ told_view mtu known slot at octets view other is same =
 
 given_view : (mtu : Option ℕ) (slot : ℕ) (waiting : List (links.Notice (Option ReceiveState))) (calls : List Call) (other : Option ReceiveState)
     → mtu_of calls ≡ mtu → views.view_of slot calls ≡ other
-    → views.view_of slot (first_given mtu waiting calls) ≡ unwrap_or (links.first_told (language mtu) slot waiting) other
+    → views.view_of slot (first_given mtu waiting calls) ≡ unwrap_or (links.first_notified (language mtu) slot waiting) other
 given_view mtu slot [] calls other is same = same
 given_view mtu slot (notice ∷ rest) calls other is same =
-    told_view mtu (mtu_of calls) slot notice.slot (cut mtu (spelled notice.value)) (views.view_of slot calls) other is same
+    told_view mtu (mtu_of calls) slot notice.slot (cut mtu (encoded notice.value)) (views.view_of slot calls) other is same
 
 read_view : (is : Bool) (given : Option (Option ReceiveState)) (view other : Option ReceiveState) → view ≡ other
     → unwrap_or (if_slot is given) view ≡ unwrap_or (if_its is given) other
@@ -68,13 +68,13 @@ served_same at slot given = elim (eqb_tells at slot) [
 pub same_view : (mtu : Option ℕ) (slot : ℕ) (acts : Acts) → views.view_of slot (calls_of mtu acts) ≡ links.view_of (language mtu) slot acts
 same_view mtu slot [] = begun_view mtu slot
 same_view mtu slot (links.made at value ∷ earlier) = same_view mtu slot earlier
-same_view mtu slot (links.told ∷ earlier) =
+same_view mtu slot (links.notified ∷ earlier) =
     given_view mtu slot (waiting_of earlier) (calls_of mtu earlier) (links.view_of (language mtu) slot earlier) (same_mtu mtu earlier) (same_view mtu slot earlier)
 same_view mtu slot (links.served at ∷ earlier) =
-    read_view (at == slot) (reading_of (spelled (links.value_of (language mtu) at earlier))) (views.view_of slot (calls_of mtu earlier))
+    read_view (at == slot) (reading_of (encoded (links.value_of (language mtu) at earlier))) (views.view_of slot (calls_of mtu earlier))
     (links.view_of (language mtu) slot earlier) (same_view mtu slot earlier)
     ∙ ap (λ (read : Option (Option ReceiveState)). unwrap_or read (links.view_of (language mtu) slot earlier))
-    (served_same at slot (λ n. reading_of (spelled (links.value_of (language mtu) n earlier))))
+    (served_same at slot (λ n. reading_of (encoded (links.value_of (language mtu) n earlier))))
 same_view mtu slot (links.joined ∷ earlier) = begun_view mtu slot
 same_view mtu slot (links.forged at octets ∷ earlier) =
     told_view mtu (mtu_of (calls_of mtu earlier)) slot at octets (views.view_of slot (calls_of mtu earlier)) (links.view_of (language mtu) slot earlier)
@@ -101,12 +101,12 @@ given_wait : (mtu : Option ℕ) (slot : ℕ) (waiting : List (links.Notice (Opti
     → views.waits_of slot (first_given mtu waiting calls) ≡ unwrap_or (links.first_asked (language mtu) slot waiting) other
 given_wait mtu slot [] calls other is same = same
 given_wait mtu slot (notice ∷ rest) calls other is same =
-    told_wait mtu (mtu_of calls) slot notice.slot (cut mtu (spelled notice.value)) (views.waits_of slot calls) other is same
+    told_wait mtu (mtu_of calls) slot notice.slot (cut mtu (encoded notice.value)) (views.waits_of slot calls) other is same
 
 pub same_wait : (mtu : Option ℕ) (slot : ℕ) (acts : Acts) → views.waits_of slot (calls_of mtu acts) ≡ links.waits_of (language mtu) slot acts
 same_wait mtu slot [] = begun_wait mtu slot
 same_wait mtu slot (links.made at value ∷ earlier) = same_wait mtu slot earlier
-same_wait mtu slot (links.told ∷ earlier) =
+same_wait mtu slot (links.notified ∷ earlier) =
     given_wait mtu slot (waiting_of earlier) (calls_of mtu earlier) (links.waits_of (language mtu) slot earlier) (same_mtu mtu earlier) (same_wait mtu slot earlier)
 same_wait mtu slot (links.served at ∷ earlier) =
     asked_wait (at == slot) (Some false) (views.waits_of slot (calls_of mtu earlier)) (links.waits_of (language mtu) slot earlier) (same_wait mtu slot earlier)

@@ -9,46 +9,46 @@ use Rattle.bass_operations.specs.declared.wishes.Wish.{Wish}
 use Rattle.link_c.specs.Wishes.{wish, wishes_in}
 
 -- the first wishes, and those that are read behind them
-abbrev pub with_front : List Wish → Option (List Wish) → Option (List Wish)
-with_front front None = None
-with_front front (Some back) = Some (front ++ back)
+abbrev pub with_prefix : List Wish → Option (List Wish) → Option (List Wish)
+with_prefix prefix None = None
+with_prefix prefix (Some back) = Some (prefix ++ back)
 
-pub none_in_front : (read : Option (List Wish)) → with_front [] read ≡ read
-none_in_front None = refl
-none_in_front (Some wishes) = refl
+pub none_in_prefix : (read : Option (List Wish)) → with_prefix [] read ≡ read
+none_in_prefix None = refl
+none_in_prefix (Some wishes) = refl
 
-one_in_front : (first : Wish) (read : Option (List Wish)) → (read >>= λ wishes. Some (first ∷ wishes)) ≡ with_front (first ∷ []) read
-one_in_front first None = refl
-one_in_front first (Some wishes) = refl
+one_in_prefix : (first : Wish) (read : Option (List Wish)) → (read >>= λ wishes. Some (first ∷ wishes)) ≡ with_prefix (first ∷ []) read
+one_in_prefix first None = refl
+one_in_prefix first (Some wishes) = refl
 
-then_one : (front : List Wish) (first : Wish) (read : Option (List Wish)) → with_front front (with_front (first ∷ []) read) ≡ with_front (front ++ first ∷ []) read
-then_one front first None = refl
-then_one front first (Some wishes) = ap (λ (all : List Wish). Some all) (sym (append_assoc front (first ∷ []) wishes))
+then_one : (prefix : List Wish) (first : Wish) (read : Option (List Wish)) → with_prefix prefix (with_prefix (first ∷ []) read) ≡ with_prefix (prefix ++ first ∷ []) read
+then_one prefix first None = refl
+then_one prefix first (Some wishes) = ap (λ (all : List Wish). Some all) (sym (append_assoc prefix (first ∷ []) wishes))
 
-pub read_next : (front : List Wish) (bits : ℕ) (others octets metadata rest : List ℕ) → counted_in octets ≡ Some (metadata, rest)
-    → with_front (front ++ wish bits metadata ∷ []) (wishes_in others rest) ≡ with_front front (wishes_in (bits ∷ others) octets)
+pub read_next : (prefix : List Wish) (bits : ℕ) (others octets metadata rest : List ℕ) → counted_in octets ≡ Some (metadata, rest)
+    → with_prefix (prefix ++ wish bits metadata ∷ []) (wishes_in others rest) ≡ with_prefix prefix (wishes_in (bits ∷ others) octets)
 unfolding wishes_in
-read_next front bits others octets metadata rest is =
-    sym (then_one front (wish bits metadata) (wishes_in others rest))
-    ∙ ap (with_front front) (sym (one_in_front (wish bits metadata) (wishes_in others rest)))
-    ∙ ap (λ (read : Option (List ℕ × List ℕ)). with_front front (read >>= λ taken. wishes_in others taken.1 >>= λ wishes. Some (wish bits taken.0 ∷ wishes))) (sym is)
+read_next prefix bits others octets metadata rest is =
+    sym (then_one prefix (wish bits metadata) (wishes_in others rest))
+    ∙ ap (with_prefix prefix) (sym (one_in_prefix (wish bits metadata) (wishes_in others rest)))
+    ∙ ap (λ (read : Option (List ℕ × List ℕ)). with_prefix prefix (read >>= λ taken. wishes_in others taken.1 >>= λ wishes. Some (wish bits taken.0 ∷ wishes))) (sym is)
 
-pub read_never : (front : List Wish) (bits : ℕ) (others octets : List ℕ) → counted_in octets ≡ None → with_front front (wishes_in (bits ∷ others) octets) ≡ None
+pub read_never : (prefix : List Wish) (bits : ℕ) (others octets : List ℕ) → counted_in octets ≡ None → with_prefix prefix (wishes_in (bits ∷ others) octets) ≡ None
 unfolding wishes_in
-read_never front bits others octets is =
-    ap (λ (read : Option (List ℕ × List ℕ)). with_front front (read >>= λ taken. wishes_in others taken.1 >>= λ wishes. Some (wish bits taken.0 ∷ wishes))) is
+read_never prefix bits others octets is =
+    ap (λ (read : Option (List ℕ × List ℕ)). with_prefix prefix (read >>= λ taken. wishes_in others taken.1 >>= λ wishes. Some (wish bits taken.0 ∷ wishes))) is
 
-pub read_end : (front : List Wish) (rest : List ℕ) → (length rest == 0) ≡ true → with_front front (wishes_in [] rest) ≡ Some front
+pub read_end : (prefix : List Wish) (rest : List ℕ) → (length rest == 0) ≡ true → with_prefix prefix (wishes_in [] rest) ≡ Some prefix
 unfolding wishes_in
-read_end front [] is = ap (λ (all : List Wish). Some all) (append-nil front)
-read_end front (octet ∷ rest) is =
+read_end prefix [] is = ap (λ (all : List Wish). Some all) (append-nil prefix)
+read_end prefix (octet ∷ rest) is =
     let none : suc (length rest) ≡ 0 = eqb-true (suc (length rest)) 0 is in
     absurd (omega (arith, none))
 
-pub read_past : (front : List Wish) (rest : List ℕ) → (length rest == 0) ≡ false → with_front front (wishes_in [] rest) ≡ None
+pub read_past : (prefix : List Wish) (rest : List ℕ) → (length rest == 0) ≡ false → with_prefix prefix (wishes_in [] rest) ≡ None
 unfolding wishes_in
-read_past front [] is = absurd cc
-read_past front (octet ∷ rest) is = refl
+read_past prefix [] is = absurd cc
+read_past prefix (octet ∷ rest) is = refl
 
 pub one_more : (wishes : List Wish) (last : Wish) → MetadataFits wishes → length last.metadata ≤ 255 → MetadataFits (wishes ++ last ∷ [])
 one_more [] last fit short = (short, tt)

@@ -43,4 +43,4 @@ modified source_id pa_sync pa_interval wishes =
 
 -- how many octets an operation has: so many before its subgroups, the bits of each, and the metadata
 abbrev pub octet_count : ℕ → List ℕ → List ℕ → ℕ
-octet_count front bis_sync metadata = front + 4 * length bis_sync + length metadata
+octet_count prefix bis_sync metadata = prefix + 4 * length bis_sync + length metadata

@@ -1,10 +1,10 @@
 //! The calls of an assistant on a link.
 ghost use Rattle.std.specs.Prelude.{◌≡◌, ◌≢◌, ◌∷◌, ◌++◌, ◌≤◌, [], ℕ, List, take, IfOk, IsSome, None};
-ghost use Rattle.assistant_machine.specs.Calls.{Call, all_asked, asked, limited, mtu_of, put as puts, read as gives, told};
+ghost use Rattle.assistant_machine.specs.Calls.{Call, all_asked, asked, limited, mtu_of, put as puts, read as gives, notified};
 ghost use Rattle.assistant_machine.specs.State.Assistants.{IsLowest, NoneWaits};
 ghost use Rattle.assistant_machine.specs.Views.{view_of};
 ghost use Rattle.link_c.specs.Agreement.{reads_in};
-ghost use Rattle.bass_operations.specs.Layout.{spelling};
+ghost use Rattle.bass_operations.specs.Layout.{encoding};
 ghost use Rattle.bass_operations.specs.declared.operation.Operation.TheVariants as operations;
 ghost use Rattle.link_c.specs.Links.{AnswersNotice, LinkStands, writes_in};
 ghost use Rattle.c_values.specs.Statuses.{bad_notice, empty, memory, no_slot, ok};
@@ -82,7 +82,7 @@ pub extern "C" fn vm_link_notice(
 ) -> u32
     requires { IsSome link.old.kept }
     ensures stands { (slots : ℕ) (calls : List Call) → LinkStands slots calls link.old → result ≢ memory
-        → LinkStands slots (told slot value.now ∷ calls) link.new }
+        → LinkStands slots (notified slot value.now ∷ calls) link.new }
     ensures answer { (slots : ℕ) (calls : List Call) → LinkStands slots calls link.old
         → AnswersNotice slots (mtu_of calls) slot value.now result fault.new }
     ensures same { result ≢ ok → link.new.kept ≡ link.old.kept }
@@ -155,8 +155,8 @@ pub extern "C" fn vm_link_set_mtu(link: &mut VmLink, mtu: u16) -> u32
 pub extern "C" fn vm_link_remove(link: &mut VmLink, source_id: u8) -> u32
     requires { IsSome link.old.kept }
     ensures stands { (slots : ℕ) (calls : List Call) → LinkStands slots calls link.old → result ≡ ok
-        → LinkStands slots (puts (spelling (operations.Remove source_id)) ∷ calls) link.new }
-    ensures put { result ≡ ok → writes_in link.new ≡ writes_in link.old ++ spelling (operations.Remove source_id) ∷ [] }
+        → LinkStands slots (puts (encoding (operations.Remove source_id)) ∷ calls) link.new }
+    ensures put { result ≡ ok → writes_in link.new ≡ writes_in link.old ++ encoding (operations.Remove source_id) ∷ [] }
     ensures same { result ≢ ok → link.new.kept ≡ link.old.kept }
     ensures either { result ≢ ok → result ≡ memory }
 {
@@ -171,8 +171,8 @@ pub extern "C" fn vm_link_remove(link: &mut VmLink, source_id: u8) -> u32
 pub extern "C" fn vm_link_code(link: &mut VmLink, source_id: u8, code: &[u8; 16]) -> u32
     requires { IsSome link.old.kept }
     ensures stands { (slots : ℕ) (calls : List Call) → LinkStands slots calls link.old → result ≡ ok
-        → LinkStands slots (puts (spelling (operations.Code source_id code.now)) ∷ calls) link.new }
-    ensures put { result ≡ ok → writes_in link.new ≡ writes_in link.old ++ spelling (operations.Code source_id code.now) ∷ [] }
+        → LinkStands slots (puts (encoding (operations.Code source_id code.now)) ∷ calls) link.new }
+    ensures put { result ≡ ok → writes_in link.new ≡ writes_in link.old ++ encoding (operations.Code source_id code.now) ∷ [] }
     ensures same { result ≢ ok → link.new.kept ≡ link.old.kept }
     ensures either { result ≢ ok → result ≡ memory }
 {

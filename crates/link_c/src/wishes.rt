@@ -19,13 +19,13 @@ pub(crate) fn are_free(bis_sync: &[u32]) -> bool
 }
 
 /// Whether an operation with so many octets before its subgroups has at most 512 octets.
-pub(crate) fn is_short(front: usize, bis_sync: &[u32], metadata: &[u8]) -> bool
-    requires { front ≤ 16 }
-    ensures { IsTrue result ↔ (octet_count front bis_sync.now metadata.now ≤ 512) }
+pub(crate) fn is_short(prefix: usize, bis_sync: &[u32], metadata: &[u8]) -> bool
+    requires { prefix ≤ 16 }
+    ensures { IsTrue result ↔ (octet_count prefix bis_sync.now metadata.now ≤ 512) }
 {
     bis_sync.len() <= LONGEST
         && metadata.len() <= LONGEST
-        && front + 4 * bis_sync.len() + metadata.len() <= LONGEST
+        && prefix + 4 * bis_sync.len() + metadata.len() <= LONGEST
 }
 
 /// The metadata at the front, behind the octet that counts it, and the octets behind it; nothing where it isn't whole.

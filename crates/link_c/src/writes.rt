@@ -1,7 +1,7 @@
 //! The operations that an assistant puts, and the writes that it sends.
 ghost use Rattle.std.specs.Prelude.{◌≡◌, ◌≢◌, ◌∷◌, ◌++◌, ◌≤◌, ◌<◌, [], ℕ, true, false, List, length, take, get_or, IsSome, Some, None};
 ghost use Rattle.assistant_machine.specs.Calls.{Call, put as puts, sent};
-ghost use Rattle.bass_operations.specs.Layout.{fields, spelling};
+ghost use Rattle.bass_operations.specs.Layout.{fields, encoding};
 ghost use Rattle.bass_operations.specs.declared.operation.Operation.TheVariants as operations;
 ghost use Rattle.bass_operations.specs.declared.wishes.Wish.{Wish};
 ghost use Rattle.bcast_base.specs.Layout.{NoneReserved};
@@ -40,9 +40,9 @@ pub extern "C" fn vm_link_add(
     requires { IsSome link.old.kept }
     ensures stands { (slots : ℕ) (calls : List Call) (wishes : List Wish) → LinkStands slots calls link.old → result ≡ ok
         → wishes_in bis_sync.now metadata.now ≡ Some wishes
-        → LinkStands slots (puts (spelling (added address_type address.now sid broadcast_id.now pa_sync pa_interval wishes)) ∷ calls) link.new }
+        → LinkStands slots (puts (encoding (added address_type address.now sid broadcast_id.now pa_sync pa_interval wishes)) ∷ calls) link.new }
     ensures put { (wishes : List Wish) → result ≡ ok → wishes_in bis_sync.now metadata.now ≡ Some wishes
-        → writes_in link.new ≡ writes_in link.old ++ spelling (added address_type address.now sid broadcast_id.now pa_sync pa_interval wishes) ∷ [] }
+        → writes_in link.new ≡ writes_in link.old ++ encoding (added address_type address.now sid broadcast_id.now pa_sync pa_interval wishes) ∷ [] }
     ensures values { (wishes : List Wish) → result ≡ ok → wishes_in bis_sync.now metadata.now ≡ Some wishes
         → NoneReserved (fields (added address_type address.now sid broadcast_id.now pa_sync pa_interval wishes)) }
     ensures laid { result ≡ ok → IsSome (wishes_in bis_sync.now metadata.now) }
@@ -93,9 +93,9 @@ pub extern "C" fn vm_link_modify(
     requires { IsSome link.old.kept }
     ensures stands { (slots : ℕ) (calls : List Call) (wishes : List Wish) → LinkStands slots calls link.old → result ≡ ok
         → wishes_in bis_sync.now metadata.now ≡ Some wishes
-        → LinkStands slots (puts (spelling (modified source_id pa_sync pa_interval wishes)) ∷ calls) link.new }
+        → LinkStands slots (puts (encoding (modified source_id pa_sync pa_interval wishes)) ∷ calls) link.new }
     ensures put { (wishes : List Wish) → result ≡ ok → wishes_in bis_sync.now metadata.now ≡ Some wishes
-        → writes_in link.new ≡ writes_in link.old ++ spelling (modified source_id pa_sync pa_interval wishes) ∷ [] }
+        → writes_in link.new ≡ writes_in link.old ++ encoding (modified source_id pa_sync pa_interval wishes) ∷ [] }
     ensures values { (wishes : List Wish) → result ≡ ok → wishes_in bis_sync.now metadata.now ≡ Some wishes
         → NoneReserved (fields (modified source_id pa_sync pa_interval wishes)) }
     ensures laid { result ≡ ok → IsSome (wishes_in bis_sync.now metadata.now) }
@@ -133,9 +133,9 @@ pub extern "C" fn vm_link_modify(
 pub extern "C" fn vm_link_scan(link: &mut VmLink, is_started: bool) -> u32
     requires { IsSome link.old.kept }
     ensures started { (slots : ℕ) (calls : List Call) → LinkStands slots calls link.old → is_started ≡ true → result ≡ ok
-        → LinkStands slots (puts (spelling operations.ScanStarted) ∷ calls) link.new }
+        → LinkStands slots (puts (encoding operations.ScanStarted) ∷ calls) link.new }
     ensures stopped { (slots : ℕ) (calls : List Call) → LinkStands slots calls link.old → is_started ≡ false → result ≡ ok
-        → LinkStands slots (puts (spelling operations.ScanStopped) ∷ calls) link.new }
+        → LinkStands slots (puts (encoding operations.ScanStopped) ∷ calls) link.new }
     ensures same { result ≢ ok → link.new.kept ≡ link.old.kept }
 {
     let octets = [u8::from(is_started)];

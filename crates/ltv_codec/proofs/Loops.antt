@@ -6,12 +6,12 @@ use Rattle.std.specs.Prelude.{OnOk, IfOk, IfErr, IsOk}
 use Rattle.std.proofs.lemmas.List.{length-append, append-nil, take_at}
 use Rattle.std.proofs.lemmas.Bool.{eqb-true}
 use Rattle.std.proofs.lemmas.Option.{same_Some}
-use Rattle.bcast_base.specs.Spelling.{IsOctets}
+use Rattle.bcast_base.specs.Encoding.{IsOctets}
 use Rattle.ltv_codec.specs.declared.fault.LtvBad.TheVariants.{ZeroLength}
 use Rattle.ltv_codec.specs.declared.fault.LtvFault.{LtvFault}
 use Rattle.ltv_codec.specs.declared.fault.LtvFault.TheVariants as faults
 use Rattle.ltv_codec.specs.Faults.{IsBad, IsFault}
-use Rattle.ltv_codec.specs.Layout.{Fits, spelling, IsLtvList, AreLtvs}
+use Rattle.ltv_codec.specs.Layout.{Fits, encoding, IsLtvList, AreLtvs}
 use Rattle.std.specs.List.{AllByRecursion}
 use Rattle.bcast_base.specs.Reading.{place_in, counted_in}
 use Rattle.bcast_base.specs.Tries.{Answers}
@@ -179,5 +179,5 @@ fits_at [] i ltv h lt e = absurd (omega arith)
 fits_at (first ∷ ltvs) zero ltv h lt e = rw e (h.0)
 fits_at (first ∷ ltvs) (suc i) ltv h lt e = fits_at ltvs i ltv h.1 (omega arith) e
 
-pub all_spelled : (ltvs : List Ltv) (octets : List ℕ) (i : ℕ) → AllByRecursion Fits ltvs → length ltvs ≤ i → octets ≡ spelling (take i ltvs) → IsLtvList ltvs octets
-all_spelled ltvs octets i h le e = record { fit = h; spelled = e ∙ ap spelling (take_all ltvs i le) }
+pub all_encoded : (ltvs : List Ltv) (octets : List ℕ) (i : ℕ) → AllByRecursion Fits ltvs → length ltvs ≤ i → octets ≡ encoding (take i ltvs) → IsLtvList ltvs octets
+all_encoded ltvs octets i h le e = record { fit = h; encoded = e ∙ ap encoding (take_all ltvs i le) }

@@ -21,7 +21,7 @@ StandsShort (count ∷ octets) = length octets < count
 -- whole structures up to the place, and there what P says
 abbrev pub AtCut : (List ℕ → Type 0) → ℕ → List ℕ → Type 0
 AtCut P place octets =
-    (ltvs : List Ltv) × (front : List ℕ) × (rest : List ℕ) × IsLtvList ltvs front × (length front ≡ place) × P rest × (octets ≡ front ++ rest)
+    (ltvs : List Ltv) × (prefix : List ℕ) × (rest : List ℕ) × IsLtvList ltvs prefix × (length prefix ≡ place) × P rest × (octets ≡ prefix ++ rest)
 
 -- this is what is wrong with the octets
 abbrev pub IsBad : LtvBad → List ℕ → Type 0

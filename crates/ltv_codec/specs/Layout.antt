@@ -1,4 +1,4 @@
--- LTV lists, as codec configurations, codec capabilities and metadata are spelled (Basic Audio Profile 1.0,
+-- LTV lists, as codec configurations, codec capabilities and metadata are encoded (Basic Audio Profile 1.0,
 -- section 4.3): each structure is one octet of Length, which counts Type and Value, then Type, then Value.
 use Rattle.std.specs.Prelude.{ℕ, ◌+◌, ◌≤◌, ◌≡◌, List, ◌∷◌, length}
 use Rattle.std.specs.List.{flat_map, AllByRecursion}
@@ -12,13 +12,13 @@ structure ltv = (1 + length ltv.value) ∷ ltv.kind ∷ ltv.value
 abbrev pub Fits : Ltv → Type 0
 Fits ltv = length ltv.value ≤ 254
 
-abbrev pub spelling : List Ltv → List ℕ
-spelling ltvs = flat_map structure ltvs
+abbrev pub encoding : List Ltv → List ℕ
+encoding ltvs = flat_map structure ltvs
 
 -- the octets are this list, one structure after the other
 pub record IsLtvList (ltvs : List Ltv) (octets : List ℕ) : Type 0 where
   pub fit : AllByRecursion Fits ltvs
-  pub spelled : octets ≡ spelling ltvs
+  pub encoded : octets ≡ encoding ltvs
 
 -- the octets are some list
 pub record AreLtvs (octets : List ℕ) : Type 0 where

@@ -17,7 +17,7 @@ const SUPPORTED_OCTETS_PER_CODEC_FRAME: u8 = 0x04;
 
 const SUPPORTED_MAX_CODEC_FRAMES_PER_SDU: u8 = 0x05;
 
-/// The codec capabilities of LC3 (Basic Audio Profile 1.0, section 4.3.1). Each field is as it is spelled.
+/// The codec capabilities of LC3 (Basic Audio Profile 1.0, section 4.3.1). Each field is as it is encoded.
 #[derive(Clone, Copy, Debug, PartialEq, Eq)]
 pub struct Caps {
     /// Bit n is the frequency of code n + 1.

@@ -14,7 +14,7 @@ const OCTETS_PER_CODEC_FRAME: u8 = 0x04;
 
 const CODEC_FRAME_BLOCKS_PER_SDU: u8 = 0x05;
 
-/// A codec configuration of LC3 (Basic Audio Profile 1.0, section 4.3.2). Each field is as it is spelled.
+/// A codec configuration of LC3 (Basic Audio Profile 1.0, section 4.3.2). Each field is as it is encoded.
 #[derive(Clone, Copy, Debug, PartialEq, Eq)]
 pub struct Config {
     /// The code of the sampling frequency: 0x08 is 48000 Hz.

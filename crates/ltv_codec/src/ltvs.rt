@@ -13,7 +13,7 @@ pub struct Ltv {
     pub value: Octets,
 }
 
-/// A list of LTV structures, each of which has a spelling. Places count from 0.
+/// A list of LTV structures, each of which has an encoding. Places count from 0.
 #[derive(Drop)]
 pub struct Ltvs {
     alloc: Global,

@@ -32,7 +32,7 @@ map_behind f (y ∷ xs) x = ap (λ ys. f y ∷ ys) (map_behind f xs x)
 
 pub none_yet : (m : Machine) (links : List (Option Linked)) → Gathered m m links links
 none_yet m links = record {
-  told = [];
+  notified = [];
   all = refl;
   given = record { rest = refl; links = sym (map_same (with_notices []) links none_more) };
 }
@@ -64,17 +64,17 @@ given_on before now next old new then notice so handed step put = by (slice_get 
         let same : handed_out now.mtu first ≡ notice = cc in
         let notice_is : notice ≡ handed_out before.mtu first = sym same ∙ ap (λ mtu. handed_out mtu first) mtu in
         let left : next.waiting ≡ drop 1 now.waiting = ap (λ (m : Machine). m.waiting) step in
-        let told : List Notice = map (handed_out before.mtu) so.told in
+        let notified : List Notice = map (handed_out before.mtu) so.notified in
         record {
-          told = so.told ++ first ∷ [];
-          all = so.all ∙ ap (λ xs. so.told ++ xs) (first_and_rest now.waiting first is ∙ ap (λ xs. first ∷ xs) (sym left))
-              ∙ sym (append_assoc so.told (first ∷ []) next.waiting);
+          notified = so.notified ++ first ∷ [];
+          all = so.all ∙ ap (λ xs. so.notified ++ xs) (first_and_rest now.waiting first is ∙ ap (λ xs. first ∷ xs) (sym left))
+              ∙ sym (append_assoc so.notified (first ∷ []) next.waiting);
           given = record {
             rest = dropped_of before now next so.given.rest step;
             links = put ∙ ap (map (with_notice notice)) so.given.links
-                ∙ map_twice (with_notices told) (with_notice notice) (with_notices (told ++ notice ∷ [])) old (one_more told notice)
-                ∙ ap (λ n. map (with_notices (told ++ n ∷ [])) old) notice_is
-                ∙ ap (λ notices. map (with_notices notices) old) (sym (map_behind (handed_out before.mtu) so.told first));
+                ∙ map_twice (with_notices notified) (with_notice notice) (with_notices (notified ++ notice ∷ [])) old (one_more notified notice)
+                ∙ ap (λ n. map (with_notices (notified ++ n ∷ [])) old) notice_is
+                ∙ ap (λ notices. map (with_notices notices) old) (sym (map_behind (handed_out before.mtu) so.notified first));
           };
         }
 
@@ -87,9 +87,9 @@ stops before now next old new notice so handed step = by (slice_get now.waiting 
     by None is e = absurd cc
     by (Some first) is e =
         let left : next.waiting ≡ drop 1 now.waiting = ap (λ (m : Machine). m.waiting) step in record {
-          told = so.told;
+          notified = so.notified;
           last = first;
-          all = so.all ∙ ap (λ xs. so.told ++ xs) (first_and_rest now.waiting first is ∙ ap (λ xs. first ∷ xs) (sym left));
+          all = so.all ∙ ap (λ xs. so.notified ++ xs) (first_and_rest now.waiting first is ∙ ap (λ xs. first ∷ xs) (sym left));
           given = record { rest = dropped_of before now next so.given.rest step; links = so.given.links };
         }
 
@@ -102,10 +102,10 @@ ends before now next old new so handed step = by (slice_get now.waiting 0) refl 
     by (Some first) is e = absurd cc
     by None is e =
         let empty : now.waiting ≡ [] = none_waits now.waiting is in
-        let all : before.waiting ≡ so.told = so.all ∙ ap (λ xs. so.told ++ xs) empty ∙ append-nil so.told in record {
+        let all : before.waiting ≡ so.notified = so.all ∙ ap (λ xs. so.notified ++ xs) empty ∙ append-nil so.notified in record {
           given = record {
             rest = dropped_of before now next so.given.rest step;
-            links = so.given.links ∙ ap (λ told. map (with_notices (map (handed_out before.mtu) told)) old) (sym all);
+            links = so.given.links ∙ ap (λ notified. map (with_notices (map (handed_out before.mtu) notified)) old) (sym all);
           };
           none = ap (λ (m : Machine). m.waiting) step ∙ ap (drop 1) empty;
         }

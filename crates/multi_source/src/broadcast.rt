@@ -4,7 +4,7 @@ ghost use Rattle.std.specs.Option.{option_map};
 ghost use Rattle.announcement_train.specs.Layout.{IsTrain};
 ghost use Rattle.iso_pdu.specs.Control.{terminate};
 ghost use Rattle.iso_pdu.specs.Layout.{control};
-ghost use Rattle.iso_pdu.specs.Spelling.{pdu};
+ghost use Rattle.iso_pdu.specs.Encoding.{pdu};
 ghost use Rattle.isoal_base.specs.Air.{Air as StreamAir};
 ghost use Rattle.source_machine.specs.Airs.{AreAirs, pdu_of, stale_of};
 ghost use Rattle.source_machine.specs.Calls.{Call, give as gives, event as performs, last_of, next_anchor_of, next_of};

@@ -6,7 +6,7 @@ use Rattle.std.specs.Result.{result_err}
 use Rattle.std.proofs.lemmas.Bool.{lt-ltb, le-ltb, ne_eqb}
 use Rattle.std.proofs.lemmas.List.{length-append}
 use Rattle.std.proofs.lemmas.List.Concat.{flat_map-cons}
-use Rattle.bcast_base.specs.Spelling.{counted}
+use Rattle.bcast_base.specs.Encoding.{counted}
 use Rattle.bcast_base.specs.Reading.{octet_in, octets_in, place_in}
 use Rattle.bcast_base.proofs.Citable.{octets_again}
 use Rattle.ltv_codec.specs.declared.fault.LtvBad.{LtvBad}
@@ -19,7 +19,7 @@ use Rattle.pacs_records.specs.declared.record.PacRecord.{PacRecord}
 use Rattle.pacs_records.specs.Faults.{Fields, to_codec, to_caps_length, to_caps, to_metadata_length, to_metadata, octets_of, next_length, MeetRows, IsNextList, Cut, IsShort}
 use Rattle.pacs_records.specs.Faults.{IsNoList, IsTrailing, IsFault}
 use Rattle.base_grammar.specs.Layout.{lc3, is_lc3}
-use Rattle.pacs_records.specs.Layout.{greatest_value, spelled, value, Fits}
+use Rattle.pacs_records.specs.Layout.{greatest_value, encoded, value, Fits}
 use Rattle.pacs_records.specs.Reading.{run_in, record_in, records_in, value_in}
 use Rattle.pacs_records.proofs.Fields.{is_lc3-true, lc3-is, run_again, record_again, records_again}
 use Rattle.pacs_records.proofs.Stops.{NoList, Stop}
@@ -108,19 +108,19 @@ unfolding records_in
 record_first whole count from fault e = rw e refl
 
 records_behind : (whole : List ℕ) (count : ℕ) (entry : PacRecord) (rest : List ℕ) (fault : PacFault) → Fits entry → records_in whole count rest ≡ Err fault
-    → records_in whole (suc count) (spelled entry ++ rest) ≡ Err fault
+    → records_in whole (suc count) (encoded entry ++ rest) ≡ Err fault
 unfolding records_in
 records_behind whole count entry rest fault fits e = rw (record_again whole entry rest fits, e) refl
 
 records_fail : (whole : List ℕ) (records : List PacRecord) (count : ℕ) (from : List ℕ) (fault : PacFault) → length records < count → AllByRecursion Fits records → record_in whole from ≡ Err fault
-    → records_in whole count (flat_map spelled records ++ from) ≡ Err fault
+    → records_in whole count (flat_map encoded records ++ from) ≡ Err fault
 records_fail whole records zero from fault due fit e = absurd (omega (arith, due))
 records_fail whole [] (suc count) from fault due fit e = record_first whole count from fault e
 records_fail whole (entry ∷ records) (suc count) from fault due fit e =
-    let regrouped : flat_map spelled (entry ∷ records) ++ from ≡ spelled entry ++ (flat_map spelled records ++ from) = ap (λ (x : List ℕ). x ++ from) (flat_map-cons spelled entry records)
-    ∙ append_assoc (spelled entry) (flat_map spelled records) from in
+    let regrouped : flat_map encoded (entry ∷ records) ++ from ≡ encoded entry ++ (flat_map encoded records ++ from) = ap (λ (x : List ℕ). x ++ from) (flat_map-cons encoded entry records)
+    ∙ append_assoc (encoded entry) (flat_map encoded records) from in
     ap (records_in whole (suc count)) regrouped
-    ∙ records_behind whole count entry (flat_map spelled records ++ from) fault fit.0 (records_fail whole records count from fault (omega (arith, due)) fit.1 e)
+    ∙ records_behind whole count entry (flat_map encoded records ++ from) fault fit.0 (records_fail whole records count from fault (omega (arith, due)) fit.1 e)
 
 -- ---- the whole value
 
@@ -130,20 +130,20 @@ value_fails count from fault small e = rw (le-ltb greatest_value (length (count 
 
 cut_fails : (count : ℕ) (records : List PacRecord) (fields : Fields) (rest : List ℕ) (octets : List ℕ) (fault : PacFault) → length octets ≤ greatest_value → length records < count
     → AllByRecursion Fits records
-    → octets ≡ count ∷ (flat_map spelled records ++ octets_of fields ++ rest) → Stop octets fields rest fault → value_in octets ≡ Err fault
+    → octets ≡ count ∷ (flat_map encoded records ++ octets_of fields ++ rest) → Stop octets fields rest fault → value_in octets ≡ Err fault
 cut_fails count records fields rest octets fault small due fit parts stop =
-    let whole : List ℕ = count ∷ (flat_map spelled records ++ octets_of fields ++ rest) in
+    let whole : List ℕ = count ∷ (flat_map encoded records ++ octets_of fields ++ rest) in
     let s : Stop whole fields rest fault = subst (λ (os : List ℕ). Stop os fields rest fault) parts stop in
-    let read : records_in whole count (flat_map spelled records ++ octets_of fields ++ rest) ≡ Err fault =
-    ap (records_in whole count) (append_assoc (flat_map spelled records) (octets_of fields) rest)
+    let read : records_in whole count (flat_map encoded records ++ octets_of fields ++ rest) ≡ Err fault =
+    ap (records_in whole count) (append_assoc (flat_map encoded records) (octets_of fields) rest)
     ∙ records_fail whole records count (octets_of fields ++ rest) fault due fit (record_fails whole fields rest fault s) in
-    ap value_in parts ∙ value_fails count (flat_map spelled records ++ octets_of fields ++ rest) fault (subst (λ (os : List ℕ). length os ≤ greatest_value) parts small) read
+    ap value_in parts ∙ value_fails count (flat_map encoded records ++ octets_of fields ++ rest) fault (subst (λ (os : List ℕ). length os ≤ greatest_value) parts small) read
 
 -- the place of the cut
 at_cut : (place : ℕ) (octets : List ℕ) (cut : Cut place octets) → place_in octets cut.rest ≡ place
 at_cut place octets cut =
-    let one = length-append (flat_map spelled cut.records ++ octets_of cut.fields) cut.rest in
-    let two = length-append (flat_map spelled cut.records) (octets_of cut.fields) in
+    let one = length-append (flat_map encoded cut.records ++ octets_of cut.fields) cut.rest in
+    let two = length-append (flat_map encoded cut.records) (octets_of cut.fields) in
     omega (arith, one, two, ap length cut.parts, cut.at)
 
 short_fails : (place : ℕ) (octets : List ℕ) → length octets ≤ greatest_value → IsShort place octets → value_in octets ≡ Err (Short place)
@@ -172,7 +172,7 @@ trailing_read octets rest records count from is small read more =
 trailing_fails : (place : ℕ) (octets : List ℕ) → length octets ≤ greatest_value → IsTrailing place octets → value_in octets ≡ Err (Trailing place)
 trailing_fails place octets small t =
     let long : place_in octets t.rest ≡ place = omega (arith, ap length t.parts, length-append (value t.records) t.rest, t.at) in
-    trailing_read octets t.rest t.records (length t.records) (flat_map spelled t.records ++ t.rest) t.parts small (records_again octets t.records t.rest t.fit) t.more
+    trailing_read octets t.rest t.records (length t.records) (flat_map encoded t.records ++ t.rest) t.parts small (records_again octets t.records t.rest t.fit) t.more
     ∙ ap (λ (p : ℕ). Err (Trailing p)) long
 
 too_long : (octets : List ℕ) → greatest_value < length octets → value_in octets ≡ Err TooLong

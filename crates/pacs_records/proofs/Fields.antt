@@ -1,4 +1,4 @@
--- What is read is spelled so, and what is spelled so is read: runs, records and values.
+-- What is read is encoded so, and what is encoded so is read: runs, records and values.
 use Rattle.std.proofs.Common.{◌≡◌, ℕ, zero, suc, ◌+◌, ◌*◌, ◌<◌, ◌≤◌, Bool, true, false, cond, eqb, ltb, List, [], ◌∷◌, ◌++◌, length, Option, Some, None, Result, Ok, Err, refl}
 use Rattle.std.proofs.Common.{sym, ap, subst, ◌∙◌, append_assoc, arith}
 use Rattle.std.specs.List.{flat_map, AllByRecursion}
@@ -7,9 +7,9 @@ use Rattle.std.proofs.lemmas.Slice.Eq.{bytes_eq-Decides}
 use Rattle.std.proofs.lemmas.Bool.{eqb-true, ltb-false, le-ltb}
 use Rattle.std.proofs.lemmas.List.{append-nil, nil_from_length, length-append}
 use Rattle.std.proofs.lemmas.List.Concat.{flat_map-cons}
-use Rattle.bcast_base.specs.Spelling.{IsOctets, octet, counted}
+use Rattle.bcast_base.specs.Encoding.{IsOctets, octet, counted}
 use Rattle.bcast_base.specs.Reading.{octet_in, octets_in, place_in, Takes}
-use Rattle.bcast_base.proofs.Citable.{octet_takes, octets_take, octets_again, IsOctets-front, Takes-then, ok_is, bind_ok, needed_ok}
+use Rattle.bcast_base.proofs.Citable.{octet_takes, octets_take, octets_again, IsOctets-prefix, Takes-then, ok_is, bind_ok, needed_ok}
 use Rattle.ltv_codec.specs.declared.fault.LtvBad.{LtvBad}
 use Rattle.ltv_codec.specs.Layout.{AreLtvs}
 use Rattle.ltv_codec.specs.Reading.{bad_of}
@@ -18,7 +18,7 @@ use Rattle.pacs_records.specs.declared.fault.PacFault.{PacFault}
 use Rattle.pacs_records.specs.declared.fault.PacFault.TheVariants.{TooLong, Short, Trailing}
 use Rattle.pacs_records.specs.declared.record.PacRecord.{PacRecord}
 use Rattle.base_grammar.specs.Layout.{lc3, is_lc3}
-use Rattle.pacs_records.specs.Layout.{greatest_value, spelled, value, Fits, AreRecords, PacIs}
+use Rattle.pacs_records.specs.Layout.{greatest_value, encoded, value, Fits, AreRecords, PacIs}
 use Rattle.bcast_base.specs.Tries.{◌>>=◌, Answers}
 use Rattle.pacs_records.specs.Reading.{field_at, codec_in, told, checked, run_in, record_in, records_in, value_in}
 
@@ -57,7 +57,7 @@ run_takes listed whole from x fits e =
     let all : Takes from (a.0.0 ∷ b.0.0) b.0.1 = Takes-then from (octet a.0.0) a.0.1 b.0.0 b.0.1 t0 t1.0 in
     let small : a.0.0 < 256 = subst IsOctets t0.parts fits 0 in
     let run : Takes from (counted b.0.0) b.0.1 = rw t1.1 all in
-    let run_fits : IsOctets b.0.0 = IsOctets-front b.0.0 b.0.1 (subst IsOctets t1.0.parts (t0.fits fits)) in
+    let run_fits : IsOctets b.0.0 = IsOctets-prefix b.0.0 b.0.1 (subst IsOctets t1.0.parts (t0.fits fits)) in
     subst (λ (y : List ℕ × List ℕ). Takes from (counted y.0) y.1 × (length y.0 < 256) × (listed ≡ true → AreLtvs y.0)) g.0
     (run, omega (arith, t1.1, small), λ h. are_read b.0.0 run_fits (g.1 h))
 
@@ -68,7 +68,7 @@ run_again listed whole run rest h =
 
 -- ---- a record
 
-pub record_takes : (whole from : List ℕ) (x : PacRecord × List ℕ) → IsOctets from → record_in whole from ≡ Ok x → Takes from (spelled x.0) x.1 × Fits x.0
+pub record_takes : (whole from : List ℕ) (x : PacRecord × List ℕ) → IsOctets from → record_in whole from ≡ Ok x → Takes from (encoded x.0) x.1 × Fits x.0
 unfolding record_in
 record_takes whole from x fits e =
     let a = bind_ok (codec_in whole from)
@@ -81,13 +81,13 @@ record_takes whole from x fits e =
     let e01 = Takes-then from a.0.0 a.0.1 (counted b.0.0) b.0.1 t0.0 t1.0 in
     let e02 = Takes-then from (a.0.0 ++ counted b.0.0) b.0.1 (counted c.0.0) c.0.1 e01 t2.0 in
     let made : PacRecord × List ℕ = (record { codec = a.0.0; caps = b.0.0; metadata = c.0.0 }, c.0.1) in
-    subst (λ (y : PacRecord × List ℕ). Takes from (spelled y.0) y.1 × Fits y.0) (ok_is made x c.2)
+    subst (λ (y : PacRecord × List ℕ). Takes from (encoded y.0) y.1 × Fits y.0) (ok_is made x c.2)
     (e02, record { codec = t0.1; caps_count = t1.1; metadata_count = t2.1; caps = λ same. t1.2 (lc3-is a.0.0 same); metadata = t2.2 refl })
 
-pub record_again : (whole : List ℕ) (entry : PacRecord) (rest : List ℕ) → Fits entry → record_in whole (spelled entry ++ rest) ≡ Ok (entry, rest)
+pub record_again : (whole : List ℕ) (entry : PacRecord) (rest : List ℕ) → Fits entry → record_in whole (encoded entry ++ rest) ≡ Ok (entry, rest)
 unfolding record_in
 record_again whole entry rest fits =
-    let regrouped : spelled entry ++ rest ≡ entry.codec ++ (counted entry.caps ++ (counted entry.metadata ++ rest)) =
+    let regrouped : encoded entry ++ rest ≡ entry.codec ++ (counted entry.caps ++ (counted entry.metadata ++ rest)) =
     append_assoc (entry.codec ++ counted entry.caps) (counted entry.metadata) rest ∙ append_assoc entry.codec (counted entry.caps) (counted entry.metadata ++ rest) in
     let codec : octets_in 5 (entry.codec ++ (counted entry.caps ++ (counted entry.metadata ++ rest))) ≡ Some (entry.codec, counted entry.caps ++ (counted entry.metadata ++ rest)) =
     subst (λ (n : ℕ). octets_in n (entry.codec ++ (counted entry.caps ++ (counted entry.metadata ++ rest))) ≡ Some (entry.codec, counted entry.caps ++ (counted entry.metadata ++ rest))) fits.codec
@@ -99,29 +99,29 @@ record_again whole entry rest fits =
 -- ---- records
 
 pub records_take : (whole : List ℕ) (count : ℕ) (from : List ℕ) (x : List PacRecord × List ℕ) → IsOctets from → records_in whole count from ≡ Ok x
-    → Takes from (flat_map spelled x.0) x.1 × (length x.0 ≡ count) × AllByRecursion Fits x.0
+    → Takes from (flat_map encoded x.0) x.1 × (length x.0 ≡ count) × AllByRecursion Fits x.0
 unfolding records_in
 records_take whole zero from x fits e =
-    subst (λ (y : List PacRecord × List ℕ). Takes from (flat_map spelled y.0) y.1 × (length y.0 ≡ 0) × AllByRecursion Fits y.0) (ok_is ([], from) x e)
+    subst (λ (y : List PacRecord × List ℕ). Takes from (flat_map encoded y.0) y.1 × (length y.0 ≡ 0) × AllByRecursion Fits y.0) (ok_is ([], from) x e)
     (record { parts = refl; fits = λ h. h }, refl, tt)
 records_take whole (suc count) from x fits e =
     let a = bind_ok (record_in whole from) (λ first. records_in whole count first.1 >>= λ others. Ok (first.0 ∷ others.0, others.1)) x e in
     let b = bind_ok (records_in whole count a.0.1) (λ others. Ok (a.0.0 ∷ others.0, others.1)) x a.2 in
     let first = record_takes whole from a.0 fits a.1 in
     let second = records_take whole count a.0.1 b.0 (first.0.fits fits) b.1 in
-    let both = Takes-then from (spelled a.0.0) a.0.1 (flat_map spelled b.0.0) b.0.1 first.0 second.0 in
+    let both = Takes-then from (encoded a.0.0) a.0.1 (flat_map encoded b.0.0) b.0.1 first.0 second.0 in
     let made : List PacRecord × List ℕ = (a.0.0 ∷ b.0.0, b.0.1) in
-    subst (λ (y : List PacRecord × List ℕ). Takes from (flat_map spelled y.0) y.1 × (length y.0 ≡ suc count) × AllByRecursion Fits y.0) (ok_is made x b.2)
+    subst (λ (y : List PacRecord × List ℕ). Takes from (flat_map encoded y.0) y.1 × (length y.0 ≡ suc count) × AllByRecursion Fits y.0) (ok_is made x b.2)
     (rw flat_map-cons both, ap suc second.1, (first.1, second.2))
 
 pub records_again : (whole : List ℕ) (records : List PacRecord) (rest : List ℕ) → AllByRecursion Fits records
-    → records_in whole (length records) (flat_map spelled records ++ rest) ≡ Ok (records, rest)
+    → records_in whole (length records) (flat_map encoded records ++ rest) ≡ Ok (records, rest)
 unfolding records_in
 records_again whole [] rest fits = refl
 records_again whole (entry ∷ records) rest fits =
-    let regrouped : flat_map spelled (entry ∷ records) ++ rest ≡ spelled entry ++ (flat_map spelled records ++ rest) = ap (λ (x : List ℕ). x ++ rest) (flat_map-cons spelled entry records)
-    ∙ append_assoc (spelled entry) (flat_map spelled records) rest in
-    ap (records_in whole (suc (length records))) regrouped ∙ rw (record_again whole entry (flat_map spelled records ++ rest) fits.0, records_again whole records rest fits.1) refl
+    let regrouped : flat_map encoded (entry ∷ records) ++ rest ≡ encoded entry ++ (flat_map encoded records ++ rest) = ap (λ (x : List ℕ). x ++ rest) (flat_map-cons encoded entry records)
+    ∙ append_assoc (encoded entry) (flat_map encoded records) rest in
+    ap (records_in whole (suc (length records))) regrouped ∙ rw (record_again whole entry (flat_map encoded records ++ rest) fits.0, records_again whole records rest fits.1) refl
 
 -- ---- the whole value
 
@@ -144,9 +144,9 @@ value_takes octets records fits e =
     let t0 = octet_takes octets a.0.0 a.0.1 (field_ok 0 (octet_in octets) a.0 a.1) in
     let t1 = records_take octets a.0.0 a.0.1 b.0 (t0.fits fits) b.1 in
     let nothing : b.0.1 ≡ [] = nil_from_length b.0.1 (eqb-true _ _ g.0) in
-    let both : octets ≡ (a.0.0 ∷ flat_map spelled b.0.0) ++ b.0.1 = (Takes-then octets (octet a.0.0) a.0.1 (flat_map spelled b.0.0) b.0.1 t0 t1.0).parts in
+    let both : octets ≡ (a.0.0 ∷ flat_map encoded b.0.0) ++ b.0.1 = (Takes-then octets (octet a.0.0) a.0.1 (flat_map encoded b.0.0) b.0.1 t0 t1.0).parts in
     let is : octets ≡ value b.0.0 =
-    both ∙ ap (λ (r : List ℕ). (a.0.0 ∷ flat_map spelled b.0.0) ++ r) nothing ∙ append-nil (a.0.0 ∷ flat_map spelled b.0.0) ∙ ap (λ (k : ℕ). k ∷ flat_map spelled b.0.0) (sym t1.1) in
+    both ∙ ap (λ (r : List ℕ). (a.0.0 ∷ flat_map encoded b.0.0) ++ r) nothing ∙ append-nil (a.0.0 ∷ flat_map encoded b.0.0) ∙ ap (λ (k : ℕ). k ∷ flat_map encoded b.0.0) (sym t1.1) in
     let small : length octets ≤ greatest_value = ltb-false _ _ s.0 in
     subst (λ (v : List PacRecord). PacIs v octets) g.1 (record { are = record { fit = t1.2; size = subst (λ (os : List ℕ). length os ≤ greatest_value) is small }; is = is })
 
@@ -154,19 +154,19 @@ value_read : (records : List PacRecord) → AreRecords records → value_in (val
 unfolding value_in
 value_read records are =
     let small : ltb greatest_value (length (value records)) ≡ false = le-ltb _ _ are.size in
-    let rest : records_in (value records) (length records) (flat_map spelled records) ≡ Ok (records, []) =
-    ap (records_in (value records) (length records)) (sym (append-nil (flat_map spelled records))) ∙ records_again (value records) records [] are.fit in
+    let rest : records_in (value records) (length records) (flat_map encoded records) ≡ Ok (records, []) =
+    ap (records_in (value records) (length records)) (sym (append-nil (flat_map encoded records))) ∙ records_again (value records) records [] are.fit in
     rw (small, rest) refl
 
 pub value_again : (octets : List ℕ) (records : List PacRecord) → PacIs records octets → value_in octets ≡ Ok records
 value_again octets records p = ap value_in p.is ∙ value_read records p.are
 
 -- each record has at least 7 octets
-pub longer : (records : List PacRecord) → AllByRecursion Fits records → 7 * length records ≤ length (flat_map spelled records)
+pub longer : (records : List PacRecord) → AllByRecursion Fits records → 7 * length records ≤ length (flat_map encoded records)
 longer [] fit = omega arith
 longer (entry ∷ records) fit =
-    let long : length (flat_map spelled (entry ∷ records)) ≡ length (spelled entry) + length (flat_map spelled records) = ap length (flat_map-cons spelled entry records)
-    ∙ length-append (spelled entry) (flat_map spelled records) in
+    let long : length (flat_map encoded (entry ∷ records)) ≡ length (encoded entry) + length (flat_map encoded records) = ap length (flat_map-cons encoded entry records)
+    ∙ length-append (encoded entry) (flat_map encoded records) in
     let one = length-append (entry.codec ++ counted entry.caps) (counted entry.metadata) in
     let two = length-append entry.codec (counted entry.caps) in
     omega (arith, long, one, two, fit.0.codec, longer records fit.1)

@@ -70,7 +70,7 @@ not_taken-none capability effective = (
 -- the reason told before where there is no record, or that of the last
 abbrev Told : NotTaken → NotTaken → List PacRecord → Capability → Effective → Type 0
 Told before told entries capability effective =
-    ((entries ≡ []) × (told ≡ before)) ⊎ ((front : List PacRecord) × (last : PacRecord) × (entries ≡ front ++ last ∷ []) × IsReason told last capability effective)
+    ((entries ≡ []) × (told ≡ before)) ⊎ ((prefix : List PacRecord) × (last : PacRecord) × (entries ≡ prefix ++ last ∷ []) × IsReason told last capability effective)
 
 told_last : (before told : NotTaken) (capability : Capability) (effective : Effective) (entries : List PacRecord) → last_reason before entries capability effective ≡ Some told
     → Told before told entries capability effective
@@ -80,7 +80,7 @@ told_last before told capability effective (entry ∷ entries) e = by_reason (re
     by_rest : (reason : NotTaken) → reason_of entry capability effective ≡ Some reason → Told reason told entries capability effective → Told before told (entry ∷ entries) capability effective
     by_rest reason f (inl (none, same)) =
         inr ([], entry, ap (λ (es : List PacRecord). entry ∷ es) none, some_is_reason entry capability effective told (f ∙ ap (λ (r : NotTaken). Some r) (sym same)))
-    by_rest reason f (inr (front, last, parts, is)) = inr (entry ∷ front, last, ap (λ (es : List PacRecord). entry ∷ es) parts, is)
+    by_rest reason f (inr (prefix, last, parts, is)) = inr (entry ∷ prefix, last, ap (λ (es : List PacRecord). entry ∷ es) parts, is)
 
     by_reason : (found : Option NotTaken) → reason_of entry capability effective ≡ found → option_and_then (λ r. last_reason r entries capability effective) found ≡ Some told
         → ((reason : NotTaken) → last_reason reason entries capability effective ≡ Some told → Told reason told entries capability effective) → Told before told (entry ∷ entries) capability effective
@@ -96,27 +96,27 @@ taken_not_told capability effective reason e t = some_none (sym ((not_taken-none
     some_none : None ≡ Some reason → ⊥
     some_none h = cc
 
-nothing : (front : List PacRecord) (last : PacRecord) → [] ≡ front ++ last ∷ [] → ⊥
+nothing : (prefix : List PacRecord) (last : PacRecord) → [] ≡ prefix ++ last ∷ [] → ⊥
 nothing [] last e = cc
-nothing (entry ∷ front) last e = cc
+nothing (entry ∷ prefix) last e = cc
 
-last_same : (front others : List PacRecord) (last end : PacRecord) → front ++ last ∷ [] ≡ others ++ end ∷ [] → last ≡ end
+last_same : (prefix others : List PacRecord) (last end : PacRecord) → prefix ++ last ∷ [] ≡ others ++ end ∷ [] → last ≡ end
 last_same [] [] last end e = cc
 last_same [] (entry ∷ others) last end e =
     let none : [] ≡ others ++ end ∷ [] = cc in
     absurd (nothing others end none)
-last_same (entry ∷ front) [] last end e =
-    let none : [] ≡ front ++ last ∷ [] = cc in
-    absurd (nothing front last none)
-last_same (entry ∷ front) (first ∷ others) last end e = last_same front others last end cc
+last_same (entry ∷ prefix) [] last end e =
+    let none : [] ≡ prefix ++ last ∷ [] = cc in
+    absurd (nothing prefix last none)
+last_same (entry ∷ prefix) (first ∷ others) last end e = last_same prefix others last end cc
 
 -- at most one reason is told
 one_told : (a b : NotTaken) (capability : Capability) (effective : Effective) → IsToldReason a capability effective → IsToldReason b capability effective → a ≡ b
 one_told a b capability effective (inl (none, x)) (inl (also, y)) = x ∙ sym y
-one_told a b capability effective (inl (none, x)) (inr (front, last, parts, is)) = absurd (nothing front last (sym none ∙ parts))
-one_told a b capability effective (inr (front, last, parts, is)) (inl (none, y)) = absurd (nothing front last (sym none ∙ parts))
-one_told a b capability effective (inr (front, last, parts, is)) (inr (others, end, ends, also)) =
-    let same : last ≡ end = last_same front others last end (sym parts ∙ ends) in
+one_told a b capability effective (inl (none, x)) (inr (prefix, last, parts, is)) = absurd (nothing prefix last (sym none ∙ parts))
+one_told a b capability effective (inr (prefix, last, parts, is)) (inl (none, y)) = absurd (nothing prefix last (sym none ∙ parts))
+one_told a b capability effective (inr (prefix, last, parts, is)) (inr (others, end, ends, also)) =
+    let same : last ≡ end = last_same prefix others last end (sym parts ∙ ends) in
     same_Some a b (sym (reason_is_some last capability effective a is)
     ∙ reason_is_some last capability effective b (subst (λ (entry : PacRecord). IsReason b entry capability effective) (sym same) also))
 

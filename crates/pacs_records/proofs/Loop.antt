@@ -8,56 +8,56 @@ use Rattle.bcast_base.specs.Tries.{◌>>=◌}
 use Rattle.pacs_records.specs.Reading.{record_in, records_in, list_of, rest_of}
 
 -- what was read before, and what is still read
-abbrev pub with_front : List PacRecord → Result (List PacRecord × List ℕ) PacFault → Result (List PacRecord × List ℕ) PacFault
-with_front front read = read >>= λ x. Ok (front ++ x.0, x.1)
+abbrev pub with_prefix : List PacRecord → Result (List PacRecord × List ℕ) PacFault → Result (List PacRecord × List ℕ) PacFault
+with_prefix prefix read = read >>= λ x. Ok (prefix ++ x.0, x.1)
 
 -- the records so far and those of the rest are those of all, and the rest is within the octets
-pub record SoFar (whole : List ℕ) (front : List PacRecord) (left : ℕ) (rest : List ℕ) (total : Result (List PacRecord × List ℕ) PacFault) : Type 0 where
-  pub same : with_front front (records_in whole left rest) ≡ total
+pub record SoFar (whole : List ℕ) (prefix : List PacRecord) (left : ℕ) (rest : List ℕ) (total : Result (List PacRecord × List ℕ) PacFault) : Type 0 where
+  pub same : with_prefix prefix (records_in whole left rest) ≡ total
   pub within : length rest ≤ length whole
 
-regroup : (front : List PacRecord) (entry : PacRecord) (read : Result (List PacRecord × List ℕ) PacFault)
-    → with_front front (read >>= λ x. Ok (entry ∷ x.0, x.1)) ≡ with_front (front ++ entry ∷ []) read
-regroup front entry (Ok x) = ap (λ (records : List PacRecord). Ok (records, x.1)) (simp append_assoc)
-regroup front entry (Err fault) = refl
+regroup : (prefix : List PacRecord) (entry : PacRecord) (read : Result (List PacRecord × List ℕ) PacFault)
+    → with_prefix prefix (read >>= λ x. Ok (entry ∷ x.0, x.1)) ≡ with_prefix (prefix ++ entry ∷ []) read
+regroup prefix entry (Ok x) = ap (λ (records : List PacRecord). Ok (records, x.1)) (simp append_assoc)
+regroup prefix entry (Err fault) = refl
 
-pub goes_on : (whole : List ℕ) (front : List PacRecord) (count i : ℕ) (rest : List ℕ) (entry : PacRecord) (after : List ℕ) (total : Result (List PacRecord × List ℕ) PacFault) → i < count
+pub goes_on : (whole : List ℕ) (prefix : List PacRecord) (count i : ℕ) (rest : List ℕ) (entry : PacRecord) (after : List ℕ) (total : Result (List PacRecord × List ℕ) PacFault) → i < count
     → record_in whole rest ≡ Ok (entry, after) → length after ≤ length whole
-    → SoFar whole front (count - i) rest total → SoFar whole (front ++ entry ∷ []) (count - (i + 1)) after total
+    → SoFar whole prefix (count - i) rest total → SoFar whole (prefix ++ entry ∷ []) (count - (i + 1)) after total
 unfolding records_in
-goes_on whole front count i rest entry after total lt h within so_far =
+goes_on whole prefix count i rest entry after total lt h within so_far =
     let k : count - i ≡ suc (count - (i + 1)) = omega arith in
-    let one : with_front front (records_in whole (count - i) rest) ≡ with_front (front ++ entry ∷ []) (records_in whole (count - (i + 1)) after) =
-    rw (k, h) (regroup front entry (records_in whole (count - (i + 1)) after)) in
+    let one : with_prefix prefix (records_in whole (count - i) rest) ≡ with_prefix (prefix ++ entry ∷ []) (records_in whole (count - (i + 1)) after) =
+    rw (k, h) (regroup prefix entry (records_in whole (count - (i + 1)) after)) in
     record { same = sym one ∙ so_far.same; within = within }
 
-pub err_read : (whole : List ℕ) (front : List PacRecord) (count i : ℕ) (rest : List ℕ) (fault : PacFault) (total : Result (List PacRecord × List ℕ) PacFault) → i < count
-    → record_in whole rest ≡ Err fault → SoFar whole front (count - i) rest total → total ≡ Err fault
+pub err_read : (whole : List ℕ) (prefix : List PacRecord) (count i : ℕ) (rest : List ℕ) (fault : PacFault) (total : Result (List PacRecord × List ℕ) PacFault) → i < count
+    → record_in whole rest ≡ Err fault → SoFar whole prefix (count - i) rest total → total ≡ Err fault
 unfolding records_in
-err_read whole front count i rest fault total lt h so_far =
+err_read whole prefix count i rest fault total lt h so_far =
     let k : count - i ≡ suc (count - (i + 1)) = omega arith in
-    let one : with_front front (records_in whole (count - i) rest) ≡ Err fault = rw (k, h) refl in
+    let one : with_prefix prefix (records_in whole (count - i) rest) ≡ Err fault = rw (k, h) refl in
     sym so_far.same ∙ one
 
 -- where all are read, no record fails
-pub never_fails : (whole : List ℕ) (front : List PacRecord) (count i : ℕ) (rest : List ℕ) (fault : PacFault) (total : Result (List PacRecord × List ℕ) PacFault)
-    → i < count → record_in whole rest ≡ Err fault → SoFar whole front (count - i) rest total → IsOk total → ⊥
-never_fails whole front count i rest fault total lt h so_far ok =
-    let failed : total ≡ Err fault = err_read whole front count i rest fault total lt h so_far in
+pub never_fails : (whole : List ℕ) (prefix : List PacRecord) (count i : ℕ) (rest : List ℕ) (fault : PacFault) (total : Result (List PacRecord × List ℕ) PacFault)
+    → i < count → record_in whole rest ≡ Err fault → SoFar whole prefix (count - i) rest total → IsOk total → ⊥
+never_fails whole prefix count i rest fault total lt h so_far ok =
+    let failed : total ≡ Err fault = err_read whole prefix count i rest fault total lt h so_far in
     let no : IsOk {T = List PacRecord × List ℕ} {E = PacFault} (Err fault) = subst (λ (r : Result (List PacRecord × List ℕ) PacFault). IsOk r) failed ok in
     cc
 
-pub is_done : (whole : List ℕ) (front : List PacRecord) (count i : ℕ) (rest : List ℕ) (total : Result (List PacRecord × List ℕ) PacFault) → count ≤ i
-    → SoFar whole front (count - i) rest total → total ≡ Ok (front, rest)
+pub is_done : (whole : List ℕ) (prefix : List PacRecord) (count i : ℕ) (rest : List ℕ) (total : Result (List PacRecord × List ℕ) PacFault) → count ≤ i
+    → SoFar whole prefix (count - i) rest total → total ≡ Ok (prefix, rest)
 unfolding records_in
-is_done whole front count i rest total le so_far =
+is_done whole prefix count i rest total le so_far =
     let k : count - i ≡ 0 = omega arith in
-    let one : with_front front (records_in whole (count - i) rest) ≡ Ok (front, rest) = rw k (ap (λ (records : List PacRecord). Ok (records, rest)) (append-nil front)) in
+    let one : with_prefix prefix (records_in whole (count - i) rest) ≡ Ok (prefix, rest) = rw k (ap (λ (records : List PacRecord). Ok (records, rest)) (append-nil prefix)) in
     sym so_far.same ∙ one
 
-pub list_done : (whole : List ℕ) (front : List PacRecord) (count i : ℕ) (rest : List ℕ) (total : Result (List PacRecord × List ℕ) PacFault)
-    → count ≤ i → SoFar whole front (count - i) rest total → list_of total ≡ Ok front
-list_done whole front count i rest total le so_far = ap list_of (is_done whole front count i rest total le so_far)
+pub list_done : (whole : List ℕ) (prefix : List PacRecord) (count i : ℕ) (rest : List ℕ) (total : Result (List PacRecord × List ℕ) PacFault)
+    → count ≤ i → SoFar whole prefix (count - i) rest total → list_of total ≡ Ok prefix
+list_done whole prefix count i rest total le so_far = ap list_of (is_done whole prefix count i rest total le so_far)
 
 -- ---- looking through the records
 

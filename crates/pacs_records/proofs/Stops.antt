@@ -8,9 +8,9 @@ use Rattle.std.proofs.lemmas.Bool.{ltb-true, ltb-false}
 use Rattle.std.proofs.lemmas.Option.{same_Some}
 use Rattle.std.proofs.lemmas.List.{length-append}
 use Rattle.std.proofs.lemmas.List.Concat.{flat_map-cons}
-use Rattle.bcast_base.specs.Spelling.{IsOctets, octet, counted}
+use Rattle.bcast_base.specs.Encoding.{IsOctets, octet, counted}
 use Rattle.bcast_base.specs.Reading.{octet_in, octets_in, place_in, Takes}
-use Rattle.bcast_base.proofs.Citable.{octet_takes, octets_take, IsOctets-front, Takes-then, err_is, ok_no, bind_err, needed_err}
+use Rattle.bcast_base.proofs.Citable.{octet_takes, octets_take, IsOctets-prefix, Takes-then, err_is, ok_no, bind_err, needed_err}
 use Rattle.ltv_codec.specs.declared.fault.LtvBad.{LtvBad}
 use Rattle.ltv_codec.specs.declared.ltvs.Ltv.{Ltv as Structure}
 use Rattle.ltv_codec.specs.Faults.{IsBad}
@@ -23,7 +23,7 @@ use Rattle.pacs_records.specs.declared.record.PacRecord.{PacRecord}
 use Rattle.pacs_records.specs.Faults.{Fields, to_codec, to_caps_length, to_caps, to_metadata_length, to_metadata, octets_of, next_length, MeetRows, IsNextList, Cut}
 use Rattle.pacs_records.specs.Faults.{IsFault}
 use Rattle.base_grammar.specs.Layout.{lc3, is_lc3}
-use Rattle.pacs_records.specs.Layout.{greatest_value, spelled, value, Fits, PacIs}
+use Rattle.pacs_records.specs.Layout.{greatest_value, encoded, value, Fits, PacIs}
 use Rattle.bcast_base.specs.Tries.{◌>>=◌, Answers}
 use Rattle.pacs_records.specs.Reading.{told, field_at, codec_in, checked, run_in, record_in, records_in, value_in}
 use Rattle.pacs_records.proofs.Fields.{field_ok, is_lc3-true, lc3-is, run_takes, record_takes, records_take, value_takes}
@@ -93,7 +93,7 @@ run_stops listed whole from fault fits e =
             | inr b ↦
                 let t1 = octets_take a.0.0 a.0.1 b.0.0 b.0.1 (field_ok (place_in whole a.0.1) (octets_in a.0.0 a.0.1) b.0 b.1) in
                 let c = checked_err (place_in whole a.0.1) listed (bad_of b.0.0) b.0 fault b.2 in
-                let run_fits : IsOctets b.0.0 = IsOctets-front b.0.0 b.0.1 (subst IsOctets t1.0.parts (t0.fits fits)) in
+                let run_fits : IsOctets b.0.0 = IsOctets-prefix b.0.0 b.0.1 (subst IsOctets t1.0.parts (t0.fits fits)) in
                 record {
                   count = a.0.0;
                   rest = a.0.1;
@@ -174,16 +174,16 @@ record RecordsStop (whole : List ℕ) (count : ℕ) (from : List ℕ) (fault : P
   due : length records < count
   fit : AllByRecursion Fits records
   stop : Stop whole fields rest fault
-  parts : from ≡ flat_map spelled records ++ octets_of fields ++ rest
+  parts : from ≡ flat_map encoded records ++ octets_of fields ++ rest
 
-one_more : (whole : List ℕ) (count : ℕ) (from : List ℕ) (fault : PacFault) (entry : PacRecord) (after : List ℕ) → Takes from (spelled entry) after → Fits entry
+one_more : (whole : List ℕ) (count : ℕ) (from : List ℕ) (fault : PacFault) (entry : PacRecord) (after : List ℕ) → Takes from (encoded entry) after → Fits entry
     → RecordsStop whole count after fault → RecordsStop whole (suc count) from fault
 one_more whole count from fault entry after t fits s =
-    let parts : from ≡ flat_map spelled (entry ∷ s.records) ++ octets_of s.fields ++ s.rest =
-    t.parts ∙ ap (λ (os : List ℕ). spelled entry ++ os) (s.parts ∙ append_assoc (flat_map spelled s.records) (octets_of s.fields) s.rest)
-    ∙ sym (append_assoc (spelled entry) (flat_map spelled s.records) (octets_of s.fields ++ s.rest))
-    ∙ ap (λ (os : List ℕ). os ++ (octets_of s.fields ++ s.rest)) (sym (flat_map-cons spelled entry s.records))
-    ∙ sym (append_assoc (flat_map spelled (entry ∷ s.records)) (octets_of s.fields) s.rest) in
+    let parts : from ≡ flat_map encoded (entry ∷ s.records) ++ octets_of s.fields ++ s.rest =
+    t.parts ∙ ap (λ (os : List ℕ). encoded entry ++ os) (s.parts ∙ append_assoc (flat_map encoded s.records) (octets_of s.fields) s.rest)
+    ∙ sym (append_assoc (encoded entry) (flat_map encoded s.records) (octets_of s.fields ++ s.rest))
+    ∙ ap (λ (os : List ℕ). os ++ (octets_of s.fields ++ s.rest)) (sym (flat_map-cons encoded entry s.records))
+    ∙ sym (append_assoc (flat_map encoded (entry ∷ s.records)) (octets_of s.fields) s.rest) in
     record { records = entry ∷ s.records; fields = s.fields; rest = s.rest; due = omega (arith, s.due); fit = (fits, s.fit); stop = s.stop; parts = parts }
 
 records_stop : (whole : List ℕ) (count : ℕ) (from : List ℕ) (fault : PacFault) → IsOctets from → records_in whole count from ≡ Err fault → RecordsStop whole count from fault
@@ -206,8 +206,8 @@ records_stop whole (suc count) from fault fits e =
 
 abbrev cut_of : (count : ℕ) (from : List ℕ) (fault : PacFault) (s : RecordsStop (count ∷ from) count from fault) → Cut (place_in (count ∷ from) s.rest) (count ∷ from)
 cut_of count from fault s =
-    let long : length from ≡ length (flat_map spelled s.records) + length (octets_of s.fields) + length s.rest =
-    ap length s.parts ∙ length-append (flat_map spelled s.records ++ octets_of s.fields) s.rest ∙ ap (λ (n : ℕ). n + length s.rest) (length-append (flat_map spelled s.records) (octets_of s.fields)) in
+    let long : length from ≡ length (flat_map encoded s.records) + length (octets_of s.fields) + length s.rest =
+    ap length s.parts ∙ length-append (flat_map encoded s.records ++ octets_of s.fields) s.rest ∙ ap (λ (n : ℕ). n + length s.rest) (length-append (flat_map encoded s.records) (octets_of s.fields)) in
     record {
       count = count;
       records = s.records;
@@ -230,10 +230,10 @@ records_fault count from fault small s =
     ]
 
 trailing_fault : (octets : List ℕ) (count : ℕ) (from rest : List ℕ) (records : List PacRecord) → length octets ≤ greatest_value → octets ≡ count ∷ from
-    → Takes from (flat_map spelled records) rest → length records ≡ count → AllByRecursion Fits records → 0 < length rest
+    → Takes from (flat_map encoded records) rest → length records ≡ count → AllByRecursion Fits records → 0 < length rest
     → IsFault (Trailing (place_in octets rest)) octets
 trailing_fault octets count from rest records small is t all fit more =
-    let parts : octets ≡ value records ++ rest = is ∙ ap (λ (os : List ℕ). count ∷ os) t.parts ∙ ap (λ (n : ℕ). n ∷ (flat_map spelled records ++ rest)) (sym all) in
+    let parts : octets ≡ value records ++ rest = is ∙ ap (λ (os : List ℕ). count ∷ os) t.parts ∙ ap (λ (n : ℕ). n ∷ (flat_map encoded records ++ rest)) (sym all) in
     let long : length octets ≡ length (value records) + length rest = ap length parts ∙ length-append (value records) rest in
     (small, record { records = records; rest = rest; fit = fit; more = more; parts = parts; at = omega (arith, long) })
 

@@ -3,7 +3,7 @@ use Rattle.std.proofs.Common.{◌≡◌, ℕ, Bool, true, false, cond, eqb, ltb,
 use Rattle.std.specs.Prelude.{IsOk, IfOk}
 use Rattle.std.specs.Result.{result_err}
 use Rattle.bcast_base.specs.Reading.{octet_in, place_in}
-use Rattle.bcast_base.specs.Spelling.{IsOctets}
+use Rattle.bcast_base.specs.Encoding.{IsOctets}
 use Rattle.pacs_records.specs.declared.fault.PacFault.{PacFault}
 use Rattle.pacs_records.specs.declared.fault.PacFault.TheVariants.{TooLong, Short, Ltv, Trailing, Memory}
 use Rattle.pacs_records.specs.declared.record.PacRecord.{PacRecord}

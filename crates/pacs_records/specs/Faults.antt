@@ -3,7 +3,7 @@
 -- whole, or breaks its row, or where octets follow a whole value.
 use Rattle.std.specs.Prelude.{ℕ, ◌+◌, ◌<◌, ◌≤◌, ◌≡◌, List, [], ◌∷◌, ◌++◌, length}
 use Rattle.std.specs.List.{flat_map, AllByRecursion}
-use Rattle.bcast_base.specs.Spelling.{counted}
+use Rattle.bcast_base.specs.Encoding.{counted}
 use Rattle.ltv_codec.specs.declared.fault.LtvBad.{LtvBad}
 use Rattle.ltv_codec.specs.Faults.{IsBad}
 use Rattle.ltv_codec.specs.Layout.{AreLtvs}
@@ -11,7 +11,7 @@ use Rattle.pacs_records.specs.declared.fault.PacFault.{PacFault}
 use Rattle.pacs_records.specs.declared.fault.PacFault.TheVariants.{TooLong, Short, Ltv, Trailing, Memory}
 use Rattle.pacs_records.specs.declared.record.PacRecord.{PacRecord}
 use Rattle.base_grammar.specs.Layout.{lc3}
-use Rattle.pacs_records.specs.Layout.{greatest_value, spelled, value, Fits, PacIs}
+use Rattle.pacs_records.specs.Layout.{greatest_value, encoded, value, Fits, PacIs}
 
 -- The whole fields of a record that isn't read to its end. Each names the field that comes next.
 pub data Fields : Type 0 where
@@ -67,8 +67,8 @@ pub record Cut (place : ℕ) (octets : List ℕ) : Type 0 where
   pub due : length records < count
   pub fit : AllByRecursion Fits records
   pub meet : MeetRows fields
-  pub parts : octets ≡ count ∷ (flat_map spelled records ++ octets_of fields ++ rest)
-  pub at : place ≡ 1 + length (flat_map spelled records) + length (octets_of fields)
+  pub parts : octets ≡ count ∷ (flat_map encoded records ++ octets_of fields ++ rest)
+  pub at : place ≡ 1 + length (flat_map encoded records) + length (octets_of fields)
 
 -- the field at the cut isn't whole, and there is none where there is no octet
 abbrev pub IsShort : ℕ → List ℕ → Type 0

@@ -4,7 +4,7 @@
 use Rattle.std.specs.Prelude.{ℕ, ◌<◌, ◌≤◌, ◌≡◌, List, ◌∷◌, ◌++◌, length}
 use Rattle.std.specs.List.{flat_map, AllByRecursion}
 use Rattle.base_grammar.specs.Layout.{lc3}
-use Rattle.bcast_base.specs.Spelling.{counted}
+use Rattle.bcast_base.specs.Encoding.{counted}
 use Rattle.ltv_codec.specs.Layout.{AreLtvs}
 use Rattle.pacs_records.specs.declared.record.PacRecord.{PacRecord}
 
@@ -13,8 +13,8 @@ abbrev pub greatest_value : ℕ
 greatest_value = 512
 
 -- the fields of a record
-abbrev pub spelled : PacRecord → List ℕ
-spelled entry = entry.codec ++ counted entry.caps ++ counted entry.metadata
+abbrev pub encoded : PacRecord → List ℕ
+encoded entry = entry.codec ++ counted entry.caps ++ counted entry.metadata
 
 -- each field meets its row
 pub record Fits (entry : PacRecord) : Type 0 where
@@ -26,7 +26,7 @@ pub record Fits (entry : PacRecord) : Type 0 where
 
 -- the number of records, and the records
 abbrev pub value : List PacRecord → List ℕ
-value records = length records ∷ flat_map spelled records
+value records = length records ∷ flat_map encoded records
 
 -- records that have a value
 pub record AreRecords (records : List PacRecord) : Type 0 where

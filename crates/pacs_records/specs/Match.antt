@@ -110,7 +110,7 @@ pub record IsReason (reason : NotTaken) (entry : PacRecord) (capability : Capabi
 abbrev pub IsToldReason : NotTaken → Capability → Effective → Type 0
 IsToldReason reason capability effective =
     ((capability.entries ≡ []) × (reason ≡ Codec))
-    ⊎ ((front : List PacRecord) × (last : PacRecord) × (capability.entries ≡ front ++ last ∷ []) × IsReason reason last capability effective)
+    ⊎ ((prefix : List PacRecord) × (last : PacRecord) × (capability.entries ≡ prefix ++ last ∷ []) × IsReason reason last capability effective)
 
 -- ---- a stream of a BASE
 

@@ -6,7 +6,7 @@ ghost use Rattle.pacs_records.specs.Reasons.{not_taken};
 ghost use Rattle.pacs_records.specs.declared.capability.Capability.{Capability};
 ghost use Rattle.pacs_records.specs.declared.not_taken.NotTaken.{NotTaken};
 ghost use Rattle.pacs_records.specs.declared.fault.PacFault.TheVariants.{Memory};
-ghost use Rattle.bcast_base.specs.Spelling.{IsOctets};
+ghost use Rattle.bcast_base.specs.Encoding.{IsOctets};
 ghost use Rattle.pacs_records.specs.Layout.{PacIs};
 ghost use Rattle.pacs_records.specs.Faults.{IsFault};
 ghost use Rattle.pacs_records.specs.Reading.{value_in};

@@ -18,7 +18,7 @@ use std::alloc::Global;
 /// The most octets of a value: those of an attribute.
 const GREATEST_VALUE: usize = 512;
 
-// A record, lent from the octets that spell it.
+// A record, lent from the octets that encode it.
 #[derive(Clone, Copy)]
 struct LentRecord<'a> {
     codec: [u8; 5],

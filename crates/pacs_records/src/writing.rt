@@ -1,5 +1,5 @@
 ghost use Rattle.std.specs.Prelude.{◌≡◌, ◌<◌, ◌++◌, length, IfOk, OnOk};
-ghost use Rattle.pacs_records.specs.Layout.{PacIs, spelled};
+ghost use Rattle.pacs_records.specs.Layout.{PacIs, encoded};
 
 use crate::record::PacRecord;
 use crate::records::Records;
@@ -23,7 +23,7 @@ pub fn encode_pacs(alloc: Global, list: &Records) -> Result<Octets, Memory>
 fn put_record(out: &mut Octets, entry: &PacRecord) -> Result<(), Memory>
     requires caps { length entry.now.caps < 256 }
     requires metadata { length entry.now.metadata < 256 }
-    ensures { OnOk result (out.new ≡ out.old ++ spelled entry.now) }
+    ensures { OnOk result (out.new ≡ out.old ++ encoded entry.now) }
 {
     out.append(&entry.codec)?;
     put_counted(out, entry.caps.as_slice())?;

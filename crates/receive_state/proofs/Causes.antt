@@ -3,7 +3,7 @@ use Rattle.std.proofs.Common.{◌≡◌, ℕ, ◌<◌, List, [], ◌∷◌, leng
 use Rattle.std.proofs.lemmas.List.{length-append}
 use Rattle.bcast_base.specs.Layout.{laid, reserved_from}
 use Rattle.bcast_base.specs.Reading.{place_in}
-use Rattle.bcast_base.specs.Spelling.{IsOctets}
+use Rattle.bcast_base.specs.Encoding.{IsOctets}
 use Rattle.bcast_base.specs.Subgroups.{Subgroup, subgroups_in}
 use Rattle.bcast_base.proofs.Citable.{reserved_first, first_reserved, reserved_none, none_reserved}
 use Rattle.receive_state.specs.declared.fault.StateFault.{StateFault}

@@ -5,9 +5,9 @@ use Rattle.std.proofs.lemmas.List.{length-append}
 use Rattle.bcast_base.specs.Numbers.{sum_from}
 use Rattle.bcast_base.specs.Layout.{Field, free, unless}
 use Rattle.bcast_base.specs.Reading.{octet_in, octets_in, place_in}
-use Rattle.bcast_base.specs.Spelling.{IsOctets, octet, number}
+use Rattle.bcast_base.specs.Encoding.{IsOctets, octet, number}
 use Rattle.bcast_base.specs.Subgroups.{Subgroup, Fits, subgroup_fields, is_reserved}
-use Rattle.bcast_base.proofs.Citable.{IsOctets-front, number-length, number_below, number_once}
+use Rattle.bcast_base.proofs.Citable.{IsOctets-prefix, number-length, number_below, number_once}
 use Rattle.receive_state.specs.Faults.{EndsIn}
 use Rattle.receive_state.specs.Reading.{end_in}
 use Rattle.bcast_base.specs.Tries.{◌>>=◌, needed}
@@ -113,9 +113,9 @@ behind_bits : (bits rest after : List ℕ) (q : ℕ) (others : List Field) → I
     → EndsIn q others after → EndsIn (4 + q) (unless (is_reserved (sum_from 0 bits)) (number 4 (sum_from 0 bits)) ∷ others) rest
 behind_bits bits rest after q others h len parts ends =
     let first = unless (is_reserved (sum_from 0 bits)) (number 4 (sum_from 0 bits)) in
-    let spelled : number 4 (sum_from 0 bits) ++ after ≡ rest = ap (λ (x : List ℕ). x ++ after) (sym (four_octets bits h len)) ∙ sym parts in
+    let encoded : number 4 (sum_from 0 bits) ++ after ≡ rest = ap (λ (x : List ℕ). x ++ after) (sym (four_octets bits h len)) ∙ sym parts in
     let place : length (number 4 (sum_from 0 bits)) + q ≡ 4 + q = ap (λ (n : ℕ). n + q) (number-length 4 (sum_from 0 bits)) in
-    subst (λ (n : ℕ). EndsIn n (first ∷ others) rest) place (subst (EndsIn (length (number 4 (sum_from 0 bits)) + q) (first ∷ others)) spelled (ends_more first others q after ends))
+    subst (λ (n : ℕ). EndsIn n (first ∷ others) rest) place (subst (EndsIn (length (number 4 (sum_from 0 bits)) + q) (first ∷ others)) encoded (ends_more first others q after ends))
 
 behind_count : (count : ℕ) (rest after : List ℕ) (q : ℕ) (others : List Field) → rest ≡ octet count ++ after → EndsIn q others after → EndsIn (1 + q) (free (octet count) ∷ others) rest
 behind_count count rest after q others parts ends = subst (EndsIn (1 + q) (free (octet count) ∷ others)) (sym parts) (ends_more (free (octet count)) others q after ends)
@@ -126,7 +126,7 @@ behind_metadata metadata rest after q others parts ends = subst (EndsIn (length 
 count_end : (whole : List ℕ) (n : ℕ) (rest bits after : List ℕ) (p : ℕ) → IsOctets rest → length rest ≤ length whole → rest ≡ bits ++ after → length bits ≡ 4 → after ≡ []
     → p ≡ place_in whole after → GroupsEnd whole (suc n) rest p
 count_end whole n rest bits after p h le parts len empty there =
-    let octets : IsOctets bits = IsOctets-front bits after (subst IsOctets parts h) in
+    let octets : IsOctets bits = IsOctets-prefix bits after (subst IsOctets parts h) in
     let size : length rest ≡ length bits + length after = ap length parts ∙ length-append bits after in
     let others = free [] ∷ flat_map subgroup_fields (blanks n) in
     let here : EndsIn 0 (free (octet 0) ∷ others) after = ends_here (free (octet 0)) others after (octet 0) (ap (λ (x : List ℕ). x ++ octet 0) (sym empty)) (omega arith) in
@@ -143,7 +143,7 @@ metadata_end : (whole : List ℕ) (n : ℕ) (rest bits after : List ℕ) (count 
     → after ≡ octet count ++ tail
     → count < 256 → length tail < count → p ≡ place_in whole tail → GroupsEnd whole (suc n) rest p
 metadata_end whole n rest bits after count tail p h le parts len parts' small lt there =
-    let octets : IsOctets bits = IsOctets-front bits after (subst IsOctets parts h) in
+    let octets : IsOctets bits = IsOctets-prefix bits after (subst IsOctets parts h) in
     let size : length rest ≡ length bits + length after = ap length parts ∙ length-append bits after in
     let size' : length after ≡ 1 + length tail = omega (arith, ap length parts') in
     let metadata = filled count tail in
@@ -165,7 +165,7 @@ others_end : (whole : List ℕ) (n : ℕ) (rest bits after : List ℕ) (count : 
     → length bits ≡ 4 → after ≡ octet count ++ tail
     → count < 256 → tail ≡ metadata ++ last → length metadata ≡ count → GroupsEnd whole n last p → GroupsEnd whole (suc n) rest p
 others_end whole n rest bits after count tail metadata last p h le parts len parts' small parts'' wide g =
-    let octets : IsOctets bits = IsOctets-front bits after (subst IsOctets parts h) in
+    let octets : IsOctets bits = IsOctets-prefix bits after (subst IsOctets parts h) in
     let size : length rest ≡ length bits + length after = ap length parts ∙ length-append bits after in
     let size' : length after ≡ 1 + length tail = omega (arith, ap length parts') in
     let size'' : length tail ≡ length metadata + length last = ap length parts'' ∙ length-append metadata last in
@@ -184,11 +184,11 @@ others_end whole n rest bits after count tail metadata last p h le parts len par
       ends = behind_bits bits rest after (1 + (length metadata + g.q)) (free (octet (length metadata)) ∷ free metadata ∷ others) octets len parts counted;
     }
 
-octets_behind : (front back octets : List ℕ) → IsOctets octets → octets ≡ front ++ back → IsOctets back
+octets_behind : (prefix back octets : List ℕ) → IsOctets octets → octets ≡ prefix ++ back → IsOctets back
 octets_behind [] back octets h e = subst IsOctets e h
-octets_behind (first ∷ front) back octets h e =
-    let all : IsOctets (first ∷ (front ++ back)) = subst IsOctets e h in
-    octets_behind front back (front ++ back) (λ i. all (suc i)) refl
+octets_behind (first ∷ prefix) back octets h e =
+    let all : IsOctets (first ∷ (prefix ++ back)) = subst IsOctets e h in
+    octets_behind prefix back (prefix ++ back) (λ i. all (suc i)) refl
 
 small_count : (octets : List ℕ) (count : ℕ) (tail : List ℕ) → IsOctets octets → octets ≡ octet count ++ tail → count < 256
 small_count octets count tail h e =

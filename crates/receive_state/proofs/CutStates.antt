@@ -4,7 +4,7 @@ use Rattle.std.specs.Prelude.{nat_lt, IfErr}
 use Rattle.std.specs.List.{flat_map}
 use Rattle.bcast_base.specs.Layout.{free, unless, reserved_from}
 use Rattle.bcast_base.specs.Reading.{place_in}
-use Rattle.bcast_base.specs.Spelling.{IsOctets, octet}
+use Rattle.bcast_base.specs.Encoding.{IsOctets, octet}
 use Rattle.bcast_base.specs.Subgroups.{subgroup_fields, subgroups_in}
 use Rattle.receive_state.specs.declared.fault.StateFault.{StateFault}
 use Rattle.receive_state.specs.declared.fault.StateFault.TheVariants.{Short, Rfu, Trailing, Memory}

@@ -4,7 +4,7 @@ use Rattle.std.specs.Prelude.{◌⊎◌}
 use Rattle.std.proofs.lemmas.List.{length-append}
 use Rattle.bcast_base.specs.Layout.{Field}
 use Rattle.bcast_base.specs.Reading.{octet_in, octets_in, place_in}
-use Rattle.bcast_base.specs.Spelling.{octet}
+use Rattle.bcast_base.specs.Encoding.{octet}
 use Rattle.bcast_base.proofs.Citable.{octet_takes, octets_take}
 use Rattle.receive_state.specs.Faults.{EndsIn}
 use Rattle.bcast_base.specs.Tries.{◌>>=◌, needed}

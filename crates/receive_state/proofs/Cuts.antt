@@ -6,7 +6,7 @@ use Rattle.std.proofs.lemmas.Bool.{lt-ltb, ltb-true}
 use Rattle.std.proofs.lemmas.List.{length-append}
 use Rattle.bcast_base.specs.Layout.{Field, laid}
 use Rattle.bcast_base.specs.Reading.{octet_in, octets_in}
-use Rattle.bcast_base.specs.Spelling.{IsOctets}
+use Rattle.bcast_base.specs.Encoding.{IsOctets}
 use Rattle.receive_state.specs.Faults.{EndsIn}
 
 pub ends_here : (field : Field) (fields : List Field) (part more : List ℕ) → field.octets ≡ part ++ more → 0 < length more → EndsIn 0 (field ∷ fields) part
@@ -32,26 +32,26 @@ Split field fields place octets =
     ((place ≡ 0) × (length octets < length field.octets))
     ⊎ ((q : ℕ) × (rest : List ℕ) × (place ≡ length field.octets + q) × (octets ≡ field.octets ++ rest) × EndsIn q fields rest)
 
-split_at : (first : Field) (fields front : List Field) (field : Field) (back : List Field) (part more octets : List ℕ) (place : ℕ) → first ∷ fields ≡ front ++ field ∷ back
+split_at : (first : Field) (fields prefix : List Field) (field : Field) (back : List Field) (part more octets : List ℕ) (place : ℕ) → first ∷ fields ≡ prefix ++ field ∷ back
     → field.octets ≡ part ++ more → 0 < length more
-    → octets ≡ laid front ++ part → place ≡ length (laid front) → Split first fields place octets
+    → octets ≡ laid prefix ++ part → place ≡ length (laid prefix) → Split first fields place octets
 split_at first fields [] field back part more octets place e o lt parts p =
     let same : first ≡ field = cc in
     let long : length first.octets ≡ length part + length more = ap (λ (f : Field). length f.octets) same ∙ (ap length o ∙ length-append part more) in
     inl (p, omega (arith, long, ap length parts))
-split_at first fields (other ∷ front) field back part more octets place e o lt parts p =
+split_at first fields (other ∷ prefix) field back part more octets place e o lt parts p =
     let same : other ≡ first = cc in
-    let others : fields ≡ front ++ field ∷ back = cc in
-    let octets' : octets ≡ first.octets ++ (laid front ++ part) = parts ∙ (append_assoc other.octets (laid front) part ∙ ap (λ (f : Field). f.octets ++ (laid front ++ part)) same) in
-    let place' : place ≡ length first.octets + length (laid front) = p ∙ (length-append other.octets (laid front) ∙ ap (λ (f : Field). length f.octets + length (laid front)) same) in
-    inr (length (laid front), laid front ++ part, place', octets', (front, field, back, part, more, others, o, lt, refl, refl))
+    let others : fields ≡ prefix ++ field ∷ back = cc in
+    let octets' : octets ≡ first.octets ++ (laid prefix ++ part) = parts ∙ (append_assoc other.octets (laid prefix) part ∙ ap (λ (f : Field). f.octets ++ (laid prefix ++ part)) same) in
+    let place' : place ≡ length first.octets + length (laid prefix) = p ∙ (length-append other.octets (laid prefix) ∙ ap (λ (f : Field). length f.octets + length (laid prefix)) same) in
+    inr (length (laid prefix), laid prefix ++ part, place', octets', (prefix, field, back, part, more, others, o, lt, refl, refl))
 
 pub ends_split : (first : Field) (fields : List Field) (place : ℕ) (octets : List ℕ) → EndsIn place (first ∷ fields) octets → Split first fields place octets
 ends_split first fields place octets e = split_at first fields e.0 e.1 e.2 e.3 e.4 octets place e.5 e.6 e.7 e.8 e.9
 
-nowhere : (front : List Field) (field : Field) (back : List Field) → [] ≡ front ++ field ∷ back → ⊥
+nowhere : (prefix : List Field) (field : Field) (back : List Field) → [] ≡ prefix ++ field ∷ back → ⊥
 nowhere [] field back e = cc
-nowhere (other ∷ front) field back e = cc
+nowhere (other ∷ prefix) field back e = cc
 
 pub ends_nowhere : (place : ℕ) (octets : List ℕ) → EndsIn place [] octets → ⊥
 ends_nowhere place octets e = nowhere e.0 e.1 e.2 e.5

@@ -1,4 +1,4 @@
--- Which states have a spelling.
+-- Which states have an encoding.
 use Rattle.std.proofs.Common.{◌≡◌, ◌≤◌, ◌<◌, ◌^◌, ℕ, suc, Bool, true, false, cond, ltb, leb, List, [], ◌∷◌, length, map, Some, refl, ap, subst, arith}
 use Rattle.std.specs.Prelude.{◌&&◌, ◌||◌, not}
 use Rattle.std.specs.List.{flat_map, list_all, AllByRecursion}
@@ -9,7 +9,7 @@ use Rattle.receive_state.specs.declared.state.Encryption.{Encryption}
 use Rattle.receive_state.specs.declared.state.Encryption.TheVariants as keys
 use Rattle.receive_state.specs.declared.state.GroupState.{GroupState}
 use Rattle.receive_state.specs.declared.state.ReceiveState.{ReceiveState}
-use Rattle.receive_state.specs.Layout.{FieldsFit, fields_of, group_of, number_of, spelling, group_is_spelled, is_spelled, HasSpelling, HasTypes, StateIs}
+use Rattle.receive_state.specs.Layout.{FieldsFit, fields_of, group_of, number_of, encoding, group_is_encoded, is_encoded, HasEncoding, HasTypes, StateIs}
 
 length-groups : (groups : List GroupState) → length (map group_of groups) ≡ length groups
 length-groups [] = refl
@@ -24,14 +24,14 @@ groups_fit : (groups : List GroupState) → AllByRecursion (λ group. group.bis_
 groups_fit [] b m = tt
 groups_fit (group ∷ groups) b m = (record { bits = b.0; metadata = omega (arith, m.0) }, groups_fit groups b.1 m.1)
 
-pub has_octets : (state : ReceiveState) → HasTypes state → HasSpelling state → (octets : List ℕ) × StateIs (Some state) octets
+pub has_octets : (state : ReceiveState) → HasTypes state → HasEncoding state → (octets : List ℕ) × StateIs (Some state) octets
 has_octets state t h =
     let few : length (map group_of state.groups) ≤ 255 = omega (arith, length-groups state.groups, h.few) in
     let widths : FieldsFit (fields_of state) =
     record { address = t.address; broadcast_id = t.broadcast_id; bad_code = t.bad_code; few = few; groups = groups_fit state.groups t.bits h.metadata } in
-    (spelling state, record { widths = widths; values = h.values; spelled = refl })
+    (encoding state, record { widths = widths; values = h.values; encoded = refl })
 
-pub octets_fit : (state : ReceiveState) → ((octets : List ℕ) × StateIs (Some state) octets) → HasSpelling state
+pub octets_fit : (state : ReceiveState) → ((octets : List ℕ) × StateIs (Some state) octets) → HasEncoding state
 octets_fit state s =
     record { few = subst (λ (n : ℕ). n ≤ 255) (length-groups state.groups) s.1.widths.few; metadata = metadata_fits state.groups s.1.widths.groups; values = s.1.values }
 
@@ -65,20 +65,20 @@ parts_so false true c d e f g h = absurd cc
 parts_so false false true d e f g h = absurd cc
 parts_so false false false d e f g h = h
 
-groups_values : (groups : List GroupState) → list_all group_is_spelled groups ≡ true
+groups_values : (groups : List GroupState) → list_all group_is_encoded groups ≡ true
     → AllByRecursion (λ group. length group.metadata ≤ 255) groups × NoneReserved (flat_map subgroup_fields (map group_of groups))
 groups_values [] e = (tt, tt)
 groups_values (group ∷ groups) e =
-    let a = and_parts (group_is_spelled group) (list_all group_is_spelled groups) e in
+    let a = and_parts (group_is_encoded group) (list_all group_is_encoded groups) e in
     let b = both (is_reserved group.bis_sync_state) (leb (length group.metadata) 255) a.0 in
     let r = groups_values groups a.1 in
     ((leb-true (length group.metadata) 255 b.1, r.0), (b.0, (refl, (refl, r.1))))
 
 groups_pass : (groups : List GroupState) → AllByRecursion (λ group. length group.metadata ≤ 255) groups → NoneReserved (flat_map subgroup_fields (map group_of groups))
-    → list_all group_is_spelled groups ≡ true
+    → list_all group_is_encoded groups ≡ true
 groups_pass [] m v = refl
 groups_pass (group ∷ groups) m v =
-    and_so (group_is_spelled group) (list_all group_is_spelled groups)
+    and_so (group_is_encoded group) (list_all group_is_encoded groups)
     (both_so (is_reserved group.bis_sync_state) (leb (length group.metadata) 255) v.0 (le-leb (length group.metadata) 255 m.0))
     (groups_pass groups m.1 v.1.1.1)
 
@@ -88,10 +88,10 @@ number_known keys.CodeRequired = refl
 number_known keys.Decrypting = refl
 number_known (keys.BadCode code) = refl
 
-pub test_tells : (state : ReceiveState) → is_spelled state ≡ true → HasSpelling state
+pub test_tells : (state : ReceiveState) → is_encoded state ≡ true → HasEncoding state
 test_tells state e =
-    let p = parts (ltb 1 state.address_type) (ltb 15 state.sid) (ltb 4 state.pa_sync_state) (leb (length state.groups) 255 && list_all group_is_spelled state.groups) e in
-    let a = and_parts (leb (length state.groups) 255) (list_all group_is_spelled state.groups) p.3 in
+    let p = parts (ltb 1 state.address_type) (ltb 15 state.sid) (ltb 4 state.pa_sync_state) (leb (length state.groups) 255 && list_all group_is_encoded state.groups) e in
+    let a = and_parts (leb (length state.groups) 255) (list_all group_is_encoded state.groups) p.3 in
     let g = groups_values state.groups a.1 in
     record {
       few = leb-true (length state.groups) 255 a.0;
@@ -99,8 +99,8 @@ test_tells state e =
       values = (refl, (p.0, (refl, (p.1, (refl, (p.2, (number_known state.encryption, (refl, (refl, g.1)))))))));
     }
 
-pub test_passes : (state : ReceiveState) → HasSpelling state → is_spelled state ≡ true
+pub test_passes : (state : ReceiveState) → HasEncoding state → is_encoded state ≡ true
 test_passes state h =
     let v = h.values in
-    parts_so (ltb 1 state.address_type) (ltb 15 state.sid) (ltb 4 state.pa_sync_state) (leb (length state.groups) 255 && list_all group_is_spelled state.groups) v.1.0 v.1.1.1.0 v.1.1.1.1.1.0
-    (and_so (leb (length state.groups) 255) (list_all group_is_spelled state.groups) (le-leb (length state.groups) 255 h.few) (groups_pass state.groups h.metadata v.1.1.1.1.1.1.1.1.1))
+    parts_so (ltb 1 state.address_type) (ltb 15 state.sid) (ltb 4 state.pa_sync_state) (leb (length state.groups) 255 && list_all group_is_encoded state.groups) v.1.0 v.1.1.1.0 v.1.1.1.1.1.0
+    (and_so (leb (length state.groups) 255) (list_all group_is_encoded state.groups) (le-leb (length state.groups) 255 h.few) (groups_pass state.groups h.metadata v.1.1.1.1.1.1.1.1.1))

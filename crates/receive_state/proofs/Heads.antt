@@ -1,8 +1,8 @@
--- The fields before the subgroups: what is read of them is spelled so, and what is spelled so is read.
+-- The fields before the subgroups: what is read of them is encoded so, and what is encoded so is read.
 use Rattle.std.proofs.Common.{◌≡◌, ℕ, ◌+◌, ◌<◌, List, [], ◌++◌, length, Some, Ok, refl, ap, subst, ◌∙◌, arith}
 use Rattle.std.proofs.lemmas.List.{length-append}
 use Rattle.bcast_base.specs.Reading.{octet_in, octets_in, place_in}
-use Rattle.bcast_base.specs.Spelling.{IsOctets, octet}
+use Rattle.bcast_base.specs.Encoding.{IsOctets, octet}
 use Rattle.bcast_base.proofs.Citable.{octet_takes, octets_take, octets_again, bind_ok, needed_ok, ok_is}
 use Rattle.receive_state.specs.Layout.{StateFields, code_width}
 use Rattle.receive_state.specs.Reading.{source_in, head_in}

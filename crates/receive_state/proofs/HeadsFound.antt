@@ -4,7 +4,7 @@ use Rattle.std.specs.Prelude.{nat_lt}
 use Rattle.std.proofs.lemmas.List.{length-append}
 use Rattle.bcast_base.specs.Layout.{Field, free, unless}
 use Rattle.bcast_base.specs.Reading.{octet_in, octets_in, place_in}
-use Rattle.bcast_base.specs.Spelling.{octet}
+use Rattle.bcast_base.specs.Encoding.{octet}
 use Rattle.receive_state.specs.Faults.{EndsIn}
 use Rattle.receive_state.specs.Layout.{StateFields, fields, FieldsFit, code_width}
 use Rattle.receive_state.specs.Reading.{head_in}

@@ -4,7 +4,7 @@ use Rattle.std.specs.Prelude.{nat_lt, ◌⊎◌}
 use Rattle.std.specs.List.{flat_map}
 use Rattle.bcast_base.specs.Layout.{free, unless}
 use Rattle.bcast_base.specs.Reading.{octet_in, octets_in, place_in}
-use Rattle.bcast_base.specs.Spelling.{octet}
+use Rattle.bcast_base.specs.Encoding.{octet}
 use Rattle.bcast_base.specs.Subgroups.{subgroup_fields}
 use Rattle.receive_state.specs.Faults.{EndsIn}
 use Rattle.receive_state.specs.Layout.{StateFields, fields, FieldsFit, code_width}

@@ -1,4 +1,4 @@
--- States that are read are spelled so, and their first fault is the one that is told.
+-- States that are read are encoded so, and their first fault is the one that is told.
 use Rattle.std.proofs.Common.{◌≡◌, ℕ, zero, suc, ◌<◌, ◌≤◌, List, [], ◌∷◌, ◌++◌, length, map, Option, Some, None, Result, Ok, Err, refl, sym, ap, subst, ◌∙◌, append_assoc, arith}
 use Rattle.std.specs.Prelude.{IfOk}
 use Rattle.std.proofs.lemmas.Bool.{ltb-false}
@@ -7,7 +7,7 @@ use Rattle.std.proofs.lemmas.List.{append-nil, nil_from_length}
 use Rattle.std.specs.List.{flat_map}
 use Rattle.bcast_base.specs.Layout.{Field, laid, reserved_from, NoneReserved}
 use Rattle.bcast_base.specs.Reading.{place_in}
-use Rattle.bcast_base.specs.Spelling.{IsOctets}
+use Rattle.bcast_base.specs.Encoding.{IsOctets}
 use Rattle.bcast_base.specs.Subgroups.{Subgroup, subgroup, subgroup_fields, subgroups_in}
 use Rattle.bcast_base.proofs.Citable.{subgroup_laid, subgroups_take, subgroups_again, reserved_none, none_reserved}
 use Rattle.receive_state.specs.declared.fault.StateFault.{StateFault}
@@ -16,7 +16,7 @@ use Rattle.receive_state.specs.declared.state.Encryption.TheVariants as keys
 use Rattle.receive_state.specs.declared.state.GroupState.{GroupState}
 use Rattle.receive_state.specs.declared.state.ReceiveState.{ReceiveState}
 use Rattle.receive_state.specs.Faults.{IsFollowed}
-use Rattle.receive_state.specs.Layout.{StateFields, fields, FieldsFit, code_width, number_of, code_of, group_of, fields_of, spelling, IsSpelled, StateIs}
+use Rattle.receive_state.specs.Layout.{StateFields, fields, FieldsFit, code_width, number_of, code_of, group_of, fields_of, encoding, IsEncoded, StateIs}
 use Rattle.receive_state.specs.Reading.{head_in, end_in, subgroups_of, state_of_group, encryption_of, state_from, first_fault, answered, behind, judged, judged_of, lifted, state_of, told}
 use Rattle.bcast_base.specs.Tries.{Answers}
 use Rattle.receive_state.proofs.Heads.{before, head_takes, head_again}
@@ -133,7 +133,7 @@ whole_judged whole s rest w =
 
 end_cases : (whole : List ℕ) (s : StateFields) (count : ℕ) (tail : List ℕ) (state : ReceiveState) (read : Result (List ℕ) ℕ) → IsOctets whole → head_in whole ≡ Ok (s, count, tail)
     → end_in whole count tail ≡ read
-    → behind whole (record s { groups = subgroups_of (subgroups_in count tail) }) read ≡ Ok state → IsSpelled state whole
+    → behind whole (record s { groups = subgroups_of (subgroups_in count tail) }) read ≡ Ok state → IsEncoded state whole
 end_cases whole s count tail state (Err place) h e r j = absurd cc
 end_cases whole s count tail state (Ok rest) h e r j =
     let g = groups_read whole count tail rest r in
@@ -145,18 +145,18 @@ end_cases whole s count tail state (Ok rest) h e r j =
     let values = reserved_none (fields all) n.0 in
     let back : fields_of (state_from all) ≡ all = fields_back all (known_encryption all values) w.widths.bad_code in
     let parts : whole ≡ laid (fields all) = w.parts ∙ (ap (λ (x : List ℕ). laid (fields all) ++ x) n.1 ∙ append-nil (laid (fields all))) in
-    subst (λ (x : ReceiveState). IsSpelled x whole) a.0
+    subst (λ (x : ReceiveState). IsEncoded x whole) a.0
     (record {
       widths = subst FieldsFit (sym back) w.widths;
       values = subst (λ (x : StateFields). NoneReserved (fields x)) (sym back) values;
-      spelled = parts ∙ ap (λ (x : StateFields). laid (fields x)) (sym back);
+      encoded = parts ∙ ap (λ (x : StateFields). laid (fields x)) (sym back);
     })
 
-head_cases : (whole : List ℕ) (state : ReceiveState) (read : Result (StateFields × ℕ × List ℕ) ℕ) → IsOctets whole → head_in whole ≡ read → judged whole read ≡ Ok state → IsSpelled state whole
+head_cases : (whole : List ℕ) (state : ReceiveState) (read : Result (StateFields × ℕ × List ℕ) ℕ) → IsOctets whole → head_in whole ≡ read → judged whole read ≡ Ok state → IsEncoded state whole
 head_cases whole state (Err place) h e j = absurd cc
 head_cases whole state (Ok x) h e j = end_cases whole x.0 x.1 x.2 state (end_in whole x.1 x.2) h e refl j
 
-pub judged_is : (whole : List ℕ) (state : ReceiveState) → IsOctets whole → judged_of whole ≡ Ok state → IsSpelled state whole
+pub judged_is : (whole : List ℕ) (state : ReceiveState) → IsOctets whole → judged_of whole ≡ Ok state → IsEncoded state whole
 judged_is whole state h j = head_cases whole state (head_in whole) h refl j
 
 lifted_ok : (read : Result ReceiveState StateFault) (value : Option ReceiveState) → lifted read ≡ Ok value → (state : ReceiveState) × (read ≡ Ok state) × (Some state ≡ value)
@@ -171,16 +171,16 @@ read_is value (octet ∷ rest) h e =
     let l = lifted_ok (judged_of (octet ∷ rest)) value e in
     subst (λ (v : Option ReceiveState). StateIs v (octet ∷ rest)) l.2 (judged_is (octet ∷ rest) l.0 h l.1)
 
-pub is_judged : (state : ReceiveState) (octets : List ℕ) → IsSpelled state octets → judged_of octets ≡ Ok state
+pub is_judged : (state : ReceiveState) (octets : List ℕ) → IsEncoded state octets → judged_of octets ≡ Ok state
 is_judged state octets s =
-    let w : IsFollowed (fields_of state) octets [] = record { widths = s.widths; parts = s.spelled ∙ sym (append-nil (spelling state)) } in
+    let w : IsFollowed (fields_of state) octets [] = record { widths = s.widths; parts = s.encoded ∙ sym (append-nil (encoding state)) } in
     let none : reserved_from 0 (fields (fields_of state)) ≡ None = none_reserved 0 (fields (fields_of state)) s.values in
     whole_judged octets (fields_of state) [] w
     ∙ (ap (λ (p : Option ℕ). answered (state_from (fields_of state)) (first_fault p (place_in octets []) [])) none ∙ ap (λ (x : ReceiveState). answered x None) (state_back state))
 
 pub is_read : (value : Option ReceiveState) (octets : List ℕ) → StateIs value octets → state_of octets ≡ Ok value
 is_read None octets e = ap state_of e
-is_read (Some state) [] s = absurd (let e = s.spelled in cc)
+is_read (Some state) [] s = absurd (let e = s.encoded in cc)
 is_read (Some state) (octet ∷ rest) s = ap lifted (is_judged state (octet ∷ rest) s)
 
 pub gave_state : (result : Result (Option ReceiveState) StateFault) (octets : List ℕ) → IsOctets octets → Answers told result (state_of octets) → IfOk result (λ value. StateIs value octets)

@@ -44,45 +44,45 @@ end_done whole count i rest total le so_far =
 -- ---- what is told of the subgroups
 
 -- the states so far, and those that are read behind them
-abbrev pub with_front : List GroupState → Option (List GroupState) → Option (List GroupState)
-with_front front None = None
-with_front front (Some states) = Some (front ++ states)
+abbrev pub with_prefix : List GroupState → Option (List GroupState) → Option (List GroupState)
+with_prefix prefix None = None
+with_prefix prefix (Some states) = Some (prefix ++ states)
 
-regroup : (front : List GroupState) (group : Subgroup) (read : Option (List Subgroup × List ℕ))
-    → with_front front (states_of (joined group read)) ≡ with_front (front ++ state_of_group group ∷ []) (states_of read)
-regroup front group None = refl
-regroup front group (Some others) = ap (λ (gs : List GroupState). Some gs) (sym (append_assoc front (state_of_group group ∷ []) (map state_of_group others.0)))
+regroup : (prefix : List GroupState) (group : Subgroup) (read : Option (List Subgroup × List ℕ))
+    → with_prefix prefix (states_of (joined group read)) ≡ with_prefix (prefix ++ state_of_group group ∷ []) (states_of read)
+regroup prefix group None = refl
+regroup prefix group (Some others) = ap (λ (gs : List GroupState). Some gs) (sym (append_assoc prefix (state_of_group group ∷ []) (map state_of_group others.0)))
 
-pub read_next : (front : List GroupState) (count i : ℕ) (from : List ℕ) (group : Subgroup) (after : List ℕ) (total : Option (List GroupState)) → i < count → subgroup_in from ≡ Some (group, after)
-    → with_front front (groups_of (count - i) from) ≡ total → with_front (front ++ state_of_group group ∷ []) (groups_of (count - (i + 1)) after) ≡ total
-read_next front count i from group after total lt e so_far =
-    sym (ap (λ (n : ℕ). with_front front (groups_of n from)) (one_left count i lt)
-    ∙ (ap (λ (r : Option (List Subgroup × List ℕ)). with_front front (states_of r)) (subgroups_suc (count - (i + 1)) from group after e)
-    ∙ regroup front group (subgroups_in (count - (i + 1)) after))) ∙ so_far
+pub read_next : (prefix : List GroupState) (count i : ℕ) (from : List ℕ) (group : Subgroup) (after : List ℕ) (total : Option (List GroupState)) → i < count → subgroup_in from ≡ Some (group, after)
+    → with_prefix prefix (groups_of (count - i) from) ≡ total → with_prefix (prefix ++ state_of_group group ∷ []) (groups_of (count - (i + 1)) after) ≡ total
+read_next prefix count i from group after total lt e so_far =
+    sym (ap (λ (n : ℕ). with_prefix prefix (groups_of n from)) (one_left count i lt)
+    ∙ (ap (λ (r : Option (List Subgroup × List ℕ)). with_prefix prefix (states_of r)) (subgroups_suc (count - (i + 1)) from group after e)
+    ∙ regroup prefix group (subgroups_in (count - (i + 1)) after))) ∙ so_far
 
 is_some-states : (read : Option (List Subgroup × List ℕ)) → is_some (states_of read) ≡ is_some read
 is_some-states None = refl
 is_some-states (Some read) = refl
 
-pub read_never : (front : List GroupState) (count i : ℕ) (from octets : List ℕ) → i < count → subgroup_in from ≡ None
-    → with_front front (groups_of (count - i) from) ≡ groups_of count octets → is_some (subgroups_in count octets) ≡ true → ⊥
-read_never front count i from octets lt e so_far some =
-    let one : with_front front (groups_of (count - i) from) ≡ None =
-    ap (λ (n : ℕ). with_front front (groups_of n from)) (one_left count i lt)
-    ∙ ap (λ (r : Option (List Subgroup × List ℕ)). with_front front (states_of r)) (subgroups_none (count - (i + 1)) from e) in
+pub read_never : (prefix : List GroupState) (count i : ℕ) (from octets : List ℕ) → i < count → subgroup_in from ≡ None
+    → with_prefix prefix (groups_of (count - i) from) ≡ groups_of count octets → is_some (subgroups_in count octets) ≡ true → ⊥
+read_never prefix count i from octets lt e so_far some =
+    let one : with_prefix prefix (groups_of (count - i) from) ≡ None =
+    ap (λ (n : ℕ). with_prefix prefix (groups_of n from)) (one_left count i lt)
+    ∙ ap (λ (r : Option (List Subgroup × List ℕ)). with_prefix prefix (states_of r)) (subgroups_none (count - (i + 1)) from e) in
     let no : is_some (groups_of count octets) ≡ false = ap (λ (r : Option (List GroupState)). is_some r) (sym so_far ∙ one) in
     let yes : is_some (groups_of count octets) ≡ true = is_some-states (subgroups_in count octets) ∙ some in
     let clash : true ≡ false = sym yes ∙ no in
     cc
 
-nothing_left : (front : List GroupState) (n : ℕ) (rest : List ℕ) → n ≡ 0 → with_front front (groups_of n rest) ≡ Some front
+nothing_left : (prefix : List GroupState) (n : ℕ) (rest : List ℕ) → n ≡ 0 → with_prefix prefix (groups_of n rest) ≡ Some prefix
 unfolding subgroups_in
-nothing_left front n rest e = rw e (ap (λ (gs : List GroupState). Some gs) (append-nil front))
+nothing_left prefix n rest e = rw e (ap (λ (gs : List GroupState). Some gs) (append-nil prefix))
 
-pub read_end : (front : List GroupState) (count i : ℕ) (rest : List ℕ) (total : Option (List GroupState)) → count ≤ i → with_front front (groups_of (count - i) rest) ≡ total → total ≡ Some front
-read_end front count i rest total le so_far =
+pub read_end : (prefix : List GroupState) (count i : ℕ) (rest : List ℕ) (total : Option (List GroupState)) → count ≤ i → with_prefix prefix (groups_of (count - i) rest) ≡ total → total ≡ Some prefix
+read_end prefix count i rest total le so_far =
     let none_left : count - i ≡ 0 = omega arith in
-    sym so_far ∙ nothing_left front (count - i) rest none_left
+    sym so_far ∙ nothing_left prefix (count - i) rest none_left
 
 -- ---- subgroups are whole exactly where their end is found
 
@@ -95,15 +95,15 @@ some_number n rest = Some (n, rest)
 abbrev some_octets : List ℕ → List ℕ → Option (List ℕ × List ℕ)
 some_octets value rest = Some (value, rest)
 
-spelled : (b : Bool) (value rest v r : List ℕ) → cond {A = Option (List ℕ × List ℕ)} b None (Some (value, rest)) ≡ Some (v, r)
+encoded : (b : Bool) (value rest v r : List ℕ) → cond {A = Option (List ℕ × List ℕ)} b None (Some (value, rest)) ≡ Some (v, r)
     → cond {A = Option (ℕ × List ℕ)} b None (Some (sum_from 0 value, rest)) ≡ Some (sum_from 0 v, r)
-spelled true value rest v r e = absurd cc
-spelled false value rest v r e =
+encoded true value rest v r e = absurd cc
+encoded false value rest v r e =
     let same = some_pair_parts value v rest r e in
     ap (λ (x : List ℕ). some_number (sum_from 0 x) rest) same.0 ∙ ap (λ (x : List ℕ). some_number (sum_from 0 v) x) same.1
 
 number_read : (k : ℕ) (from value rest : List ℕ) → octets_in k from ≡ Some (value, rest) → number_in k from ≡ Some (sum_from 0 value, rest)
-number_read k from value rest e = spelled (ltb (length from) k) (take k from) (drop k from) value rest e
+number_read k from value rest e = encoded (ltb (length from) k) (take k from) (drop k from) value rest e
 
 counted_read : (from : List ℕ) (count : ℕ) (after value rest : List ℕ) → octet_in from ≡ Some (count, after) → octets_in count after ≡ Some (value, rest) → counted_in from ≡ Some (value, rest)
 counted_read [] count after value rest e f = absurd cc

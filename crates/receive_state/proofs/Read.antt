@@ -6,7 +6,7 @@ use Rattle.std.proofs.lemmas.Bool.{eqb-true}
 use Rattle.std.proofs.lemmas.List.{nil_from_length, length-map}
 use Rattle.bcast_base.specs.Layout.{reserved_from}
 use Rattle.bcast_base.specs.Reading.{place_in}
-use Rattle.bcast_base.specs.Spelling.{IsOctets}
+use Rattle.bcast_base.specs.Encoding.{IsOctets}
 use Rattle.bcast_base.specs.Subgroups.{Subgroup, subgroup_fields, subgroups_in, reserved_in}
 use Rattle.bcast_base.proofs.Citable.{reserved_found, subgroups_take}
 use Rattle.receive_state.specs.declared.fault.StateFault.{StateFault}

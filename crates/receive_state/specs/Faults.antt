@@ -5,13 +5,13 @@ use Rattle.bcast_base.specs.Layout.{Field, laid, NoneReserved, FirstReserved}
 use Rattle.receive_state.specs.declared.fault.StateFault.{StateFault}
 use Rattle.receive_state.specs.declared.fault.StateFault.TheVariants.{Short, Rfu, Trailing, Memory}
 use Rattle.receive_state.specs.declared.state.ReceiveState.{ReceiveState}
-use Rattle.receive_state.specs.Layout.{StateFields, fields, FieldsFit, IsSpelled}
+use Rattle.receive_state.specs.Layout.{StateFields, fields, FieldsFit, IsEncoded}
 
 -- the octets end within the field at this place
 abbrev pub EndsIn : ℕ → List Field → List ℕ → Type 0
 EndsIn place layout octets =
-    (front : List Field) × (field : Field) × (back : List Field) × (part : List ℕ) × (more : List ℕ) × (layout ≡ front ++ field ∷ back)
-    × (field.octets ≡ part ++ more) × (0 < length more) × (octets ≡ laid front ++ part) × (place ≡ length (laid front))
+    (prefix : List Field) × (field : Field) × (back : List Field) × (part : List ℕ) × (more : List ℕ) × (layout ≡ prefix ++ field ∷ back)
+    × (field.octets ≡ part ++ more) × (0 < length more) × (octets ≡ laid prefix ++ part) × (place ≡ length (laid prefix))
 
 -- the field at this place passes the end; no octets at all are no source
 abbrev pub IsShort : ℕ → List ℕ → Type 0
@@ -36,4 +36,4 @@ abbrev pub IsFault : StateFault → List ℕ → Type 0
 IsFault (Short place) octets = IsShort place octets
 IsFault (Rfu place) octets = IsReserved place octets
 IsFault (Trailing place) octets = IsTrailing place octets
-IsFault Memory octets = (state : ReceiveState) × IsSpelled state octets × (0 < length state.groups)
+IsFault Memory octets = (state : ReceiveState) × IsEncoded state octets × (0 < length state.groups)

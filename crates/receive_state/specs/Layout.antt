@@ -3,7 +3,7 @@
 use Rattle.std.specs.Prelude.{ℕ, ◌≡◌, ◌≤◌, ◌<◌, ◌^◌, List, [], ◌∷◌, ◌++◌, length, map, Option, Some, None, Bool, false, nat_lt, nat_le, ◌==◌, ◌&&◌, ◌||◌, not, if◌then◌else◌}
 use Rattle.std.specs.List.{flat_map, list_all, AllByRecursion}
 use Rattle.bcast_base.specs.Layout.{Field, free, unless, laid, NoneReserved}
-use Rattle.bcast_base.specs.Spelling.{octet}
+use Rattle.bcast_base.specs.Encoding.{octet}
 use Rattle.bcast_base.specs.Subgroups.{Subgroup, Fits, subgroup_fields, is_reserved}
 use Rattle.receive_state.specs.declared.state.Encryption.{Encryption}
 use Rattle.receive_state.specs.declared.state.Encryption.TheVariants as keys
@@ -23,14 +23,14 @@ pub record StateFields : Type 0 where
   pub groups : List Subgroup
 
 -- Source_ID, address type, address, SID, Broadcast_ID, PA_Sync_State, BIG_Encryption, Bad_Code, Num_Subgroups
-abbrev pub front_fields : StateFields → ℕ → List Field
-front_fields s count =
+abbrev pub prefix_fields : StateFields → ℕ → List Field
+prefix_fields s count =
     free (octet s.source_id) ∷ unless (nat_lt 1 s.address_type) (octet s.address_type) ∷ free s.address ∷ unless (nat_lt 15 s.sid) (octet s.sid) ∷ free s.broadcast_id ∷
     unless (nat_lt 4 s.pa_sync_state) (octet s.pa_sync_state) ∷ unless (nat_lt 3 s.encryption) (octet s.encryption) ∷ free s.bad_code ∷ free (octet count) ∷ []
 
 -- the same, and the subgroups
 abbrev pub fields : StateFields → List Field
-fields s = front_fields s (length s.groups) ++ flat_map subgroup_fields s.groups
+fields s = prefix_fields s (length s.groups) ++ flat_map subgroup_fields s.groups
 
 -- a Bad_Code is told only behind a BIG_Encryption of 3
 abbrev pub code_width : ℕ → ℕ
@@ -77,19 +77,19 @@ fields_of state = record {
 }
 
 -- the octets of a state
-abbrev pub spelling : ReceiveState → List ℕ
-spelling state = laid (fields (fields_of state))
+abbrev pub encoding : ReceiveState → List ℕ
+encoding state = laid (fields (fields_of state))
 
 -- the octets are the state
-pub record IsSpelled (state : ReceiveState) (octets : List ℕ) : Type 0 where
+pub record IsEncoded (state : ReceiveState) (octets : List ℕ) : Type 0 where
   pub widths : FieldsFit (fields_of state)
   pub values : NoneReserved (fields (fields_of state))
-  pub spelled : octets ≡ spelling state
+  pub encoded : octets ≡ encoding state
 
 -- the octets are the value: a state, or no source
 abbrev pub StateIs : Option ReceiveState → List ℕ → Type 0
 StateIs None octets = octets ≡ []
-StateIs (Some state) octets = IsSpelled state octets
+StateIs (Some state) octets = IsEncoded state octets
 
 -- what the types of its fields give every state
 pub record HasTypes (state : ReceiveState) : Type 0 where
@@ -99,16 +99,16 @@ pub record HasTypes (state : ReceiveState) : Type 0 where
   pub bits : AllByRecursion (λ group. group.bis_sync_state < 2 ^ 32) state.groups
 
 -- a state that has octets: no value is reserved, and each count is one octet
-pub record HasSpelling (state : ReceiveState) : Type 0 where
+pub record HasEncoding (state : ReceiveState) : Type 0 where
   pub few : length state.groups ≤ 255
   pub metadata : AllByRecursion (λ group. length group.metadata ≤ 255) state.groups
   pub values : NoneReserved (fields (fields_of state))
 
 -- the same as a test
-abbrev pub group_is_spelled : GroupState → Bool
-group_is_spelled group = not (is_reserved group.bis_sync_state) && nat_le (length group.metadata) 255
+abbrev pub group_is_encoded : GroupState → Bool
+group_is_encoded group = not (is_reserved group.bis_sync_state) && nat_le (length group.metadata) 255
 
-abbrev pub is_spelled : ReceiveState → Bool
-is_spelled state =
+abbrev pub is_encoded : ReceiveState → Bool
+is_encoded state =
     if nat_lt 1 state.address_type || nat_lt 15 state.sid || nat_lt 4 state.pa_sync_state then false
-    else (nat_le (length state.groups) 255 && list_all group_is_spelled state.groups)
+    else (nat_le (length state.groups) 255 && list_all group_is_encoded state.groups)

@@ -1,8 +1,8 @@
 //! Which octets are a receive state, what is wrong with all others, and which state has octets.
 ghost use Rattle.std.specs.Prelude.{◌≡◌, ◌≢◌, ◌↔◌, ℕ, List, Option, Some, Ok, Err};
-ghost use Rattle.bcast_base.specs.Spelling.{IsOctets};
+ghost use Rattle.bcast_base.specs.Encoding.{IsOctets};
 ghost use Rattle.receive_state.specs.Faults.{IsFault};
-ghost use Rattle.receive_state.specs.Layout.{HasSpelling, HasTypes, StateIs};
+ghost use Rattle.receive_state.specs.Layout.{HasEncoding, HasTypes, StateIs};
 ghost use Rattle.receive_state.specs.Reading.{state_of};
 ghost use Rattle.receive_state.specs.declared.fault.StateFault.{StateFault};
 ghost use Rattle.receive_state.specs.declared.fault.StateFault.TheVariants.{Memory};
@@ -20,6 +20,6 @@ pub fn fault_is_cause()
 {}
 
 /// A state fits exactly where some octets are it.
-pub fn fits_is_spelled()
-    ensures { (state : ReceiveState) → HasTypes state → HasSpelling state ↔ ((octets : List ℕ) × StateIs (Some state) octets) }
+pub fn fits_is_encoded()
+    ensures { (state : ReceiveState) → HasTypes state → HasEncoding state ↔ ((octets : List ℕ) × StateIs (Some state) octets) }
 {}

@@ -10,7 +10,7 @@ mod state;
 mod writing;
 
 pub use fault::StateFault;
-pub use laws::{fault_is_cause, fits_is_spelled, read_is_state};
+pub use laws::{fault_is_cause, fits_is_encoded, read_is_state};
 pub use reading::decode_state;
 pub use state::{Encryption, GroupState, GroupStates, ReceiveState};
 pub use writing::{begin_state, encode_state};

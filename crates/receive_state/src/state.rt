@@ -1,6 +1,6 @@
 ghost use Rattle.std.specs.Prelude.{◌≡◌, ◌↔◌, IsTrue};
 ghost use Rattle.std.specs.List.{list_all};
-ghost use Rattle.receive_state.specs.Layout.{HasSpelling, is_spelled, group_is_spelled};
+ghost use Rattle.receive_state.specs.Layout.{HasEncoding, is_encoded, group_is_encoded};
 
 use bcast_base::{Items, Octets, are_reserved};
 
@@ -45,17 +45,17 @@ pub struct ReceiveState {
 }
 
 impl ReceiveState {
-    /// Whether the state has a spelling: no field has a reserved value, there are at most 255 subgroups, and each metadata
+    /// Whether the state has an encoding: no field has a reserved value, there are at most 255 subgroups, and each metadata
     /// has at most 255 octets.
     pub fn fits(&self) -> bool
-        ensures { IsTrue result ↔ HasSpelling self.now }
+        ensures { IsTrue result ↔ HasEncoding self.now }
     {
-        self.is_spelled()
+        self.is_encoded()
     }
 
     // The same as a test of each field.
-    fn is_spelled(&self) -> bool
-        ensures { result ≡ is_spelled self.now }
+    fn is_encoded(&self) -> bool
+        ensures { result ≡ is_encoded self.now }
     {
         if self.address_type > 1 || self.sid > 15 || self.pa_sync_state > 4 {
             return false;
@@ -64,16 +64,16 @@ impl ReceiveState {
     }
 }
 
-// Whether each subgroup has a spelling.
+// Whether each subgroup has an encoding.
 fn groups_fit(groups: &[GroupState]) -> bool
-    ensures { result ≡ list_all group_is_spelled groups.now }
+    ensures { result ≡ list_all group_is_encoded groups.now }
 {
     groups.iter().all(|group| group_fits(group))
 }
 
 // Whether the bits are not reserved and the metadata has at most 255 octets.
 fn group_fits(group: &GroupState) -> bool
-    ensures { result ≡ group_is_spelled group.now }
+    ensures { result ≡ group_is_encoded group.now }
 {
     !are_reserved(group.bis_sync_state) && group.metadata.as_slice().len() <= 255
 }

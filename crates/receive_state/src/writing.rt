@@ -3,7 +3,7 @@ ghost use Rattle.std.specs.List.{flat_map, AllByRecursion};
 ghost use Rattle.std.specs.Option.{option_copied};
 ghost use Rattle.bcast_base.specs.Layout.{laid};
 ghost use Rattle.bcast_base.specs.Subgroups.{Fits, subgroup_fields};
-ghost use Rattle.receive_state.specs.Layout.{HasSpelling, IsSpelled, StateIs, spelling, front_fields, fields_of, FieldsFit, group_of, number_of, code_of, code_width};
+ghost use Rattle.receive_state.specs.Layout.{HasEncoding, IsEncoded, StateIs, encoding, prefix_fields, fields_of, FieldsFit, group_of, number_of, code_of, code_width};
 
 use crate::state::{Encryption, GroupState, ReceiveState};
 use bcast_base::{Memory, Octets, put_subgroup};
@@ -15,7 +15,7 @@ const ROOM: usize = 64;
 /// The octets of a receive state that fits, or none where there is no source (Broadcast Audio Scan Service 1.0, section
 /// 3.2). No source takes no memory.
 pub fn encode_state(alloc: Global, state: Option<&ReceiveState>) -> Result<Octets, Memory>
-    requires { IfSome state (λ s. HasSpelling s.now) }
+    requires { IfSome state (λ s. HasEncoding s.now) }
     ensures { MatchResult result (λ octets. StateIs (option_copied state.entry) octets) (λ _. IsSome state.entry) }
 {
     let Some(state) = state else {
@@ -26,8 +26,8 @@ pub fn encode_state(alloc: Global, state: Option<&ReceiveState>) -> Result<Octet
 
 // The octets of a state.
 fn write_state(alloc: Global, state: &ReceiveState) -> Result<Octets, Memory>
-    requires { HasSpelling state.now }
-    ensures { IfOk result (λ octets. IsSpelled state.now octets) }
+    requires { HasEncoding state.now }
+    ensures { IfOk result (λ octets. IsEncoded state.now octets) }
 {
     let mut out = begin_state(alloc, state, state.groups.count() as u8, ROOM)?;
     put_groups(&mut out, state.groups.as_slice())?;
@@ -42,7 +42,7 @@ pub fn begin_state(
     count: u8,
     room: usize,
 ) -> Result<Octets, Memory>
-    ensures front { IfOk result (λ octets. octets ≡ laid (front_fields (fields_of state.now) count)) }
+    ensures prefix { IfOk result (λ octets. octets ≡ laid (prefix_fields (fields_of state.now) count)) }
     ensures code { OnOk result (length (code_of state.now.encryption) ≡ code_width (number_of state.now.encryption)) }
 {
     let address = state.address;

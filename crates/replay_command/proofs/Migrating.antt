@@ -7,7 +7,7 @@ use Rattle.bcast_io.specs.TextLines.{lines_of, text_limit}
 use Rattle.bcast_io.proofs.Citable.{Consumes-nothing}
 use Rattle.transcript_text.specs.declared.refusal.Refusal.TheVariants.{TextTooLong}
 use Rattle.replay_migration.specs.TextRead.{IsTooLong, LastIsPast}
-use Rattle.replay_migration.specs.Ended.{Ended, WroteText, WroteRefusal, WroteNothing, WroteShort, WroteFront, RanOut}
+use Rattle.replay_migration.specs.Ended.{Ended, WroteText, WroteRefusal, WroteNothing, WroteShort, WrotePrefix, RanOut}
 use Rattle.replay_migration.specs.declared.migration.Migration.{Migration}
 use Rattle.replay_migration.specs.declared.migration.Migration.TheVariants as ends
 use Rattle.replay_command.specs.declared.status.Status.{Status}
@@ -24,7 +24,7 @@ Did statuses.Usage old new = ⊥
 Did statuses.ReadFault old new = WroteNothing old.left new.left old.taken new.taken
 Did statuses.WriteFault old new = WroteShort old.left new.left old.taken new.taken
 Did statuses.OutletFault old new = ⊥
-Did statuses.Memory old new = RanOut old.left new.left old.taken new.taken ⊎ WroteFront old.left new.left old.taken new.taken
+Did statuses.Memory old new = RanOut old.left new.left old.taken new.taken ⊎ WrotePrefix old.left new.left old.taken new.taken
 
 did_of : (how : Migration) (old new : World) → Ended how old.left new.left old.taken new.taken → Did (status_of how) old new
 did_of ends.Done old new e = e

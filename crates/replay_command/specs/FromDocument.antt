@@ -10,5 +10,5 @@ pub record FromDocument (old new : World) (status : Status) : Type 0 where
   -- The status tells how the run ended, so that Usage doesn't come.
   pub ended : TomlEnding
   pub told : status ≡ status_in_toml ended
-  -- By that: the transcript of the document was written, or a front of it, and the boxes took its units, or a front of them.
+  -- By that: the transcript of the document was written, or a prefix of it, and the boxes took its units, or a prefix of them.
   pub run : FromToml old new ended

@@ -11,5 +11,5 @@ pub record FromText (old new : World) (status : Status) : Type 0 where
   -- The status tells how the run ended, so that Usage doesn't come.
   pub ending : Ending
   pub told : status ≡ status_at ending
-  -- By that: the transcript was written, or a front of it, the boxes took its units, or a front of them, and its laws hold.
+  -- By that: the transcript was written, or a prefix of it, the boxes took its units, or a prefix of them, and its laws hold.
   pub run : Promised old new ending

@@ -11,7 +11,7 @@ pub record Generated (seed events : ℕ) (old new : World) (status : Status) : T
   -- The status tells how the run ended, so that neither Usage nor ReadFault comes.
   pub outcome : Outcome
   pub told : status ≡ status_after outcome
-  -- By that: the summary was written, or a front of it, or nothing, and the boxes took what the run handed up.
+  -- By that: the summary was written, or a prefix of it, or nothing, and the boxes took what the run handed up.
   pub run : GeneratedRun seed events outcome old.boxes new.boxes old.taken new.taken old.writes new.writes
   -- The source isn't read.
   pub left : new.left ≡ old.left

@@ -6,7 +6,7 @@ use Rattle.bcast_io.specs.TextLines.{text_limit}
 use Rattle.transcript_text.specs.declared.refusal.Refusal.{Refusal}
 use Rattle.transcript_text.specs.declared.refusal.Refusal.TheVariants.{TextTooLong}
 use Rattle.replay_migration.specs.TextRead.{IsTooLong}
-use Rattle.replay_migration.specs.Ended.{WroteText, WroteRefusal, WroteNothing, WroteShort, WroteFront, RanOut}
+use Rattle.replay_migration.specs.Ended.{WroteText, WroteRefusal, WroteNothing, WroteShort, WrotePrefix, RanOut}
 use Rattle.replay_command.specs.declared.status.Status.{Status}
 use Rattle.replay_command.specs.declared.status.Status.TheVariants as statuses
 use Rattle.replay_lines.specs.World.{World}
@@ -19,11 +19,11 @@ pub record Migrated (old new : World) (status : Status) : Type 0 where
       → (reason ≡ TextTooLong) × WroteRefusal old.left new.left old.taken new.taken line
   -- ReadFault: the source counted a fault before it gave octet 67,108,865, and nothing was written.
   pub read_fault : status ≡ statuses.ReadFault → Rose old.reads new.reads × WroteNothing old.left new.left old.taken new.taken
-  -- WriteFault: the sink counted a fault, and a front of the text in version 2, or of the line of the refusal, was written.
+  -- WriteFault: the sink counted a fault, and a prefix of the text in version 2, or of the line of the refusal, was written.
   pub write_fault : status ≡ statuses.WriteFault → Rose old.writes new.writes × WroteShort old.left new.left old.taken new.taken
-  -- Memory: such a front was written, or nothing where memory ran out before all was read.
+  -- Memory: such a prefix was written, or nothing where memory ran out before all was read.
   pub memory : status ≡ statuses.Memory
-      → RanOut old.left new.left old.taken new.taken ⊎ WroteFront old.left new.left old.taken new.taken
+      → RanOut old.left new.left old.taken new.taken ⊎ WrotePrefix old.left new.left old.taken new.taken
   -- Usage and OutletFault don't come.
   pub no_usage : status ≢ statuses.Usage
   pub no_outlet_fault : status ≢ statuses.OutletFault

@@ -4,7 +4,7 @@ ghost use Rattle.bcast_io.specs.TextLines.{lines_of};
 ghost use Rattle.scenario_history.specs.Airs.{MeetAirs};
 ghost use Rattle.source_machine.specs.Airs.{Airs};
 ghost use Rattle.replay_generated.specs.Generated.{lines_made};
-ghost use Rattle.replay_steps.specs.Untaken.{UntakenBy};
+ghost use Rattle.replay_steps.specs.Unassigned.{UnassignedBy};
 ghost use Rattle.replay_lines.specs.World.{world_of};
 ghost use Rattle.replay_lines.specs.Standing.{lines_over, standing_of};
 ghost use Rattle.replay_words.specs.Words.{mode_of as mode_of_words};
@@ -31,7 +31,7 @@ use unit_outlets::Outlet;
 ///
 /// `Done` comes where the text was read to its end and no line is refused. `Refused` has the line, from 1, and the reason;
 /// the line of the refusal was written, and nothing behind it was run. `Usage` comes for all other words. `ReadFault`, `WriteFault` and
-/// `OutletFault` come only where the count of the source, of the sink or of a box rose. After `Memory` a front of the transcript was
+/// `OutletFault` come only where the count of the source, of the sink or of a box rose. After `Memory` a prefix of the transcript was
 /// written.
 ///
 /// On each link of a living sink over which no notice was forged since it was joined, a slot for which neither a notice nor a
@@ -70,15 +70,15 @@ pub fn replay<S: ByteSource, K: ByteSink>(
     ensures uncalled { result ≡ Status.Usage → outlets.new ≡ outlets.old }
 
     // A box that no accepted `sink` line of the text that is run takes stays the same.
-    ensures untaken { (text : List ℕ) (airs : Airs) → mode_of_words (map string_bytes words.now) ≡ modes.Replay
+    ensures unassigned { (text : List ℕ) (airs : Airs) → mode_of_words (map string_bytes words.now) ≡ modes.Replay
         → S.left source.old ≡ Some text → MeetAirs airs
-        → UntakenBy airs (map account outlets.old.items) (lines_of true text) outlets.old.items outlets.new.items }
-    ensures untaken_generated { (seed events : ℕ) (airs : Airs) → mode_of_words (map string_bytes words.now) ≡ modes.Generate seed events
+        → UnassignedBy airs (map account outlets.old.items) (lines_of true text) outlets.old.items outlets.new.items }
+    ensures unassigned_generated { (seed events : ℕ) (airs : Airs) → mode_of_words (map string_bytes words.now) ≡ modes.Generate seed events
         → MeetAirs airs
-        → UntakenBy airs (map account outlets.old.items) (lines_made seed events) outlets.old.items outlets.new.items }
-    ensures untaken_document { (document : List ℕ) (airs : Airs) → mode_of_words (map string_bytes words.now) ≡ modes.Toml
+        → UnassignedBy airs (map account outlets.old.items) (lines_made seed events) outlets.old.items outlets.new.items }
+    ensures unassigned_document { (document : List ℕ) (airs : Airs) → mode_of_words (map string_bytes words.now) ≡ modes.Toml
         → S.left source.old ≡ Some document → MeetAirs airs
-        → UntakenBy airs (map account outlets.old.items) (lines_over (standing_of document)) outlets.old.items outlets.new.items }
+        → UnassignedBy airs (map account outlets.old.items) (lines_over (standing_of document)) outlets.old.items outlets.new.items }
 
     // In migration no box is called, nor where a document couldn't be read, and in generated mode the source isn't read.
     ensures boxes_kept { mode_of_words (map string_bytes words.now) ≡ modes.Migrate → outlets.new ≡ outlets.old }

@@ -6,7 +6,7 @@ use Rattle.std.proofs.lemmas.Bool.{lt-leb}
 use Rattle.std.proofs.Math.Numerals.{suc-eq-add-one}
 use Rattle.big_info.specs.Rows.{first_fault}
 use Rattle.isoal_unframed.specs.Calls.{accept}
-use Rattle.bcast_base.specs.Spelling as spelling
+use Rattle.bcast_base.specs.Encoding as encoding
 use Rattle.source_machine.specs.Airs.{airs_of}
 use Rattle.source_machine.specs.Calls.{Call, give, event, events, stream_calls}
 use Rattle.transcript_text.specs.declared.refusal.Refusal.TheVariants.{NoOutlet}
@@ -129,7 +129,7 @@ pub group_fine : (boxes : ℕ) → refusal_of airs_of boxes (scenario_step ∷ [
 group_fine boxes = refl
 
 start_fine : (boxes : ℕ) → refusal_of airs_of boxes steps_4 (kinds.Start 0) ≡ None
-unfolding first_fault spelling.number
+unfolding first_fault encoding.number
 start_fine boxes = refl
 
 first_tuned_fine : (boxes : ℕ) → refusal_of airs_of boxes steps_5 (tuned_step 0 1) ≡ None

@@ -19,13 +19,13 @@ read_end version = refl
 over_end : (earlier : List TextLine) → is_over (said_of (plain (codes "end") ∷ earlier)) ≡ true
 over_end earlier = ap (λ r. is_over (with_said (said_by r) (said_of earlier))) (read_end (version_of (said_of earlier)))
 
-ended : (front : List (List ℕ)) → has_end (map plain (front ++ codes "end" ∷ [])) ≡ true
-ended front =
-    ap has_end (map-append plain front (codes "end" ∷ []))
-    ∙ ap (λ ls. is_over (said_of ls)) (reverse-append (map plain front) (plain (codes "end") ∷ []))
-    ∙ over_end (reverse (map plain front))
+ended : (prefix : List (List ℕ)) → has_end (map plain (prefix ++ codes "end" ∷ [])) ≡ true
+ended prefix =
+    ap has_end (map-append plain prefix (codes "end" ∷ []))
+    ∙ ap (λ ls. is_over (said_of ls)) (reverse-append (map plain prefix) (plain (codes "end") ∷ []))
+    ∙ over_end (reverse (map plain prefix))
 
 pub made_end : (seed events : ℕ) → lines_made seed events ≡ map plain (generated_lines seed events) → has_end (lines_made seed events) ≡ true
 made_end seed events are =
     let last = generated_end seed events in
-    ap has_end are ∙ ap (λ ls. has_end (map plain ls)) last.whole ∙ ended last.front
+    ap has_end are ∙ ap (λ ls. has_end (map plain ls)) last.whole ∙ ended last.prefix

@@ -13,7 +13,7 @@ use Rattle.scenario_text.specs.declared.step.Step.{Step}
 use Rattle.scenario_lines.specs.Generated.{generated_lines, lines_from, unit_line}
 use Rattle.scenario_history.specs.Lines.{a_step, refusal_said, rules_of, said_after, said_by, said_in, said_of, with_said}
 use Rattle.scenario_history.specs.Relays.{has_relay, makes_relay}
-use Rattle.scenario_laws.proofs.Gifts.Citable.{SaidNever, none_relayed, nothing_else, plain_after, says_no_relay}
+use Rattle.scenario_laws.proofs.RelayedUnits.Citable.{SaidNever, none_relayed, nothing_else, plain_after, says_no_relay}
 use Rattle.scenario_history.specs.Refusals.{refusal_of}
 use Rattle.scenario_history.specs.Steps.{version_of}
 use Rattle.scenario_history.specs.Transcript.{end_after, has_end, last_end_after, transcript_end}

@@ -210,18 +210,18 @@ generated_count seed events most =
 
 -- the last of these lines is `end`
 pub record LastIsEnd (lines : List (List ℕ)) : Type 0 where
-  pub front : List (List ℕ)
-  pub whole : lines ≡ front ++ codes "end" ∷ []
+  pub prefix : List (List ℕ)
+  pub whole : lines ≡ prefix ++ codes "end" ∷ []
 
-behind : (front lines : List (List ℕ)) → LastIsEnd lines → LastIsEnd (front ++ lines)
-behind front lines last = record {
-  front = front ++ last.front;
-  whole = ap (λ ls. front ++ ls) last.whole ∙ sym (append_assoc front last.front (codes "end" ∷ []));
+behind : (prefix lines : List (List ℕ)) → LastIsEnd lines → LastIsEnd (prefix ++ lines)
+behind prefix lines last = record {
+  prefix = prefix ++ last.prefix;
+  whole = ap (λ ls. prefix ++ ls) last.whole ∙ sym (append_assoc prefix last.prefix (codes "end" ∷ []));
 }
 
 events_end : (state x count : ℕ) → LastIsEnd (made.lines_from state x count)
 unfolding made.lines_from
-events_end state x zero = record { front = []; whole = refl }
+events_end state x zero = record { prefix = []; whole = refl }
 events_end state x (suc count) =
     let first = next_state state in
     let second = next_state first in

@@ -12,7 +12,7 @@ use Rattle.scenario_text.specs.declared.step.Step.{Step}
 use Rattle.scenario_text.specs.declared.step.Step.TheVariants as kinds
 use Rattle.scenario_history.specs.Boxes.{SinkUnit, account_at, box_of, closing, closing_both, handed_up, sink_numbers, valid_for}
 use Rattle.transcript_text.specs.declared.refusal.Refusal.{Refusal}
-use Rattle.scenario_history.specs.Gifts.{Answered, Offer, answered_by, handed_of}
+use Rattle.scenario_history.specs.RelayedUnits.{Answered, Offer, answered_by, handed_of}
 use Rattle.scenario_history.specs.Lines.{Said, a_step, nothing, unsaid, output_said}
 use Rattle.scenario_history.specs.Output.{answer_line, close_lines, dropped_lines, first_lines, injected_hearing, output_of, stale_lines, sum_if, sums_of, unit_line, unit_lines}
 use Rattle.scenario_history.specs.Source.{end_pdu, event_back, pdu_in, stale_in}

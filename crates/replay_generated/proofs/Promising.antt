@@ -22,7 +22,7 @@ use Rattle.scenario_sinks.specs.Faults.{CountsStay, OneCounts}
 use Rattle.scenario_sinks.specs.Handing.{BoxFails}
 use Rattle.scenario_sinks.proofs.Citable.{failed_one, none_counts, one_then, took_stay}
 use Rattle.replay_generated.specs.Generated.{BoxFailed, CutShort, Did, EndedOver, GeneratedRun, IsDoneOrMemory, Summed, lines_made}
-use Rattle.replay_generated.specs.State.Between.{Ends, FrontTaken, Puts, Told}
+use Rattle.replay_generated.specs.State.Between.{Ends, PrefixTaken, Puts, Told}
 use Rattle.replay_generated.specs.declared.outcome.Outcome.{Outcome}
 use Rattle.replay_generated.specs.declared.outcome.Outcome.TheVariants as outcomes
 use Rattle.replay_generated.proofs.Endings.{Reads, made_refused, made_through}
@@ -82,11 +82,11 @@ module _ (airs : Airs) (same : Same airs) (starts ends : List Account) (events :
 -- ---- what was written
 
 module _ (starts ends : List Account) (events : ℕ) (lines : List TextLine) (kept kept' : Option (List ℕ)) (faults faults' : ℕ) where
-  -- a front of the summary was written, and the boxes took all units
+  -- a prefix of the summary was written, and the boxes took all units
   cut_short : (counts : Counts) (end : End Refusal) → Told starts ends lines counts end → AppendsShort kept kept' (summary_of events counts)
       → CutShort airs_of starts ends events lines kept kept'
-  cut_short counts end told front = record {
-    written = subst (λ (c : Counts). AppendsShort kept kept' (summary_of events c)) told.counted front;
+  cut_short counts end told prefix = record {
+    written = subst (λ (c : Counts). AppendsShort kept kept' (summary_of events c)) told.counted prefix;
     done = units_of airs_of starts lines;
     rest = [];
     split = sym (append-nil (units_of airs_of starts lines));
@@ -127,15 +127,15 @@ pub failed_ends : (starts ends : List Account) (events : ℕ) (lines : List Text
     → Ends starts ends events lines kept kept faults faults outcomes.OutletFault
 failed_ends starts ends events lines kept faults failed = record { did = (failed, Appends-nothing kept); rose = λ is. cc; stays = λ is. refl }
 
-pub memory_ends : (starts ends : List Account) (events : ℕ) (lines : List TextLine) (kept : Option (List ℕ)) (faults : ℕ) → FrontTaken starts ends lines
+pub memory_ends : (starts ends : List Account) (events : ℕ) (lines : List TextLine) (kept : Option (List ℕ)) (faults : ℕ) → PrefixTaken starts ends lines
     → Ends starts ends events lines kept kept faults faults outcomes.Memory
-memory_ends starts ends events lines kept faults front = record {
+memory_ends starts ends events lines kept faults prefix = record {
   did = record {
     written = none_written kept events (counts_of (transcript_of airs_of starts lines));
-    done = front.done;
-    rest = front.rest;
-    split = front.split;
-    boxes = front.boxes;
+    done = prefix.done;
+    rest = prefix.rest;
+    split = prefix.split;
+    boxes = prefix.boxes;
   };
   rose = λ is. cc;
   stays = λ is. refl;

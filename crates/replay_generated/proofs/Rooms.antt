@@ -17,7 +17,7 @@ failed_in starts ends lines o =
     let more = units_line starts o.earlier o.line lines o.later o.comes o.accepted.0 o.accepted.1 in
     failure starts ends o.accounts us (handed_on airs_of o.earlier o.line) (f.rest ++ more.rest) (units_of airs_of starts lines) [] o.told o.before f (
     more.split
-    ∙ ap (λ front. (front ++ handed_on airs_of o.earlier o.line) ++ more.rest) (sym (units_all starts o.earlier o.accepted.0))
+    ∙ ap (λ prefix. (prefix ++ handed_on airs_of o.earlier o.line) ++ more.rest) (sym (units_all starts o.earlier o.accepted.0))
     ∙ ap (λ units. (us ++ units) ++ more.rest) f.split
     ∙ append_assoc us (f.done ++ (f.unit ∷ f.rest)) more.rest
     ∙ ap (λ units. us ++ units) (append_assoc f.done (f.unit ∷ f.rest) more.rest)

@@ -23,10 +23,10 @@ use Rattle.scenario_sinks.specs.Handing.{BoxFails, CutShort}
 use Rattle.scenario_sinks.proofs.Citable.{accounts_append}
 use Rattle.replay_steps.specs.LineMeets.{LinesStand, LineMeets, refusal_at, output_at, answered_on}
 use Rattle.replay_steps.specs.declared.machine.Machine.{Machine}
-use Rattle.replay_steps.proofs.Citable.{box_fails, meets_at, untaken_line, took_as, took_history, handed_line}
+use Rattle.replay_steps.proofs.Citable.{box_fails, meets_at, unassigned_line, took_as, took_history, handed_line}
 use Rattle.replay_generated.specs.Generated.{BoxFailed}
-use Rattle.replay_steps.specs.Untaken.{UntakenRun, UntakenSame}
-use Rattle.replay_generated.specs.State.Between.{Counted, FrontTaken, LineRefused, LineRuns, Ran, Refuses, RunTo, Told}
+use Rattle.replay_steps.specs.Unassigned.{UnassignedRun, UnassignedSame}
+use Rattle.replay_generated.specs.State.Between.{Counted, PrefixTaken, LineRefused, LineRuns, Ran, Refuses, RunTo, Told}
 use Rattle.replay_generated.specs.declared.running.Ending.{Ending}
 use Rattle.replay_generated.specs.declared.running.Ending.TheVariants as endings
 use Rattle.replay_generated.proofs.Outputs.{said_whole}
@@ -99,18 +99,18 @@ module _ (starts : List Account) (history : List TextLine) (accepted : Accepted 
 -- ---- the units of further lines
 
 -- units that begin with these
-pub record Begins (front all : List SinkUnit) : Type 0 where
+pub record Begins (prefix all : List SinkUnit) : Type 0 where
   pub rest : List SinkUnit
-  pub split : all ≡ front ++ rest
+  pub split : all ≡ prefix ++ rest
 
 begins_all : (units : List SinkUnit) → Begins units units
 begins_all units = record { rest = []; split = sym (append-nil units) }
 
-begins_more : (front middle all : List SinkUnit) → Begins (front ++ middle) all → Begins front all
-begins_more front middle all b = record { rest = middle ++ b.rest; split = b.split ∙ append_assoc front middle b.rest }
+begins_more : (prefix middle all : List SinkUnit) → Begins (prefix ++ middle) all → Begins prefix all
+begins_more prefix middle all b = record { rest = middle ++ b.rest; split = b.split ∙ append_assoc prefix middle b.rest }
 
-begins_as : (front other all : List SinkUnit) → front ≡ other → Begins front all → Begins other all
-begins_as front other all is b = record { rest = b.rest; split = b.split ∙ ap (λ f. f ++ b.rest) is }
+begins_as : (prefix other all : List SinkUnit) → prefix ≡ other → Begins prefix all → Begins other all
+begins_as prefix other all is b = record { rest = b.rest; split = b.split ∙ ap (λ f. f ++ b.rest) is }
 
 units_rest : (starts : List Account) (history lines : List TextLine)
     → Begins (handed_up airs_of (steps_of airs_of history)) (handed_up airs_of (steps_of airs_of (accepted_of (rules_of airs_of starts) history lines)))
@@ -144,8 +144,8 @@ units_line starts history line lines later split accepted none =
 took_at : (starts accounts others : List Account) (us : List SinkUnit) → others ≡ accounts → Took starts accounts us → Took starts others us
 took_at starts accounts others us e t = let P : List Account → Type 0 = λ a. Took starts a us in subst P (sym e) t
 
-front_taken : (starts ends : List Account) (lines : List TextLine) (done : List SinkUnit) → Begins done (units_of airs_of starts lines) → Took starts ends done → FrontTaken starts ends lines
-front_taken starts ends lines done b t = record { done = done; rest = b.rest; split = b.split; boxes = t }
+prefix_taken : (starts ends : List Account) (lines : List TextLine) (done : List SinkUnit) → Begins done (units_of airs_of starts lines) → Took starts ends done → PrefixTaken starts ends lines
+prefix_taken starts ends lines done b t = record { done = done; rest = b.rest; split = b.split; boxes = t }
 
 -- ---- the run as far as it came
 
@@ -156,7 +156,7 @@ pub record Running {A : Type 0} (olds news : List A) (starts accounts : List Acc
   pub whole : lines ≡ reverse history ++ map plain left
   pub number_is : number ≡ length history
   pub run : RunTo starts history counts machine accounts
-  pub untaken : UntakenSame (steps_of airs_of history) olds news
+  pub unassigned : UnassignedSame (steps_of airs_of history) olds news
 
 pub running_none : {A : Type 0} (olds : List A) (starts : List Account) (lines : List TextLine) (left all : List (List ℕ)) (machine : Machine) (counts : Counts) → lines ≡ map plain all → left ≡ all
     → ((start : List Account) → LinesStand start [] machine start) → counts ≡ none_counted → Running olds olds starts starts lines left 0 machine counts
@@ -165,7 +165,7 @@ running_none olds starts lines left all machine counts are is stands none = reco
   whole = are ∙ ap (λ ls. map plain ls) (sym is);
   number_is = refl;
   run = record { accepted = tt; whole = whole_none; counted = none; stands = stands starts };
-  untaken = λ box least. refl;
+  unassigned = λ box least. refl;
 }
 
 module _ {A : Type 0} (olds news : List A) (starts accounts : List Account) (lines : List TextLine) (left : List (List ℕ)) (number : ℕ) (machine : Machine) (counts : Counts)
@@ -173,28 +173,28 @@ module _ {A : Type 0} (olds news : List A) (starts accounts : List Account) (lin
   took : Took starts accounts (handed_up airs_of (steps_of airs_of r.history))
   took = took_history starts accounts r.history r.run.stands.boxes
 
-  -- the boxes took a front of the units of all lines
+  -- the boxes took a prefix of the units of all lines
   units_begin : Begins (handed_up airs_of (steps_of airs_of r.history)) (units_of airs_of starts lines)
   units_begin =
       let b = units_rest starts r.history (map plain left) in
       record { rest = b.rest; split = ap (units_of airs_of starts) r.whole ∙ units_then starts r.history r.run.accepted (map plain left) ∙ b.split }
 
   -- the boxes that no line so far took, and after the next line
-  pub untaken_here : UntakenRun starts lines olds news
-  untaken_here = record { earlier = r.history; later = map plain left; split = r.whole; accepted = r.run.accepted; same = r.untaken }
+  pub unassigned_here : UnassignedRun starts lines olds news
+  unassigned_here = record { earlier = r.history; later = map plain left; split = r.whole; accepted = r.run.accepted; same = r.unassigned }
 
-  pub untaken_out : (after : List A) → ((history : List TextLine) → RunTo starts history counts machine accounts → UntakenSame (steps_of airs_of history) news after)
-      → UntakenRun starts lines olds after
-  untaken_out after untaken = record {
+  pub unassigned_out : (after : List A) → ((history : List TextLine) → RunTo starts history counts machine accounts → UnassignedSame (steps_of airs_of history) news after)
+      → UnassignedRun starts lines olds after
+  unassigned_out after unassigned = record {
     earlier = r.history;
     later = map plain left;
     split = r.whole;
     accepted = r.run.accepted;
-    same = λ box least. untaken r.history r.run box least ∙ r.untaken box least;
+    same = λ box least. unassigned r.history r.run box least ∙ r.unassigned box least;
   }
 
-  pub stops_here : FrontTaken starts accounts lines
-  stops_here = front_taken starts accounts lines (handed_up airs_of (steps_of airs_of r.history)) units_begin took
+  pub stops_here : PrefixTaken starts accounts lines
+  stops_here = prefix_taken starts accounts lines (handed_up airs_of (steps_of airs_of r.history)) units_begin took
 
   -- no line is left
   pub runs_through : left ≡ [] → has_end lines ≡ true → Told starts accounts lines counts through
@@ -211,14 +211,14 @@ module _ {A : Type 0} (olds news : List A) (starts accounts : List Account) (lin
     split_at : lines ≡ reverse r.history ++ plain line ∷ map plain later
     split_at = r.whole ∙ ap (λ ls. reverse r.history ++ map plain ls) next
 
-    goes_on : (after : List A) (ends : List Account) (new : Machine) (counts' : Counts) (number' : ℕ) → number' ≡ number + 1 → UntakenSame (steps_of airs_of r.history) news after
+    goes_on : (after : List A) (ends : List Account) (new : Machine) (counts' : Counts) (number' : ℕ) → number' ≡ number + 1 → UnassignedSame (steps_of airs_of r.history) news after
         → LineRuns starts r.history (plain line) counts' new accounts ends None → Running olds after starts ends lines later number' new counts'
-    goes_on after ends new counts' number' more untaken run = record {
+    goes_on after ends new counts' number' more unassigned run = record {
       history = plain line ∷ r.history;
       whole = split_at ∙ sym (reverse_onto (plain line) r.history (map plain later));
       number_is = omega (arith, more, r.number_is);
       run = run;
-      untaken = untaken_line (plain line) r.history olds news after r.untaken untaken;
+      unassigned = unassigned_line (plain line) r.history olds news after r.unassigned unassigned;
     }
 
     refused_here : (ends : List Account) (counts' : Counts) (at : ℕ) (reason : Refusal) → LineRefused starts r.history (plain line) counts' accounts ends at reason
@@ -248,7 +248,7 @@ module _ {A : Type 0} (olds news : List A) (starts accounts : List Account) (lin
       fails = fails;
     }
 
-    cut_here : (ends : List Account) → refusal_at starts r.history (plain line) ≡ None → CutShort (handed_on airs_of r.history (plain line)) accounts ends → FrontTaken starts ends lines
+    cut_here : (ends : List Account) → refusal_at starts r.history (plain line) ≡ None → CutShort (handed_on airs_of r.history (plain line)) accounts ends → PrefixTaken starts ends lines
     cut_here ends none cut =
         let before = handed_up airs_of (steps_of airs_of r.history) in
         let after : ends ≡ accounts_after starts (before ++ cut.done) =
@@ -256,7 +256,7 @@ module _ {A : Type 0} (olds news : List A) (starts accounts : List Account) (lin
         let begins = begins_as (before ++ handed_on airs_of r.history (plain line)) ((before ++ cut.done) ++ cut.rest) (units_of airs_of starts lines)
         (ap (λ us. before ++ us) cut.split ∙ sym (append_assoc before cut.done cut.rest))
         (units_line starts r.history (plain line) lines (map plain later) split_at r.run.accepted none) in
-        front_taken starts ends lines (before ++ cut.done) (begins_more (before ++ cut.done) cut.rest (units_of airs_of starts lines) begins)
+        prefix_taken starts ends lines (before ++ cut.done) (begins_more (before ++ cut.done) cut.rest (units_of airs_of starts lines) begins)
         (took_at starts (accounts_after starts (before ++ cut.done)) ends (before ++ cut.done) after (took_all starts (before ++ cut.done)))
 
     ends_here : (ends : List Account) (new : Machine) (counts' : Counts) (ending : Ending) → LineRuns starts r.history (plain line) counts' new accounts ends (Some ending)
@@ -265,18 +265,18 @@ module _ {A : Type 0} (olds news : List A) (starts accounts : List Account) (lin
     ends_here ends new counts' (endings.Refused at reason) f = refused_here ends counts' at reason f
     ends_here ends new counts' endings.OutletFault f = failed_here ends f.1.0 f.0 f.1.1
     ends_here ends new counts' endings.Memory (inl same) =
-        front_taken starts ends lines (handed_up airs_of (steps_of airs_of r.history)) units_begin (took_at starts accounts ends (handed_up airs_of (steps_of airs_of r.history)) same took)
+        prefix_taken starts ends lines (handed_up airs_of (steps_of airs_of r.history)) units_begin (took_at starts accounts ends (handed_up airs_of (steps_of airs_of r.history)) same took)
     ends_here ends new counts' endings.Memory (inr cut) = cut_here ends cut.0 cut.1
 
     -- the line was run
     pub runs_on : (after : List A) (ends : List Account) (new : Machine) (counts' : Counts) (number' : ℕ) (result : Option Ending) → number' ≡ number + 1 → result ≡ None
-        → ((history : List TextLine) → RunTo starts history counts machine accounts → UntakenSame (steps_of airs_of history) news after)
+        → ((history : List TextLine) → RunTo starts history counts machine accounts → UnassignedSame (steps_of airs_of history) news after)
         → ((history : List TextLine) → number' ≡ length history + 1 → RunTo starts history counts machine accounts
         → LineRuns starts history (plain line) counts' new accounts ends result)
         → Running olds after starts ends lines later number' new counts'
-    runs_on after ends new counts' number' result more is untaken runs =
+    runs_on after ends new counts' number' result more is unassigned runs =
         let P : Option Ending → Type 0 = λ o. LineRuns starts r.history (plain line) counts' new accounts ends o in
-        goes_on after ends new counts' number' more (untaken r.history r.run) (subst P is (runs r.history (more ∙ ap (λ n. n + 1) r.number_is) r.run))
+        goes_on after ends new counts' number' more (unassigned r.history r.run) (subst P is (runs r.history (more ∙ ap (λ n. n + 1) r.number_is) r.run))
 
     pub runs_out : (ends : List Account) (new : Machine) (counts' : Counts) (number' : ℕ) (result : Option Ending) (ending : Ending) → number' ≡ number + 1 → result ≡ Some ending
         → ((history : List TextLine) → number' ≡ length history + 1 → RunTo starts history counts machine accounts
@@ -339,5 +339,5 @@ module _ (starts : List Account) (history : List TextLine) (line : TextLine) (ma
   line_memory counts' is = met (Err stops.Memory) is
 
 -- no line was run
-pub none_taken : (starts : List Account) (lines : List TextLine) → FrontTaken starts starts lines
-none_taken starts lines = front_taken starts starts lines [] (record { rest = units_of airs_of starts lines; split = refl }) (took_all starts [])
+pub none_taken : (starts : List Account) (lines : List TextLine) → PrefixTaken starts starts lines
+none_taken starts lines = prefix_taken starts starts lines [] (record { rest = units_of airs_of starts lines; split = refl }) (took_all starts [])

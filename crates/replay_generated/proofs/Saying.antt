@@ -2,7 +2,7 @@
 use Rattle.std.proofs.Common.{◌≡◌, ℕ, zero, suc, ◌+◌, ◌%◌, ◌<◌, ◌≤◌, true, List, [], ◌∷◌, codes, refl, arith, None, Some}
 use Rattle.std.specs.Prelude.{replicate, ⊤}
 use Rattle.std.specs.Fmt.{digits as numerals}
-use Rattle.bcast_base.specs.Spelling.{IsOctets}
+use Rattle.bcast_base.specs.Encoding.{IsOctets}
 use Rattle.scenario_words.specs.Joined.{joined}
 use Rattle.scenario_words.specs.Lines.{Values, ◌▸◌, AllHaveWords, all_words}
 use Rattle.scenario_words.proofs.CitableValues.{NoSpace, joined_split, unspaced}

@@ -13,7 +13,7 @@ none_written kept events counts =
     let first : List ℕ = joined (codes "events") (decimal events ∷ []) in
     let units : List ℕ = joined (codes "units") (decimal counts.valid ∷ codes "lost" ∷ decimal counts.lost ∷ []) in
     record {
-      front = [];
+      prefix = [];
       rest = summary_of events counts;
       whole = refl;
       appended = Appends-nothing kept;

@@ -4,10 +4,10 @@ use Rattle.std.specs.List.{concat, flat_map, range_with_len}
 use Rattle.assistant_machine.specs.Answers.{answer_of as forged_answer}
 use Rattle.delegator_history.specs.declared.notice.Notice.{Notice}
 use Rattle.delegator_history.specs.Controls as controls
-use Rattle.delegator_history.specs.Trains.{Settings, Train, answer_of, brought_by}
+use Rattle.delegator_history.specs.Trains.{Settings, Train, answer_of, outcome_by}
 use Rattle.sink_history.specs.Calls as links
 use Rattle.sink_history.specs.Calls.{Call, writes_waiting}
-use Rattle.sink_history.specs.Drains.{repeated, served_out, told_out}
+use Rattle.sink_history.specs.Drains.{repeated, served_out, notified_out}
 use Rattle.sink_history.specs.Links.{notices_waiting, reads_waiting}
 use Rattle.scenario_words.specs.Digits.{digits}
 use Rattle.scenario_words.specs.Joined.{joined}
@@ -15,9 +15,9 @@ use Rattle.transcript_text.specs.Lines.{line_of}
 use Rattle.transcript_text.specs.SinkLines.{Label, control_words, forged_words, on_link, plain, reply_line, reply_words, train_words, value_line}
 use Rattle.scenario_text.specs.declared.step.Step.{Step}
 use Rattle.scenario_text.specs.declared.step.Step.TheVariants as steps
-use Rattle.sink_history.specs.Lives.{Source, World, given_train, life_of, made_of, named_by, own_train}
-use Rattle.sink_history.specs.Output.{Lines, drain_lines, heard_line, if_there, notified, printed, printed_at, printed_of, printed_where, read_line, read_lines}
-use Rattle.sink_history.specs.Output.{replied, serve_line, serve_lines, show_lines, sight_in, stated, tell_line, tell_lines, view_lines, viewed, was_read}
+use Rattle.sink_history.specs.History.{Source, World, given_train, history_of, made_of, named_by, own_train}
+use Rattle.sink_history.specs.Output.{Lines, drain_lines, heard_line, if_there, notice_delivered, printed, printed_at, printed_of, printed_where, read_line, read_lines}
+use Rattle.sink_history.specs.Output.{replied, serve_line, serve_lines, show_lines, snapshot_in, stated, tell_line, tell_lines, view_lines, viewed, was_read}
 use Rattle.scenario_history.specs.Output.{sink_lines}
 use Rattle.scenario_history.specs.Worlds.{the_world}
 use Rattle.transcript_text.specs.CountedLines.{IsWhole}
@@ -32,9 +32,9 @@ concat_whole : (lines : Lines) → AllWhole lines → IsWhole (concat lines)
 concat_whole [] all = whole_none
 concat_whole (line ∷ lines) all = whole_append line (concat lines) all.0 (concat_whole lines all.1)
 
-more_whole : (front lines : Lines) → AllWhole front → AllWhole lines → AllWhole (front ++ lines)
+more_whole : (prefix lines : Lines) → AllWhole prefix → AllWhole lines → AllWhole (prefix ++ lines)
 more_whole [] lines all more = more
-more_whole (line ∷ front) lines all more = (all.0, more_whole front lines all.1 more)
+more_whole (line ∷ prefix) lines all more = (all.0, more_whole prefix lines all.1 more)
 
 there_whole : {A : Type 0} (line : A → List ℕ) → ((what : A) → IsWhole (line what)) → (o : Option A) → AllWhole (if_there line o)
 there_whole line each None = tt
@@ -62,7 +62,7 @@ module _ (label : Label) (made : Settings) (link : ℕ) where
       there_whole (reply_line label) (λ reply. line_whole label.reply (label.numbers ++ reply_words reply)) (replied made link calls)
 
   tell_whole : (calls : List Call) → AllWhole (tell_line label made link calls)
-  tell_whole calls = there_whole (value_line label.notice label.numbers) (value_whole label.notice label.numbers) (notified made link calls)
+  tell_whole calls = there_whole (value_line label.notice label.numbers) (value_whole label.notice label.numbers) (notice_delivered made link calls)
 
   read_whole : (calls : List Call) → AllWhole (read_line label made link calls)
   read_whole calls = there_whole (value_line label.read label.numbers) (value_whole label.read label.numbers) (was_read made link calls)
@@ -76,8 +76,8 @@ module _ (label : Label) (made : Settings) (link : ℕ) where
   tells_whole : (count : ℕ) (calls : List Call) → AllWhole (tell_lines label made link count calls)
   tells_whole zero calls = tt
   tells_whole (suc count) calls =
-      more_whole (tell_lines label made link count calls) (tell_line label made link (repeated count (links.told link) calls))
-      (tells_whole count calls) (tell_whole (repeated count (links.told link) calls))
+      more_whole (tell_lines label made link count calls) (tell_line label made link (repeated count (links.notified link) calls))
+      (tells_whole count calls) (tell_whole (repeated count (links.notified link) calls))
 
   reads_whole : (count : ℕ) (calls : List Call) → AllWhole (read_lines label made link count calls)
   reads_whole zero calls = tt
@@ -88,13 +88,13 @@ module _ (label : Label) (made : Settings) (link : ℕ) where
   drain_whole : (calls : List Call) → AllWhole (drain_lines label made link calls)
   drain_whole calls =
       let served : List Call = served_out link calls in
-      let told : List Call = told_out made.setup made.mtu link served in
+      let notified : List Call = notified_out made.setup made.mtu link served in
       let writes : ℕ = length (writes_waiting link calls) in
       let notices : ℕ = length (notices_waiting made.setup made.mtu link served) in
-      let reads : ℕ = length (reads_waiting made.setup made.mtu link told) in
-      more_whole (serve_lines label made link writes calls ++ tell_lines label made link notices served) (read_lines label made link reads told)
+      let reads : ℕ = length (reads_waiting made.setup made.mtu link notified) in
+      more_whole (serve_lines label made link writes calls ++ tell_lines label made link notices served) (read_lines label made link reads notified)
       (more_whole (serve_lines label made link writes calls) (tell_lines label made link notices served) (serves_whole writes calls) (tells_whole notices served))
-      (reads_whole reads told)
+      (reads_whole reads notified)
 
 -- ---- states, views and trains
 
@@ -112,7 +112,7 @@ views_whole sink link made calls =
 
 heard_whole : (sink : ℕ) (made : Settings) (calls : List Call) (train : Train) → IsWhole (heard_line sink made calls train)
 heard_whole sink made calls train =
-    line_whole (codes "sink") (decimal sink ∷ train_words (answer_of (brought_by made.setup (sight_in made calls) train)))
+    line_whole (codes "sink") (decimal sink ∷ train_words (answer_of (outcome_by made.setup (snapshot_in made calls) train)))
 
 -- ---- all of it
 
@@ -126,7 +126,7 @@ of_whole source (steps.Forge sink slot octets) made calls =
     (line_whole (codes "forged") (decimal sink ∷ forged_words (forged_answer made.setup.slots made.mtu slot octets)), tt)
 of_whole source (steps.Lose sink) made calls = (line_whole (codes "sink") (decimal sink ∷ codes "Idle" ∷ []), tt)
 of_whole source (steps.Control sink octets) made calls =
-    (line_whole (codes "sink") (decimal sink ∷ control_words (controls.control_heard (sight_in made calls).place octets)), tt)
+    (line_whole (codes "sink") (decimal sink ∷ control_words (controls.control_heard (snapshot_in made calls).place octets)), tt)
 of_whole source (steps.Announce sink) made calls =
     let train = source.announced in (
       line_whole (codes "train") (decimal sink ∷ decimal train.time ∷ digits train.ext ∷ digits train.adv ∷ digits train.acad ∷ []),
@@ -146,7 +146,7 @@ where_whole source next (Some made) calls = of_whole source next made calls
 
 at_whole : (world : World) (earlier : List Step) (next : Step) (named : Option ℕ) → AllWhole (printed_at world earlier next named)
 at_whole world earlier next None = tt
-at_whole world earlier next (Some n) = where_whole (world.source earlier) next (made_of n earlier) (life_of world n earlier)
+at_whole world earlier next (Some n) = where_whole (world.source earlier) next (made_of n earlier) (history_of world n earlier)
 
 pub sink_lines_whole : (earlier : List Step) (next : Step) → IsWhole (sink_lines earlier next)
 sink_lines_whole earlier next = concat_whole (printed the_world earlier next) (at_whole the_world earlier next (named_by next))

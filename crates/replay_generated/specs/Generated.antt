@@ -36,7 +36,7 @@ pub record Summed (airs : Airs) (starts ends : List Account) (events : ℕ) (lin
   pub written : Appends kept kept' (summary_in airs starts events lines)
   pub boxes : Took starts ends (units_of airs starts lines)
 
--- a front of the summary was written, and not all, and the boxes took a front of the units
+-- a prefix of the summary was written, and not all, and the boxes took a prefix of the units
 pub record CutShort (airs : Airs) (starts ends : List Account) (events : ℕ) (lines : List TextLine) (kept kept' : Option (List ℕ)) : Type 0 where
   pub written : AppendsShort kept kept' (summary_in airs starts events lines)
   pub done : List SinkUnit
@@ -84,9 +84,9 @@ pub record GeneratedRun (seed events : ℕ) (outcome : Outcome) (starts ends : L
   pub no_outlet : (line : ℕ) (reason : Refusal) → outcome ≡ outcomes.Refused line reason → (reason ≡ NoOutlet) × (length starts < 2)
   -- OutletFault: the box of a unit counted a fault, and nothing was written.
   pub outlet_fault : outcome ≡ outcomes.OutletFault → Did seed events outcomes.OutletFault starts ends kept kept'
-  -- WriteFault: the sink counted a fault, and a front of the summary was written.
+  -- WriteFault: the sink counted a fault, and a prefix of the summary was written.
   pub write_fault : outcome ≡ outcomes.WriteFault → Rose faults faults' × Did seed events outcomes.WriteFault starts ends kept kept'
-  -- Memory: a front of the summary was written.
+  -- Memory: a prefix of the summary was written.
   pub memory : outcome ≡ outcomes.Memory → Did seed events outcomes.Memory starts ends kept kept'
   -- The sink's count stays with each outcome but WriteFault.
   pub no_write_fault : outcome ≢ outcomes.WriteFault → faults' ≡ faults

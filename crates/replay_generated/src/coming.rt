@@ -5,7 +5,7 @@ ghost use Rattle.unit_outlets.specs.Account.{Account};
 ghost use Rattle.scenario_history.specs.Lines.{steps_of};
 ghost use Rattle.source_machine.specs.Airs.{airs_of};
 ghost use Rattle.replay_steps.specs.LineMeets.{LinesStand, LineMeets};
-ghost use Rattle.replay_steps.specs.Untaken.{UntakenSame};
+ghost use Rattle.replay_steps.specs.Unassigned.{UnassignedSame};
 ghost use Rattle.replay_generated.specs.State.Comings.{Comes, IsComing, IsInRange};
 
 use bcast_base::{Memory, Octets};
@@ -61,9 +61,9 @@ pub(crate) fn run_coming(
         → LinesStand starts lines machine.old (map account outlets.old.items)
         → LineMeets starts lines (plain made) machine.new text.old text.new (map account outlets.old.items)
         (map account outlets.new.items) result }
-    ensures untaken { (starts : List Account) (lines : List TextLine) (accounts : List Account)
+    ensures unassigned { (starts : List Account) (lines : List TextLine) (accounts : List Account)
         → LinesStand starts lines machine.old accounts
-        → UntakenSame (steps_of airs_of lines) outlets.old.items outlets.new.items }
+        → UnassignedSame (steps_of airs_of lines) outlets.old.items outlets.new.items }
 {
     match coming {
         Coming::Text => machine.line(line, outlets, text),

@@ -3,7 +3,7 @@ ghost use Rattle.std.specs.Prelude.{◌≤◌, map};
 ghost use Rattle.transcript_text.specs.Summary.{summary_of};
 ghost use Rattle.replay_generated.specs.Generated.{GeneratedRun, lines_made};
 ghost use Rattle.replay_generated.specs.State.Between.{Ends, Puts};
-ghost use Rattle.replay_steps.specs.Untaken.{UntakenBy, UntakenRun};
+ghost use Rattle.replay_steps.specs.Unassigned.{UnassignedBy, UnassignedRun};
 ghost use Rattle.scenario_history.specs.Airs.{MeetAirs};
 ghost use Rattle.source_machine.specs.Airs.{Airs};
 
@@ -21,7 +21,7 @@ use unit_outlets::Outlet;
 ///
 /// `Done` comes where no line is refused. `Refused` has the line, from 1, and the reason. After both the summary was
 /// written. After `OutletFault`, which comes only where the count of a box rose, nothing was written. After `WriteFault`,
-/// which comes only where the sink's count rose, and after `Memory` a front of the summary was written, and not all. The boxes
+/// which comes only where the sink's count rose, and after `Memory` a prefix of the summary was written, and not all. The boxes
 /// that no `sink` line takes stay the same.
 pub fn run_generated<K: ByteSink>(
     alloc: Global,
@@ -36,7 +36,7 @@ pub fn run_generated<K: ByteSink>(
     ensures generated { GeneratedRun seed events result (map account outlets.old.items) (map account outlets.new.items)
         (K.contents sink.old) (K.contents sink.new)
         (K.faults sink.old) (K.faults sink.new) }
-    ensures untaken { (airs : Airs) → MeetAirs airs → UntakenBy airs (map account outlets.old.items)
+    ensures unassigned { (airs : Airs) → MeetAirs airs → UnassignedBy airs (map account outlets.old.items)
         (lines_made seed events) outlets.old.items outlets.new.items }
 {
     a_line_says_one_step();
@@ -59,7 +59,7 @@ fn run<K: ByteSink>(
     ensures ends { Ends (map account outlets.old.items) (map account outlets.new.items) events (lines_made seed events)
         (K.contents sink.old) (K.contents sink.new)
         (K.faults sink.old) (K.faults sink.new) result }
-    ensures untaken { UntakenRun (map account outlets.old.items) (lines_made seed events) outlets.old.items outlets.new.items }
+    ensures unassigned { UnassignedRun (map account outlets.old.items) (lines_made seed events) outlets.old.items outlets.new.items }
 {
     let mut counts = Counts::new(alloc);
     match run_lines(alloc, seed, events, &mut counts, outlets) {

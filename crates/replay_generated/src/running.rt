@@ -6,10 +6,10 @@ ghost use Rattle.transcript_text.specs.Summary.{none_counted};
 ghost use Rattle.replay_generated.specs.Generated.{lines_made};
 ghost use Rattle.scenario_history.specs.Lines.{steps_of};
 ghost use Rattle.source_machine.specs.Airs.{airs_of};
-ghost use Rattle.replay_steps.specs.Untaken.{UntakenSame};
+ghost use Rattle.replay_steps.specs.Unassigned.{UnassignedSame};
 ghost use Rattle.replay_generated.specs.State.Between.{Counted, Ran, Refuses, RunTo, LineRuns};
 ghost use Rattle.replay_generated.specs.State.Comings.{IsComing, IsInRange};
-ghost use Rattle.replay_steps.specs.Untaken.{UntakenRun};
+ghost use Rattle.replay_steps.specs.Unassigned.{UnassignedRun};
 
 use crate::coming::{Coming, next_of, run_coming};
 use bcast_base::{Memory, Octets};
@@ -45,7 +45,7 @@ pub(crate) fn run_lines(
     requires most { events ≤ 100000 }
     requires none { counts.old ≡ none_counted }
     ensures ran { Ran (map account outlets.old.items) (map account outlets.new.items) (lines_made seed events) counts.new result }
-    ensures untaken { UntakenRun (map account outlets.old.items) (lines_made seed events) outlets.old.items outlets.new.items }
+    ensures unassigned { UnassignedRun (map account outlets.old.items) (lines_made seed events) outlets.old.items outlets.new.items }
 {
     let Ok(mut machine) = Machine::new(alloc) else {
         return Ending::Memory;
@@ -92,9 +92,9 @@ fn run_line(
         → IsComing coming line.now made → RunTo starts lines counts.old machine.old (map account outlets.old.items)
         → LineRuns starts lines (plain made) counts.new machine.new (map account outlets.old.items)
         (map account outlets.new.items) result }
-    ensures untaken { (starts : List Account) (lines : List TextLine)
+    ensures unassigned { (starts : List Account) (lines : List TextLine)
         → RunTo starts lines counts.old machine.old (map account outlets.old.items)
-        → UntakenSame (steps_of airs_of lines) outlets.old.items outlets.new.items }
+        → UnassignedSame (steps_of airs_of lines) outlets.old.items outlets.new.items }
 {
     text.clear();
     match run_coming(machine, coming, line, outlets, text) {

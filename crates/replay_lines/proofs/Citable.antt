@@ -3,7 +3,7 @@
 pub use Rattle.replay_lines.proofs.Completing.{rest_of, told}
 pub use Rattle.replay_lines.proofs.DocumentPromises.{read_at}
 pub use Rattle.replay_lines.proofs.Endings.{units_rest}
-pub use Rattle.replay_lines.proofs.Reading.{document_told, front_read, whole_is}
+pub use Rattle.replay_lines.proofs.Reading.{document_told, prefix_read, whole_is}
 pub use Rattle.replay_lines.proofs.Refusing.{refused_toml}
 pub use Rattle.replay_lines.proofs.Running.{ending_is, ran_toml}
 pub use Rattle.replay_lines.proofs.Unread.{failed_toml, wanting_toml}

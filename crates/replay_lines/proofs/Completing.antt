@@ -22,14 +22,14 @@ use Rattle.replay_lines.proofs.LineUnits.{box_stops, units_line}
 -- ---- a source that tells its text
 
 -- what follows the octets read
-pub told : (text : List ℕ) (left' : Option (List ℕ)) (front : List ℕ) → Consumes (Some text) left' front → (rest : List ℕ) × (left' ≡ Some rest) × (text ≡ front ++ rest)
-told text None front c = absurd c
-told text (Some rest) front c = (rest, refl, c)
+pub told : (text : List ℕ) (left' : Option (List ℕ)) (prefix : List ℕ) → Consumes (Some text) left' prefix → (rest : List ℕ) × (left' ≡ Some rest) × (text ≡ prefix ++ rest)
+told text None prefix c = absurd c
+told text (Some rest) prefix c = (rest, refl, c)
 
-pub rest_of : (text : List ℕ) (left' : Option (List ℕ)) (front : List ℕ) (over : Bool) → TextRead (Some text) left' front over
-    → (rest : List ℕ) × (text ≡ front ++ rest) × MayFollow over true rest
-rest_of text left' front over read =
-    let t = told text left' front read.consumed in
+pub rest_of : (text : List ℕ) (left' : Option (List ℕ)) (prefix : List ℕ) (over : Bool) → TextRead (Some text) left' prefix over
+    → (rest : List ℕ) × (text ≡ prefix ++ rest) × MayFollow over true rest
+rest_of text left' prefix over read =
+    let t = told text left' prefix read.consumed in
     (t.0, t.2, λ is. (refl, subst IsAtEnd t.1 (read.at_end is)))
 
 whole_at : (text : List ℕ) (starts ends : List Account) (left' kept kept' : Option (List ℕ)) (ending : Ending) → Ended airs_of ending starts ends (Some text) left' kept kept' → IsWhole ending
@@ -84,7 +84,7 @@ failed_in text starts ends left' kept kept' o =
     ap (λ t. units_of airs_of starts (lines_of true t)) r.1
     ∙ ap (units_of airs_of starts) at.1
     ∙ more.1
-    ∙ ap (λ front. front ++ (handed_on airs_of o.earlier o.line ++ more.0)) (sym (units_all starts o.earlier o.accepted.0))
+    ∙ ap (λ prefix. prefix ++ (handed_on airs_of o.earlier o.line ++ more.0)) (sym (units_all starts o.earlier o.accepted.0))
     ∙ ap (λ units. us ++ (units ++ more.0)) f.split
     ∙ ap (λ units. us ++ units) (append_assoc f.done (f.unit ∷ f.rest) more.0)
     )

@@ -14,7 +14,7 @@ use Rattle.replay_lines.specs.Standing.{Standing, refused_for, stands_for, cause
 use Rattle.replay_lines.specs.State.Runs.{DocumentRuns, Refuses, over_text}
 use Rattle.replay_lines.proofs.Refusing.{refused_toml}
 use Rattle.replay_lines.proofs.Running.{ending_is, never_fails, ran_toml}
-use Rattle.replay_lines.proofs.Endings.{front_none}
+use Rattle.replay_lines.proofs.Endings.{prefix_none}
 
 -- what was read, by the answer
 pub read_at : (left left' : Option (List ℕ)) (answer other : Result Document Unread) → answer ≡ other
@@ -52,7 +52,7 @@ pub wanting_at_once : (standing : Standing) (boxes : List Account) (kept : Optio
     → DocumentRuns standing boxes boxes kept kept writes writes (Ok endings.Memory)
 wanting_at_once (refused_for cause) boxes kept writes promised = record {
   boxes = refl;
-  puts = front_none kept (cause_line cause);
+  puts = prefix_none kept (cause_line cause);
   write_fault = λ is. absurd cc;
   no_write_fault = λ other. refl;
 }

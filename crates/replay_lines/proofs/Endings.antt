@@ -5,8 +5,8 @@ use Rattle.std.proofs.lemmas.Bool.{false≢true}
 use Rattle.std.specs.Io.KnownBytes.{Appends, Keeps}
 use Rattle.bcast_io.specs.TextLines.{TextLine, lines_of}
 use Rattle.bcast_io.specs.State.Reading.{MayFollow}
-use Rattle.bcast_io.specs.Writing.{AppendsFront, AppendsShort}
-use Rattle.bcast_io.proofs.Citable.{Appends-then, AppendsFront-then, AppendsFront-nothing, Consumes-nothing}
+use Rattle.bcast_io.specs.Writing.{AppendsPrefix, AppendsShort}
+use Rattle.bcast_io.proofs.Citable.{Appends-then, AppendsPrefix-then, AppendsPrefix-nothing, Consumes-nothing}
 use Rattle.unit_outlets.specs.Account.{Account}
 use Rattle.source_machine.specs.Airs.{airs_of, Airs}
 use Rattle.transcript_text.specs.declared.refusal.Refusal.{Refusal}
@@ -16,7 +16,7 @@ use Rattle.scenario_history.specs.Runs.{through, refused, out, out_unless, end_o
 use Rattle.scenario_history.proofs.Citable.{out_accepted, end_accepted, accepted_accepted}
 use Rattle.scenario_history.specs.Steps.{is_over, is_over_at}
 use Rattle.scenario_history.specs.Boxes.{SinkUnit, handed_up}
-use Rattle.scenario_laws.proofs.Gifts.Citable.{stage_happened}
+use Rattle.scenario_laws.proofs.RelayedUnits.Citable.{stage_happened}
 use Rattle.replay_steps.proofs.Citable.{handed_line, took_as, took_history}
 use Rattle.scenario_history.specs.Lines.{rules_of, said_of, steps_of, handed_on}
 use Rattle.scenario_history.specs.Transcript.{out_of, end_after, last_line_after, last_end_after, has_end, transcript_of, transcript_end, units_of}
@@ -69,7 +69,7 @@ module _ (starts : List Account) (history : List TextLine) (accepted : Accepted 
   pub writes_through : (b : Bool) → is_over (steps_of airs_of history) ≡ b
       → transcript_of airs_of starts (reverse history) ≡ brought (rules_of airs_of starts) history ++ last_line_after through b (length history + 1)
   writes_through b over =
-      ap (λ front. front ++ last_line_after (end_after airs_of starts (reverse history)) (has_end (reverse history)) (length (reverse history) + 1)) out_all
+      ap (λ prefix. prefix ++ last_line_after (end_after airs_of starts (reverse history)) (has_end (reverse history)) (length (reverse history) + 1)) out_all
       ∙ ap (λ e. brought (rules_of airs_of starts) history ++ last_line_after e (has_end (reverse history)) (length (reverse history) + 1)) end_all
       ∙ ap (λ x. brought (rules_of airs_of starts) history ++ last_line_after through x (length (reverse history) + 1)) (over_all b over)
       ∙ ap (λ n. brought (rules_of airs_of starts) history ++ last_line_after through b n) number_all
@@ -123,7 +123,7 @@ units_rest airs starts history (line ∷ lines) = by_refusal (units_rest airs st
       handed_on airs history line ++ more.0,
       ap (λ w. handed_up airs (steps_of airs (accepted_unless history w (accepted_of (rules_of airs starts) (line ∷ history) lines)))) is
           ∙ more.1
-          ∙ ap (λ front. front ++ more.0) (handed_line airs history line)
+          ∙ ap (λ prefix. prefix ++ more.0) (handed_line airs history line)
           ∙ append_assoc (handed_up airs (steps_of airs history)) (handed_on airs history line) more.0,
     )
 
@@ -132,18 +132,18 @@ units_rest airs starts history (line ∷ lines) = by_refusal (units_rest airs st
 appends_same : (kept kept' : Option (List ℕ)) (xs ys : List ℕ) → xs ≡ ys → Appends kept kept' xs → Appends kept kept' ys
 appends_same kept kept' xs ys e a = let P : List ℕ → Type 0 = λ x. Appends kept kept' x in subst P e a
 
-front_same : (kept kept' : Option (List ℕ)) (xs ys : List ℕ) → xs ≡ ys → AppendsFront kept kept' xs → AppendsFront kept kept' ys
-front_same kept kept' xs ys e a = let P : List ℕ → Type 0 = λ x. AppendsFront kept kept' x in subst P e a
+prefix_same : (kept kept' : Option (List ℕ)) (xs ys : List ℕ) → xs ≡ ys → AppendsPrefix kept kept' xs → AppendsPrefix kept kept' ys
+prefix_same kept kept' xs ys e a = let P : List ℕ → Type 0 = λ x. AppendsPrefix kept kept' x in subst P e a
 
-pub front_of_short : (kept kept' : Option (List ℕ)) (xs : List ℕ) → AppendsShort kept kept' xs → AppendsFront kept kept' xs
-front_of_short kept kept' xs s = record { front = s.front; rest = s.rest; whole = s.whole; appended = s.appended }
+pub prefix_of_short : (kept kept' : Option (List ℕ)) (xs : List ℕ) → AppendsShort kept kept' xs → AppendsPrefix kept kept' xs
+prefix_of_short kept kept' xs s = record { prefix = s.prefix; rest = s.rest; whole = s.whole; appended = s.appended }
 
 pub keeps_same : (kept : Option (List ℕ)) → Keeps kept kept
 keeps_same None = tt
 keeps_same (Some xs) = refl
 
-pub front_none : (kept : Option (List ℕ)) (xs : List ℕ) → AppendsFront kept kept xs
-front_none kept xs = AppendsFront-nothing kept kept xs (keeps_same kept)
+pub prefix_none : (kept : Option (List ℕ)) (xs : List ℕ) → AppendsPrefix kept kept xs
+prefix_none kept xs = AppendsPrefix-nothing kept kept xs (keeps_same kept)
 
 -- ---- the end of the text, and a fault of the source
 
@@ -174,7 +174,7 @@ ends_at_once starts left kept = record {
   text = [];
   over = false;
   read = record { consumed = Consumes-nothing left; at_end = λ over. absurd (false≢true over) };
-  written = front_none kept (brought_by airs_of false starts []);
+  written = prefix_none kept (brought_by airs_of false starts []);
   boxes = inl (record { done = []; rest = units_of airs_of starts (lines_of false []); split = refl; boxes = took_all starts [] });
 }
 
@@ -199,12 +199,12 @@ module _ (starts : List Account) (history : List TextLine) (left left' kept mid 
       let f = follows refl in
       ap (λ b. lines_of b (t.text ++ more)) f.0 ∙ ap (λ rest. lines_of true (t.text ++ rest)) f.1 ∙ ap (lines_of true) (append-nil t.text)
 
-  broken_no_end : AppendsFront mid kept' (refusal_line number NoEnd) → Broken airs_of starts accounts left left' kept kept'
+  broken_no_end : AppendsPrefix mid kept' (refusal_line number NoEnd) → Broken airs_of starts accounts left left' kept kept'
   broken_no_end f = record {
     text = t.text;
     over = true;
     read = t.read;
-    written = front_same kept kept' _ _ (sym no_end_line) (AppendsFront-then kept mid kept' (brought (rules_of airs_of starts) history) (refusal_line number NoEnd) r.written f);
+    written = prefix_same kept kept' _ _ (sym no_end_line) (AppendsPrefix-then kept mid kept' (brought (rules_of airs_of starts) history) (refusal_line number NoEnd) r.written f);
     boxes = inl (record {
       done = handed_up airs_of (steps_of airs_of history);
       rest = [];
@@ -219,14 +219,14 @@ module _ (starts : List Account) (history : List TextLine) (left left' kept mid 
   ends_no_end endings.OutletFault f = absurd f
   ends_no_end endings.Memory f = broken_no_end f
   ends_no_end endings.WriteFault f = (
-    broken_no_end (front_of_short mid kept' (refusal_line number NoEnd) f),
+    broken_no_end (prefix_of_short mid kept' (refusal_line number NoEnd) f),
     inr (record {
       text = t.text;
       read = t.read;
       ends_so = no_end_end ∙ ap (λ n. refused n NoEnd) (is_next ∙ ap (λ n. n + 1) (sym (ap length t.whole ∙ length-reverse history)));
-      front = brought (rules_of airs_of starts) history ++ f.front;
-      written = Appends-then kept mid kept' (brought (rules_of airs_of starts) history) f.front r.written f.appended;
-      not_before = omega (arith, ap length (ap (out_of airs_of starts) t.whole ∙ out_all starts history r.accepted), length-append (brought (rules_of airs_of starts) history) f.front);
+      prefix = brought (rules_of airs_of starts) history ++ f.prefix;
+      written = Appends-then kept mid kept' (brought (rules_of airs_of starts) history) f.prefix r.written f.appended;
+      not_before = omega (arith, ap length (ap (out_of airs_of starts) t.whole ∙ out_all starts history r.accepted), length-append (brought (rules_of airs_of starts) history) f.prefix);
       boxes = took_as starts accounts _ _ (sym no_end_units) (took_history starts accounts history r.stands.boxes);
     }),
   )

@@ -3,7 +3,7 @@ mod Completing
 mod Counting
 mod DocumentPromises
 mod Endings
-mod Fronts
+mod Prefixes
 mod Hearing
 mod LineEndings
 mod LineSteps
@@ -17,4 +17,4 @@ mod RefusalLaws
 mod Refusing
 mod Running
 mod Unread
-mod Untaken
+mod Unassigned

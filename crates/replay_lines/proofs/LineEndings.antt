@@ -4,8 +4,8 @@ use Rattle.std.proofs.Common.{ap, subst, ◌∙◌, append_assoc, arith, Option,
 use Rattle.std.proofs.lemmas.List.{append-nil, reverse-append}
 use Rattle.std.specs.Io.KnownBytes.{Appends}
 use Rattle.bcast_io.specs.TextLines.{TextLine, lines_of}
-use Rattle.bcast_io.specs.Writing.{AppendsFront, AppendsShort}
-use Rattle.bcast_io.proofs.Citable.{Appends-then, AppendsFront-of_more, AppendsFront-then}
+use Rattle.bcast_io.specs.Writing.{AppendsPrefix, AppendsShort}
+use Rattle.bcast_io.proofs.Citable.{Appends-then, AppendsPrefix-of_more, AppendsPrefix-then}
 use Rattle.unit_outlets.specs.Account.{Account}
 use Rattle.source_machine.specs.Airs.{airs_of}
 use Rattle.transcript_text.specs.declared.refusal.Refusal.{Refusal}
@@ -25,22 +25,22 @@ use Rattle.replay_steps.proofs.Citable.{took_history}
 use Rattle.replay_lines.specs.Replayed.{Comes, brought_by, BoxesCut, Broken, FaultCut, LineFails, OutletFaulted, ReadsAhead, CutAt, BoxesAt}
 use Rattle.replay_lines.specs.Ended.{Ended}
 use Rattle.replay_lines.specs.State.Between.{Refuses, Puts, StepRuns}
-use Rattle.replay_lines.proofs.Endings.{out_then, out_all, ends_refused, writes_refused, units_refused, front_of_short, front_none}
+use Rattle.replay_lines.proofs.Endings.{out_then, out_all, ends_refused, writes_refused, units_refused, prefix_of_short, prefix_none}
 use Rattle.replay_lines.proofs.RefusalLaws.{never_no_end}
 use Rattle.replay_lines.proofs.LineUnits.{Brings, CutFor, box_stops, brings_before, brings_nothing, brings_refused, brings_output, cut_before}
-use Rattle.replay_lines.proofs.LineUnits.{cut_after, cut_within, at_refused, at_front, at_after, took_before}
+use Rattle.replay_lines.proofs.LineUnits.{cut_after, cut_within, at_refused, at_prefix, at_after, took_before}
 
 -- ---- a write that was cut short
 
-brought_front : (over : Bool) (starts : List Account) (kept kept' : Option (List ℕ)) (text : List ℕ) (octets rest : List ℕ)
-    → out_of airs_of starts (lines_of over text) ≡ octets ++ rest → AppendsFront kept kept' octets → AppendsFront kept kept' (brought_by airs_of over starts text)
-brought_front true starts kept kept' text octets rest is f =
+brought_prefix : (over : Bool) (starts : List Account) (kept kept' : Option (List ℕ)) (text : List ℕ) (octets rest : List ℕ)
+    → out_of airs_of starts (lines_of over text) ≡ octets ++ rest → AppendsPrefix kept kept' octets → AppendsPrefix kept kept' (brought_by airs_of over starts text)
+brought_prefix true starts kept kept' text octets rest is f =
     let last = last_line_after (end_after airs_of starts (lines_of true text)) (has_end (lines_of true text)) (length (lines_of true text) + 1) in
-    let P : List ℕ → Type 0 = λ xs. AppendsFront kept kept' xs in
-    subst P (sym (ap (λ front. front ++ last) is ∙ append_assoc octets rest last)) (AppendsFront-of_more kept kept' octets (rest ++ last) f)
-brought_front false starts kept kept' text octets rest is f =
-    let P : List ℕ → Type 0 = λ xs. AppendsFront kept kept' xs in
-    subst P (sym is) (AppendsFront-of_more kept kept' octets rest f)
+    let P : List ℕ → Type 0 = λ xs. AppendsPrefix kept kept' xs in
+    subst P (sym (ap (λ prefix. prefix ++ last) is ∙ append_assoc octets rest last)) (AppendsPrefix-of_more kept kept' octets (rest ++ last) f)
+brought_prefix false starts kept kept' text octets rest is f =
+    let P : List ℕ → Type 0 = λ xs. AppendsPrefix kept kept' xs in
+    subst P (sym is) (AppendsPrefix-of_more kept kept' octets rest f)
 
 -- the line among those of the text as far as it was read
 lines_now : (left left' : Option (List ℕ)) (history : List TextLine) (line : TextLine) (c : Comes left left' history line)
@@ -51,7 +51,7 @@ lines_now left left' history line c =
 
 pub ends_broken : (starts : List Account) (history : List TextLine) (line : TextLine) (left left' kept mid kept' : Option (List ℕ)) (accounts : List Account) (octets : List ℕ)
     → Comes left left' history line → Accepted (rules_of airs_of starts) history → Appends kept mid (brought (rules_of airs_of starts) history)
-    → Brings starts history line octets → CutFor starts history line accounts ⊎ FaultCut airs_of starts accounts left left' kept kept' → AppendsFront mid kept' octets
+    → Brings starts history line octets → CutFor starts history line accounts ⊎ FaultCut airs_of starts accounts left left' kept kept' → AppendsPrefix mid kept' octets
     → Broken airs_of starts accounts left left' kept kept'
 ends_broken starts history line left left' kept mid kept' accounts octets c accepted written brings cut f =
     let now = lines_now left left' history line c in
@@ -62,10 +62,10 @@ ends_broken starts history line left left' kept mid kept' accounts octets c acce
       text = c.text;
       over = c.over;
       read = c.read;
-      written = brought_front c.over starts kept kept' c.text (so_far ++ octets) more.0
+      written = brought_prefix c.over starts kept kept' c.text (so_far ++ octets) more.0
           (ap (out_of airs_of starts) now.1 ∙ out_then starts history accepted (line ∷ now.0) ∙ ap (λ rest. so_far ++ rest) more.1 ∙ sym (append_assoc so_far octets more.0))
-          (AppendsFront-then kept mid kept' so_far octets written f);
-      boxes = elim cut [ inl front ↦ inl (subst P (sym now.1) (front now.0)) | inr failed ↦ inr failed ];
+          (AppendsPrefix-then kept mid kept' so_far octets written f);
+      boxes = elim cut [ inl prefix ↦ inl (subst P (sym now.1) (prefix now.0)) | inr failed ↦ inr failed ];
     }
 
 ends_cut : (starts : List Account) (history : List TextLine) (line : TextLine) (left left' kept mid kept' : Option (List ℕ)) (accounts : List Account) (octets : List ℕ) (number : ℕ)
@@ -88,18 +88,18 @@ ends_cut starts history line left left' kept mid kept' accounts octets number is
       lines = now.1;
       number = is_next;
       accepted = accepted;
-      front = so_far ++ s.front;
-      written = Appends-then kept mid kept' so_far s.front written s.appended;
-      not_before = omega (arith, ap length (out_all starts history accepted), length-append so_far s.front);
+      prefix = so_far ++ s.prefix;
+      written = Appends-then kept mid kept' so_far s.prefix written s.appended;
+      not_before = omega (arith, ap length (out_all starts history accepted), length-append so_far s.prefix);
       longer = omega (
         arith,
         ap length with_line,
         length-append so_far
             (octets ++ more.0),
         length-append octets more.0,
-        length-append so_far s.front,
+        length-append so_far s.prefix,
         ap length s.whole,
-        length-append s.front s.rest,
+        length-append s.prefix s.rest,
         s.some,
       );
       boxes = at;
@@ -111,7 +111,7 @@ ends_write : (starts : List Account) (history : List TextLine) (line : TextLine)
     → Brings starts history line octets → CutFor starts history line accounts ⊎ FaultCut airs_of starts accounts left left' kept kept' → BoxesAt airs_of starts accounts history line → AppendsShort mid kept' octets
     → Ended airs_of endings.WriteFault starts accounts left left' kept kept'
 ends_write starts history line left left' kept mid kept' accounts octets number is_next c ahead accepted written brings cut at s = (
-  ends_broken starts history line left left' kept mid kept' accounts octets c accepted written brings cut (front_of_short mid kept' octets s),
+  ends_broken starts history line left left' kept mid kept' accounts octets c accepted written brings cut (prefix_of_short mid kept' octets s),
   inl (number, ends_cut starts history line left left' kept mid kept' accounts octets number is_next c accepted written brings at s, ahead),
 )
 
@@ -185,7 +185,7 @@ step_put starts history line left left' kept mid kept' machine accounts number o
 step_put starts history line left left' kept mid kept' machine accounts number octets is_next c ahead accepted written none stands told (Some endings.Memory) p =
     let P : List ℕ → Type 0 = λ xs. AppendsShort mid kept' xs in
     ends_broken starts history line left left' kept mid kept' accounts (output_at starts history line) c accepted written
-    (brings_output starts history line accepted none) (inl (cut_after starts accounts history line accepted none stands.boxes)) (front_of_short mid kept' (output_at starts history line) (subst P told p))
+    (brings_output starts history line accepted none) (inl (cut_after starts accounts history line accepted none stands.boxes)) (prefix_of_short mid kept' (output_at starts history line) (subst P told p))
 step_put starts history line left left' kept mid kept' machine accounts number octets is_next c ahead accepted written none stands told (Some endings.Done) p = absurd p
 step_put starts history line left left' kept mid kept' machine accounts number octets is_next c ahead accepted written none stands told (Some endings.ReadFault) p = absurd p
 step_put starts history line left left' kept mid kept' machine accounts number octets is_next c ahead accepted written none stands told (Some endings.OutletFault) p = absurd p
@@ -245,10 +245,10 @@ module _ (starts : List Account) (history : List TextLine) (line : TextLine) (le
           time = f.time;
           octets = f.octets;
           is_valid = f.is_valid;
-          lines = ap (λ front. brought (rules_of airs_of starts) history ++ front) f.lines
-              ∙ ap (λ front. front ++ printed_before (answered_on airs_of history line) f.done f.unit) (sym (out_all starts history accepted));
+          lines = ap (λ prefix. brought (rules_of airs_of starts) history ++ prefix) f.lines
+              ∙ ap (λ prefix. prefix ++ printed_before (answered_on airs_of history line) f.done f.unit) (sym (out_all starts history accepted));
           behind = f.behind;
-          front = f.front;
+          prefix = f.prefix;
           box = f.box;
         };
         written = Appends-then kept mid kept' (brought (rules_of airs_of starts) history) told written p;
@@ -258,10 +258,10 @@ module _ (starts : List Account) (history : List TextLine) (line : TextLine) (le
       stopped endings.WriteFault p =
           ends_write starts history line left left' kept mid kept' after told number is_next c ahead accepted written
           brings_told (inr (fault_cut p))
-          (at_front starts before after history line accepted none b (inr (box_stops starts before after history line [] told f))) p
+          (at_prefix starts before after history line accepted none b (inr (box_stops starts before after history line [] told f))) p
       stopped endings.Memory p =
           ends_broken starts history line left left' kept mid kept' after told c accepted written
-          brings_told (inr (fault_cut p)) (front_of_short mid kept' told p)
+          brings_told (inr (fault_cut p)) (prefix_of_short mid kept' told p)
       stopped endings.Done p = absurd p
       stopped endings.ReadFault p = absurd p
       stopped endings.OutletFault p = absurd p
@@ -274,7 +274,7 @@ pub step_memory : (starts : List Account) (history : List TextLine) (line : Text
     → (after ≡ before) ⊎ ((refusal_at starts history line ≡ None) × CutShort (handed_on airs_of history line) before after)
     → Broken airs_of starts after left left' kept mid
 step_memory starts history line left left' kept mid before after c accepted written b how =
-    ends_broken starts history line left left' kept mid mid after [] c accepted written (brings_nothing starts history line) (inl (cut how)) (front_none mid [])
+    ends_broken starts history line left left' kept mid mid after [] c accepted written (brings_nothing starts history line) (inl (cut how)) (prefix_none mid [])
   where
     cut : (after ≡ before) ⊎ ((refusal_at starts history line ≡ None) × CutShort (handed_on airs_of history line) before after) → CutFor starts history line after
     cut (inl same) = let P : List Account → Type 0 = λ a. CutFor starts history line a in subst P (sym same) (cut_before starts before history line accepted b)

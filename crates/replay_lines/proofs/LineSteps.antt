@@ -15,8 +15,8 @@ use Rattle.replay_steps.specs.declared.machine.Machine.{Machine}
 use Rattle.transcript_text.specs.declared.stop.Stop.{Stop}
 use Rattle.transcript_text.specs.declared.stop.Stop.TheVariants.{Refused, OutletFault, Memory}
 use Rattle.scenario_history.specs.Lines.{steps_of}
-use Rattle.replay_steps.specs.Untaken.{UntakenSame}
-use Rattle.replay_steps.proofs.Citable.{meets_at, untaken_line}
+use Rattle.replay_steps.specs.Unassigned.{UnassignedSame}
+use Rattle.replay_steps.proofs.Citable.{meets_at, unassigned_line}
 use Rattle.replay_steps.specs.LineMeets.{LinesStand, LineMeets}
 use Rattle.replay_lines.specs.Replayed.{Comes, ReadsAhead, Broken}
 use Rattle.replay_lines.specs.Ended.{Ended}
@@ -121,7 +121,7 @@ pub record Running {A : Type 0} (olds news : List A) (starts accounts : List Acc
   pub is_next : number ≡ length lines + 1
   pub read : ReadTo left left' lines reader
   pub run : RunTo starts lines kept kept' machine accounts
-  pub untaken : UntakenSame (steps_of airs_of lines) olds news
+  pub unassigned : UnassignedSame (steps_of airs_of lines) olds news
 
 pub running_none : {A : Type 0} (olds : List A) (starts : List Account) (left kept : Option (List ℕ)) (reader : Reading) (machine : Machine)
     → reader ≡ record { ahead = []; part = []; taken = 0; over = false; line = None } → ((start : List Account) → LinesStand start [] machine start)
@@ -131,7 +131,7 @@ running_none olds starts left kept reader machine new stands = record {
   is_next = omega arith;
   read = read_none left reader new;
   run = record { accepted = tt; written = Appends-nothing kept; stands = stands starts };
-  untaken = λ box least. refl;
+  unassigned = λ box least. refl;
 }
 
 pub bound_none : (reader : Reading) → reader ≡ record { ahead = []; part = []; taken = 0; over = false; line = None } → 1 + lines_left reader ≤ text_limit + 2
@@ -139,7 +139,7 @@ bound_none reader new = let P : Reading → Type 0 = λ r. 1 + lines_left r ≤ 
 
 pub running_more : {A : Type 0} (may_fail : Bool) (olds mids news : List A) (starts before after : List Account) (left mid left' kept put kept' : Option (List ℕ)) (number next : ℕ) (old new : Reading) (machine machine' : Machine) (result : Option Ending)
     → Running olds mids starts before left mid kept put number old machine → next ≡ number + 1 → result ≡ None
-    → ((lines : List TextLine) → LinesStand starts lines machine before → UntakenSame (steps_of airs_of lines) mids news)
+    → ((lines : List TextLine) → LinesStand starts lines machine before → UnassignedSame (steps_of airs_of lines) mids news)
     → ((lines : List TextLine) → number ≡ length lines + 1 → ReadTo left mid lines old → RunTo starts lines kept put machine before
     → LineRuns may_fail starts lines left left' kept kept' new machine' after result)
     → Running olds news starts after left left' kept kept' next new machine'
@@ -151,7 +151,7 @@ running_more may_fail olds mids news starts before after left mid left' kept put
       is_next = omega (arith, r.is_next);
       read = m.1;
       run = m.2;
-      untaken = untaken_line m.0 r.lines olds mids news r.untaken (same r.lines r.run.stands);
+      unassigned = unassigned_line m.0 r.lines olds mids news r.unassigned (same r.lines r.run.stands);
     }
 
 pub running_ends : {A : Type 0} (may_fail : Bool) (olds mids : List A) (starts before after : List Account) (left mid left' kept put kept' : Option (List ℕ)) (number : ℕ) (old new : Reading) (machine machine' : Machine)

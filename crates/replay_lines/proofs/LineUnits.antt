@@ -15,7 +15,7 @@ use Rattle.scenario_sinks.specs.Handing.{BoxFails, CutShort}
 use Rattle.scenario_sinks.proofs.Citable.{accounts_append}
 use Rattle.replay_steps.specs.Meets.{BoxesStand}
 use Rattle.replay_steps.specs.LineMeets.{refusal_at, output_at, answered_on}
-use Rattle.replay_lines.specs.Replayed.{BoxesCut, BoxesAt, LineFails, TookFront}
+use Rattle.replay_lines.specs.Replayed.{BoxesCut, BoxesAt, LineFails, TookPrefix}
 use Rattle.replay_steps.proofs.Citable.{box_fails, handed_line, took_history}
 use Rattle.replay_lines.proofs.Endings.{out_line, out_refused, units_then, units_all, units_refused, units_rest}
 
@@ -24,7 +24,7 @@ abbrev pub Brings : List Account → List TextLine → TextLine → List ℕ →
 Brings starts history line octets =
     (later : List TextLine) → (rest : List ℕ) × (out (rules_of airs_of starts) history (line ∷ later) ≡ octets ++ rest)
 
--- whatever comes after the line, the boxes took a front of the units
+-- whatever comes after the line, the boxes took a prefix of the units
 abbrev pub CutFor : List Account → List TextLine → TextLine → List Account → Type 0
 CutFor starts history line accounts = (later : List TextLine) → BoxesCut airs_of starts accounts (reverse history ++ line ∷ later)
 
@@ -52,7 +52,7 @@ pub brings_before : (starts before after : List Account) (history : List TextLin
 brings_before starts before after history line told accepted none f later = (
   f.behind ++ out (rules_of airs_of starts) (line ∷ history) later,
   out_line starts history accepted line none later
-      ∙ ap (λ front. front ++ out (rules_of airs_of starts) (line ∷ history) later) (f.front ∙ ap (λ printed. printed ++ f.behind) (sym f.lines))
+      ∙ ap (λ prefix. prefix ++ out (rules_of airs_of starts) (line ∷ history) later) (f.prefix ∙ ap (λ printed. printed ++ f.behind) (sym f.lines))
       ∙ append_assoc told f.behind (out (rules_of airs_of starts) (line ∷ history) later),
 )
 
@@ -74,7 +74,7 @@ units_line starts history line later accepted none =
       units_then starts history accepted (line ∷ later)
           ∙ ap (λ why. handed_up airs_of (steps_of airs_of (accepted_unless history why (accepted_of (rules_of airs_of starts) (line ∷ history) later)))) none
           ∙ more.1
-          ∙ ap (λ front. front ++ more.0) (handed_line airs_of history line)
+          ∙ ap (λ prefix. prefix ++ more.0) (handed_line airs_of history line)
           ∙ append_assoc (handed_up airs_of (steps_of airs_of history)) (handed_on airs_of history line) more.0,
     )
 
@@ -97,7 +97,7 @@ cut_after starts accounts history line accepted none b later =
       done = handed_up airs_of (steps_of airs_of (line ∷ history));
       rest = more.0;
       split = more.1 ∙ sym (append_assoc (handed_up airs_of (steps_of airs_of history)) (handed_on airs_of history line) more.0)
-          ∙ ap (λ front. front ++ more.0) (sym (handed_line airs_of history line));
+          ∙ ap (λ prefix. prefix ++ more.0) (sym (handed_line airs_of history line));
       boxes = took_history starts accounts (line ∷ history) b;
     }
 
@@ -124,7 +124,7 @@ units_added : (starts : List Account) (history : List TextLine) (line : TextLine
 units_added starts history line accepted none =
     units_all starts (line ∷ history) (accepted, none)
     ∙ handed_line airs_of history line
-    ∙ ap (λ front. front ++ handed_on airs_of history line) (sym (units_all starts history accepted))
+    ∙ ap (λ prefix. prefix ++ handed_on airs_of history line) (sym (units_all starts history accepted))
 
 pub took_before : (starts accounts : List Account) (history : List TextLine) → Accepted (rules_of airs_of starts) history → BoxesStand starts (steps_of airs_of history) accounts
     → Took starts accounts (units_of airs_of starts (reverse history))
@@ -141,18 +141,18 @@ at_refused starts accounts history line reason accepted because b = record {
       ∙ units_refused starts history accepted line reason because []
       ∙ sym (units_all starts history accepted)
       ∙ sym (append-nil (units_of airs_of starts (reverse history)));
-  front = inl (record { done = []; rest = []; split = refl; boxes = refl });
+  prefix = inl (record { done = []; rest = []; split = refl; boxes = refl });
 }
 
-pub at_front : (starts before after : List Account) (history : List TextLine) (line : TextLine) → Accepted (rules_of airs_of starts) history
-    → refusal_at starts history line ≡ None → BoxesStand starts (steps_of airs_of history) before → TookFront (handed_on airs_of history line) before after
+pub at_prefix : (starts before after : List Account) (history : List TextLine) (line : TextLine) → Accepted (rules_of airs_of starts) history
+    → refusal_at starts history line ≡ None → BoxesStand starts (steps_of airs_of history) before → TookPrefix (handed_on airs_of history line) before after
     → BoxesAt airs_of starts after history line
-at_front starts before after history line accepted none b front = record {
+at_prefix starts before after history line accepted none b prefix = record {
   accounts = before;
   before = took_before starts before history accepted b;
   units = handed_on airs_of history line;
   added = units_added starts history line accepted none;
-  front = front;
+  prefix = prefix;
 }
 
 -- all units of the line were taken
@@ -166,7 +166,7 @@ at_after starts accounts history line accepted none b =
       before = let P : List SinkUnit → Type 0 = λ u. Took starts (accounts_after starts all) u in subst P (sym (units_all starts history accepted)) (took_all starts all);
       units = here;
       added = units_added starts history line accepted none;
-      front = inl (record {
+      prefix = inl (record {
         done = here;
         rest = [];
         split = sym (append-nil here);

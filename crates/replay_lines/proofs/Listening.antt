@@ -5,8 +5,8 @@ use Rattle.std.proofs.lemmas.List.{append-nil}
 use Rattle.std.specs.Io.KnownBytes.{Appends, Keeps}
 use Rattle.bcast_io.specs.State.Reading.{Reading}
 use Rattle.bcast_io.specs.TextLines.{TextLine, plain}
-use Rattle.bcast_io.specs.Writing.{AppendsFront}
-use Rattle.bcast_io.proofs.Citable.{Appends-nothing, Appends-then, AppendsFront-then}
+use Rattle.bcast_io.specs.Writing.{AppendsPrefix}
+use Rattle.bcast_io.proofs.Citable.{Appends-nothing, Appends-then, AppendsPrefix-then}
 use Rattle.transcript_text.specs.declared.refusal.Refusal.TheVariants.{NoEnd}
 use Rattle.replay_lines.specs.Listening.{EndsAt, EndsText, HasTold, LineTold, StepTold, Told, ToldAll, ToldBefore, ToldUpTo}
 use Rattle.replay_lines.specs.Replayed.{Comes}
@@ -50,17 +50,17 @@ module _ (row : ℕ → List ℕ → List ℕ) (start old : Listened) (lines : L
 
   -- the listener failed at the line
   pub told_before : (left left' : Option (List ℕ)) (begins : Option (List Telling)) (rows : Option (List ℕ)) → Comes left left' lines (plain line)
-      → Tells old.told begins (begun number line ∷ []) → AppendsFront old.rows rows (row number line)
+      → Tells old.told begins (begun number line ∷ []) → AppendsPrefix old.rows rows (row number line)
       → ToldBefore row left left' start (record { told = begins; rows = rows })
   told_before left left' begins rows comes first shown =
       let P : ℕ → Type 0 = λ n. Tells start.told begins (begun n line ∷ tellings lines) in
-      let Q : ℕ → Type 0 = λ n. AppendsFront start.rows rows (rows_of row (tellings lines) ++ row n line) in
+      let Q : ℕ → Type 0 = λ n. AppendsPrefix start.rows rows (rows_of row (tellings lines) ++ row n line) in
       record {
         earlier = lines;
         line = line;
         comes = comes;
         counted = subst P is_next (tells_then start.told old.told begins (tellings lines) (begun number line ∷ []) has.counted first);
-        shown = subst Q is_next (AppendsFront-then start.rows old.rows rows (rows_of row (tellings lines)) (row number line) has.shown shown);
+        shown = subst Q is_next (AppendsPrefix-then start.rows old.rows rows (rows_of row (tellings lines)) (row number line) has.shown shown);
       }
 
 pub has_kept : (row : ℕ → List ℕ → List ℕ) (start old : Listened) (rows : Option (List ℕ)) (more : List Telling) → HasTold row start old more → Keeps old.rows rows

@@ -2,13 +2,13 @@
 use Rattle.std.proofs.Common.{◌≡◌, ◌≤◌, ◌<◌, ℕ, Bool, true, false, List, [], ◌∷◌, ◌++◌, length, reverse, refl, sym, ap, subst, ◌∙◌, Option, None, inl, inr, ◌⊎◌}
 use Rattle.std.specs.Io.KnownBytes.{Appends}
 use Rattle.bcast_io.specs.TextLines.{TextLine, lines_of}
-use Rattle.bcast_io.specs.Writing.{AppendsFront}
+use Rattle.bcast_io.specs.Writing.{AppendsPrefix}
 use Rattle.unit_outlets.specs.Account.{Account}
 use Rattle.scenario_text.specs.declared.step.Step.{Step}
 use Rattle.transcript_text.specs.declared.refusal.Refusal.{Refusal}
 use Rattle.scenario_history.specs.Runs.{Accepted}
 use Rattle.scenario_history.specs.Boxes.{SinkUnit, Took}
-use Rattle.scenario_history.specs.Gifts.{Answered, answered_by}
+use Rattle.scenario_history.specs.RelayedUnits.{Answered, answered_by}
 use Rattle.scenario_history.specs.Lines.{Said, a_step, nothing, unsaid, handed_on, refusal_said, rules_of}
 use Rattle.scenario_history.specs.Refusals.{line_refusal}
 use Rattle.source_machine.specs.Airs.{Airs}
@@ -106,7 +106,7 @@ module _ (airs others : Airs) (same : Same airs others) (starts ends : List Acco
     text = d.text;
     over = d.over;
     read = d.read;
-    written = subst (λ octets. AppendsFront kept kept' octets) (brought_as d.over d.text) d.written;
+    written = subst (λ octets. AppendsPrefix kept kept' octets) (brought_as d.over d.text) d.written;
     boxes = elim d.boxes [
       | inl cut ↦ inl (cut_as (lines_of d.over d.text) cut)
       | inr failed ↦ inr (failed_as failed)
@@ -134,7 +134,7 @@ module _ (airs others : Airs) (same : Same airs others) (starts ends : List Acco
     before = took_as starts d.accounts _ _ (same.units starts (reverse earlier)) d.before;
     units = d.units;
     added = sym (same.units starts (reverse (line ∷ earlier))) ∙ d.added ∙ ap (λ us. us ++ d.units) (same.units starts (reverse earlier));
-    front = d.front;
+    prefix = d.prefix;
   }
 
   cut_at_as : (line : ℕ) → CutAt airs starts ends left left' kept kept' line → CutAt others starts ends left left' kept kept' line
@@ -148,10 +148,10 @@ module _ (airs others : Airs) (same : Same airs others) (starts ends : List Acco
     lines = d.lines;
     number = d.number;
     accepted = same.accepted starts d.earlier d.accepted;
-    front = d.front;
+    prefix = d.prefix;
     written = d.written;
-    not_before = subst (λ octets. length octets ≤ length d.front) (same.out starts (reverse d.earlier)) d.not_before;
-    longer = subst (λ octets. length d.front < length octets) (same.out starts (reverse (d.last ∷ d.earlier))) d.longer;
+    not_before = subst (λ octets. length octets ≤ length d.prefix) (same.out starts (reverse d.earlier)) d.not_before;
+    longer = subst (λ octets. length d.prefix < length octets) (same.out starts (reverse (d.last ∷ d.earlier))) d.longer;
     boxes = boxes_at_as d.earlier d.last d.boxes;
   }
 
@@ -160,9 +160,9 @@ module _ (airs others : Airs) (same : Same airs others) (starts ends : List Acco
     text = d.text;
     read = d.read;
     ends_so = sym (same.end starts (lines_of true d.text)) ∙ d.ends_so;
-    front = d.front;
+    prefix = d.prefix;
     written = d.written;
-    not_before = subst (λ octets. length octets ≤ length d.front) (same.out starts (lines_of true d.text)) d.not_before;
+    not_before = subst (λ octets. length octets ≤ length d.prefix) (same.out starts (lines_of true d.text)) d.not_before;
     boxes = took_as starts ends _ _ (same.units starts (lines_of true d.text)) d.boxes;
   }
 

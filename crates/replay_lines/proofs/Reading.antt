@@ -3,7 +3,7 @@ use Rattle.std.proofs.Common.{◌≡◌, ℕ, ◌+◌, ◌≤◌, cond, List, []
 use Rattle.std.proofs.lemmas.Bool.{lt-ltb, le-ltb}
 use Rattle.std.proofs.lemmas.List.{append-nil}
 use Rattle.std.specs.Io.KnownBytes.{Consumes, IsAtEnd}
-use Rattle.bcast_io.specs.Documents.{ReadWhole, ReadPast, ReadFront, document_limit}
+use Rattle.bcast_io.specs.Documents.{ReadWhole, ReadPast, ReadPrefix, document_limit}
 use Rattle.replay_lines.proofs.Completing.{told}
 use Rattle.scenario_toml.specs.Document.{Meaning, no_toml, no_form, lines, meaning_of}
 use Rattle.replay_lines.specs.declared.cause.Cause.TheVariants.{TooLong, BadToml, BadDocument}
@@ -31,26 +31,26 @@ whole_is left left' document read = by_meaning (meaning_of document) (is_within 
     by_meaning (lines octets) means = record { document = document; read = read; means = means }
 
 module _ (left left' : Option (List ℕ)) where
-  front_of_whole : (standing : Standing) → WholeIs left left' standing → ReadFront (document_limit + 1) left left'
-  front_of_whole standing whole = record {
+  prefix_of_whole : (standing : Standing) → WholeIs left left' standing → ReadPrefix (document_limit + 1) left left'
+  prefix_of_whole standing whole = record {
     octets = whole.document;
     consumed = whole.read.consumed;
     least = omega (arith, whole.read.within);
   }
 
   -- no more was read than octet 1,048,577
-  pub front_read : (standing : Standing) → DocumentIs left left' standing → ReadFront (document_limit + 1) left left'
-  front_read (refused_for TooLong) past = record { octets = past.octets; consumed = past.consumed; least = omega (arith, past.long) }
-  front_read (refused_for BadToml) whole = front_of_whole (refused_for BadToml) whole
-  front_read (refused_for BadDocument) whole = front_of_whole (refused_for BadDocument) whole
-  front_read (stands_for text) whole = front_of_whole (stands_for text) whole
+  pub prefix_read : (standing : Standing) → DocumentIs left left' standing → ReadPrefix (document_limit + 1) left left'
+  prefix_read (refused_for TooLong) past = record { octets = past.octets; consumed = past.consumed; least = omega (arith, past.long) }
+  prefix_read (refused_for BadToml) whole = prefix_of_whole (refused_for BadToml) whole
+  prefix_read (refused_for BadDocument) whole = prefix_of_whole (refused_for BadDocument) whole
+  prefix_read (stands_for text) whole = prefix_of_whole (stands_for text) whole
 
 -- ---- a source that tells its octets
 
 module _ (left left' : Option (List ℕ)) (document : List ℕ) (tells : left ≡ Some document) where
-  octets_of : (front : List ℕ) → Consumes left left' front → (rest : List ℕ) × (left' ≡ Some rest) × (document ≡ front ++ rest)
-  octets_of front consumed =
-      let P : Option (List ℕ) → Type 0 = λ l. Consumes l left' front in told document left' front (subst P tells consumed)
+  octets_of : (prefix : List ℕ) → Consumes left left' prefix → (rest : List ℕ) × (left' ≡ Some rest) × (document ≡ prefix ++ rest)
+  octets_of prefix consumed =
+      let P : Option (List ℕ) → Type 0 = λ l. Consumes l left' prefix in told document left' prefix (subst P tells consumed)
 
   whole_told : (standing : Standing) → WholeIs left left' standing → standing_of document ≡ standing
   whole_told standing whole =

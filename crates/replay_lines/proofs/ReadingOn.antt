@@ -58,7 +58,7 @@ comes_of left left' lines line reader r = record {
   lines = λ at_end more follows. (
     lines_after at_end reader (reader.ahead ++ more),
     ap (lines_of at_end) (append_assoc r.passed reader.ahead more)
-        ∙ r.begins at_end (reader.ahead ++ more) (λ over. ((follows over).0, ap (λ front. front ++ more) (r.sound.ended over).0 ∙ (follows over).1))
+        ∙ r.begins at_end (reader.ahead ++ more) (λ over. ((follows over).0, ap (λ prefix. prefix ++ more) (r.sound.ended over).0 ∙ (follows over).1))
         ∙ reverse_onto line lines (lines_after at_end reader (reader.ahead ++ more)),
   );
 }
@@ -112,7 +112,7 @@ read_past left mid left' lines old new r going t is sound end = (
       [],
       ap (lines_of at_end) (append_assoc (r.passed ++ t.reads.octets) new.ahead more)
           ∙ begins_more left mid left' lines old new [] r going t at_end (new.ahead ++ more)
-          (λ over. ((follows over).0, ap (λ front. front ++ more) (sound.ended over).0 ∙ (follows over).1))
+          (λ over. ((follows over).0, ap (λ prefix. prefix ++ more) (sound.ended over).0 ∙ (follows over).1))
           ∙ ap (λ rest. reverse lines ++ rest)
           (lines-past_all at_end new.taken new.part (new.ahead ++ more) (omega (arith, is.taken)) (omega (arith, is.some, length-append new.ahead more))),
     );

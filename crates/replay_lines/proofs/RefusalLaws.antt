@@ -21,7 +21,7 @@ use Rattle.transcript_text.specs.declared.refusal.Refusal.TheVariants.{NoSuchLin
 use Rattle.transcript_text.specs.declared.refusal.Refusal.TheVariants as refusals
 use Rattle.sink_history.specs.Calls.{Call}
 use Rattle.delegator_history.specs.Trains.{Settings}
-use Rattle.sink_history.specs.Lives.{World, life_of, made_of, named_by, horizon_in}
+use Rattle.sink_history.specs.History.{World, history_of, made_of, named_by, horizon_in}
 use Rattle.sink_history.specs.Refusals.{link_named, link_twice, no_link, no_record_room, nothing_waits, refused_at, refused_by, refused_where, refusal_of as refusal_of_sink, refuse_if}
 use Rattle.scenario_history.specs.Worlds.{the_world}
 use Rattle.scenario_text.specs.declared.step.Step.{Step}
@@ -133,7 +133,7 @@ other_where next (Some made) calls = other_by next made calls
 
 other_at : (world : World) (earlier : List Step) (next : Step) (named : Option ℕ) → OtherThan (refused_at world earlier next named)
 other_at world earlier next None = tt
-other_at world earlier next (Some n) = other_where next (made_of n earlier) (life_of world n earlier)
+other_at world earlier next (Some n) = other_where next (made_of n earlier) (history_of world n earlier)
 
 other_named : (world : World) (earlier : List Step) (step : Step) → OtherThan (refusal_of_sink world earlier step)
 other_named world earlier step = other_at world earlier step (named_by step)

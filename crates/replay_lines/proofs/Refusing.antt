@@ -1,7 +1,7 @@
 -- What is promised of a document that is refused before any line of it is run.
 use Rattle.std.proofs.Common.{◌≡◌, ◌≢◌, List, [], refl, sym, subst, Result, Ok, Err, inl, inr}
 use Rattle.std.specs.Io.KnownBytes.{Appends}
-use Rattle.bcast_io.specs.Writing.{AppendsFront}
+use Rattle.bcast_io.specs.Writing.{AppendsPrefix}
 use Rattle.scenario_history.specs.Runs.{End, through}
 use Rattle.replay_lines.specs.World.{World}
 use Rattle.replay_lines.specs.declared.ending.Ending.TheVariants as endings
@@ -16,7 +16,7 @@ use Rattle.replay_lines.specs.Documents.{DocumentIs}
 use Rattle.replay_lines.specs.FromToml.{Cut, DocumentLaws, FromToml, TomlComplete, TomlEnding, WasNoFault, Written}
 use Rattle.replay_lines.specs.Standing.{Standing, refused_for, cause_line, end_over, units_over}
 use Rattle.replay_lines.specs.State.Runs.{Refuses, RefusesDocument}
-use Rattle.replay_lines.proofs.Reading.{document_told, front_read}
+use Rattle.replay_lines.proofs.Reading.{document_told, prefix_read}
 
 refused_not_through : (cause : Cause) (other : End Refusal) (result : Result (End Refusal) Cause)
     → result ≡ Err cause → result ≡ Ok other → ⊥
@@ -30,11 +30,11 @@ module _ (old new : World) (cause : Cause) (result : TomlEnding) (document : Doc
   stay : CountsStay old.boxes new.boxes
   stay = took_stay old.boxes new.boxes [] took_none
 
-  cut_of : AppendsFront old.taken new.taken (cause_line cause) → Cut old new
-  cut_of front = λ airs meets. record {
+  cut_of : AppendsPrefix old.taken new.taken (cause_line cause) → Cut old new
+  cut_of prefix = λ airs meets. record {
     standing = refused_for cause;
     document = document;
-    written = front;
+    written = prefix;
     boxes = inl (record { done = []; rest = []; split = refl; boxes = took_none });
   }
 
@@ -70,7 +70,7 @@ module _ (old new : World) (cause : Cause) (result : TomlEnding) (document : Doc
         read_fault = λ is. absurd (at (Ok endings.ReadFault) is);
         write_fault = λ is.
             let p = at (Ok endings.WriteFault) is in
-            (put.write_fault is, cut_of (record { front = p.front; rest = p.rest; whole = p.whole; appended = p.appended }));
+            (put.write_fault is, cut_of (record { prefix = p.prefix; rest = p.rest; whole = p.whole; appended = p.appended }));
         outlet_fault = λ is. absurd (at (Ok endings.OutletFault) is);
         memory = λ is. inr (cut_of (at (Ok endings.Memory) is));
         no_read_fault = λ other. reads;
@@ -89,6 +89,6 @@ module _ (old new : World) (cause : Cause) (result : TomlEnding) (document : Doc
               no_fault = λ room no_read no_write. no_fault_at result put.puts (λ is. no_write (put.write_fault is));
             } in
             subst Q (sym (document_told old.left new.left told tells (refused_for cause) document)) here;
-        reads_at_most = front_read old.left new.left (refused_for cause) document;
+        reads_at_most = prefix_read old.left new.left (refused_for cause) document;
         laws = laws;
       }

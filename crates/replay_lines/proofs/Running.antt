@@ -4,9 +4,9 @@ use Rattle.std.proofs.Common.{Option, Some, Result, Ok, inl, inr}
 use Rattle.std.proofs.lemmas.List.{append-nil}
 use Rattle.std.specs.Io.KnownBytes.{Appends}
 use Rattle.bcast_base.specs.Counts.{Rose}
-use Rattle.bcast_io.proofs.Citable.{AppendsFront-of_more}
+use Rattle.bcast_io.proofs.Citable.{AppendsPrefix-of_more}
 use Rattle.bcast_io.specs.TextLines.{TextLine, lines_of}
-use Rattle.bcast_io.specs.Writing.{AppendsFront}
+use Rattle.bcast_io.specs.Writing.{AppendsPrefix}
 use Rattle.scenario_history.specs.Runs.{through, refused}
 use Rattle.replay_lines.specs.Ended.{Complete}
 use Rattle.replay_lines.specs.Promised.{Promised}
@@ -24,8 +24,8 @@ use Rattle.replay_lines.specs.Documents.{DocumentIs, FaultCutIn, TomlCut, TomlOu
 use Rattle.replay_lines.specs.FromToml.{FromToml, TomlComplete, TomlEnding}
 use Rattle.replay_lines.specs.Standing.{Standing, stands_for, end_over, units_over}
 use Rattle.replay_lines.specs.State.Runs.{over_text}
-use Rattle.replay_lines.proofs.Fronts.{transcript_more, units_of_more}
-use Rattle.replay_lines.proofs.Reading.{document_told, front_read}
+use Rattle.replay_lines.proofs.Prefixes.{transcript_more, units_of_more}
+use Rattle.replay_lines.proofs.Reading.{document_told, prefix_read}
 use Rattle.replay_lines.proofs.Unread.{laws_of}
 
 -- a source in memory counts no fault
@@ -106,11 +106,11 @@ module _ (old new : World) (text : List ℕ) (document : DocumentIs old.left new
       let rest = rest_of text left broken.text broken.over broken.read in
       let octets = transcript_more airs old.boxes broken.over text broken.text rest.0 rest.1 rest.2 in
       let units = units_of_more airs old.boxes broken.over text broken.text rest.0 rest.1 rest.2 in
-      let P : List ℕ → Type 0 = λ xs. AppendsFront old.taken new.taken xs in
+      let P : List ℕ → Type 0 = λ xs. AppendsPrefix old.taken new.taken xs in
       record {
         standing = stands_for text;
         document = document;
-        written = subst P (sym octets.1) (AppendsFront-of_more old.taken new.taken _ octets.0 broken.written);
+        written = subst P (sym octets.1) (AppendsPrefix-of_more old.taken new.taken _ octets.0 broken.written);
         boxes = elim broken.boxes [
           | inl cut ↦ inl (record {
             done = cut.done;
@@ -184,6 +184,6 @@ module _ (old new : World) (text : List ℕ) (document : DocumentIs old.left new
             λ s. TomlComplete airs s old.boxes new.boxes old.reads new.reads old.writes new.writes (ran ending) in
             subst P (sym (document_told old.left new.left told tells (stands_for text) document))
             (complete_in airs old.reads new.reads ending (p.complete airs meets text refl));
-        reads_at_most = front_read old.left new.left (stands_for text) document;
+        reads_at_most = prefix_read old.left new.left (stands_for text) document;
         laws = laws_of (over_text (Some text) old.taken old.writes old.boxes) (over_text left new.taken new.writes new.boxes) ending p;
       }

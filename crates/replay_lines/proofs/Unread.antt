@@ -1,14 +1,14 @@
 -- What is promised where a document wasn't read, and of the laws.
 use Rattle.std.proofs.Common.{◌≡◌, ℕ, ◌+◌, true, List, refl, Option, Ok, inl, arith}
 use Rattle.bcast_base.specs.Counts.{Rose}
-use Rattle.bcast_io.specs.Documents.{ReadFront, document_limit}
+use Rattle.bcast_io.specs.Documents.{ReadPrefix, document_limit}
 use Rattle.replay_lines.specs.Promised.{Promised}
 use Rattle.replay_lines.specs.World.{World}
 use Rattle.replay_lines.specs.declared.ending.Ending.{Ending}
 use Rattle.replay_lines.specs.declared.ending.Ending.TheVariants as endings
 use Rattle.bcast_io.specs.TextLines.{lines_of}
-use Rattle.bcast_io.specs.Writing.{AppendsFront}
-use Rattle.bcast_io.proofs.Citable.{AppendsFront-nothing}
+use Rattle.bcast_io.specs.Writing.{AppendsPrefix}
+use Rattle.bcast_io.proofs.Citable.{AppendsPrefix-nothing}
 use Rattle.scenario_history.specs.Airs.{MeetAirs}
 use Rattle.source_machine.specs.Airs.{Airs}
 use Rattle.scenario_sinks.proofs.Citable.{none_counts}
@@ -40,24 +40,24 @@ laws_of old new ending p = record {
     one_over airs others meets meet_too (stands_for text) = p.one_transcript airs others meets meet_too (lines_of true text)
 
 -- nothing was put
-pub nothing_put : (kept : Option (List ℕ)) (octets : List ℕ) → AppendsFront kept kept octets
-nothing_put kept octets = AppendsFront-nothing kept kept octets (keeps_same kept)
+pub nothing_put : (kept : Option (List ℕ)) (octets : List ℕ) → AppendsPrefix kept kept octets
+nothing_put kept octets = AppendsPrefix-nothing kept kept octets (keeps_same kept)
 
 -- what is outside once some of a document was read
 abbrev pub after_reads : World → Option (List ℕ) → ℕ → World
 after_reads old left reads = record { left = left; reads = reads; taken = old.taken; writes = old.writes; boxes = old.boxes }
 
 module _ (old : World) (left : Option (List ℕ)) (reads : ℕ) where
-  none_written : (most : ℕ) → ReadFront most old.left left → Unread most old (after_reads old left reads)
-  none_written most front = record { read = front; written = keeps_same old.taken; boxes = refl }
+  none_written : (most : ℕ) → ReadPrefix most old.left left → Unread most old (after_reads old left reads)
+  none_written most prefix = record { read = prefix; written = keeps_same old.taken; boxes = refl }
 
-  pub failed_toml : ReadFront document_limit old.left left → Rose old.reads reads → DocumentLaws old.boxes
+  pub failed_toml : ReadPrefix document_limit old.left left → Rose old.reads reads → DocumentLaws old.boxes
       → FromToml old (after_reads old left reads) (Ok endings.ReadFault)
-  failed_toml front rose laws = record {
+  failed_toml prefix rose laws = record {
     done = λ is. absurd cc;
     refused = λ line reason is. absurd cc;
     document_refused = λ cause is. absurd cc;
-    read_fault = λ is. (rose, none_written document_limit front);
+    read_fault = λ is. (rose, none_written document_limit prefix);
     write_fault = λ is. absurd cc;
     outlet_fault = λ is. absurd cc;
     memory = λ is. absurd cc;
@@ -71,20 +71,20 @@ module _ (old : World) (left : Option (List ℕ)) (reads : ℕ) where
       room = λ room is. cc;
       no_fault = λ room no_read no_write. absurd (no_read rose);
     };
-    reads_at_most = record { octets = front.octets; consumed = front.consumed; least = omega (arith, front.least) };
+    reads_at_most = record { octets = prefix.octets; consumed = prefix.consumed; least = omega (arith, prefix.least) };
     laws = laws;
   }
 
-  pub wanting_toml : ReadFront (document_limit + 1) old.left left → reads ≡ old.reads → DocumentLaws old.boxes
+  pub wanting_toml : ReadPrefix (document_limit + 1) old.left left → reads ≡ old.reads → DocumentLaws old.boxes
       → FromToml old (after_reads old left reads) (Ok endings.Memory)
-  wanting_toml front same laws = record {
+  wanting_toml prefix same laws = record {
     done = λ is. absurd cc;
     refused = λ line reason is. absurd cc;
     document_refused = λ cause is. absurd cc;
     read_fault = λ is. absurd cc;
     write_fault = λ is. absurd cc;
     outlet_fault = λ is. absurd cc;
-    memory = λ is. inl (none_written (document_limit + 1) front);
+    memory = λ is. inl (none_written (document_limit + 1) prefix);
     no_read_fault = λ other. same;
     no_write_fault = λ other. refl;
     no_outlet_fault = λ airs meets other. inl (λ box. refl);
@@ -95,6 +95,6 @@ module _ (old : World) (left : Option (List ℕ)) (reads : ℕ) where
       room = λ room is. cc;
       no_fault = λ room no_read no_write. tt;
     };
-    reads_at_most = front;
+    reads_at_most = prefix;
     laws = laws;
   }

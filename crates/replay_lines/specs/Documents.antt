@@ -4,8 +4,8 @@
 use Rattle.std.specs.Prelude.{ℕ, ◌≡◌, ◌⊎◌, List, [], ◌∷◌, ◌++◌, reverse, Option, Result}
 use Rattle.std.specs.Io.KnownBytes.{Appends, Keeps}
 use Rattle.bcast_io.specs.TextLines.{TextLine}
-use Rattle.bcast_io.specs.Writing.{AppendsFront, AppendsShort}
-use Rattle.bcast_io.specs.Documents.{ReadWhole, ReadPast, ReadFront}
+use Rattle.bcast_io.specs.Writing.{AppendsPrefix, AppendsShort}
+use Rattle.bcast_io.specs.Documents.{ReadWhole, ReadPast, ReadPrefix}
 use Rattle.scenario_history.specs.Runs.{End, Accepted}
 use Rattle.replay_lines.specs.Replayed.{BoxesCut, LineFails}
 use Rattle.scenario_history.specs.Boxes.{Took}
@@ -39,7 +39,7 @@ pub record TomlWritten (airs : Airs) (starts ends : List Account) (left left' ke
   pub boxes : Took starts ends (units_over airs starts standing)
 
 -- These lines before one were run, and none is refused; the box of a unit that this line hands up failed and counted it. What
--- those lines bring was written, and then a front of what this one prints before the line of the unit, and not all of that.
+-- those lines bring was written, and then a prefix of what this one prints before the line of the unit, and not all of that.
 pub record FaultCutIn (airs : Airs) (starts ends : List Account) (kept kept' : Option (List ℕ)) (lines : List TextLine) : Type 0 where
   pub earlier : List TextLine
   pub line : TextLine
@@ -60,17 +60,17 @@ pub record TomlFaultCut (airs : Airs) (starts ends : List Account) (left left' k
   pub document : DocumentIs left left' standing
   pub cut : FaultCutIn airs starts ends kept kept' (lines_over standing)
 
--- WriteFault and Memory: a front of the transcript of the document was written, and the boxes took a front of its units; or one of
+-- WriteFault and Memory: a prefix of the transcript of the document was written, and the boxes took a prefix of its units; or one of
 -- them failed, and what comes before its unit wasn't written whole
 pub record TomlCut (airs : Airs) (starts ends : List Account) (left left' kept kept' : Option (List ℕ)) : Type 0 where
   pub standing : Standing
   pub document : DocumentIs left left' standing
-  pub written : AppendsFront kept kept' (transcript_over airs starts standing)
+  pub written : AppendsPrefix kept kept' (transcript_over airs starts standing)
   pub boxes : BoxesCut airs starts ends (lines_over standing) ⊎ FaultCutIn airs starts ends kept kept' (lines_over standing)
 
 -- ReadFault, and Memory before a line was run: at most so many octets were read, nothing was written, and no box was called
 pub record TomlUnread (most : ℕ) (starts ends : List Account) (left left' kept kept' : Option (List ℕ)) : Type 0 where
-  pub read : ReadFront most left left'
+  pub read : ReadPrefix most left left'
   pub written : Keeps kept kept'
   pub boxes : ends ≡ starts
 

@@ -1,7 +1,7 @@
 -- What the run of a document promises of the outside before it and after it, by how it ended. The program is this project's own.
 use Rattle.std.specs.Prelude.{ℕ, ◌≡◌, ◌≢◌, ◌⊎◌, ◌+◌, List, Some, Result, Ok, Err}
 use Rattle.bcast_base.specs.Counts.{Rose}
-use Rattle.bcast_io.specs.Documents.{ReadFront, document_limit}
+use Rattle.bcast_io.specs.Documents.{ReadPrefix, document_limit}
 use Rattle.scenario_laws.specs.InTime.{InTimeLaw}
 use Rattle.scenario_laws.specs.HearingLaw.{AllHearingLaw}
 use Rattle.scenario_laws.specs.Isolation.{IsolationLaw}
@@ -97,12 +97,12 @@ pub record FromToml (old new : World) (result : TomlEnding) : Type 0 where
   pub document_refused : (cause : Cause) → result ≡ Err cause → Written (Err cause) old new
   -- ReadFault: the source counted a fault before it gave octet 1,048,577, nothing was written, and no box was called.
   pub read_fault : result ≡ Ok endings.ReadFault → Rose old.reads new.reads × Unread document_limit old new
-  -- WriteFault: the sink counted a fault, and a front of the transcript of the document was written.
+  -- WriteFault: the sink counted a fault, and a prefix of the transcript of the document was written.
   pub write_fault : result ≡ Ok endings.WriteFault → Rose old.writes new.writes × Cut old new
   -- OutletFault: the box of a unit counted a fault, and what comes before the line of that unit was written.
   pub outlet_fault : result ≡ Ok endings.OutletFault → (airs : Airs) → MeetAirs airs
       → TomlOutlet airs old.boxes new.boxes old.left new.left old.taken new.taken
-  -- Memory: a front of the transcript of the document was written, or nothing where memory ran out before a line was run.
+  -- Memory: a prefix of the transcript of the document was written, or nothing where memory ran out before a line was run.
   pub memory : result ≡ Ok endings.Memory → Unread (document_limit + 1) old new ⊎ Cut old new
   -- The source's count stays with each ending but ReadFault.
   pub no_read_fault : result ≢ Ok endings.ReadFault → new.reads ≡ old.reads
@@ -120,6 +120,6 @@ pub record FromToml (old new : World) (result : TomlEnding) : Type 0 where
   pub complete : (airs : Airs) → MeetAirs airs → (document : List ℕ) → old.left ≡ Some document
       → TomlComplete airs (standing_of document) old.boxes new.boxes old.reads new.reads old.writes new.writes result
   -- No more is read than octet 1,048,577.
-  pub reads_at_most : ReadFront (document_limit + 1) old.left new.left
+  pub reads_at_most : ReadPrefix (document_limit + 1) old.left new.left
   -- What holds of every scenario holds of the lines that a document stands for.
   pub laws : DocumentLaws old.boxes

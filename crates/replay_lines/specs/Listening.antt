@@ -2,7 +2,7 @@
 use Rattle.std.specs.Prelude.{ℕ, ◌≡◌, ◌⊎◌, ◌+◌, Bool, true, false, List, [], ◌∷◌, ◌++◌, length, Option, None, Some}
 use Rattle.std.specs.Io.KnownBytes.{Appends}
 use Rattle.bcast_io.specs.TextLines.{TextLine, plain, too_long, past}
-use Rattle.bcast_io.specs.Writing.{AppendsFront}
+use Rattle.bcast_io.specs.Writing.{AppendsPrefix}
 use Rattle.transcript_text.specs.declared.refusal.Refusal.TheVariants.{NoEnd}
 use Rattle.replay_lines.specs.Replayed.{Comes}
 use Rattle.bcast_io.specs.State.Reading.{Reading}
@@ -30,14 +30,14 @@ pub record ToldUpTo (row : ℕ → List ℕ → List ℕ) (left left' : Option (
   pub is_next : number ≡ length earlier + 1
   pub has : HasTold row old new (tellings (line ∷ earlier))
 
--- Each line of the text before one was told, and that this one is to be run, of which a front of its row was put: there the listener
+-- Each line of the text before one was told, and that this one is to be run, of which a prefix of its row was put: there the listener
 -- failed, and the line wasn't run.
 pub record ToldBefore (row : ℕ → List ℕ → List ℕ) (left left' : Option (List ℕ)) (old new : Listened) : Type 0 where
   pub earlier : List TextLine
   pub line : List ℕ
   pub comes : Comes left left' earlier (plain line)
   pub counted : Tells old.told new.told (begun (length earlier + 1) line ∷ tellings earlier)
-  pub shown : AppendsFront old.rows new.rows (rows_of row (begun (length earlier + 1) line ∷ tellings earlier))
+  pub shown : AppendsPrefix old.rows new.rows (rows_of row (begun (length earlier + 1) line ∷ tellings earlier))
 
 -- What the listener of a run was told that ended so: each line with its number from 1 before it is run, and each that was run that it
 -- was, in the order of the text.

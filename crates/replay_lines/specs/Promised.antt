@@ -37,11 +37,11 @@ pub record Promised (old new : World) (ending : Ending) : Type 0 where
   pub refused : (line : ℕ) (reason : Refusal) → ending ≡ endings.Refused line reason → Did (endings.Refused line reason) old new
   -- ReadFault: the source counted a fault, and what the whole lines read bring was written; none of them is refused.
   pub read_fault : ending ≡ endings.ReadFault → Rose old.reads new.reads × Did endings.ReadFault old new
-  -- WriteFault: the sink counted a fault, and a front of what the lines read bring was written.
+  -- WriteFault: the sink counted a fault, and a prefix of what the lines read bring was written.
   pub write_fault : ending ≡ endings.WriteFault → Rose old.writes new.writes × Did endings.WriteFault old new
   -- OutletFault: the box of a unit counted a fault, and what comes before the line of that unit was written.
   pub outlet_fault : ending ≡ endings.OutletFault → Did endings.OutletFault old new
-  -- Memory: a front of what the lines read bring was written.
+  -- Memory: a prefix of what the lines read bring was written.
   pub memory : ending ≡ endings.Memory → Did endings.Memory old new
   -- The source's count stays with each ending but ReadFault.
   pub no_read_fault : ending ≢ endings.ReadFault → new.reads ≡ old.reads
@@ -94,7 +94,7 @@ pub record Promised (old new : World) (ending : Ending) : Type 0 where
   -- A text in which no `train` step prints `BadGroup 11`, and whose transcript has no refusal or a refusal other than BadLine,
   -- `BadGroup 11` and TimeOrder, has the same transcript in version 2, with the same end, and hands the boxes the same units.
   pub migration_law : MigrationLaw old.boxes
-  -- Where no step under the other source puts a sink on a train or a group, and no line is `relay`, all that the sink hands up, has,
+  -- Where no step under the other source synchronizes a sink to a train or a BIG, and no line is `relay`, all that the sink hands up, has,
   -- answers and is asked, and all that its assistants know, is what it would be without the other sinks and without the lines of the
   -- other source.
   pub isolation_law : IsolationLaw old.boxes

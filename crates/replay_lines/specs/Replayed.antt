@@ -5,7 +5,7 @@ use Rattle.std.specs.Prelude.{ℕ, ◌≡◌, ◌≤◌, ◌<◌, ◌⊎◌, ◌
 use Rattle.std.specs.Io.KnownBytes.{Appends, Consumes, IsAtEnd}
 use Rattle.bcast_io.specs.TextLines.{TextLine, lines_of, text_limit}
 use Rattle.bcast_io.specs.State.Reading.{MayFollow}
-use Rattle.bcast_io.specs.Writing.{AppendsFront, AppendsShort}
+use Rattle.bcast_io.specs.Writing.{AppendsPrefix, AppendsShort}
 use Rattle.unit_outlets.specs.Account.{Account}
 use Rattle.transcript_text.specs.declared.refusal.Refusal.{Refusal}
 use Rattle.transcript_text.specs.declared.refusal.Refusal.TheVariants.{NoEnd}
@@ -62,12 +62,12 @@ pub record ReadFaulted (airs : Airs) (starts ends : List Account) (left left' ke
   pub written : Appends kept kept' (out_of airs starts (lines_of false text))
   pub boxes : Took starts ends (units_of airs starts (lines_of false text))
 
--- what the lines of a text, or the whole lines of a front of it, bring
+-- what the lines of a text, or the whole lines of a prefix of it, bring
 abbrev pub brought_by : Airs → Bool → List Account → List ℕ → List ℕ
 brought_by airs true starts text = transcript_of airs starts (lines_of true text)
 brought_by airs false starts text = out_of airs starts (lines_of false text)
 
--- the boxes took a front of the units of these lines
+-- the boxes took a prefix of the units of these lines
 pub record BoxesCut (airs : Airs) (starts ends : List Account) (lines : List TextLine) : Type 0 where
   pub done : List SinkUnit
   pub rest : List SinkUnit
@@ -81,7 +81,7 @@ LineFails airs starts earlier line text told before after =
     CloseFails (handed_on airs earlier line) (answered_on airs earlier line) ((rules_of airs starts).output earlier line) text told before after
 
 -- The lines before one were run, and none is refused; the box of a unit that this line hands up failed and counted it. What
--- those lines bring was written, and then a front of what this one prints before the line of the unit, and not all of that.
+-- those lines bring was written, and then a prefix of what this one prints before the line of the unit, and not all of that.
 pub record FaultCut (airs : Airs) (starts ends : List Account) (left left' kept kept' : Option (List ℕ)) : Type 0 where
   pub earlier : List TextLine
   pub line : TextLine
@@ -95,13 +95,13 @@ pub record FaultCut (airs : Airs) (starts ends : List Account) (left left' kept 
   pub written : Appends kept between (out_of airs starts (reverse earlier))
   pub cut : AppendsShort between kept' told
 
--- WriteFault and Memory: a front of what the lines read bring was written, and the boxes took a front of their units; or one
+-- WriteFault and Memory: a prefix of what the lines read bring was written, and the boxes took a prefix of their units; or one
 -- of them failed, and what comes before its unit wasn't written whole
 pub record Broken (airs : Airs) (starts ends : List Account) (left left' kept kept' : Option (List ℕ)) : Type 0 where
   pub text : List ℕ
   pub over : Bool
   pub read : TextRead left left' text over
-  pub written : AppendsFront kept kept' (brought_by airs over starts text)
+  pub written : AppendsPrefix kept kept' (brought_by airs over starts text)
   pub boxes : BoxesCut airs starts ends (lines_of over text) ⊎ FaultCut airs starts ends left left' kept kept'
 
 -- At most so many octets were read past the end of this line, from 1: but for the last ones, the octets that a run took
@@ -138,18 +138,18 @@ pub record OutletFaulted (airs : Airs) (starts ends : List Account) (left left' 
   pub fails : LineFails airs starts earlier line (out_of airs starts (reverse earlier)) told accounts ends
   pub written : Appends kept kept' told
 
--- The boxes took a front of these units, and then one of them may have failed at the next unit and counted it. Nothing is said of what
+-- The boxes took a prefix of these units, and then one of them may have failed at the next unit and counted it. Nothing is said of what
 -- was printed.
-abbrev pub TookFront : List SinkUnit → List Account → List Account → Type 0
-TookFront units before after = CutShort units before after ⊎ ((told : List ℕ) × BoxFails units [] told before after)
+abbrev pub TookPrefix : List SinkUnit → List Account → List Account → Type 0
+TookPrefix units before after = CutShort units before after ⊎ ((told : List ℕ) × BoxFails units [] told before after)
 
--- The boxes took all units of the lines before one, then a front of those that this line adds, and none of a later one.
+-- The boxes took all units of the lines before one, then a prefix of those that this line adds, and none of a later one.
 pub record BoxesAt (airs : Airs) (starts ends : List Account) (earlier : List TextLine) (line : TextLine) : Type 0 where
   pub accounts : List Account
   pub before : Took starts accounts (units_of airs starts (reverse earlier))
   pub units : List SinkUnit
   pub added : units_of airs starts (reverse (line ∷ earlier)) ≡ units_of airs starts (reverse earlier) ++ units
-  pub front : TookFront units accounts ends
+  pub prefix : TookPrefix units accounts ends
 
 -- What was written ends within the octets that this line brings: it is the least line such that it and those before it
 -- bring more than what was written. The boxes took no unit of a later line.
@@ -163,10 +163,10 @@ pub record CutAt (airs : Airs) (starts ends : List Account) (left left' kept kep
   pub lines : lines_of over text ≡ reverse earlier ++ last ∷ later
   pub number : line ≡ length earlier + 1
   pub accepted : Accepted (rules_of airs starts) earlier
-  pub front : List ℕ
-  pub written : Appends kept kept' front
-  pub not_before : length (out_of airs starts (reverse earlier)) ≤ length front
-  pub longer : length front < length (out_of airs starts (reverse (last ∷ earlier)))
+  pub prefix : List ℕ
+  pub written : Appends kept kept' prefix
+  pub not_before : length (out_of airs starts (reverse earlier)) ≤ length prefix
+  pub longer : length prefix < length (out_of airs starts (reverse (last ∷ earlier)))
   pub boxes : BoxesAt airs starts ends earlier last
 
 -- the line of NoEnd wasn't written whole; the boxes took all units
@@ -174,9 +174,9 @@ pub record NoEndCut (airs : Airs) (starts ends : List Account) (left left' kept 
   pub text : List ℕ
   pub read : TextRead left left' text true
   pub ends_so : transcript_end airs starts (lines_of true text) ≡ refused (length (lines_of true text) + 1) NoEnd
-  pub front : List ℕ
-  pub written : Appends kept kept' front
-  pub not_before : length (out_of airs starts (lines_of true text)) ≤ length front
+  pub prefix : List ℕ
+  pub written : Appends kept kept' prefix
+  pub not_before : length (out_of airs starts (lines_of true text)) ≤ length prefix
   pub boxes : Took starts ends (units_of airs starts (lines_of true text))
 
 -- WriteFault: what was written ends within what a line brings, and at most so many octets were read past the end of that

@@ -10,8 +10,8 @@ ghost use Rattle.unit_outlets.specs.Account.{Account};
 ghost use Rattle.source_machine.specs.Airs.{airs_of};
 ghost use Rattle.scenario_history.specs.Lines.{steps_of};
 ghost use Rattle.replay_steps.specs.LineMeets.{LinesStand};
-ghost use Rattle.replay_steps.specs.Untaken.{UntakenSame};
-ghost use Rattle.replay_steps.specs.Untaken.{UntakenRun};
+ghost use Rattle.replay_steps.specs.Unassigned.{UnassignedSame};
+ghost use Rattle.replay_steps.specs.Unassigned.{UnassignedRun};
 ghost use Rattle.replay_lines.specs.Replayed.{Comes, ReadsAhead, ReadsAtMost, read_limit};
 ghost use Rattle.replay_lines.specs.Ended.{Ended};
 ghost use Rattle.replay_lines.specs.Heard.{as_told};
@@ -38,8 +38,8 @@ pub(crate) fn run_lines<S: ByteSource, K: ByteSink, L: Listener<K>>(
 ) -> Ending
     ensures ended { Ended airs_of (as_told L.may_fail result) (map account outlets.old.items) (map account outlets.new.items)
         (S.left source.old) (S.left source.new) (K.contents sink.old) (K.contents sink.new) }
-    ensures untaken { (text : List ℕ) → S.left source.old ≡ Some text
-        → UntakenRun (map account outlets.old.items) (lines_of true text) outlets.old.items outlets.new.items }
+    ensures unassigned { (text : List ℕ) → S.left source.old ≡ Some text
+        → UnassignedRun (map account outlets.old.items) (lines_of true text) outlets.old.items outlets.new.items }
     ensures told { Told L.row_of (S.left source.old) (S.left source.new) (listened L.told L.rows listener.old sink.old)
         (listened L.told L.rows listener.new sink.new) result }
     ensures within { ReadsAtMost (S.left source.old) (S.left source.new) read_limit }
@@ -90,9 +90,9 @@ fn run_line<S: ByteSource, K: ByteSink, L: Listener<K>>(
         → RunTo starts lines kept (K.contents sink.old) machine.old (map account outlets.old.items)
         → LineRuns L.may_fail starts lines left (S.left source.new) kept (K.contents sink.new) reader.new machine.new
         (map account outlets.new.items) result }
-    ensures untaken { (starts : List Account) (lines : List TextLine) (accounts : List Account)
+    ensures unassigned { (starts : List Account) (lines : List TextLine) (accounts : List Account)
         → LinesStand starts lines machine.old accounts
-        → UntakenSame (steps_of airs_of lines) outlets.old.items outlets.new.items }
+        → UnassignedSame (steps_of airs_of lines) outlets.old.items outlets.new.items }
     ensures told { (lines : List TextLine) (left : Option (List ℕ)) (start : Listened) → number ≡ length lines + 1
         → ReadTo left (S.left source.old) lines reader.old
         → HasTold L.row_of start (listened L.told L.rows listener.old sink.old) (tellings lines)
@@ -223,9 +223,9 @@ fn hear_step<K: ByteSink, L: Listener<K>>(
         → Comes left left' lines (plain line.now)
         → HasTold L.row_of start (listened L.told L.rows listener.old sink.old) (tellings lines)
         → StepTold L.row_of left left' start (listened L.told L.rows listener.new sink.new) (plain line.now ∷ lines) result }
-    ensures untaken { (starts : List Account) (lines : List TextLine) (accounts : List Account)
+    ensures unassigned { (starts : List Account) (lines : List TextLine) (accounts : List Account)
         → LinesStand starts lines machine.old accounts
-        → UntakenSame (steps_of airs_of lines) outlets.old.items outlets.new.items }
+        → UnassignedSame (steps_of airs_of lines) outlets.old.items outlets.new.items }
     ensures never_read_fault { result ≢ Some Ending.ReadFault }
     ensures write_fault { result ≡ Some Ending.WriteFault → Rose (K.faults sink.old) (K.faults sink.new) }
     ensures no_write_fault { result ≢ Some Ending.WriteFault → K.faults sink.new ≡ K.faults sink.old }
@@ -259,9 +259,9 @@ fn run_step<K: ByteSink, L: Listener<K>>(
         (map account outlets.new.items) result }
     ensures at { EndsAt number result }
     ensures rows { Keeps (L.rows sink.old) (L.rows sink.new) }
-    ensures untaken { (starts : List Account) (lines : List TextLine) (accounts : List Account)
+    ensures unassigned { (starts : List Account) (lines : List TextLine) (accounts : List Account)
         → LinesStand starts lines machine.old accounts
-        → UntakenSame (steps_of airs_of lines) outlets.old.items outlets.new.items }
+        → UnassignedSame (steps_of airs_of lines) outlets.old.items outlets.new.items }
     ensures never_read_fault { result ≢ Some Ending.ReadFault }
     ensures write_fault { result ≡ Some Ending.WriteFault → Rose (K.faults sink.old) (K.faults sink.new) }
     ensures no_write_fault { result ≢ Some Ending.WriteFault → K.faults sink.new ≡ K.faults sink.old }

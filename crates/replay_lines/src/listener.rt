@@ -1,7 +1,7 @@
 ghost use Rattle.std.specs.Prelude.{◌≡◌, ℕ, Bool, true, false, List, [], ◌∷◌, Option, MatchResult, IfErr, OnErr, OnOk};
 ghost use Rattle.std.specs.Io.KnownBytes.{Appends, Keeps};
 ghost use Rattle.bcast_io.specs.Causes.{SinkCause};
-ghost use Rattle.bcast_io.specs.Writing.{AppendsFront, AppendsShort};
+ghost use Rattle.bcast_io.specs.Writing.{AppendsPrefix, AppendsShort};
 ghost use Rattle.replay_lines.specs.Tellings.{StandsBefore, Telling, Tells, begun, was_run};
 
 use crate::ending::Ending;
@@ -26,7 +26,7 @@ pub trait Listener<K: ByteSink> {
 
     /// A line, with its number from 1, that will be run on this machine, which stands for the lines before it. Its row is put into the sink; what the sink is seen to have
     /// taken of the transcript stays the same. The faults are those of a write to the sink; one of either ends the run before the
-    /// line, and of the row a front was put.
+    /// line, and of the row a prefix was put.
     fn begin_line(
         &mut self,
         number: u64,
@@ -37,13 +37,13 @@ pub trait Listener<K: ByteSink> {
         requires before { StandsBefore number machine.now }
         ensures told { Tells (told self.old) (told self.new) (begun number line.now ∷ []) }
         ensures shown { MatchResult result (λ _. Appends (rows sink.old) (rows sink.new) (row_of number line.now))
-            (λ _. AppendsFront (rows sink.old) (rows sink.new) (row_of number line.now)) }
+            (λ _. AppendsPrefix (rows sink.old) (rows sink.new) (row_of number line.now)) }
         ensures kept { Keeps (K.contents sink.old) (K.contents sink.new) }
         ensures ok { OnOk result (K.faults sink.new ≡ K.faults sink.old) }
         ensures cause { IfErr result (SinkCause (K.faults sink.old) (K.faults sink.new)) }
         ensures allowed { OnErr result (may_fail ≡ true) };
 
-    /// Writes octets of the transcript. After a refusal a front of them was written, and not all. The rows of lines stay.
+    /// Writes octets of the transcript. After a refusal a prefix of them was written, and not all. The rows of lines stay.
     fn write(&self, octets: &[u8], sink: &mut K) -> Result<(), SinkFault>
         ensures ok { OnOk result (Appends (K.contents sink.old) (K.contents sink.new) octets.now) }
         ensures short { OnErr result (AppendsShort (K.contents sink.old) (K.contents sink.new) octets.now) }

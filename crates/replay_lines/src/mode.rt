@@ -1,7 +1,7 @@
 //! The mode: a document is read whole, and the lines that it stands for are run.
 ghost use Rattle.std.specs.Prelude.{◌≡◌, ◌≢◌, ◌<◌, ◌^◌, ℕ, List, Ok, Some, map, vec_len};
 ghost use Rattle.bcast_base.specs.Counts.{Rose};
-ghost use Rattle.replay_steps.specs.Untaken.{UntakenBy};
+ghost use Rattle.replay_steps.specs.Unassigned.{UnassignedBy};
 ghost use Rattle.replay_lines.specs.World.{World, world_of};
 ghost use Rattle.replay_lines.specs.declared.ending.Ending.TheVariants as endings;
 ghost use Rattle.scenario_history.specs.Airs.{MeetAirs};
@@ -31,7 +31,7 @@ const PIECE: usize = 65_536;
 /// `Err` has the cause for which the document is refused: then the line of the refusal, of number 0, was written, and no line
 /// was run. `TooLong` comes once octet 1,048,577 was read, and no read follows. `ReadFault`, `WriteFault` and `OutletFault` come
 /// only where the count of the source, of the sink or of a box rose. After `ReadFault` nothing was written, and no box was called.
-/// After `Memory` a front of what is due was written. The condition is one that every list of boxes meets.
+/// After `Memory` a prefix of what is due was written. The condition is one that every list of boxes meets.
 pub fn run_toml<S: ByteSource, K: ByteSink>(
     alloc: Global,
     source: &mut S,
@@ -42,8 +42,8 @@ pub fn run_toml<S: ByteSource, K: ByteSink>(
     ensures promised { let old = world_of S.left S.faults K.contents K.faults source.old sink.old (map account outlets.old.items) in
         let new = world_of S.left S.faults K.contents K.faults source.new sink.new (map account outlets.new.items) in
         FromToml old new result }
-    ensures untaken { (document : List ℕ) (airs : Airs) → S.left source.old ≡ Some document → MeetAirs airs
-        → UntakenBy airs (map account outlets.old.items) (lines_over (standing_of document)) outlets.old.items outlets.new.items }
+    ensures unassigned { (document : List ℕ) (airs : Airs) → S.left source.old ≡ Some document → MeetAirs airs
+        → UnassignedBy airs (map account outlets.old.items) (lines_over (standing_of document)) outlets.old.items outlets.new.items }
     ensures uncalled { result ≡ Ok endings.ReadFault → outlets.new ≡ outlets.old }
 {
     want_of_memory_at_once();
@@ -72,7 +72,7 @@ fn run_document<K: ByteSink>(
 ) -> Result<Ending, Cause>
     ensures runs { DocumentRuns (standing_by (meaning_of document.now)) (map account outlets.old.items) (map account outlets.new.items)
         (K.contents sink.old) (K.contents sink.new) (K.faults sink.old) (K.faults sink.new) result }
-    ensures untaken { (airs : Airs) → MeetAirs airs → UntakenBy airs (map account outlets.old.items)
+    ensures unassigned { (airs : Airs) → MeetAirs airs → UnassignedBy airs (map account outlets.old.items)
         (lines_over (standing_by (meaning_of document.now))) outlets.old.items outlets.new.items }
 {
     want_of_memory_at_once();

@@ -4,7 +4,7 @@ ghost use Rattle.bcast_io.specs.TextLines.{lines_of};
 ghost use Rattle.unit_outlets.specs.Account.{Account};
 ghost use Rattle.scenario_history.specs.Airs.{MeetAirs};
 ghost use Rattle.source_machine.specs.Airs.{Airs};
-ghost use Rattle.replay_steps.specs.Untaken.{UntakenBy};
+ghost use Rattle.replay_steps.specs.Unassigned.{UnassignedBy};
 ghost use Rattle.replay_lines.specs.Heard.{Heard};
 ghost use Rattle.replay_lines.specs.Listening.{Told};
 ghost use Rattle.replay_lines.specs.Tellings.{listened};
@@ -29,7 +29,7 @@ use unit_outlets::Outlet;
 ///
 /// `Done` comes where the text was read to its end and no line is refused. `Refused` has the line, from 1, and the reason;
 /// the line of the refusal was written, and nothing behind it was run. `ReadFault`, `WriteFault` and `OutletFault` come only
-/// where the count of the source, of the sink or of a box rose. After `Memory` a front of the transcript was written. A box
+/// where the count of the source, of the sink or of a box rose. After `Memory` a prefix of the transcript was written. A box
 /// that no accepted `sink` line takes stays the same. The condition is one that every list of boxes meets.
 pub fn run_text<S: ByteSource, K: ByteSink>(
     alloc: Global,
@@ -41,8 +41,8 @@ pub fn run_text<S: ByteSource, K: ByteSink>(
     ensures promised { let old = world_of S.left S.faults K.contents K.faults source.old sink.old (map account outlets.old.items) in
         let new = world_of S.left S.faults K.contents K.faults source.new sink.new (map account outlets.new.items) in
         Promised old new result }
-    ensures untaken { (text : List ℕ) (airs : Airs) → S.left source.old ≡ Some text → MeetAirs airs
-        → UntakenBy airs (map account outlets.old.items) (lines_of true text) outlets.old.items outlets.new.items }
+    ensures unassigned { (text : List ℕ) (airs : Airs) → S.left source.old ≡ Some text → MeetAirs airs
+        → UnassignedBy airs (map account outlets.old.items) (lines_of true text) outlets.old.items outlets.new.items }
 {
     laws_hold();
     run_lines(alloc, source, sink, &mut Silent, outlets)
@@ -51,7 +51,7 @@ pub fn run_text<S: ByteSource, K: ByteSink>(
 /// The same with a listener, which is told of each line of the text before it is run and after it. Lines that are too long are told
 /// to nobody, as they aren't kept.
 ///
-/// `WriteFault` comes also where the listener failed, and `Memory` where it wanted memory: then a front of the transcript was
+/// `WriteFault` comes also where the listener failed, and `Memory` where it wanted memory: then a prefix of the transcript was
 /// written.
 pub fn run_heard<S: ByteSource, K: ByteSink, L: Listener<K>>(
     alloc: Global,
@@ -66,8 +66,8 @@ pub fn run_heard<S: ByteSource, K: ByteSink, L: Listener<K>>(
         Heard old new result }
     ensures told { Told L.row_of (S.left source.old) (S.left source.new) (listened L.told L.rows listener.old sink.old)
         (listened L.told L.rows listener.new sink.new) result }
-    ensures untaken { (text : List ℕ) (airs : Airs) → S.left source.old ≡ Some text → MeetAirs airs
-        → UntakenBy airs (map account outlets.old.items) (lines_of true text) outlets.old.items outlets.new.items }
+    ensures unassigned { (text : List ℕ) (airs : Airs) → S.left source.old ≡ Some text → MeetAirs airs
+        → UnassignedBy airs (map account outlets.old.items) (lines_of true text) outlets.old.items outlets.new.items }
 {
     laws_hold();
     run_lines(alloc, source, sink, listener, outlets)

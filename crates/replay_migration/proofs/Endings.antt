@@ -4,8 +4,8 @@ use Rattle.std.proofs.Common.{arith, length-append, length-drop, length-take-le}
 use Rattle.std.proofs.lemmas.List.{append-nil}
 use Rattle.std.specs.Io.KnownBytes.{Consumes, IsAtEnd, Keeps}
 use Rattle.bcast_io.specs.TextLines.{text_limit}
-use Rattle.bcast_io.specs.Writing.{AppendsFront}
-use Rattle.bcast_io.proofs.Citable.{AppendsFront-nothing, Consumes-nothing, Consumes-then}
+use Rattle.bcast_io.specs.Writing.{AppendsPrefix}
+use Rattle.bcast_io.proofs.Citable.{AppendsPrefix-nothing, Consumes-nothing, Consumes-then}
 use Rattle.scenario_text.specs.Migrated.{migrated}
 use Rattle.replay_migration.specs.TextRead.{ReadWhole, ReadPast, ReadPart, piece_limit}
 use Rattle.replay_migration.specs.Ended.{Ended, too_long_line}
@@ -23,8 +23,8 @@ keeps_same None = tt
 keeps_same (Some octets) = refl
 
 -- nothing was put
-pub nothing_put : (kept : Option (List ℕ)) (octets : List ℕ) → AppendsFront kept kept octets
-nothing_put kept octets = AppendsFront-nothing kept kept octets (keeps_same kept)
+pub nothing_put : (kept : Option (List ℕ)) (octets : List ℕ) → AppendsPrefix kept kept octets
+nothing_put kept octets = AppendsPrefix-nothing kept kept octets (keeps_same kept)
 
 -- ---- what was read
 

@@ -59,23 +59,23 @@ runs_on e t p (x ∷ xs) more fits = by (eqb x newline) refl (runs_on e (t + 1) 
 -- a piece passes the limit of a text behind the octets so far
 module _ (text piece : List ℕ) (room line : ℕ) (limit : length text + room ≡ text_limit) (some : room < length piece)
     (number : line ≡ ends text + ends (take room piece) + 1) where
-  front_long : length (text ++ take room piece) ≡ text_limit
-  front_long = omega (arith, length-append text (take room piece), length-take-le room piece (omega arith), limit)
+  prefix_long : length (text ++ take room piece) ≡ text_limit
+  prefix_long = omega (arith, length-append text (take room piece), length-take-le room piece (omega arith), limit)
 
   past_behind : (e : Bool) (more : List ℕ) → LastIsPast (lines_of e ((text ++ piece) ++ more)) line
   past_behind e more =
-      let front = text ++ take room piece in
+      let prefix = text ++ take room piece in
       let rest = drop room piece ++ more in
-      let whole : (text ++ piece) ++ more ≡ front ++ rest =
+      let whole : (text ++ piece) ++ more ≡ prefix ++ rest =
       append_assoc text piece more
       ∙ ap (λ l. text ++ (l ++ more)) (sym (take-append-drop room piece))
       ∙ ap (λ l. text ++ l) (append_assoc (take room piece) (drop room piece) more)
       ∙ sym (append_assoc text (take room piece) rest) in
-      let r = runs_on e 0 [] front rest (omega (arith, front_long)) in
+      let r = runs_on e 0 [] prefix rest (omega (arith, prefix_long)) in
       let some_rest : 0 < length rest = omega (arith, length-append (drop room piece) more, length-drop room piece) in
       record {
         earlier = r.earlier;
-        are = ap (lines_from e 0 []) whole ∙ r.first ∙ ap (λ lines. r.earlier ++ lines) (lines-past_all e (0 + length front) r.part rest (omega (arith, front_long)) some_rest);
+        are = ap (lines_from e 0 []) whole ∙ r.first ∙ ap (λ lines. r.earlier ++ lines) (lines-past_all e (0 + length prefix) r.part rest (omega (arith, prefix_long)) some_rest);
         is_next = omega (arith, number, r.count, sum_by-append (λ y. cond (is_byte newline y) 1 0) text (take room piece));
       }
 

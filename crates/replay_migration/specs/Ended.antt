@@ -3,7 +3,7 @@
 use Rattle.std.specs.Prelude.{ℕ, ◌≡◌, ◌⊎◌, ◌+◌, List, Option}
 use Rattle.std.specs.Io.KnownBytes.{Appends, Keeps}
 use Rattle.bcast_io.specs.TextLines.{text_limit}
-use Rattle.bcast_io.specs.Writing.{AppendsFront, AppendsShort}
+use Rattle.bcast_io.specs.Writing.{AppendsPrefix, AppendsShort}
 use Rattle.scenario_text.specs.Migrated.{migrated}
 use Rattle.transcript_text.specs.Lines.{refusal_line}
 use Rattle.transcript_text.specs.declared.refusal.Refusal.TheVariants.{TextTooLong}
@@ -47,17 +47,17 @@ pub record IsRefusal (left left' : Option (List ℕ)) (octets : List ℕ) : Type
 abbrev pub IsDue : Option (List ℕ) → Option (List ℕ) → List ℕ → Type 0
 IsDue left left' octets = IsText left left' octets ⊎ IsRefusal left left' octets
 
--- a front of what is due was written, and not all of it
+-- a prefix of what is due was written, and not all of it
 pub record WroteShort (left left' kept kept' : Option (List ℕ)) : Type 0 where
   pub octets : List ℕ
   pub due : IsDue left left' octets
   pub written : AppendsShort kept kept' octets
 
--- a front of what is due was written
-pub record WroteFront (left left' kept kept' : Option (List ℕ)) : Type 0 where
+-- a prefix of what is due was written
+pub record WrotePrefix (left left' kept kept' : Option (List ℕ)) : Type 0 where
   pub octets : List ℕ
   pub due : IsDue left left' octets
-  pub written : AppendsFront kept kept' octets
+  pub written : AppendsPrefix kept kept' octets
 
 -- nothing was written, before all was read
 pub record RanOut (left left' kept kept' : Option (List ℕ)) : Type 0 where
@@ -70,4 +70,4 @@ Ended ends.Done left left' kept kept' = WroteText left left' kept kept'
 Ended (ends.TooLong line) left left' kept kept' = WroteRefusal left left' kept kept' line
 Ended ends.ReadFault left left' kept kept' = WroteNothing left left' kept kept'
 Ended ends.WriteFault left left' kept kept' = WroteShort left left' kept kept'
-Ended ends.Memory left left' kept kept' = RanOut left left' kept kept' ⊎ WroteFront left left' kept kept'
+Ended ends.Memory left left' kept kept' = RanOut left left' kept kept' ⊎ WrotePrefix left left' kept kept'

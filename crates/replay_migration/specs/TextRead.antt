@@ -33,7 +33,7 @@ pub record ReadPast (left left' : Option (List ℕ)) (line : ℕ) : Type 0 where
   pub too_long : IsTooLong text line
   pub least : length text ≤ text_limit + piece_limit
 
--- a front of a text was read, of no more octets than these
+-- a prefix of a text was read, of no more octets than these
 pub record ReadPart (left left' : Option (List ℕ)) (most : ℕ) : Type 0 where
   pub text : List ℕ
   pub consumed : Consumes left left' text

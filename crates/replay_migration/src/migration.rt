@@ -30,7 +30,7 @@ pub enum Migration {
 /// refused: then the line of the refusal alone is written.
 ///
 /// `ReadFault` and `WriteFault` come only where the count of the source or of the sink rose. After `ReadFault` nothing
-/// was written, and after `WriteFault` and `Memory` a front of what is due.
+/// was written, and after `WriteFault` and `Memory` a prefix of what is due.
 pub fn run_migration<S: ByteSource, K: ByteSink>(
     alloc: Global,
     source: &mut S,

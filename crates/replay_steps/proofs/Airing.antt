@@ -19,34 +19,34 @@ use Rattle.scenario_text.specs.declared.step.Step.{Step}
 use Rattle.scenario_text.specs.declared.step.Step.TheVariants.{Air, Hear, Inject, Sniff}
 use Rattle.scenario_history.specs.Steps.{chosen_of, chosen_steps, running, sinks_made, stage_of}
 use Rattle.scenario_history.specs.Source.{event_back, is_heard, pdu_in, performed, setup_of, source_calls}
-use Rattle.scenario_history.specs.Sinks.{hear_at, heard_on_air, is_lost, reaches, sink_calls, source_of, spot_at, spots_of, unless_lost}
+use Rattle.scenario_history.specs.Sinks.{hear_at, heard_on_air, is_lost, reaches, sink_calls, source_of, position_at, positions_of, unless_lost}
 use Rattle.scenario_history.specs.Boxes.{box_of}
 use Rattle.scenario_history.specs.Output.{injected_hearing}
-use Rattle.scenario_history.specs.Worlds.{life}
-use Rattle.sink_history.specs.Lives.{made_of}
+use Rattle.scenario_history.specs.Worlds.{calls_made}
+use Rattle.sink_history.specs.History.{made_of}
 use Rattle.scenario_history.specs.Refusals.{air_refusal, no_place, no_sink, phase_refusal, source_refusal}
 use Rattle.sink_history.specs.Refusals.{refuse_if}
 use Rattle.scenario_sources.specs.Answers.{NoPlace}
 use Rattle.scenario_sources.proofs.Citable.{air_says, hear_says, inject_says, sniff_says, sources_stay}
 use Rattle.scenario_sinks.specs.declared.sinks.Sinks.{Sinks}
 use Rattle.scenario_sinks.specs.Hearing.{Hears, hearing_by}
-use Rattle.scenario_sinks.specs.Pasts.{Past, with_hearing}
+use Rattle.scenario_sinks.specs.Histories.{Histories, with_hearing}
 use Rattle.scenario_sinks.specs.State.Standing.{SinksStand}
 use Rattle.scenario_sinks.proofs.Citable.{stands_same}
 use Rattle.replay_steps.specs.declared.grid.Grid.{Grid}
 use Rattle.replay_steps.specs.declared.machine.Machine.{Machine}
-use Rattle.replay_steps.specs.Airing.{OnAir, Reaches, past_on_air}
-use Rattle.replay_steps.specs.Machines.{Stands, past_of}
+use Rattle.replay_steps.specs.Airing.{OnAir, Reaches, histories_on_air}
+use Rattle.replay_steps.specs.Machines.{Stands, histories_of}
 use Rattle.replay_steps.specs.Meets.{Quiet, Tells}
 use Rattle.replay_steps.proofs.RelaysStay.{minds_relays, relays_stay}
 use Rattle.replay_steps.proofs.Stepping.{as_step, brought, or_none}
 
 -- ---- whether a PDU may be handed to a sink
 
-or_front : (a b rest : Option Refusal) (reason : Refusal) → option_or a b ≡ Some reason → option_or a (option_or b rest) ≡ Some reason
-or_front None None rest reason e = absurd (cc e)
-or_front None (Some x) rest reason e = e
-or_front (Some x) b rest reason e = e
+or_prefix : (a b rest : Option Refusal) (reason : Refusal) → option_or a b ≡ Some reason → option_or a (option_or b rest) ≡ Some reason
+or_prefix None None rest reason e = absurd (cc e)
+or_prefix None (Some x) rest reason e = e
+or_prefix (Some x) b rest reason e = e
 
 -- the refusals of a step that brings something to a sink in the place of a PDU
 pub record Brings (n : ℕ) (made : Step) : Type 0 where
@@ -68,7 +68,7 @@ pub reach_fails : (boxes version n : ℕ) (steps : List Step) (made : Step) (new
     → Reaches steps n (Err stop) → Quiet boxes steps made new (Err stop)
 reach_fails boxes version n steps made new (Refused reason) stands brings e r = (
   as_step boxes steps made brings.minds ∙ brings.refusal boxes version steps e
-      ∙ or_front (refuse_if (not (is_heard (chosen_steps steps))) Order) (no_sink n steps) (option_or (source_refusal airs_of version (chosen_steps steps) made) None) reason r,
+      ∙ or_prefix (refuse_if (not (is_heard (chosen_steps steps))) Order) (no_sink n steps) (option_or (source_refusal airs_of version (chosen_steps steps) made) None) reason r,
   stands,
 )
 reach_fails boxes version n steps made new OutletFault stands brings e r = r
@@ -81,13 +81,13 @@ own_fault boxes version n steps made brings e started lives =
 
 -- ---- the sinks after a hearing
 
-some_heard : (past : Past) (n source event bis subevent : ℕ) (octets : List ℕ) (new : Sinks) (o : Option Hearing) → is_some (past.boxes n) ≡ true
+some_heard : (past : Histories) (n source event bis subevent : ℕ) (octets : List ℕ) (new : Sinks) (o : Option Hearing) → is_some (past.boxes n) ≡ true
     → Hears past n source event bis subevent octets new o → SinksStand (with_hearing n source event bis subevent octets past) new
 some_heard past n source event bis subevent octets new None lives h =
     let e : true ≡ false = sym lives ∙ ap is_some h in absurd (cc e)
 some_heard past n source event bis subevent octets new (Some hearing) lives h = h.2
 
-heard_as : (past : Past) (n s t d e bis subevent : ℕ) (o p : List ℕ) (new : Sinks) → s ≡ t → d ≡ e → o ≡ p
+heard_as : (past : Histories) (n s t d e bis subevent : ℕ) (o p : List ℕ) (new : Sinks) → s ≡ t → d ≡ e → o ≡ p
     → SinksStand (with_hearing n s d bis subevent o past) new → SinksStand (with_hearing n t e bis subevent p past) new
 heard_as past n s t d e bis subevent o p new a b c h =
     let S : ℕ → Type 0 = λ x. SinksStand (with_hearing n x e bis subevent p past) new in
@@ -95,36 +95,36 @@ heard_as past n s t d e bis subevent o p new a b c h =
     let O : List ℕ → Type 0 = λ x. SinksStand (with_hearing n s d bis subevent x past) new in
     subst S a (subst E b (subst O c h))
 
--- the same past, where the sinks have their lives by a line that leaves them
+-- the same past, where the sinks have their histories by a line that leaves them
 if_same : {A : Type 0} (b : Bool) (x : A) → x ≡ (if b then x else x)
 if_same true x = refl
 if_same false x = refl
 
 hearing_stays : (steps : List Step) (made : Step) (n event bis subevent : ℕ) (octets : List ℕ) (sinks : Sinks)
     → ((m : ℕ) → box_of m steps ≡ box_of m (made ∷ steps)) → ((m : ℕ) → made_of m steps ≡ made_of m (made ∷ steps))
-    → ((m : ℕ) → source_of m steps ≡ source_of m (made ∷ steps)) → ((m : ℕ) → life m steps ≡ life m (made ∷ steps))
-    → ((m : ℕ) → (with_hearing n (chosen_of steps) event bis subevent octets (past_of steps)).received m ≡ sink_calls airs_of m (made ∷ steps))
+    → ((m : ℕ) → source_of m steps ≡ source_of m (made ∷ steps)) → ((m : ℕ) → calls_made m steps ≡ calls_made m (made ∷ steps))
+    → ((m : ℕ) → (with_hearing n (chosen_of steps) event bis subevent octets (histories_of steps)).received m ≡ sink_calls airs_of m (made ∷ steps))
     → sinks_made steps ≡ sinks_made (made ∷ steps)
-    → SinksStand (with_hearing n (chosen_of steps) event bis subevent octets (past_of steps)) sinks → SinksStand (past_of (made ∷ steps)) sinks
+    → SinksStand (with_hearing n (chosen_of steps) event bis subevent octets (histories_of steps)) sinks → SinksStand (histories_of (made ∷ steps)) sinks
 hearing_stays steps made n event bis subevent octets sinks boxes mades sources lives received count stands =
-    stands_same (with_hearing n (chosen_of steps) event bis subevent octets (past_of steps)) (past_of (made ∷ steps)) sinks
+    stands_same (with_hearing n (chosen_of steps) event bis subevent octets (histories_of steps)) (histories_of (made ∷ steps)) sinks
     (record { boxes = boxes; mades = mades; sources = sources; lives = lives; received = received; made = count }) stands
 
 pub hear_meets : (boxes version n source event back bis subevent : ℕ) (pdu : List ℕ) (steps : List Step) (old new : Machine) (o : Option Hearing) (grid : Grid)
     → Stands steps old → stage_of steps ≡ running version → Reaches steps n (Ok grid)
     → (no_place (chosen_steps steps) back bis subevent ≡ None) × (pdu ≡ pdu_in airs_of (chosen_steps steps) (event_back (chosen_steps steps) back) bis subevent)
     → source ≡ chosen_of steps → event ≡ event_back (chosen_steps steps) back
-    → new.stage ≡ old.stage → new.sources ≡ old.sources → new.relays ≡ old.relays → Hears (past_of steps) n source event bis subevent pdu new.sinks o
+    → new.stage ≡ old.stage → new.sources ≡ old.sources → new.relays ≡ old.relays → Hears (histories_of steps) n source event bis subevent pdu new.sinks o
     → Quiet boxes steps (Hear n back bis subevent) new (Ok tt)
 hear_meets boxes version n source event back bis subevent pdu steps old new o grid stands e r place chosen is stage same held h = (
   own_fault boxes version n steps (Hear n back bis subevent) (hear_brings n back bis subevent) e r.0 r.2 ∙ place.0,
   brought steps (Hear n back bis subevent) old new stands (hear_says n back bis subevent) refl stage same refl held
       (hearing_stays steps (Hear n back bis subevent) n (event_back (chosen_steps steps) back) bis subevent
       (pdu_in airs_of (chosen_steps steps) (event_back (chosen_steps steps) back) bis subevent) new.sinks
-      (λ m. refl) (λ m. refl) (λ m. refl) (λ m. if_same (n == m) (life m steps)) (λ m. refl) refl
-      (heard_as (past_of steps) n source (chosen_of steps) event (event_back (chosen_steps steps) back) bis subevent pdu
+      (λ m. refl) (λ m. refl) (λ m. refl) (λ m. if_same (n == m) (calls_made m steps)) (λ m. refl) refl
+      (heard_as (histories_of steps) n source (chosen_of steps) event (event_back (chosen_steps steps) back) bis subevent pdu
       (pdu_in airs_of (chosen_steps steps) (event_back (chosen_steps steps) back) bis subevent) new.sinks chosen is place.1
-      (some_heard (past_of steps) n source event bis subevent pdu new.sinks o r.2 h))),
+      (some_heard (histories_of steps) n source event bis subevent pdu new.sinks o r.2 h))),
 )
 
 pub place_fails : (boxes version n back bis subevent : ℕ) (steps : List Step) (made : Step) (new : Machine) (grid : Grid) (stop : Stop) → Stands steps new → Brings n made
@@ -146,7 +146,7 @@ quiet_tells starts steps made new text Memory minds q = tt
 pub inject_meets : (starts : List Account) (version n source event back bis subevent : ℕ) (octets : List ℕ) (steps : List Step) (old new : Machine) (hearing : Hearing) (grid : Grid)
     (text told : List ℕ) → Stands steps old → stage_of steps ≡ running version → Reaches steps n (Ok grid)
     → no_place (chosen_steps steps) back bis subevent ≡ None → source ≡ chosen_of steps → event ≡ event_back (chosen_steps steps) back
-    → new.stage ≡ old.stage → new.sources ≡ old.sources → new.relays ≡ old.relays → Hears (past_of steps) n source event bis subevent octets new.sinks (Some hearing)
+    → new.stage ≡ old.stage → new.sources ≡ old.sources → new.relays ≡ old.relays → Hears (histories_of steps) n source event bis subevent octets new.sinks (Some hearing)
     → told ≡ text ++ heard_line n hearing → Tells starts steps (Inject n back bis subevent octets) new text told (Ok tt)
 inject_meets starts version n source event back bis subevent octets steps old new hearing grid text told stands e r place chosen is stage same held h t =
     let made : Step = Inject n back bis subevent octets in
@@ -156,14 +156,14 @@ inject_meets starts version n source event back bis subevent octets steps old ne
       own_fault (length starts) version n steps made (inject_brings n back bis subevent octets) e r.0 r.2 ∙ place,
       brought steps made old new stands (inject_says n back bis subevent octets) refl stage same refl held
           (hearing_stays steps made n (event_back (chosen_steps steps) back) bis subevent octets new.sinks
-          (λ m. refl) (λ m. refl) (λ m. refl) (λ m. if_same (n == m) (life m steps)) (λ m. refl) refl
-          (heard_as (past_of steps) n source (chosen_of steps) event (event_back (chosen_steps steps) back) bis subevent octets octets new.sinks chosen is refl h.2)),
+          (λ m. refl) (λ m. refl) (λ m. refl) (λ m. if_same (n == m) (calls_made m steps)) (λ m. refl) refl
+          (heard_as (histories_of steps) n source (chosen_of steps) event (event_back (chosen_steps steps) back) bis subevent octets octets new.sinks chosen is refl h.2)),
       t ∙ ap (λ x. text ++ heard_line n x) answer,
     )
 
 -- the sink lives, so it hears
 pub inject_fails : (starts : List Account) (version n source event bis subevent : ℕ) (octets : List ℕ) (steps : List Step) (new : Sinks) (grid : Grid) → Reaches steps n (Ok grid)
-    → Hears (past_of steps) n source event bis subevent octets new None → ⊥
+    → Hears (histories_of steps) n source event bis subevent octets new None → ⊥
 inject_fails starts version n source event bis subevent octets steps new grid r h = let e : true ≡ false = sym r.2 ∙ ap is_some h in cc e
 
 -- ---- air
@@ -177,10 +177,10 @@ pub no_fault : (own : List Step) (bis subevent : ℕ) → bis ≤ (setup_of own)
 no_fault own bis subevent p q r =
     rw (le-ltb (setup_of own).info.num_bis bis p, not_within (setup_of own).info.nse subevent q, not_within (events (source_calls own)) 0 r) refl
 
--- the spots of an event are those of the streams and the subevents of the group
-pub spot_within : (streams subevents i : ℕ) → i < streams * subevents → (0 < subevents) × (i / subevents < streams) × (i % subevents < subevents)
-spot_within streams zero i h = absurd (omega arith)
-spot_within streams (suc k) i h =
+-- the positions of an event are those of the streams and the subevents of the group
+pub position_within : (streams subevents i : ℕ) → i < streams * subevents → (0 < subevents) × (i / subevents < streams) × (i % subevents < subevents)
+position_within streams zero i h = absurd (omega arith)
+position_within streams (suc k) i h =
     let some : 0 < suc k = omega arith in
     (some, div_below i (suc k) streams some h, mod_below i (suc k) some)
 
@@ -188,7 +188,7 @@ on_air : (n : ℕ) → 0 < n → refuse_if (n == 0) NotOnAir ≡ None
 on_air n h = ap (λ (b : Bool). refuse_if b NotOnAir) (ne_eqb n 0 (λ e. omega arith))
 
 pub air_meets : (boxes version n lose event streams subevents : ℕ) (steps : List Step) (old new : Machine) → Stands steps old → stage_of steps ≡ running version
-    → OnAir steps n event streams subevents → new.stage ≡ old.stage → new.sources ≡ old.sources → new.relays ≡ old.relays → SinksStand (past_of (Air n lose ∷ steps)) new.sinks
+    → OnAir steps n event streams subevents → new.stage ≡ old.stage → new.sources ≡ old.sources → new.relays ≡ old.relays → SinksStand (histories_of (Air n lose ∷ steps)) new.sinks
     → Quiet boxes steps (Air n lose) new (Ok tt)
 air_meets boxes version n lose event streams subevents steps old new stands e on stage same held heard = (
   own_fault boxes version n steps (Air n lose) (air_brings n lose) e on.started on.lives ∙ on_air (performed (chosen_steps steps)) on.some,
@@ -200,9 +200,9 @@ pub air_fails : (boxes version n lose : ℕ) (steps : List Step) (grid : Grid) �
 air_fails boxes version n lose steps grid e r none =
     own_fault boxes version n steps (Air n lose) (air_brings n lose) e r.0 r.2 ∙ ap (λ k. refuse_if (k == 0) NotOnAir) none
 
-pub air_begins : (steps : List Step) (n lose : ℕ) (sinks : Sinks) → SinksStand (past_of steps) sinks → SinksStand (past_on_air steps n lose 0) sinks
+pub air_begins : (steps : List Step) (n lose : ℕ) (sinks : Sinks) → SinksStand (histories_of steps) sinks → SinksStand (histories_on_air steps n lose 0) sinks
 air_begins steps n lose sinks stands =
-    stands_same (past_of steps) (past_on_air steps n lose 0) sinks
+    stands_same (histories_of steps) (histories_on_air steps n lose 0) sinks
     (record {
       boxes = λ m. refl;
       mades = λ m. refl;
@@ -212,81 +212,81 @@ air_begins steps n lose sinks stands =
       made = refl;
     }) stands
 
--- all spots of the event were heard
-pub air_ends : (steps : List Step) (n lose : ℕ) (sinks : Sinks) → SinksStand (past_on_air steps n lose (spots_of (chosen_steps steps))) sinks
-    → SinksStand (past_of (Air n lose ∷ steps)) sinks
+-- all positions of the event were heard
+pub air_ends : (steps : List Step) (n lose : ℕ) (sinks : Sinks) → SinksStand (histories_on_air steps n lose (positions_of (chosen_steps steps))) sinks
+    → SinksStand (histories_of (Air n lose ∷ steps)) sinks
 air_ends steps n lose sinks stands =
-    stands_same (past_on_air steps n lose (spots_of (chosen_steps steps))) (past_of (Air n lose ∷ steps)) sinks (record {
+    stands_same (histories_on_air steps n lose (positions_of (chosen_steps steps))) (histories_of (Air n lose ∷ steps)) sinks (record {
       boxes = λ m. refl;
       mades = λ m. refl;
       sources = λ m. refl;
-      lives = λ m. if_same (n == m) (life m steps);
+      lives = λ m. if_same (n == m) (calls_made m steps);
       received = λ m. refl;
       made = refl;
     }) stands
 
--- the PDU at a spot is lost
-spot_lost : (b : Bool) (lost : Bool) (call : Call) (calls heard : List Call) → lost ≡ true
+-- the PDU at a position is lost
+position_lost : (b : Bool) (lost : Bool) (call : Call) (calls heard : List Call) → lost ≡ true
     → (if b then heard else calls) ≡ (if b then unless_lost lost call heard else calls)
-spot_lost true lost call calls heard e = rw e refl
-spot_lost false lost call calls heard e = refl
+position_lost true lost call calls heard e = rw e refl
+position_lost false lost call calls heard e = refl
 
 pub lost_next : (steps : List Step) (n lose i : ℕ) (sinks : Sinks)
-    → is_lost (setup_of (chosen_steps steps)).info (event_back (chosen_steps steps) 0) lose (spot_at (setup_of (chosen_steps steps)).info i) ≡ true
-    → SinksStand (past_on_air steps n lose i) sinks → SinksStand (past_on_air steps n lose (i + 1)) sinks
+    → is_lost (setup_of (chosen_steps steps)).info (event_back (chosen_steps steps) 0) lose (position_at (setup_of (chosen_steps steps)).info i) ≡ true
+    → SinksStand (histories_on_air steps n lose i) sinks → SinksStand (histories_on_air steps n lose (i + 1)) sinks
 lost_next steps n lose i sinks lost stands =
     let own : List Step = chosen_steps steps in
-    let P : ℕ → Type 0 = λ k. SinksStand (past_on_air steps n lose k) sinks in
-    subst P (sym (add-one i)) (stands_same (past_on_air steps n lose i) (past_on_air steps n lose (suc i)) sinks
+    let P : ℕ → Type 0 = λ k. SinksStand (histories_on_air steps n lose k) sinks in
+    subst P (sym (add-one i)) (stands_same (histories_on_air steps n lose i) (histories_on_air steps n lose (suc i)) sinks
     (record {
       boxes = λ m. refl;
       mades = λ m. refl;
       sources = λ m. refl;
       lives = λ m. refl;
-      received = λ m. spot_lost (reaches n m steps) _ (hear_at airs_of own (event_back own 0) (spot_at (setup_of own).info i)) (sink_calls airs_of m steps)
+      received = λ m. position_lost (reaches n m steps) _ (hear_at airs_of own (event_back own 0) (position_at (setup_of own).info i)) (sink_calls airs_of m steps)
           (heard_on_air airs_of own lose i (sink_calls airs_of m steps)) lost;
       made = refl;
     }) stands)
 
 -- it is heard
-spot_heard : (b : Bool) (lost : Bool) (call : Call) (calls heard : List Call) → lost ≡ false
+position_heard : (b : Bool) (lost : Bool) (call : Call) (calls heard : List Call) → lost ≡ false
     → (if b then call ∷ (if b then heard else calls) else (if b then heard else calls)) ≡ (if b then unless_lost lost call heard else calls)
-spot_heard true lost call calls heard e = rw e refl
-spot_heard false lost call calls heard e = refl
+position_heard true lost call calls heard e = rw e refl
+position_heard false lost call calls heard e = refl
 
 pub heard_next : (steps : List Step) (n lose i source event bis subevent : ℕ) (pdu : List ℕ) (sinks : Sinks) (o : Option Hearing)
-    → is_lost (setup_of (chosen_steps steps)).info (event_back (chosen_steps steps) 0) lose (spot_at (setup_of (chosen_steps steps)).info i) ≡ false
+    → is_lost (setup_of (chosen_steps steps)).info (event_back (chosen_steps steps) 0) lose (position_at (setup_of (chosen_steps steps)).info i) ≡ false
     → is_some (box_of n steps) ≡ true → source ≡ chosen_of steps → event ≡ event_back (chosen_steps steps) 0
     → bis ≡ i / (setup_of (chosen_steps steps)).info.nse + 1 → subevent ≡ i % (setup_of (chosen_steps steps)).info.nse
     → pdu ≡ pdu_in airs_of (chosen_steps steps) (event_back (chosen_steps steps) 0) bis subevent
-    → Hears (past_on_air steps n lose i) n source event bis subevent pdu sinks o → SinksStand (past_on_air steps n lose (i + 1)) sinks
+    → Hears (histories_on_air steps n lose i) n source event bis subevent pdu sinks o → SinksStand (histories_on_air steps n lose (i + 1)) sinks
 heard_next steps n lose i source event bis subevent pdu sinks o kept lives chosen is b s p h =
     let own : List Step = chosen_steps steps in
     let nse : ℕ = (setup_of own).info.nse in
-    let heard = heard_as (past_on_air steps n lose i) n source (chosen_of steps) event (event_back own 0) bis subevent pdu (pdu_in airs_of own (event_back own 0) bis subevent) sinks chosen is p
-    (some_heard (past_on_air steps n lose i) n source event bis subevent pdu sinks o lives h) in
-    let B : ℕ → Type 0 = λ x. SinksStand (with_hearing n (chosen_of steps) (event_back own 0) x subevent (pdu_in airs_of own (event_back own 0) x subevent) (past_on_air steps n lose i)) sinks in
-    let S : ℕ → Type 0 = λ x. SinksStand (with_hearing n (chosen_of steps) (event_back own 0) (i / nse + 1) x (pdu_in airs_of own (event_back own 0) (i / nse + 1) x) (past_on_air steps
+    let heard = heard_as (histories_on_air steps n lose i) n source (chosen_of steps) event (event_back own 0) bis subevent pdu (pdu_in airs_of own (event_back own 0) bis subevent) sinks chosen is p
+    (some_heard (histories_on_air steps n lose i) n source event bis subevent pdu sinks o lives h) in
+    let B : ℕ → Type 0 = λ x. SinksStand (with_hearing n (chosen_of steps) (event_back own 0) x subevent (pdu_in airs_of own (event_back own 0) x subevent) (histories_on_air steps n lose i)) sinks in
+    let S : ℕ → Type 0 = λ x. SinksStand (with_hearing n (chosen_of steps) (event_back own 0) (i / nse + 1) x (pdu_in airs_of own (event_back own 0) (i / nse + 1) x) (histories_on_air steps
     n lose i)) sinks in
-    let P : ℕ → Type 0 = λ k. SinksStand (past_on_air steps n lose k) sinks in
+    let P : ℕ → Type 0 = λ k. SinksStand (histories_on_air steps n lose k) sinks in
     subst P (sym (add-one i)) (stands_same
-    (with_hearing n (chosen_of steps) (event_back own 0) (i / nse + 1) (i % nse) (pdu_in airs_of own (event_back own 0) (i / nse + 1) (i % nse)) (past_on_air steps n lose i))
-    (past_on_air steps n lose (suc i)) sinks
+    (with_hearing n (chosen_of steps) (event_back own 0) (i / nse + 1) (i % nse) (pdu_in airs_of own (event_back own 0) (i / nse + 1) (i % nse)) (histories_on_air steps n lose i))
+    (histories_on_air steps n lose (suc i)) sinks
     (record {
       boxes = λ m. refl;
       mades = λ m. refl;
       sources = λ m. refl;
       lives = λ m. refl;
-      received = λ m. spot_heard (reaches n m steps) _ (hear_at airs_of own (event_back own 0) (spot_at (setup_of own).info i)) (sink_calls airs_of m steps)
+      received = λ m. position_heard (reaches n m steps) _ (hear_at airs_of own (event_back own 0) (position_at (setup_of own).info i)) (sink_calls airs_of m steps)
           (heard_on_air airs_of own lose i (sink_calls airs_of m steps)) kept;
       made = refl;
     }) (subst S s (subst B b heard)))
 
--- what was computed of a spot is what is said of it
-pub lost_at : (own : List Step) (event lose i : ℕ) (r b : Bool) → event ≡ event_back own 0 → r ≡ is_lost (setup_of own).info event lose (spot_at (setup_of own).info i) → r ≡ b
-    → is_lost (setup_of own).info (event_back own 0) lose (spot_at (setup_of own).info i) ≡ b
+-- what was computed of a position is what is said of it
+pub lost_at : (own : List Step) (event lose i : ℕ) (r b : Bool) → event ≡ event_back own 0 → r ≡ is_lost (setup_of own).info event lose (position_at (setup_of own).info i) → r ≡ b
+    → is_lost (setup_of own).info (event_back own 0) lose (position_at (setup_of own).info i) ≡ b
 lost_at own event lose i r b event_is is e =
-    sym (is ∙ ap (λ d. is_lost (setup_of own).info d lose (spot_at (setup_of own).info i)) event_is) ∙ e
+    sym (is ∙ ap (λ d. is_lost (setup_of own).info d lose (position_at (setup_of own).info i)) event_is) ∙ e
 
 pub no_place_there : (own : List Step) (bis subevent : ℕ) (stop : Stop) → bis ≤ (setup_of own).info.num_bis → subevent < (setup_of own).info.nse → 0 < performed own
     → NoPlace own 0 bis subevent stop → ⊥

@@ -11,15 +11,15 @@ use Rattle.transcript_text.specs.declared.stop.Stop.{Stop}
 use Rattle.transcript_text.specs.declared.stop.Stop.TheVariants.{Refused, OutletFault, Memory}
 use Rattle.scenario_text.specs.declared.step.Step.{Step}
 use Rattle.scenario_history.specs.Boxes.{SinkUnit, accounts_after, closing_by}
-use Rattle.scenario_history.specs.Gifts.{Offer, after_offers, answered, offered_of}
+use Rattle.scenario_history.specs.RelayedUnits.{Offer, after_offers, answered, offered_of}
 use Rattle.scenario_history.specs.Output.{unit_lines}
 use Rattle.scenario_history.specs.Sinks.{is_of, ticked_if}
-use Rattle.scenario_laws.proofs.Gifts.Citable.{left_by_offers}
+use Rattle.scenario_laws.proofs.RelayedUnits.Citable.{left_by_offers}
 use Rattle.scenario_sinks.specs.Closing.{closing_of, handed_all}
 use Rattle.scenario_sinks.specs.Handing.{BoxFails, CutShort}
-use Rattle.scenario_sinks.specs.Pasts.{Past, with_close, with_close_at}
+use Rattle.scenario_sinks.specs.Histories.{Histories, with_close, with_close_at}
 use Rattle.scenario_sinks.specs.State.Standing.{EntryIs, SinksStand}
-use Rattle.scenario_sinks.specs.Untaken.{UntakenSame}
+use Rattle.scenario_sinks.specs.Unassigned.{UnassignedSame}
 use Rattle.scenario_sinks.specs.declared.sinks.Sinks.{Sinks}
 use Rattle.scenario_sinks.proofs.Citable.{accounts_append, hands_stop, hands_then, stands_same}
 use Rattle.scenario_sinks.proofs.Ranges.{range_append}
@@ -27,8 +27,8 @@ use Rattle.scenario_sinks.specs.State.RelaysStand.{RelaysStand}
 use Rattle.scenario_sources.specs.State.Standing.{SourcesStand}
 use Rattle.replay_steps.specs.declared.machine.Machine.{Machine}
 use Rattle.replay_steps.specs.Between.{FirstBetween, with_closes_below}
-use Rattle.replay_steps.specs.Machines.{relays_past}
-use Rattle.replay_steps.specs.Relaying.{FirstMeets, RoomsStand, SinkMeets, answer_lines, lines_at, lines_below, offers_below, offers_of, units_below}
+use Rattle.replay_steps.specs.Machines.{relay_histories}
+use Rattle.replay_steps.specs.Relaying.{FirstMeets, ComponentsStand, SinkMeets, answer_lines, lines_at, lines_below, offers_below, offers_of, units_below}
 use Rattle.replay_steps.proofs.Offering.{after_append}
 
 -- ---- ranges
@@ -54,12 +54,12 @@ pub range_about : {A : Type 0} (f : ℕ → List A) (n : ℕ) → n < 8
     → flat_map f (range_with_len 0 8) ≡ (flat_map f (range_with_len 0 n) ++ f n) ++ flat_map f (range_with_len (n + 1) (7 - n))
 range_about f n below =
     let all : n + 1 + (7 - n) ≡ 8 = omega arith in
-    range_split f (n + 1) (7 - n) all ∙ ap (λ front. front ++ flat_map f (range_with_len (n + 1) (7 - n))) (range_more f n)
+    range_split f (n + 1) (7 - n) all ∙ ap (λ prefix. prefix ++ flat_map f (range_with_len (n + 1) (7 - n))) (range_more f n)
 
 -- ---- the past of the sinks
 
 -- the next sink didn't close the event yet
-pub not_yet : (past : Past) (event n : ℕ) → closing_of n 0 event (with_closes_below event n past) ≡ closing_of n 0 event past
+pub not_yet : (past : Histories) (event n : ℕ) → closing_of n 0 event (with_closes_below event n past) ≡ closing_of n 0 event past
 not_yet past event n =
     ap (λ b. closing_by 0 event n (cond b (ticked_if (is_of 0 (past.sources n)) (Some event) (past.received n)) (past.received n)) (past.sources n) (past.boxes n))
     (le-ltb n n (omega arith))
@@ -83,7 +83,7 @@ received_next its event calls n m =
     ]
 
 -- and then it did
-closed_next : (past : Past) (event n : ℕ) (sinks : Sinks) → SinksStand (with_close_at n 0 event (with_closes_below event n past)) sinks
+closed_next : (past : Histories) (event n : ℕ) (sinks : Sinks) → SinksStand (with_close_at n 0 event (with_closes_below event n past)) sinks
     → SinksStand (with_closes_below event (n + 1) past) sinks
 closed_next past event n sinks stands =
     stands_same (with_close_at n 0 event (with_closes_below event n past)) (with_closes_below event (n + 1) past) sinks
@@ -96,7 +96,7 @@ closed_next past event n sinks stands =
       made = refl;
     }) stands
 
-closed_none : (past : Past) (event : ℕ) (sinks : Sinks) → SinksStand past sinks → SinksStand (with_closes_below event 0 past) sinks
+closed_none : (past : Histories) (event : ℕ) (sinks : Sinks) → SinksStand past sinks → SinksStand (with_closes_below event 0 past) sinks
 closed_none past event sinks stands =
     stands_same past (with_closes_below event 0 past) sinks
     (record {
@@ -110,7 +110,7 @@ closed_none past event sinks stands =
     }) stands
 
 -- all of them did
-closed_all : (past : Past) (event : ℕ) (sinks : Sinks) → SinksStand (with_closes_below event 8 past) sinks → SinksStand (with_close 0 (Some event) past) sinks
+closed_all : (past : Histories) (event : ℕ) (sinks : Sinks) → SinksStand (with_closes_below event 8 past) sinks → SinksStand (with_close 0 (Some event) past) sinks
 closed_all past event sinks stands = record {
   entries = λ n below.
       subst (λ calls. EntryIs (past.boxes n) (past.mades n) (past.sources n) (past.lives n) calls (slice_get sinks.entries.items n))
@@ -122,46 +122,46 @@ closed_all past event sinks stands = record {
 
 -- ---- the loop
 
-pub between_starts : (steps : List Step) (past : Past) (event : ℕ) (machine : Machine) (text : List ℕ) (before : List Account) → RoomsStand steps past machine
+pub between_starts : (steps : List Step) (past : Histories) (event : ℕ) (machine : Machine) (text : List ℕ) (before : List Account) → ComponentsStand steps past machine
     → FirstBetween steps past event 0 machine text text before before
-between_starts steps past event machine text before rooms = record {
-  rooms = record { sources = rooms.sources; sinks = closed_none past event machine.sinks rooms.sinks; relays = rooms.relays };
+between_starts steps past event machine text before components = record {
+  components = record { sources = components.sources; sinks = closed_none past event machine.sinks components.sinks; relays = components.relays };
   lines = sym (append-nil text);
   boxes = refl;
 }
 
--- what the next sink offers is what it offers by the steps before the gifts of those below it
-offers_now : (steps : List Step) (past : Past) (event n : ℕ)
+-- what the next sink offers is what it offers by the steps before the relayed units of those below it
+offers_now : (steps : List Step) (past : Histories) (event n : ℕ)
     → offers_of (after_offers airs_of (offers_below steps past event n) steps) (with_closes_below event n past) n event ≡ offers_of steps past n event
 offers_now steps past event n =
     ap₂ (λ relay (units : List SinkUnit). offered_of n relay (handed_all units)) ((left_by_offers airs_of (offers_below steps past event n) steps).relay n) (not_yet past event n)
 
-after_next : (steps : List Step) (past : Past) (event n : ℕ)
+after_next : (steps : List Step) (past : Histories) (event n : ℕ)
     → after_offers airs_of (offers_of steps past n event) (after_offers airs_of (offers_below steps past event n) steps)
     ≡ after_offers airs_of (offers_below steps past event (n + 1)) steps
 after_next steps past event n =
     sym (ap (λ all. after_offers airs_of all steps) (range_more (λ m. offers_of steps past m event) n)
     ∙ after_append (offers_below steps past event n) (offers_of steps past n event) steps)
 
-pub between_next : (steps : List Step) (past : Past) (event n : ℕ) (mid new : Machine) (text told told2 : List ℕ) (before between after : List Account)
+pub between_next : (steps : List Step) (past : Histories) (event n : ℕ) (mid new : Machine) (text told told2 : List ℕ) (before between after : List Account)
     → FirstBetween steps past event n mid text told before between
     → SinkMeets (after_offers airs_of (offers_below steps past event n) steps) (with_closes_below event n past) n event new told told2 between after (Ok tt)
     → FirstBetween steps past event (n + 1) new text told2 before after
 between_next steps past event n mid new text told told2 before between after b m =
     let now : List Step = after_offers airs_of (offers_below steps past event n) steps in
-    let late : Past = with_closes_below event n past in
+    let late : Histories = with_closes_below event n past in
     let all : after_offers airs_of (offers_of now late n event) now ≡ after_offers airs_of (offers_below steps past event (n + 1)) steps =
     ap (λ offers. after_offers airs_of offers now) (offers_now steps past event n) ∙ after_next steps past event n in
     record {
-      rooms = record {
+      components = record {
         sources = subst (λ made. SourcesStand made new.sources) all m.0.sources;
         sinks = closed_next past event n new.sinks m.0.sinks;
-        relays = subst (λ made. RelaysStand (relays_past made) new.relays) all m.0.relays;
+        relays = subst (λ made. RelaysStand (relay_histories made) new.relays) all m.0.relays;
       };
       lines = m.1
           ∙ ap₂ (λ (units : List SinkUnit) (offers : List Offer). told ++ (unit_lines units ++ answer_lines (answered airs_of offers now))) (not_yet past event n)
           (offers_now steps past event n)
-          ∙ ap (λ front. front ++ lines_at steps past n event) b.lines
+          ∙ ap (λ prefix. prefix ++ lines_at steps past n event) b.lines
           ∙ append_assoc text (lines_below steps past event n) (lines_at steps past n event)
           ∙ ap (λ l. text ++ l) (sym (range_more (λ m. lines_at steps past m event) n));
       boxes = m.2
@@ -171,7 +171,7 @@ between_next steps past event n mid new text told told2 before between after b m
     }
 
 -- a box refused a unit of a sink, or memory ran out
-pub between_stops : (steps : List Step) (past : Past) (event n : ℕ) (mid new there : Machine) (text told told2 : List ℕ) (before between after : List Account) (stop : Stop)
+pub between_stops : (steps : List Step) (past : Histories) (event n : ℕ) (mid new there : Machine) (text told told2 : List ℕ) (before between after : List Account) (stop : Stop)
     → n < 8 → FirstBetween steps past event n mid text told before between
     → SinkMeets (after_offers airs_of (offers_below steps past event n) steps) (with_closes_below event n past) n event new told told2 between after (Err stop)
     → FirstMeets steps past event there text told2 before after (Err stop)
@@ -180,28 +180,28 @@ between_stops steps past event n mid new there text told told2 before between af
   number = n;
   within = below;
   fails = subst (λ units. BoxFails units (text ++ lines_below steps past event n) told2 (accounts_after before (units_below past event n)) after) (not_yet past event n)
-      (subst (λ front. BoxFails (closing_of n 0 event (with_closes_below event n past)) front told2 (accounts_after before (units_below past event n)) after) b.lines
+      (subst (λ prefix. BoxFails (closing_of n 0 event (with_closes_below event n past)) prefix told2 (accounts_after before (units_below past event n)) after) b.lines
       (subst (λ accounts. BoxFails (closing_of n 0 event (with_closes_below event n past)) told told2 accounts after) b.boxes m));
 }
 between_stops steps past event n mid new there text told told2 before between after Memory below b m =
-    let front : List SinkUnit = units_below past event n in
+    let prefix : List SinkUnit = units_below past event n in
     let here : List SinkUnit = closing_of n 0 event past in
     let rest : List SinkUnit = flat_map (λ k. closing_of k 0 event past) (range_with_len (n + 1) (7 - n)) in
     subst (λ units. CutShort units before after) (sym (range_about (λ k. closing_of k 0 event past) n below))
-    (hands_stop (front ++ here) rest [] [] before after Memory
-    (hands_then front here [] (unit_lines front) [] before between after (Err Memory) refl b.boxes
+    (hands_stop (prefix ++ here) rest [] [] before after Memory
+    (hands_then prefix here [] (unit_lines prefix) [] before between after (Err Memory) refl b.boxes
     (subst (λ units. CutShort units between after) (not_yet past event n) m)))
 
-pub between_over : (steps : List Step) (past : Past) (event number : ℕ) (machine : Machine) (text told : List ℕ) (before after : List Account) → number ≡ 8
+pub between_over : (steps : List Step) (past : Histories) (event number : ℕ) (machine : Machine) (text told : List ℕ) (before after : List Account) → number ≡ 8
     → FirstBetween steps past event number machine text told before after → FirstMeets steps past event machine text told before after (Ok tt)
 between_over steps past event number machine text told before after all b =
     let last : FirstBetween steps past event 8 machine text told before after =
     subst (λ n. FirstBetween steps past event n machine text told before after) all b in (
-      record { sources = last.rooms.sources; sinks = closed_all past event machine.sinks last.rooms.sinks; relays = last.rooms.relays },
+      record { sources = last.components.sources; sinks = closed_all past event machine.sinks last.components.sinks; relays = last.components.relays },
       last.lines,
       last.boxes,
     )
 
 -- the boxes of no living sink
-pub untaken_next : {A : Type 0} (past : Past) (old mid new : List A) → UntakenSame past old mid → UntakenSame past mid new → UntakenSame past old new
-untaken_next past old mid new first second place free = second place free ∙ first place free
+pub unassigned_next : {A : Type 0} (past : Histories) (old mid new : List A) → UnassignedSame past old mid → UnassignedSame past mid new → UnassignedSame past old new
+unassigned_next past old mid new first second place free = second place free ∙ first place free

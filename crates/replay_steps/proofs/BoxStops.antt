@@ -1,4 +1,4 @@
--- A close that a box stops: what was printed before is a front of what the close prints.
+-- A close that a box stops: what was printed before is a prefix of what the close prints.
 use Rattle.std.proofs.Common.{ℕ, ◌≡◌, ◌≢◌, ◌<◌, ◌+◌, ◌-◌, ◌==◌, ◌&&◌, nat_lt, Bool, true, false, cond, List, [], ◌∷◌, ◌++◌, map, refl, sym, ◌∙◌, ap, ap₂, subst, inl, inr}
 use Rattle.std.proofs.Common.{append_assoc, append-nil, arith, eq-eqb, ne_eqb, le-ltb, lt-ltb, Option, None, Some, Err}
 use Rattle.std.specs.List.{filter, flat_map, range_with_len}
@@ -14,17 +14,17 @@ use Rattle.source_machine.specs.Airs.{airs_of}
 use Rattle.transcript_text.specs.Lines.{handed_line}
 use Rattle.scenario_text.specs.declared.step.Step.{Step}
 use Rattle.scenario_history.specs.Boxes.{SinkUnit, accounts_after, closing_in, sink_numbers}
-use Rattle.scenario_history.specs.Gifts.{Answered, after_offers, answered, handed_of}
+use Rattle.scenario_history.specs.RelayedUnits.{Answered, after_offers, answered, handed_of}
 use Rattle.scenario_history.specs.Output.{dropped_lines, first_lines, unit_lines}
 use Rattle.scenario_history.specs.Sinks.{is_of}
 use Rattle.scenario_sinks.specs.Closing.{closing_of, handed_all}
 use Rattle.scenario_sinks.specs.Handing.{BoxFails}
-use Rattle.scenario_sinks.specs.Pasts.{Past}
+use Rattle.scenario_sinks.specs.Histories.{Histories}
 use Rattle.scenario_sinks.proofs.Citable.{accounts_append, lines_append}
 use Rattle.replay_steps.specs.Failing.{CloseFails, printed_before}
 use Rattle.replay_steps.specs.Relaying.{FirstFails, answer_lines, lines_at, lines_below, offers_below, offers_of, units_below}
 use Rattle.replay_steps.proofs.Between.{range_about}
-use Rattle.scenario_laws.proofs.Gifts.Citable.{flat_within, handed_append}
+use Rattle.scenario_laws.proofs.RelayedUnits.Citable.{flat_within, handed_append}
 use Rattle.replay_steps.proofs.CloseLines.{answers_of, flat_nothing, none_handed, of_sink, own_handed, own_lines}
 
 -- ---- whose units they are
@@ -48,12 +48,12 @@ of_in true s event n calls None = tt
 of_in true s event n calls (Some box) = of_map s n box (handed_at calls event)
 of_in false s event n calls box = tt
 
-of_closing : (n s event : ℕ) (past : Past) → AreOf s n (closing_of n s event past)
+of_closing : (n s event : ℕ) (past : Histories) → AreOf s n (closing_of n s event past)
 of_closing n s event past = of_in (is_of s (past.sources n)) s event n (past.received n) (past.boxes n)
 
-of_front : (s n : ℕ) (us vs : List SinkUnit) → AreOf s n (us ++ vs) → AreOf s n us
-of_front s n [] vs are = tt
-of_front s n (u ∷ us) vs are = (are.0, are.1, of_front s n us vs are.2)
+of_prefix : (s n : ℕ) (us vs : List SinkUnit) → AreOf s n (us ++ vs) → AreOf s n us
+of_prefix s n [] vs are = tt
+of_prefix s n (u ∷ us) vs are = (are.0, are.1, of_prefix s n us vs are.2)
 
 of_back : (s n : ℕ) (us vs : List SinkUnit) → AreOf s n (us ++ vs) → AreOf s n vs
 of_back s n [] vs are = are
@@ -67,15 +67,15 @@ from_both : (s : ℕ) (us vs : List SinkUnit) → AreFrom s us → AreFrom s vs 
 from_both s [] vs one two = two
 from_both s (u ∷ us) vs one two = (one.0, from_both s us vs one.1 two)
 
-from_front : (s : ℕ) (us vs : List SinkUnit) → AreFrom s (us ++ vs) → AreFrom s us
-from_front s [] vs are = tt
-from_front s (u ∷ us) vs are = (are.0, from_front s us vs are.1)
+from_prefix : (s : ℕ) (us vs : List SinkUnit) → AreFrom s (us ++ vs) → AreFrom s us
+from_prefix s [] vs are = tt
+from_prefix s (u ∷ us) vs are = (are.0, from_prefix s us vs are.1)
 
 from_back : (s : ℕ) (us vs : List SinkUnit) → AreFrom s (us ++ vs) → AreFrom s vs
 from_back s [] vs are = are
 from_back s (u ∷ us) vs are = from_back s us vs are.1
 
-pub from_closings : (s event : ℕ) (past : Past) (ns : List ℕ) → AreFrom s (flat_map (λ n. closing_of n s event past) ns)
+pub from_closings : (s event : ℕ) (past : Histories) (ns : List ℕ) → AreFrom s (flat_map (λ n. closing_of n s event past) ns)
 from_closings s event past [] = tt
 from_closings s event past (n ∷ ns) =
     from_both s (closing_of n s event past) (flat_map (λ m. closing_of m s event past) ns)
@@ -124,16 +124,16 @@ second_kept (u ∷ us) are = ap (λ s. cond (s == 1) (u ∷ filter of_second us)
 abbrev of_below : ℕ → Answered → Bool
 of_below number answer = nat_lt answer.offer.sink number
 
-own_kept : (hit : Bool) (n : ℕ) (answer : Answered) (front rest : List Answered) → of_sink n answer ≡ true → filter (of_sink n) front ≡ cond hit rest []
-    → filter (of_sink n) (cond hit (answer ∷ front) front) ≡ cond hit (answer ∷ rest) []
-own_kept true n answer front rest is same =
-    ap (λ b. cond b (answer ∷ filter (of_sink n) front) (filter (of_sink n) front)) is ∙ ap (λ l. answer ∷ l) same
-own_kept false n answer front rest is same = same
+own_kept : (hit : Bool) (n : ℕ) (answer : Answered) (prefix rest : List Answered) → of_sink n answer ≡ true → filter (of_sink n) prefix ≡ cond hit rest []
+    → filter (of_sink n) (cond hit (answer ∷ prefix) prefix) ≡ cond hit (answer ∷ rest) []
+own_kept true n answer prefix rest is same =
+    ap (λ b. cond b (answer ∷ filter (of_sink n) prefix) (filter (of_sink n) prefix)) is ∙ ap (λ l. answer ∷ l) same
+own_kept false n answer prefix rest is same = same
 
-other_kept : (kept : Bool) (n : ℕ) (answer : Answered) (front rest : List Answered) → of_sink n answer ≡ false → filter (of_sink n) front ≡ rest
-    → filter (of_sink n) (cond kept (answer ∷ front) front) ≡ rest
-other_kept true n answer front rest is same = ap (λ b. cond b (answer ∷ filter (of_sink n) front) (filter (of_sink n) front)) is ∙ same
-other_kept false n answer front rest is same = same
+other_kept : (kept : Bool) (n : ℕ) (answer : Answered) (prefix rest : List Answered) → of_sink n answer ≡ false → filter (of_sink n) prefix ≡ rest
+    → filter (of_sink n) (cond kept (answer ∷ prefix) prefix) ≡ rest
+other_kept true n answer prefix rest is same = ap (λ b. cond b (answer ∷ filter (of_sink n) prefix) (filter (of_sink n) prefix)) is ∙ same
+other_kept false n answer prefix rest is same = same
 
 kept_below : (n number : ℕ) (hit : Bool) (answers : List Answered) → nat_lt n number ≡ hit
     → filter (of_sink n) (filter (of_below number) answers) ≡ cond hit (filter (of_sink n) answers) []
@@ -157,7 +157,7 @@ abbrev printed_at : (n : ℕ) → List SinkUnit → List Answered → List ℕ
 printed_at n units answers = flat_map (handed_line n) (handed_of 0 n units) ++ dropped_lines n answers
 
 -- a sink below
-below_printed : (steps : List Step) (past : Past) (event number n : ℕ) (d : List SinkUnit) → n < number → number < 8 → AreOf 0 number d
+below_printed : (steps : List Step) (past : Histories) (event number n : ℕ) (d : List SinkUnit) → n < number → number < 8 → AreOf 0 number d
     → printed_at n (units_below past event number ++ d) (filter (of_below number) (answered airs_of (offers_below steps past event 8) steps)) ≡ lines_at steps past n event
 below_printed steps past event number n d less within are =
     ap₂ (λ (units : List Handed) (answers : List Answered). flat_map (handed_line n) units ++ answer_lines answers)
@@ -165,21 +165,21 @@ below_printed steps past event number n d less within are =
     ∙ ap₂ (λ one two. one ++ two) (own_handed past event n number less) (other_handed n number d are (λ same. omega (arith, same, less)))
     ∙ append-nil (handed_all (closing_of n 0 event past)))
     (kept_below n number true (answered airs_of (offers_below steps past event 8) steps) (lt-ltb n number less) ∙ answers_of steps past event n (omega (arith, less, within)))
-    ∙ ap (λ front. front ++ answer_lines (answered airs_of (offers_of steps past n event) (after_offers airs_of (offers_below steps past event n) steps))) (own_lines past event n)
+    ∙ ap (λ prefix. prefix ++ answer_lines (answered airs_of (offers_of steps past n event) (after_offers airs_of (offers_below steps past event n) steps))) (own_lines past event n)
 
 -- the sink itself
-here_printed : (steps : List Step) (past : Past) (event number : ℕ) (d : List SinkUnit) → AreOf 0 number d
+here_printed : (steps : List Step) (past : Histories) (event number : ℕ) (d : List SinkUnit) → AreOf 0 number d
     → printed_at number (units_below past event number ++ d) (filter (of_below number) (answered airs_of (offers_below steps past event 8) steps)) ≡ unit_lines d
 here_printed steps past event number d are =
     ap₂ (λ (units : List Handed) (answers : List Answered). flat_map (handed_line number) units ++ answer_lines answers)
     (handed_append 0 number (units_below past event number) d
-    ∙ ap (λ front. front ++ handed_of 0 number d) (none_handed past event number number (omega arith)))
+    ∙ ap (λ prefix. prefix ++ handed_of 0 number d) (none_handed past event number number (omega arith)))
     (kept_below number number false (answered airs_of (offers_below steps past event 8) steps) (le-ltb number number (omega arith)))
     ∙ append-nil (flat_map (handed_line number) (handed_of 0 number d))
     ∙ own_printed number d are
 
 -- a sink above
-above_printed : (steps : List Step) (past : Past) (event number n : ℕ) (d : List SinkUnit) → number < n → AreOf 0 number d
+above_printed : (steps : List Step) (past : Histories) (event number n : ℕ) (d : List SinkUnit) → number < n → AreOf 0 number d
     → printed_at n (units_below past event number ++ d) (filter (of_below number) (answered airs_of (offers_below steps past event 8) steps)) ≡ []
 above_printed steps past event number n d more are =
     ap₂ (λ (units : List Handed) (answers : List Answered). flat_map (handed_line n) units ++ answer_lines answers)
@@ -188,42 +188,42 @@ above_printed steps past event number n d more are =
     (kept_below n number false (answered airs_of (offers_below steps past event 8) steps) (le-ltb n number (omega (arith, more))))
 
 -- what is printed before a unit of a sink of source 0: the lines of the sinks below, and those of the sink's units before it
-first_done : (steps : List Step) (past : Past) (event number : ℕ) (d : List SinkUnit) → number < 8 → AreOf 0 number d
+first_done : (steps : List Step) (past : Histories) (event number : ℕ) (d : List SinkUnit) → number < 8 → AreOf 0 number d
     → first_lines (units_below past event number ++ d) (filter (of_below number) (answered airs_of (offers_below steps past event 8) steps))
     ≡ lines_below steps past event number ++ unit_lines d
 unfolding sink_numbers
 first_done steps past event number d within are =
     let f : ℕ → List ℕ = λ n. printed_at n (units_below past event number ++ d) (filter (of_below number) (answered airs_of (offers_below steps past event 8) steps)) in
     range_about f number within
-    ∙ ap₂ (λ front back. front ++ back)
-    (ap₂ (λ front here. front ++ here)
+    ∙ ap₂ (λ prefix back. prefix ++ back)
+    (ap₂ (λ prefix here. prefix ++ here)
     (flat_within f (λ n. lines_at steps past n event) 0 number (λ n least less. below_printed steps past event number n d (omega (arith, less)) within are))
     (here_printed steps past event number d are))
     (flat_nothing f (number + 1) (7 - number) (λ n least less. above_printed steps past event number n d (omega (arith, least)) are))
     ∙ append-nil (lines_below steps past event number ++ unit_lines d)
 
-before_first : (steps : List Step) (past : Past) (event number : ℕ) (d : List SinkUnit) (unit : SinkUnit) → number < 8 → AreOf 0 number d → unit.source ≡ 0 → unit.sink ≡ number
+before_first : (steps : List Step) (past : Histories) (event number : ℕ) (d : List SinkUnit) (unit : SinkUnit) → number < 8 → AreOf 0 number d → unit.source ≡ 0 → unit.sink ≡ number
     → printed_before (answered airs_of (offers_below steps past event 8) steps) (units_below past event number ++ d) unit ≡ lines_below steps past event number ++ unit_lines d
 before_first steps past event number d unit within are source sink =
     let answers : List Answered = answered airs_of (offers_below steps past event 8) steps in
     let done : List SinkUnit = units_below past event number ++ d in
     ap (λ b. first_lines done (cond b (filter (of_below unit.sink) answers) answers) ++ unit_lines (filter of_second done)) (eq-eqb unit.source 0 source)
     ∙ ap (λ n. first_lines done (filter (of_below n) answers) ++ unit_lines (filter of_second done)) sink
-    ∙ ap₂ (λ (front : List ℕ) (seconds : List SinkUnit). front ++ unit_lines seconds) (first_done steps past event number d within are)
+    ∙ ap₂ (λ (prefix : List ℕ) (seconds : List SinkUnit). prefix ++ unit_lines seconds) (first_done steps past event number d within are)
     (first_left done (from_both 0 (units_below past event number) d (from_closings 0 event past (range_with_len 0 number)) (from_of 0 number d are)))
     ∙ append-nil (lines_below steps past event number ++ unit_lines d)
 
 -- ---- a box stops a close of source 0
 
-regroup_units : (front d here others more : List SinkUnit) → ((front ++ (d ++ here)) ++ others) ++ more ≡ (front ++ d) ++ (here ++ (others ++ more))
-regroup_units front d here others more = simp append_assoc
+regroup_units : (prefix d here others more : List SinkUnit) → ((prefix ++ (d ++ here)) ++ others) ++ more ≡ (prefix ++ d) ++ (here ++ (others ++ more))
+regroup_units prefix d here others more = simp append_assoc
 
 regroup_lines : (lines own here dropped others tail : List ℕ)
     → ((lines ++ ((own ++ here) ++ dropped)) ++ others) ++ tail ≡ (lines ++ own) ++ ((here ++ dropped) ++ (others ++ tail))
 regroup_lines lines own here dropped others tail = simp append_assoc
 
 -- behind all units of the close more may come, and behind its lines
-pub first_fails : (steps : List Step) (past : Past) (event : ℕ) (units more : List SinkUnit) (answers : List Answered) (output tail text told : List ℕ) (before after : List Account)
+pub first_fails : (steps : List Step) (past : Histories) (event : ℕ) (units more : List SinkUnit) (answers : List Answered) (output tail text told : List ℕ) (before after : List Account)
     → units ≡ units_below past event 8 ++ more → answers ≡ answered airs_of (offers_below steps past event 8) steps → output ≡ lines_below steps past event 8 ++ tail
     → FirstFails steps past event text told before after → CloseFails units answers output text told before after
 first_fails steps past event units more answers output tail text told before after all answered_are printed f =
@@ -231,34 +231,34 @@ first_fails steps past event units more answers output tail text told before aft
     let d : List SinkUnit = f.fails.done in
     let here : List SinkUnit = closing_of number 0 event past in
     let own : AreOf 0 number (d ++ f.fails.unit ∷ f.fails.rest) = subst (AreOf 0 number) f.fails.split (of_closing number 0 event past) in
-    let are : AreOf 0 number d = of_front 0 number d (f.fails.unit ∷ f.fails.rest) own in
+    let are : AreOf 0 number d = of_prefix 0 number d (f.fails.unit ∷ f.fails.rest) own in
     let one : AreOf 0 number (f.fails.unit ∷ f.fails.rest) = of_back 0 number d (f.fails.unit ∷ f.fails.rest) own in
-    let front : List SinkUnit = units_below past event number in
+    let prefix : List SinkUnit = units_below past event number in
     let others : List SinkUnit = flat_map (λ n. closing_of n 0 event past) (range_with_len (number + 1) (7 - number)) in
     let lines : List ℕ = lines_below steps past event number in
     let dropped : List ℕ = answer_lines (answered airs_of (offers_of steps past number event) (after_offers airs_of (offers_below steps past event number) steps)) in
     let other_lines : List ℕ = flat_map (λ n. lines_at steps past n event) (range_with_len (number + 1) (7 - number)) in
-    let is : printed_before answers (front ++ d) f.fails.unit ≡ lines ++ unit_lines d =
-    ap (λ a. printed_before a (front ++ d) f.fails.unit) answered_are ∙ before_first steps past event number d f.fails.unit f.within are one.0 one.1 in
+    let is : printed_before answers (prefix ++ d) f.fails.unit ≡ lines ++ unit_lines d =
+    ap (λ a. printed_before a (prefix ++ d) f.fails.unit) answered_are ∙ before_first steps past event number d f.fails.unit f.within are one.0 one.1 in
     record {
-      done = front ++ d;
+      done = prefix ++ d;
       unit = f.fails.unit;
       rest = f.fails.rest ++ (others ++ more);
       split = all ∙ ap (λ us. us ++ more) (range_about (λ n. closing_of n 0 event past) number f.within)
-          ∙ ap (λ us. ((front ++ us) ++ others) ++ more) f.fails.split
-          ∙ regroup_units front d (f.fails.unit ∷ f.fails.rest) others more;
+          ∙ ap (λ us. ((prefix ++ us) ++ others) ++ more) f.fails.split
+          ∙ regroup_units prefix d (f.fails.unit ∷ f.fails.rest) others more;
       bis = f.fails.bis;
       time = f.fails.time;
       octets = f.fails.octets;
       is_valid = f.fails.is_valid;
       lines = f.fails.lines ∙ append_assoc text lines (unit_lines d) ∙ ap (λ l. text ++ l) (sym is);
       behind = (unit_lines (f.fails.unit ∷ f.fails.rest) ++ dropped) ++ (other_lines ++ tail);
-      front = printed ∙ ap (λ l. l ++ tail) (range_about (λ n. lines_at steps past n event) number f.within)
+      prefix = printed ∙ ap (λ l. l ++ tail) (range_about (λ n. lines_at steps past n event) number f.within)
           ∙ ap (λ us. ((lines ++ (us ++ dropped)) ++ other_lines) ++ tail)
           (ap unit_lines f.fails.split ∙ lines_append d (f.fails.unit ∷ f.fails.rest))
           ∙ regroup_lines lines (unit_lines d) (unit_lines (f.fails.unit ∷ f.fails.rest)) dropped other_lines tail
           ∙ ap (λ l. l ++ ((unit_lines (f.fails.unit ∷ f.fails.rest) ++ dropped) ++ (other_lines ++ tail))) (sym is);
-      box = subst (λ accounts. TookAt f.fails.unit.box f.fails.octets accounts after (Err Failed)) (sym (accounts_append front d before)) f.fails.box;
+      box = subst (λ accounts. TookAt f.fails.unit.box f.fails.octets accounts after (Err Failed)) (sym (accounts_append prefix d before)) f.fails.box;
     }
 
 -- ---- a box stops a close of source 1
@@ -275,16 +275,16 @@ before_second : (first d : List SinkUnit) (answers : List Answered) (unit : Sink
     → printed_before answers (first ++ d) unit ≡ first_lines first answers ++ unit_lines d
 before_second first d answers unit are_first are source =
     ap (λ s. first_lines (first ++ d) (cond (s == 0) (filter (of_below unit.sink) answers) answers) ++ unit_lines (filter of_second (first ++ d))) source
-    ∙ ap₂ (λ (front : List ℕ) (seconds : List SinkUnit). front ++ unit_lines seconds) (second_apart first d answers are)
+    ∙ ap₂ (λ (prefix : List ℕ) (seconds : List SinkUnit). prefix ++ unit_lines seconds) (second_apart first d answers are)
     (filter-append of_second first d ∙ ap₂ (λ one two. one ++ two) (first_left first are_first) (second_kept d are))
 
 pub second_fails : (first us : List SinkUnit) (answers : List Answered) (output tail text mid told : List ℕ) (before between after : List Account) → AreFrom 0 first → AreFrom 1 us
     → mid ≡ text ++ first_lines first answers → between ≡ accounts_after before first → output ≡ first_lines first answers ++ (unit_lines us ++ tail)
     → BoxFails us mid told between after → CloseFails (first ++ us) answers output text told before after
-second_fails first us answers output tail text mid told before between after are_first are_second front accounts printed f =
+second_fails first us answers output tail text mid told before between after are_first are_second prefix accounts printed f =
     let d : List SinkUnit = f.done in
     let own : AreFrom 1 (d ++ f.unit ∷ f.rest) = subst (AreFrom 1) f.split are_second in
-    let are : AreFrom 1 d = from_front 1 d (f.unit ∷ f.rest) own in
+    let are : AreFrom 1 d = from_prefix 1 d (f.unit ∷ f.rest) own in
     let one : AreFrom 1 (f.unit ∷ f.rest) = from_back 1 d (f.unit ∷ f.rest) own in
     let lines : List ℕ = first_lines first answers in
     let is : printed_before answers (first ++ d) f.unit ≡ lines ++ unit_lines d = before_second first d answers f.unit are_first are one.0 in
@@ -297,9 +297,9 @@ second_fails first us answers output tail text mid told before between after are
       time = f.time;
       octets = f.octets;
       is_valid = f.is_valid;
-      lines = f.lines ∙ ap (λ l. l ++ unit_lines d) front ∙ append_assoc text lines (unit_lines d) ∙ ap (λ l. text ++ l) (sym is);
+      lines = f.lines ∙ ap (λ l. l ++ unit_lines d) prefix ∙ append_assoc text lines (unit_lines d) ∙ ap (λ l. text ++ l) (sym is);
       behind = unit_lines (f.unit ∷ f.rest) ++ tail;
-      front = printed ∙ ap (λ l. lines ++ (l ++ tail)) (ap unit_lines f.split ∙ lines_append d (f.unit ∷ f.rest))
+      prefix = printed ∙ ap (λ l. lines ++ (l ++ tail)) (ap unit_lines f.split ∙ lines_append d (f.unit ∷ f.rest))
           ∙ ap (λ l. lines ++ l) (append_assoc (unit_lines d) (unit_lines (f.unit ∷ f.rest)) tail)
           ∙ sym (append_assoc lines (unit_lines d) (unit_lines (f.unit ∷ f.rest) ++ tail))
           ∙ ap (λ l. l ++ (unit_lines (f.unit ∷ f.rest) ++ tail)) (sym is);

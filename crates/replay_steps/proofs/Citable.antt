@@ -2,5 +2,5 @@
 -- where a box stops a close, that a box that failed had no room for the valid units of its sink, and which boxes no line took.
 pub use Rattle.replay_steps.proofs.HandedOn.{handed_line, took_as, took_history}
 pub use Rattle.replay_steps.proofs.LineLaws.{meets_at}
-pub use Rattle.replay_steps.proofs.Rooms.{Failure, box_fails, failure, no_room_for}
-pub use Rattle.replay_steps.proofs.UntakenRuns.{none_run, untaken_line, untaken_run}
+pub use Rattle.replay_steps.proofs.Components.{Failure, box_fails, failure, no_room_for}
+pub use Rattle.replay_steps.proofs.UnassignedRuns.{none_run, unassigned_line, unassigned_run}

@@ -13,17 +13,17 @@ use Rattle.source_machine.specs.Airs.{airs_of}
 use Rattle.transcript_text.specs.Lines.{handed_line}
 use Rattle.scenario_text.specs.declared.step.Step.{Step}
 use Rattle.scenario_history.specs.Boxes.{SinkUnit, closing, closing_at, closing_in, sink_numbers}
-use Rattle.scenario_history.specs.Gifts.{Answered, Offer, after_offer, after_offers, answered, dropped_for, handed_of, offered_of, offers_at, units_on}
+use Rattle.scenario_history.specs.RelayedUnits.{Answered, Offer, after_offer, after_offers, answered, dropped_for, handed_of, offered_of, offers_at, units_on}
 use Rattle.scenario_history.specs.Output.{dropped_lines, first_lines, unit_lines}
 use Rattle.scenario_history.specs.Relays.{Route, relay_of}
 use Rattle.scenario_history.specs.Sinks.{is_of}
 use Rattle.scenario_history.specs.Source.{open_event}
 use Rattle.scenario_history.specs.Steps.{steps_of_source}
 use Rattle.scenario_sinks.specs.Closing.{closing_of, handed_all}
-use Rattle.scenario_sinks.specs.Pasts.{Past}
-use Rattle.replay_steps.specs.Machines.{past_of}
+use Rattle.scenario_sinks.specs.Histories.{Histories}
+use Rattle.replay_steps.specs.Machines.{histories_of}
 use Rattle.replay_steps.specs.Relaying.{answer_lines, lines_at, lines_below, offers_below, offers_of, units_below}
-use Rattle.scenario_laws.proofs.Gifts.Citable.{flat_within, flat_one, other_in, handed_flat, lines_map, own_handed as own_units}
+use Rattle.scenario_laws.proofs.RelayedUnits.Citable.{flat_within, flat_one, other_in, handed_flat, lines_map, own_handed as own_units}
 use Rattle.replay_steps.proofs.Offering.{after_append, answered_append}
 
 -- ---- lists
@@ -48,7 +48,7 @@ own_in true event n calls (Some box) = own_units n box (handed_at calls event) �
 own_in false event n calls box = refl
 
 -- of what the first sinks hand up the part of one of them is what it hands up
-pub own_handed : (past : Past) (event n number : ℕ) → n < number → handed_of 0 n (units_below past event number) ≡ handed_all (closing_of n 0 event past)
+pub own_handed : (past : Histories) (event n number : ℕ) → n < number → handed_of 0 n (units_below past event number) ≡ handed_all (closing_of n 0 event past)
 own_handed past event n number below =
     handed_flat n (λ m. closing_of m 0 event past) (range_with_len 0 number)
     ∙ flat_one (λ m. handed_of 0 n (closing_of m 0 event past)) n 0 number (omega arith) (omega (arith, below))
@@ -56,7 +56,7 @@ own_handed past event n number below =
     ∙ own_in (is_of 0 (past.sources n)) event n (past.received n) (past.boxes n)
 
 -- another sink has no part of it
-pub none_handed : (past : Past) (event n number : ℕ) → number ≤ n → handed_of 0 n (units_below past event number) ≡ []
+pub none_handed : (past : Histories) (event n number : ℕ) → number ≤ n → handed_of 0 n (units_below past event number) ≡ []
 none_handed past event n number beyond =
     handed_flat n (λ m. closing_of m 0 event past) (range_with_len 0 number)
     ∙ flat_nothing (λ m. handed_of 0 n (closing_of m 0 event past)) 0 number
@@ -69,48 +69,48 @@ own_lines_in true event n calls (Some box) =
     ap (flat_map (handed_line n)) (back_units n box (handed_at calls event)) ∙ lines_map n box (handed_at calls event)
 own_lines_in false event n calls box = refl
 
-pub own_lines : (past : Past) (event n : ℕ) → flat_map (handed_line n) (handed_all (closing_of n 0 event past)) ≡ unit_lines (closing_of n 0 event past)
+pub own_lines : (past : Histories) (event n : ℕ) → flat_map (handed_line n) (handed_all (closing_of n 0 event past)) ≡ unit_lines (closing_of n 0 event past)
 own_lines past event n = own_lines_in (is_of 0 (past.sources n)) event n (past.received n) (past.boxes n)
 
 -- ---- what is offered
 
 -- an event of source 0 is closed, or none is open: what its sinks hand up then, what their relays offer, and what is printed
-abbrev pub units_closed : Past → Option ℕ → List SinkUnit
+abbrev pub units_closed : Histories → Option ℕ → List SinkUnit
 units_closed past None = []
 units_closed past (Some event) = units_below past event 8
 
-abbrev pub offers_closed : List Step → Past → Option ℕ → List Offer
+abbrev pub offers_closed : List Step → Histories → Option ℕ → List Offer
 offers_closed steps past None = []
 offers_closed steps past (Some event) = offers_below steps past event 8
 
-abbrev pub lines_closed : List Step → Past → Option ℕ → List ℕ
+abbrev pub lines_closed : List Step → Histories → Option ℕ → List ℕ
 lines_closed steps past None = []
 lines_closed steps past (Some event) = lines_below steps past event 8
 
-units_at : (steps : List Step) (closed : Option ℕ) → closing_at airs_of 0 steps closed ≡ units_closed (past_of steps) closed
+units_at : (steps : List Step) (closed : Option ℕ) → closing_at airs_of 0 steps closed ≡ units_closed (histories_of steps) closed
 unfolding sink_numbers
 units_at steps None = refl
 units_at steps (Some event) = refl
 
-pub units_are : (steps : List Step) (closed : Option ℕ) → closed ≡ open_event (steps_of_source 0 steps) → closing airs_of 0 steps ≡ units_closed (past_of steps) closed
+pub units_are : (steps : List Step) (closed : Option ℕ) → closed ≡ open_event (steps_of_source 0 steps) → closing airs_of 0 steps ≡ units_closed (histories_of steps) closed
 units_are steps closed is = ap (closing_at airs_of 0 steps) (sym is) ∙ units_at steps closed
 
 none_asked : (n : ℕ) (relay : Option Route) → offered_of n relay [] ≡ []
 none_asked n None = refl
 none_asked n (Some route) = refl
 
-offers_in : (steps : List Step) (closed : Option ℕ) → closing airs_of 0 steps ≡ units_closed (past_of steps) closed
-    → offers_at airs_of steps ≡ offers_closed steps (past_of steps) closed
+offers_in : (steps : List Step) (closed : Option ℕ) → closing airs_of 0 steps ≡ units_closed (histories_of steps) closed
+    → offers_at airs_of steps ≡ offers_closed steps (histories_of steps) closed
 unfolding sink_numbers
 offers_in steps None is =
     flat_nothing (λ n. offered_of n (relay_of n steps) (handed_of 0 n (closing airs_of 0 steps))) 0 8
     (λ n least below. ap (λ units. offered_of n (relay_of n steps) (handed_of 0 n units)) is ∙ none_asked n (relay_of n steps))
 offers_in steps (Some event) is =
-    flat_within (λ n. offered_of n (relay_of n steps) (handed_of 0 n (closing airs_of 0 steps))) (λ n. offers_of steps (past_of steps) n event) 0 8
-    (λ n least below. ap (offered_of n (relay_of n steps)) (ap (handed_of 0 n) is ∙ own_handed (past_of steps) event n 8 (omega (arith, below))))
+    flat_within (λ n. offered_of n (relay_of n steps) (handed_of 0 n (closing airs_of 0 steps))) (λ n. offers_of steps (histories_of steps) n event) 0 8
+    (λ n least below. ap (offered_of n (relay_of n steps)) (ap (handed_of 0 n) is ∙ own_handed (histories_of steps) event n 8 (omega (arith, below))))
 
 pub offers_same : (steps : List Step) (closed : Option ℕ) → closed ≡ open_event (steps_of_source 0 steps)
-    → offers_at airs_of steps ≡ offers_closed steps (past_of steps) closed
+    → offers_at airs_of steps ≡ offers_closed steps (histories_of steps) closed
 offers_same steps closed is = offers_in steps closed (units_are steps closed is)
 
 -- ---- what becomes of it, sink by sink
@@ -141,11 +141,11 @@ sink_answers : (n m : ℕ) (relay : Option Route) (units : List Handed) (steps :
 sink_answers n m None units steps = no_answers (m == n)
 sink_answers n m (Some route) units steps = route_answers n m route (units_on route.bis units) steps
 
-abbrev asks : List Step → Past → ℕ → ℕ → List Offer
+abbrev asks : List Step → Histories → ℕ → ℕ → List Offer
 asks steps past event m = offers_of steps past m event
 
 -- sinks behind this one answer for themselves
-answers_past : (steps : List Step) (past : Past) (event n start count : ℕ) (now : List Step) → n < start
+answers_past : (steps : List Step) (past : Histories) (event n start count : ℕ) (now : List Step) → n < start
     → filter (of_sink n) (answered airs_of (flat_map (asks steps past event) (range_with_len start count)) now) ≡ []
 answers_past steps past event n start zero now beyond = refl
 answers_past steps past event n start (suc count) now beyond =
@@ -159,7 +159,7 @@ answers_past steps past event n start (suc count) now beyond =
     ∙ ap (λ b. cond b (answered airs_of here now) []) (ne_eqb start n (λ same. omega (arith, same, beyond))))
     (answers_past steps past event n (start + 1) count then (omega (arith, beyond)))
 
-pub own_answers : (steps : List Step) (past : Past) (event n start count : ℕ) (now : List Step) → start ≤ n → n < start + count
+pub own_answers : (steps : List Step) (past : Histories) (event n start count : ℕ) (now : List Step) → start ≤ n → n < start + count
     → filter (of_sink n) (answered airs_of (flat_map (asks steps past event) (range_with_len start count)) now)
     ≡ answered airs_of (asks steps past event n) (after_offers airs_of (flat_map (asks steps past event) (range_with_len start (n - start))) now)
 own_answers steps past event n start zero now least below = absurd (omega (arith, least, below))
@@ -192,7 +192,7 @@ own_answers steps past event n start (suc count) now least below =
     ])
 
 -- of what becomes of all that the sinks' relays offer the part of one
-pub answers_of : (steps : List Step) (past : Past) (event n : ℕ) → n < 8
+pub answers_of : (steps : List Step) (past : Histories) (event n : ℕ) → n < 8
     → filter (of_sink n) (answered airs_of (offers_below steps past event 8) steps)
     ≡ answered airs_of (offers_of steps past n event) (after_offers airs_of (offers_below steps past event n) steps)
 answers_of steps past event n below =
@@ -202,13 +202,13 @@ answers_of steps past event n below =
 
 -- ---- the lines of a close of source 0
 
-lines_in : (steps : List Step) (closed : Option ℕ) → closing airs_of 0 steps ≡ units_closed (past_of steps) closed
-    → offers_at airs_of steps ≡ offers_closed steps (past_of steps) closed
-    → first_lines (closing airs_of 0 steps) (answered airs_of (offers_at airs_of steps) steps) ≡ lines_closed steps (past_of steps) closed
+lines_in : (steps : List Step) (closed : Option ℕ) → closing airs_of 0 steps ≡ units_closed (histories_of steps) closed
+    → offers_at airs_of steps ≡ offers_closed steps (histories_of steps) closed
+    → first_lines (closing airs_of 0 steps) (answered airs_of (offers_at airs_of steps) steps) ≡ lines_closed steps (histories_of steps) closed
 unfolding sink_numbers
 lines_in steps None is asked = ap₂ (λ units offers. first_lines units (answered airs_of offers steps)) is asked
 lines_in steps (Some event) is asked =
-    let past : Past = past_of steps in
+    let past : Histories = histories_of steps in
     let answers : List Answered = answered airs_of (offers_at airs_of steps) steps in
     flat_within (λ n. flat_map (handed_line n) (handed_of 0 n (closing airs_of 0 steps)) ++ dropped_lines n answers) (λ n. lines_at steps past n event) 0 8
     (λ n least below.
@@ -217,5 +217,5 @@ lines_in steps (Some event) is asked =
     (ap (λ all. answer_lines (filter (of_sink n) (answered airs_of all steps))) asked ∙ ap answer_lines (answers_of steps past event n (omega (arith, below)))))
 
 pub first_printed : (steps : List Step) (closed : Option ℕ) → closed ≡ open_event (steps_of_source 0 steps)
-    → first_lines (closing airs_of 0 steps) (answered airs_of (offers_at airs_of steps) steps) ≡ lines_closed steps (past_of steps) closed
+    → first_lines (closing airs_of 0 steps) (answered airs_of (offers_at airs_of steps) steps) ≡ lines_closed steps (histories_of steps) closed
 first_printed steps closed is = lines_in steps closed (units_are steps closed is) (offers_same steps closed is)

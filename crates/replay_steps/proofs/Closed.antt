@@ -9,13 +9,13 @@ use Rattle.transcript_text.specs.declared.stop.Stop.TheVariants.{Refused, Outlet
 use Rattle.transcript_text.specs.declared.refusal.Refusal.{Refusal}
 use Rattle.scenario_text.specs.declared.step.Step.{Step}
 use Rattle.scenario_history.specs.Boxes.{SinkUnit, accounts_after, sink_numbers}
-use Rattle.scenario_history.specs.Gifts.{Answered, after_offers, answered}
+use Rattle.scenario_history.specs.RelayedUnits.{Answered, after_offers, answered}
 use Rattle.scenario_history.specs.Output.{first_lines, unit_lines}
 use Rattle.scenario_history.specs.Sinks.{is_of, ticked_if}
 use Rattle.scenario_sinks.specs.Closing as sinks
 use Rattle.scenario_sinks.specs.Closing.{closings_at}
 use Rattle.scenario_sinks.specs.Handing.{CutShort}
-use Rattle.scenario_sinks.specs.Pasts.{Past, with_close}
+use Rattle.scenario_sinks.specs.Histories.{Histories, with_close}
 use Rattle.scenario_sinks.specs.State.Standing.{SinksStand}
 use Rattle.scenario_sinks.specs.declared.sinks.Sinks.{Sinks}
 use Rattle.scenario_sinks.specs.State.RelaysStand.{RelaysStand}
@@ -23,22 +23,22 @@ use Rattle.scenario_sources.specs.State.Standing.{SourcesStand}
 use Rattle.scenario_sinks.proofs.Citable.{hands_stop, stands_same}
 use Rattle.replay_steps.specs.declared.machine.Machine.{Machine}
 use Rattle.replay_steps.specs.Failing.{CloseFails}
-use Rattle.replay_steps.specs.Machines.{relays_past}
-use Rattle.replay_steps.specs.Relaying.{Closes, FirstMeets, RoomsStand, SecondMeets}
+use Rattle.replay_steps.specs.Machines.{relay_histories}
+use Rattle.replay_steps.specs.Relaying.{Closes, FirstMeets, ComponentsStand, SecondMeets}
 use Rattle.replay_steps.proofs.BoxStops.{AreFrom, first_fails, from_closings, second_fails}
 use Rattle.replay_steps.proofs.CloseLines.{lines_closed, offers_closed, units_closed}
 
 -- ---- what is left
 
 -- source 0 was closed
-pub record FirstClosed (steps : List Step) (past : Past) (closed : Option ℕ) (new : Machine) (text told : List ℕ) (before after : List Account) : Type 0 where
-  pub rooms : RoomsStand (after_offers airs_of (offers_closed steps past closed) steps) (with_close 0 closed past) new
+pub record FirstClosed (steps : List Step) (past : Histories) (closed : Option ℕ) (new : Machine) (text told : List ℕ) (before after : List Account) : Type 0 where
+  pub components : ComponentsStand (after_offers airs_of (offers_closed steps past closed) steps) (with_close 0 closed past) new
   pub lines : told ≡ text ++ lines_closed steps past closed
   pub boxes : after ≡ accounts_after before (units_closed past closed)
 
 -- a source beside it was closed
-pub record SecondClosed (steps : List Step) (past : Past) (source : ℕ) (closed : Option ℕ) (new : Machine) (text told : List ℕ) (before after : List Account) : Type 0 where
-  pub rooms : RoomsStand steps (with_close source closed past) new
+pub record SecondClosed (steps : List Step) (past : Histories) (source : ℕ) (closed : Option ℕ) (new : Machine) (text told : List ℕ) (before after : List Account) : Type 0 where
+  pub components : ComponentsStand steps (with_close source closed past) new
   pub lines : told ≡ text ++ unit_lines (closings_at source closed past)
   pub boxes : after ≡ accounts_after before (closings_at source closed past)
 
@@ -47,7 +47,7 @@ ticked_none true calls = refl
 ticked_none false calls = refl
 
 -- no event was open
-sinks_left : (past : Past) (source : ℕ) (sinks : Sinks) → SinksStand past sinks → SinksStand (with_close source None past) sinks
+sinks_left : (past : Histories) (source : ℕ) (sinks : Sinks) → SinksStand past sinks → SinksStand (with_close source None past) sinks
 sinks_left past source sinks stands =
     stands_same past (with_close source None past) sinks
     (record {
@@ -59,32 +59,32 @@ sinks_left past source sinks stands =
       made = refl;
     }) stands
 
-rooms_left : (steps : List Step) (past : Past) (source : ℕ) (machine : Machine) → RoomsStand steps past machine → RoomsStand steps (with_close source None past) machine
-rooms_left steps past source machine rooms =
-    record { sources = rooms.sources; sinks = sinks_left past source machine.sinks rooms.sinks; relays = rooms.relays }
+components_left : (steps : List Step) (past : Histories) (source : ℕ) (machine : Machine) → ComponentsStand steps past machine → ComponentsStand steps (with_close source None past) machine
+components_left steps past source machine components =
+    record { sources = components.sources; sinks = sinks_left past source machine.sinks components.sinks; relays = components.relays }
 
-pub first_closed : (steps : List Step) (past : Past) (closed : Option ℕ) (new : Machine) (text told : List ℕ) (before after : List Account)
+pub first_closed : (steps : List Step) (past : Histories) (closed : Option ℕ) (new : Machine) (text told : List ℕ) (before after : List Account)
     → Closes steps past 0 closed new text told before after (Ok tt) → FirstClosed steps past closed new text told before after
 first_closed steps past None new text told before after m =
-    record { rooms = rooms_left steps past 0 new m.0; lines = m.1 ∙ sym (append-nil text); boxes = m.2 }
-first_closed steps past (Some event) new text told before after m = record { rooms = m.0; lines = m.1; boxes = m.2 }
+    record { components = components_left steps past 0 new m.0; lines = m.1 ∙ sym (append-nil text); boxes = m.2 }
+first_closed steps past (Some event) new text told before after m = record { components = m.0; lines = m.1; boxes = m.2 }
 
-pub second_closed : (steps : List Step) (past : Past) (other : ℕ) (closed : Option ℕ) (new : Machine) (text told : List ℕ) (before after : List Account)
+pub second_closed : (steps : List Step) (past : Histories) (other : ℕ) (closed : Option ℕ) (new : Machine) (text told : List ℕ) (before after : List Account)
     → Closes steps past (suc other) closed new text told before after (Ok tt) → SecondClosed steps past (suc other) closed new text told before after
 second_closed steps past other None new text told before after m =
-    record { rooms = rooms_left steps past (suc other) new m.0; lines = m.1 ∙ sym (append-nil text); boxes = m.2 }
-second_closed steps past other (Some event) new text told before after m = record { rooms = m.0; lines = m.1.0; boxes = m.1.1 }
+    record { components = components_left steps past (suc other) new m.0; lines = m.1 ∙ sym (append-nil text); boxes = m.2 }
+second_closed steps past other (Some event) new text told before after m = record { components = m.0; lines = m.1.0; boxes = m.1.1 }
 
 -- ---- what stopped a close
 
-pub never_refused : (steps : List Step) (past : Past) (source : ℕ) (closed : Option ℕ) (reason : Refusal) (new : Machine) (text told : List ℕ) (before after : List Account)
+pub never_refused : (steps : List Step) (past : Histories) (source : ℕ) (closed : Option ℕ) (reason : Refusal) (new : Machine) (text told : List ℕ) (before after : List Account)
     → Closes steps past source closed new text told before after (Err (Refused reason)) → ⊥
 never_refused steps past source None reason new text told before after m = let never = m.3 in cc never
 never_refused steps past zero (Some event) reason new text told before after m = m
 never_refused steps past (suc other) (Some event) reason new text told before after m = m
 
 -- a box stopped that of source 0
-pub first_fails_at : (steps : List Step) (past : Past) (closed : Option ℕ) (units more : List SinkUnit) (answers : List Answered) (output tail text told : List ℕ) (before after : List Account)
+pub first_fails_at : (steps : List Step) (past : Histories) (closed : Option ℕ) (units more : List SinkUnit) (answers : List Answered) (output tail text told : List ℕ) (before after : List Account)
     (new : Machine) → units ≡ units_closed past closed ++ more → answers ≡ answered airs_of (offers_closed steps past closed) steps
     → output ≡ lines_closed steps past closed ++ tail → Closes steps past 0 closed new text told before after (Err OutletFault)
     → CloseFails units answers output text told before after
@@ -97,22 +97,22 @@ cut_more units all more before after is cut =
     subst (λ us. CutShort us before after) (sym is) (hands_stop units more [] [] before after Memory cut)
 
 -- memory ran out
-pub first_cut : (steps : List Step) (past : Past) (closed : Option ℕ) (units more : List SinkUnit) (text told : List ℕ) (before after : List Account) (new : Machine)
+pub first_cut : (steps : List Step) (past : Histories) (closed : Option ℕ) (units more : List SinkUnit) (text told : List ℕ) (before after : List Account) (new : Machine)
     → units ≡ units_closed past closed ++ more → Closes steps past 0 closed new text told before after (Err Memory) → CutShort units before after
 first_cut steps past None units more text told before after new all m = let never = m.3 in absurd (cc never)
 first_cut steps past (Some event) units more text told before after new all m = cut_more (units_closed past (Some event)) units more before after all m
 
 -- the same of source 1, after a close of source 0 or none
-pub second_fails_at : (steps : List Step) (past : Past) (closed : Option ℕ) (first : List SinkUnit) (answers : List Answered) (output tail text mid told : List ℕ)
+pub second_fails_at : (steps : List Step) (past : Histories) (closed : Option ℕ) (first : List SinkUnit) (answers : List Answered) (output tail text mid told : List ℕ)
     (before between after : List Account) (new : Machine) → AreFrom 0 first → mid ≡ text ++ first_lines first answers → between ≡ accounts_after before first
     → output ≡ first_lines first answers ++ (unit_lines (closings_at 1 closed past) ++ tail) → Closes steps past 1 closed new mid told between after (Err OutletFault)
     → CloseFails (first ++ closings_at 1 closed past) answers output text told before after
 unfolding sink_numbers
-second_fails_at steps past None first answers output tail text mid told before between after new are front accounts printed m = let never = m.3 in absurd (cc never)
-second_fails_at steps past (Some event) first answers output tail text mid told before between after new are front accounts printed m =
-    second_fails first (closings_at 1 (Some event) past) answers output tail text mid told before between after are (from_closings 1 event past (range_with_len 0 8)) front accounts printed m
+second_fails_at steps past None first answers output tail text mid told before between after new are prefix accounts printed m = let never = m.3 in absurd (cc never)
+second_fails_at steps past (Some event) first answers output tail text mid told before between after new are prefix accounts printed m =
+    second_fails first (closings_at 1 (Some event) past) answers output tail text mid told before between after are (from_closings 1 event past (range_with_len 0 8)) prefix accounts printed m
 
-pub second_cut : (steps : List Step) (past : Past) (closed : Option ℕ) (text told : List ℕ) (before after : List Account) (new : Machine)
+pub second_cut : (steps : List Step) (past : Histories) (closed : Option ℕ) (text told : List ℕ) (before after : List Account) (new : Machine)
     → Closes steps past 1 closed new text told before after (Err Memory) → CutShort (closings_at 1 closed past) before after
 second_cut steps past None text told before after new m = let never = m.3 in absurd (cc never)
 second_cut steps past (Some event) text told before after new m = m
@@ -120,37 +120,37 @@ second_cut steps past (Some event) text told before after new m = m
 -- ---- which source is closed
 
 -- no event is open
-pub none_closes : (steps : List Step) (past : Past) (source : ℕ) (closed : Option ℕ) (machine : Machine) (text : List ℕ) (before : List Account) → closed ≡ None
-    → RoomsStand steps past machine → Closes steps past source closed machine text text before before (Ok tt)
-none_closes steps past source closed machine text before is rooms =
-    subst (λ o. Closes steps past source o machine text text before before (Ok tt)) (sym is) (rooms, refl, refl, refl)
+pub none_closes : (steps : List Step) (past : Histories) (source : ℕ) (closed : Option ℕ) (machine : Machine) (text : List ℕ) (before : List Account) → closed ≡ None
+    → ComponentsStand steps past machine → Closes steps past source closed machine text text before before (Ok tt)
+none_closes steps past source closed machine text before is components =
+    subst (λ o. Closes steps past source o machine text text before before (Ok tt)) (sym is) (components, refl, refl, refl)
 
 -- one of source 0
-pub first_closes : (steps : List Step) (past : Past) (source : ℕ) (closed : Option ℕ) (event : ℕ) (new : Machine) (text told : List ℕ) (before after : List Account)
+pub first_closes : (steps : List Step) (past : Histories) (source : ℕ) (closed : Option ℕ) (event : ℕ) (new : Machine) (text told : List ℕ) (before after : List Account)
     (r : Result (Unit {0}) Stop) → source ≡ 0 → closed ≡ Some event → FirstMeets steps past event new text told before after r
     → Closes steps past source closed new text told before after r
 first_closes steps past source closed event new text told before after r zeroth is m =
     subst (λ s. Closes steps past s closed new text told before after r) (sym zeroth)
     (subst (λ o. Closes steps past 0 o new text told before after r) (sym is) m)
 
--- one of another source: the other rooms stay
-second_meets : (steps : List Step) (past : Past) (other event : ℕ) (old new : Machine) (text told : List ℕ) (before after : List Account) (r : Result (Unit {0}) Stop)
-    → RoomsStand steps past old → new.sources ≡ old.sources → new.relays ≡ old.relays
+-- one of another source: the other components stay
+second_meets : (steps : List Step) (past : Histories) (other event : ℕ) (old new : Machine) (text told : List ℕ) (before after : List Account) (r : Result (Unit {0}) Stop)
+    → ComponentsStand steps past old → new.sources ≡ old.sources → new.relays ≡ old.relays
     → sinks.Closes past (suc other) (Some event) new.sinks text told before after r → SecondMeets steps past (suc other) event new text told before after r
-second_meets steps past other event old new text told before after (Ok x) rooms sources held m = (
+second_meets steps past other event old new text told before after (Ok x) components sources held m = (
   record {
-    sources = subst (λ s. SourcesStand steps s) (sym sources) rooms.sources;
+    sources = subst (λ s. SourcesStand steps s) (sym sources) components.sources;
     sinks = m.stands;
-    relays = subst (λ r. RelaysStand (relays_past steps) r) (sym held) rooms.relays;
+    relays = subst (λ r. RelaysStand (relay_histories steps) r) (sym held) components.relays;
   },
   m.hands,
 )
-second_meets steps past other event old new text told before after (Err stop) rooms sources held m = m.hands
+second_meets steps past other event old new text told before after (Err stop) components sources held m = m.hands
 
-pub second_closes : (steps : List Step) (past : Past) (source : ℕ) (closed : Option ℕ) (event : ℕ) (old new : Machine) (text told : List ℕ) (before after : List Account)
-    (r : Result (Unit {0}) Stop) → source ≢ 0 → closed ≡ Some event → RoomsStand steps past old → new.sources ≡ old.sources → new.relays ≡ old.relays
+pub second_closes : (steps : List Step) (past : Histories) (source : ℕ) (closed : Option ℕ) (event : ℕ) (old new : Machine) (text told : List ℕ) (before after : List Account)
+    (r : Result (Unit {0}) Stop) → source ≢ 0 → closed ≡ Some event → ComponentsStand steps past old → new.sources ≡ old.sources → new.relays ≡ old.relays
     → sinks.Closes past source (Some event) new.sinks text told before after r → Closes steps past source closed new text told before after r
-second_closes steps past zero closed event old new text told before after r beside is rooms sources held m = absurd (beside refl)
-second_closes steps past (suc other) closed event old new text told before after r beside is rooms sources held m =
+second_closes steps past zero closed event old new text told before after r beside is components sources held m = absurd (beside refl)
+second_closes steps past (suc other) closed event old new text told before after r beside is components sources held m =
     subst (λ o. Closes steps past (suc other) o new text told before after r) (sym is)
-    (second_meets steps past other event old new text told before after r rooms sources held m)
+    (second_meets steps past other event old new text told before after r components sources held m)

@@ -1,31 +1,31 @@
--- A step that closes the open event of source 0, by what the close of each sink made of the rooms.
+-- A step that closes the open event of source 0, by what the close of each sink made of the components.
 use Rattle.std.proofs.Common.{ℕ, ◌≡◌, ◌==◌, cond, false, List, [], ◌∷◌, ◌++◌, refl, sym, ◌∙◌, ap, ap₂, subst, Option, None, Some}
 use Rattle.std.specs.List.{range_with_len}
 use Rattle.unit_outlets.specs.Account.{Account}
 use Rattle.source_machine.specs.Airs.{airs_of}
 use Rattle.scenario_text.specs.declared.step.Step.{Step}
 use Rattle.scenario_history.specs.Boxes.{SinkUnit, closing, handed_by}
-use Rattle.scenario_history.specs.Gifts.{Answered, Offer, after_offers, answered, answered_by, closes_first, offered_of, offers_at, with_gifts}
+use Rattle.scenario_history.specs.RelayedUnits.{Answered, Offer, after_offers, answered, answered_by, closes_first, offered_of, offers_at, with_relayed_units}
 use Rattle.scenario_history.specs.Output.{close_lines, first_lines, output_of, unit_lines}
 use Rattle.scenario_history.specs.Relays.{relay_of}
 use Rattle.scenario_history.specs.Sinks.{is_of, ticked_if}
 use Rattle.scenario_history.specs.Source.{open_event}
 use Rattle.scenario_history.specs.Steps.{chosen_of, chosen_steps, steps_of_source}
-use Rattle.scenario_laws.proofs.Gifts.Citable.{left_by_offers, flat_same}
+use Rattle.scenario_laws.proofs.RelayedUnits.Citable.{left_by_offers, flat_same}
 use Rattle.scenario_sinks.specs.Closing.{closing_of, handed_all}
-use Rattle.scenario_sinks.specs.Pasts.{Past, with_close}
+use Rattle.scenario_sinks.specs.Histories.{Histories, with_close}
 use Rattle.scenario_sinks.specs.State.Standing.{SinksStand}
 use Rattle.scenario_sinks.specs.declared.sinks.Sinks.{Sinks}
 use Rattle.scenario_sinks.proofs.Citable.{stands_same}
 use Rattle.scenario_sinks.specs.State.RelaysStand.{RelaysStand}
 use Rattle.scenario_sources.specs.State.Standing.{SourcesStand}
 use Rattle.replay_steps.specs.declared.machine.Machine.{Machine}
-use Rattle.replay_steps.specs.Machines.{Stands, past_of, relays_past}
+use Rattle.replay_steps.specs.Machines.{Stands, histories_of, relay_histories}
 use Rattle.replay_steps.specs.Relaying.{answer_lines, lines_at, lines_below, offers_below, offers_of}
 use Rattle.replay_steps.specs.Versions.{stage_in}
 use Rattle.replay_steps.proofs.CloseLines.{first_printed, lines_closed, offers_closed, offers_same, units_are, units_closed}
 use Rattle.replay_steps.proofs.Closed.{FirstClosed}
-use Rattle.replay_steps.proofs.Gifted.{MeansOne, relays_behind, same_answers, same_answers_after, sources_behind}
+use Rattle.replay_steps.proofs.AfterRelays.{MeansOne, relays_behind, same_answers, same_answers_after, sources_behind}
 use Rattle.replay_steps.proofs.RelaysStay.{minds_relays}
 use Rattle.replay_steps.proofs.Stepping.{GoesOn}
 
@@ -35,7 +35,7 @@ pub record ClosesOpen (made : Step) (tail : List Step → List ℕ) : Type 0 whe
   pub on : GoesOn made
   pub minds : minds_relays made ≡ false
   pub first : (steps : List Step) → closes_first steps made ≡ (chosen_of steps == 0)
-  pub past : (steps : List Step) → past_of (made ∷ steps) ≡ with_close (chosen_of steps) (open_event (chosen_steps steps)) (past_of steps)
+  pub past : (steps : List Step) → histories_of (made ∷ steps) ≡ with_close (chosen_of steps) (open_event (chosen_steps steps)) (histories_of steps)
   pub handed : (steps : List Step) → handed_by airs_of steps made ≡ closing airs_of (chosen_of steps) steps
   pub output : (starts : List Account) (steps : List Step) → output_of airs_of starts steps made ≡ close_lines airs_of steps made ++ tail steps
 
@@ -50,16 +50,16 @@ pub record CloseSays (steps : List Step) (made : Step) (units : List SinkUnit) (
 relay_behind : (made : Step) (steps : List Step) (n : ℕ) → MeansOne made → relay_of n (made ∷ steps) ≡ relay_of n steps
 relay_behind made steps n means = rw (means.gives n) refl
 
-offers_behind : (made : Step) (steps : List Step) (past : Past) (event n : ℕ) → MeansOne made → offers_of (made ∷ steps) past n event ≡ offers_of steps past n event
+offers_behind : (made : Step) (steps : List Step) (past : Histories) (event n : ℕ) → MeansOne made → offers_of (made ∷ steps) past n event ≡ offers_of steps past n event
 offers_behind made steps past event n means =
     ap (λ relay. offered_of n relay (handed_all (closing_of n 0 event past))) (relay_behind made steps n means)
 
-all_behind : (made : Step) (steps : List Step) (past : Past) (event number : ℕ) → MeansOne made → offers_below (made ∷ steps) past event number ≡ offers_below steps past event number
+all_behind : (made : Step) (steps : List Step) (past : Histories) (event number : ℕ) → MeansOne made → offers_below (made ∷ steps) past event number ≡ offers_below steps past event number
 all_behind made steps past event number means =
     flat_same (λ n. offers_of (made ∷ steps) past n event) (λ n. offers_of steps past n event) (range_with_len 0 number)
     (λ n. offers_behind made steps past event n means)
 
-lines_behind : (made : Step) (steps : List Step) (past : Past) (event number : ℕ) → MeansOne made → chosen_of steps ≡ 0
+lines_behind : (made : Step) (steps : List Step) (past : Histories) (event number : ℕ) → MeansOne made → chosen_of steps ≡ 0
     → lines_below (made ∷ steps) past event number ≡ lines_below steps past event number
 lines_behind made steps past event number means is =
     flat_same (λ n. lines_at (made ∷ steps) past n event) (λ n. lines_at steps past n event) (range_with_len 0 number)
@@ -68,20 +68,20 @@ lines_behind made steps past event number means is =
     (all_behind made steps past event n means)
     ∙ ap answer_lines (same_answers_after made steps (offers_below steps past event n) (offers_of steps past n event) means is)))
 
-offers_past : (made : Step) (steps : List Step) (past : Past) (closed : Option ℕ) → MeansOne made → offers_closed (made ∷ steps) past closed ≡ offers_closed steps past closed
+offers_past : (made : Step) (steps : List Step) (past : Histories) (closed : Option ℕ) → MeansOne made → offers_closed (made ∷ steps) past closed ≡ offers_closed steps past closed
 offers_past made steps past None means = refl
 offers_past made steps past (Some event) means = all_behind made steps past event 8 means
 
-lines_past : (made : Step) (steps : List Step) (past : Past) (closed : Option ℕ) → MeansOne made → chosen_of steps ≡ 0
+lines_past : (made : Step) (steps : List Step) (past : Histories) (closed : Option ℕ) → MeansOne made → chosen_of steps ≡ 0
     → lines_closed (made ∷ steps) past closed ≡ lines_closed steps past closed
 lines_past made steps past None means is = refl
 lines_past made steps past (Some event) means is = lines_behind made steps past event 8 means is
 
 -- ---- what is handed up, offered and printed
 
-gifts_are : (made : Step) (tail : List Step → List ℕ) (steps : List Step) → ClosesOpen made tail → chosen_of steps ≡ 0
-    → with_gifts airs_of steps made ≡ after_offers airs_of (offers_at airs_of steps) steps
-gifts_are made tail steps closes is =
+relayed_units_are : (made : Step) (tail : List Step → List ℕ) (steps : List Step) → ClosesOpen made tail → chosen_of steps ≡ 0
+    → with_relayed_units airs_of steps made ≡ after_offers airs_of (offers_at airs_of steps) steps
+relayed_units_are made tail steps closes is =
     ap (λ hit. after_offers airs_of (cond hit (offers_at airs_of steps) []) steps) (closes.first steps ∙ ap (λ c. c == 0) is)
 
 answers_are : (made : Step) (tail : List Step → List ℕ) (steps : List Step) → ClosesOpen made tail → chosen_of steps ≡ 0
@@ -94,10 +94,10 @@ open_first steps closed is closing_it = closing_it ∙ ap (λ c. open_event (ste
 
 pub first_says : (made : Step) (tail : List Step → List ℕ) (steps : List Step) (closed : Option ℕ) → ClosesOpen made tail → chosen_of steps ≡ 0
     → closed ≡ open_event (chosen_steps steps)
-    → CloseSays steps made (units_closed (past_of steps) closed) (answered airs_of (offers_closed (made ∷ steps) (past_of steps) closed) (made ∷ steps))
-    (lines_closed (made ∷ steps) (past_of steps) closed)
+    → CloseSays steps made (units_closed (histories_of steps) closed) (answered airs_of (offers_closed (made ∷ steps) (histories_of steps) closed) (made ∷ steps))
+    (lines_closed (made ∷ steps) (histories_of steps) closed)
 first_says made tail steps closed closes is open_is =
-    let past : Past = past_of steps in
+    let past : Histories = histories_of steps in
     let own : closed ≡ open_event (steps_of_source 0 steps) = open_first steps closed is open_is in
     record {
       units_are = closes.handed steps ∙ ap (λ c. closing airs_of c steps) is ∙ units_are steps closed own;
@@ -113,20 +113,20 @@ first_says made tail steps closed closes is open_is =
 
 -- ---- the machine then
 
--- the sinks by the step and the gifts before it
+-- the sinks by the step and the relayed units before it
 sinks_behind : (made : Step) (tail : List Step → List ℕ) (steps : List Step) (offers : List Offer) (closed : Option ℕ) (sinks : Sinks) → ClosesOpen made tail → chosen_of steps ≡ 0
-    → closed ≡ open_event (steps_of_source 0 steps) → SinksStand (with_close 0 closed (past_of steps)) sinks
-    → SinksStand (past_of (made ∷ after_offers airs_of offers steps)) sinks
+    → closed ≡ open_event (steps_of_source 0 steps) → SinksStand (with_close 0 closed (histories_of steps)) sinks
+    → SinksStand (histories_of (made ∷ after_offers airs_of offers steps)) sinks
 sinks_behind made tail steps offers closed sinks closes is open_is stands =
     let late : List Step = after_offers airs_of offers steps in
     let left = left_by_offers airs_of offers steps in
     let chosen : chosen_of late ≡ 0 = left.chosen ∙ is in
     let still : open_event (chosen_steps late) ≡ closed =
     ap (λ c. open_event (steps_of_source c late)) chosen ∙ ap open_event left.first ∙ sym open_is in
-    subst (λ (p : Past). SinksStand p sinks) (sym (closes.past late))
-    (subst (λ c. SinksStand (with_close c (open_event (chosen_steps late)) (past_of late)) sinks) (sym chosen)
-    (subst (λ o. SinksStand (with_close 0 o (past_of late)) sinks) (sym still)
-    (stands_same (with_close 0 closed (past_of steps)) (with_close 0 closed (past_of late)) sinks
+    subst (λ (p : Histories). SinksStand p sinks) (sym (closes.past late))
+    (subst (λ c. SinksStand (with_close c (open_event (chosen_steps late)) (histories_of late)) sinks) (sym chosen)
+    (subst (λ o. SinksStand (with_close 0 o (histories_of late)) sinks) (sym still)
+    (stands_same (with_close 0 closed (histories_of steps)) (with_close 0 closed (histories_of late)) sinks
     (record {
       boxes = λ n. sym (left.box n);
       mades = λ n. sym (left.made n);
@@ -138,19 +138,19 @@ sinks_behind made tail steps offers closed sinks closes is open_is stands =
 
 pub first_stands : (made : Step) (tail : List Step → List ℕ) (steps : List Step) (closed : Option ℕ) (old new : Machine) (text told : List ℕ) (before after : List Account)
     → ClosesOpen made tail → Stands steps old → chosen_of steps ≡ 0 → closed ≡ open_event (chosen_steps steps) → new.stage ≡ old.stage
-    → FirstClosed (made ∷ steps) (past_of steps) closed new text told before after → Stands (made ∷ with_gifts airs_of steps made) new
+    → FirstClosed (made ∷ steps) (histories_of steps) closed new text told before after → Stands (made ∷ with_relayed_units airs_of steps made) new
 first_stands made tail steps closed old new text told before after closes stands is open_is stage m =
     let own : closed ≡ open_event (steps_of_source 0 steps) = open_first steps closed is open_is in
     let offers : List Offer = offers_at airs_of steps in
-    let all : offers_closed (made ∷ steps) (past_of steps) closed ≡ offers =
-    offers_past made steps (past_of steps) closed closes.means ∙ sym (offers_same steps closed own) in
+    let all : offers_closed (made ∷ steps) (histories_of steps) closed ≡ offers =
+    offers_past made steps (histories_of steps) closed closes.means ∙ sym (offers_same steps closed own) in
     let late : List Step = after_offers airs_of offers steps in
-    subst (λ before_it. Stands (made ∷ before_it) new) (sym (gifts_are made tail steps closes is))
+    subst (λ before_it. Stands (made ∷ before_it) new) (sym (relayed_units_are made tail steps closes is))
     (record {
       stage = ap stage_in stage ∙ stands.stage ∙ sym (left_by_offers airs_of offers steps).stage ∙ sym (closes.means.goes_on late);
       sources = sources_behind made steps offers new.sources closes.means is
-          (subst (λ o. SourcesStand (after_offers airs_of o (made ∷ steps)) new.sources) all m.rooms.sources);
-      sinks = sinks_behind made tail steps offers closed new.sinks closes is own m.rooms.sinks;
+          (subst (λ o. SourcesStand (after_offers airs_of o (made ∷ steps)) new.sources) all m.components.sources);
+      sinks = sinks_behind made tail steps offers closed new.sinks closes is own m.components.sinks;
       relays = relays_behind made steps offers new.relays closes.means is
-          (subst (λ o. RelaysStand (relays_past (after_offers airs_of o (made ∷ steps))) new.relays) all m.rooms.relays);
+          (subst (λ o. RelaysStand (relay_histories (after_offers airs_of o (made ∷ steps))) new.relays) all m.components.relays);
     })

@@ -11,7 +11,7 @@ use Rattle.scenario_text.specs.declared.step.Step.TheVariants as variants
 use Rattle.scenario_history.specs.Steps.{chosen_of, chosen_steps, is_over, is_over_at, running, stage_of, steps_of_source}
 use Rattle.scenario_history.specs.Source.{end_pdu, open_event, stale_in}
 use Rattle.scenario_history.specs.Boxes.{SinkUnit, accounts_after, closing, closing_at, handed_by, sink_numbers}
-use Rattle.scenario_history.specs.Gifts.{Answered, answered, answered_by, closes_first, offers_at, with_gifts}
+use Rattle.scenario_history.specs.RelayedUnits.{Answered, answered, answered_by, closes_first, offers_at, with_relayed_units}
 use Rattle.scenario_history.specs.Output.{close_lines, first_lines, output_of, stale_lines, unit_lines}
 use Rattle.scenario_history.proofs.Citable.{stage_same}
 use Rattle.scenario_sources.specs.Answers as sources
@@ -19,20 +19,20 @@ use Rattle.scenario_sources.specs.Faults.{fault_of}
 use Rattle.scenario_sources.specs.State.Standing.{SourcesStand}
 use Rattle.scenario_sinks.specs.Closing.{closings_at}
 use Rattle.scenario_sinks.specs.Handing.{CutShort}
-use Rattle.scenario_sinks.specs.Pasts.{with_close}
+use Rattle.scenario_sinks.specs.Histories.{with_close}
 use Rattle.scenario_sinks.specs.State.Standing.{SinksStand}
 use Rattle.scenario_sinks.specs.State.RelaysStand.{RelaysStand}
 use Rattle.replay_steps.specs.declared.machine.Machine.{Machine}
 use Rattle.replay_steps.specs.Failing.{CloseFails}
-use Rattle.replay_steps.specs.Machines.{Stands, past_of, relays_past}
+use Rattle.replay_steps.specs.Machines.{Stands, histories_of, relay_histories}
 use Rattle.replay_steps.specs.Meets.{Meets, phase_line}
-use Rattle.replay_steps.specs.Relaying.{Closes, RoomsStand}
+use Rattle.replay_steps.specs.Relaying.{Closes, ComponentsStand}
 use Rattle.replay_steps.specs.Versions.{stage_in}
 use Rattle.replay_steps.proofs.Closed.{first_closed, first_cut, first_fails_at, never_refused, second_closed, second_cut, second_fails_at}
 use Rattle.replay_steps.proofs.CloseLines.{units_closed}
 use Rattle.replay_steps.proofs.ClosesFirst.{CloseSays, ClosesOpen, first_says, first_stands}
 use Rattle.replay_steps.proofs.RelaysStay.{relays_stay}
-use Rattle.replay_steps.proofs.StepLaws.{no_gifts}
+use Rattle.replay_steps.proofs.StepLaws.{no_relayed_units}
 use Rattle.replay_steps.proofs.Stepping.{as_step, source_fault, sources_stand}
 
 -- ---- the scenario goes on for each source
@@ -42,20 +42,20 @@ not_over s version steps e = ap is_over_at (stage_same s steps ∙ e)
 
 -- ---- what is handed up
 
-closing_same : (s : ℕ) (steps : List Step) (o : Option ℕ) → closings_at s o (past_of steps) ≡ closing_at airs_of s steps o
+closing_same : (s : ℕ) (steps : List Step) (o : Option ℕ) → closings_at s o (histories_of steps) ≡ closing_at airs_of s steps o
 closing_same s steps None = refl
 closing_same s steps (Some event) = refl
 
 pub closing_is : (s source : ℕ) (closed : Option ℕ) (steps : List Step) → source ≡ s → closed ≡ open_event (steps_of_source s steps)
-    → closings_at source closed (past_of steps) ≡ closing airs_of s steps
+    → closings_at source closed (histories_of steps) ≡ closing airs_of s steps
 closing_is s source closed steps same is =
-    ap (λ k. closings_at k closed (past_of steps)) same ∙ ap (λ o. closings_at s o (past_of steps)) is ∙ closing_same s steps (open_event (steps_of_source s steps))
+    ap (λ k. closings_at k closed (histories_of steps)) same ∙ ap (λ o. closings_at s o (histories_of steps)) is ∙ closing_same s steps (open_event (steps_of_source s steps))
 
 second_says : (made : Step) (tail : List Step → List ℕ) (steps : List Step) (closed : Option ℕ) → ClosesOpen made tail → chosen_of steps ≡ 1
     → closed ≡ open_event (chosen_steps steps)
-    → CloseSays steps made (closings_at 1 closed (past_of steps)) [] (unit_lines (closings_at 1 closed (past_of steps)))
+    → CloseSays steps made (closings_at 1 closed (histories_of steps)) [] (unit_lines (closings_at 1 closed (histories_of steps)))
 second_says made tail steps closed closes is open_is =
-    let units : closings_at 1 closed (past_of steps) ≡ closing airs_of (chosen_of steps) steps = closing_is (chosen_of steps) 1 closed steps (sym is) open_is in
+    let units : closings_at 1 closed (histories_of steps) ≡ closing airs_of (chosen_of steps) steps = closing_is (chosen_of steps) 1 closed steps (sym is) open_is in
     record {
       units_are = closes.handed steps ∙ sym units;
       answers_are = ap (λ hit. answered airs_of (cond hit (offers_at airs_of steps) []) steps) (closes.first steps ∙ ap (λ c. c == 0) is);
@@ -73,17 +73,17 @@ nothing_printed = refl
 
 pub record Closed (starts : List Account) (steps : List Step) (made : Step) (new : Machine) (text told : List ℕ) (before after : List Account) : Type 0 where
   pub passes : phase_line airs_of (length starts) steps made ≡ None
-  pub stands : Stands (made ∷ with_gifts airs_of steps made) new
+  pub stands : Stands (made ∷ with_relayed_units airs_of steps made) new
   pub told_is : told ≡ text ++ close_lines airs_of steps made
   pub boxes : after ≡ accounts_after before (handed_by airs_of steps made)
 
--- the rooms once the sources took the step
-pub rooms_then : (made : Step) (tail : List Step → List ℕ) (steps : List Step) (old mid : Machine) → ClosesOpen made tail → Stands steps old
-    → SourcesStand (made ∷ steps) mid.sources → mid.sinks ≡ old.sinks → mid.relays ≡ old.relays → RoomsStand (made ∷ steps) (past_of steps) mid
-rooms_then made tail steps old mid closes stands sources sinks held = record {
+-- the components once the sources took the step
+pub components_then : (made : Step) (tail : List Step → List ℕ) (steps : List Step) (old mid : Machine) → ClosesOpen made tail → Stands steps old
+    → SourcesStand (made ∷ steps) mid.sources → mid.sinks ≡ old.sinks → mid.relays ≡ old.relays → ComponentsStand (made ∷ steps) (histories_of steps) mid
+components_then made tail steps old mid closes stands sources sinks held = record {
   sources = sources;
-  sinks = subst (λ k. SinksStand (past_of steps) k) (sym sinks) stands.sinks;
-  relays = subst (λ r. RelaysStand (relays_past (made ∷ steps)) r) (sym held) (relays_stay steps made old.relays closes.minds stands.relays);
+  sinks = subst (λ k. SinksStand (histories_of steps) k) (sym sinks) stands.sinks;
+  relays = subst (λ r. RelaysStand (relay_histories (made ∷ steps)) r) (sym held) (relays_stay steps made old.relays closes.minds stands.relays);
 }
 
 fault_line : (made : Step) (tail : List Step → List ℕ) (boxes version : ℕ) (steps : List Step) → ClosesOpen made tail → stage_of steps ≡ running version
@@ -91,26 +91,26 @@ fault_line : (made : Step) (tail : List Step → List ℕ) (boxes version : ℕ)
 fault_line made tail boxes version steps closes e = as_step boxes steps made closes.minds ∙ source_fault boxes version steps made closes.on e
 
 second_stands : (made : Step) (tail : List Step → List ℕ) (steps : List Step) (closed : Option ℕ) (old new : Machine) → ClosesOpen made tail → Stands steps old
-    → chosen_of steps ≡ 1 → closed ≡ open_event (chosen_steps steps) → new.stage ≡ old.stage → RoomsStand (made ∷ steps) (with_close 1 closed (past_of steps)) new
-    → Stands (made ∷ with_gifts airs_of steps made) new
-second_stands made tail steps closed old new closes stands is open_is stage rooms =
+    → chosen_of steps ≡ 1 → closed ≡ open_event (chosen_steps steps) → new.stage ≡ old.stage → ComponentsStand (made ∷ steps) (with_close 1 closed (histories_of steps)) new
+    → Stands (made ∷ with_relayed_units airs_of steps made) new
+second_stands made tail steps closed old new closes stands is open_is stage components =
     let alone : closes_first steps made ≡ false = closes.first steps ∙ ap (λ c. c == 0) is in
-    subst (λ before_it. Stands (made ∷ before_it) new) (sym (no_gifts steps made alone))
+    subst (λ before_it. Stands (made ∷ before_it) new) (sym (no_relayed_units steps made alone))
     (record {
       stage = ap stage_in stage ∙ stands.stage ∙ sym (closes.on.stage (stage_of steps));
-      sources = rooms.sources;
+      sources = components.sources;
       sinks = subst (λ p. SinksStand p new.sinks)
-          (ap (λ k. with_close k closed (past_of steps)) (sym is) ∙ ap (λ o. with_close (chosen_of steps) o (past_of steps)) open_is ∙ sym (closes.past steps)) rooms.sinks;
-      relays = rooms.relays;
+          (ap (λ k. with_close k closed (histories_of steps)) (sym is) ∙ ap (λ o. with_close (chosen_of steps) o (histories_of steps)) open_is ∙ sym (closes.past steps)) components.sinks;
+      relays = components.relays;
     })
 
 -- what became of a close of the open event of the chosen source
 pub closes_all : (made : Step) (tail : List Step → List ℕ) (starts : List Account) (version source : ℕ) (steps : List Step) (closed : Option ℕ) (old new : Machine)
     (text told : List ℕ) (before after : List Account) → ClosesOpen made tail → Stands steps old → stage_of steps ≡ running version → fault_of version steps made ≡ None
     → closed ≡ open_event (chosen_steps steps) → source ≡ chosen_of steps → source < 2 → new.stage ≡ old.stage
-    → Closes (made ∷ steps) (past_of steps) source closed new text told before after (Ok tt) → Closed starts steps made new text told before after
+    → Closes (made ∷ steps) (histories_of steps) source closed new text told before after (Ok tt) → Closed starts steps made new text told before after
 closes_all made tail starts version zero steps closed old new text told before after closes stands e passes is chosen within stage m =
-    let all = first_closed (made ∷ steps) (past_of steps) closed new text told before after m in
+    let all = first_closed (made ∷ steps) (histories_of steps) closed new text told before after m in
     let says = first_says made tail steps closed closes (sym chosen) is in
     record {
       passes = fault_line made tail (length starts) version steps closes e ∙ passes;
@@ -119,11 +119,11 @@ closes_all made tail starts version zero steps closed old new text told before a
       boxes = all.boxes ∙ ap (accounts_after before) (sym says.units_are);
     }
 closes_all made tail starts version (suc zero) steps closed old new text told before after closes stands e passes is chosen within stage m =
-    let all = second_closed (made ∷ steps) (past_of steps) 0 closed new text told before after m in
+    let all = second_closed (made ∷ steps) (histories_of steps) 0 closed new text told before after m in
     let says = second_says made tail steps closed closes (sym chosen) is in
     record {
       passes = fault_line made tail (length starts) version steps closes e ∙ passes;
-      stands = second_stands made tail steps closed old new closes stands (sym chosen) is stage all.rooms;
+      stands = second_stands made tail steps closed old new closes stands (sym chosen) is stage all.components;
       told_is = all.lines ∙ ap (λ l. text ++ l) (sym says.lines_are);
       boxes = all.boxes ∙ ap (accounts_after before) (sym says.units_are);
     }
@@ -133,19 +133,19 @@ closes_all made tail starts version (suc (suc s)) steps closed old new text told
 close_fails : (made : Step) (tail : List Step → List ℕ) (starts : List Account) (source : ℕ) (steps : List Step) (closed : Option ℕ) (new : Machine)
     (text told : List ℕ) (before after : List Account) → ClosesOpen made tail
     → closed ≡ open_event (chosen_steps steps) → source ≡ chosen_of steps → source < 2
-    → Closes (made ∷ steps) (past_of steps) source closed new text told before after (Err OutletFault)
+    → Closes (made ∷ steps) (histories_of steps) source closed new text told before after (Err OutletFault)
     → CloseFails (handed_by airs_of steps made) (answered_by airs_of steps made) (output_of airs_of starts steps made) text told before after
 close_fails made tail starts zero steps closed new text told before after closes is chosen within m =
     let says = first_says made tail steps closed closes (sym chosen) is in
-    first_fails_at (made ∷ steps) (past_of steps) closed (handed_by airs_of steps made) [] (answered_by airs_of steps made) (output_of airs_of starts steps made) (tail steps)
-    text told before after new (says.units_are ∙ sym (append-nil (units_closed (past_of steps) closed))) says.answers_are
+    first_fails_at (made ∷ steps) (histories_of steps) closed (handed_by airs_of steps made) [] (answered_by airs_of steps made) (output_of airs_of starts steps made) (tail steps)
+    text told before after new (says.units_are ∙ sym (append-nil (units_closed (histories_of steps) closed))) says.answers_are
     (closes.output starts steps ∙ ap (λ l. l ++ tail steps) says.lines_are) m
 close_fails made tail starts (suc zero) steps closed new text told before after closes is chosen within m =
     let says = second_says made tail steps closed closes (sym chosen) is in
-    let units : List SinkUnit = closings_at 1 closed (past_of steps) in
+    let units : List SinkUnit = closings_at 1 closed (histories_of steps) in
     subst (λ us. CloseFails us (answered_by airs_of steps made) (output_of airs_of starts steps made) text told before after) (sym says.units_are)
     (subst (λ asked. CloseFails units asked (output_of airs_of starts steps made) text told before after) (sym says.answers_are)
-    (second_fails_at (made ∷ steps) (past_of steps) closed [] [] (output_of airs_of starts steps made) (tail steps) text text told before before after new tt
+    (second_fails_at (made ∷ steps) (histories_of steps) closed [] [] (output_of airs_of starts steps made) (tail steps) text text told before before after new tt
     (sym (append-nil text) ∙ ap (λ l. text ++ l) (sym nothing_printed)) refl
     (closes.output starts steps ∙ ap (λ l. l ++ tail steps) says.lines_are ∙ ap (λ l. l ++ (unit_lines units ++ tail steps)) (sym nothing_printed)) m))
 close_fails made tail starts (suc (suc s)) steps closed new text told before after closes is chosen within m = absurd (omega (arith, within))
@@ -153,22 +153,22 @@ close_fails made tail starts (suc (suc s)) steps closed new text told before aft
 -- memory ran out
 close_cut : (made : Step) (tail : List Step → List ℕ) (source : ℕ) (steps : List Step) (closed : Option ℕ) (new : Machine) (text told : List ℕ) (before after : List Account)
     → ClosesOpen made tail → closed ≡ open_event (chosen_steps steps) → source ≡ chosen_of steps → source < 2
-    → Closes (made ∷ steps) (past_of steps) source closed new text told before after (Err Memory) → CutShort (handed_by airs_of steps made) before after
+    → Closes (made ∷ steps) (histories_of steps) source closed new text told before after (Err Memory) → CutShort (handed_by airs_of steps made) before after
 close_cut made tail zero steps closed new text told before after closes is chosen within m =
     let says = first_says made tail steps closed closes (sym chosen) is in
-    first_cut (made ∷ steps) (past_of steps) closed (handed_by airs_of steps made) [] text told before after new
-    (says.units_are ∙ sym (append-nil (units_closed (past_of steps) closed))) m
+    first_cut (made ∷ steps) (histories_of steps) closed (handed_by airs_of steps made) [] text told before after new
+    (says.units_are ∙ sym (append-nil (units_closed (histories_of steps) closed))) m
 close_cut made tail (suc zero) steps closed new text told before after closes is chosen within m =
     let says = second_says made tail steps closed closes (sym chosen) is in
-    subst (λ us. CutShort us before after) (sym says.units_are) (second_cut (made ∷ steps) (past_of steps) closed text told before after new m)
+    subst (λ us. CutShort us before after) (sym says.units_are) (second_cut (made ∷ steps) (histories_of steps) closed text told before after new m)
 close_cut made tail (suc (suc s)) steps closed new text told before after closes is chosen within m = absurd (omega (arith, within))
 
 pub close_stops : (made : Step) (tail : List Step → List ℕ) (starts : List Account) (version source : ℕ) (steps : List Step) (closed : Option ℕ) (new there : Machine)
     (text told : List ℕ) (before after : List Account) (stop : Stop) → ClosesOpen made tail → stage_of steps ≡ running version → fault_of version steps made ≡ None
     → closed ≡ open_event (chosen_steps steps) → source ≡ chosen_of steps → source < 2
-    → Closes (made ∷ steps) (past_of steps) source closed new text told before after (Err stop) → Meets starts steps made there text told before after (Err stop)
+    → Closes (made ∷ steps) (histories_of steps) source closed new text told before after (Err stop) → Meets starts steps made there text told before after (Err stop)
 close_stops made tail starts version source steps closed new there text told before after (Refused reason) closes e passes is chosen within m =
-    absurd (never_refused (made ∷ steps) (past_of steps) source closed reason new text told before after m)
+    absurd (never_refused (made ∷ steps) (histories_of steps) source closed reason new text told before after m)
 close_stops made tail starts version source steps closed new there text told before after OutletFault closes e passes is chosen within m =
     (fault_line made tail (length starts) version steps closes e ∙ passes, close_fails made tail starts source steps closed new text told before after closes is chosen within m)
 close_stops made tail starts version source steps closed new there text told before after Memory closes e passes is chosen within m =
@@ -196,7 +196,7 @@ closed_wants made starts steps new there text told last before after all =
 pub closes_meet : (made : Step) (starts : List Account) (version source : ℕ) (steps : List Step) (closed : Option ℕ) (old new : Machine)
     (text told : List ℕ) (before after : List Account) (r : Result (Unit {0}) Stop) → ClosesOpen made (λ own. []) → Stands steps old → stage_of steps ≡ running version
     → fault_of version steps made ≡ None → closed ≡ open_event (chosen_steps steps) → source ≡ chosen_of steps → source < 2 → new.stage ≡ old.stage
-    → Closes (made ∷ steps) (past_of steps) source closed new text told before after r → Meets starts steps made new text told before after r
+    → Closes (made ∷ steps) (histories_of steps) source closed new text told before after r → Meets starts steps made new text told before after r
 closes_meet made starts version source steps closed old new text told before after (Ok x) closes stands e passes is chosen within stage m =
     closed_meets made (λ own. []) starts steps new text told told before after closes
     (closes_all made (λ own. []) starts version source steps closed old new text told before after closes stands e passes is chosen within stage m) (sym (append-nil told))

@@ -14,19 +14,19 @@ use Rattle.scenario_history.specs.Steps.{over, running, sinks_made, stage_after,
 use Rattle.scenario_history.specs.Source.{open_event}
 use Rattle.scenario_history.specs.Sinks.{is_of, sink_calls, source_of, ticked_if}
 use Rattle.scenario_history.specs.Boxes.{SinkUnit, account_at, accounts_after, box_of, closing, closing_both, closing_by, handed_up, sink_numbers, valid_for}
-use Rattle.scenario_history.specs.Gifts.{Answered, Offer, after_offers, answered, answered_by, with_gifts}
+use Rattle.scenario_history.specs.RelayedUnits.{Answered, Offer, after_offers, answered, answered_by, with_relayed_units}
 use Rattle.scenario_history.specs.Output.{first_lines, output_of, sum_if, sum_of, sums_of, unit_lines}
 use Rattle.scenario_history.specs.Refusals.{no_sink, phase_refusal}
 use Rattle.scenario_history.proofs.Citable.{box_was_made, octets_add_up, units_add_up}
-use Rattle.scenario_laws.specs.Gifts.Laws.{IsLeft}
-use Rattle.scenario_laws.proofs.Gifts.Citable.{left_by_offers, flat_same}
+use Rattle.scenario_laws.specs.RelayedUnits.Laws.{IsLeft}
+use Rattle.scenario_laws.proofs.RelayedUnits.Citable.{left_by_offers, flat_same}
 use Rattle.scenario_sources.specs.declared.sources.Sources.{Sources}
 use Rattle.scenario_sources.specs.State.Standing.{SourcesStand}
 use Rattle.scenario_sources.proofs.Citable.{drop_says, end_says, sources_stay}
 use Rattle.scenario_sinks.specs.declared.sinks.Sinks.{Sinks}
 use Rattle.scenario_sinks.specs.Closing.{closings_at}
 use Rattle.scenario_sinks.specs.Handing.{CutShort}
-use Rattle.scenario_sinks.specs.Pasts.{with_close, without}
+use Rattle.scenario_sinks.specs.Histories.{with_close, without}
 use Rattle.scenario_sinks.specs.Refusals as sinks
 use Rattle.scenario_sinks.specs.Refusals.{not_living}
 use Rattle.scenario_sinks.specs.State.Standing.{SinksStand}
@@ -35,9 +35,9 @@ use Rattle.scenario_sinks.proofs.Citable.{accounts_append, hands_then, stands_sa
 use Rattle.replay_steps.specs.declared.machine.Machine.{Machine}
 use Rattle.scenario_sinks.specs.State.RelaysStand.{RelaysStand}
 use Rattle.replay_steps.specs.Failing.{CloseFails}
-use Rattle.replay_steps.specs.Machines.{Stands, past_of, relays_past}
+use Rattle.replay_steps.specs.Machines.{Stands, histories_of, relay_histories}
 use Rattle.replay_steps.specs.Meets.{BoxesStand, Meets, Tells, phase_line}
-use Rattle.replay_steps.specs.Relaying.{Closes, RoomsStand}
+use Rattle.replay_steps.specs.Relaying.{Closes, ComponentsStand}
 use Rattle.replay_steps.specs.Versions.{stage_in}
 use Rattle.replay_steps.proofs.BoxStops.{AreFrom, from_closings}
 use Rattle.replay_steps.proofs.Closed.{FirstClosed, first_cut, first_fails_at, never_refused, second_closed, second_cut, second_fails_at}
@@ -65,7 +65,7 @@ sums_same : (starts : List Account) (steps : List Step) (units : List SinkUnit) 
     → sums_where (accounts_after starts units) (λ n. box_of n steps) numbers ≡ flat_map (λ n. sum_if starts units n (box_of n steps)) numbers
 sums_same starts steps units [] room = refl
 sums_same starts steps units (n ∷ numbers) room =
-    ap (λ front. front ++ sums_where (accounts_after starts units) (λ m. box_of m steps) numbers) (sum_same starts steps units n (box_of n steps) refl room)
+    ap (λ prefix. prefix ++ sums_where (accounts_after starts units) (λ m. box_of m steps) numbers) (sum_same starts steps units n (box_of n steps) refl room)
     ∙ ap (λ rest. sum_if starts units n (box_of n steps) ++ rest) (sums_same starts steps units numbers room)
 
 -- ---- drop
@@ -75,8 +75,8 @@ drop_fault boxes version n steps e = rw e (or_none (no_sink n steps))
 
 pub drop_ends : (starts accounts : List Account) (version n : ℕ) (steps : List Step) (old new : Machine) (text told : List ℕ) → Stands steps old
     → stage_of steps ≡ running version → BoxesStand starts steps accounts → new.stage ≡ old.stage → new.sources ≡ old.sources
-    → RelaysStand (relays_past (Drop n ∷ steps)) new.relays
-    → sinks.Answers (not_living (box_of n steps)) (past_of steps) (without n (past_of steps)) new.sinks (Ok tt) → Puts (sum_where accounts n (box_of n steps)) text told (Ok tt)
+    → RelaysStand (relay_histories (Drop n ∷ steps)) new.relays
+    → sinks.Answers (not_living (box_of n steps)) (histories_of steps) (without n (histories_of steps)) new.sinks (Ok tt) → Puts (sum_where accounts n (box_of n steps)) text told (Ok tt)
     → Tells starts steps (Drop n) new text told (Ok tt)
 drop_ends starts accounts version n steps old new text told stands e boxes stage same held a p = (
   drop_fault (length starts) version n steps e ∙ a.0,
@@ -92,7 +92,7 @@ drop_ends starts accounts version n steps old new text told stands e boxes stage
 
 pub drop_fails : (starts accounts : List Account) (version n : ℕ) (steps : List Step) (old new : Machine) (text told : List ℕ) (stop : Stop) → Stands steps old
     → stage_of steps ≡ running version → new.stage ≡ old.stage → new.sources ≡ old.sources → new.relays ≡ old.relays
-    → sinks.Answers (not_living (box_of n steps)) (past_of steps) (without n (past_of steps)) new.sinks (Err stop) → Puts (sum_where accounts n (box_of n steps)) text told (Err stop)
+    → sinks.Answers (not_living (box_of n steps)) (histories_of steps) (without n (histories_of steps)) new.sinks (Err stop) → Puts (sum_where accounts n (box_of n steps)) text told (Err stop)
     → Tells starts steps (Drop n) new text told (Err stop)
 drop_fails starts accounts version n steps old new text told (Refused reason) stands e stage same held a p =
     (drop_fault (length starts) version n steps e ∙ a.0, sinks_stand steps old new stands stage same held a.1, p)
@@ -107,7 +107,7 @@ no_other None event n first calls box = refl
 no_other (Some zero) event n first calls box = refl
 no_other (Some (suc k)) event n first calls box = rw (ne_eqb (suc k) 0 (λ e. omega arith)) refl
 
-second_alone : (steps : List Step) (first second : Option ℕ) → closings_at 1 second (with_close 0 first (past_of steps)) ≡ closings_at 1 second (past_of steps)
+second_alone : (steps : List Step) (first second : Option ℕ) → closings_at 1 second (with_close 0 first (histories_of steps)) ≡ closings_at 1 second (histories_of steps)
 second_alone steps first None = refl
 second_alone steps first (Some event) =
     flat_same (λ n. closing_by 1 event n (ticked_if (is_of 0 (source_of n steps)) first (sink_calls airs_of n steps)) (source_of n steps) (box_of n steps))
@@ -119,24 +119,24 @@ pub record Opens (steps : List Step) (first second : Option ℕ) : Type 0 where
   pub one : first ≡ open_event (steps_of_source 0 steps)
   pub two : second ≡ open_event (steps_of_source 1 steps)
 
--- the steps with the gifts of the close of source 0
-abbrev pub gifted : List Step → Option ℕ → List Step
-gifted steps first = after_offers airs_of (offers_closed steps (past_of steps) first) steps
+-- the steps with the relayed units of the close of source 0
+abbrev pub after_relays : List Step → Option ℕ → List Step
+after_relays steps first = after_offers airs_of (offers_closed steps (histories_of steps) first) steps
 
 second_units : (steps : List Step) (first second : Option ℕ) → Opens steps first second
-    → closings_at 1 second (with_close 0 first (past_of steps)) ≡ closing airs_of 1 steps
+    → closings_at 1 second (with_close 0 first (histories_of steps)) ≡ closing airs_of 1 steps
 second_units steps first second opens = second_alone steps first second ∙ closing_is 1 1 second steps refl opens.two
 
-end_offers : (steps : List Step) (first second : Option ℕ) → Opens steps first second → answered_by airs_of steps End ≡ answered airs_of (offers_closed steps (past_of steps) first) steps
+end_offers : (steps : List Step) (first second : Option ℕ) → Opens steps first second → answered_by airs_of steps End ≡ answered airs_of (offers_closed steps (histories_of steps) first) steps
 end_offers steps first second opens = ap (λ offers. answered airs_of offers steps) (offers_same steps first opens.one)
 
 end_lines : (steps : List Step) (first second : Option ℕ) → Opens steps first second
-    → first_lines (closing airs_of 0 steps) (answered_by airs_of steps End) ≡ lines_closed steps (past_of steps) first
+    → first_lines (closing airs_of 0 steps) (answered_by airs_of steps End) ≡ lines_closed steps (histories_of steps) first
 end_lines steps first second opens = first_printed steps first opens.one
 
-from_closed : (steps : List Step) (first : Option ℕ) → AreFrom 0 (units_closed (past_of steps) first)
+from_closed : (steps : List Step) (first : Option ℕ) → AreFrom 0 (units_closed (histories_of steps) first)
 from_closed steps None = tt
-from_closed steps (Some event) = from_closings 0 event (past_of steps) (range_with_len 0 8)
+from_closed steps (Some event) = from_closings 0 event (histories_of steps) (range_with_len 0 8)
 
 from_first : (steps : List Step) (first second : Option ℕ) → Opens steps first second → AreFrom 0 (closing airs_of 0 steps)
 from_first steps first second opens = subst (AreFrom 0) (sym (units_are steps first opens.one)) (from_closed steps first)
@@ -150,47 +150,47 @@ end_sums starts steps = sums_of starts (handed_up airs_of steps ++ closing_both 
 
 -- a box stopped the close of source 0, or memory ran out
 pub first_stops : (starts : List Account) (version : ℕ) (steps : List Step) (first second : Option ℕ) (new there : Machine) (text told : List ℕ) (before after : List Account) (stop : Stop)
-    → stage_of steps ≡ running version → Opens steps first second → Closes steps (past_of steps) 0 first new text told before after (Err stop)
+    → stage_of steps ≡ running version → Opens steps first second → Closes steps (histories_of steps) 0 first new text told before after (Err stop)
     → Meets starts steps End there text told before after (Err stop)
 first_stops starts version steps first second new there text told before after (Refused reason) e opens c =
-    absurd (never_refused steps (past_of steps) 0 first reason new text told before after c)
+    absurd (never_refused steps (histories_of steps) 0 first reason new text told before after c)
 first_stops starts version steps first second new there text told before after OutletFault e opens c = (
   end_passes (length starts) version steps e,
-  first_fails_at steps (past_of steps) first (closing_both airs_of steps) (closing airs_of 1 steps) (answered_by airs_of steps End) (output_of airs_of starts steps End)
+  first_fails_at steps (histories_of steps) first (closing_both airs_of steps) (closing airs_of 1 steps) (answered_by airs_of steps End) (output_of airs_of starts steps End)
       (unit_lines (closing airs_of 1 steps) ++ end_sums starts steps) text told before after new
       (ap (λ us. us ++ closing airs_of 1 steps) (units_are steps first opens.one)) (end_offers steps first second opens)
       (ap (λ l. l ++ (unit_lines (closing airs_of 1 steps) ++ end_sums starts steps)) (end_lines steps first second opens)) c,
 )
 first_stops starts version steps first second new there text told before after Memory e opens c = inr (
   end_passes (length starts) version steps e,
-  first_cut steps (past_of steps) first (closing_both airs_of steps) (closing airs_of 1 steps) text told before after new
+  first_cut steps (histories_of steps) first (closing_both airs_of steps) (closing airs_of 1 steps) text told before after new
       (ap (λ us. us ++ closing airs_of 1 steps) (units_are steps first opens.one)) c,
 )
 
 -- source 0 was closed: its lines are those of the end, and its units went to their boxes
 first_told : (steps : List Step) (first second : Option ℕ) (mid : Machine) (text told : List ℕ) (before between : List Account) → Opens steps first second
-    → FirstClosed steps (past_of steps) first mid text told before between → told ≡ text ++ first_lines (closing airs_of 0 steps) (answered_by airs_of steps End)
+    → FirstClosed steps (histories_of steps) first mid text told before between → told ≡ text ++ first_lines (closing airs_of 0 steps) (answered_by airs_of steps End)
 first_told steps first second mid text told before between opens c = c.lines ∙ ap (λ l. text ++ l) (sym (end_lines steps first second opens))
 
 first_boxes : (steps : List Step) (first second : Option ℕ) (mid : Machine) (text told : List ℕ) (before between : List Account) → Opens steps first second
-    → FirstClosed steps (past_of steps) first mid text told before between → between ≡ accounts_after before (closing airs_of 0 steps)
+    → FirstClosed steps (histories_of steps) first mid text told before between → between ≡ accounts_after before (closing airs_of 0 steps)
 first_boxes steps first second mid text told before between opens c = c.boxes ∙ ap (accounts_after before) (sym (units_are steps first opens.one))
 
 -- the same at the close of source 1
 pub second_stops : (starts : List Account) (version : ℕ) (steps : List Step) (first second : Option ℕ) (mid new there : Machine) (text told last : List ℕ)
     (before between after : List Account) (stop : Stop) → stage_of steps ≡ running version → Opens steps first second
-    → FirstClosed steps (past_of steps) first mid text told before between
-    → Closes (gifted steps first) (with_close 0 first (past_of steps)) 1 second new told last between after (Err stop)
+    → FirstClosed steps (histories_of steps) first mid text told before between
+    → Closes (after_relays steps first) (with_close 0 first (histories_of steps)) 1 second new told last between after (Err stop)
     → Meets starts steps End there text last before after (Err stop)
 second_stops starts version steps first second mid new there text told last before between after (Refused reason) e opens c d =
-    absurd (never_refused (gifted steps first) (with_close 0 first (past_of steps)) 1 second reason new told last between after d)
+    absurd (never_refused (after_relays steps first) (with_close 0 first (histories_of steps)) 1 second reason new told last between after d)
 second_stops starts version steps first second mid new there text told last before between after OutletFault e opens c d =
     let answers : List Answered = answered_by airs_of steps End in
     let output : List ℕ = output_of airs_of starts steps End in
     let ones : List SinkUnit = closing airs_of 0 steps in (
       end_passes (length starts) version steps e,
       subst (λ us. CloseFails (ones ++ us) answers output text last before after) (second_units steps first second opens)
-          (second_fails_at (gifted steps first) (with_close 0 first (past_of steps)) second ones answers output (end_sums starts steps) text told last before between after new
+          (second_fails_at (after_relays steps first) (with_close 0 first (histories_of steps)) second ones answers output (end_sums starts steps) text told last before between after new
           (from_first steps first second opens) (first_told steps first second mid text told before between opens c) (first_boxes steps first second mid text told before between opens c)
           (ap (λ us. first_lines ones answers ++ (unit_lines us ++ end_sums starts steps)) (sym (second_units steps first second opens))) d),
     )
@@ -199,31 +199,31 @@ second_stops starts version steps first second mid new there text told last befo
     inr (
       end_passes (length starts) version steps e,
       subst (λ us. CutShort (ones ++ us) before after) (second_units steps first second opens)
-          (hands_then ones (closings_at 1 second (with_close 0 first (past_of steps))) [] (unit_lines ones) [] before between after (Err Memory) refl
+          (hands_then ones (closings_at 1 second (with_close 0 first (histories_of steps))) [] (unit_lines ones) [] before between after (Err Memory) refl
           (first_boxes steps first second mid text told before between opens c)
-          (second_cut (gifted steps first) (with_close 0 first (past_of steps)) second told last between after new d)),
+          (second_cut (after_relays steps first) (with_close 0 first (histories_of steps)) second told last between after new d)),
     )
 
 -- ---- both sources were closed
 
 pub record BothClosed (steps : List Step) (first second : Option ℕ) (new : Machine) (text told : List ℕ) (before after : List Account) : Type 0 where
-  pub rooms : RoomsStand (gifted steps first) (with_close 1 second (with_close 0 first (past_of steps))) new
+  pub components : ComponentsStand (after_relays steps first) (with_close 1 second (with_close 0 first (histories_of steps))) new
   pub lines : told ≡ text ++ (first_lines (closing airs_of 0 steps) (answered_by airs_of steps End) ++ unit_lines (closing airs_of 1 steps))
   pub boxes : after ≡ accounts_after before (closing_both airs_of steps)
 
 pub both_closed : (steps : List Step) (first second : Option ℕ) (mid new : Machine) (text told last : List ℕ) (before between after : List Account) → Opens steps first second
-    → FirstClosed steps (past_of steps) first mid text told before between
-    → Closes (gifted steps first) (with_close 0 first (past_of steps)) 1 second new told last between after (Ok tt)
+    → FirstClosed steps (histories_of steps) first mid text told before between
+    → Closes (after_relays steps first) (with_close 0 first (histories_of steps)) 1 second new told last between after (Ok tt)
     → BothClosed steps first second new text last before after
 both_closed steps first second mid new text told last before between after opens c d =
-    let two = second_closed (gifted steps first) (with_close 0 first (past_of steps)) 0 second new told last between after d in
+    let two = second_closed (after_relays steps first) (with_close 0 first (histories_of steps)) 0 second new told last between after d in
     let ones : List SinkUnit = closing airs_of 0 steps in
     let lines : List ℕ = first_lines ones (answered_by airs_of steps End) in
-    let is : closings_at 1 second (with_close 0 first (past_of steps)) ≡ closing airs_of 1 steps = second_units steps first second opens in
+    let is : closings_at 1 second (with_close 0 first (histories_of steps)) ≡ closing airs_of 1 steps = second_units steps first second opens in
     record {
-      rooms = two.rooms;
+      components = two.components;
       lines = two.lines ∙ ap (λ us. told ++ unit_lines us) is
-          ∙ ap (λ front. front ++ unit_lines (closing airs_of 1 steps)) (first_told steps first second mid text told before between opens c)
+          ∙ ap (λ prefix. prefix ++ unit_lines (closing airs_of 1 steps)) (first_told steps first second mid text told before between opens c)
           ∙ append_assoc text lines (unit_lines (closing airs_of 1 steps));
       boxes = two.boxes ∙ ap (accounts_after between) is
           ∙ ap (λ accounts. accounts_after accounts (closing airs_of 1 steps)) (first_boxes steps first second mid text told before between opens c)
@@ -239,12 +239,12 @@ sums_stop starts version steps first second new there text told last before afte
 )
 
 end_sinks : (steps late : List Step) (first second : Option ℕ) (offers : List Offer) (sinks : Sinks) → late ≡ after_offers airs_of offers steps → Opens steps first second
-    → SinksStand (with_close 1 second (with_close 0 first (past_of steps))) sinks → SinksStand (past_of (End ∷ late)) sinks
+    → SinksStand (with_close 1 second (with_close 0 first (histories_of steps))) sinks → SinksStand (histories_of (End ∷ late)) sinks
 end_sinks steps late first second offers sinks is opens stands =
     let left = subst (λ made. IsLeft airs_of made steps) (sym is) (left_by_offers airs_of offers steps) in
     let one : first ≡ open_event (steps_of_source 0 late) = opens.one ∙ sym (ap open_event left.first) in
     let two : second ≡ open_event (steps_of_source 1 late) = opens.two ∙ sym left.open_second in
-    stands_same (with_close 1 second (with_close 0 first (past_of steps))) (past_of (End ∷ late)) sinks
+    stands_same (with_close 1 second (with_close 0 first (histories_of steps))) (histories_of (End ∷ late)) sinks
     (record {
       boxes = λ n. sym (left.box n);
       mades = λ n. sym (left.made n);
@@ -257,18 +257,18 @@ end_sinks steps late first second offers sinks is opens stands =
     }) stands
 
 end_stands : (version : ℕ) (steps : List Step) (first second : Option ℕ) (new : Machine) → stage_of steps ≡ running version → Opens steps first second
-    → stage_in new.stage ≡ over version → RoomsStand (gifted steps first) (with_close 1 second (with_close 0 first (past_of steps))) new
-    → Stands (End ∷ with_gifts airs_of steps End) new
-end_stands version steps first second new e opens stage rooms =
-    let offers : List Offer = offers_closed steps (past_of steps) first in
-    let late : List Step = gifted steps first in
-    let same : with_gifts airs_of steps End ≡ late = ap (λ all. after_offers airs_of all steps) (offers_same steps first opens.one) in
+    → stage_in new.stage ≡ over version → ComponentsStand (after_relays steps first) (with_close 1 second (with_close 0 first (histories_of steps))) new
+    → Stands (End ∷ with_relayed_units airs_of steps End) new
+end_stands version steps first second new e opens stage components =
+    let offers : List Offer = offers_closed steps (histories_of steps) first in
+    let late : List Step = after_relays steps first in
+    let same : with_relayed_units airs_of steps End ≡ late = ap (λ all. after_offers airs_of all steps) (offers_same steps first opens.one) in
     subst (λ made. Stands (End ∷ made) new) (sym same)
     (record {
       stage = stage ∙ sym (ap (stage_after End) ((left_by_offers airs_of offers steps).stage ∙ e));
-      sources = sources_stay End late new.sources end_says rooms.sources;
-      sinks = end_sinks steps late first second offers new.sinks refl opens rooms.sinks;
-      relays = relays_stay late End new.relays refl rooms.relays;
+      sources = sources_stay End late new.sources end_says components.sources;
+      sinks = end_sinks steps late first second offers new.sinks refl opens components.sinks;
+      relays = relays_stay late End new.relays refl components.relays;
     })
 
 pub end_meets : (starts : List Account) (version : ℕ) (steps : List Step) (first second : Option ℕ) (new : Machine) (text told last : List ℕ) (before after : List Account)
@@ -284,8 +284,8 @@ end_meets starts version steps first second new text told last before after e bo
     ap (λ a. sums_where a (λ n. box_of n steps) sink_numbers) accounts
     ∙ sums_same starts steps (handed_up airs_of steps ++ closing_both airs_of steps) sink_numbers boxes.room in (
       end_passes (length starts) version steps e,
-      end_stands version steps first second new e opens stage c.rooms,
-      sums ∙ ap₂ (λ front back. front ++ back) c.lines puts ∙ append_assoc text (lines ++ more) (end_sums starts steps)
+      end_stands version steps first second new e opens stage c.components,
+      sums ∙ ap₂ (λ prefix back. prefix ++ back) c.lines puts ∙ append_assoc text (lines ++ more) (end_sums starts steps)
           ∙ ap (λ l. text ++ l) (append_assoc lines more (end_sums starts steps)),
       c.boxes,
     )

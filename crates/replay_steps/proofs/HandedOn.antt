@@ -6,8 +6,8 @@ use Rattle.unit_outlets.specs.Account.{Account}
 use Rattle.source_machine.specs.Airs.{airs_of, Airs}
 use Rattle.scenario_text.specs.declared.step.Step.{Step}
 use Rattle.scenario_history.specs.Boxes.{SinkUnit, handed_up, Took}
-use Rattle.scenario_history.specs.Gifts.{happened}
-use Rattle.scenario_laws.proofs.Gifts.Citable.{handed_happened}
+use Rattle.scenario_history.specs.RelayedUnits.{happened}
+use Rattle.scenario_laws.proofs.RelayedUnits.Citable.{handed_happened}
 use Rattle.scenario_history.specs.Lines.{Said, a_step, nothing, unsaid, said_of, steps_of, said_after, handed_on, handed_said, with_said}
 use Rattle.scenario_history.proofs.Citable.{took_all}
 use Rattle.replay_steps.specs.Meets.{BoxesStand}

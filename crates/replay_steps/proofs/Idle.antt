@@ -11,23 +11,23 @@ use Rattle.transcript_text.specs.declared.stop.Stop.{Stop}
 use Rattle.transcript_text.specs.declared.stop.Stop.TheVariants.{Refused, OutletFault, Memory}
 use Rattle.scenario_text.specs.declared.step.Step.{Step}
 use Rattle.scenario_history.specs.Boxes.{SinkUnit, accounts_after, sink_numbers}
-use Rattle.scenario_history.specs.Gifts.{after_offers, answered, offered_of}
+use Rattle.scenario_history.specs.RelayedUnits.{after_offers, answered, offered_of}
 use Rattle.scenario_history.specs.Output.{unit_lines}
 use Rattle.scenario_history.specs.Relays.{Route, relay_of}
 use Rattle.scenario_sinks.specs.Closing as sinks
 use Rattle.scenario_sinks.specs.Closing.{closing_of, handed_all}
 use Rattle.scenario_sinks.specs.Handing.{BoxFails}
-use Rattle.scenario_sinks.specs.Pasts.{Past}
+use Rattle.scenario_sinks.specs.Histories.{Histories}
 use Rattle.scenario_sinks.proofs.Citable.{accounts_append, lines_append}
-use Rattle.scenario_sinks.specs.RelayPasts.{is_idle}
+use Rattle.scenario_sinks.specs.RelayHistories.{is_idle}
 use Rattle.scenario_sinks.specs.State.RelaysStand.{RelaysStand}
 use Rattle.scenario_sources.specs.State.Standing.{SourcesStand}
 use Rattle.replay_steps.specs.declared.machine.Machine.{Machine}
-use Rattle.replay_steps.specs.Machines.{lent, relays_past}
-use Rattle.replay_steps.specs.Relaying.{Closes, FirstMeets, RoomsStand, answer_lines, lines_at, lines_below, offers_below, offers_of, units_below}
+use Rattle.replay_steps.specs.Machines.{lent, relay_histories}
+use Rattle.replay_steps.specs.Relaying.{Closes, FirstMeets, ComponentsStand, answer_lines, lines_at, lines_below, offers_below, offers_of, units_below}
 use Rattle.replay_steps.proofs.Between.{range_more}
 use Rattle.replay_steps.proofs.Closed.{first_closes, second_closes}
-use Rattle.scenario_laws.proofs.Gifts.Citable.{flat_within}
+use Rattle.scenario_laws.proofs.RelayedUnits.Citable.{flat_within}
 use Rattle.replay_steps.proofs.CloseLines.{flat_nothing}
 
 -- ---- a box stops units of two lists
@@ -40,12 +40,12 @@ record InFirst (us done : List SinkUnit) (unit : SinkUnit) : Type 0 where
 -- it stands in the second
 record InSecond (us vs done : List SinkUnit) (unit : SinkUnit) (rest : List SinkUnit) : Type 0 where
   more : List SinkUnit
-  front : done ≡ us ++ more
+  prefix : done ≡ us ++ more
   split : vs ≡ more ++ unit ∷ rest
 
 stands_in : (us vs done : List SinkUnit) (unit : SinkUnit) (rest : List SinkUnit) → us ++ vs ≡ done ++ unit ∷ rest
     → InFirst us done unit ⊎ InSecond us vs done unit rest
-stands_in [] vs done unit rest is = inr (record { more = done; front = refl; split = is })
+stands_in [] vs done unit rest is = inr (record { more = done; prefix = refl; split = is })
 stands_in (u ∷ us) vs [] unit rest is =
     let same : u ≡ unit = cc in
     inl (record { rest = us; split = ap (λ x. x ∷ us) same })
@@ -54,7 +54,7 @@ stands_in (u ∷ us) vs (d ∷ done) unit rest is =
     let less : us ++ vs ≡ done ++ unit ∷ rest = cc in
     elim (stands_in us vs done unit rest less) [
       | inl one ↦ inl (record { rest = one.rest; split = ap (λ x. x ∷ us) same ∙ ap (λ l. d ∷ l) one.split })
-      | inr other ↦ inr (record { more = other.more; front = ap (λ x. x ∷ done) (sym same) ∙ ap (λ l. u ∷ l) other.front; split = other.split })
+      | inr other ↦ inr (record { more = other.more; prefix = ap (λ x. x ∷ done) (sym same) ∙ ap (λ l. u ∷ l) other.prefix; split = other.split })
     ]
 
 fails_split : (us vs : List SinkUnit) (text told : List ℕ) (before after : List Account) → BoxFails (us ++ vs) text told before after
@@ -83,17 +83,17 @@ fails_split us vs text told before after f = elim (stands_in us vs f.done f.unit
         time = f.time;
         octets = f.octets;
         is_valid = f.is_valid;
-        lines = f.lines ∙ ap (λ done. text ++ unit_lines done) other.front ∙ ap (λ l. text ++ l) (lines_append us other.more)
+        lines = f.lines ∙ ap (λ done. text ++ unit_lines done) other.prefix ∙ ap (λ l. text ++ l) (lines_append us other.more)
             ∙ sym (append_assoc text (unit_lines us) (unit_lines other.more));
         box = subst (λ accounts. TookAt f.unit.box f.octets accounts after (Err Failed))
-            (ap (accounts_after before) other.front ∙ accounts_append us other.more before) f.box;
+            (ap (accounts_after before) other.prefix ∙ accounts_append us other.more before) f.box;
       })
 ]
 
 -- ---- a box stops units of the first sinks
 
 -- it is one of the sinks below a number, behind the lines of those below it
-record FailsBelow (past : Past) (event below : ℕ) (text told : List ℕ) (before after : List Account) : Type 0 where
+record FailsBelow (past : Histories) (event below : ℕ) (text told : List ℕ) (before after : List Account) : Type 0 where
   number : ℕ
   within : number < below
   fails : BoxFails (closing_of number 0 event past) (text ++ unit_lines (units_below past event number)) told
@@ -103,7 +103,7 @@ none_fails : (done : List SinkUnit) (unit : SinkUnit) (rest : List SinkUnit) →
 none_fails [] unit rest is = cc is
 none_fails (d ∷ done) unit rest is = cc is
 
-fails_below : (past : Past) (event below : ℕ) (text told : List ℕ) (before after : List Account) → BoxFails (units_below past event below) text told before after
+fails_below : (past : Histories) (event below : ℕ) (text told : List ℕ) (before after : List Account) → BoxFails (units_below past event below) text told before after
     → FailsBelow past event below text told before after
 fails_below past event zero text told before after f = absurd (none_fails f.done f.unit f.rest f.split)
 fails_below past event (suc below) text told before after f =
@@ -111,8 +111,8 @@ fails_below past event (suc below) text told before after f =
     let each : ℕ → List SinkUnit = λ n. closing_of n 0 event past in
     elim (fails_split (units_below past event below) (closing_of below 0 event past) text told before after
     (subst (λ us. BoxFails us text told before after) (ap (λ m. flat_map each (range_with_len 0 m)) more ∙ range_more each below) f)) [
-      | inl front ↦
-          let deep : FailsBelow past event below text told before after = fails_below past event below text told before after front in
+      | inl prefix ↦
+          let deep : FailsBelow past event below text told before after = fails_below past event below text told before after prefix in
           record { number = deep.number; within = let w = deep.within in omega (arith, w); fails = deep.fails }
       | inr last ↦ record { number = below; within = omega arith; fails = last }
     ]
@@ -135,19 +135,19 @@ none_lent : (route : Option Route) → is_none (option_map lent route) ≡ true 
 none_lent None is = refl
 none_lent (Some route) is = absurd (cc is)
 
-none_has : (steps : List Step) → is_idle (relays_past steps) ≡ true → NoRelays steps
+none_has : (steps : List Step) → is_idle (relay_histories steps) ≡ true → NoRelays steps
 none_has steps is n below =
     none_lent (relay_of n steps) (all_within (λ m. is_none (option_map lent (relay_of m steps))) 0 8 is n (omega arith) (omega (arith, below)))
 
-nothing_offered : (steps : List Step) (past : Past) (event n : ℕ) → NoRelays steps → n < 8 → offers_of steps past n event ≡ []
+nothing_offered : (steps : List Step) (past : Histories) (event n : ℕ) → NoRelays steps → n < 8 → offers_of steps past n event ≡ []
 nothing_offered steps past event n none below = ap (λ relay. offered_of n relay (handed_all (closing_of n 0 event past))) (none n below)
 
-nothing_below : (steps : List Step) (past : Past) (event number : ℕ) → NoRelays steps → number ≤ 8 → offers_below steps past event number ≡ []
+nothing_below : (steps : List Step) (past : Histories) (event number : ℕ) → NoRelays steps → number ≤ 8 → offers_below steps past event number ≡ []
 nothing_below steps past event number none most =
     flat_nothing (λ n. offers_of steps past n event) 0 number (λ n least below. nothing_offered steps past event n none (omega (arith, most, below)))
 
 -- a sink has the lines of its units alone
-plain_at : (steps : List Step) (past : Past) (event n : ℕ) → NoRelays steps → n < 8 → lines_at steps past n event ≡ unit_lines (closing_of n 0 event past)
+plain_at : (steps : List Step) (past : Histories) (event n : ℕ) → NoRelays steps → n < 8 → lines_at steps past n event ≡ unit_lines (closing_of n 0 event past)
 plain_at steps past event n none below =
     ap (λ offers. unit_lines (closing_of n 0 event past) ++ answer_lines (answered airs_of offers (after_offers airs_of (offers_below steps past event n) steps)))
     (nothing_offered steps past event n none below)
@@ -157,7 +157,7 @@ lines_flat : (f : ℕ → List SinkUnit) (ns : List ℕ) → unit_lines (flat_ma
 lines_flat f [] = refl
 lines_flat f (n ∷ ns) = lines_append (f n) (flat_map f ns) ∙ ap (λ l. unit_lines (f n) ++ l) (lines_flat f ns)
 
-plain_below : (steps : List Step) (past : Past) (event number : ℕ) → NoRelays steps → number ≤ 8
+plain_below : (steps : List Step) (past : Histories) (event number : ℕ) → NoRelays steps → number ≤ 8
     → lines_below steps past event number ≡ unit_lines (units_below past event number)
 plain_below steps past event number none most =
     flat_within (λ n. lines_at steps past n event) (λ n. unit_lines (closing_of n 0 event past)) 0 number
@@ -166,23 +166,23 @@ plain_below steps past event number none most =
 
 -- ---- an event of source 0
 
-all_meet : (steps : List Step) (past : Past) (event : ℕ) (old new : Machine) (text told : List ℕ) (before after : List Account) (r : Result (Unit {0}) Stop)
-    → NoRelays steps → RoomsStand steps past old → new.sources ≡ old.sources → new.relays ≡ old.relays
+all_meet : (steps : List Step) (past : Histories) (event : ℕ) (old new : Machine) (text told : List ℕ) (before after : List Account) (r : Result (Unit {0}) Stop)
+    → NoRelays steps → ComponentsStand steps past old → new.sources ≡ old.sources → new.relays ≡ old.relays
     → sinks.Closes past 0 (Some event) new.sinks text told before after r → FirstMeets steps past event new text told before after r
 unfolding sink_numbers
-all_meet steps past event old new text told before after (Ok x) none rooms sources held m =
+all_meet steps past event old new text told before after (Ok x) none components sources held m =
     let stay : after_offers airs_of (offers_below steps past event 8) steps ≡ steps =
     ap (λ offers. after_offers airs_of offers steps) (nothing_below steps past event 8 none (omega arith)) in (
       record {
-        sources = subst (λ made. SourcesStand made new.sources) (sym stay) (subst (λ s. SourcesStand steps s) (sym sources) rooms.sources);
+        sources = subst (λ made. SourcesStand made new.sources) (sym stay) (subst (λ s. SourcesStand steps s) (sym sources) components.sources);
         sinks = m.stands;
-        relays = subst (λ made. RelaysStand (relays_past made) new.relays) (sym stay) (subst (λ r. RelaysStand (relays_past steps) r) (sym held) rooms.relays);
+        relays = subst (λ made. RelaysStand (relay_histories made) new.relays) (sym stay) (subst (λ r. RelaysStand (relay_histories steps) r) (sym held) components.relays);
       },
       m.hands.0 ∙ ap (λ l. text ++ l) (sym (plain_below steps past event 8 none (omega arith))),
       m.hands.1,
     )
-all_meet steps past event old new text told before after (Err (Refused reason)) none rooms sources held m = m.hands
-all_meet steps past event old new text told before after (Err OutletFault) none rooms sources held m =
+all_meet steps past event old new text told before after (Err (Refused reason)) none components sources held m = m.hands
+all_meet steps past event old new text told before after (Err OutletFault) none components sources held m =
     let f : FailsBelow past event 8 text told before after = fails_below past event 8 text told before after m.hands in
     let within : f.number < 8 = f.within in
     record {
@@ -191,24 +191,24 @@ all_meet steps past event old new text told before after (Err OutletFault) none 
       fails = subst (λ lines. BoxFails (closing_of f.number 0 event past) (text ++ lines) told (accounts_after before (units_below past event f.number)) after)
           (sym (plain_below steps past event f.number none (omega (arith, within)))) f.fails;
     }
-all_meet steps past event old new text told before after (Err Memory) none rooms sources held m = m.hands
+all_meet steps past event old new text told before after (Err Memory) none components sources held m = m.hands
 
-pub idle_meets : (steps : List Step) (past : Past) (event : ℕ) (old new : Machine) (text told : List ℕ) (before after : List Account) (r : Result (Unit {0}) Stop)
-    → is_idle (relays_past steps) ≡ true → RoomsStand steps past old → new.sources ≡ old.sources → new.relays ≡ old.relays
+pub idle_meets : (steps : List Step) (past : Histories) (event : ℕ) (old new : Machine) (text told : List ℕ) (before after : List Account) (r : Result (Unit {0}) Stop)
+    → is_idle (relay_histories steps) ≡ true → ComponentsStand steps past old → new.sources ≡ old.sources → new.relays ≡ old.relays
     → sinks.Closes past 0 (Some event) new.sinks text told before after r → FirstMeets steps past event new text told before after r
-idle_meets steps past event old new text told before after r idle rooms sources held m =
-    all_meet steps past event old new text told before after r (none_has steps idle) rooms sources held m
+idle_meets steps past event old new text told before after r idle components sources held m =
+    all_meet steps past event old new text told before after r (none_has steps idle) components sources held m
 
 -- an event that is closed for all sinks at once: of another source, or where no sink has a relay
-pub closes_at_once : (steps : List Step) (past : Past) (source : ℕ) (closed : Option ℕ) (event : ℕ) (old new : Machine) (text told : List ℕ) (before after : List Account)
-    (r : Result (Unit {0}) Stop) → ((source == 0) && not (is_idle (relays_past steps))) ≡ false → closed ≡ Some event → RoomsStand steps past old
+pub closes_at_once : (steps : List Step) (past : Histories) (source : ℕ) (closed : Option ℕ) (event : ℕ) (old new : Machine) (text told : List ℕ) (before after : List Account)
+    (r : Result (Unit {0}) Stop) → ((source == 0) && not (is_idle (relay_histories steps))) ≡ false → closed ≡ Some event → ComponentsStand steps past old
     → new.sources ≡ old.sources → new.relays ≡ old.relays → sinks.Closes past source (Some event) new.sinks text told before after r
     → Closes steps past source closed new text told before after r
-closes_at_once steps past zero closed event old new text told before after r idle is rooms sources held m =
+closes_at_once steps past zero closed event old new text told before after r idle is components sources held m =
     first_closes steps past 0 closed event new text told before after r refl is
-    (idle_meets steps past event old new text told before after r (not-false (is_idle (relays_past steps)) idle) rooms sources held m)
-closes_at_once steps past (suc other) closed event old new text told before after r idle is rooms sources held m =
-    second_closes steps past (suc other) closed event old new text told before after r (λ e. absurd (cc e)) is rooms sources held m
+    (idle_meets steps past event old new text told before after r (not-false (is_idle (relay_histories steps)) idle) components sources held m)
+closes_at_once steps past (suc other) closed event old new text told before after r idle is components sources held m =
+    second_closes steps past (suc other) closed event old new text told before after r (λ e. absurd (cc e)) is components sources held m
 
 -- relays offer as an event of source 0 alone is closed
 pub relays_first : (source : ℕ) (more : Bool) → ((source == 0) && more) ≡ true → source ≡ 0

@@ -3,14 +3,14 @@ pub mod Citable
 pub mod Stepping
 pub mod SinkLines
 pub mod Airing
-pub mod Spots
+pub mod Positions
 pub mod Closing
 pub mod Ending
 pub mod StepLaws
 pub mod LineLaws
-pub mod Untaken
+pub mod Unassigned
 pub mod Offering
-pub mod Gifted
+pub mod AfterRelays
 pub mod CloseLines
 pub mod RelaysStay
 pub mod RelayLaws
@@ -20,6 +20,6 @@ pub mod Between
 pub mod BoxStops
 pub mod Closed
 pub mod Idle
-pub mod Rooms
-pub mod UntakenRuns
+pub mod Components
+pub mod UnassignedRuns
 mod HandedOn

@@ -7,13 +7,13 @@ use Rattle.unit_outlets.specs.Account.{Account}
 use Rattle.source_machine.specs.Airs.{airs_of}
 use Rattle.transcript_text.specs.declared.refusal.Refusal.TheVariants.{AfterEnd, BadLine, Order, SinkTwice, NoOutlet}
 use Rattle.scenario_words.specs.declared.fault.LineFault.TheVariants.{BadLine as Misfit}
-use Rattle.scenario_history.specs.Gifts.{happened, with_gifts}
+use Rattle.scenario_history.specs.RelayedUnits.{happened, with_relayed_units}
 use Rattle.std.proofs.lemmas.List.{append-nil}
 use Rattle.scenario_text.specs.Steps.{read_of}
 use Rattle.scenario_text.specs.declared.step.Step.{Step}
 use Rattle.scenario_text.specs.declared.step.Step.TheVariants as steps
 use Rattle.scenario_history.specs.Steps.{sinks_made, sinks_made_by, version_at, version_of, is_over}
-use Rattle.scenario_laws.proofs.Gifts.Citable.{hands_alike, left_by_gifts, stage_happened, passes_both}
+use Rattle.scenario_laws.proofs.RelayedUnits.Citable.{hands_alike, left_by_relayed_units, stage_happened, passes_both}
 use Rattle.scenario_history.specs.Boxes.{accounts_after, box_of, handed_by, handed_up}
 use Rattle.scenario_history.specs.Refusals.{is_relayed, refusal_of, is_out_of_order, sink_refusal}
 use Rattle.sink_history.specs.Refusals.{refuse_if}
@@ -53,9 +53,9 @@ room_stays boxes earlier (steps.Sink n streams slots mtu) e room = sink_fits box
 room_stays boxes earlier _ e room = room
 
 boxes_go_on : (starts before after : List Account) (earlier : List Step) (made : Step) → BoxesStand starts earlier before → refusal_of airs_of (length starts) earlier made ≡ None
-    → after ≡ accounts_after before (handed_by airs_of earlier made) → BoxesStand starts (made ∷ with_gifts airs_of earlier made) after
+    → after ≡ accounts_after before (handed_by airs_of earlier made) → BoxesStand starts (made ∷ with_relayed_units airs_of earlier made) after
 boxes_go_on starts before after earlier made boxes e a =
-    let left = left_by_gifts airs_of earlier made in
+    let left = left_by_relayed_units airs_of earlier made in
     record {
       accounts_are = a ∙ ap (λ accounts. accounts_after accounts (handed_by airs_of earlier made)) boxes.accounts_are
           ∙ sym (accounts_append (handed_up airs_of earlier) (handed_by airs_of earlier made) starts)
@@ -67,7 +67,7 @@ boxes_go_on starts before after earlier made boxes e a =
 
 -- what happens by one line more
 one_more : (lines : List TextLine) (line : TextLine) (made : Step) → said_after lines line ≡ a_step made
-    → steps_of airs_of (line ∷ lines) ≡ made ∷ with_gifts airs_of (steps_of airs_of lines) made
+    → steps_of airs_of (line ∷ lines) ≡ made ∷ with_relayed_units airs_of (steps_of airs_of lines) made
 one_more lines line made is = ap (λ said. happened airs_of (with_said said (said_of lines))) is
 
 -- what a line that says a step does, by what the step does

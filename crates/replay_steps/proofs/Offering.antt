@@ -15,7 +15,7 @@ use Rattle.transcript_text.specs.declared.stop.Stop.{Stop}
 use Rattle.transcript_text.specs.declared.stop.Stop.TheVariants.{Refused, OutletFault, Memory}
 use Rattle.scenario_text.specs.declared.step.Step.{Step}
 use Rattle.scenario_text.specs.declared.step.Step.TheVariants.{Source, Unit as UnitLine}
-use Rattle.scenario_history.specs.Gifts.{Answered, Offer, after_offer, after_offers, answered, dropped_for, offered_of, units_on, valid_on, with_gift}
+use Rattle.scenario_history.specs.RelayedUnits.{Answered, Offer, after_offer, after_offers, answered, dropped_for, offered_of, units_on, valid_on, with_relayed_unit}
 use Rattle.scenario_history.specs.Output.{answer_line}
 use Rattle.scenario_history.specs.Refusals.{gives_on, source_refusal}
 use Rattle.sink_history.specs.Refusals.{refuse_if}
@@ -24,7 +24,7 @@ use Rattle.scenario_history.specs.Source.{takes_units}
 use Rattle.scenario_history.specs.Steps.{chosen_of, steps_of_source, version_of}
 use Rattle.scenario_sinks.specs.declared.relays.Relays.{Relays}
 use Rattle.scenario_sinks.specs.declared.route.Route.{Route as LentRoute}
-use Rattle.scenario_sinks.specs.RelayPasts as pasts
+use Rattle.scenario_sinks.specs.RelayHistories as pasts
 use Rattle.scenario_sinks.specs.State.RelaysStand.{RelaysStand}
 use Rattle.scenario_sinks.specs.State.Gathering.{handed_as, handed_of}
 use Rattle.scenario_sinks.specs.declared.gathered.HandedUnit.{HandedUnit}
@@ -32,7 +32,7 @@ use Rattle.scenario_sources.specs.Answers.{Answers}
 use Rattle.scenario_sources.specs.declared.sources.Sources.{Sources}
 use Rattle.scenario_sources.specs.State.Phases.{PhaseAt}
 use Rattle.scenario_sources.specs.State.Standing.{SourcesStand}
-use Rattle.replay_steps.specs.Machines.{lent, relays_past}
+use Rattle.replay_steps.specs.Machines.{lent, relay_histories}
 use Rattle.replay_steps.specs.Relaying.{Drops, GivesSecond, OffersMeet, answer_lines}
 use Rattle.replay_steps.proofs.RelaysStay.{relays_as}
 use Rattle.replay_steps.proofs.Stepping.{or_none}
@@ -92,7 +92,7 @@ gives_second steps offer to time octets chosen mid new (Err Memory) route unit i
 
 -- nothing is offered
 pub none_offered : (steps : List Step) (offers : List Offer) (sources : Sources) (relays : Relays) (text : List ℕ) → offers ≡ []
-    → SourcesStand steps sources → RelaysStand (relays_past steps) relays → OffersMeet steps offers sources relays text text (Ok tt)
+    → SourcesStand steps sources → RelaysStand (relay_histories steps) relays → OffersMeet steps offers sources relays text text (Ok tt)
 none_offered steps offers sources relays text none s r =
     subst (λ all. OffersMeet steps all sources relays text text (Ok tt)) (sym none) (s, r, sym (append-nil text))
 
@@ -112,7 +112,7 @@ own_unit n route bis time octets same = rw (eq-eqb bis route.bis same) refl
 
 -- a unit that is lost isn't offered
 pub offers_lost : (steps : List Step) (n : ℕ) (own : Route) (unit : HandedUnit) (sources : Sources) (relays : Relays) (text : List ℕ) → unit.octets ≡ None
-    → SourcesStand steps sources → RelaysStand (relays_past steps) relays
+    → SourcesStand steps sources → RelaysStand (relay_histories steps) relays
     → OffersMeet steps (offered_of n (Some own) (handed_of unit ∷ [])) sources relays text text (Ok tt)
 offers_lost steps n own unit sources relays text none s r =
     none_offered steps (offered_of n (Some own) (handed_of unit ∷ [])) sources relays text (lost_unit n own unit.bis unit.time unit.octets none) s r
@@ -123,23 +123,23 @@ valid_as n own unit octets is = ap (λ o. offered_of n (Some own) (handed_as uni
 
 -- nor is one of another stream
 pub offers_other : (steps : List Step) (n : ℕ) (own : Route) (unit : HandedUnit) (octets : List ℕ) (sources : Sources) (relays : Relays) (text : List ℕ)
-    → unit.octets ≡ Some octets → unit.bis ≢ own.bis → SourcesStand steps sources → RelaysStand (relays_past steps) relays
+    → unit.octets ≡ Some octets → unit.bis ≢ own.bis → SourcesStand steps sources → RelaysStand (relay_histories steps) relays
     → OffersMeet steps (offered_of n (Some own) (handed_of unit ∷ [])) sources relays text text (Ok tt)
 offers_other steps n own unit octets sources relays text is other s r =
     none_offered steps (offered_of n (Some own) (handed_of unit ∷ [])) sources relays text
     (valid_as n own unit octets is ∙ other_unit n own unit.bis unit.time octets other) s r
 
 -- the relays once source 1 was given the unit
-pub gifted_relays : (offer : Offer) (to : ℕ) (steps : List Step) (held : Relays) → offer.route.to ≡ to
-    → RelaysStand (pasts.with_gift to (relays_past steps)) held → RelaysStand (relays_past (with_gift offer steps)) held
-gifted_relays offer to steps held is stands =
-    relays_as (pasts.with_gift to (relays_past steps)) (relays_past (with_gift offer steps)) held (λ n. refl) (λ bis. refl)
+pub routes_after_relays : (offer : Offer) (to : ℕ) (steps : List Step) (held : Relays) → offer.route.to ≡ to
+    → RelaysStand (pasts.with_relayed_unit to (relay_histories steps)) held → RelaysStand (relay_histories (with_relayed_unit offer steps)) held
+routes_after_relays offer to steps held is stands =
+    relays_as (pasts.with_relayed_unit to (relay_histories steps)) (relay_histories (with_relayed_unit offer steps)) held (λ n. refl) (λ bis. refl)
     (λ bis. ap (λ bound. (bound == bis) || list_any (gives_on bis) (steps_of_source 1 steps)) (sym is)) stands
 
 -- source 1 takes the unit
 pub offers_taken : (steps : List Step) (n : ℕ) (own : Route) (unit : HandedUnit) (octets : List ℕ) (sources : Sources) (relays : Relays) (text : List ℕ)
     → unit.octets ≡ Some octets → unit.bis ≡ own.bis → GivesSecond steps (offer_of n own unit.time octets) sources (Ok tt)
-    → RelaysStand (relays_past (with_gift (offer_of n own unit.time octets) steps)) relays
+    → RelaysStand (relay_histories (with_relayed_unit (offer_of n own unit.time octets) steps)) relays
     → OffersMeet steps (offered_of n (Some own) (handed_of unit ∷ [])) sources relays text text (Ok tt)
 offers_taken steps n own unit octets sources relays text is same g r =
     subst (λ all. OffersMeet steps all sources relays text text (Ok tt)) (sym (valid_as n own unit octets is ∙ own_unit n own unit.bis unit.time octets same))
@@ -149,7 +149,7 @@ offers_taken steps n own unit octets sources relays text is same g r =
 pub offers_dropped : (steps : List Step) (n bis : ℕ) (own : Route) (unit : HandedUnit) (octets : List ℕ) (reason : Refusal) (sources : Sources) (relays : Relays) (text told : List ℕ)
     (r : Result (Unit {0}) Stop) → unit.octets ≡ Some octets → unit.bis ≡ own.bis → bis ≡ own.bis
     → GivesSecond steps (offer_of n own unit.time octets) sources (Err (Refused reason))
-    → RelaysStand (relays_past steps) relays → Drops n bis reason text told r
+    → RelaysStand (relay_histories steps) relays → Drops n bis reason text told r
     → OffersMeet steps (offered_of n (Some own) (handed_of unit ∷ [])) sources relays text told r
 offers_dropped steps n bis own unit octets reason sources relays text told (Ok x) is same stream g r line =
     subst (λ all. OffersMeet steps all sources relays text told (Ok tt)) (sym (valid_as n own unit octets is ∙ own_unit n own unit.bis unit.time octets same))
@@ -189,8 +189,8 @@ pub offers_then : (steps : List Step) (xs ys : List Offer) (mid new : Sources) (
 offers_then steps xs ys mid new between relays text told told2 (Ok x) one two =
     let now : List Step = after_offers airs_of xs steps in (
       subst (λ made. SourcesStand made new) (sym (after_append xs ys steps)) two.0,
-      subst (λ made. RelaysStand (relays_past made) relays) (sym (after_append xs ys steps)) two.1,
-      two.2 ∙ ap (λ front. front ++ answer_lines (answered airs_of ys now)) one.2
+      subst (λ made. RelaysStand (relay_histories made) relays) (sym (after_append xs ys steps)) two.1,
+      two.2 ∙ ap (λ prefix. prefix ++ answer_lines (answered airs_of ys now)) one.2
           ∙ append_assoc text (answer_lines (answered airs_of xs steps)) (answer_lines (answered airs_of ys now))
           ∙ ap (λ l. text ++ l) (sym (lines_append (answered airs_of xs steps) (answered airs_of ys now)) ∙ ap answer_lines (sym (answered_append xs ys steps))),
     )
@@ -205,14 +205,14 @@ pub offers_more : (steps : List Step) (n : ℕ) (own : Route) (units : List Hand
     → OffersMeet (after_offers airs_of (offered_of n (Some own) (map handed_of (take i units))) steps) (offered_of n (Some own) (handed_of unit ∷ [])) new relays told told2 (Ok tt)
     → OffersMeet steps (offered_of n (Some own) (map handed_of (take (i + 1) units))) new relays text told2 (Ok tt)
 offers_more steps n own units i unit mid new between relays text told told2 within is one two =
-    let front : List Handed = map handed_of (take i units) in
+    let prefix : List Handed = map handed_of (take i units) in
     let same : offered_of n (Some own) (map handed_of (take (i + 1) units))
-    ≡ offered_of n (Some own) front ++ offered_of n (Some own) (handed_of unit ∷ []) =
+    ≡ offered_of n (Some own) prefix ++ offered_of n (Some own) (handed_of unit ∷ []) =
     ap (λ us. offered_of n (Some own) (map handed_of us)) (take_more units i unit within ∙ ap (λ last. take i units ++ last ∷ []) (sym is))
     ∙ ap (offered_of n (Some own)) (map-append handed_of (take i units) (unit ∷ []))
-    ∙ offered_append n own front (handed_of unit ∷ []) in
+    ∙ offered_append n own prefix (handed_of unit ∷ []) in
     subst (λ all. OffersMeet steps all new relays text told2 (Ok tt)) (sym same)
-    (offers_then steps (offered_of n (Some own) front) (offered_of n (Some own) (handed_of unit ∷ [])) mid new between relays text told told2 (Ok tt) one two)
+    (offers_then steps (offered_of n (Some own) prefix) (offered_of n (Some own) (handed_of unit ∷ [])) mid new between relays text told told2 (Ok tt) one two)
 
 -- all units of a sink
 pub offers_all : (steps : List Step) (n : ℕ) (own : Route) (units : List HandedUnit) (i : ℕ) (sources : Sources) (relays : Relays) (text told : List ℕ) → length units ≤ i
@@ -238,7 +238,7 @@ offers_where steps n None route units sources relays text told r is each = absur
 offers_where steps n (Some one) route units sources relays text told r is each = let same : route ≡ lent one = cc is in each one same
 
 pub offers_nowhere : (steps : List Step) (n : ℕ) (own : Option Route) (units : List Handed) (sources : Sources) (relays : Relays) (text : List ℕ)
-    → None ≡ option_map lent own → SourcesStand steps sources → RelaysStand (relays_past steps) relays
+    → None ≡ option_map lent own → SourcesStand steps sources → RelaysStand (relay_histories steps) relays
     → OffersMeet steps (offered_of n own units) sources relays text text (Ok tt)
 offers_nowhere steps n None units sources relays text is s r = (s, r, sym (append-nil text))
 offers_nowhere steps n (Some one) units sources relays text is s r = absurd (cc is)

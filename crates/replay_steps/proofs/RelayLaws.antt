@@ -9,7 +9,7 @@ use Rattle.delegator_machine.specs.Groups.{with_leave}
 use Rattle.group_sink.specs.Calls.{Call}
 use Rattle.sink_history.specs.Calls as links
 use Rattle.delegator_history.specs.Trains.{Settings}
-use Rattle.sink_history.specs.Lives.{Source, made_of}
+use Rattle.sink_history.specs.History.{Source, made_of}
 use Rattle.sink_history.specs.Moves.{received_by}
 use Rattle.transcript_text.specs.declared.refusal.Refusal.{Refusal}
 use Rattle.transcript_text.specs.declared.refusal.Refusal.TheVariants.{NoSuchBis, NoSuchSink, Order, RelayTaken}
@@ -24,9 +24,9 @@ use Rattle.scenario_history.specs.Relays.{Route, had_relay, relay_given, relay_o
 use Rattle.scenario_history.specs.Sinks.{sink_calls}
 use Rattle.scenario_history.specs.Source.{setup_of, takes_units}
 use Rattle.scenario_history.specs.Steps.{chosen_of, last_given, running, stage_of, steps_of_source}
-use Rattle.scenario_history.specs.Worlds.{life, source_at}
+use Rattle.scenario_history.specs.Worlds.{calls_made, source_at}
 use Rattle.scenario_sinks.specs.declared.relays.Relays.{Relays}
-use Rattle.scenario_sinks.specs.RelayPasts.{with_gift, with_relay, without}
+use Rattle.scenario_sinks.specs.RelayHistories.{with_relayed_unit, with_relay, without}
 use Rattle.scenario_sinks.specs.State.RelaysStand.{RelaysStand}
 use Rattle.scenario_sources.specs.Answers.{Answers}
 use Rattle.scenario_sources.specs.Faults.{fault_of}
@@ -36,7 +36,7 @@ use Rattle.scenario_sinks.specs.State.Standing.{SinksStand}
 use Rattle.scenario_sinks.specs.declared.sinks.Sinks.{Sinks}
 use Rattle.scenario_sinks.proofs.Citable.{stands_same}
 use Rattle.replay_steps.specs.declared.machine.Machine.{Machine}
-use Rattle.replay_steps.specs.Machines.{Stands, lent, past_of, relays_past}
+use Rattle.replay_steps.specs.Machines.{Stands, lent, histories_of, relay_histories}
 use Rattle.replay_steps.specs.Meets.{Quiet, phase_line}
 use Rattle.replay_steps.specs.Versions.{stage_in}
 use Rattle.replay_steps.proofs.RelaysStay.{relays_as}
@@ -50,9 +50,9 @@ drop_routes n m steps =
     elim (n == m) as (λ b. cond b None (option_map lent (relay_of m steps))
     ≡ option_map lent (unwrap_or (option_or (cond b (Some None) None) (last_given (relay_given m) steps)) None)) [ true ↦ refl | false ↦ refl ]
 
-pub dropped_relays : (n : ℕ) (steps : List Step) (held : Relays) → RelaysStand (without n (relays_past steps)) held → RelaysStand (relays_past (Drop n ∷ steps)) held
+pub dropped_relays : (n : ℕ) (steps : List Step) (held : Relays) → RelaysStand (without n (relay_histories steps)) held → RelaysStand (relay_histories (Drop n ∷ steps)) held
 dropped_relays n steps held stands =
-    relays_as (without n (relays_past steps)) (relays_past (Drop n ∷ steps)) held (λ m. drop_routes n m steps) (λ bis. refl) (λ bis. refl) stands
+    relays_as (without n (relay_histories steps)) (relay_histories (Drop n ∷ steps)) held (λ m. drop_routes n m steps) (λ bis. refl) (λ bis. refl) stands
 
 relay_routes : (n bis to m : ℕ) (steps : List Step)
     → cond (n == m) (Some (lent (record { bis = bis; to = to }))) (option_map lent (relay_of m steps)) ≡ option_map lent (relay_of m (Relay n bis to ∷ steps))
@@ -63,10 +63,10 @@ relay_routes n bis to m steps =
       | false ↦ refl
     ]
 
-pub made_relays : (n bis to : ℕ) (steps : List Step) (held : Relays) → RelaysStand (with_relay n bis to (relays_past steps)) held
-    → RelaysStand (relays_past (Relay n bis to ∷ steps)) held
+pub made_relays : (n bis to : ℕ) (steps : List Step) (held : Relays) → RelaysStand (with_relay n bis to (relay_histories steps)) held
+    → RelaysStand (relay_histories (Relay n bis to ∷ steps)) held
 made_relays n bis to steps held stands =
-    relays_as (with_relay n bis to (relays_past steps)) (relays_past (Relay n bis to ∷ steps)) held (λ m. relay_routes n bis to m steps) (λ b. refl) (λ b. refl) stands
+    relays_as (with_relay n bis to (relay_histories steps)) (relay_histories (Relay n bis to ∷ steps)) held (λ m. relay_routes n bis to m steps) (λ b. refl) (λ b. refl) stands
 
 -- a `unit` line to source 1, and one to source 0
 given_second : (b bis : ℕ) (time : Option ℕ) (octets : List ℕ) (steps : List Step) (second : Bool) → (chosen_of steps == 1) ≡ second
@@ -79,15 +79,15 @@ given_second b bis time octets steps second is =
     ≡ cond hit ((bis == b) || list_any (gives_on b) own) (list_any (gives_on b) own)) [ true ↦ refl | false ↦ refl ]))
 
 pub given_relays : (bis : ℕ) (time : Option ℕ) (octets : List ℕ) (steps : List Step) (held : Relays) → (chosen_of steps == 1) ≡ true
-    → RelaysStand (with_gift bis (relays_past steps)) held → RelaysStand (relays_past (UnitLine bis time octets ∷ steps)) held
+    → RelaysStand (with_relayed_unit bis (relay_histories steps)) held → RelaysStand (relay_histories (UnitLine bis time octets ∷ steps)) held
 given_relays bis time octets steps held second stands =
-    relays_as (with_gift bis (relays_past steps)) (relays_past (UnitLine bis time octets ∷ steps)) held (λ m. refl) (λ b. refl)
+    relays_as (with_relayed_unit bis (relay_histories steps)) (relay_histories (UnitLine bis time octets ∷ steps)) held (λ m. refl) (λ b. refl)
     (λ b. given_second b bis time octets steps true second) stands
 
 pub beside_relays : (bis : ℕ) (time : Option ℕ) (octets : List ℕ) (steps : List Step) (held : Relays) → (chosen_of steps == 1) ≡ false
-    → RelaysStand (relays_past steps) held → RelaysStand (relays_past (UnitLine bis time octets ∷ steps)) held
+    → RelaysStand (relay_histories steps) held → RelaysStand (relay_histories (UnitLine bis time octets ∷ steps)) held
 beside_relays bis time octets steps held first stands =
-    relays_as (relays_past steps) (relays_past (UnitLine bis time octets ∷ steps)) held (λ m. refl) (λ b. refl)
+    relays_as (relay_histories steps) (relay_histories (UnitLine bis time octets ∷ steps)) held (λ m. refl) (λ b. refl)
     (λ b. given_second b bis time octets steps false first) stands
 
 -- ---- a `unit` line
@@ -118,13 +118,13 @@ unit_fault boxes version bis time octets steps e free =
 pub unit_given : (boxes version bis : ℕ) (time : Option ℕ) (octets : List ℕ) (steps : List Step) (old new : Machine) → Stands steps old
     → stage_of steps ≡ running version → ((chosen_of steps == 1) && had_relay bis steps) ≡ false
     → new.stage ≡ old.stage → new.sinks ≡ old.sinks → Answers version steps (UnitLine bis time octets) new.sources (Ok tt)
-    → RelaysStand (relays_past (UnitLine bis time octets ∷ steps)) new.relays → Quiet boxes steps (UnitLine bis time octets) new (Ok tt)
+    → RelaysStand (relay_histories (UnitLine bis time octets ∷ steps)) new.relays → Quiet boxes steps (UnitLine bis time octets) new (Ok tt)
 unit_given boxes version bis time octets steps old new stands e free stage same a held = (
   unit_fault boxes version bis time octets steps e free ∙ a.0,
   record {
     stage = ap stage_in stage ∙ stands.stage;
     sources = a.1;
-    sinks = subst (λ s. SinksStand (past_of steps) s) (sym same) stands.sinks;
+    sinks = subst (λ s. SinksStand (histories_of steps) s) (sym same) stands.sinks;
     relays = held;
   },
 )
@@ -223,7 +223,7 @@ some_lent (Some route) = refl
 
 -- the room's answer is that of the steps
 pub taken_is : (steps : List Step) (n to : ℕ) (taken : Bool)
-    → taken ≡ (is_some ((relays_past steps).routes n) || ((relays_past steps).relayed to || (relays_past steps).given to))
+    → taken ≡ (is_some ((relay_histories steps).routes n) || ((relay_histories steps).relayed to || (relay_histories steps).given to))
     → is_relay_taken steps n to ≡ taken
 taken_is steps n to taken is =
     sym (is ∙ ap (λ b. b || (had_relay to steps || list_any (gives_on to) (steps_of_source 1 steps))) (some_lent (relay_of n steps)))
@@ -249,28 +249,28 @@ calls_stay : (hit : Bool) (source : Source) (n bis to : ℕ) (made : Option Sett
 calls_stay true source n bis to made lives calls = sym (moves_none source n bis to made lives calls)
 calls_stay false source n bis to made lives calls = refl
 
-sinks_kept : (n bis to : ℕ) (steps : List Step) (sinks : Sinks) → SinksStand (past_of steps) sinks → SinksStand (past_of (Relay n bis to ∷ steps)) sinks
+sinks_kept : (n bis to : ℕ) (steps : List Step) (sinks : Sinks) → SinksStand (histories_of steps) sinks → SinksStand (histories_of (Relay n bis to ∷ steps)) sinks
 sinks_kept n bis to steps sinks stands =
-    stands_same (past_of steps) (past_of (Relay n bis to ∷ steps)) sinks
+    stands_same (histories_of steps) (histories_of (Relay n bis to ∷ steps)) sinks
     (record {
       boxes = λ m. refl;
       mades = λ m. refl;
       sources = λ m. refl;
-      lives = λ m. if_same (n == m) (life m steps);
-      received = λ m. calls_stay (n == m) (source_at steps) n bis to (made_of m steps) (life m steps) (sink_calls airs_of m steps);
+      lives = λ m. if_same (n == m) (calls_made m steps);
+      received = λ m. calls_stay (n == m) (source_at steps) n bis to (made_of m steps) (calls_made m steps) (sink_calls airs_of m steps);
       made = refl;
     }) stands
 
 pub relay_meets : (boxes version n bis to : ℕ) (steps : List Step) (old new : Machine) → Stands steps old → stage_of steps ≡ running version
     → relay_refusal steps n bis to ≡ None → new.stage ≡ old.stage → new.sources ≡ old.sources → new.sinks ≡ old.sinks
-    → RelaysStand (with_relay n bis to (relays_past steps)) new.relays → Quiet boxes steps (Relay n bis to) new (Ok tt)
+    → RelaysStand (with_relay n bis to (relay_histories steps)) new.relays → Quiet boxes steps (Relay n bis to) new (Ok tt)
 relay_meets boxes version n bis to steps old new stands e none stage same sinks held = (
   relay_fault boxes version n bis to steps e ∙ none,
   record {
     stage = ap stage_in stage ∙ stands.stage;
     sources = subst (λ s. SourcesStand (Relay n bis to ∷ steps) s) (sym same)
         (sources_stay (Relay n bis to) steps old.sources (named_says n (Relay n bis to) refl) stands.sources);
-    sinks = subst (λ s. SinksStand (past_of (Relay n bis to ∷ steps)) s) (sym sinks) (sinks_kept n bis to steps old.sinks stands.sinks);
+    sinks = subst (λ s. SinksStand (histories_of (Relay n bis to ∷ steps)) s) (sym sinks) (sinks_kept n bis to steps old.sinks stands.sinks);
     relays = made_relays n bis to steps new.relays held;
   },
 )

@@ -7,11 +7,11 @@ use Rattle.source_machine.specs.Airs.{airs_of}
 use Rattle.transcript_text.specs.declared.stop.Stop.{Stop}
 use Rattle.transcript_text.specs.declared.stop.Stop.TheVariants.{Refused, OutletFault, Memory}
 use Rattle.scenario_text.specs.declared.step.Step.{Step}
-use Rattle.scenario_history.specs.Gifts.{answered, offered_of}
+use Rattle.scenario_history.specs.RelayedUnits.{answered, offered_of}
 use Rattle.scenario_history.specs.Output.{unit_lines}
 use Rattle.scenario_history.specs.Relays.{relay_of}
 use Rattle.scenario_sinks.specs.Closing.{ClosesAt, closing_of, handed_all}
-use Rattle.scenario_sinks.specs.Pasts.{Past, with_close_at}
+use Rattle.scenario_sinks.specs.Histories.{Histories, with_close_at}
 use Rattle.scenario_sinks.specs.State.Standing.{SinksStand}
 use Rattle.scenario_sinks.specs.declared.sinks.Sinks.{Sinks}
 use Rattle.scenario_sources.specs.declared.sources.Sources.{Sources}
@@ -22,33 +22,33 @@ use Rattle.replay_steps.specs.Relaying.{OffersMeet, SinkMeets, answer_lines, off
 -- ---- one sink
 
 -- what its relay offers of the units that it lends
-pub offers_lent : (steps : List Step) (past : Past) (n event : ℕ) (lent : List Handed) (sources : Sources) (relays : Relays) (text told : List ℕ) (r : Result (Unit {0}) Stop)
+pub offers_lent : (steps : List Step) (past : Histories) (n event : ℕ) (lent : List Handed) (sources : Sources) (relays : Relays) (text told : List ℕ) (r : Result (Unit {0}) Stop)
     → lent ≡ handed_all (closing_of n 0 event past) → OffersMeet steps (offered_of n (relay_of n steps) lent) sources relays text told r
     → OffersMeet steps (offers_of steps past n event) sources relays text told r
 offers_lent steps past n event lent sources relays text told r is o =
     subst (λ units. OffersMeet steps (offered_of n (relay_of n steps) units) sources relays text told r) is o
 
 -- its units were handed, and its relay offered them
-pub sink_relays : (steps : List Step) (past : Past) (n event : ℕ) (mid : Sinks) (new : Machine) (text told told2 : List ℕ) (before after : List Account)
+pub sink_relays : (steps : List Step) (past : Histories) (n event : ℕ) (mid : Sinks) (new : Machine) (text told told2 : List ℕ) (before after : List Account)
     → ClosesAt past n 0 event mid text told before after (Ok tt)
     → OffersMeet steps (offers_of steps past n event) new.sources new.relays told told2 (Ok tt)
     → SinksStand (with_close_at n 0 event past) new.sinks → SinkMeets steps past n event new text told2 before after (Ok tt)
 sink_relays steps past n event mid new text told told2 before after c o s =
     let lines : List ℕ = answer_lines (answered airs_of (offers_of steps past n event) steps) in (
       record { sources = o.0; sinks = s; relays = o.1 },
-      o.2 ∙ ap (λ front. front ++ lines) c.hands.0 ∙ append_assoc text (unit_lines (closing_of n 0 event past)) lines,
+      o.2 ∙ ap (λ prefix. prefix ++ lines) c.hands.0 ∙ append_assoc text (unit_lines (closing_of n 0 event past)) lines,
       c.hands.1,
     )
 
 -- a box stopped it, or memory ran out as its units were handed
-pub sink_stops : (steps : List Step) (past : Past) (n event : ℕ) (mid : Sinks) (new : Machine) (text told : List ℕ) (before after : List Account) (stop : Stop)
+pub sink_stops : (steps : List Step) (past : Histories) (n event : ℕ) (mid : Sinks) (new : Machine) (text told : List ℕ) (before after : List Account) (stop : Stop)
     → ClosesAt past n 0 event mid text told before after (Err stop) → SinkMeets steps past n event new text told before after (Err stop)
 sink_stops steps past n event mid new text told before after (Refused reason) c = c.hands
 sink_stops steps past n event mid new text told before after OutletFault c = c.hands
 sink_stops steps past n event mid new text told before after Memory c = c.hands
 
 -- memory ran out as they were offered
-pub offers_stop : (steps : List Step) (past : Past) (n event : ℕ) (mid : Sinks) (new : Machine) (sources : Sources) (relays : Relays) (text told told2 : List ℕ)
+pub offers_stop : (steps : List Step) (past : Histories) (n event : ℕ) (mid : Sinks) (new : Machine) (sources : Sources) (relays : Relays) (text told told2 : List ℕ)
     (before after : List Account) (stop : Stop) → ClosesAt past n 0 event mid text told before after (Ok tt)
     → OffersMeet steps (offers_of steps past n event) sources relays told told2 (Err stop)
     → SinkMeets steps past n event new text told2 before after (Err stop)

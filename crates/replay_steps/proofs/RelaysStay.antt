@@ -8,16 +8,16 @@ use Rattle.scenario_history.specs.Refusals.{gives_on, is_relayed}
 use Rattle.scenario_history.specs.Relays.{Route, had_relay, relay_given, relay_of, relays_to}
 use Rattle.scenario_history.specs.Steps.{is_of_source, last_given, steps_of_source}
 use Rattle.scenario_sinks.specs.declared.relays.Relays.{Relays}
-use Rattle.scenario_sinks.specs.RelayPasts as relays
+use Rattle.scenario_sinks.specs.RelayHistories as relays
 use Rattle.scenario_sinks.specs.State.RelaysStand.{RelaysStand}
-use Rattle.replay_steps.specs.Machines.{lent, relays_past}
+use Rattle.replay_steps.specs.Machines.{lent, relay_histories}
 
 all_as : (one other : ℕ → Bool) (ns : List ℕ) → ((n : ℕ) → one n ≡ other n) → list_all one ns ≡ list_all other ns
 all_as one other [] same = refl
 all_as one other (n ∷ ns) same = ap (λ b. b && list_all one ns) (same n) ∙ ap (λ b. other n && b) (all_as one other ns same)
 
 -- the relays by another past that is the same
-pub relays_as : (one other : relays.Past) (held : Relays) → ((n : ℕ) → one.routes n ≡ other.routes n) → ((bis : ℕ) → one.relayed bis ≡ other.relayed bis)
+pub relays_as : (one other : relays.Histories) (held : Relays) → ((n : ℕ) → one.routes n ≡ other.routes n) → ((bis : ℕ) → one.relayed bis ≡ other.relayed bis)
     → ((bis : ℕ) → one.given bis ≡ other.given bis) → RelaysStand one held → RelaysStand other held
 relays_as one other held routes relayed given stands = record {
   routes = λ n below. stands.routes n below ∙ ap Some (routes n);
@@ -62,10 +62,10 @@ given_stays bis steps made none =
       | false ↦ refl
     ]
 
-pub relays_stay : (steps : List Step) (made : Step) (held : Relays) → minds_relays made ≡ false → RelaysStand (relays_past steps) held
-    → RelaysStand (relays_past (made ∷ steps)) held
+pub relays_stay : (steps : List Step) (made : Step) (held : Relays) → minds_relays made ≡ false → RelaysStand (relay_histories steps) held
+    → RelaysStand (relay_histories (made ∷ steps)) held
 relays_stay steps made held minds stands =
     let says = beside made minds in
-    relays_as (relays_past steps) (relays_past (made ∷ steps)) held
+    relays_as (relay_histories steps) (relay_histories (made ∷ steps)) held
     (λ n. ap (λ (route : Option Route). option_map lent route) (routes_stay n steps made (says.routes n)))
     (λ bis. had_stays bis steps made (says.relays bis)) (λ bis. given_stays bis steps made (says.gives bis)) stands

@@ -19,21 +19,21 @@ use Rattle.scenario_history.specs.Source.{is_sending, setup_of, source_calls}
 use Rattle.scenario_history.specs.Boxes.{box_of, handed_by}
 use Rattle.scenario_history.specs.Output.{output_of, sink_lines}
 use Rattle.scenario_history.specs.Refusals.{phase_refusal, train_ends}
-use Rattle.scenario_history.specs.Worlds.{life, source_at, the_world}
+use Rattle.scenario_history.specs.Worlds.{calls_made, source_at, the_world}
 use Rattle.delegator_history.specs.Trains.{Settings}
-use Rattle.sink_history.specs.Lives.{Source, made_of, named_by}
+use Rattle.sink_history.specs.History.{Source, made_of, named_by}
 use Rattle.sink_history.specs.Output.{printed_at, printed_of, printed_where}
 use Rattle.sink_history.specs.Refusals.{refused_at, refused_where, refusal_of}
 use Rattle.scenario_sink.specs.SinkLines.{IsSinkLine}
 use Rattle.scenario_sources.specs.Answers.{AnnouncesAs}
 use Rattle.scenario_sources.proofs.Citable.{SaysNothing}
-use Rattle.scenario_sinks.specs.Pasts.{Past, with_line}
+use Rattle.scenario_sinks.specs.Histories.{Histories, with_line}
 use Rattle.scenario_sinks.specs.SinkLines.{SinkLineMakes}
 use Rattle.scenario_sinks.specs.State.Standing.{SinksStand}
 use Rattle.replay_steps.specs.declared.machine.Machine.{Machine}
-use Rattle.replay_steps.specs.Machines.{Stands, past_of}
+use Rattle.replay_steps.specs.Machines.{Stands, histories_of}
 use Rattle.replay_steps.specs.Meets.{Tells}
-use Rattle.scenario_history.specs.Gifts.{closes_first}
+use Rattle.scenario_history.specs.RelayedUnits.{closes_first}
 use Rattle.scenario_history.specs.Refusals.{is_relayed}
 use Rattle.replay_steps.proofs.RelaysStay.{beside, minds_relays}
 use Rattle.replay_steps.proofs.Stepping.{brought, or_none, sinks_stand}
@@ -56,15 +56,15 @@ line_says made line = record {
 }
 
 -- the past of the sinks with a line that names this sink
-abbrev with_named : Option ℕ → Step → List Step → Past
-with_named None made steps = past_of steps
-with_named (Some n) made steps = with_line n (source_at steps) made (past_of steps)
+abbrev with_named : Option ℕ → Step → List Step → Histories
+with_named None made steps = histories_of steps
+with_named (Some n) made steps = with_line n (source_at steps) made (histories_of steps)
 
 -- what the line is to the sinks, and that it leaves the scenario where it stands and hands up nothing
 record Runs (made : Step) : Type 0 where
   stage : (stage : Stage) → stage_after made stage ≡ stage
   refusal : (boxes version : ℕ) (steps : List Step) → stage_of steps ≡ running version → phase_refusal airs_of boxes steps made ≡ refusal_of the_world steps made
-  past : (steps : List Step) → past_of (made ∷ steps) ≡ with_named (named_by made) made steps
+  past : (steps : List Step) → histories_of (made ∷ steps) ≡ with_named (named_by made) made steps
   handed : (steps : List Step) → handed_by airs_of steps made ≡ []
 
 line_runs : (made : Step) → IsSinkLine made → Runs made
@@ -107,14 +107,14 @@ line_prints starts steps made line = search (line, silent) depth 2 fits 30 parts
 
 -- a line of a sink that says nothing of a source, by what it is to the sinks
 named_meets : (starts : List Account) (n : ℕ) (steps : List Step) (made : Step) (old new : Machine) (text told : List ℕ) (r : Result (Unit {0}) Stop)
-    → Stands steps old → phase_refusal airs_of (length starts) steps made ≡ refused_where made (made_of n steps) (life n steps) → SaysNothing made
-    → stage_of (made ∷ steps) ≡ stage_of steps → past_of (made ∷ steps) ≡ with_line n (source_at steps) made (past_of steps)
-    → output_of airs_of starts steps made ≡ concat (printed_where (source_at steps) made (made_of n steps) (life n steps))
+    → Stands steps old → phase_refusal airs_of (length starts) steps made ≡ refused_where made (made_of n steps) (calls_made n steps) → SaysNothing made
+    → stage_of (made ∷ steps) ≡ stage_of steps → histories_of (made ∷ steps) ≡ with_line n (source_at steps) made (histories_of steps)
+    → output_of airs_of starts steps made ≡ concat (printed_where (source_at steps) made (made_of n steps) (calls_made n steps))
     → new.stage ≡ old.stage → new.sources ≡ old.sources → minds_relays made ≡ false → new.relays ≡ old.relays
-    → SinkLineMakes (past_of steps) n (source_at steps) made new.sinks text told r → Tells starts steps made new text told r
+    → SinkLineMakes (histories_of steps) n (source_at steps) made new.sinks text told r → Tells starts steps made new text told r
 named_meets starts n steps made old new text told (Ok x) stands is nothing on past output stage same minds held m = (
   is ∙ m.0,
-  brought steps made old new stands nothing on stage same minds held (let P : Past → Type 0 = λ p. SinksStand p new.sinks in subst P (sym past) m.1),
+  brought steps made old new stands nothing on stage same minds held (let P : Histories → Type 0 = λ p. SinksStand p new.sinks in subst P (sym past) m.1),
   m.2 ∙ ap (λ l. text ++ l) (sym output),
 )
 named_meets starts n steps made old new text told (Err (Refused reason)) stands is nothing on past output stage same minds held m =
@@ -124,7 +124,7 @@ named_meets starts n steps made old new text told (Err Memory) stands is nothing
 
 pub line_meets : (starts : List Account) (version n : ℕ) (steps : List Step) (made : Step) (old new : Machine) (text told : List ℕ) (r : Result (Unit {0}) Stop)
     → Stands steps old → stage_of steps ≡ running version → IsSinkLine made → named_by made ≡ Some n → new.stage ≡ old.stage → new.sources ≡ old.sources
-    → new.relays ≡ old.relays → SinkLineMakes (past_of steps) n (source_at steps) made new.sinks text told r → Tells starts steps made new text told r
+    → new.relays ≡ old.relays → SinkLineMakes (histories_of steps) n (source_at steps) made new.sinks text told r → Tells starts steps made new text told r
 line_meets starts version n steps made old new text told r stands e line named stage same held m =
     let runs = line_runs made line in
     named_meets starts n steps made old new text told r stands
@@ -176,9 +176,9 @@ not_there n calls (Some sink) e = absurd (cc e)
 
 announce_fault_is : (boxes version n : ℕ) (steps : List Step) → stage_of steps ≡ running version → is_sending (chosen_steps steps) ≡ true
     → phase_refusal airs_of boxes steps (Announce n)
-    ≡ option_or (refused_where (Announce n) (made_of n steps) (life n steps)) (train_ends (announce_fault (setup_of (chosen_steps steps)) (source_calls (chosen_steps steps))))
+    ≡ option_or (refused_where (Announce n) (made_of n steps) (calls_made n steps)) (train_ends (announce_fault (setup_of (chosen_steps steps)) (source_calls (chosen_steps steps))))
 announce_fault_is boxes version n steps e going =
-    rw (e, going) (ap (option_or (refused_where (Announce n) (made_of n steps) (life n steps)))
+    rw (e, going) (ap (option_or (refused_where (Announce n) (made_of n steps) (calls_made n steps)))
     (or_none (train_ends (announce_fault (setup_of (chosen_steps steps)) (source_calls (chosen_steps steps))))))
 
 pub announce_nowhere : (boxes version n : ℕ) (steps : List Step) → stage_of steps ≡ running version → is_sending (chosen_steps steps) ≡ true
@@ -186,7 +186,7 @@ pub announce_nowhere : (boxes version n : ℕ) (steps : List Step) → stage_of 
 announce_nowhere boxes version n steps e going lives =
     let ends = train_ends (announce_fault (setup_of (chosen_steps steps)) (source_calls (chosen_steps steps))) in
     announce_fault_is boxes version n steps e going
-    ∙ ap (λ o. option_or o ends) (not_there n (life n steps) (made_of n steps) (made_with_box n steps ∙ lives))
+    ∙ ap (λ o. option_or o ends) (not_there n (calls_made n steps) (made_of n steps) (made_with_box n steps ∙ lives))
 
 pub announce_fails : (starts : List Account) (version n : ℕ) (steps : List Step) (new : Machine) (text : List ℕ) (stop : Stop) → Stands steps new → stage_of steps ≡ running version
     → is_sending (chosen_steps steps) ≡ true → is_some (box_of n steps) ≡ true → AnnouncesAs (chosen_steps steps) (Err stop)
@@ -195,7 +195,7 @@ announce_fails starts version n steps new text (Refused reason) stands e going l
     let ends = train_ends (announce_fault (setup_of (chosen_steps steps)) (source_calls (chosen_steps steps))) in
     let own : ends ≡ Some reason = sym (rw going refl) ∙ a in (
       announce_fault_is (length starts) version n steps e going
-          ∙ ap (λ o. option_or o ends) (hears_train n (life n steps) (made_of n steps) (made_with_box n steps ∙ lives)) ∙ own,
+          ∙ ap (λ o. option_or o ends) (hears_train n (calls_made n steps) (made_of n steps) (made_with_box n steps ∙ lives)) ∙ own,
       stands,
       refl,
     )
@@ -204,8 +204,8 @@ announce_fails starts version n steps new text Memory stands e going lives a = t
 
 pub announce_meets : (starts : List Account) (version n : ℕ) (steps : List Step) (train : Announced) (old new : Machine) (text told : List ℕ) (r : Result (Unit {0}) Stop)
     → Stands steps old → stage_of steps ≡ running version → AnnouncesAs (chosen_steps steps) (Ok train) → new.stage ≡ old.stage → new.sources ≡ old.sources
-    → new.relays ≡ old.relays → SinkLineMakes (past_of steps) n (source_at steps) (Announce n) new.sinks text told r → Tells starts steps (Announce n) new text told r
+    → new.relays ≡ old.relays → SinkLineMakes (histories_of steps) n (source_at steps) (Announce n) new.sinks text told r → Tells starts steps (Announce n) new text told r
 announce_meets starts version n steps train old new text told r stands e a stage same held m =
     named_meets starts n steps (Announce n) old new text told r stands
-    (announce_fault_is (length starts) version n steps e a.0 ∙ ap (λ f. option_or (refused_where (Announce n) (made_of n steps) (life n steps)) (train_ends f)) a.1
-    ∙ or_none (refused_where (Announce n) (made_of n steps) (life n steps))) (announce_says n) refl refl refl stage same refl held m
+    (announce_fault_is (length starts) version n steps e a.0 ∙ ap (λ f. option_or (refused_where (Announce n) (made_of n steps) (calls_made n steps)) (train_ends f)) a.1
+    ∙ or_none (refused_where (Announce n) (made_of n steps) (calls_made n steps))) (announce_says n) refl refl refl stage same refl held m

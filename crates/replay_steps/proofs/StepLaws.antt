@@ -8,7 +8,7 @@ use Rattle.scenario_text.specs.declared.step.Step.{Step}
 use Rattle.scenario_text.specs.declared.step.Step.TheVariants.{Scenario}
 use Rattle.scenario_history.specs.Steps.{is_over, over, running, stage_of, unbegun}
 use Rattle.scenario_history.specs.Boxes.{accounts_after, handed_by, handed_up}
-use Rattle.scenario_history.specs.Gifts.{after_offers, closes_first, offers_at, with_gifts}
+use Rattle.scenario_history.specs.RelayedUnits.{after_offers, closes_first, offers_at, with_relayed_units}
 use Rattle.scenario_history.specs.Output.{output_of}
 use Rattle.scenario_history.specs.Refusals.{is_relayed, line_refusal, phase_refusal, relayed_or}
 use Rattle.scenario_history.proofs.Citable.{boxes_stay}
@@ -26,9 +26,9 @@ pub boxes_counted : {A : Type 0} (f : A → Account) (items : List A) (starts : 
     → BoxesStand starts steps (map f items) → n ≡ length starts
 boxes_counted f items starts steps n is boxes = is ∙ sym (length-map items f) ∙ boxes_count starts (map f items) steps boxes
 
--- before a step that closes no event of source 0 there are no gifts
-pub no_gifts : (steps : List Step) (made : Step) → closes_first steps made ≡ false → with_gifts airs_of steps made ≡ steps
-no_gifts steps made alone = ap (λ hit. after_offers airs_of (cond hit (offers_at airs_of steps) []) steps) alone
+-- before a step that closes no event of source 0 there are no relayed units
+pub no_relayed_units : (steps : List Step) (made : Step) → closes_first steps made ≡ false → with_relayed_units airs_of steps made ≡ steps
+no_relayed_units steps made alone = ap (λ hit. after_offers airs_of (cond hit (offers_at airs_of steps) []) steps) alone
 
 -- a step that gives no unit isn't Relayed
 not_relayed : (boxes : ℕ) (steps : List Step) (made : Step) → is_relayed steps made ≡ false → phase_line airs_of boxes steps made ≡ phase_refusal airs_of boxes steps made
@@ -56,7 +56,7 @@ pub quiet_meets : (starts : List Account) (boxes : ℕ) (steps : List Step) (mad
     → Quiet boxes steps made new r → Meets starts steps made new text text accounts accounts r
 quiet_meets starts boxes steps made new text accounts (Ok x) count output handed alone q = (
   subst (λ n. phase_line airs_of n steps made ≡ None) count q.0,
-  subst (λ before. Stands (made ∷ before) new) (sym (no_gifts steps made alone)) q.1,
+  subst (λ before. Stands (made ∷ before) new) (sym (no_relayed_units steps made alone)) q.1,
   sym (ap (λ l. text ++ l) output ∙ append-nil text),
   sym (ap (accounts_after accounts) handed),
 )
@@ -70,7 +70,7 @@ pub tells_meets : (starts : List Account) (steps : List Step) (made : Step) (new
     → Tells starts steps made new text told r → Meets starts steps made new text told accounts accounts r
 tells_meets starts steps made new text told accounts (Ok x) handed alone gives_none t = (
   not_relayed (length starts) steps made gives_none ∙ t.0,
-  subst (λ before. Stands (made ∷ before) new) (sym (no_gifts steps made alone)) t.1,
+  subst (λ before. Stands (made ∷ before) new) (sym (no_relayed_units steps made alone)) t.1,
   t.2,
   sym (ap (accounts_after accounts) handed),
 )

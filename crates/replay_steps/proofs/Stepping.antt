@@ -7,7 +7,7 @@ use Rattle.delegator_machine.specs.Groups.{by_numbers}
 use Rattle.delegator_history.specs.Announced.{numbers_alone}
 use Rattle.delegator_history.specs.LastGiven.{last_given}
 use Rattle.delegator_history.specs.Trains.{Settings}
-use Rattle.sync_reference.specs.Joining.{Joining}
+use Rattle.sync_reference.specs.BigSync.{BigSync}
 use Rattle.group_sink.specs.Calls.{tune}
 use Rattle.transcript_text.specs.declared.refusal.Refusal.{Refusal}
 use Rattle.transcript_text.specs.declared.refusal.Refusal.TheVariants.{NoSuchBis, Order}
@@ -18,8 +18,8 @@ use Rattle.scenario_text.specs.declared.step.Step.TheVariants.{End, Group, Scena
 use Rattle.scenario_history.specs.Steps.{Stage, chosen_of, chosen_steps, running, stage_after, stage_of, version_at}
 use Rattle.scenario_history.specs.Source.{group_of, no_group, setup_of, takes_units}
 use Rattle.scenario_history.specs.Boxes.{box_of}
-use Rattle.scenario_history.specs.Worlds.{joining_on}
-use Rattle.sink_history.specs.Lives.{horizon_of, version_given, horizon_in}
+use Rattle.scenario_history.specs.Worlds.{big_sync_on}
+use Rattle.sink_history.specs.History.{horizon_of, version_given, horizon_in}
 use Rattle.scenario_history.specs.Steps.{sinks_made}
 use Rattle.scenario_history.specs.Refusals.{has_beyond, is_misplaced, is_out_of_phase, no_sink, phase_refusal, relayed_or, sink_refusal, source_refusal, twin_refusal}
 use Rattle.sink_history.specs.Refusals.{refuse_if}
@@ -29,14 +29,14 @@ use Rattle.scenario_sources.specs.Faults.{fault_of}
 use Rattle.scenario_sources.specs.State.Standing.{SourcesStand}
 use Rattle.scenario_sources.proofs.Citable.{SaysNothing, sink_says, sources_stay, tuned_says}
 use Rattle.scenario_sinks.specs.declared.sinks.Sinks.{Sinks}
-use Rattle.scenario_sinks.specs.Pasts.{Past, with_sink, with_tuning}
+use Rattle.scenario_sinks.specs.Histories.{Histories, with_sink, with_tuning}
 use Rattle.scenario_sinks.specs.Refusals as sinks
 use Rattle.scenario_sinks.specs.Refusals.{not_made, not_tuned}
 use Rattle.scenario_sinks.specs.State.Standing.{SinksStand}
 use Rattle.replay_steps.specs.declared.machine.Machine.{Machine}
 use Rattle.scenario_sinks.specs.declared.relays.Relays.{Relays}
 use Rattle.scenario_sinks.specs.State.RelaysStand.{RelaysStand}
-use Rattle.replay_steps.specs.Machines.{Stands, past_of, relays_past}
+use Rattle.replay_steps.specs.Machines.{Stands, histories_of, relay_histories}
 use Rattle.replay_steps.specs.Meets.{Quiet, phase_line}
 use Rattle.replay_steps.specs.Versions.{stage_in}
 use Rattle.replay_steps.proofs.RelaysStay.{beside, minds_relays, relays_stay}
@@ -70,9 +70,9 @@ as_step boxes steps made minds = ap (λ relayed. relayed_or relayed (phase_refus
 
 -- the relays that stood stand by the step too
 pub relays_kept : (steps : List Step) (made : Step) (old new : Machine) → minds_relays made ≡ false → Stands steps old → new.relays ≡ old.relays
-    → RelaysStand (relays_past (made ∷ steps)) new.relays
+    → RelaysStand (relay_histories (made ∷ steps)) new.relays
 relays_kept steps made old new minds stands held =
-    subst (λ r. RelaysStand (relays_past (made ∷ steps)) r) (sym held) (relays_stay steps made old.relays minds stands.relays)
+    subst (λ r. RelaysStand (relay_histories (made ∷ steps)) r) (sym held) (relays_stay steps made old.relays minds stands.relays)
 
 -- the machine after a refused step of the sources, or of the sinks
 pub sources_stand : (steps : List Step) (old new : Machine) → Stands steps old → new.stage ≡ old.stage → new.sinks ≡ old.sinks → new.relays ≡ old.relays
@@ -80,23 +80,23 @@ pub sources_stand : (steps : List Step) (old new : Machine) → Stands steps old
 sources_stand steps old new stands stage same held sources = record {
   stage = ap stage_in stage ∙ stands.stage;
   sources = sources;
-  sinks = let S : Sinks → Type 0 = λ k. SinksStand (past_of steps) k in subst S (sym same) stands.sinks;
-  relays = let R : Relays → Type 0 = λ r. RelaysStand (relays_past steps) r in subst R (sym held) stands.relays;
+  sinks = let S : Sinks → Type 0 = λ k. SinksStand (histories_of steps) k in subst S (sym same) stands.sinks;
+  relays = let R : Relays → Type 0 = λ r. RelaysStand (relay_histories steps) r in subst R (sym held) stands.relays;
 }
 
 pub sinks_stand : (steps : List Step) (old new : Machine) → Stands steps old → new.stage ≡ old.stage → new.sources ≡ old.sources → new.relays ≡ old.relays
-    → SinksStand (past_of steps) new.sinks → Stands steps new
+    → SinksStand (histories_of steps) new.sinks → Stands steps new
 sinks_stand steps old new stands stage same held sinks = record {
   stage = ap stage_in stage ∙ stands.stage;
   sources = let S : Sources → Type 0 = λ s. SourcesStand steps s in subst S (sym same) stands.sources;
   sinks = sinks;
-  relays = let R : Relays → Type 0 = λ r. RelaysStand (relays_past steps) r in subst R (sym held) stands.relays;
+  relays = let R : Relays → Type 0 = λ r. RelaysStand (relay_histories steps) r in subst R (sym held) stands.relays;
 }
 
 -- a step that says nothing of a source, by what it made of the sinks
 pub brought : (steps : List Step) (made : Step) (old new : Machine) → Stands steps old → SaysNothing made → stage_of (made ∷ steps) ≡ stage_of steps
     → new.stage ≡ old.stage → new.sources ≡ old.sources → minds_relays made ≡ false → new.relays ≡ old.relays
-    → SinksStand (past_of (made ∷ steps)) new.sinks → Stands (made ∷ steps) new
+    → SinksStand (histories_of (made ∷ steps)) new.sinks → Stands (made ∷ steps) new
 brought steps made old new stands nothing on stage same minds held heard = record {
   stage = ap stage_in stage ∙ stands.stage ∙ sym on;
   sources = let S : Sources → Type 0 = λ s. SourcesStand (made ∷ steps) s in subst S (sym same) (sources_stay made steps old.sources nothing stands.sources);
@@ -107,14 +107,14 @@ brought steps made old new stands nothing on stage same minds held heard = recor
 -- ---- a step of the sources alone
 
 pub sources_meet : (boxes version : ℕ) (steps : List Step) (made : Step) (old new : Machine) (r : Result (Unit {0}) Stop) → GoesOn made
-    → past_of (made ∷ steps) ≡ past_of steps → Stands steps old → stage_of steps ≡ running version → new.stage ≡ old.stage → new.sinks ≡ old.sinks
+    → histories_of (made ∷ steps) ≡ histories_of steps → Stands steps old → stage_of steps ≡ running version → new.stage ≡ old.stage → new.sinks ≡ old.sinks
     → minds_relays made ≡ false → new.relays ≡ old.relays → sources.Answers version steps made new.sources r → Quiet boxes steps made new r
 sources_meet boxes version steps made old new (Ok x) on past stands e stage same minds held a = (
   as_step boxes steps made minds ∙ source_fault boxes version steps made on e ∙ a.0,
   record {
     stage = stage_stays steps made old new on stands stage;
     sources = a.1;
-    sinks = let P : Past → Type 0 = λ p. SinksStand p new.sinks in let S : Sinks → Type 0 = λ s. SinksStand (past_of steps) s in
+    sinks = let P : Histories → Type 0 = λ p. SinksStand p new.sinks in let S : Sinks → Type 0 = λ s. SinksStand (histories_of steps) s in
         subst P (sym past) (subst S (sym same) stands.sinks);
     relays = relays_kept steps made old new minds stands held;
   },
@@ -132,7 +132,7 @@ choose_meets boxes version source steps old new stands e stage same held s = (
   record {
     stage = ap stage_in stage ∙ stands.stage;
     sources = s;
-    sinks = let S : Sinks → Type 0 = λ k. SinksStand (past_of steps) k in subst S (sym same) stands.sinks;
+    sinks = let S : Sinks → Type 0 = λ k. SinksStand (histories_of steps) k in subst S (sym same) stands.sinks;
     relays = relays_kept steps (Source source) old new refl stands held;
   },
 )
@@ -140,22 +140,22 @@ choose_meets boxes version source steps old new stands e stage same held s = (
 -- ---- a step of the sinks alone
 
 -- less is said after want of memory
-pub less_said : (fault : Option Refusal) (past next : Past) (new : Sinks) (r : Result (Unit {0}) Stop) → sinks.Answers fault past next new r → sinks.Tunes fault past next new r
+pub less_said : (fault : Option Refusal) (past next : Histories) (new : Sinks) (r : Result (Unit {0}) Stop) → sinks.Answers fault past next new r → sinks.Tunes fault past next new r
 less_said fault past next new (Ok x) a = a
 less_said fault past next new (Err (Refused reason)) a = a
 less_said fault past next new (Err OutletFault) a = a
 less_said fault past next new (Err Memory) a = tt
 
-pub sinks_meet : (boxes : ℕ) (steps : List Step) (made : Step) (fault : Option Refusal) (next : Past) (old new : Machine) (r : Result (Unit {0}) Stop) → Stands steps old
-    → phase_refusal airs_of boxes steps made ≡ fault → SaysNothing made → stage_of (made ∷ steps) ≡ stage_of steps → past_of (made ∷ steps) ≡ next
+pub sinks_meet : (boxes : ℕ) (steps : List Step) (made : Step) (fault : Option Refusal) (next : Histories) (old new : Machine) (r : Result (Unit {0}) Stop) → Stands steps old
+    → phase_refusal airs_of boxes steps made ≡ fault → SaysNothing made → stage_of (made ∷ steps) ≡ stage_of steps → histories_of (made ∷ steps) ≡ next
     → new.stage ≡ old.stage → new.sources ≡ old.sources → minds_relays made ≡ false → new.relays ≡ old.relays
-    → sinks.Tunes fault (past_of steps) next new.sinks r → Quiet boxes steps made new r
+    → sinks.Tunes fault (histories_of steps) next new.sinks r → Quiet boxes steps made new r
 sinks_meet boxes steps made fault next old new (Ok x) stands is nothing on past stage same minds held a = (
   as_step boxes steps made minds ∙ is ∙ a.0,
   record {
     stage = ap stage_in stage ∙ stands.stage ∙ sym on;
     sources = let S : Sources → Type 0 = λ s. SourcesStand (made ∷ steps) s in subst S (sym same) (sources_stay made steps old.sources nothing stands.sources);
-    sinks = let P : Past → Type 0 = λ p. SinksStand p new.sinks in subst P (sym past) a.1;
+    sinks = let P : Histories → Type 0 = λ p. SinksStand p new.sinks in subst P (sym past) a.1;
     relays = relays_kept steps made old new minds stands held;
   },
 )
@@ -180,20 +180,20 @@ version_said (step ∷ earlier) = version_by step earlier (version_said earlier)
 horizon_said : (version horizon : ℕ) (steps : List Step) → stage_of steps ≡ running version → horizon ≡ horizon_in version → horizon ≡ horizon_of steps
 horizon_said version horizon steps e is = is ∙ ap horizon_in (sym (version_said steps ∙ ap version_at e))
 
--- what the line says, in a scenario whose groups reach so far ahead
+-- what the line says, in a scenario whose groups have at most this horizon
 abbrev made_with : (streams slots horizon : ℕ) → Option ℕ → Settings
 made_with streams slots horizon mtu = record { setup = record { streams = streams; slots = slots; horizon = horizon }; mtu = mtu }
 
 pub make_meets : (boxes version n streams slots horizon : ℕ) (mtu : Option ℕ) (steps : List Step) (old new : Machine) (r : Result (Unit {0}) Stop) → Stands steps old
     → stage_of steps ≡ running version → horizon ≡ horizon_in version → new.stage ≡ old.stage → new.sources ≡ old.sources → new.relays ≡ old.relays
-    → sinks.Answers (not_made (box_of n steps) (sinks_made steps) boxes) (past_of steps) (with_sink n (made_with streams slots horizon mtu) (past_of steps)) new.sinks r
+    → sinks.Answers (not_made (box_of n steps) (sinks_made steps) boxes) (histories_of steps) (with_sink n (made_with streams slots horizon mtu) (histories_of steps)) new.sinks r
     → Quiet boxes steps (Sink n streams slots mtu) new r
 make_meets boxes version n streams slots horizon mtu steps old new r stands e is stage same held a =
     let fault : Option Refusal = not_made (box_of n steps) (sinks_made steps) boxes in
-    let next : Past = with_sink n (made_with streams slots horizon mtu) (past_of steps) in
+    let next : Histories = with_sink n (made_with streams slots horizon mtu) (histories_of steps) in
     sinks_meet boxes steps (Sink n streams slots mtu) fault next old new r stands (rw e (or_none fault)) (sink_says n streams slots mtu) refl
-    (ap (λ h. with_sink n (made_with streams slots h mtu) (past_of steps)) (sym (horizon_said version horizon steps e is))) stage same refl held
-    (less_said fault (past_of steps) next new.sinks r a)
+    (ap (λ h. with_sink n (made_with streams slots h mtu) (histories_of steps)) (sym (horizon_said version horizon steps e is))) stage same refl held
+    (less_said fault (histories_of steps) next new.sinks r a)
 
 -- ---- tuned
 
@@ -213,26 +213,26 @@ plain_in [] = refl
 plain_in (step ∷ own) = plain_by step own (plain_in own)
 
 -- the group that the source stands before is the one that its receivers go by
-tuned_to : (own : List Step) (which : ℕ) → joining_on own which ≡ by_numbers (joining_on own which)
-tuned_to own which = ap (λ (info : BigInfo). record (joining_on own which) { info = info }) (sym (plain_in own))
+tuned_to : (own : List Step) (which : ℕ) → big_sync_on own which ≡ by_numbers (big_sync_on own which)
+tuned_to own which = ap (λ (info : BigInfo). record (big_sync_on own which) { info = info }) (sym (plain_in own))
 
--- the sink is put on a group, and its receivers go by this one
-abbrev with_both : ℕ → ℕ → Joining → Joining → Past → Past
-with_both n source joining tuning past =
-    record (with_tuning n source joining past) { received = λ m. if n == m then tune tuning ∷ past.received m else past.received m }
+-- the sink is synchronized to a BIG, and its receivers go by this one
+abbrev with_both : ℕ → ℕ → BigSync → BigSync → Histories → Histories
+with_both n source big_sync tuning past =
+    record (with_tuning n source big_sync past) { received = λ m. if n == m then tune tuning ∷ past.received m else past.received m }
 
-pub tuned_meets : (boxes version n source which : ℕ) (steps : List Step) (tuning : Joining) (old new : Machine) (r : Result (Unit {0}) Stop) → Stands steps old
-    → stage_of steps ≡ running version → takes_units (chosen_steps steps) ≡ true → source ≡ chosen_of steps → tuning ≡ joining_on (chosen_steps steps) which
+pub tuned_meets : (boxes version n source which : ℕ) (steps : List Step) (tuning : BigSync) (old new : Machine) (r : Result (Unit {0}) Stop) → Stands steps old
+    → stage_of steps ≡ running version → takes_units (chosen_steps steps) ≡ true → source ≡ chosen_of steps → tuning ≡ big_sync_on (chosen_steps steps) which
     → new.stage ≡ old.stage → new.sources ≡ old.sources → new.relays ≡ old.relays
-    → sinks.Tunes (not_tuned (box_of n steps) tuning.info.num_bis tuning.which) (past_of steps) (with_tuning n source tuning (past_of steps)) new.sinks r
+    → sinks.Tunes (not_tuned (box_of n steps) tuning.info.num_bis tuning.which) (histories_of steps) (with_tuning n source tuning (histories_of steps)) new.sinks r
     → Quiet boxes steps (Tuned n which) new r
 tuned_meets boxes version n source which steps tuning old new r stands e going chosen is stage same held a =
     let own : List Step = chosen_steps steps in
     let fault : phase_refusal airs_of boxes steps (Tuned n which) ≡ not_tuned (box_of n steps) tuning.info.num_bis tuning.which =
     rw (e, going) (ap (option_or (no_sink n steps)) (or_none (refuse_if (has_beyond (setup_of own).info.num_bis which) NoSuchBis))
-    ∙ ap (λ (t : Joining). not_tuned (box_of n steps) t.info.num_bis t.which) (sym is)) in
-    sinks_meet boxes steps (Tuned n which) (not_tuned (box_of n steps) tuning.info.num_bis tuning.which) (with_tuning n source tuning (past_of steps)) old new r stands fault
+    ∙ ap (λ (t : BigSync). not_tuned (box_of n steps) t.info.num_bis t.which) (sym is)) in
+    sinks_meet boxes steps (Tuned n which) (not_tuned (box_of n steps) tuning.info.num_bis tuning.which) (with_tuning n source tuning (histories_of steps)) old new r stands fault
     (tuned_says n which) refl
-    (ap (λ (t : Joining). with_both n (chosen_of steps) (joining_on own which) t (past_of steps)) (tuned_to own which)
-    ∙ ap (λ s. with_tuning n s (joining_on own which) (past_of steps)) (sym chosen)
-    ∙ ap (λ (t : Joining). with_tuning n source t (past_of steps)) (sym is)) stage same refl held a
+    (ap (λ (t : BigSync). with_both n (chosen_of steps) (big_sync_on own which) t (histories_of steps)) (tuned_to own which)
+    ∙ ap (λ s. with_tuning n s (big_sync_on own which) (histories_of steps)) (sym chosen)
+    ∙ ap (λ (t : BigSync). with_tuning n source t (histories_of steps)) (sym is)) stage same refl held a

@@ -10,11 +10,11 @@ use Rattle.scenario_history.specs.Steps.{chosen_steps, sinks_made}
 use Rattle.scenario_history.specs.Source.{event_back, is_heard, performed, setup_of}
 use Rattle.scenario_history.specs.Sinks.{heard_on_air, reaches, sink_calls, source_of}
 use Rattle.scenario_history.specs.Boxes.{box_of}
-use Rattle.scenario_history.specs.Worlds.{life}
-use Rattle.sink_history.specs.Lives.{made_of}
+use Rattle.scenario_history.specs.Worlds.{calls_made}
+use Rattle.sink_history.specs.History.{made_of}
 use Rattle.scenario_history.specs.Refusals.{no_sink}
 use Rattle.sink_history.specs.Refusals.{refuse_if}
-use Rattle.scenario_sinks.specs.Pasts.{Past}
+use Rattle.scenario_sinks.specs.Histories.{Histories}
 use Rattle.replay_steps.specs.declared.grid.Grid.{Grid}
 
 -- a PDU of the chosen source may be handed to a sink: the source was started, its events have this grid, and the sink lives
@@ -28,13 +28,13 @@ Reaches steps sink (Err (Refused reason)) =
 Reaches steps sink (Err OutletFault) = ⊥
 Reaches steps sink (Err Memory) = ⊥
 
--- a sink heard the PDUs of the first `count` spots of the last event of the chosen source but those that are lost
-abbrev pub past_on_air : List Step → ℕ → ℕ → ℕ → Past
-past_on_air steps sink lose count = record {
+-- a sink heard the PDUs of the first `count` positions of the last event of the chosen source but those that are lost
+abbrev pub histories_on_air : List Step → ℕ → ℕ → ℕ → Histories
+histories_on_air steps sink lose count = record {
   boxes = λ n. box_of n steps;
   mades = λ n. made_of n steps;
   sources = λ n. source_of n steps;
-  lives = λ n. life n steps;
+  lives = λ n. calls_made n steps;
   received = λ n. if reaches sink n steps then heard_on_air airs_of (chosen_steps steps) lose count (sink_calls airs_of n steps) else sink_calls airs_of n steps;
   made = sinks_made steps;
 }

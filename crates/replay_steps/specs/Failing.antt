@@ -6,7 +6,7 @@ use Rattle.unit_outlets.specs.Handed.{valid}
 use Rattle.unit_outlets.specs.Took.{TookAt}
 use Rattle.unit_outlets.specs.declared.fault.OutletFault.TheVariants.{Failed}
 use Rattle.scenario_history.specs.Boxes.{SinkUnit, accounts_after}
-use Rattle.scenario_history.specs.Gifts.{Answered}
+use Rattle.scenario_history.specs.RelayedUnits.{Answered}
 use Rattle.scenario_history.specs.Output.{first_lines, unit_lines}
 
 -- what became of the units that relays offered before a unit of a close is handed up: those of the sinks below, and all of them once
@@ -31,5 +31,5 @@ pub record CloseFails (units : List SinkUnit) (answers : List Answered) (output 
   pub is_valid : unit.unit ≡ valid bis time octets
   pub lines : told ≡ text ++ printed_before answers done unit
   pub behind : List ℕ
-  pub front : output ≡ printed_before answers done unit ++ behind
+  pub prefix : output ≡ printed_before answers done unit ++ behind
   pub box : TookAt unit.box octets (accounts_after old done) new (Err Failed)

@@ -4,8 +4,8 @@ pub mod Failing
 pub mod Meets
 pub mod LineMeets
 pub mod Airing
-pub mod Spots
-pub mod Untaken
+pub mod Positions
+pub mod Unassigned
 pub mod Relaying
 pub mod Between
 pub mod Rare

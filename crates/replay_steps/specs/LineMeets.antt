@@ -5,7 +5,7 @@ use Rattle.unit_outlets.specs.Account.{Account}
 use Rattle.source_machine.specs.Airs.{airs_of, Airs}
 use Rattle.scenario_text.specs.declared.step.Step.{Step}
 use Rattle.transcript_text.specs.declared.refusal.Refusal.{Refusal}
-use Rattle.scenario_history.specs.Gifts.{Answered, answered_by}
+use Rattle.scenario_history.specs.RelayedUnits.{Answered, answered_by}
 use Rattle.scenario_history.specs.Lines.{Said, a_step, nothing, unsaid, rules_of, said_after, steps_of, handed_on}
 use Rattle.replay_steps.specs.declared.machine.Machine.{Machine}
 use Rattle.transcript_text.specs.declared.stop.Stop.{Stop}

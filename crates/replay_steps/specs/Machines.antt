@@ -10,24 +10,24 @@ use Rattle.scenario_history.specs.Boxes.{box_of}
 use Rattle.scenario_history.specs.Refusals.{gives_on}
 use Rattle.scenario_history.specs.Relays as history
 use Rattle.scenario_history.specs.Relays.{had_relay, relay_of}
-use Rattle.scenario_history.specs.Worlds.{life}
-use Rattle.sink_history.specs.Lives.{made_of}
+use Rattle.scenario_history.specs.Worlds.{calls_made}
+use Rattle.sink_history.specs.History.{made_of}
 use Rattle.scenario_sources.specs.State.Standing.{SourcesStand}
 use Rattle.scenario_sinks.specs.declared.route.Route.{Route}
-use Rattle.scenario_sinks.specs.RelayPasts as relays
+use Rattle.scenario_sinks.specs.RelayHistories as relays
 use Rattle.scenario_sinks.specs.State.RelaysStand.{RelaysStand}
-use Rattle.scenario_sinks.specs.Pasts.{Past}
+use Rattle.scenario_sinks.specs.Histories.{Histories}
 use Rattle.scenario_sinks.specs.State.Standing.{SinksStand}
 use Rattle.replay_steps.specs.Versions.{stage_in}
 use Rattle.replay_steps.specs.declared.machine.Machine.{Machine}
 
 -- the past of the sinks by the steps
-abbrev pub past_of : List Step → Past
-past_of steps = record {
+abbrev pub histories_of : List Step → Histories
+histories_of steps = record {
   boxes = λ n. box_of n steps;
   mades = λ n. made_of n steps;
   sources = λ n. source_of n steps;
-  lives = λ n. life n steps;
+  lives = λ n. calls_made n steps;
   received = λ n. sink_calls airs_of n steps;
   made = sinks_made steps;
 }
@@ -37,8 +37,8 @@ abbrev pub lent : history.Route → Route
 lent route = record { bis = route.bis; to = route.to }
 
 -- the past of the relays by the steps
-abbrev pub relays_past : List Step → relays.Past
-relays_past steps = record {
+abbrev pub relay_histories : List Step → relays.Histories
+relay_histories steps = record {
   routes = λ n. option_map lent (relay_of n steps);
   relayed = λ bis. had_relay bis steps;
   given = λ bis. list_any (gives_on bis) (steps_of_source 1 steps);
@@ -48,5 +48,5 @@ relays_past steps = record {
 pub record Stands (steps : List Step) (machine : Machine) : Type 0 where
   pub stage : stage_in machine.stage ≡ stage_of steps
   pub sources : SourcesStand steps machine.sources
-  pub sinks : SinksStand (past_of steps) machine.sinks
-  pub relays : RelaysStand (relays_past steps) machine.relays
+  pub sinks : SinksStand (histories_of steps) machine.sinks
+  pub relays : RelaysStand (relay_histories steps) machine.relays

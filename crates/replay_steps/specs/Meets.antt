@@ -9,7 +9,7 @@ use Rattle.scenario_text.specs.declared.step.Step.TheVariants.{Scenario}
 use Rattle.scenario_history.specs.Steps.{sinks_made}
 use Rattle.scenario_history.specs.Boxes.{SinkUnit, accounts_after, handed_up, handed_by}
 use Rattle.scenario_history.specs.Output.{output_of}
-use Rattle.scenario_history.specs.Gifts.{Answered, answered_by, with_gifts}
+use Rattle.scenario_history.specs.RelayedUnits.{Answered, answered_by, with_relayed_units}
 use Rattle.scenario_history.specs.Refusals.{is_relayed, line_refusal, phase_refusal, relayed_or}
 use Rattle.replay_steps.specs.declared.machine.Machine.{Machine}
 use Rattle.transcript_text.specs.declared.stop.Stop.{Stop}
@@ -69,14 +69,14 @@ Becomes refusal output units answers stands stays text told before after (Err Ou
 Becomes refusal output units answers stands stays text told before after (Err Memory) =
     (after ≡ before) ⊎ ((refusal ≡ None) × CutShort units before after)
 
--- a step that follows no `end`, with its gifts before it
+-- a step that follows no `end`, with its relayed units before it
 abbrev pub Meets : List Account → List Step → Step → Machine → List ℕ → List ℕ → List Account → List Account → Result (Unit {0}) Stop → Type 0
 Meets starts steps next new text told before after result =
     Becomes (phase_line airs_of (length starts) steps next) (output_of airs_of starts steps next) (handed_by airs_of steps next)
-    (answered_by airs_of steps next) (Stands (next ∷ with_gifts airs_of steps next) new) (Stands steps new) text told before after result
+    (answered_by airs_of steps next) (Stands (next ∷ with_relayed_units airs_of steps next) new) (Stands steps new) text told before after result
 
 -- a step, with the refusal of one that follows `end` beside the others
 abbrev pub StepMeets : List Account → List Step → Step → Machine → List ℕ → List ℕ → List Account → List Account → Result (Unit {0}) Stop → Type 0
 StepMeets starts steps next new text told before after result =
     Becomes (line_refusal airs_of (length starts) steps next) (output_of airs_of starts steps next) (handed_by airs_of steps next)
-    (answered_by airs_of steps next) (Stands (next ∷ with_gifts airs_of steps next) new) (Stands steps new) text told before after result
+    (answered_by airs_of steps next) (Stands (next ∷ with_relayed_units airs_of steps next) new) (Stands steps new) text told before after result

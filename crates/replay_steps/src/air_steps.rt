@@ -7,14 +7,14 @@ ghost use Rattle.scenario_text.specs.declared.step.Step.TheVariants.{Inject as I
 ghost use Rattle.scenario_history.specs.Steps.{running, stage_of};
 ghost use Rattle.scenario_sources.specs.State.Standing.{SourcesStand};
 ghost use Rattle.scenario_sinks.specs.State.Standing.{SinksStand};
-ghost use Rattle.replay_steps.specs.Airing.{OnAir, Reaches, past_on_air};
-ghost use Rattle.replay_steps.specs.Machines.{Stands, past_of};
+ghost use Rattle.replay_steps.specs.Airing.{OnAir, Reaches, histories_on_air};
+ghost use Rattle.replay_steps.specs.Machines.{Stands, histories_of};
 ghost use Rattle.replay_steps.specs.Meets.{Quiet, Tells};
-ghost use Rattle.replay_steps.specs.Spots.{IsSpot};
+ghost use Rattle.replay_steps.specs.Positions.{IsPosition};
 
 use crate::grid::Grid;
 use crate::machine::Machine;
-use crate::spot::Spot;
+use crate::position::Position;
 use bcast_base::{Bis, Memory, Octets};
 use scenario_sinks::Sinks;
 use scenario_sources::{Place, Sources};
@@ -141,46 +141,53 @@ impl Machine {
 }
 
 /// Hands a sink the PDUs of the last event, by rising index and subevent, but those that are lost.
-#[tactic(auto, using(crate::proofs::Spots::stream_within, crate::proofs::Spots::subevent_within))]
+#[tactic(auto, using(crate::proofs::Positions::stream_within, crate::proofs::Positions::subevent_within))]
 fn hear_all(sources: &Sources, sinks: &mut Sinks, sink: u8, grid: Grid, event: u64, lose: u8)
     requires sink { sink ≤ 7 }
     requires event { event < 2 ^ 39 }
     ensures { (steps : List Step) → OnAir steps sink event grid.streams grid.subevents → SourcesStand steps sources.now
-        → SinksStand (past_of steps) sinks.old → SinksStand (past_of (AirStep sink lose ∷ steps)) sinks.new }
+        → SinksStand (histories_of steps) sinks.old → SinksStand (histories_of (AirStep sink lose ∷ steps)) sinks.new }
 {
     let count = u16::from(grid.streams) * u16::from(grid.subevents);
-    let mut spot = Spot::first(grid, event, lose);
-    'spots: for number in 0..count {
-        hear_spot(sources, sinks, sink, event, spot, lose);
-        spot = spot.next(grid.subevents, lose);
+    let mut position = Position::first(grid, event, lose);
+    'positions: for number in 0..count {
+        hear_position(sources, sinks, sink, event, position, lose);
+        position = position.next(grid.subevents, lose);
     }
 }
 
-/// Hands a sink the PDU at a spot of the last event, unless it is lost.
-fn hear_spot(sources: &Sources, sinks: &mut Sinks, sink: u8, event: u64, spot: Spot, lose: u8)
+/// Hands a sink the PDU at a position of the last event, unless it is lost.
+fn hear_position(
+    sources: &Sources,
+    sinks: &mut Sinks,
+    sink: u8,
+    event: u64,
+    position: Position,
+    lose: u8,
+)
     requires sink { sink ≤ 7 }
     requires event { event < 2 ^ 39 }
-    requires stream { spot.stream < 31 }
-    requires since { spot.since ≤ lose - 1 }
+    requires stream { position.stream < 31 }
+    requires since { position.since ≤ lose - 1 }
     ensures { (steps : List Step) (streams subevents n : ℕ) → n < streams * subevents
-        → IsSpot streams subevents event lose n spot → OnAir steps sink event streams subevents → SourcesStand steps sources.now
-        → SinksStand (past_on_air steps sink lose n) sinks.old
-        → SinksStand (past_on_air steps sink lose (n + 1)) sinks.new }
+        → IsPosition streams subevents event lose n position → OnAir steps sink event streams subevents → SourcesStand steps sources.now
+        → SinksStand (histories_on_air steps sink lose n) sinks.old
+        → SinksStand (histories_on_air steps sink lose (n + 1)) sinks.new }
 {
-    if spot.is_lost(lose) {
+    if position.is_lost(lose) {
         return;
     }
-    let Some(bis) = Bis::new(spot.stream + 1) else {
+    let Some(bis) = Bis::new(position.stream + 1) else {
         return;
     };
     let place = Place {
         back: 0,
         bis,
-        subevent: spot.subevent,
+        subevent: position.subevent,
     };
     match sources.heard_at(place) {
         Ok(pdu) => {
-            let _ = sinks.hear(sink, sources.chosen(), event, bis, spot.subevent, pdu);
+            let _ = sinks.hear(sink, sources.chosen(), event, bis, position.subevent, pdu);
         }
         Err(_) => {}
     }

@@ -7,7 +7,7 @@ ghost use Rattle.scenario_text.specs.declared.step.Step.TheVariants.{Terminate a
 ghost use Rattle.scenario_history.specs.Steps.{running, stage_of};
 ghost use Rattle.replay_steps.specs.Machines.{Stands};
 ghost use Rattle.replay_steps.specs.Meets.{BoxesStand, Meets};
-ghost use Rattle.replay_steps.specs.Untaken.{UntakenSame};
+ghost use Rattle.replay_steps.specs.Unassigned.{UnassignedSame};
 ghost use Rattle.replay_steps.specs.Versions.{number_of};
 
 use crate::machine::Machine;
@@ -28,7 +28,7 @@ impl Machine {
         ensures meets { (starts : List Account) (version : ℕ) (steps : List Step) → Stands steps self.old → stage_of steps ≡ running version
             → Meets starts steps EventStep self.new text.old text.new (map account outlets.old.items)
             (map account outlets.new.items) result }
-        ensures untaken { (steps : List Step) → Stands steps self.old → UntakenSame steps outlets.old.items outlets.new.items }
+        ensures unassigned { (steps : List Step) → Stands steps self.old → UnassignedSame steps outlets.old.items outlets.new.items }
     {
         let performed = match self.sources.perform() {
             Ok(performed) => performed,
@@ -55,7 +55,7 @@ impl Machine {
         ensures meets { (starts : List Account) (version : ℕ) (steps : List Step) → Stands steps self.old → stage_of steps ≡ running version
             → Meets starts steps StopStep self.new text.old text.new (map account outlets.old.items)
             (map account outlets.new.items) result }
-        ensures untaken { (steps : List Step) → Stands steps self.old → UntakenSame steps outlets.old.items outlets.new.items }
+        ensures unassigned { (steps : List Step) → Stands steps self.old → UnassignedSame steps outlets.old.items outlets.new.items }
     {
         let closed = match self.sources.stop() {
             Ok(closed) => closed,
@@ -77,7 +77,7 @@ impl Machine {
         ensures meets { (starts : List Account) (version : ℕ) (steps : List Step) → Stands steps self.old → stage_of steps ≡ running version
             → Meets starts steps (TerminateStep reason) self.new text.old text.new (map account outlets.old.items)
             (map account outlets.new.items) result }
-        ensures untaken { (steps : List Step) → Stands steps self.old → UntakenSame steps outlets.old.items outlets.new.items }
+        ensures unassigned { (steps : List Step) → Stands steps self.old → UnassignedSame steps outlets.old.items outlets.new.items }
     {
         let terminated = match self.sources.terminate(reason) {
             Ok(terminated) => terminated,
@@ -106,7 +106,7 @@ impl Machine {
         ensures meets { (starts : List Account) (steps : List Step) → Stands steps self.old → stage_of steps ≡ running (number_of version)
             → BoxesStand starts steps (map account outlets.old.items)
             → Meets starts steps EndStep self.new text.old text.new (map account outlets.old.items) (map account outlets.new.items) result }
-        ensures untaken { (steps : List Step) → Stands steps self.old → UntakenSame steps outlets.old.items outlets.new.items }
+        ensures unassigned { (steps : List Step) → Stands steps self.old → UnassignedSame steps outlets.old.items outlets.new.items }
     {
         let first = self.sources.open(0);
         let second = self.sources.open(1);

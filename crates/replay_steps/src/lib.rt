@@ -4,13 +4,13 @@
 mod air_steps;
 mod close_steps;
 mod grid;
-mod life_steps;
 mod line_steps;
 mod machine;
+mod position;
 mod questions;
 mod relay_steps;
+mod sink_steps;
 mod source_steps;
-mod spot;
 mod stale;
 mod step;
 mod version;

@@ -6,7 +6,7 @@ ghost use Rattle.scenario_text.specs.declared.step.Step.{Step as Said};
 ghost use Rattle.scenario_text.specs.declared.step.Step.TheVariants.{Announce};
 ghost use Rattle.scenario_history.specs.Steps.{running, stage_of};
 ghost use Rattle.scenario_history.specs.Worlds.{source_at};
-ghost use Rattle.sink_history.specs.Lives.{named_by};
+ghost use Rattle.sink_history.specs.History.{named_by};
 ghost use Rattle.scenario_sink.specs.Origins.{IsFrom};
 ghost use Rattle.scenario_sink.specs.SinkLines.{IsSinkLine};
 ghost use Rattle.replay_steps.specs.Machines.{Stands};

@@ -31,7 +31,7 @@ impl Machine {
     ghost use Rattle.scenario_history.specs.Lines.{steps_of};
     ghost use Rattle.source_machine.specs.Airs.{airs_of};
     ghost use Rattle.replay_steps.specs.LineMeets.{LinesStand, LineMeets};
-    ghost use Rattle.replay_steps.specs.Untaken.{UntakenSame};
+    ghost use Rattle.replay_steps.specs.Unassigned.{UnassignedSame};
 
     /// A scenario before its first line.
     pub fn new(alloc: Global) -> Result<Machine, Memory>
@@ -67,9 +67,9 @@ impl Machine {
         ensures meets { (starts : List Account) (lines : List TextLine) → LinesStand starts lines self.old (map account outlets.old.items)
             → LineMeets starts lines (plain line.now) self.new text.old text.new (map account outlets.old.items)
             (map account outlets.new.items) result }
-        ensures untaken { (starts : List Account) (lines : List TextLine) (accounts : List Account)
+        ensures unassigned { (starts : List Account) (lines : List TextLine) (accounts : List Account)
             → LinesStand starts lines self.old accounts
-            → UntakenSame (steps_of airs_of lines) outlets.old.items outlets.new.items }
+            → UnassignedSame (steps_of airs_of lines) outlets.old.items outlets.new.items }
     {
         let version = self.stage.version().number();
         match read_line_over(self.alloc, &mut self.spare, version, line) {
@@ -92,9 +92,9 @@ impl Machine {
             → LinesStand starts lines self.old (map account outlets.old.items) → ((version : ℕ) → LineIs version step line)
             → LineMeets starts lines (plain line) self.new text.old text.new (map account outlets.old.items)
             (map account outlets.new.items) result }
-        ensures untaken { (starts : List Account) (lines : List TextLine) (accounts : List Account)
+        ensures unassigned { (starts : List Account) (lines : List TextLine) (accounts : List Account)
             → LinesStand starts lines self.old accounts
-            → UntakenSame (steps_of airs_of lines) outlets.old.items outlets.new.items }
+            → UnassignedSame (steps_of airs_of lines) outlets.old.items outlets.new.items }
     {
         a_line_says_one_step();
         self.step(step, outlets, text)

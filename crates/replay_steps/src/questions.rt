@@ -9,9 +9,9 @@ ghost use Rattle.scenario_history.specs.Refusals.{no_place};
 ghost use Rattle.scenario_history.specs.Sinks.{sink_calls, source_of};
 ghost use Rattle.scenario_history.specs.Source.{event_back, is_heard, pdu_in};
 ghost use Rattle.scenario_history.specs.Steps.{steps_of_source};
-ghost use Rattle.scenario_history.specs.Worlds.{life};
+ghost use Rattle.scenario_history.specs.Worlds.{calls_made};
 ghost use Rattle.scenario_sinks.specs.Hearing.{hearing_where};
-ghost use Rattle.sink_history.specs.Lives.{made_of};
+ghost use Rattle.sink_history.specs.History.{made_of};
 ghost use Rattle.sink_history.specs.Output.{state_where};
 ghost use Rattle.replay_steps.specs.LineMeets.{LinesStand};
 
@@ -72,7 +72,7 @@ impl Machine {
         requires { sink ≤ 7 }
         ensures { (starts : List Account) (lines : List TextLine) (accounts : List Account) → LinesStand starts lines self.now accounts
             → let steps = steps_of airs_of lines in
-            IfOk result (λ octets. octets ≡ state_where (made_of sink steps) (life sink steps) slot) }
+            IfOk result (λ octets. octets ≡ state_where (made_of sink steps) (calls_made sink steps) slot) }
     {
         self.sinks.state(sink, slot)
     }

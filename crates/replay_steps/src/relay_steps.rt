@@ -5,19 +5,19 @@ ghost use Rattle.std.specs.Option.{ForSome};
 ghost use Rattle.unit_outlets.specs.Account.{Account};
 ghost use Rattle.scenario_text.specs.declared.step.Step.{Step};
 ghost use Rattle.scenario_text.specs.declared.step.Step.TheVariants.{Relay as RelayStep};
-ghost use Rattle.scenario_history.specs.Gifts.{Offer, offered_of};
+ghost use Rattle.scenario_history.specs.RelayedUnits.{Offer, offered_of};
 ghost use Rattle.scenario_history.specs.Relays as history;
 ghost use Rattle.scenario_history.specs.Relays.{relay_of};
 ghost use Rattle.scenario_history.specs.Steps.{running, stage_of};
-ghost use Rattle.scenario_sinks.specs.Pasts.{Past};
+ghost use Rattle.scenario_sinks.specs.Histories.{Histories};
 ghost use Rattle.scenario_sinks.specs.State.Gathering.{handed_of};
-ghost use Rattle.scenario_sinks.specs.Untaken.{UntakenSame};
+ghost use Rattle.scenario_sinks.specs.Unassigned.{UnassignedSame};
 ghost use Rattle.scenario_sources.specs.State.Standing.{SourcesStand};
-ghost use Rattle.scenario_sinks.specs.RelayPasts.{is_idle};
+ghost use Rattle.scenario_sinks.specs.RelayHistories.{is_idle};
 ghost use Rattle.scenario_sinks.specs.State.RelaysStand.{RelaysStand};
-ghost use Rattle.replay_steps.specs.Machines.{Stands, lent, relays_past};
+ghost use Rattle.replay_steps.specs.Machines.{Stands, lent, relay_histories};
 ghost use Rattle.replay_steps.specs.Meets.{Quiet};
-ghost use Rattle.replay_steps.specs.Relaying.{Closes, Drops, FirstMeets, GivesSecond, OffersMeet, RoomsStand, SinkMeets};
+ghost use Rattle.replay_steps.specs.Relaying.{Closes, Drops, FirstMeets, GivesSecond, OffersMeet, ComponentsStand, SinkMeets};
 
 use crate::machine::Machine;
 use bcast_base::{Bis, Memory, Octets};
@@ -68,11 +68,11 @@ impl Machine {
         text: &mut Octets,
     ) -> Result<(), Stop>
         requires { ForSome closed (λ event. event < 2 ^ 39) }
-        ensures closes { (steps : List Step) (past : Past) → RoomsStand steps past self.old
+        ensures closes { (steps : List Step) (past : Histories) → ComponentsStand steps past self.old
             → Closes steps past source closed self.new text.old text.new (map account outlets.old.items)
             (map account outlets.new.items) result }
-        ensures others { (steps : List Step) (past : Past) → RoomsStand steps past self.old
-            → UntakenSame past outlets.old.items outlets.new.items }
+        ensures others { (steps : List Step) (past : Histories) → ComponentsStand steps past self.old
+            → UnassignedSame past outlets.old.items outlets.new.items }
         ensures stage { self.new.stage ≡ self.old.stage }
     {
         let Some(event) = closed else {
@@ -86,8 +86,8 @@ impl Machine {
 
     /// Whether units of this source may go to source 1: it is source 0, and a sink has a relay.
     fn may_relay(&self, source: u8) -> bool
-        ensures { (steps : List Step) (past : Past) → RoomsStand steps past self.now
-            → result ≡ ((source == 0) && not (is_idle (relays_past steps))) }
+        ensures { (steps : List Step) (past : Histories) → ComponentsStand steps past self.now
+            → result ≡ ((source == 0) && not (is_idle (relay_histories steps))) }
     {
         source == 0 && !self.relays.is_idle()
     }
@@ -101,11 +101,11 @@ impl Machine {
         text: &mut Octets,
     ) -> Result<(), Stop>
         requires { event < 2 ^ 39 }
-        ensures closes { (steps : List Step) (past : Past) → RoomsStand steps past self.old
+        ensures closes { (steps : List Step) (past : Histories) → ComponentsStand steps past self.old
             → FirstMeets steps past event self.new text.old text.new (map account outlets.old.items)
             (map account outlets.new.items) result }
-        ensures others { (steps : List Step) (past : Past) → RoomsStand steps past self.old
-            → UntakenSame past outlets.old.items outlets.new.items }
+        ensures others { (steps : List Step) (past : Histories) → ComponentsStand steps past self.old
+            → UnassignedSame past outlets.old.items outlets.new.items }
         ensures stage { self.new.stage ≡ self.old.stage }
     {
         'sinks: for sink in 0..8u8 {
@@ -127,11 +127,11 @@ impl Machine {
     ) -> Result<(), Stop>
         requires sink { sink ≤ 7 }
         requires event { event < 2 ^ 39 }
-        ensures closes { (steps : List Step) (past : Past) → RoomsStand steps past self.old
+        ensures closes { (steps : List Step) (past : Histories) → ComponentsStand steps past self.old
             → SinkMeets steps past sink event self.new text.old text.new (map account outlets.old.items)
             (map account outlets.new.items) result }
-        ensures others { (steps : List Step) (past : Past) → RoomsStand steps past self.old
-            → UntakenSame past outlets.old.items outlets.new.items }
+        ensures others { (steps : List Step) (past : Histories) → ComponentsStand steps past self.old
+            → UnassignedSame past outlets.old.items outlets.new.items }
         ensures stage { self.new.stage ≡ self.old.stage }
     {
         match self.sinks.close_at(sink, 0, event, outlets, text) {
@@ -173,7 +173,7 @@ fn offer_all(
     text: &mut Octets,
 ) -> Result<(), Stop>
     ensures { (steps : List Step) (own : Option history.Route) → route ≡ option_map lent own → SourcesStand steps sources.old
-        → RelaysStand (relays_past steps) relays.old
+        → RelaysStand (relay_histories steps) relays.old
         → OffersMeet steps (offered_of sink own (map handed_of units.now)) sources.new relays.new text.old text.new result }
 {
     match route {
@@ -192,7 +192,7 @@ fn offer_units(
     text: &mut Octets,
 ) -> Result<(), Stop>
     ensures { (steps : List Step) (own : history.Route) → route.now ≡ lent own → SourcesStand steps sources.old
-        → RelaysStand (relays_past steps) relays.old
+        → RelaysStand (relay_histories steps) relays.old
         → OffersMeet steps (offered_of sink (Some own) (map handed_of units.now)) sources.new relays.new text.old text.new result }
 {
     'units: for unit in units {
@@ -214,7 +214,7 @@ fn offer_unit(
     text: &mut Octets,
 ) -> Result<(), Stop>
     ensures { (steps : List Step) (own : history.Route) → route.now ≡ lent own → SourcesStand steps sources.old
-        → RelaysStand (relays_past steps) relays.old
+        → RelaysStand (relay_histories steps) relays.old
         → OffersMeet steps (offered_of sink (Some own) (handed_of unit.now ∷ [])) sources.new relays.new text.old text.new result }
 {
     let Some(octets) = &unit.octets else {

@@ -7,7 +7,7 @@ ghost use Rattle.scenario_history.specs.Steps.{running, stage_of, unbegun};
 ghost use Rattle.replay_steps.specs.Machines.{Stands};
 ghost use Rattle.replay_steps.specs.Meets.{BoxesStand, First, Meets, StepMeets};
 ghost use Rattle.replay_steps.specs.Rare.{IsRare};
-ghost use Rattle.replay_steps.specs.Untaken.{UntakenSame};
+ghost use Rattle.replay_steps.specs.Unassigned.{UnassignedSame};
 ghost use Rattle.replay_steps.specs.Versions.{number_of};
 
 use crate::machine::Machine;
@@ -35,7 +35,7 @@ impl Machine {
         ensures meets { (starts : List Account) (steps : List Said) → Stands steps self.old → stage_of steps ≡ running (number_of version)
             → BoxesStand starts steps (map account outlets.old.items)
             → Meets starts steps step self.new text.old text.new (map account outlets.old.items) (map account outlets.new.items) result }
-        ensures untaken { (steps : List Said) → Stands steps self.old → UntakenSame steps outlets.old.items outlets.new.items }
+        ensures unassigned { (steps : List Said) → Stands steps self.old → UnassignedSame steps outlets.old.items outlets.new.items }
     {
         match step {
             Step::Unit { bis, time, octets } => {
@@ -119,7 +119,7 @@ impl Machine {
         ensures meets { (starts : List Account) (steps : List Said) → Stands steps self.old → stage_of steps ≡ running (number_of version)
             → BoxesStand starts steps (map account outlets.old.items)
             → Meets starts steps step self.new text.old text.new (map account outlets.old.items) (map account outlets.new.items) result }
-        ensures untaken { (steps : List Said) → Stands steps self.old → UntakenSame steps outlets.old.items outlets.new.items }
+        ensures unassigned { (steps : List Said) → Stands steps self.old → UnassignedSame steps outlets.old.items outlets.new.items }
     {
         match step {
             Step::Scenario { .. } => Err(Stop::Refused(Refusal::Order)),
@@ -237,7 +237,7 @@ impl Machine {
             → BoxesStand starts steps (map account outlets.old.items)
             → StepMeets starts steps step self.new text.old text.new (map account outlets.old.items)
             (map account outlets.new.items) result }
-        ensures untaken { (steps : List Said) → Stands steps self.old → UntakenSame steps outlets.old.items outlets.new.items }
+        ensures unassigned { (steps : List Said) → Stands steps self.old → UnassignedSame steps outlets.old.items outlets.new.items }
     {
         match self.stage {
             Stage::Over(_) => Err(Stop::Refused(Refusal::AfterEnd)),

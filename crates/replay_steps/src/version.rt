@@ -1,5 +1,5 @@
 ghost use Rattle.std.specs.Prelude.{◌≡◌, ◌≤◌};
-ghost use Rattle.sink_history.specs.Lives.{horizon_in};
+ghost use Rattle.sink_history.specs.History.{horizon_in};
 ghost use Rattle.scenario_history.specs.Source.{is_ahead_in};
 
 use big_info::Limits;
@@ -45,7 +45,7 @@ impl Version {
         }
     }
 
-    /// How far its groups may reach, and whether times may be ahead.
+    /// The greatest horizon of its groups, and whether times may be ahead.
     pub(crate) fn limits(self) -> Limits
         ensures horizon { result.horizon ≡ horizon_in (number_of self) }
         ensures ahead { result.ahead ≡ is_ahead_in (number_of self) }

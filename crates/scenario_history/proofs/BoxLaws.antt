@@ -15,9 +15,9 @@ use Rattle.scenario_history.specs.Boxes.{SinkUnit, no_account, account_at, with_
 pub keep_again : {X : Type 0} (n : ℕ) (xs ys : List X) → keep_last n (keep_last n xs ++ ys) ≡ keep_last n (xs ++ ys)
 keep_again n xs ys =
     let k = length xs - n in
-    let front : drop k xs ++ ys ≡ drop k (xs ++ ys) = sym (drop-append-le k xs ys (omega arith)) in
+    let prefix : drop k xs ++ ys ≡ drop k (xs ++ ys) = sym (drop-append-le k xs ys (omega arith)) in
     let count : k + (length (drop k (xs ++ ys)) - n) ≡ length (xs ++ ys) - n = omega (arith, length-drop k (xs ++ ys), length-append xs ys) in
-    ap (keep_last n) front
+    ap (keep_last n) prefix
     ∙ drop-drop (length (drop k (xs ++ ys)) - n) k (xs ++ ys)
     ∙ ap (λ i. drop i (xs ++ ys)) count
 

@@ -6,7 +6,7 @@ use Rattle.scenario_history.specs.Runs.{Rules, End, through, refused, number_aft
 pub reverse_onto : {L : Type 0} (line : L) (earlier lines : List L)
     → reverse (line ∷ earlier) ++ lines ≡ reverse earlier ++ line ∷ lines
 reverse_onto line earlier lines =
-    ap (λ front. front ++ lines) (reverse-append (line ∷ []) earlier) ∙ append_assoc (reverse earlier) (line ∷ []) lines
+    ap (λ prefix. prefix ++ lines) (reverse-append (line ∷ []) earlier) ∙ append_assoc (reverse earlier) (line ∷ []) lines
 
 -- the next line of a run is accepted
 out_next : {L R : Type 0} (rules : Rules L R) (earlier lines : List L) (line : L) → rules.refusal earlier line ≡ None

@@ -6,8 +6,8 @@ use Rattle.scenario_history.specs.Steps.{is_of_source, stage_after, stage_of, st
 
 -- the scenario of a source's steps stands where that of all steps does
 stage_if : (own : List Step) (step : Step) (is_its : Bool) → stage_of (step ∷ own) ≡ stage_of own → stage_of (cond is_its (step ∷ own) own) ≡ stage_of own
-stage_if own step true same = same
-stage_if own step false same = refl
+stage_if own this true same = same
+stage_if own this false same = refl
 
 stage_after_step : (s : ℕ) (earlier : List Step) (step : Step) → stage_of (steps_of_source s (step ∷ earlier)) ≡ stage_after step (stage_of (steps_of_source s earlier))
 stage_after_step s earlier (steps.Scenario version) = refl

@@ -2,7 +2,7 @@
 -- source, the newest first.
 use Rattle.std.specs.Prelude.{ℕ, nat_lt, is_some, Bool, List, [], ◌∷◌, length, unwrap_or}
 use Rattle.base_grammar.specs.Draft.{is_empty_last, last_of}
-use Rattle.base_grammar.specs.Layout.{Endpoint, endpoint, indices, spelling, stands_in}
+use Rattle.base_grammar.specs.Layout.{Endpoint, endpoint, indices, encoding, stands_in}
 use Rattle.base_grammar.specs.declared.subgroup.Subgroup.{Subgroup}
 use Rattle.announcement_train.specs.BaseLines.{BaseLine, opens, describes, adds, subgroups_in}
 use Rattle.announcement_train.specs.PlainBase.{plain_base_of}
@@ -46,4 +46,4 @@ base_of steps = base_from (unwrap_or (group_of steps) no_group) (subgroups_of st
 
 -- it has more than 252 octets
 abbrev pub is_base_too_long : List Step → Bool
-is_base_too_long steps = nat_lt 252 (length (spelling (base_of steps)))
+is_base_too_long steps = nat_lt 252 (length (encoding (base_of steps)))

@@ -1,7 +1,7 @@
 pub mod Airs
 pub mod Bases
 pub mod Boxes
-pub mod Gifts
+pub mod RelayedUnits
 pub mod Lines
 pub mod Output
 pub mod Refusals

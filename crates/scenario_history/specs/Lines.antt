@@ -13,7 +13,7 @@ use Rattle.scenario_history.specs.Runs.{Rules}
 use Rattle.scenario_history.specs.Steps.{version_of}
 use Rattle.source_machine.specs.Airs.{Airs}
 use Rattle.scenario_history.specs.Boxes.{SinkUnit, handed_by}
-use Rattle.scenario_history.specs.Gifts.{happened}
+use Rattle.scenario_history.specs.RelayedUnits.{happened}
 use Rattle.scenario_history.specs.Refusals.{line_refusal}
 use Rattle.scenario_history.specs.Output.{output_of}
 
@@ -44,7 +44,7 @@ abbrev pub said_of : List TextLine → List Step
 said_of [] = []
 said_of (line ∷ earlier) = with_said (said_in (version_of (said_of earlier)) line) (said_of earlier)
 
--- what happens by the lines: their steps, and the gifts of relays among them
+-- what happens by the lines: their steps, and the relayed units among them
 abbrev pub steps_of : Airs → List TextLine → List Step
 steps_of airs lines = happened airs (said_of lines)
 

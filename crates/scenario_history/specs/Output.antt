@@ -19,7 +19,7 @@ use Rattle.scenario_history.specs.Source.{event_back, end_pdu, pdu_in, stale_in}
 use Rattle.source_machine.specs.Airs.{Airs}
 use Rattle.scenario_history.specs.Sinks.{is_of, sink_calls, source_of}
 use Rattle.scenario_history.specs.Worlds.{the_world}
-use Rattle.scenario_history.specs.Gifts.{Answered, Offer, answered_by, handed_of}
+use Rattle.scenario_history.specs.RelayedUnits.{Answered, Offer, answered_by, handed_of}
 use Rattle.scenario_history.specs.Boxes.{SinkUnit, sink_numbers, account_at, box_of, closing, closing_both, valid_for, handed_up}
 
 abbrev pub unit_line : SinkUnit → List ℕ

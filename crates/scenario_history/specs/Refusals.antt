@@ -32,7 +32,7 @@ use Rattle.sink_history.specs.Refusals.{refusal_of as refusal_of_sink, refuse_if
 use Rattle.scenario_history.specs.Boxes.{box_of}
 use Rattle.scenario_history.specs.Relays.{had_relay, relay_of}
 use Rattle.scenario_history.specs.Worlds.{the_world}
-use Rattle.sink_history.specs.Lives.{horizon_in}
+use Rattle.sink_history.specs.History.{horizon_in}
 
 -- `scenario` is the first step and stands once
 abbrev pub is_misplaced : Stage → Step → Bool
@@ -195,7 +195,7 @@ abbrev pub phase_refusal : Airs → ℕ → List Step → Step → Option Refusa
 phase_refusal airs boxes steps step =
     option_or (refuse_if (is_out_of_order steps step) Order) (own_refusal airs boxes steps step)
 
--- the first reason that holds of a step, be it that of a line or of a gift to source 1
+-- the first reason that holds of a step, be it that of a line or of a relayed unit to source 1
 abbrev pub refusal_of : Airs → ℕ → List Step → Step → Option Refusal
 refusal_of airs boxes steps step = option_or (refuse_if (is_over steps) AfterEnd) (phase_refusal airs boxes steps step)
 
@@ -213,6 +213,6 @@ relayed_or true (Some Backlog) = Some Relayed
 relayed_or true (Some reason) = Some reason
 relayed_or false refusal = refusal
 
--- the first reason that holds of the step of a line: gifts are no lines, and none of them is Relayed
+-- the first reason that holds of the step of a line: relayed units are no lines, and none of them is Relayed
 abbrev pub line_refusal : Airs → ℕ → List Step → Step → Option Refusal
 line_refusal airs boxes steps step = relayed_or (is_relayed steps step) (refusal_of airs boxes steps step)

@@ -6,7 +6,7 @@ use Rattle.big_info.specs.declared.info.BigInfo.{BigInfo}
 use Rattle.big_info.specs.declared.info.Cipher.{Cipher}
 use Rattle.iso_pdu.specs.Control.{terminate}
 use Rattle.iso_pdu.specs.Layout.{control}
-use Rattle.iso_pdu.specs.Spelling.{pdu}
+use Rattle.iso_pdu.specs.Encoding.{pdu}
 use Rattle.source_machine.specs.Calls.{Setup, Call, give, event as perform, events, next_of}
 use Rattle.source_machine.specs.Airs.{Airs, pdu_of, stale_of}
 use Rattle.source_machine.specs.Ciphers.{with_cipher}

@@ -4,10 +4,10 @@
 use Rattle.std.specs.Prelude.{ℕ, List}
 use Rattle.delegator_history.specs.Octets.{train_of}
 use Rattle.announcement_train.specs.declared.train.Train.{Train}
-use Rattle.sync_reference.specs.Joining.{Joining}
+use Rattle.sync_reference.specs.BigSync.{BigSync}
 use Rattle.sink_history.specs.Calls.{Call}
 use Rattle.scenario_text.specs.declared.step.Step.{Step}
-use Rattle.sink_history.specs.Lives.{Source, World, life_of}
+use Rattle.sink_history.specs.History.{Source, World, history_of}
 use Rattle.source_machine.specs.Calls.{next_of, next_anchor_of}
 use Rattle.scenario_history.specs.Steps.{chosen_of, chosen_steps}
 use Rattle.scenario_history.specs.Source.{checked_info, identity_of, setup_of, source_calls}
@@ -20,8 +20,8 @@ announced_of own =
     (next_anchor_of (setup_of own) (source_calls own))
 
 -- the group from the next event on, for a sink on these streams
-abbrev pub joining_on : List Step → ℕ → Joining
-joining_on own which = record {
+abbrev pub big_sync_on : List Step → ℕ → BigSync
+big_sync_on own which = record {
   info = (setup_of own).info;
   which = which;
   first = next_of (setup_of own) (source_calls own);
@@ -36,13 +36,13 @@ source_at steps = record {
   address_type = (identity_of (chosen_steps steps)).address_type;
   sid = (identity_of (chosen_steps steps)).sid;
   announced = announced_of (chosen_steps steps);
-  joining = λ which. joining_on (chosen_steps steps) which;
+  big_sync = λ which. big_sync_on (chosen_steps steps) which;
 }
 
 -- what lies outside of the sinks
 abbrev pub the_world : World
 the_world = record { source = source_at }
 
--- the life of the sink of a number, but for what it hears and closes
-abbrev pub life : ℕ → List Step → List Call
-life n steps = life_of the_world n steps
+-- the history of the sink of a number, but for what it hears and closes
+abbrev pub calls_made : ℕ → List Step → List Call
+calls_made n steps = history_of the_world n steps

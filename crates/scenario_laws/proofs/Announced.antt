@@ -11,21 +11,21 @@ use Rattle.announcement_train.specs.Layout.{IsTrain}
 use Rattle.announcement_train.specs.Told.{Tells}
 use Rattle.delegator_history.specs.Announced.{IsOnGroup, heard_as, numbers_alone}
 use Rattle.delegator_history.specs.Octets.{MayAnnounce, train_of}
-use Rattle.delegator_history.specs.Sights.{Sight}
-use Rattle.delegator_history.specs.Trains.{Brought, Settings, Setup as SinkSetup, brought_by, taken, joining_in}
-use Rattle.sync_reference.specs.Joining.{Joining}
+use Rattle.delegator_history.specs.Snapshots.{Snapshot}
+use Rattle.delegator_history.specs.Trains.{TrainOutcome, Settings, Setup as SinkSetup, outcome_by, taken, big_sync_in}
+use Rattle.sync_reference.specs.BigSync.{BigSync}
 use Rattle.delegator_machine.specs.Groups.{by_numbers}
 use Rattle.source_machine.specs.Calls.{next_anchor_of, next_of}
 use Rattle.scenario_text.specs.declared.step.Step.{Step}
 use Rattle.scenario_text.specs.declared.step.Step.TheVariants as steps
-use Rattle.sink_history.specs.Lives.{own_train}
-use Rattle.sink_history.specs.Moves.{joining_of}
-use Rattle.sink_history.specs.Output.{sight_in}
+use Rattle.sink_history.specs.History.{own_train}
+use Rattle.sink_history.specs.Moves.{big_sync_of}
+use Rattle.sink_history.specs.Output.{snapshot_in}
 use Rattle.scenario_history.specs.Bases.{base_from, base_of, subgroups_of}
 use Rattle.scenario_history.specs.Source.{GroupLine, checked_info, group_of, identity_of, no_group, setup_of, source_calls}
 use Rattle.source_machine.specs.Airs.{Airs}
 use Rattle.scenario_history.specs.Steps.{chosen_of, chosen_steps}
-use Rattle.scenario_history.specs.Worlds.{announced_of, joining_on, life, source_at}
+use Rattle.scenario_history.specs.Worlds.{announced_of, big_sync_on, calls_made, source_at}
 use Rattle.scenario_laws.proofs.Announcers.{Tellable, may_announce, tellable}
 use Rattle.scenario_laws.proofs.Legals.{Legal, Permitted}
 use Rattle.scenario_laws.proofs.Sources.{Lawful, Settled, bounds_in, lawful, sends, settled}
@@ -39,20 +39,20 @@ pub record Announcing : Type 0 where
   pub is_read : (train : Train) (broadcast_id : List ℕ) (base : Endpoint) (info : BigInfo) (event anchor : ℕ) → 1 ≤ info.bn
       → IsTrain broadcast_id base info event anchor train → Tells train broadcast_id base info event anchor
   -- a sink is put where the source is
-  pub is_put : (setup : SinkSetup) (sight : Sight) (address_type sid : ℕ) (train : Train) (broadcast_id : List ℕ) (base : Endpoint) (info : BigInfo) (event anchor : ℕ)
-      (slot : ℕ) (bits : List ℕ) (encrypted : Bool) (joining : Joining)
-      → Tells train broadcast_id base info event anchor → brought_by setup sight (heard_as address_type sid train) ≡ taken slot bits encrypted joining
-      → IsOnGroup base info event anchor joining
+  pub is_put : (setup : SinkSetup) (snapshot : Snapshot) (address_type sid : ℕ) (train : Train) (broadcast_id : List ℕ) (base : Endpoint) (info : BigInfo) (event anchor : ℕ)
+      (slot : ℕ) (bits : List ℕ) (encrypted : Bool) (big_sync : BigSync)
+      → Tells train broadcast_id base info event anchor → outcome_by setup snapshot (heard_as address_type sid train) ≡ taken slot bits encrypted big_sync
+      → IsOnGroup base info event anchor big_sync
 
 -- the train was taken
-record Taken (brought : Brought) (joining : Joining) : Type 0 where
+record Taken (brought : TrainOutcome) (big_sync : BigSync) : Type 0 where
   slot : ℕ
   bits : List ℕ
   encrypted : Bool
-  is : brought ≡ taken slot bits encrypted joining
+  is : brought ≡ taken slot bits encrypted big_sync
 
-it_was_taken : (brought : Brought) (joining : Joining) → joining_in brought ≡ Some joining → Taken brought joining
-it_was_taken brought joining is = grind (arith, none-some)
+it_was_taken : (brought : TrainOutcome) (big_sync : BigSync) → big_sync_in brought ≡ Some big_sync → Taken brought big_sync
+it_was_taken brought big_sync is = grind (arith, none-some)
 
 -- the BASE has the delay of the group
 base_delay : (group : GroupLine) (subgroups : List Subgroup) → (base_from group subgroups).delay ≡ group.delay
@@ -63,7 +63,7 @@ base_delay group (subgroup ∷ others) = refl
 its_numbers : (own : List Step) → Settled own → Tellable own → (checked_info own).cipher ≡ None → numbers_alone (checked_info own) ≡ (setup_of own).info
 its_numbers own is tells plain = cc (plain, is.uncoded, tells.bare)
 
-abbrev tuning_with : BigInfo → (which first anchor delay : ℕ) → Joining
+abbrev tuning_with : BigInfo → (which first anchor delay : ℕ) → BigSync
 tuning_with info which first anchor delay = record { info = info; which = which; first = first; anchor = anchor; delay = delay }
 
 -- what the source announces for its next event
@@ -77,12 +77,12 @@ told laws airs own legal may least =
     (laws.is_train (identity_of own).broadcast_id (base_of own) (checked_info own) (next_of (setup_of own) (source_calls own)) (next_anchor_of (setup_of own) (source_calls own)) may)
 
 -- the sink is where the source is for its next event
-abbrev pub IsOn : List Step → Joining → Type 0
-IsOn own joining =
-    IsOnGroup (base_of own) (checked_info own) (next_of (setup_of own) (source_calls own)) (next_anchor_of (setup_of own) (source_calls own)) joining
+abbrev pub IsOn : List Step → BigSync → Type 0
+IsOn own big_sync =
+    IsOnGroup (base_of own) (checked_info own) (next_of (setup_of own) (source_calls own)) (next_anchor_of (setup_of own) (source_calls own)) big_sync
 
-same_tuning : (own : List Step) (joining : Joining) → Settled own → Tellable own → IsOn own joining → by_numbers joining ≡ joining_on own joining.which
-same_tuning own joining is tells on =
+same_tuning : (own : List Step) (big_sync : BigSync) → Settled own → Tellable own → IsOn own big_sync → by_numbers big_sync ≡ big_sync_on own big_sync.which
+same_tuning own big_sync is tells on =
     cc (
       on.group_is,
       its_numbers own is tells on.plain,
@@ -92,33 +92,33 @@ same_tuning own joining is tells on =
       base_delay (unwrap_or (group_of own) no_group) (subgroups_of own),
     )
 
--- the train puts the sink on the group of the source
-pub announced_on : Announcing → (airs : Airs) (boxes n : ℕ) (earlier : List Step) (made : Settings) (joining : Joining)
+-- the train synchronizes the sink to the BIG of the source
+pub announced_on : Announcing → (airs : Airs) (boxes n : ℕ) (earlier : List Step) (made : Settings) (big_sync : BigSync)
     → Legal airs boxes earlier → Permitted airs boxes earlier (steps.Announce n)
-    → joining_of made (sight_in made (life n earlier)) (Some (own_train (source_at earlier))) ≡ Some joining
-    → IsOn (chosen_steps earlier) joining
-announced_on laws airs boxes n earlier made joining legal permits is =
+    → big_sync_of made (snapshot_in made (calls_made n earlier)) (Some (own_train (source_at earlier))) ≡ Some big_sync
+    → IsOn (chosen_steps earlier) big_sync
+announced_on laws airs boxes n earlier made big_sync legal permits is =
     let own : List Step = chosen_steps earlier in
     let legal_own : Lawful airs own = lawful airs boxes (chosen_of earlier) earlier legal in
     let may = may_announce airs own legal_own permits.in_phase permits.by_source in
     let tells = told laws airs own legal_own may (bounds_in own (settled airs own legal_own) (sends own permits.in_phase)).bn in
-    let took : Taken (brought_by made.setup (sight_in made (life n earlier)) (own_train (source_at earlier))) joining =
-    it_was_taken (brought_by made.setup (sight_in made (life n earlier)) (own_train (source_at earlier))) joining is in
-    laws.is_put made.setup (sight_in made (life n earlier)) (source_at earlier).address_type (source_at earlier).sid (announced_of own)
+    let took : Taken (outcome_by made.setup (snapshot_in made (calls_made n earlier)) (own_train (source_at earlier))) big_sync =
+    it_was_taken (outcome_by made.setup (snapshot_in made (calls_made n earlier)) (own_train (source_at earlier))) big_sync is in
+    laws.is_put made.setup (snapshot_in made (calls_made n earlier)) (source_at earlier).address_type (source_at earlier).sid (announced_of own)
     (identity_of own).broadcast_id (base_of own) (checked_info own) (next_of (setup_of own) (source_calls own)) (next_anchor_of (setup_of own) (source_calls own))
-    took.slot took.bits took.encrypted joining tells took.is
+    took.slot took.bits took.encrypted big_sync tells took.is
 
-pub announced_tuning : Announcing → (airs : Airs) (boxes n : ℕ) (earlier : List Step) (made : Settings) (joining : Joining)
+pub announced_tuning : Announcing → (airs : Airs) (boxes n : ℕ) (earlier : List Step) (made : Settings) (big_sync : BigSync)
     → Legal airs boxes earlier → Permitted airs boxes earlier (steps.Announce n)
-    → joining_of made (sight_in made (life n earlier)) (Some (own_train (source_at earlier))) ≡ Some joining
-    → by_numbers joining ≡ joining_on (chosen_steps earlier) joining.which
-announced_tuning laws airs boxes n earlier made joining legal permits is =
+    → big_sync_of made (snapshot_in made (calls_made n earlier)) (Some (own_train (source_at earlier))) ≡ Some big_sync
+    → by_numbers big_sync ≡ big_sync_on (chosen_steps earlier) big_sync.which
+announced_tuning laws airs boxes n earlier made big_sync legal permits is =
     let legal_own : Lawful airs (chosen_steps earlier) = lawful airs boxes (chosen_of earlier) earlier legal in
-    same_tuning (chosen_steps earlier) joining (settled airs (chosen_steps earlier) legal_own) (tellable airs (chosen_steps earlier) legal_own)
-    (announced_on laws airs boxes n earlier made joining legal permits is)
+    same_tuning (chosen_steps earlier) big_sync (settled airs (chosen_steps earlier) legal_own) (tellable airs (chosen_steps earlier) legal_own)
+    (announced_on laws airs boxes n earlier made big_sync legal permits is)
 
-pub announced_within : Announcing → (airs : Airs) (boxes n : ℕ) (earlier : List Step) (made : Settings) (joining : Joining)
+pub announced_within : Announcing → (airs : Airs) (boxes n : ℕ) (earlier : List Step) (made : Settings) (big_sync : BigSync)
     → Legal airs boxes earlier → Permitted airs boxes earlier (steps.Announce n)
-    → joining_of made (sight_in made (life n earlier)) (Some (own_train (source_at earlier))) ≡ Some joining
-    → joining.which < 2 ^ (setup_of (chosen_steps earlier)).info.num_bis
-announced_within laws airs boxes n earlier made joining legal permits is = (announced_on laws airs boxes n earlier made joining legal permits is).within
+    → big_sync_of made (snapshot_in made (calls_made n earlier)) (Some (own_train (source_at earlier))) ≡ Some big_sync
+    → big_sync.which < 2 ^ (setup_of (chosen_steps earlier)).info.num_bis
+announced_within laws airs boxes n earlier made big_sync legal permits is = (announced_on laws airs boxes n earlier made big_sync legal permits is).within

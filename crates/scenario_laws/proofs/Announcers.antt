@@ -30,7 +30,7 @@ use Rattle.transcript_text.specs.declared.refusal.Refusal.TheVariants.{BaseTooLo
 use Rattle.scenario_history.specs.Bases.{base_lines, base_of, has_bis, has_subgroup, is_base_too_long, is_last_bare, subgroups_of}
 use Rattle.scenario_history.specs.Refusals.{group_refusal, train_ends}
 use Rattle.sink_history.specs.Refusals.{refuse_if}
-use Rattle.sink_history.specs.Lives.{horizon_in}
+use Rattle.sink_history.specs.History.{horizon_in}
 use Rattle.scenario_history.specs.Source.{Phase, checked_info, cipher_of, group_of, identity_of, is_absent_at, is_described_at, is_sending, is_sending_at, is_started}
 use Rattle.source_machine.specs.Airs.{Airs}
 use Rattle.scenario_history.specs.Source.{GroupLine, no_group, phase_of, setup_of, source_calls}

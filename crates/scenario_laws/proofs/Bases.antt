@@ -10,7 +10,7 @@ use Rattle.ltv_codec.specs.Layout.{AreLtvs}
 use Rattle.base_grammar.specs.Draft.{IsDraft, is_empty_last, last_of, size_fault}
 use Rattle.base_grammar.specs.declared.fault.DraftFault.TheVariants as faults
 use Rattle.base_grammar.specs.declared.subgroup.Subgroup.{Subgroup}
-use Rattle.base_grammar.specs.Layout.{AreNew, EntryFits, IsBase, SubgroupFits, bis_of, endpoint, is_lc3, lc3, spelling, stands_in}
+use Rattle.base_grammar.specs.Layout.{AreNew, EntryFits, IsBase, SubgroupFits, bis_of, endpoint, is_lc3, lc3, encoding, stands_in}
 use Rattle.base_grammar.proofs.Drafts.{draft_done, finish_is}
 use Rattle.announcement_train.specs.PlainBase.{plain_base_of, plain_entry, plain_subgroup}
 use Rattle.announcement_train.proofs.Citable.{plain_is_small}
@@ -20,7 +20,7 @@ use Rattle.scenario_history.specs.Bases.{base_from}
 -- ---- the BASE of which no line says one
 
 no_ltvs : AreLtvs []
-no_ltvs = record { ltvs = []; list = record { fit = tt; spelled = refl } }
+no_ltvs = record { ltvs = []; list = record { fit = tt; encoded = refl } }
 
 entries_fit : (is_list : Bool) (start n : ℕ) → 1 ≤ start → start + n ≤ 32 → AllByRecursion (EntryFits is_list) (map plain_entry (range_with_len start n))
 entries_fit is_list start zero least greatest = tt
@@ -58,9 +58,9 @@ finishes : (last : Bool) (octets : ℕ) → last ≡ false → ltb 252 octets �
 finishes last octets some short = cc (some, short)
 
 pub is_base : (group : GroupLine) (subgroups : List Subgroup) → group.delay < 2 ^ 24 → 1 ≤ group.info.num_bis → group.info.num_bis ≤ 31
-    → IsDraft (endpoint group.delay subgroups) → is_empty_last (last_of subgroups) ≡ false → ltb 252 (length (spelling (base_from group subgroups))) ≡ false
+    → IsDraft (endpoint group.delay subgroups) → is_empty_last (last_of subgroups) ≡ false → ltb 252 (length (encoding (base_from group subgroups))) ≡ false
     → IsBase (base_from group subgroups)
 is_base group [] width least most draft some short = plain_is_base group.delay group.info.num_bis width least most
 is_base group (subgroup ∷ others) width least most draft some short =
     draft_done (endpoint group.delay (subgroup ∷ others)) draft (sym (finish_is (endpoint group.delay (subgroup ∷ others)))
-    ∙ finishes (is_empty_last (last_of (subgroup ∷ others))) (length (spelling (endpoint group.delay (subgroup ∷ others)))) some short)
+    ∙ finishes (is_empty_last (last_of (subgroup ∷ others))) (length (encoding (endpoint group.delay (subgroup ∷ others)))) some short)

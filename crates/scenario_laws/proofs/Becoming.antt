@@ -3,13 +3,13 @@ use Rattle.std.proofs.Common.{ℕ, ◌≡◌, ◌⊎◌, ◌==◌, cond, true, f
 use Rattle.std.proofs.lemmas.Bool.{cases_Bool}
 use Rattle.delegator_machine.specs.Groups as machine
 use Rattle.group_sink.specs.Calls.{place, tune}
-use Rattle.sync_reference.specs.Joining.{Joining}
+use Rattle.sync_reference.specs.BigSync.{BigSync}
 use Rattle.scenario_text.specs.declared.step.Step.{Step}
 use Rattle.scenario_text.specs.declared.step.Step.TheVariants as steps
 use Rattle.scenario_history.specs.Steps.{chosen_of, chosen_steps}
 use Rattle.source_machine.specs.Airs.{Airs}
 use Rattle.scenario_history.specs.Sinks.{sink_calls, source_of}
-use Rattle.scenario_history.specs.Worlds.{joining_on}
+use Rattle.scenario_history.specs.Worlds.{big_sync_on}
 use Rattle.scenario_history.specs.Boxes.{handed_by}
 use Rattle.scenario_laws.specs.Laws.{closed_by, is_given, is_made, is_tuned}
 use Rattle.scenario_laws.proofs.ByHand.{as_by_hand}
@@ -36,14 +36,14 @@ pub record Parts (airs : Airs) (n : ℕ) (step : Step) (earlier : List Step) : T
   pub silent : Silent airs n step earlier
   pub nowhere : place (sink_calls airs n (step ∷ earlier)) ≡ None
 
-abbrev pub PutsBy : Airs → ℕ → Step → List Step → Joining → Type 0
-PutsBy airs n (steps.Tuned sink which) earlier on = (joining_on (chosen_steps earlier) which ≡ on) × ((sink == n) ≡ true)
-PutsBy airs n (steps.Announce sink) earlier on = (put : PutBy airs n sink earlier) × (machine.by_numbers put.joining ≡ on)
+abbrev pub PutsBy : Airs → ℕ → Step → List Step → BigSync → Type 0
+PutsBy airs n (steps.Tuned sink which) earlier on = (big_sync_on (chosen_steps earlier) which ≡ on) × ((sink == n) ≡ true)
+PutsBy airs n (steps.Announce sink) earlier on = (put : PutBy airs n sink earlier) × (machine.by_numbers put.big_sync ≡ on)
 PutsBy airs n _ earlier on = ⊥
 
--- the step puts the sink on a group, by hand or by a train
+-- the step synchronizes the sink to a BIG, by hand or by a train
 pub record Puts (airs : Airs) (n : ℕ) (step : Step) (earlier : List Step) : Type 0 where
-  pub on : Joining
+  pub on : BigSync
   pub silent : Silent airs n step earlier
   pub begins : is_tuned n earlier step ≡ true
   pub calls_is : sink_calls airs n (step ∷ earlier) ≡ tune on ∷ sink_calls airs n earlier
@@ -82,16 +82,16 @@ becomes airs n (steps.Drop sink) earlier ungiven = elim (cases_Bool (sink == n))
 ]
 becomes airs n (steps.Tuned sink which) earlier ungiven = elim (cases_Bool (sink == n)) [
   | inl put ↦ inr (inr (record {
-    on = joining_on (chosen_steps earlier) which;
+    on = big_sync_on (chosen_steps earlier) which;
     silent = record { hands = λ made. refl; closes = λ s. refl };
     begins = put;
-    calls_is = ap (λ b. cond b (tune (joining_on (chosen_steps earlier) which) ∷ sink_calls airs n earlier) (sink_calls airs n earlier)) put;
+    calls_is = ap (λ b. cond b (tune (big_sync_on (chosen_steps earlier) which) ∷ sink_calls airs n earlier) (sink_calls airs n earlier)) put;
     source_is = ap (λ b. cond b (Some (chosen_of earlier)) (source_of n earlier)) put;
     by = (refl, put);
   }))
   | inr other ↦
       kept airs n (steps.Tuned sink which) earlier other refl (ap (λ b. cond b (Some (chosen_of earlier)) (source_of n earlier)) other)
-      (ap (λ b. place (cond b (tune (joining_on (chosen_steps earlier) which) ∷ sink_calls airs n earlier) (sink_calls airs n earlier))) other)
+      (ap (λ b. place (cond b (tune (big_sync_on (chosen_steps earlier) which) ∷ sink_calls airs n earlier) (sink_calls airs n earlier))) other)
 ]
 becomes airs n (steps.Hear sink back bis subevent) earlier ungiven = search (kept, same_place)
 becomes airs n (steps.Air sink lose) earlier ungiven = search (kept, same_place, air_place)
@@ -105,7 +105,7 @@ becomes airs n (steps.Announce sink) earlier ungiven = elim (announced airs n si
   | inr goes ↦ elim goes [
     | inl follows ↦ gone airs n (steps.Announce sink) earlier (record { hands = λ made. refl; closes = λ s. refl }) (ap place follows.same ∙ follows.nowhere)
     | inr put ↦ inr (inr (record {
-      on = machine.by_numbers put.joining;
+      on = machine.by_numbers put.big_sync;
       silent = record { hands = λ made. refl; closes = λ s. refl };
       begins = put.begins_is;
       calls_is = put.calls_is;
@@ -120,7 +120,7 @@ becomes airs n step earlier ungiven = search (stayed, plain_stays)
 -- the group's first event is the source's next one
 pub puts_first : Announcing → (airs : Airs) (boxes n : ℕ) (step : Step) (earlier : List Step) → Legal airs boxes earlier → Permitted airs boxes earlier step
     → (puts : Puts airs n step earlier) → puts.on.first ≡ next_in (chosen_steps earlier)
-puts_first laws airs boxes n (steps.Tuned sink which) earlier legal permits puts = ap (λ (t : Joining). t.first) (sym puts.by.0)
+puts_first laws airs boxes n (steps.Tuned sink which) earlier legal permits puts = ap (λ (t : BigSync). t.first) (sym puts.by.0)
 puts_first laws airs boxes n (steps.Announce sink) earlier legal permits puts =
-    ap (λ (t : Joining). t.first) (sym puts.by.1 ∙ (as_by_hand laws airs boxes n sink earlier puts.by.0.joining legal permits puts.by.0.brings).0)
+    ap (λ (t : BigSync). t.first) (sym puts.by.1 ∙ (as_by_hand laws airs boxes n sink earlier puts.by.0.big_sync legal permits puts.by.0.brings).0)
 puts_first laws airs boxes n _ earlier legal permits puts = absurd puts.by

@@ -4,7 +4,7 @@ use Rattle.std.specs.Prelude.{slice_get}
 use Rattle.std.specs.List.{Contains}
 use Rattle.big_info.specs.declared.group.Group.{Group}
 use Rattle.big_info.specs.Bounds.{Bounds}
-use Rattle.iso_pdu.specs.Spelling.{pdu}
+use Rattle.iso_pdu.specs.Encoding.{pdu}
 use Rattle.isoal_base.specs.Stays as stays
 use Rattle.isoal_base.specs.Stays.{Stay, opened}
 use Rattle.isoal_base.specs.Air.{Air}
@@ -20,7 +20,7 @@ use Rattle.source_machine.specs.Airs.{AreAirs, airs_of, content_at, pdu_of}
 use Rattle.source_machine.specs.Calls.{Setup, Call as SourceCall, next_of}
 use Rattle.source_machine.specs.Setups.{IsChecked}
 use Rattle.group_sink.specs.Calls.{Call, place}
-use Rattle.sync_reference.specs.Joining.{Joining}
+use Rattle.sync_reference.specs.BigSync.{BigSync}
 use Rattle.group_sink.specs.Handing.{handed_since, of_stream}
 use Rattle.group_sink.specs.Streams.{closes, stay_on, stream_calls, streams_of}
 use Rattle.scenario_laws.proofs.Announced.{Announcing}
@@ -54,12 +54,12 @@ pub record Below : Type 0 where
       → ((i : ℕ) → (unit : Timed) → slice_get (timed calls) i ≡ Some unit → length unit.octets ≤ group.info.max_sdu) → IsFramedAir group.info calls air
       → (units : List Sent) × Sends group.info calls air units
   -- all streams of a group have the same open event
-  pub one_open : (tuning : Joining) → (calls : List Call) → (bis : ℕ) → opened (stay_on tuning bis) (stream_calls (stay_on tuning bis) calls) ≡ tuning.first + closes tuning calls
+  pub one_open : (tuning : BigSync) → (calls : List Call) → (bis : ℕ) → opened (stay_on tuning bis) (stream_calls (stay_on tuning bis) calls) ≡ tuning.first + closes tuning calls
   -- a sink hands of each stream that it takes what the closes of the stream's stay hand, and nothing of any other stream
-  pub hands : (tuning : Joining) → (calls : List Call) → (bis : ℕ) → tuning.info.framing ≡ 0 → place calls ≡ Some tuning → Contains (streams_of tuning.which) bis
+  pub hands : (tuning : BigSync) → (calls : List Call) → (bis : ℕ) → tuning.info.framing ≡ 0 → place calls ≡ Some tuning → Contains (streams_of tuning.which) bis
       → of_stream bis (handed_since calls) ≡ handed (stay_on tuning bis) (stream_calls (stay_on tuning bis) calls)
-  pub framed_hands : (tuning : Joining) → (calls : List Call) → (bis : ℕ) → tuning.info.framing ≡ 1 → place calls ≡ Some tuning → Contains (streams_of tuning.which) bis
+  pub framed_hands : (tuning : BigSync) → (calls : List Call) → (bis : ℕ) → tuning.info.framing ≡ 1 → place calls ≡ Some tuning → Contains (streams_of tuning.which) bis
       → of_stream bis (handed_since calls) ≡ decided (stay_on tuning bis) (stream_calls (stay_on tuning bis) calls)
-  pub others : (tuning : Joining) → (calls : List Call) → (bis : ℕ) → place calls ≡ Some tuning → ¬ Contains (streams_of tuning.which) bis → of_stream bis (handed_since calls) ≡ []
+  pub others : (tuning : BigSync) → (calls : List Call) → (bis : ℕ) → place calls ≡ Some tuning → ¬ Contains (streams_of tuning.which) bis → of_stream bis (handed_since calls) ≡ []
   -- the laws of announcements
   pub announcing : Announcing

@@ -4,14 +4,14 @@ use Rattle.std.specs.List.{filter, list_any, range_with_len}
 use Rattle.std.proofs.Math.Nat.{div-eq_of_lt, pow-le-pow_right}
 use Rattle.std.proofs.lemmas.Bool.{cases_Bool, eqb-true, false≢true, ltb-true}
 use Rattle.delegator_machine.specs.Groups.{by_numbers}
-use Rattle.sync_reference.specs.Joining.{Joining}
+use Rattle.sync_reference.specs.BigSync.{BigSync}
 use Rattle.group_sink.specs.Streams.{is_in}
 use Rattle.scenario_text.specs.declared.step.Step.{Step}
 use Rattle.scenario_text.specs.declared.step.Step.TheVariants as steps
 use Rattle.scenario_history.specs.Refusals.{has_beyond}
 use Rattle.scenario_history.specs.Source.{setup_of}
 use Rattle.source_machine.specs.Airs.{Airs}
-use Rattle.scenario_history.specs.Worlds.{joining_on}
+use Rattle.scenario_history.specs.Worlds.{big_sync_on}
 use Rattle.scenario_history.specs.Steps.{chosen_steps}
 use Rattle.scenario_laws.proofs.Announced.{Announcing, announced_tuning, announced_within}
 use Rattle.scenario_laws.proofs.Legals.{Legal, Permitted}
@@ -41,11 +41,11 @@ none_beyond num_bis which small =
 
 -- ---- as by hand
 
-pub as_by_hand : Announcing → (airs : Airs) (boxes n sink : ℕ) (earlier : List Step) (joining : Joining) → Legal airs boxes earlier
-    → Permitted airs boxes earlier (steps.Announce sink) → Brings n sink earlier joining
-    → (by_numbers joining ≡ joining_on (chosen_steps earlier) joining.which) × (has_beyond (setup_of (chosen_steps earlier)).info.num_bis joining.which ≡ false)
-as_by_hand laws airs boxes n sink earlier joining legal permits brings =
+pub as_by_hand : Announcing → (airs : Airs) (boxes n sink : ℕ) (earlier : List Step) (big_sync : BigSync) → Legal airs boxes earlier
+    → Permitted airs boxes earlier (steps.Announce sink) → Brings n sink earlier big_sync
+    → (by_numbers big_sync ≡ big_sync_on (chosen_steps earlier) big_sync.which) × (has_beyond (setup_of (chosen_steps earlier)).info.num_bis big_sync.which ≡ false)
+as_by_hand laws airs boxes n sink earlier big_sync legal permits brings =
     let permits_it : Permitted airs boxes earlier (steps.Announce n) = subst (λ m. Permitted airs boxes earlier (steps.Announce m)) (eqb-true sink n brings.0) permits in (
-      announced_tuning laws airs boxes n earlier brings.1.made joining legal permits_it brings.1.is,
-      none_beyond (setup_of (chosen_steps earlier)).info.num_bis joining.which (announced_within laws airs boxes n earlier brings.1.made joining legal permits_it brings.1.is),
+      announced_tuning laws airs boxes n earlier brings.1.made big_sync legal permits_it brings.1.is,
+      none_beyond (setup_of (chosen_steps earlier)).info.num_bis big_sync.which (announced_within laws airs boxes n earlier brings.1.made big_sync legal permits_it brings.1.is),
     )

@@ -6,15 +6,15 @@ use Rattle.std.proofs.lemmas.Bool.{cases_Bool, eq-eqb, eqb-true, eqb-false, fals
 use Rattle.std.proofs.lemmas.Option.{none-some, same_Some}
 use Rattle.delegator_machine.specs.Groups as machine
 use Rattle.group_sink.specs.Calls.{Call, tune, hear, tick, place}
-use Rattle.sync_reference.specs.Joining.{Joining}
+use Rattle.sync_reference.specs.BigSync.{BigSync}
 use Rattle.group_sink.specs.Streams.{closes}
 use Rattle.scenario_text.specs.declared.step.Step.{Step}
 use Rattle.scenario_text.specs.declared.step.Step.TheVariants as steps
 use Rattle.scenario_history.specs.Steps.{chosen_of, chosen_steps, is_over, steps_of_source}
 use Rattle.scenario_history.specs.Source.{event_back, is_sending, open_event, pdu_in, performed}
 use Rattle.source_machine.specs.Airs.{Airs}
-use Rattle.scenario_history.specs.Sinks.{heard_on_air, is_of, reaches, sink_calls, source_of, spots_of, ticked, unless_lost}
-use Rattle.scenario_history.specs.Worlds.{joining_on}
+use Rattle.scenario_history.specs.Sinks.{heard_on_air, is_of, reaches, sink_calls, source_of, positions_of, ticked, unless_lost}
+use Rattle.scenario_history.specs.Worlds.{big_sync_on}
 use Rattle.scenario_laws.specs.Laws.{Closed, closed_by, closed_if, closed_in, closed_since, any_since, given_since_made, is_given, is_made, is_tuned}
 use Rattle.scenario_laws.proofs.Announced.{Announcing}
 use Rattle.scenario_laws.proofs.ByHand.{as_by_hand}
@@ -58,81 +58,81 @@ abbrev pub event_of : Closed → ℕ
 event_of closed = closed.event
 
 -- the stay of a sink with a source, where it is of the source
-abbrev pub stay_if : Bool → List Call → Option Joining
+abbrev pub stay_if : Bool → List Call → Option BigSync
 stay_if mine calls = cond mine (place calls) None
 
 -- the open event of the stay, or the next event of the source
-abbrev pub front_of : Option Joining → List Call → ℕ → ℕ
-front_of None calls next = next
-front_of (Some tuning) calls next = tuning.first + closes tuning calls
+abbrev pub prefix_of : Option BigSync → List Call → ℕ → ℕ
+prefix_of None calls next = next
+prefix_of (Some tuning) calls next = tuning.first + closes tuning calls
 
-abbrev pub front : Bool → List Call → ℕ → ℕ
-front mine calls next = front_of (stay_if mine calls) calls next
+abbrev pub prefix : Bool → List Call → ℕ → ℕ
+prefix mine calls next = prefix_of (stay_if mine calls) calls next
 
 -- the events that a step closes lie between the open events before it and after it, and those up to the source's next one
 pub record Moves (mine : Bool) (calls : List Call) (next : ℕ) (closed : List Closed) (mine' : Bool) (calls' : List Call) (next' : ℕ) : Type 0 where
-  pub climbs_on : Climb (front mine calls next) (map event_of closed) (front mine' calls' next')
-  pub within : front mine' calls' next' ≤ next'
+  pub climbs_on : Climb (prefix mine calls next) (map event_of closed) (prefix mine' calls' next')
+  pub within : prefix mine' calls' next' ≤ next'
 
-later_next : (p : Option Joining) (calls : List Call) (next next' : ℕ) → next ≤ next' → front_of p calls next ≤ front_of p calls next'
+later_next : (p : Option BigSync) (calls : List Call) (next next' : ℕ) → next ≤ next' → prefix_of p calls next ≤ prefix_of p calls next'
 later_next None calls next next' more = more
 later_next (Some tuning) calls next next' more = omega arith
 
-later_within : (p : Option Joining) (calls : List Call) (next next' : ℕ) → next ≤ next' → front_of p calls next ≤ next → front_of p calls next' ≤ next'
+later_within : (p : Option BigSync) (calls : List Call) (next next' : ℕ) → next ≤ next' → prefix_of p calls next ≤ next → prefix_of p calls next' ≤ next'
 later_within None calls next next' more within = omega arith
 later_within (Some tuning) calls next next' more within = omega (arith, more, within)
 
-stay_moves : (mine : Bool) (calls : List Call) (next next' : ℕ) → next ≤ next' → front mine calls next ≤ next → Moves mine calls next [] mine calls next'
+stay_moves : (mine : Bool) (calls : List Call) (next next' : ℕ) → next ≤ next' → prefix mine calls next ≤ next → Moves mine calls next [] mine calls next'
 stay_moves mine calls next next' more within = search (later_next, later_within)
 
-gone_moves : (s : ℕ) (gone : Bool) (calls : List Call) (source : Option ℕ) (next next' : ℕ) → next ≤ next' → front (is_of s source) calls next ≤ next
+gone_moves : (s : ℕ) (gone : Bool) (calls : List Call) (source : Option ℕ) (next next' : ℕ) → next ≤ next' → prefix (is_of s source) calls next ≤ next
     → Moves (is_of s source) calls next [] (is_of s (cond gone None source)) (cond gone [] calls) next'
 gone_moves s gone calls source next next' more within = grind (arith, stay_moves)
 
-on_moves : (mine its : Bool) (on : Joining) (calls : List Call) (next next' : ℕ) → next ≤ next' → (its ≡ true → on.first ≡ next) → front mine calls next ≤ next
+on_moves : (mine its : Bool) (on : BigSync) (calls : List Call) (next next' : ℕ) → next ≤ next' → (its ≡ true → on.first ≡ next) → prefix mine calls next ≤ next
     → Moves mine calls next [] its (tune on ∷ calls) next'
 on_moves mine true on calls next next' more is within = record { climbs_on = omega (arith, is refl, within); within = omega (arith, is refl, more) }
 on_moves mine false on calls next next' more is within = record { climbs_on = omega (arith, within, more); within = omega arith }
 
-put_moves : (s : ℕ) (put : Bool) (on : Joining) (chosen : ℕ) (calls : List Call) (source : Option ℕ) (next next' : ℕ) → next ≤ next' → ((chosen == s) ≡ true → on.first ≡ next)
-    → front (is_of s source) calls next ≤ next
+put_moves : (s : ℕ) (put : Bool) (on : BigSync) (chosen : ℕ) (calls : List Call) (source : Option ℕ) (next next' : ℕ) → next ≤ next' → ((chosen == s) ≡ true → on.first ≡ next)
+    → prefix (is_of s source) calls next ≤ next
     → Moves (is_of s source) calls next [] (is_of s (cond put (Some chosen) source)) (cond put (tune on ∷ calls) calls) next'
 put_moves s put on chosen calls source next next' more is within = grind (arith, on_moves, stay_moves)
 
 -- calls that neither put the sink anywhere nor close an event
-front_again : (calls more : List Call) (next : ℕ) (p : Option Joining) → ((tuning : Joining) → closes tuning more ≡ closes tuning calls)
-    → front_of p more next ≡ front_of p calls next
-front_again calls more next None same = refl
-front_again calls more next (Some tuning) same = ap (λ count. tuning.first + count) (same tuning)
+prefix_again : (calls more : List Call) (next : ℕ) (p : Option BigSync) → ((tuning : BigSync) → closes tuning more ≡ closes tuning calls)
+    → prefix_of p more next ≡ prefix_of p calls next
+prefix_again calls more next None same = refl
+prefix_again calls more next (Some tuning) same = ap (λ count. tuning.first + count) (same tuning)
 
-same_front : (mine : Bool) (calls more : List Call) (next : ℕ) → place more ≡ place calls → ((tuning : Joining) → closes tuning more ≡ closes tuning calls)
-    → front mine more next ≡ front mine calls next
-same_front mine calls more next there same = cc (there, front_again calls more next (stay_if mine calls) same)
+same_prefix : (mine : Bool) (calls more : List Call) (next : ℕ) → place more ≡ place calls → ((tuning : BigSync) → closes tuning more ≡ closes tuning calls)
+    → prefix mine more next ≡ prefix mine calls next
+same_prefix mine calls more next there same = cc (there, prefix_again calls more next (stay_if mine calls) same)
 
-more_moves : (mine hit : Bool) (more calls : List Call) (next next' : ℕ) → next ≤ next' → place more ≡ place calls → ((tuning : Joining) → closes tuning more ≡ closes tuning calls)
-    → front mine calls next ≤ next → Moves mine calls next [] mine (cond hit more calls) next'
-more_moves mine hit more calls next next' later there same within = grind (arith, same_front, stay_moves)
+more_moves : (mine hit : Bool) (more calls : List Call) (next next' : ℕ) → next ≤ next' → place more ≡ place calls → ((tuning : BigSync) → closes tuning more ≡ closes tuning calls)
+    → prefix mine calls next ≤ next → Moves mine calls next [] mine (cond hit more calls) next'
+more_moves mine hit more calls next next' later there same within = grind (arith, same_prefix, stay_moves)
 
-lost_closes : (gone : Bool) (event bis subevent : ℕ) (octets : List ℕ) (calls : List Call) (tuning : Joining)
+lost_closes : (gone : Bool) (event bis subevent : ℕ) (octets : List ℕ) (calls : List Call) (tuning : BigSync)
     → closes tuning (unless_lost gone (hear event bis subevent octets) calls) ≡ closes tuning calls
 lost_closes true event bis subevent octets calls tuning = refl
 lost_closes false event bis subevent octets calls tuning = refl
 
-air_closes : (airs : Airs) (own : List Step) (lose count : ℕ) (calls : List Call) (tuning : Joining) → closes tuning (heard_on_air airs own lose count calls) ≡ closes tuning calls
+air_closes : (airs : Airs) (own : List Step) (lose count : ℕ) (calls : List Call) (tuning : BigSync) → closes tuning (heard_on_air airs own lose count calls) ≡ closes tuning calls
 air_closes airs own lose zero calls tuning = refl
 air_closes airs own lose (suc i) calls tuning = search (lost_closes, air_closes airs own lose i calls tuning)
 
 -- a group that is left, and none that is entered
-none_front : (mine : Bool) (calls : List Call) (next : ℕ) → place calls ≡ None → front mine calls next ≡ next
-none_front true calls next nowhere = ap (λ p. front_of p calls next) nowhere
-none_front false calls next nowhere = refl
+none_prefix : (mine : Bool) (calls : List Call) (next : ℕ) → place calls ≡ None → prefix mine calls next ≡ next
+none_prefix true calls next nowhere = ap (λ p. prefix_of p calls next) nowhere
+none_prefix false calls next nowhere = refl
 
-off_moves : (mine mine' : Bool) (calls later : List Call) (next next' : ℕ) → next ≤ next' → place later ≡ None → front mine calls next ≤ next → Moves mine calls next [] mine' later next'
+off_moves : (mine mine' : Bool) (calls later : List Call) (next next' : ℕ) → next ≤ next' → place later ≡ None → prefix mine calls next ≤ next → Moves mine calls next [] mine' later next'
 off_moves mine mine' calls later next next' more nowhere within =
-    let is : front mine' later next' ≡ next' = none_front mine' later next' nowhere in
+    let is : prefix mine' later next' ≡ next' = none_prefix mine' later next' nowhere in
     record { climbs_on = omega (arith, is, more, within); within = omega (arith, is) }
 
-left_moves : (mine mine' : Bool) (calls later : List Call) (next next' : ℕ) → next ≤ next' → mine' ≡ mine → Left later calls → front mine calls next ≤ next
+left_moves : (mine mine' : Bool) (calls later : List Call) (next next' : ℕ) → next ≤ next' → mine' ≡ mine → Left later calls → prefix mine calls next ≤ next
     → Moves mine calls next [] mine' later next'
 left_moves mine mine' calls later next next' more its left within = elim left [
   | inl same ↦
@@ -141,13 +141,13 @@ left_moves mine mine' calls later next next' more its left within = elim left [
   | inr gone ↦ off_moves mine mine' calls later next next' more (ap place gone) within
 ]
 
-tick_on_moves : (p : Option Joining) (calls : List Call) (event next next' : ℕ) → place calls ≡ p → event < next → next ≤ next' → front_of p calls next ≤ next
-    → Climb (front_of p calls next) (map event_of (closed_in p calls event)) (front_of p (tick event ∷ calls) next') × (front_of p (tick event ∷ calls) next' ≤ next')
+tick_on_moves : (p : Option BigSync) (calls : List Call) (event next next' : ℕ) → place calls ≡ p → event < next → next ≤ next' → prefix_of p calls next ≤ next
+    → Climb (prefix_of p calls next) (map event_of (closed_in p calls event)) (prefix_of p (tick event ∷ calls) next') × (prefix_of p (tick event ∷ calls) next' ≤ next')
 tick_on_moves p calls event next next' is past more within = grind (arith, leb-true)
 
 -- a close of an event of the source, or of another
 close_moves : (mine its : Bool) (last_open : Option ℕ) (calls calls' : List Call) (next next' : ℕ) → ((event : ℕ) → last_open ≡ Some event → event < next) → next ≤ next'
-    → front mine calls next ≤ next → (mine ≡ true → calls' ≡ cond its (ticked last_open calls) calls)
+    → prefix mine calls next ≤ next → (mine ≡ true → calls' ≡ cond its (ticked last_open calls) calls)
     → Moves mine calls next (cond its (closed_if mine calls last_open) []) mine calls' next'
 close_moves mine its last_open calls calls' next next' past more within is = grind (arith, stay_moves, tick_on_moves)
 
@@ -168,18 +168,18 @@ open_before own event is =
 abbrev pub mine_in : ℕ → ℕ → List Step → Bool
 mine_in s n made = is_of s (source_of n made)
 
-abbrev pub its_front : Airs → ℕ → ℕ → List Step → ℕ
-its_front airs s n made = front (mine_in s n made) (sink_calls airs n made) (next_in (steps_of_source s made))
+abbrev pub its_prefix : Airs → ℕ → ℕ → List Step → ℕ
+its_prefix airs s n made = prefix (mine_in s n made) (sink_calls airs n made) (next_in (steps_of_source s made))
 
 stays_move : (airs : Airs) (s n : ℕ) (step : Step) (earlier : List Step) (next' : ℕ) → StaysBy airs n step earlier → next_in (steps_of_source s earlier) ≤ next'
-    → its_front airs s n earlier ≤ next_in (steps_of_source s earlier)
+    → its_prefix airs s n earlier ≤ next_in (steps_of_source s earlier)
     → Moves (mine_in s n earlier) (sink_calls airs n earlier) (next_in (steps_of_source s earlier)) [] (mine_in s n (step ∷ earlier)) (sink_calls airs n (step ∷ earlier)) next'
 stays_move airs s n step earlier next' stays more within =
     left_moves (mine_in s n earlier) (mine_in s n (step ∷ earlier)) (sink_calls airs n earlier) (sink_calls airs n (step ∷ earlier)) (next_in (steps_of_source s earlier)) next' more
     (ap (is_of s) stays.same) stays.left within
 
 announced_moves : Announcing → (airs : Airs) (boxes s n sink : ℕ) (earlier : List Step) (next' : ℕ) → Legal airs boxes earlier → Permitted airs boxes earlier (steps.Announce sink)
-    → next_in (steps_of_source s earlier) ≤ next' → its_front airs s n earlier ≤ next_in (steps_of_source s earlier)
+    → next_in (steps_of_source s earlier) ≤ next' → its_prefix airs s n earlier ≤ next_in (steps_of_source s earlier)
     → Moves (mine_in s n earlier) (sink_calls airs n earlier) (next_in (steps_of_source s earlier)) []
     (mine_in s n (steps.Announce sink ∷ earlier)) (sink_calls airs n (steps.Announce sink ∷ earlier)) next'
 announced_moves laws airs boxes s n sink earlier next' legal permits more within = elim (announced airs n sink earlier) [
@@ -189,8 +189,8 @@ announced_moves laws airs boxes s n sink earlier next' legal permits more within
         off_moves (mine_in s n earlier) (mine_in s n (steps.Announce sink ∷ earlier)) (sink_calls airs n earlier) (sink_calls airs n (steps.Announce sink ∷ earlier))
         (next_in (steps_of_source s earlier)) next' more (ap place follows.same ∙ follows.nowhere) within
     | inr put ↦
-        let on : Joining = machine.by_numbers put.joining in
-        let first_is : on.first ≡ next_in (chosen_steps earlier) = ap (λ (t : Joining). t.first) (as_by_hand laws airs boxes n sink earlier put.joining legal permits put.brings).0 in
+        let on : BigSync = machine.by_numbers put.big_sync in
+        let first_is : on.first ≡ next_in (chosen_steps earlier) = ap (λ (t : BigSync). t.first) (as_by_hand laws airs boxes n sink earlier put.big_sync legal permits put.brings).0 in
         subst (λ calls. Moves (mine_in s n earlier) (sink_calls airs n earlier) (next_in (steps_of_source s earlier)) [] (mine_in s n (steps.Announce sink ∷ earlier)) calls next') (sym put.calls_is)
         (subst (λ source. Moves (mine_in s n earlier) (sink_calls airs n earlier) (next_in (steps_of_source s earlier)) [] (is_of s source) (tune on ∷ sink_calls airs n earlier) next')
         (sym put.source_is)
@@ -200,7 +200,7 @@ announced_moves laws airs boxes s n sink earlier next' legal permits more within
 ]
 
 pub moves_by : Announcing → (airs : Airs) (boxes s n : ℕ) (step : Step) (earlier : List Step) (next' : ℕ) → Legal airs boxes earlier → Permitted airs boxes earlier step
-    → is_given n step ≡ false → s ≤ 1 → next_in (steps_of_source s earlier) ≤ next' → its_front airs s n earlier ≤ next_in (steps_of_source s earlier)
+    → is_given n step ≡ false → s ≤ 1 → next_in (steps_of_source s earlier) ≤ next' → its_prefix airs s n earlier ≤ next_in (steps_of_source s earlier)
     → Moves (mine_in s n earlier) (sink_calls airs n earlier) (next_in (steps_of_source s earlier)) (closed_by airs s n earlier step)
     (mine_in s n (step ∷ earlier)) (sink_calls airs n (step ∷ earlier)) next'
 moves_by laws airs boxes s n (steps.Sink sink streams slots mtu) earlier next' legal permits ungiven least more within =
@@ -208,17 +208,17 @@ moves_by laws airs boxes s n (steps.Sink sink streams slots mtu) earlier next' l
 moves_by laws airs boxes s n (steps.Drop sink) earlier next' legal permits ungiven least more within =
     gone_moves s (sink == n) (sink_calls airs n earlier) (source_of n earlier) (next_in (steps_of_source s earlier)) next' more within
 moves_by laws airs boxes s n (steps.Tuned sink which) earlier next' legal permits ungiven least more within =
-    put_moves s (sink == n) (joining_on (chosen_steps earlier) which) (chosen_of earlier) (sink_calls airs n earlier) (source_of n earlier) (next_in (steps_of_source s earlier)) next' more
+    put_moves s (sink == n) (big_sync_on (chosen_steps earlier) which) (chosen_of earlier) (sink_calls airs n earlier) (source_of n earlier) (next_in (steps_of_source s earlier)) next' more
     (λ same. ap (λ t. next_in (steps_of_source t earlier)) (eqb-true (chosen_of earlier) s same)) within
 moves_by laws airs boxes s n (steps.Hear sink back bis subevent) earlier next' legal permits ungiven least more within =
     more_moves (mine_in s n earlier) (reaches sink n earlier)
     (hear (event_back (chosen_steps earlier) back) bis subevent (pdu_in airs (chosen_steps earlier) (event_back (chosen_steps earlier) back) bis subevent) ∷ sink_calls airs n earlier)
     (sink_calls airs n earlier) (next_in (steps_of_source s earlier)) next' more refl (λ tuning. refl) within
 moves_by laws airs boxes s n (steps.Air sink lose) earlier next' legal permits ungiven least more within =
-    more_moves (mine_in s n earlier) (reaches sink n earlier) (heard_on_air airs (chosen_steps earlier) lose (spots_of (chosen_steps earlier)) (sink_calls airs n earlier))
+    more_moves (mine_in s n earlier) (reaches sink n earlier) (heard_on_air airs (chosen_steps earlier) lose (positions_of (chosen_steps earlier)) (sink_calls airs n earlier))
     (sink_calls airs n earlier) (next_in (steps_of_source s earlier)) next' more
-    (air_place airs (chosen_steps earlier) lose (spots_of (chosen_steps earlier)) (sink_calls airs n earlier))
-    (air_closes airs (chosen_steps earlier) lose (spots_of (chosen_steps earlier)) (sink_calls airs n earlier)) within
+    (air_place airs (chosen_steps earlier) lose (positions_of (chosen_steps earlier)) (sink_calls airs n earlier))
+    (air_closes airs (chosen_steps earlier) lose (positions_of (chosen_steps earlier)) (sink_calls airs n earlier)) within
 moves_by laws airs boxes s n (steps.Inject sink back bis subevent octets) earlier next' legal permits ungiven least more within =
     more_moves (mine_in s n earlier) (reaches sink n earlier) (hear (event_back (chosen_steps earlier) back) bis subevent octets ∷ sink_calls airs n earlier)
     (sink_calls airs n earlier) (next_in (steps_of_source s earlier)) next' more refl (λ tuning. refl) within
@@ -246,11 +246,11 @@ moves_by laws airs boxes s n step earlier next' legal permits ungiven least more
 -- ---- all events that a sink closed
 
 pub record Closing (airs : Airs) (s n : ℕ) (made : List Step) : Type 0 where
-  pub rise : Climb 0 (map event_of (closed_since airs s n made)) (its_front airs s n made)
-  pub within : its_front airs s n made ≤ next_in (steps_of_source s made)
+  pub rise : Climb 0 (map event_of (closed_since airs s n made)) (its_prefix airs s n made)
+  pub within : its_prefix airs s n made ≤ next_in (steps_of_source s made)
 
 pub moved : Announcing → (airs : Airs) (boxes s n : ℕ) (step : Step) (earlier : List Step) → Legal airs boxes (step ∷ earlier) → is_given n step ≡ false → s ≤ 1
-    → its_front airs s n earlier ≤ next_in (steps_of_source s earlier)
+    → its_prefix airs s n earlier ≤ next_in (steps_of_source s earlier)
     → Moves (mine_in s n earlier) (sink_calls airs n earlier) (next_in (steps_of_source s earlier)) (closed_by airs s n earlier step)
     (mine_in s n (step ∷ earlier)) (sink_calls airs n (step ∷ earlier)) (next_in (steps_of_source s (step ∷ earlier)))
 moved laws airs boxes s n step earlier legal ungiven least within = search (moves_by, next_in, permitted, next_rises)
@@ -261,10 +261,10 @@ made_nothing airs n step earlier made = grind (arith, false≢true)
 
 closing_anew : (airs : Airs) (s n : ℕ) (step : Step) (earlier : List Step) → is_made n earlier step ≡ true → Closing airs s n (step ∷ earlier)
 closing_anew airs s n step earlier made =
-    let is : its_front airs s n (step ∷ earlier) ≡ next_in (steps_of_source s (step ∷ earlier)) =
-    none_front (mine_in s n (step ∷ earlier)) (sink_calls airs n (step ∷ earlier)) (next_in (steps_of_source s (step ∷ earlier))) (ap place (made_nothing airs n step earlier made)) in
+    let is : its_prefix airs s n (step ∷ earlier) ≡ next_in (steps_of_source s (step ∷ earlier)) =
+    none_prefix (mine_in s n (step ∷ earlier)) (sink_calls airs n (step ∷ earlier)) (next_in (steps_of_source s (step ∷ earlier))) (ap place (made_nothing airs n step earlier made)) in
     record {
-      rise = subst (λ again. Climb 0 (map event_of (cond again [] (closed_since airs s n earlier ++ closed_by airs s n earlier step))) (its_front airs s n (step ∷ earlier))) (sym made) (omega arith);
+      rise = subst (λ again. Climb 0 (map event_of (cond again [] (closed_since airs s n earlier ++ closed_by airs s n earlier step))) (its_prefix airs s n (step ∷ earlier))) (sym made) (omega arith);
       within = omega (arith, is);
     }
 
@@ -277,7 +277,7 @@ closing_on : Announcing → (airs : Airs) (boxes s n : ℕ) (step : Step) (earli
 closing_on laws airs boxes s n step earlier legal ungiven least on before =
     let now = moved laws airs boxes s n step earlier legal ungiven least before.within in
     record {
-      rise = climbs_further (is_made n earlier step) (closed_since airs s n earlier) (closed_by airs s n earlier step) (its_front airs s n earlier) (its_front airs s n (step ∷ earlier)) on
+      rise = climbs_further (is_made n earlier step) (closed_since airs s n earlier) (closed_by airs s n earlier step) (its_prefix airs s n earlier) (its_prefix airs s n (step ∷ earlier)) on
           before.rise now.climbs_on;
       within = now.within;
     }
@@ -294,23 +294,23 @@ closing laws airs boxes s n (step ∷ earlier) legal ungiven least = elim (cases
 pub closes_rise : Announcing → (airs : Airs) (boxes s n : ℕ) (made : List Step) → Legal airs boxes made → given_since_made n made ≡ false → s ≤ 1
     → IsStrictlyIncreasing (map event_of (closed_since airs s n made))
 closes_rise laws airs boxes s n made legal ungiven least =
-    climbs 0 (map event_of (closed_since airs s n made)) (its_front airs s n made) (closing laws airs boxes s n made legal ungiven least).rise
+    climbs 0 (map event_of (closed_since airs s n made)) (its_prefix airs s n made) (closing laws airs boxes s n made legal ungiven least).rise
 
 -- ---- the open event of one stay
 
-pub stay_front : (airs : Airs) (s n : ℕ) (made : List Step) (tuning : Joining) → IsOn airs s n made tuning → its_front airs s n made ≡ tuning.first + closes tuning (sink_calls airs n made)
-stay_front airs s n made tuning is = cc (is.source_is, eq-eqb s s refl, is.place_is)
+pub stay_prefix : (airs : Airs) (s n : ℕ) (made : List Step) (tuning : BigSync) → IsOn airs s n made tuning → its_prefix airs s n made ≡ tuning.first + closes tuning (sink_calls airs n made)
+stay_prefix airs s n made tuning is = cc (is.source_is, eq-eqb s s refl, is.place_is)
 
 -- the open event of a stay is at most the source's next one
-pub stay_within : Announcing → (airs : Airs) (boxes s n : ℕ) (made : List Step) (tuning : Joining) → Legal airs boxes made → s ≤ 1 → IsOn airs s n made tuning
+pub stay_within : Announcing → (airs : Airs) (boxes s n : ℕ) (made : List Step) (tuning : BigSync) → Legal airs boxes made → s ≤ 1 → IsOn airs s n made tuning
     → tuning.first + closes tuning (sink_calls airs n made) ≤ next_in (steps_of_source s made)
 stay_within laws airs boxes s n [] tuning legal least is = absurd (none-some tuning is.place_is)
 stay_within laws airs boxes s n (step ∷ earlier) tuning legal least is = elim (on_before airs s n step earlier tuning is) [
   | inl before ↦
-      let within : its_front airs s n earlier ≤ next_in (steps_of_source s earlier) =
-      omega (arith, stay_front airs s n earlier tuning before, stay_within laws airs boxes s n earlier tuning legal.0 least before) in
+      let within : its_prefix airs s n earlier ≤ next_in (steps_of_source s earlier) =
+      omega (arith, stay_prefix airs s n earlier tuning before, stay_within laws airs boxes s n earlier tuning legal.0 least before) in
       let now = moved laws airs boxes s n step earlier legal (last_not (is_tuned n earlier step) (is_given n step) (any_since (is_tuned n) (is_given n) earlier) is.ungiven) least within in
-      omega (arith, stay_front airs s n (step ∷ earlier) tuning is, now.within)
+      omega (arith, stay_prefix airs s n (step ∷ earlier) tuning is, now.within)
   | inr begins ↦
       let none : closes tuning (sink_calls airs n (step ∷ earlier)) ≡ 0 = ap (closes tuning) (begins_calls airs s n step earlier tuning begins) in
       let first : tuning.first ≡ next_in (steps_of_source s earlier) = begins_next laws airs boxes s n step earlier tuning legal.0 (permitted airs boxes earlier step legal.1) begins in

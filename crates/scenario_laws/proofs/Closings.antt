@@ -13,7 +13,7 @@ use Rattle.scenario_text.specs.declared.step.Step.{Step}
 use Rattle.scenario_text.specs.declared.step.Step.TheVariants as steps
 use Rattle.transcript_text.specs.declared.refusal.Refusal.TheVariants.{NoSuchSink}
 use Rattle.delegator_history.specs.Trains.{Settings}
-use Rattle.sink_history.specs.Lives.{made_of}
+use Rattle.sink_history.specs.History.{made_of}
 use Rattle.scenario_history.specs.Steps.{chosen_of, sinks_made, steps_of_source}
 use Rattle.scenario_history.specs.Source.{open_event}
 use Rattle.source_machine.specs.Airs.{Airs}
@@ -23,7 +23,7 @@ use Rattle.scenario_history.specs.Refusals.{no_sink}
 use Rattle.scenario_laws.specs.Laws.{of_sink}
 use Rattle.scenario_laws.proofs.Legals.{Legal, Permitted, fails_not, permitted}
 use Rattle.scenario_laws.proofs.Moves.{unmoved}
-use Rattle.scenario_laws.proofs.Gifts.Citable.{flat_one}
+use Rattle.scenario_laws.proofs.RelayedUnits.Citable.{flat_one}
 use Rattle.scenario_laws.proofs.Places.{air_place, end_place, same_place, tick_if_place}
 
 -- ---- a sink that is on a group has a box

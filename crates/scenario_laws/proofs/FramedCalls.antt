@@ -17,7 +17,7 @@ use Rattle.isoal_framed.specs.Places.{Act}
 use Rattle.source_machine.specs.Calls.{Setup, Call, give, event, events, framed_calls, framed_lays, laid_before, laid_with, lay_anchor}
 use Rattle.source_machine.proofs.Citable.{timed_accepted}
 use Rattle.source_machine.specs.Airs.{Airs}
-use Rattle.scenario_laws.proofs.Gifts.Citable.{second_false}
+use Rattle.scenario_laws.proofs.RelayedUnits.Citable.{second_false}
 use Rattle.scenario_history.specs.Airs.{AreAccepted}
 
 -- ---- the events laid, by their anchors

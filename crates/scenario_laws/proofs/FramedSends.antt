@@ -9,14 +9,14 @@ use Rattle.big_info.specs.declared.group.Group.{Group}
 use Rattle.big_info.specs.Bounds.{Bounds}
 use Rattle.big_info.specs.Schedule.{horizon_of}
 use Rattle.iso_pdu.specs.Layout.{Content, framed}
-use Rattle.iso_pdu.specs.Spelling.{pdu}
+use Rattle.iso_pdu.specs.Encoding.{pdu}
 use Rattle.isoal_base.specs.Air.{Air, pdu_at}
 use Rattle.isoal_framed.specs.Struck.{Fit, InOrder, Sent, parts_at}
 use Rattle.radio_schedule.specs.PayloadNumber.{ahead_of, payload_number}
 use Rattle.source_machine.specs.Airs.{AreAirs, IsAir, pdu_of, Airs}
 use Rattle.source_machine.specs.Calls.{Setup, Call as SourceCall, events, next_of}
 use Rattle.source_machine.proofs.Citable.{ahead_within, event_of_number}
-use Rattle.sync_reference.specs.Joining.{Joining}
+use Rattle.sync_reference.specs.BigSync.{BigSync}
 use Rattle.scenario_history.specs.Source.{setup_of, source_calls}
 use Rattle.scenario_history.specs.Airs.{MeetAirs}
 use Rattle.scenario_laws.specs.SourceUnits.{AreSent, by_payload}
@@ -91,7 +91,7 @@ pub record FramedWhole (airs : Airs) (setup : Setup) (whole : List SourceCall) (
   pub has : HasAir setup whole bis (airs setup whole)
   pub sent : AreSent setup whole bis has.air units
 
-pub framed_sends : Below → (airs : Airs) → MeetAirs airs → (setup : Setup) (whole : List SourceCall) (tuning : Joining) (bis : ℕ) (units : List Sent) → FramedWhole airs setup whole bis units
+pub framed_sends : Below → (airs : Airs) → MeetAirs airs → (setup : Setup) (whole : List SourceCall) (tuning : BigSync) (bis : ℕ) (units : List Sent) → FramedWhole airs setup whole bis units
     → tuning.info ≡ setup.info → WholeSends airs setup whole (laid_of units) tuning bis
 framed_sends below airs meets setup whole tuning bis units all same own legal started within event subevent least past bis_least bis_within inside =
     let is : Settled own = settled airs own legal in

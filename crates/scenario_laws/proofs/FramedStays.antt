@@ -17,7 +17,7 @@ use Rattle.isoal_framed.specs.Tokens.{segmented}
 use Rattle.isoal_framed.proofs.Citable.{opened_least}
 use Rattle.source_machine.specs.Airs.{AreAirs, Airs}
 use Rattle.source_machine.specs.Calls.{Setup, Call as SourceCall, events, framed_calls, laid_before, next_of}
-use Rattle.sync_reference.specs.Joining.{Joining}
+use Rattle.sync_reference.specs.BigSync.{BigSync}
 use Rattle.group_sink.specs.Handing.{handed_since as ticked_since, of_stream}
 use Rattle.group_sink.proofs.Citable.{member_is}
 use Rattle.group_sink.specs.Streams.{stay_on, streams_of}
@@ -69,7 +69,7 @@ mul_least a b n least = let times : a * n ≤ b / n * n = mul-le-mul least (omeg
 
 -- ---- the open event of a stay is at most the source's next one
 
-pub opened_within : Below → (airs : Airs) (boxes s n bis : ℕ) (made : List Step) (tuning : Joining) → Legal airs boxes made → s ≤ 1 → IsOn airs s n made tuning
+pub opened_within : Below → (airs : Airs) (boxes s n bis : ℕ) (made : List Step) (tuning : BigSync) → Legal airs boxes made → s ≤ 1 → IsOn airs s n made tuning
     → opened (stay_on tuning bis) (calls_on airs made n tuning bis) ≤ next_in (steps_of_source s made)
 opened_within below airs boxes s n bis made tuning legal within is =
     omega (arith, below.one_open tuning (sink_calls airs n made) bis, stay_within below.announcing airs boxes s n made tuning legal within is)
@@ -100,7 +100,7 @@ whole_units below airs meets own bis legal started is_framed least within =
 
 -- ---- what is decided in the stay is struck
 
-pub stay_on_whole : Announcing → (airs : Airs) (boxes s n : ℕ) (setup : Setup) (whole : List SourceCall) (made : List Step) (tuning : Joining) → Legal airs boxes made
+pub stay_on_whole : Announcing → (airs : Airs) (boxes s n : ℕ) (setup : Setup) (whole : List SourceCall) (made : List Step) (tuning : BigSync) → Legal airs boxes made
     → Within setup whole (steps_of_source s made) → IsOn airs s n made tuning → TunedTo setup tuning
 stay_on_whole laws airs boxes s n setup whole made tuning legal within is =
     let on : OnSource (steps_of_source s made) tuning = on_source laws airs boxes s n made tuning legal is in
@@ -123,7 +123,7 @@ closed_within bn first count laid opens past more =
     omega (arith, product, times)
 
 pub stay_decided : Below → (airs : Airs) → MeetAirs airs → (boxes s n bis : ℕ) (setup : Setup) (whole : List SourceCall) (units : List Sent) → FramedWhole airs setup whole bis units
-    → (made : List Step) (tuning : Joining) → Legal airs boxes made → Within setup whole (steps_of_source s made) → s ≤ 1 → IsOn airs s n made tuning → injected_since (is_tuned n) n made ≡ false
+    → (made : List Step) (tuning : BigSync) → Legal airs boxes made → Within setup whole (steps_of_source s made) → s ≤ 1 → IsOn airs s n made tuning → injected_since (is_tuned n) n made ≡ false
     → decided (stay_on tuning bis) (calls_on airs made n tuning bis) ≡ struck (stay_on tuning bis) units (calls_on airs made n tuning bis)
 stay_decided below airs meets boxes s n bis setup whole units all made tuning legal within source_within is clean =
     let on : OnSource (steps_of_source s made) tuning = on_source below.announcing airs boxes s n made tuning legal is in
@@ -147,7 +147,7 @@ stay_decided below airs meets boxes s n bis setup whole units all made tuning le
 pub same_air : (airs : Airs) (own : List Step) (bis : ℕ) (has : HasAir (setup_of own) (source_calls own) bis (airs (setup_of own) (source_calls own))) → air_in airs own bis ≡ has.air
 same_air airs own bis has = ap (λ o. unwrap_or o []) has.there
 
-pub framed_law : Below → (airs : Airs) → MeetAirs airs → (boxes s n bis : ℕ) (made : List Step) (tuning : Joining) → Legal airs boxes made → s ≤ 1 → IsOn airs s n made tuning
+pub framed_law : Below → (airs : Airs) → MeetAirs airs → (boxes s n bis : ℕ) (made : List Step) (tuning : BigSync) → Legal airs boxes made → s ≤ 1 → IsOn airs s n made tuning
     → (setup_of (steps_of_source s made)).info.framing ≡ 1 → Contains (streams_of tuning.which) bis → injected_since (is_tuned n) n made ≡ false
     → of_stream bis (of_sink s n (handed_since (is_tuned n) airs made)) ≡ of_stream bis (ticked_since (sink_calls airs n made)) → IsFramedStruck airs made s n tuning bis
 framed_law below airs meets boxes s n bis made tuning legal within is is_framed taken clean ticks =

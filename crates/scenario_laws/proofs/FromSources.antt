@@ -5,8 +5,8 @@ use Rattle.std.proofs.lemmas.Option.{none-some, same_Some}
 use Rattle.iso_pdu.specs.declared.fault.PduFault.{PduFault}
 use Rattle.iso_pdu.specs.Layout.{Content, PduIs, fragment, end, framed}
 use Rattle.iso_pdu.specs.Reading.{read_of}
-use Rattle.iso_pdu.specs.Spelling.{pdu}
-use Rattle.iso_pdu.proofs.Citable.{pdu-is, read_of-layout, read_of-spelled}
+use Rattle.iso_pdu.specs.Encoding.{pdu}
+use Rattle.iso_pdu.proofs.Citable.{pdu-is, read_of-layout, read_of-encoded}
 use Rattle.isoal_base.specs.Hearing.{read_as, taken_of}
 use Rattle.isoal_base.specs.Stays as stays
 use Rattle.isoal_base.specs.Stays.{Stay}
@@ -37,7 +37,7 @@ read_own : {A : Type 0} (takes : Content → Option A) (max_pdu : ℕ) (sent : C
     → read_as takes max_pdu octets ≡ Some part → takes sent ≡ Some part
 read_own takes max_pdu sent part octets is reads =
     let got = taken_cases takes (read_of max_pdu octets) part reads in
-    let long = (read_of-spelled max_pdu got.0 octets got.1).1 in
+    let long = (read_of-encoded max_pdu got.0 octets got.1).1 in
     let again : read_of max_pdu octets ≡ Ok sent = read_of-layout max_pdu sent octets (subst (PduIs sent) (sym is) (pdu-is sent), long) in
     ap takes (same_ok sent got.0 (sym again ∙ got.1)) ∙ got.2
 

@@ -8,7 +8,7 @@ use Rattle.std.proofs.lemmas.Nat.{mod_below}
 use Rattle.std.proofs.lemmas.Option.{none-some}
 use Rattle.big_info.specs.Bounds.{Bounds}
 use Rattle.iso_pdu.specs.Layout.{Content}
-use Rattle.iso_pdu.specs.Spelling.{pdu}
+use Rattle.iso_pdu.specs.Encoding.{pdu}
 use Rattle.isoal_base.specs.Stays as stays
 use Rattle.isoal_unframed.specs.Slot.{laid}
 use Rattle.radio_schedule.specs.PayloadNumber.{payload_number}
@@ -17,7 +17,7 @@ use Rattle.source_machine.specs.Airs.{AreAirs, Airs}
 use Rattle.source_machine.specs.Calls.{Setup, Call as SourceCall, events, next_of}
 use Rattle.source_machine.specs.Faults.{air_fault}
 use Rattle.group_sink.specs.Calls.{Call, tune, hear}
-use Rattle.sync_reference.specs.Joining.{Joining}
+use Rattle.sync_reference.specs.BigSync.{BigSync}
 use Rattle.group_sink.specs.Streams.{stay_on, stream_calls, with_hear}
 use Rattle.scenario_text.specs.declared.step.Step.{Step}
 use Rattle.scenario_text.specs.declared.step.Step.TheVariants as steps
@@ -25,8 +25,8 @@ use Rattle.transcript_text.specs.declared.refusal.Refusal.TheVariants.{NotOnAir}
 use Rattle.scenario_history.specs.Steps.{chosen_of, chosen_steps, steps_of_source}
 use Rattle.scenario_history.specs.Source.{setup_of, source_calls, performed, event_back, is_started, pdu_in, open_event}
 use Rattle.scenario_history.specs.Airs.{MeetAirs}
-use Rattle.scenario_history.specs.Sinks.{spot_at, is_lost, is_of, hear_at, unless_lost, heard_on_air, reaches, sink_calls, source_of, spots_of, ticked_if}
-use Rattle.scenario_history.specs.Worlds.{joining_on}
+use Rattle.scenario_history.specs.Sinks.{position_at, is_lost, is_of, hear_at, unless_lost, heard_on_air, reaches, sink_calls, source_of, positions_of, ticked_if}
+use Rattle.scenario_history.specs.Worlds.{big_sync_on}
 use Rattle.scenario_history.specs.Refusals.{air_refusal, no_place}
 use Rattle.scenario_laws.specs.Laws.{injected_since, is_injected, is_tuned}
 use Rattle.scenario_laws.proofs.Announced.{Announcing}
@@ -37,7 +37,7 @@ use Rattle.scenario_laws.proofs.Moves.{Left, StaysBy, announced, given_stays, pl
 use Rattle.scenario_laws.proofs.Stays.{BeginsBy, IsOn, OnSource, begins_calls, last_not, on_before, on_source, rest_not}
 
 -- each PDU of a stream that these steps of a source sent is the source's own, by what it lays at each number
-abbrev pub SendsOwn : Airs → (ℕ → Content) → Joining → ℕ → List Step → Type 0
+abbrev pub SendsOwn : Airs → (ℕ → Content) → BigSync → ℕ → List Step → Type 0
 SendsOwn airs laid tuning bis own = (event : ℕ) → (subevent : ℕ) → (setup_of own).first ≤ event → event < next_of (setup_of own) (source_calls own)
     → 1 ≤ bis → bis ≤ (setup_of own).info.num_bis → subevent < (setup_of own).info.nse
     → pdu_in airs own event bis subevent ≡ pdu (laid (payload_number tuning.info event subevent))
@@ -64,42 +64,42 @@ one_close : (laid : ℕ → Content) (over : Bool) (rest : List stays.Call) → 
 one_close laid true rest all = (tt, all)
 one_close laid false rest all = all
 
-abbrev pub AllOwn : (ℕ → Content) → Joining → ℕ → List Call → Type 0
+abbrev pub AllOwn : (ℕ → Content) → BigSync → ℕ → List Call → Type 0
 AllOwn laid tuning bis calls = AllByRecursion (Own laid) (stream_calls (stay_on tuning bis) calls)
 
-gone_own : (laid : ℕ → Content) (tuning : Joining) (bis : ℕ) (gone : Bool) (calls : List Call)
+gone_own : (laid : ℕ → Content) (tuning : BigSync) (bis : ℕ) (gone : Bool) (calls : List Call)
     → AllOwn laid tuning bis calls → AllOwn laid tuning bis (cond gone [] calls)
 gone_own laid tuning bis true calls all = tt
 gone_own laid tuning bis false calls all = all
 
-put_own : (laid : ℕ → Content) (tuning : Joining) (bis : ℕ) (put injected : Bool) (on : Joining) (calls : List Call)
+put_own : (laid : ℕ → Content) (tuning : BigSync) (bis : ℕ) (put injected : Bool) (on : BigSync) (calls : List Call)
     → cond put false (false || injected) ≡ false → (injected ≡ false → AllOwn laid tuning bis calls) → AllOwn laid tuning bis (cond put (tune on ∷ calls) calls)
 put_own laid tuning bis true injected on calls clean before = tt
 put_own laid tuning bis false injected on calls clean before = before clean
 
-hear_own : (laid : ℕ → Content) (tuning : Joining) (bis : ℕ) (event stream subevent : ℕ) (octets : List ℕ) (calls : List Call)
+hear_own : (laid : ℕ → Content) (tuning : BigSync) (bis : ℕ) (event stream subevent : ℕ) (octets : List ℕ) (calls : List Call)
     → AllOwn laid tuning bis calls → (stream ≡ bis → octets ≡ pdu (laid (payload_number tuning.info event subevent)))
     → AllOwn laid tuning bis (hear event stream subevent octets ∷ calls)
 hear_own laid tuning bis event stream subevent octets calls all own = search (one_hear, ltb, eqb-true)
 
-mine_own : (laid : ℕ → Content) (tuning : Joining) (bis : ℕ) (mine : Bool) (more calls : List Call)
+mine_own : (laid : ℕ → Content) (tuning : BigSync) (bis : ℕ) (mine : Bool) (more calls : List Call)
     → AllOwn laid tuning bis calls → (mine ≡ true → AllOwn laid tuning bis more) → AllOwn laid tuning bis (cond mine more calls)
 mine_own laid tuning bis true more calls all all_more = all_more refl
 mine_own laid tuning bis false more calls all all_more = all
 
-unless_own : (laid : ℕ → Content) (tuning : Joining) (bis : ℕ) (gone : Bool) (call : Call) (calls : List Call)
+unless_own : (laid : ℕ → Content) (tuning : BigSync) (bis : ℕ) (gone : Bool) (call : Call) (calls : List Call)
     → AllOwn laid tuning bis calls → AllOwn laid tuning bis (call ∷ calls) → AllOwn laid tuning bis (unless_lost gone call calls)
 unless_own laid tuning bis true call calls all all_more = all
 unless_own laid tuning bis false call calls all all_more = all_more
 
 -- a PDU of an event that was performed, of a stream and a subevent of the group
-place_own : (airs : Airs) (laid : ℕ → Content) (tuning : Joining) (own : List Step) (bis back stream subevent : ℕ) → SendsOwn airs laid tuning bis own
+place_own : (airs : Airs) (laid : ℕ → Content) (tuning : BigSync) (own : List Step) (bis back stream subevent : ℕ) → SendsOwn airs laid tuning bis own
     → 1 ≤ bis → stream ≤ (setup_of own).info.num_bis → subevent < (setup_of own).info.nse → back < performed own → stream ≡ bis
     → pdu_in airs own (event_back own back) stream subevent ≡ pdu (laid (payload_number tuning.info (event_back own back) subevent))
 place_own airs laid tuning own bis back stream subevent sent least within below near mine =
     cc (mine, sent (event_back own back) subevent (omega arith) (omega arith) least (omega (arith, within, mine)) below)
 
-air_own : (airs : Airs) (laid : ℕ → Content) (tuning : Joining) (own : List Step) (bis lose count : ℕ) (calls : List Call) → SendsOwn airs laid tuning bis own
+air_own : (airs : Airs) (laid : ℕ → Content) (tuning : BigSync) (own : List Step) (bis lose count : ℕ) (calls : List Call) → SendsOwn airs laid tuning bis own
     → 1 ≤ bis → 1 ≤ (setup_of own).info.nse → 0 < performed own → count ≤ (setup_of own).info.num_bis * (setup_of own).info.nse
     → AllOwn laid tuning bis calls → AllOwn laid tuning bis (heard_on_air airs own lose count calls)
 air_own airs laid tuning own bis lose zero calls sent least some near within all = all
@@ -107,23 +107,23 @@ air_own airs laid tuning own bis lose (suc i) calls sent least some near within 
     let rest : AllOwn laid tuning bis (heard_on_air airs own lose i calls) =
     air_own airs laid tuning own bis lose i calls sent least some near (omega (arith, within)) all in
     let row : i / (setup_of own).info.nse < (setup_of own).info.num_bis = (div-lt_iff_lt-mul (omega (arith, some))).1 (omega (arith, within)) in
-    unless_own laid tuning bis (is_lost (setup_of own).info (event_back own 0) lose (spot_at (setup_of own).info i))
-    (hear_at airs own (event_back own 0) (spot_at (setup_of own).info i)) (heard_on_air airs own lose i calls) rest
+    unless_own laid tuning bis (is_lost (setup_of own).info (event_back own 0) lose (position_at (setup_of own).info i))
+    (hear_at airs own (event_back own 0) (position_at (setup_of own).info i)) (heard_on_air airs own lose i calls) rest
     (hear_own laid tuning bis (event_back own 0) (i / (setup_of own).info.nse + 1) (i % (setup_of own).info.nse) _ (heard_on_air airs own lose i calls) rest
     (place_own airs laid tuning own bis 0 (i / (setup_of own).info.nse + 1) (i % (setup_of own).info.nse) sent least (omega (arith, row))
     (mod_below i (setup_of own).info.nse (omega (arith, some))) near))
 
-tick_if_own : (laid : ℕ → Content) (tuning : Joining) (bis : ℕ) (mine : Bool) (last_open : Option ℕ) (calls : List Call)
+tick_if_own : (laid : ℕ → Content) (tuning : BigSync) (bis : ℕ) (mine : Bool) (last_open : Option ℕ) (calls : List Call)
     → AllOwn laid tuning bis calls → AllOwn laid tuning bis (ticked_if mine last_open calls)
 tick_if_own laid tuning bis mine last_open calls all = grind (arith, one_close)
 
-left_own : (laid : ℕ → Content) (tuning : Joining) (bis : ℕ) (later calls : List Call) → Left later calls → AllOwn laid tuning bis calls → AllOwn laid tuning bis later
+left_own : (laid : ℕ → Content) (tuning : BigSync) (bis : ℕ) (later calls : List Call) → Left later calls → AllOwn laid tuning bis calls → AllOwn laid tuning bis later
 left_own laid tuning bis later calls left all = elim left [
   | inl same ↦ subst (AllOwn laid tuning bis) (sym same) all
   | inr gone ↦ subst (AllOwn laid tuning bis) (sym gone) tt
 ]
 
-inject_own : (laid : ℕ → Content) (tuning : Joining) (bis : ℕ) (mine its injected : Bool) (call : Call) (calls : List Call)
+inject_own : (laid : ℕ → Content) (tuning : BigSync) (bis : ℕ) (mine its injected : Bool) (call : Call) (calls : List Call)
     → (mine || injected) ≡ false → (injected ≡ false → AllOwn laid tuning bis calls) → AllOwn laid tuning bis (cond (mine && its) (call ∷ calls) calls)
 inject_own laid tuning bis mine its injected call calls clean before = grind (arith, false≢true)
 
@@ -154,22 +154,22 @@ reached : (sink n s c : ℕ) (source : Option ℕ) → ((sink == n) && is_of c s
 reached sink n s c source is there = cc (eqb-true s c (ap (is_of c) (sym there) ∙ (and_parts (sink == n) (is_of c source) is).1))
 
 -- what is known before a step of a sink on a group of the source
-pub record Ready (airs : Airs) (laid : ℕ → Content) (tuning : Joining) (bis : ℕ) (own : List Step) (calls : List Call) : Type 0 where
+pub record Ready (airs : Airs) (laid : ℕ → Content) (tuning : BigSync) (bis : ℕ) (own : List Step) (calls : List Call) : Type 0 where
   pub all : AllOwn laid tuning bis calls
   pub sent : SendsOwn airs laid tuning bis own
   pub bounds : Bounds (setup_of own).info
 
-sent_by : (airs : Airs) (laid : ℕ → Content) (tuning : Joining) (bis s n sink : ℕ) (earlier : List Step) (calls : List Call) → source_of n earlier ≡ Some s
+sent_by : (airs : Airs) (laid : ℕ → Content) (tuning : BigSync) (bis s n sink : ℕ) (earlier : List Step) (calls : List Call) → source_of n earlier ≡ Some s
     → reaches sink n earlier ≡ true → Ready airs laid tuning bis (steps_of_source s earlier) calls → Ready airs laid tuning bis (chosen_steps earlier) calls
 sent_by airs laid tuning bis s n sink earlier calls there mine ready =
     subst (λ t. Ready airs laid tuning bis (steps_of_source t earlier) calls) (reached sink n s (chosen_of earlier) (source_of n earlier) mine there) ready
 
-stays_own : (airs : Airs) (laid : ℕ → Content) (tuning : Joining) (n bis : ℕ) (step : Step) (earlier : List Step) (injected : Bool)
+stays_own : (airs : Airs) (laid : ℕ → Content) (tuning : BigSync) (n bis : ℕ) (step : Step) (earlier : List Step) (injected : Bool)
     → cond (is_tuned n earlier step) (is_injected n step) (is_injected n step || injected) ≡ false → StaysBy airs n step earlier
     → (injected ≡ false → AllOwn laid tuning bis (sink_calls airs n earlier)) → AllOwn laid tuning bis (sink_calls airs n (step ∷ earlier))
 stays_own airs laid tuning n bis step earlier injected clean stays before = search (left_own, rest_not)
 
-own_after : (airs : Airs) (laid : ℕ → Content) (tuning : Joining) (boxes s n bis : ℕ) (step : Step) (earlier : List Step) (injected : Bool)
+own_after : (airs : Airs) (laid : ℕ → Content) (tuning : BigSync) (boxes s n bis : ℕ) (step : Step) (earlier : List Step) (injected : Bool)
     → Permitted airs boxes earlier step → 1 ≤ bis → source_of n earlier ≡ Some s → cond (is_tuned n earlier step) (is_injected n step) (is_injected n step || injected) ≡ false
     → (injected ≡ false → Ready airs laid tuning bis (steps_of_source s earlier) (sink_calls airs n earlier))
     → AllOwn laid tuning bis (sink_calls airs n (step ∷ earlier))
@@ -178,7 +178,7 @@ own_after airs laid tuning boxes s n bis (steps.Sink sink streams slots mtu) ear
 own_after airs laid tuning boxes s n bis (steps.Drop sink) earlier injected permits least there clean ready =
     gone_own laid tuning bis (sink == n) (sink_calls airs n earlier) (ready clean).all
 own_after airs laid tuning boxes s n bis (steps.Tuned sink which) earlier injected permits least there clean ready =
-    put_own laid tuning bis (sink == n) injected (joining_on (chosen_steps earlier) which) (sink_calls airs n earlier) clean (λ none. (ready none).all)
+    put_own laid tuning bis (sink == n) injected (big_sync_on (chosen_steps earlier) which) (sink_calls airs n earlier) clean (λ none. (ready none).all)
 own_after airs laid tuning boxes s n bis (steps.Hear sink back stream subevent) earlier injected permits least there clean ready =
     let at : OnAir (chosen_steps earlier) back stream subevent = on_air (chosen_steps earlier) back stream subevent permits.by_source in
     mine_own laid tuning bis (reaches sink n earlier) _ (sink_calls airs n earlier) (ready clean).all
@@ -188,10 +188,10 @@ own_after airs laid tuning boxes s n bis (steps.Hear sink back stream subevent) 
 own_after airs laid tuning boxes s n bis (steps.Air sink lose) earlier injected permits least there clean ready =
     let some : (performed (chosen_steps earlier) == 0) ≡ false = fails_not (performed (chosen_steps earlier) == 0) NotOnAir permits.by_source in
     let near : performed (chosen_steps earlier) ≢ 0 = eqb-false (performed (chosen_steps earlier)) 0 some in
-    mine_own laid tuning bis (reaches sink n earlier) (heard_on_air airs (chosen_steps earlier) lose (spots_of (chosen_steps earlier)) (sink_calls airs n earlier)) (sink_calls airs n earlier)
+    mine_own laid tuning bis (reaches sink n earlier) (heard_on_air airs (chosen_steps earlier) lose (positions_of (chosen_steps earlier)) (sink_calls airs n earlier)) (sink_calls airs n earlier)
     (ready clean).all
     (λ mine. let now = sent_by airs laid tuning bis s n sink earlier (sink_calls airs n earlier) there mine (ready clean) in
-    air_own airs laid tuning (chosen_steps earlier) bis lose (spots_of (chosen_steps earlier)) (sink_calls airs n earlier) now.sent least now.bounds.nse (omega (arith, near)) (omega arith) now.all)
+    air_own airs laid tuning (chosen_steps earlier) bis lose (positions_of (chosen_steps earlier)) (sink_calls airs n earlier) now.sent least now.bounds.nse (omega (arith, near)) (omega arith) now.all)
 own_after airs laid tuning boxes s n bis (steps.Inject sink back stream subevent octets) earlier injected permits least there clean ready =
     inject_own laid tuning bis (sink == n) (is_of (chosen_of earlier) (source_of n earlier)) injected (hear (event_back (chosen_steps earlier) back) stream subevent octets)
     (sink_calls airs n earlier) clean (λ none. (ready none).all)
@@ -220,16 +220,16 @@ own_after airs laid tuning boxes s n bis (steps.Train sink time ext adv acad) ea
 own_after airs laid tuning boxes s n bis step earlier injected permits least there clean ready =
     stays_own airs laid tuning n bis step earlier injected clean (plain_stays airs n step earlier refl refl refl refl) (λ none. (ready none).all)
 
-begins_own : (airs : Airs) (laid : ℕ → Content) (s n bis : ℕ) (step : Step) (earlier : List Step) (tuning : Joining) → BeginsBy airs s n step earlier tuning
+begins_own : (airs : Airs) (laid : ℕ → Content) (s n bis : ℕ) (step : Step) (earlier : List Step) (tuning : BigSync) → BeginsBy airs s n step earlier tuning
     → AllOwn laid tuning bis (sink_calls airs n (step ∷ earlier))
 begins_own airs laid s n bis step earlier tuning begins = subst (AllOwn laid tuning bis) (sym (begins_calls airs s n step earlier tuning begins)) tt
 
 -- what the source sends, so far and later, is its own, by what it lays at each number in all
-abbrev pub WholeSends : Airs → Setup → List SourceCall → (ℕ → Content) → Joining → ℕ → Type 0
+abbrev pub WholeSends : Airs → Setup → List SourceCall → (ℕ → Content) → BigSync → ℕ → Type 0
 WholeSends airs setup whole laid tuning bis = (own : List Step) → Lawful airs own → is_started own ≡ true → Within setup whole own → SendsOwn airs laid tuning bis own
 
 -- all that a stay hears is the source's own
-pub all_own : Announcing → (airs : Airs) (setup : Setup) (whole : List SourceCall) (laid : ℕ → Content) (tuning : Joining) (boxes s n bis : ℕ) (made : List Step)
+pub all_own : Announcing → (airs : Airs) (setup : Setup) (whole : List SourceCall) (laid : ℕ → Content) (tuning : BigSync) (boxes s n bis : ℕ) (made : List Step)
     → WholeSends airs setup whole laid tuning bis → Legal airs boxes made
     → Within setup whole (steps_of_source s made) → 1 ≤ bis → IsOn airs s n made tuning → injected_since (is_tuned n) n made ≡ false
     → AllOwn laid tuning bis (sink_calls airs n made)

@@ -10,7 +10,7 @@ use Rattle.isoal_unframed.specs.Histories.{units_of}
 use Rattle.source_machine.specs.Airs.{slots_of, Airs}
 use Rattle.source_machine.specs.Calls.{Setup, Call as SourceCall, events, stream_calls as source_stream}
 use Rattle.group_sink.specs.Calls.{Call, tick, place}
-use Rattle.sync_reference.specs.Joining.{Joining}
+use Rattle.sync_reference.specs.BigSync.{BigSync}
 use Rattle.group_sink.specs.Handing.{handed_at, handed_by as ticked_by, of_stream}
 use Rattle.group_sink.specs.Streams.{closes, is_in, stay_on, stream_calls}
 use Rattle.group_sink.proofs.Citable.{is_member, member_is}
@@ -32,13 +32,13 @@ use Rattle.scenario_laws.proofs.Stays.{IsOn, OnSource, TunedTo, last_not, not_in
 use Rattle.scenario_laws.proofs.UnitsLaw.{slot_short}
 use Rattle.scenario_laws.proofs.Closings.{handed_open, shown_by, shown_if, step_shown}
 use Rattle.scenario_laws.proofs.Ticks.{end_ticks, event_ticks, is_its}
-use Rattle.scenario_laws.proofs.Closes.{Climb, climbs, closing, event_of, front, front_of, its_front, mine_in, moved, open_before}
+use Rattle.scenario_laws.proofs.Closes.{Climb, climbs, closing, event_of, prefix, prefix_of, its_prefix, mine_in, moved, open_before}
 use Rattle.scenario_laws.proofs.Shown.{on_whole, shown_on, tick_hands, tick_others}
 use Rattle.scenario_laws.proofs.Numbers.{laid_least, Ordered, ordered_none, ordered_later, ordered_more, close_batch}
 
 -- ---- no PDU was injected into the sink
 
-pub clean_stay : (airs : Airs) (s n : ℕ) (made : List Step) (tuning : Joining) → IsOn airs s n made tuning → given_since_made n made ≡ false → injected_since (is_made n) n made ≡ false
+pub clean_stay : (airs : Airs) (s n : ℕ) (made : List Step) (tuning : BigSync) → IsOn airs s n made tuning → given_since_made n made ≡ false → injected_since (is_made n) n made ≡ false
     → injected_since (is_tuned n) n made ≡ false
 clean_stay airs s n made tuning is ungiven clean = not_in_stay (is_injected n) airs s n made tuning (record { place_is = is.place_is; source_is = is.source_is }) ungiven clean
 
@@ -79,7 +79,7 @@ cond_true_more first count over is = grind (arith, false≢true)
 
 -- the open event is closed
 closed_orders : Below → (airs : Airs) → MeetAirs airs → (boxes s n bis : ℕ) (setup : Setup) (whole : List SourceCall) (made : List Step) → Ready airs boxes s n bis setup whole made
-    → (event : ℕ) → event < next_in (steps_of_source s made) → (tuning : Joining) → IsOn airs s n made tuning → (later : ℕ) → tuning.first + closes tuning (sink_calls airs n made) < later
+    → (event : ℕ) → event < next_in (steps_of_source s made) → (tuning : BigSync) → IsOn airs s n made tuning → (later : ℕ) → tuning.first + closes tuning (sink_calls airs n made) < later
     → tuning.first + closes tuning (sink_calls airs n made) ≤ event → (units : List Handed) → Ordered setup whole bis (tuning.first + closes tuning (sink_calls airs n made)) units
     → of_stream bis (handed_at (sink_calls airs n made) event)
     ≡ units_of (stay_on tuning bis) (stream_calls (stay_on tuning bis) (sink_calls airs n made)) (tuning.first + closes tuning (sink_calls airs n made))
@@ -101,25 +101,25 @@ closed_orders below airs meets boxes s n bis setup whole made ready event before
     (omega (arith, on.first)) past (omega (arith, over, before, same, more, laid, on.first)) order last)
 
 tuned_plain : Announcing → (airs : Airs) (boxes s n bis : ℕ) (setup : Setup) (whole : List SourceCall) (made : List Step) → Ready airs boxes s n bis setup whole made
-    → (tuning : Joining) → place (sink_calls airs n made) ≡ Some tuning → source_of n made ≡ Some s → tuning.info.framing ≡ 0
+    → (tuning : BigSync) → place (sink_calls airs n made) ≡ Some tuning → source_of n made ≡ Some s → tuning.info.framing ≡ 0
 tuned_plain laws airs boxes s n bis setup whole made ready tuning is its =
     ap (λ (i : BigInfo). i.framing)
     (on_whole laws airs boxes s n setup whole made ready.legal_is ready.ungiven ready.within (ap (is_of s) its ∙ eq-eqb s s refl) tuning is).info ∙ ready.plain
 
 event_orders : Below → (airs : Airs) → MeetAirs airs → (boxes s n bis : ℕ) (setup : Setup) (whole : List SourceCall) (made : List Step) → Ready airs boxes s n bis setup whole made
-    → (event : ℕ) → event < next_in (steps_of_source s made) → source_of n made ≡ Some s → (p : Option Joining) → place (sink_calls airs n made) ≡ p → (next later : ℕ)
-    → next_in (steps_of_source s made) ≤ next → front_of p (tick event ∷ sink_calls airs n made) next ≤ later → (units : List Handed)
-    → Ordered setup whole bis (front_of p (sink_calls airs n made) (next_in (steps_of_source s made))) units
+    → (event : ℕ) → event < next_in (steps_of_source s made) → source_of n made ≡ Some s → (p : Option BigSync) → place (sink_calls airs n made) ≡ p → (next later : ℕ)
+    → next_in (steps_of_source s made) ≤ next → prefix_of p (tick event ∷ sink_calls airs n made) next ≤ later → (units : List Handed)
+    → Ordered setup whole bis (prefix_of p (sink_calls airs n made) (next_in (steps_of_source s made))) units
     → Ordered setup whole bis later (units ++ valid_in (of_stream bis (handed_at (sink_calls airs n made) event)))
 event_orders below airs meets boxes s n bis setup whole made ready event before its None is next later more past units order =
     ordered_same setup whole bis (next_in (steps_of_source s made)) later units (of_stream bis (handed_at (sink_calls airs n made) event)) (omega (arith, more, past))
     (ap (λ q. of_stream bis (ticked_by event (sink_calls airs n made) q)) is) order
 event_orders below airs meets boxes s n bis setup whole made ready event before its (Some tuning) is next later more past units order =
     let calls : List Call = sink_calls airs n made in
-    let front_is : tuning.first + closes tuning calls ≤ later =
+    let prefix_is : tuning.first + closes tuning calls ≤ later =
     omega (arith, past, at_least (leb (tuning.first + closes tuning (sink_calls airs n made)) event) tuning.first (closes tuning (sink_calls airs n made))) in
     elim (cases_Bool (is_in tuning.which bis)) [
-      | inr free ↦ ordered_same setup whole bis (tuning.first + closes tuning (sink_calls airs n made)) later units (of_stream bis (handed_at (sink_calls airs n made) event)) front_is
+      | inr free ↦ ordered_same setup whole bis (tuning.first + closes tuning (sink_calls airs n made)) later units (of_stream bis (handed_at (sink_calls airs n made) event)) prefix_is
           (tick_others below event (sink_calls airs n made) tuning bis is (λ taken. true_not_false (is_in tuning.which bis) (member_is tuning.which bis taken).0 free)) order
       | inl taken ↦
           let shown : of_stream bis (handed_at (sink_calls airs n made) event)
@@ -129,7 +129,7 @@ event_orders below airs meets boxes s n bis setup whole made ready event before 
           (is_member tuning.which bis ready.least ready.greatest taken)
           ∙ ap (λ o. cond (leb o event) (units_of (stay_on tuning bis) (stream_calls (stay_on tuning bis) (sink_calls airs n made)) o) []) (below.one_open tuning (sink_calls airs n made) bis) in
           elim (cases_Bool (leb (tuning.first + closes tuning (sink_calls airs n made)) event)) [
-            | inr not_over ↦ ordered_same setup whole bis (tuning.first + closes tuning (sink_calls airs n made)) later units (of_stream bis (handed_at (sink_calls airs n made) event)) front_is
+            | inr not_over ↦ ordered_same setup whole bis (tuning.first + closes tuning (sink_calls airs n made)) later units (of_stream bis (handed_at (sink_calls airs n made) event)) prefix_is
                 (shown ∙ ap (λ over. cond over (units_of (stay_on tuning bis) (stream_calls (stay_on tuning bis) (sink_calls airs n made))
                 (tuning.first + closes tuning (sink_calls airs n made))) []) not_over) order
             | inl over ↦ closed_orders below airs meets boxes s n bis setup whole made ready event before tuning (on_since_made airs s n made tuning is its ready.ungiven) later
@@ -141,36 +141,36 @@ event_orders below airs meets boxes s n bis setup whole made ready event before 
 
 step_orders : Below → (airs : Airs) → MeetAirs airs → (boxes s n bis : ℕ) (setup : Setup) (whole : List SourceCall) (made : List Step) → Ready airs boxes s n bis setup whole made
     → (shut : Option ℕ) → ((event : ℕ) → shut ≡ Some event → event < next_in (steps_of_source s made)) → source_of n made ≡ Some s → (next : ℕ) → next_in (steps_of_source s made) ≤ next
-    → (units : List Handed) → Ordered setup whole bis (front true (sink_calls airs n made) (next_in (steps_of_source s made))) units
-    → front true (sink_calls airs n made) (next_in (steps_of_source s made)) ≤ front true (ticked shut (sink_calls airs n made)) next
-    → Ordered setup whole bis (front true (ticked shut (sink_calls airs n made)) next) (units ++ valid_in (of_stream bis (handed_open (sink_calls airs n made) shut)))
+    → (units : List Handed) → Ordered setup whole bis (prefix true (sink_calls airs n made) (next_in (steps_of_source s made))) units
+    → prefix true (sink_calls airs n made) (next_in (steps_of_source s made)) ≤ prefix true (ticked shut (sink_calls airs n made)) next
+    → Ordered setup whole bis (prefix true (ticked shut (sink_calls airs n made)) next) (units ++ valid_in (of_stream bis (handed_open (sink_calls airs n made) shut)))
 step_orders below airs meets boxes s n bis setup whole made ready None before its next more units order past =
-    ordered_same setup whole bis (front true (sink_calls airs n made) (next_in (steps_of_source s made))) (front true (sink_calls airs n made) next) units [] past refl order
+    ordered_same setup whole bis (prefix true (sink_calls airs n made) (next_in (steps_of_source s made))) (prefix true (sink_calls airs n made) next) units [] past refl order
 step_orders below airs meets boxes s n bis setup whole made ready (Some event) before its next more units order past =
     event_orders below airs meets boxes s n bis setup whole made ready event (before event refl) its (place (sink_calls airs n made)) refl next
-    (front true (tick event ∷ sink_calls airs n made) next) more (omega arith) units order
+    (prefix true (tick event ∷ sink_calls airs n made) next) more (omega arith) units order
 
 -- a close of an event of the source, or of another
 close_orders : Below → (airs : Airs) → MeetAirs airs → (boxes s n bis : ℕ) (setup : Setup) (whole : List SourceCall) (made : List Step) → Ready airs boxes s n bis setup whole made
     → (shut : Option ℕ) → ((event : ℕ) → shut ≡ Some event → event < next_in (steps_of_source s made)) → (mine its : Bool) → is_of s (source_of n made) ≡ mine
     → (calls' : List Call) → (mine ≡ true → calls' ≡ cond its (ticked shut (sink_calls airs n made)) (sink_calls airs n made)) → (next : ℕ) → next_in (steps_of_source s made) ≤ next
-    → (units : List Handed) → Ordered setup whole bis (front mine (sink_calls airs n made) (next_in (steps_of_source s made))) units
-    → front mine (sink_calls airs n made) (next_in (steps_of_source s made)) ≤ front mine calls' next
-    → Ordered setup whole bis (front mine calls' next) (units ++ valid_in (of_stream bis (cond its (shown_if mine (sink_calls airs n made) shut) [])))
+    → (units : List Handed) → Ordered setup whole bis (prefix mine (sink_calls airs n made) (next_in (steps_of_source s made))) units
+    → prefix mine (sink_calls airs n made) (next_in (steps_of_source s made)) ≤ prefix mine calls' next
+    → Ordered setup whole bis (prefix mine calls' next) (units ++ valid_in (of_stream bis (cond its (shown_if mine (sink_calls airs n made) shut) [])))
 close_orders below airs meets boxes s n bis setup whole made ready shut before mine false is calls' same next more units order past =
-    ordered_same setup whole bis (front mine (sink_calls airs n made) (next_in (steps_of_source s made))) (front mine calls' next) units [] past refl order
+    ordered_same setup whole bis (prefix mine (sink_calls airs n made) (next_in (steps_of_source s made))) (prefix mine calls' next) units [] past refl order
 close_orders below airs meets boxes s n bis setup whole made ready shut before false true is calls' same next more units order past =
     ordered_same setup whole bis (next_in (steps_of_source s made)) next units [] past refl order
 close_orders below airs meets boxes s n bis setup whole made ready shut before true true is calls' same next more units order past =
-    subst (λ cs. Ordered setup whole bis (front true cs next) (units ++ valid_in (of_stream bis (handed_open (sink_calls airs n made) shut)))) (sym (same refl))
+    subst (λ cs. Ordered setup whole bis (prefix true cs next) (units ++ valid_in (of_stream bis (handed_open (sink_calls airs n made) shut)))) (sym (same refl))
     (step_orders below airs meets boxes s n bis setup whole made ready shut before (is_its s (source_of n made) is) next more units order
-    (subst (λ cs. front true (sink_calls airs n made) (next_in (steps_of_source s made)) ≤ front true cs next) (same refl) past))
+    (subst (λ cs. prefix true (sink_calls airs n made) (next_in (steps_of_source s made)) ≤ prefix true cs next) (same refl) past))
 
 by_step : Below → (airs : Airs) → MeetAirs airs → (boxes s n bis : ℕ) (setup : Setup) (whole : List SourceCall) (step : Step) (earlier : List Step)
     → Ready airs boxes s n bis setup whole earlier → (next : ℕ) → next_in (steps_of_source s earlier) ≤ next → (units : List Handed)
-    → Ordered setup whole bis (its_front airs s n earlier) units
-    → its_front airs s n earlier ≤ front (mine_in s n (step ∷ earlier)) (sink_calls airs n (step ∷ earlier)) next
-    → Ordered setup whole bis (front (mine_in s n (step ∷ earlier)) (sink_calls airs n (step ∷ earlier)) next)
+    → Ordered setup whole bis (its_prefix airs s n earlier) units
+    → its_prefix airs s n earlier ≤ prefix (mine_in s n (step ∷ earlier)) (sink_calls airs n (step ∷ earlier)) next
+    → Ordered setup whole bis (prefix (mine_in s n (step ∷ earlier)) (sink_calls airs n (step ∷ earlier)) next)
     (units ++ valid_in (of_stream bis (shown_by airs s n earlier step)))
 by_step below airs meets boxes s n bis setup whole steps.Event earlier ready next more units order past =
     close_orders below airs meets boxes s n bis setup whole earlier ready (open_event (steps_of_source s earlier)) (open_before (steps_of_source s earlier)) (mine_in s n earlier)
@@ -192,7 +192,7 @@ by_step below airs meets boxes s n bis setup whole steps.End earlier ready next 
     (λ mine. end_ticks s (λ t. open_event (steps_of_source t earlier)) (sink_calls airs n earlier) (source_of n earlier) ready.source_below (is_its s (source_of n earlier) mine))
     next more units order past
 by_step below airs meets boxes s n bis setup whole _ earlier ready next more units order past =
-    ordered_same setup whole bis (its_front airs s n earlier) _ units [] past refl order
+    ordered_same setup whole bis (its_prefix airs s n earlier) _ units [] past refl order
 
 again_orders : (setup : Setup) (whole : List SourceCall) (s n bis next : ℕ) (again : Bool) (units others : List SinkUnit)
     → (again ≡ false → Ordered setup whole bis next (valid_in (of_stream bis (of_sink s n units)) ++ valid_in (of_stream bis (of_sink s n others))))
@@ -200,11 +200,11 @@ again_orders : (setup : Setup) (whole : List SourceCall) (s n bis next : ℕ) (a
 again_orders setup whole s n bis next again units others order = grind (arith, ordered_none, shown_on, filter-append)
 
 orders : Below → (airs : Airs) → MeetAirs airs → (boxes s n bis : ℕ) (setup : Setup) (whole : List SourceCall) (made : List Step) → Ready airs boxes s n bis setup whole made
-    → Ordered setup whole bis (its_front airs s n made) (valid_in (shown_since (is_made n) airs s n bis made))
-orders below airs meets boxes s n bis setup whole [] ready = ordered_none setup whole bis (its_front airs s n [])
+    → Ordered setup whole bis (its_prefix airs s n made) (valid_in (shown_since (is_made n) airs s n bis made))
+orders below airs meets boxes s n bis setup whole [] ready = ordered_none setup whole bis (its_prefix airs s n [])
 orders below airs meets boxes s n bis setup whole (step ∷ earlier) ready =
     let legal_before : Legal airs boxes earlier = ready.legal_is.0 in
-    again_orders setup whole s n bis (its_front airs s n (step ∷ earlier)) (is_made n earlier step) (handed_since (is_made n) airs earlier) (handed_by airs earlier step)
+    again_orders setup whole s n bis (its_prefix airs s n (step ∷ earlier)) (is_made n earlier step) (handed_since (is_made n) airs earlier) (handed_by airs earlier step)
     (λ on.
     let before : Ready airs boxes s n bis setup whole earlier =
     assumption (
@@ -214,17 +214,17 @@ orders below airs meets boxes s n bis setup whole (step ∷ earlier) ready =
     ) in
     let now = moved below.announcing airs boxes s n step earlier ready.legal_is (last_not (is_made n earlier step) (is_given n step) (given_since_made n earlier) ready.ungiven) ready.source_below
     (closing below.announcing airs boxes s n earlier legal_before before.ungiven ready.source_below).within in
-    subst (λ (us : List Handed). Ordered setup whole bis (its_front airs s n (step ∷ earlier)) (valid_in (shown_since (is_made n) airs s n bis earlier) ++ valid_in (of_stream bis us)))
+    subst (λ (us : List Handed). Ordered setup whole bis (its_prefix airs s n (step ∷ earlier)) (valid_in (shown_since (is_made n) airs s n bis earlier) ++ valid_in (of_stream bis us)))
     (sym (step_shown airs boxes s n step earlier legal_before ready.source_below ready.sink_below))
     (by_step below airs meets boxes s n bis setup whole step earlier before (next_in (steps_of_source s (step ∷ earlier))) (next_rises airs boxes s earlier step ready.legal_is)
     (valid_in (shown_since (is_made n) airs s n bis earlier)) (orders below airs meets boxes s n bis setup whole earlier before)
-    (climb_between (its_front airs s n earlier) (map event_of (closed_by airs s n earlier step)) (its_front airs s n (step ∷ earlier)) now.climbs_on)))
+    (climb_between (its_prefix airs s n earlier) (map event_of (closed_by airs s n earlier step)) (its_prefix airs s n (step ∷ earlier)) now.climbs_on)))
 
 pub units_in_order : Below → (airs : Airs) → MeetAirs airs → (boxes s n bis : ℕ) (made : List Step) → Legal airs boxes made → (setup_of (steps_of_source s made)).info.framing ≡ 0 → s ≤ 1
     → n ≤ 7 → 1 ≤ bis → bis ≤ 31 → given_since_made n made ≡ false → injected_since (is_made n) n made ≡ false
     → InSourceOrder (setup_of (steps_of_source s made)) (source_calls (steps_of_source s made)) bis (valid_in (shown_since (is_made n) airs s n bis made))
 units_in_order below airs meets boxes s n bis made legal plain source_below sink_below least greatest ungiven clean =
-    let order : Ordered (setup_of (steps_of_source s made)) (source_calls (steps_of_source s made)) bis (its_front airs s n made) (valid_in (shown_since (is_made n) airs s n bis made)) =
+    let order : Ordered (setup_of (steps_of_source s made)) (source_calls (steps_of_source s made)) bis (its_prefix airs s n made) (valid_in (shown_since (is_made n) airs s n bis made)) =
     orders below airs meets boxes s n bis (setup_of (steps_of_source s made)) (source_calls (steps_of_source s made)) made (
     assumption (
       within_itself (steps_of_source s made),

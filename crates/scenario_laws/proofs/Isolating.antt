@@ -4,7 +4,7 @@ pub mod Isolated
 pub mod Kept
 pub mod Left
 pub mod Lines
-pub mod Lives
+pub mod Histories
 pub mod Moves
 pub mod Printed
 pub mod Said

@@ -9,12 +9,12 @@ use Rattle.scenario_words.specs.declared.fault.LineFault.TheVariants.{BadLine as
 use Rattle.scenario_text.specs.declared.step.Step.{Step}
 use Rattle.scenario_text.specs.Ranges.{IsInRange}
 use Rattle.scenario_text.specs.Steps.{read_of}
-use Rattle.scenario_history.specs.Gifts.{happened}
+use Rattle.scenario_history.specs.RelayedUnits.{happened}
 use Rattle.source_machine.specs.Airs.{Airs}
 use Rattle.scenario_history.specs.Lines.{Said, a_step, nothing, unsaid, said_by, said_in, said_of, steps_of, with_said}
 use Rattle.scenario_history.specs.Lines.{refusal_said, rules_of}
-use Rattle.scenario_laws.specs.Gifts.Legal.{AreLegal, AreSaidLegally}
-use Rattle.scenario_laws.proofs.Gifts.Citable.{happens_legally}
+use Rattle.scenario_laws.specs.RelayedUnits.Legal.{AreLegal, AreSaidLegally}
+use Rattle.scenario_laws.proofs.RelayedUnits.Citable.{happens_legally}
 pub use Rattle.scenario_history.proofs.Citable.{Permitted, fails_not, maps_none, neither, permitted}
 
 abbrev pub Legal : Airs → ℕ → List Step → Type 0

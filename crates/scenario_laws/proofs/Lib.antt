@@ -23,7 +23,7 @@ mod InTime
 mod Isolating
 mod LastEvents
 mod Legals
-mod LifeOctets
+mod HistoryOctets
 mod Linked
 mod MetAirs
 mod Moments
@@ -52,4 +52,4 @@ mod UnitOrder
 mod UnitsLaw
 mod Versions
 mod Wholes
-pub mod Gifts
+pub mod RelayedUnits

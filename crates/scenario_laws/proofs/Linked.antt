@@ -8,41 +8,41 @@ use Rattle.delegator_history.specs.LastGiven.{last_given}
 use Rattle.delegator_history.specs.Trains.{Settings, Setup}
 use Rattle.sink_history.specs.Calls as links
 use Rattle.sink_history.specs.Calls.{Call}
-use Rattle.sink_history.specs.Drains.{NoneTells, told_and_read}
+use Rattle.sink_history.specs.Drains.{NoneNotifies, notified_and_read}
 use Rattle.sink_history.specs.Links.{forging_by, is_forged, read_waits, state, view}
 use Rattle.sink_history.specs.Octets.{AreOctets}
-use Rattle.sink_history.specs.Lives.{made_of}
+use Rattle.sink_history.specs.History.{made_of}
 use Rattle.scenario_history.specs.Lines.{said_of, steps_of}
 use Rattle.source_machine.specs.Airs.{Airs}
-use Rattle.scenario_laws.proofs.Gifts.Citable.{life_happened, made_happened}
-use Rattle.scenario_history.specs.Worlds.{life, the_world}
+use Rattle.scenario_laws.proofs.RelayedUnits.Citable.{history_happened, made_happened}
+use Rattle.scenario_history.specs.Worlds.{calls_made, the_world}
 use Rattle.scenario_laws.specs.Links.{AgreementLaw, Agrees}
 use Rattle.scenario_laws.proofs.Legals.{LinesInRange}
-use Rattle.scenario_laws.proofs.LifeOctets.{few_slots, life_octets, ranged_lines}
+use Rattle.scenario_laws.proofs.HistoryOctets.{few_slots, history_octets, ranged_lines}
 
 -- what holds of each link
 pub record OfLinks : Type 0 where
   pub agrees : (setup : Setup) (mtu : Option ℕ) (link slot : ℕ) (calls : List Call) → setup.slots < 256 → slot < setup.slots → AreOctets calls
-      → is_forged link calls ≡ false → NoneTells setup mtu link slot calls → read_waits setup mtu link slot calls ≡ false
+      → is_forged link calls ≡ false → NoneNotifies setup mtu link slot calls → read_waits setup mtu link slot calls ≡ false
       → view setup mtu link slot calls ≡ state setup slot calls
   pub drained : (setup : Setup) (mtu : Option ℕ) (link slot : ℕ) (calls : List Call) → setup.slots < 256 → slot < setup.slots → AreOctets calls
-      → is_forged link calls ≡ false → view setup mtu link slot (told_and_read setup mtu link calls) ≡ state setup slot calls
+      → is_forged link calls ≡ false → view setup mtu link slot (notified_and_read setup mtu link calls) ≡ state setup slot calls
 
 said_agree : LinesInRange → OfLinks → (lines : List TextLine) (n link slot : ℕ) (made : Settings) → made_of n (said_of lines) ≡ Some made
-    → slot < made.setup.slots → is_forged link (life n (said_of lines)) ≡ false → Agrees made link slot (life n (said_of lines))
+    → slot < made.setup.slots → is_forged link (calls_made n (said_of lines)) ≡ false → Agrees made link slot (calls_made n (said_of lines))
 said_agree in_range laws lines n link slot made is below plain =
     let ranged = ranged_lines in_range lines in
     let few = few_slots n (said_of lines) ranged made is in
-    let octets : AreOctets (life n (said_of lines)) = life_octets the_world n (said_of lines) ranged in
+    let octets : AreOctets (calls_made n (said_of lines)) = history_octets the_world n (said_of lines) ranged in
     assumption (
-      laws.agrees made.setup made.mtu link slot (life n (said_of lines)) few below octets plain,
-      laws.drained made.setup made.mtu link slot (life n (said_of lines)) few below octets plain,
+      laws.agrees made.setup made.mtu link slot (calls_made n (said_of lines)) few below octets plain,
+      laws.drained made.setup made.mtu link slot (calls_made n (said_of lines)) few below octets plain,
     )
 
--- gifts are no part of a life
+-- relayed units are no part of a history
 pub links_agree : LinesInRange → OfLinks → AgreementLaw
 links_agree in_range laws airs lines n link slot made is below plain =
-    let same : life n (steps_of airs lines) ≡ life n (said_of lines) = life_happened airs n (said_of lines) in
+    let same : calls_made n (steps_of airs lines) ≡ calls_made n (said_of lines) = history_happened airs n (said_of lines) in
     subst (Agrees made link slot) (sym same)
     (said_agree in_range laws lines n link slot made (sym (made_happened airs n (said_of lines)) ∙ is) below
     (ap (is_forged link) (sym same) ∙ plain))
@@ -61,5 +61,5 @@ not_forged link (call ∷ earlier) other = not_forged link earlier other
 
 pub apart_agree : LinesInRange → OfLinks → (airs : Airs) (lines : List TextLine) (n link slot : ℕ) (made : Settings)
     → made_of n (steps_of airs lines) ≡ Some made → slot < made.setup.slots
-    → link ≢ 0 → Agrees made link slot (life n (steps_of airs lines))
+    → link ≢ 0 → Agrees made link slot (calls_made n (steps_of airs lines))
 apart_agree in_range laws airs lines n link slot made is below other = search (links_agree, not_forged)

@@ -3,22 +3,22 @@
 use Rattle.std.proofs.Common.{ℕ, ◌≡◌, ◌⊎◌, ◌==◌, ◌&&◌, not, cond, Bool, true, false, List, ◌∷◌, Option, None, Some, is_some, refl, ap, subst, inl, inr, arith}
 use Rattle.delegator_machine.specs.Groups.{by_numbers, with_leave, with_step}
 use Rattle.delegator_history.specs.declared.train_heard.TrainHeard.{TrainHeard}
-use Rattle.delegator_history.specs.Sights.{Sight}
-use Rattle.delegator_history.specs.Trains.{Brought, Settings, Setup, Train, heard, ignored, taken}
-use Rattle.delegator_history.specs.Trains.{brought_by, by_broadcast_id, by_slot, joining_in}
-use Rattle.sync_reference.specs.Joining.{Joining}
+use Rattle.delegator_history.specs.Snapshots.{Snapshot}
+use Rattle.delegator_history.specs.Trains.{TrainOutcome, Settings, Setup, Train, heard, ignored, taken}
+use Rattle.delegator_history.specs.Trains.{outcome_by, by_broadcast_id, by_slot, big_sync_in}
+use Rattle.sync_reference.specs.BigSync.{BigSync}
 use Rattle.group_sink.specs.Calls.{Call, leave, place, tune}
 use Rattle.sink_history.specs.Calls as links
 use Rattle.delegator_control.specs.Groups.{has_group}
 use Rattle.scenario_text.specs.declared.step.Step.{Step}
 use Rattle.scenario_text.specs.declared.step.Step.TheVariants as steps
-use Rattle.sink_history.specs.Lives.{Source, made_of, named_by, own_train}
-use Rattle.sink_history.specs.Moves.{brings_by, follows, joining_of, received_by, source_by, train_by}
-use Rattle.sink_history.specs.Output.{sight_in}
+use Rattle.sink_history.specs.History.{Source, made_of, named_by, own_train}
+use Rattle.sink_history.specs.Moves.{brings_by, follows, big_sync_of, received_by, source_by, train_by}
+use Rattle.sink_history.specs.Output.{snapshot_in}
 use Rattle.source_machine.specs.Airs.{Airs}
 use Rattle.scenario_history.specs.Sinks.{moved, sink_calls, source_after, source_of, with_sink_call}
 use Rattle.scenario_history.specs.Steps.{chosen_of}
-use Rattle.scenario_history.specs.Worlds.{life, source_at}
+use Rattle.scenario_history.specs.Worlds.{calls_made, source_at}
 use Rattle.scenario_laws.specs.Laws.{is_tuned}
 use Rattle.scenario_laws.proofs.Nowhere.{Nowhere, nowhere}
 
@@ -41,15 +41,15 @@ pub record Follows (chosen : ℕ) (begins : Bool) (calls later : List Call) (sou
   pub source_is : source' ≡ Some chosen
   pub begins_not : begins ≡ false
 
--- a train of this source puts it on a group
-pub record Put (Brings : Joining → Type 0) (chosen : ℕ) (begins : Bool) (calls later : List Call) (source' : Option ℕ) : Type 0 where
-  pub joining : Joining
-  pub brings : Brings joining
-  pub calls_is : later ≡ tune (by_numbers joining) ∷ calls
+-- a train of this source synchronizes it to a BIG
+pub record Put (Brings : BigSync → Type 0) (chosen : ℕ) (begins : Bool) (calls later : List Call) (source' : Option ℕ) : Type 0 where
+  pub big_sync : BigSync
+  pub brings : Brings big_sync
+  pub calls_is : later ≡ tune (by_numbers big_sync) ∷ calls
   pub source_is : source' ≡ Some chosen
   pub begins_is : begins ≡ true
 
-abbrev pub Went : (Joining → Type 0) → ℕ → Bool → (calls later : List Call) → (source source' : Option ℕ) → Type 0
+abbrev pub Went : (BigSync → Type 0) → ℕ → Bool → (calls later : List Call) → (source source' : Option ℕ) → Type 0
 Went Brings chosen begins calls later source source' =
     Stays begins calls later source source' ⊎ (Follows chosen begins calls later source' ⊎ Put Brings chosen begins calls later source')
 
@@ -93,35 +93,35 @@ given_stays airs n sink time ext adv acad earlier other = search arith
 -- ---- a train that is announced
 
 -- a train is heard that isn't taken only where the sink is on no group
-heard_slot : (other : Bool) (first second : TrainHeard) (rest : Brought) (slot : ℕ) (answer : TrainHeard) (encrypted : Option Bool)
+heard_slot : (other : Bool) (first second : TrainHeard) (rest : TrainOutcome) (slot : ℕ) (answer : TrainHeard) (encrypted : Option Bool)
     → cond (not other) (ignored first) (cond other (ignored second) rest) ≡ heard slot answer encrypted → ⊥
 heard_slot true first second rest slot answer encrypted is = absurd cc
 heard_slot false first second rest slot answer encrypted is = absurd cc
 
-heard_at : (setup : Setup) (sight : Sight) (train : Train) (slot : Option ℕ) (other : ℕ) (answer : TrainHeard) (encrypted : Option Bool)
-    → by_slot setup sight train slot ≡ heard other answer encrypted → has_group sight.place ≡ false
-heard_at setup sight train slot other answer encrypted is = grind (arith, heard_slot)
+heard_at : (setup : Setup) (snapshot : Snapshot) (train : Train) (slot : Option ℕ) (other : ℕ) (answer : TrainHeard) (encrypted : Option Bool)
+    → by_slot setup snapshot train slot ≡ heard other answer encrypted → has_group snapshot.place ≡ false
+heard_at setup snapshot train slot other answer encrypted is = grind (arith, heard_slot)
 
-heard_by : (setup : Setup) (sight : Sight) (train : Train) (id : Option (List ℕ)) (other : ℕ) (answer : TrainHeard) (encrypted : Option Bool)
-    → by_broadcast_id setup sight train id ≡ heard other answer encrypted → has_group sight.place ≡ false
-heard_by setup sight train id other answer encrypted is = grind (arith, heard_at)
+heard_by : (setup : Setup) (snapshot : Snapshot) (train : Train) (id : Option (List ℕ)) (other : ℕ) (answer : TrainHeard) (encrypted : Option Bool)
+    → by_broadcast_id setup snapshot train id ≡ heard other answer encrypted → has_group snapshot.place ≡ false
+heard_by setup snapshot train id other answer encrypted is = grind (arith, heard_at)
 
--- what the source of a line announces puts a sink, of this life, on this group
-pub record BroughtTo (source : Source) (lives : List links.Call) (joining : Joining) : Type 0 where
+-- what the source of a line announces synchronizes a sink, of this history, to this BIG
+pub record BroughtTo (source : Source) (lives : List links.Call) (big_sync : BigSync) : Type 0 where
   pub made : Settings
-  pub is : joining_of made (sight_in made lives) (Some (own_train source)) ≡ Some joining
+  pub is : big_sync_of made (snapshot_in made lives) (Some (own_train source)) ≡ Some big_sync
 
-by_train : (source : Source) (lives : List links.Call) (made : Settings) (later : Sight) (calls : List Call) (its_source : Option ℕ)
-    → (has_group (sight_in made lives).place ≡ false → place calls ≡ None) → (brought : Brought) → brought_by made.setup (sight_in made lives) (own_train source) ≡ brought
-    → Went (BroughtTo source lives) source.number (is_some (joining_in brought)) calls (with_step (joining_in brought) (sight_in made lives) later calls)
+by_train : (source : Source) (lives : List links.Call) (made : Settings) (later : Snapshot) (calls : List Call) (its_source : Option ℕ)
+    → (has_group (snapshot_in made lives).place ≡ false → place calls ≡ None) → (brought : TrainOutcome) → outcome_by made.setup (snapshot_in made lives) (own_train source) ≡ brought
+    → Went (BroughtTo source lives) source.number (is_some (big_sync_in brought)) calls (with_step (big_sync_in brought) (snapshot_in made lives) later calls)
     its_source (cond (follows brought) (Some source.number) its_source)
 by_train source lives made later calls its_source nowhere (ignored answer) is =
-    inl (record { left = left_or_not (has_group (sight_in made lives).place) (has_group later.place) calls; same = refl; begins_not = refl })
+    inl (record { left = left_or_not (has_group (snapshot_in made lives).place) (has_group later.place) calls; same = refl; begins_not = refl })
 by_train source lives made later calls its_source nowhere (heard slot answer encrypted) is =
-    let off : has_group (sight_in made lives).place ≡ false = heard_by made.setup (sight_in made lives) (own_train source) _ slot answer encrypted is in
+    let off : has_group (snapshot_in made lives).place ≡ false = heard_by made.setup (snapshot_in made lives) (own_train source) _ slot answer encrypted is in
     inr (inl (assumption (ap (λ was. with_leave was (has_group later.place) calls) off, nowhere off)))
-by_train source lives made later calls its_source nowhere (taken slot bits encrypted joining) is =
-    inr (inr (record { joining = joining; brings = record { made = made; is = ap joining_in is }; calls_is = refl; source_is = refl; begins_is = refl }))
+by_train source lives made later calls its_source nowhere (taken slot bits encrypted big_sync) is =
+    inr (inr (record { big_sync = big_sync; brings = record { made = made; is = ap big_sync_in is }; calls_is = refl; source_is = refl; begins_is = refl }))
 
 by_made : (source : Source) (n : ℕ) (here there : List links.Call) (made : Option Settings) (calls : List Call) (its_source : Option ℕ)
     → Nowhere made here calls
@@ -130,20 +130,20 @@ by_made : (source : Source) (n : ℕ) (here there : List links.Call) (made : Opt
 by_made source n here there None calls its_source nowhere = inl (record { left = inl refl; same = refl; begins_not = refl })
 by_made source n here there (Some made) calls its_source nowhere = search (by_train, nowhere)
 
-went_if : (Brings : Joining → Type 0) (chosen : ℕ) (hit begins : Bool) (calls more : List Call) (source new : Option ℕ) → Went Brings chosen begins calls more source new
-    → Went (λ joining. (hit ≡ true) × Brings joining) chosen (hit && begins) calls (cond hit more calls) source (cond hit new source)
+went_if : (Brings : BigSync → Type 0) (chosen : ℕ) (hit begins : Bool) (calls more : List Call) (source new : Option ℕ) → Went Brings chosen begins calls more source new
+    → Went (λ big_sync. (hit ≡ true) × Brings big_sync) chosen (hit && begins) calls (cond hit more calls) source (cond hit new source)
 went_if Brings chosen true begins calls more source new went = elim went [
   | inl stays ↦ inl stays
   | inr goes ↦ elim goes [
     | inl follows ↦ inr (inl follows)
-    | inr put ↦ inr (inr (record { joining = put.joining; brings = (refl, put.brings); calls_is = put.calls_is; source_is = put.source_is; begins_is = put.begins_is }))
+    | inr put ↦ inr (inr (record { big_sync = put.big_sync; brings = (refl, put.brings); calls_is = put.calls_is; source_is = put.source_is; begins_is = put.begins_is }))
   ]
 ]
 went_if Brings chosen false begins calls more source new went = inl (record { left = inl refl; same = refl; begins_not = refl })
 
--- `announce` names the sink of this number, and puts it on this group
-abbrev pub Brings : ℕ → ℕ → List Step → Joining → Type 0
-Brings n sink earlier joining = ((sink == n) ≡ true) × BroughtTo (source_at earlier) (life n earlier) joining
+-- `announce` names the sink of this number, and synchronizes it to this BIG
+abbrev pub Brings : ℕ → ℕ → List Step → BigSync → Type 0
+Brings n sink earlier big_sync = ((sink == n) ≡ true) × BroughtTo (source_at earlier) (calls_made n earlier) big_sync
 
 abbrev pub PutBy : Airs → ℕ → ℕ → List Step → Type 0
 PutBy airs n sink earlier =
@@ -157,8 +157,8 @@ FollowsBy airs n sink earlier =
 
 pub announced : (airs : Airs) (n sink : ℕ) (earlier : List Step) → StaysBy airs n (steps.Announce sink) earlier ⊎ (FollowsBy airs n sink earlier ⊎ PutBy airs n sink earlier)
 announced airs n sink earlier =
-    went_if (BroughtTo (source_at earlier) (life n earlier)) (chosen_of earlier) (sink == n) (brings_by (source_at earlier) (steps.Announce sink) (made_of n earlier) (life n earlier))
+    went_if (BroughtTo (source_at earlier) (calls_made n earlier)) (chosen_of earlier) (sink == n) (brings_by (source_at earlier) (steps.Announce sink) (made_of n earlier) (calls_made n earlier))
     (sink_calls airs n earlier)
-    (received_by (source_at earlier) (steps.Announce sink) (made_of n earlier) (life n earlier) (life n (steps.Announce sink ∷ earlier)) (sink_calls airs n earlier))
-    (source_of n earlier) (source_by (source_at earlier) (steps.Announce sink) (made_of n earlier) (life n earlier) (source_of n earlier))
-    (by_made (source_at earlier) sink (life n earlier) (life n (steps.Announce sink ∷ earlier)) (made_of n earlier) (sink_calls airs n earlier) (source_of n earlier) (nowhere airs n earlier))
+    (received_by (source_at earlier) (steps.Announce sink) (made_of n earlier) (calls_made n earlier) (calls_made n (steps.Announce sink ∷ earlier)) (sink_calls airs n earlier))
+    (source_of n earlier) (source_by (source_at earlier) (steps.Announce sink) (made_of n earlier) (calls_made n earlier) (source_of n earlier))
+    (by_made (source_at earlier) sink (calls_made n earlier) (calls_made n (steps.Announce sink ∷ earlier)) (made_of n earlier) (sink_calls airs n earlier) (source_of n earlier) (nowhere airs n earlier))

@@ -1,75 +1,75 @@
--- Where the life of a sink says that it is on no group, its receivers are on none.
+-- Where the history of a sink says that it is on no group, its receivers are on none.
 use Rattle.std.proofs.Common.{ℕ, ◌≡◌, ◌==◌, cond, Bool, true, false, List, [], ◌∷◌, Option, None, Some, refl, sym, ap, subst, arith}
 use Rattle.std.proofs.lemmas.Bool.{false≢true}
 use Rattle.std.proofs.lemmas.Option.{none-some, same_Some}
 use Rattle.delegator_machine.specs.Groups.{with_step}
 use Rattle.delegator_machine.proofs.Citable.{comes_on}
-use Rattle.delegator_history.specs.Sights.{Sight}
-use Rattle.delegator_history.specs.States.{put_on, train_heard}
+use Rattle.delegator_history.specs.Snapshots.{Snapshot}
+use Rattle.delegator_history.specs.States.{sync_to_group, train_heard}
 use Rattle.delegator_history.specs.Trains.{Settings, Train}
-use Rattle.sync_reference.specs.Joining.{Joining}
-use Rattle.delegator_history.proofs.Citable.{sight_goes_on}
+use Rattle.sync_reference.specs.BigSync.{BigSync}
+use Rattle.delegator_history.proofs.Citable.{snapshot_goes_on}
 use Rattle.group_sink.specs.Calls.{Call, tune, place}
 use Rattle.sink_history.specs.Calls as links
 use Rattle.sink_history.specs.Calls.{stepped, steps_of}
 use Rattle.delegator_control.specs.Groups.{has_group}
 use Rattle.scenario_text.specs.declared.step.Step.{Step}
 use Rattle.scenario_text.specs.declared.step.Step.TheVariants as steps
-use Rattle.sink_history.specs.Lives.{Source, given_train, lived_at, made_of, named_by, own_train}
-use Rattle.sink_history.specs.Moves.{joining_of, received_by, train_by}
-use Rattle.sink_history.specs.Output.{sight_in}
+use Rattle.sink_history.specs.History.{Source, given_train, calls_at, made_of, named_by, own_train}
+use Rattle.sink_history.specs.Moves.{big_sync_of, received_by, train_by}
+use Rattle.sink_history.specs.Output.{snapshot_in}
 use Rattle.source_machine.specs.Airs.{Airs}
 use Rattle.scenario_history.specs.Sinks.{moved, sink_calls, with_sink_call}
-use Rattle.scenario_history.specs.Worlds.{life, source_at, the_world}
+use Rattle.scenario_history.specs.Worlds.{calls_made, source_at, the_world}
 use Rattle.scenario_laws.proofs.Places.{air_place, end_place, same_place, tick_if_place}
 
--- a living sink that is on no group by its life has receivers on none
+-- a living sink that is on no group by its history has receivers on none
 abbrev pub Nowhere : Option Settings → List links.Call → List Call → Type 0
-Nowhere made lives calls = (m : Settings) → made ≡ Some m → has_group (sight_in m lives).place ≡ false → place calls ≡ None
+Nowhere made lives calls = (m : Settings) → made ≡ Some m → has_group (snapshot_in m lives).place ≡ false → place calls ≡ None
 
--- ---- a step that puts the sink on a group
+-- ---- a step that synchronizes the sink to a BIG
 
-put_comes : (m : Settings) (joining : Joining) (lives : List links.Call)
-    → has_group (sight_in m (stepped (put_on joining) ∷ lives)).place ≡ true
-put_comes m joining lives = ap (λ (s : Sight). has_group s.place) (sight_goes_on m.setup (put_on joining) (steps_of lives))
+put_comes : (m : Settings) (big_sync : BigSync) (lives : List links.Call)
+    → has_group (snapshot_in m (stepped (sync_to_group big_sync) ∷ lives)).place ≡ true
+put_comes m big_sync lives = ap (λ (s : Snapshot). has_group s.place) (snapshot_goes_on m.setup (sync_to_group big_sync) (steps_of lives))
 
-train_comes : (m : Settings) (train : Train) (lives : List links.Call) (joining : Joining)
-    → joining_of m (sight_in m lives) (Some train) ≡ Some joining
-    → has_group (sight_in m (stepped (train_heard train) ∷ lives)).place ≡ true
-train_comes m train lives joining is =
-    cc (sight_goes_on m.setup (train_heard train) (steps_of lives), comes_on m.setup (sight_in m lives) (train_heard train) joining is)
+train_comes : (m : Settings) (train : Train) (lives : List links.Call) (big_sync : BigSync)
+    → big_sync_of m (snapshot_in m lives) (Some train) ≡ Some big_sync
+    → has_group (snapshot_in m (stepped (train_heard train) ∷ lives)).place ≡ true
+train_comes m train lives big_sync is =
+    cc (snapshot_goes_on m.setup (train_heard train) (steps_of lives), comes_on m.setup (snapshot_in m lives) (train_heard train) big_sync is)
 
 -- ---- a line that names the sink
 
-step_off : (given : Option Joining) (before later : Sight) (calls : List Call) → (has_group before.place ≡ false → place calls ≡ None)
-    → ((joining : Joining) → given ≡ Some joining → has_group later.place ≡ true) → has_group later.place ≡ false → place (with_step given before later calls) ≡ None
+step_off : (given : Option BigSync) (before later : Snapshot) (calls : List Call) → (has_group before.place ≡ false → place calls ≡ None)
+    → ((big_sync : BigSync) → given ≡ Some big_sync → has_group later.place ≡ true) → has_group later.place ≡ false → place (with_step given before later calls) ≡ None
 step_off given before later calls was comes off = grind (arith, false≢true)
 
 -- a group that the line brings is one that the sink is on then
 abbrev Comes : Source → Step → Option Settings → (here there : List links.Call) → Type 0
 Comes source step made here there =
-    (m : Settings) → (joining : Joining) → made ≡ Some m → joining_of m (sight_in m here) (train_by source step) ≡ Some joining
-    → has_group (sight_in m there).place ≡ true
+    (m : Settings) → (big_sync : BigSync) → made ≡ Some m → big_sync_of m (snapshot_in m here) (train_by source step) ≡ Some big_sync
+    → has_group (snapshot_in m there).place ≡ true
 
 received_off : (source : Source) (step : Step) (made : Option Settings) (here there : List links.Call) (calls : List Call)
     → Comes source step made here there → Nowhere made here calls → Nowhere made there (received_by source step made here there calls)
-received_off source step None here there calls comes before m is off = absurd (none-some m is)
-received_off source step (Some made) here there calls comes before m is off =
-    step_off (joining_of made (sight_in made here) (train_by source step)) (sight_in made here) (sight_in made there) calls (before made refl) (λ joining brought. comes made joining refl brought)
-    (subst (λ (k : Settings). has_group (sight_in k there).place ≡ false) (sym (same_Some made m is)) off)
+received_off source this None here there calls comes before m is off = absurd (none-some m is)
+received_off source this (Some made) here there calls comes before m is off =
+    step_off (big_sync_of made (snapshot_in made here) (train_by source this)) (snapshot_in made here) (snapshot_in made there) calls (before made refl) (λ big_sync brought. comes made big_sync refl brought)
+    (subst (λ (k : Settings). has_group (snapshot_in k there).place ≡ false) (sym (same_Some made m is)) off)
 
 moved_off : (hit : Bool) (source : Source) (step : Step) (made : Option Settings) (here there later : List links.Call) (calls : List Call)
     → cond hit there here ≡ later
     → Comes source step made here there → Nowhere made here calls → Nowhere made later (cond hit (received_by source step made here later calls) calls)
-moved_off true source step made here there later calls is comes before =
-    received_off source step made here later calls
-    (λ m joining made_is brought. subst (λ lives. has_group (sight_in m lives).place ≡ true) is (comes m joining made_is brought)) before
-moved_off false source step made here there later calls is comes before = subst (λ lives. Nowhere made lives calls) is before
+moved_off true source this made here there later calls is comes before =
+    received_off source this made here later calls
+    (λ m big_sync made_is brought. subst (λ lives. has_group (snapshot_in m lives).place ≡ true) is (comes m big_sync made_is brought)) before
+moved_off false source this made here there later calls is comes before = subst (λ lives. Nowhere made lives calls) is before
 
 -- a line that hands the sink no train
 plain_off : (n : ℕ) (named : Option ℕ) (step : Step) (earlier : List Step) (calls : List Call) → train_by (source_at earlier) step ≡ None
-    → lived_at the_world n named step earlier (made_of n earlier) (life n earlier) ≡ life n (step ∷ earlier) → Nowhere (made_of n earlier) (life n earlier) calls
-    → Nowhere (made_of n earlier) (life n (step ∷ earlier)) (moved n named step earlier calls)
+    → calls_at the_world n named step earlier (made_of n earlier) (calls_made n earlier) ≡ calls_made n (step ∷ earlier) → Nowhere (made_of n earlier) (calls_made n earlier) calls
+    → Nowhere (made_of n earlier) (calls_made n (step ∷ earlier)) (moved n named step earlier calls)
 plain_off n named step earlier calls none is before = grind (arith, moved_off, none-some)
 
 -- ---- step by step
@@ -79,18 +79,18 @@ gone_off : (gone : Bool) (anew made : Option Settings) (born lives : List links.
 gone_off true anew made born lives calls before m is off = refl
 gone_off false anew made born lives calls before m is off = before m is off
 
-put_off : (put : Bool) (made : Option Settings) (joining : Joining) (lives : List links.Call) (on : Joining) (calls : List Call)
-    → Nowhere made lives calls → Nowhere made (cond put (stepped (put_on joining) ∷ lives) lives) (cond put (tune on ∷ calls) calls)
-put_off put made joining lives on calls before m is off = grind (arith, false≢true, put_comes)
+put_off : (put : Bool) (made : Option Settings) (big_sync : BigSync) (lives : List links.Call) (on : BigSync) (calls : List Call)
+    → Nowhere made lives calls → Nowhere made (cond put (stepped (sync_to_group big_sync) ∷ lives) lives) (cond put (tune on ∷ calls) calls)
+put_off put made big_sync lives on calls before m is off = grind (arith, false≢true, put_comes)
 
 hear_off : (named mine : Bool) (made : Option Settings) (lives : List links.Call) (more calls : List Call) → place more ≡ place calls
     → Nowhere made lives calls → Nowhere made (cond named lives lives) (cond mine more calls)
 hear_off named mine made lives more calls same before m is off = grind (arith, same_place)
 
-off_after : (airs : Airs) (n : ℕ) (step : Step) (earlier : List Step) (calls : List Call) → Nowhere (made_of n earlier) (life n earlier) calls
-    → Nowhere (made_of n (step ∷ earlier)) (life n (step ∷ earlier)) (with_sink_call airs n step earlier calls)
-off_after airs n (steps.Sink sink streams slots mtu) earlier calls before = gone_off (sink == n) _ (made_of n earlier) _ (life n earlier) calls before
-off_after airs n (steps.Drop sink) earlier calls before = gone_off (sink == n) None (made_of n earlier) [] (life n earlier) calls before
+off_after : (airs : Airs) (n : ℕ) (step : Step) (earlier : List Step) (calls : List Call) → Nowhere (made_of n earlier) (calls_made n earlier) calls
+    → Nowhere (made_of n (step ∷ earlier)) (calls_made n (step ∷ earlier)) (with_sink_call airs n step earlier calls)
+off_after airs n (steps.Sink sink streams slots mtu) earlier calls before = gone_off (sink == n) _ (made_of n earlier) _ (calls_made n earlier) calls before
+off_after airs n (steps.Drop sink) earlier calls before = gone_off (sink == n) None (made_of n earlier) [] (calls_made n earlier) calls before
 off_after airs n (steps.Tuned sink which) earlier calls before = search (put_off)
 off_after airs n (steps.Hear sink back bis subevent) earlier calls before = search (hear_off)
 off_after airs n (steps.Air sink lose) earlier calls before = search (hear_off, air_place)
@@ -100,15 +100,15 @@ off_after airs n steps.Stop earlier calls before = search (tick_if_place)
 off_after airs n (steps.Terminate reason) earlier calls before = search (tick_if_place)
 off_after airs n steps.End earlier calls before = search (end_place)
 off_after airs n (steps.Announce sink) earlier calls before =
-    moved_off (sink == n) (source_at earlier) (steps.Announce sink) (made_of n earlier) (life n earlier)
-    (stepped (train_heard (own_train (source_at earlier))) ∷ life n earlier) _ calls refl
-    (λ m joining made_is brought. train_comes m (own_train (source_at earlier)) (life n earlier) joining brought) before
+    moved_off (sink == n) (source_at earlier) (steps.Announce sink) (made_of n earlier) (calls_made n earlier)
+    (stepped (train_heard (own_train (source_at earlier))) ∷ calls_made n earlier) _ calls refl
+    (λ m big_sync made_is brought. train_comes m (own_train (source_at earlier)) (calls_made n earlier) big_sync brought) before
 off_after airs n (steps.Train sink time ext adv acad) earlier calls before =
-    moved_off (sink == n) (source_at earlier) (steps.Train sink time ext adv acad) (made_of n earlier) (life n earlier)
-    (stepped (train_heard (given_train (source_at earlier) time ext adv acad)) ∷ life n earlier) _ calls refl
-    (λ m joining made_is brought. train_comes m (given_train (source_at earlier) time ext adv acad) (life n earlier) joining brought) before
+    moved_off (sink == n) (source_at earlier) (steps.Train sink time ext adv acad) (made_of n earlier) (calls_made n earlier)
+    (stepped (train_heard (given_train (source_at earlier) time ext adv acad)) ∷ calls_made n earlier) _ calls refl
+    (λ m big_sync made_is brought. train_comes m (given_train (source_at earlier) time ext adv acad) (calls_made n earlier) big_sync brought) before
 off_after airs n step earlier calls before = plain_off n (named_by step) step earlier calls refl refl before
 
-pub nowhere : (airs : Airs) (n : ℕ) (made : List Step) → Nowhere (made_of n made) (life n made) (sink_calls airs n made)
+pub nowhere : (airs : Airs) (n : ℕ) (made : List Step) → Nowhere (made_of n made) (calls_made n made) (sink_calls airs n made)
 nowhere airs n [] = λ m is off. absurd (none-some m is)
 nowhere airs n (step ∷ earlier) = off_after airs n step earlier (sink_calls airs n earlier) (nowhere airs n earlier)

@@ -20,8 +20,8 @@ use Rattle.isoal_unframed.specs.State.Windows.{time_of}
 use Rattle.isoal_unframed.proofs.Citable.{begun_within, lays_accepted, all_zip_append}
 use Rattle.source_machine.specs.Airs.{place_of, slots_of, Airs}
 use Rattle.source_machine.specs.Calls.{Setup, Call as SourceCall, give, event as perform, events, given, laid_with, next_of, stream_calls as source_stream}
-use Rattle.source_machine.proofs.Citable.{front_accepted, lays_events}
-use Rattle.sync_reference.specs.Joining.{Joining}
+use Rattle.source_machine.proofs.Citable.{prefix_accepted, lays_events}
+use Rattle.sync_reference.specs.BigSync.{BigSync}
 use Rattle.group_sink.specs.Handing.{bis_of}
 use Rattle.group_sink.specs.Streams.{stay_on, stream_calls}
 use Rattle.scenario_text.specs.declared.step.Step.{Step}
@@ -141,10 +141,10 @@ batch_one setup whole bis event slot low (valid stream time octets) rest from_fi
     slice_get_within (accepted (before_event (source_stream setup.info bis whole) (event - setup.first)))
     (first_in setup.info (source_stream setup.info bis whole) (event - setup.first) + slot) octets here.2 in
     let next = more (first_in setup.info (source_stream setup.info bis whole) (event - setup.first) + slot + 1) (omega arith) (omega (arith, count, inside)) in
-    let front_of_all = front_accepted (source_stream setup.info bis whole) (event - setup.first) in
+    let prefix_of_all = prefix_accepted (source_stream setup.info bis whole) (event - setup.first) in
     let found : slice_get (given bis whole) (place_of setup whole bis event slot) ≡ Some octets =
-    ap (λ units. slice_get units (place_of setup whole bis event slot)) (sym (accepted_are setup.info bis whole) ∙ front_of_all.1)
-    ∙ get_more (accepted (before_event (source_stream setup.info bis whole) (event - setup.first))) front_of_all.0 (place_of setup whole bis event slot) octets here.2 in
+    ap (λ units. slice_get units (place_of setup whole bis event slot)) (sym (accepted_are setup.info bis whole) ∙ prefix_of_all.1)
+    ∙ get_more (accepted (before_event (source_stream setup.info bis whole) (event - setup.first))) prefix_of_all.0 (place_of setup whole bis event slot) octets here.2 in
     let one : IsGiven setup whole bis (place_of setup whole bis event slot) (valid stream time octets) = record {
       event = event;
       slot = slot;
@@ -210,7 +210,7 @@ valid_not_lost b t stream time octets same = false≢true (ap is_valid same)
 opened_octets : (b t : ℕ) (o : List ℕ) (stream time : ℕ) (octets : List ℕ) → valid b t o ≡ valid stream time octets → o ≡ octets
 opened_octets b t o stream time octets is = ap octets_inside is
 
-struck_slots : (setup : Setup) (whole : List SourceCall) (tuning : Joining) (bis event slot : ℕ) (calls : List stays.Call) (unit : Handed) → TunedTo setup tuning → tuning.first ≤ event
+struck_slots : (setup : Setup) (whole : List SourceCall) (tuning : BigSync) (bis event slot : ℕ) (calls : List stays.Call) (unit : Handed) → TunedTo setup tuning → tuning.first ≤ event
     → IsStruck (stay_on tuning bis) (slots_of setup whole bis) calls event slot unit → IsSlots setup whole bis event slot unit
 struck_slots setup whole tuning bis event slot calls (valid b t o) on least struck stream time octets is = (
   sym (ap bis_of is) ∙ struck.0,
@@ -219,7 +219,7 @@ struck_slots setup whole tuning bis event slot calls (valid b t o) on least stru
 )
 struck_slots setup whole tuning bis event slot calls (lost b t) on least struck stream time octets is = absurd (valid_not_lost b t stream time octets is)
 
-last_batch : (setup : Setup) (whole : List SourceCall) (tuning : Joining) (bis event : ℕ) (sc : List stays.Call) → TunedTo setup tuning
+last_batch : (setup : Setup) (whole : List SourceCall) (tuning : BigSync) (bis event : ℕ) (sc : List stays.Call) → TunedTo setup tuning
     → opened (stay_on tuning bis) sc ≡ event → tuning.first ≤ event → setup.first ≤ event → event < next_of setup whole
     → Struck (stay_on tuning bis) (slots_of setup whole bis) sc (handed (stay_on tuning bis) sc)
     → Struck (stay_on tuning bis) (slots_of setup whole bis) (stays.close ∷ sc) (handed (stay_on tuning bis) (stays.close ∷ sc))
@@ -246,7 +246,7 @@ last_batch setup whole tuning bis event sc on is past from_first performed_then 
     (λ slot. record { event = opened (stay_on tuning bis) sc; slot = slot }) (unit_at (stay_on tuning bis) sc (opened (stay_on tuning bis) sc)) 0 (per_event_of tuning.info) rest slot least below)))
 
 -- what the stay's next close hands on the stream
-pub close_batch : Below → (airs : Airs) → MeetAirs airs → (boxes s n bis : ℕ) (setup : Setup) (whole : List SourceCall) (tuning : Joining) (made : List Step) → Legal airs boxes made
+pub close_batch : Below → (airs : Airs) → MeetAirs airs → (boxes s n bis : ℕ) (setup : Setup) (whole : List SourceCall) (tuning : BigSync) (made : List Step) → Legal airs boxes made
     → Within setup whole (steps_of_source s made) → TunedTo setup tuning → 1 ≤ bis → IsOn airs s n made tuning → setup.info.framing ≡ 0 → injected_since (is_tuned n) n made ≡ false
     → ((event : ℕ) → (slot : ℕ) → (unit : List ℕ) → slots_of setup whole bis event slot ≡ Some unit → length unit ≤ setup.info.max_sdu)
     → (event : ℕ) → opened (stay_on tuning bis) (stream_calls (stay_on tuning bis) (sink_calls airs n made)) ≡ event → tuning.first ≤ event → event < next_of setup whole

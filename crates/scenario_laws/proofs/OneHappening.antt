@@ -7,15 +7,15 @@ use Rattle.scenario_text.specs.declared.step.Step.{Step}
 use Rattle.source_machine.specs.Faults.{give_fault}
 use Rattle.transcript_text.specs.declared.refusal.Refusal.TheVariants.{Order}
 use Rattle.scenario_history.specs.Boxes.{sink_numbers}
-use Rattle.scenario_history.specs.Gifts.{Answered, Offer, after_offer, after_offers, answered, answered_by, closes_first, dropped_for}
-use Rattle.scenario_history.specs.Gifts.{handed_of, happened, offered_of, offers_at, with_gift_unless, with_gifts}
+use Rattle.scenario_history.specs.RelayedUnits.{Answered, Offer, after_offer, after_offers, answered, answered_by, closes_first, dropped_for}
+use Rattle.scenario_history.specs.RelayedUnits.{handed_of, happened, offered_of, offers_at, with_relayed_unit_unless, with_relayed_units}
 use Rattle.scenario_history.specs.Refusals.{give_refusal, refusal_of}
 use Rattle.scenario_history.specs.Relays.{relay_of}
 use Rattle.scenario_history.specs.Source.{setup_of, source_calls, takes_units}
 use Rattle.source_machine.specs.Airs.{Airs}
 use Rattle.scenario_history.specs.Steps.{steps_of_source}
-use Rattle.scenario_laws.specs.Gifts.Legal.{AreSaidLegally}
-use Rattle.scenario_laws.proofs.Gifts.Citable.{Runs, happens_legally, left_by_offers, line_passes, runs_at, runs_still, unless_legal}
+use Rattle.scenario_laws.specs.RelayedUnits.Legal.{AreSaidLegally}
+use Rattle.scenario_laws.proofs.RelayedUnits.Citable.{Runs, happens_legally, left_by_offers, line_passes, runs_at, runs_still, unless_legal}
 use Rattle.scenario_laws.proofs.Legals.{Legal}
 use Rattle.scenario_laws.proofs.Sources.{lawful, takes}
 use Rattle.scenario_laws.proofs.TwoAirs.{Both, Twice, closing_same, in_order, its_same, legal_too}
@@ -48,7 +48,7 @@ alike airs others both boxes (offer ∷ offers) made legal runs =
     let next : List Step = after_offer airs offer made in
     let reason : dropped_for airs offer made ≡ dropped_for others offer made =
     dropped_same airs others both boxes offer made (record { here = legal; there = legal_too airs others both boxes made legal }) in
-    let same : next ≡ after_offer others offer made = ap (λ r. with_gift_unless r offer made) reason in
+    let same : next ≡ after_offer others offer made = ap (λ r. with_relayed_unit_unless r offer made) reason in
     let rest : Alike airs others offers next = alike airs others both boxes offers next
     (unless_legal airs boxes (dropped_for airs offer made) offer made legal runs refl)
     (runs_still made next (left_by_offers airs (offer ∷ []) made).stage runs) in
@@ -59,15 +59,15 @@ alike airs others both boxes (offer ∷ offers) made legal runs =
           (rest.answers ∙ ap (answered others offers) same);
     }
 
--- ---- gifts before a step
+-- ---- relayed units before a step
 
-record GiftsAlike (airs others : Airs) (closes : Bool) (made : List Step) : Type 0 where
+record RelayedUnitsAlike (airs others : Airs) (closes : Bool) (made : List Step) : Type 0 where
   steps : after_offers airs (cond closes (offers_at airs made) []) made ≡ after_offers others (cond closes (offers_at others made) []) made
   answers : answered airs (cond closes (offers_at airs made) []) made ≡ answered others (cond closes (offers_at others made) []) made
 
-gifts_alike : (closes : Bool) (airs others : Airs) → Both airs others → (boxes : ℕ) (made : List Step) → Legal airs boxes made
-    → (closes ≡ true → Runs made) → GiftsAlike airs others closes made
-gifts_alike true airs others both boxes made legal runs =
+relayed_units_alike : (closes : Bool) (airs others : Airs) → Both airs others → (boxes : ℕ) (made : List Step) → Legal airs boxes made
+    → (closes ≡ true → Runs made) → RelayedUnitsAlike airs others closes made
+relayed_units_alike true airs others both boxes made legal runs =
     let offers = offers_same airs others both boxes made legal in
     let both_ways : Alike airs others (offers_at airs made) made =
     alike airs others both boxes (offers_at airs made) made legal (runs refl) in
@@ -75,11 +75,11 @@ gifts_alike true airs others both boxes made legal runs =
       both_ways.steps ∙ ap (λ os. after_offers others os made) offers,
       both_ways.answers ∙ ap (λ os. answered others os made) offers,
     )
-gifts_alike false airs others both boxes made legal runs = record { steps = refl; answers = refl }
+relayed_units_alike false airs others both boxes made legal runs = record { steps = refl; answers = refl }
 
 before_step : (airs others : Airs) → Both airs others → (boxes : ℕ) (made : List Step) (step : Step) → Legal airs boxes made
-    → refusal_of airs boxes made step ≡ None → GiftsAlike airs others (closes_first made step) made
-before_step airs others both boxes made step legal none = search (gifts_alike, runs_at)
+    → refusal_of airs boxes made step ≡ None → RelayedUnitsAlike airs others (closes_first made step) made
+before_step airs others both boxes made step legal none = search (relayed_units_alike, runs_at)
 
 pub answers_same : (airs others : Airs) → Both airs others → (boxes : ℕ) (made : List Step) (step : Step) → Legal airs boxes made
     → refusal_of airs boxes made step ≡ None → answered_by airs made step ≡ answered_by others made step
@@ -92,6 +92,6 @@ pub happened_same : (airs others : Airs) → Both airs others → (boxes : ℕ) 
 happened_same airs others both boxes [] legal = refl
 happened_same airs others both boxes (step ∷ earlier) legal =
     let made : List Step = happened airs earlier in
-    let gifts = before_step airs others both boxes made step (happens_legally airs boxes earlier legal.0)
+    let relayed_units = before_step airs others both boxes made step (happens_legally airs boxes earlier legal.0)
     (line_passes airs boxes made step legal.1) in
-    ap (λ gifted. step ∷ gifted) (gifts.steps ∙ ap (λ m. with_gifts others m step) (happened_same airs others both boxes earlier legal.0))
+    ap (λ after_relays. step ∷ after_relays) (relayed_units.steps ∙ ap (λ m. with_relayed_units others m step) (happened_same airs others both boxes earlier legal.0))

@@ -12,14 +12,14 @@ use Rattle.transcript_text.specs.declared.refusal.Refusal.{Refusal}
 use Rattle.scenario_history.specs.Steps.{chosen_of, chosen_steps}
 use Rattle.scenario_history.specs.Source.{is_started, setup_of, source_calls, stale_in}
 use Rattle.scenario_history.specs.Airs.{MeetAirs}
-use Rattle.scenario_history.specs.Gifts.{answered_by}
+use Rattle.scenario_history.specs.RelayedUnits.{answered_by}
 use Rattle.scenario_history.specs.Boxes.{closing, closing_both, handed_up}
 use Rattle.scenario_history.specs.Refusals.{line_refusal, refusal_of}
 use Rattle.scenario_history.specs.Output.{close_lines, first_lines, output_of, sums_of, unit_lines}
 use Rattle.scenario_history.specs.Lines.{Said, handed_on, handed_said, output_said, refusal_said, rules_of}
 use Rattle.scenario_history.specs.Lines.{said_after, said_of, steps_of}
 use Rattle.scenario_history.specs.Transcript.{end_after, out_of, transcript_end, transcript_of, units_of}
-use Rattle.scenario_laws.proofs.Gifts.Citable.{line_passes}
+use Rattle.scenario_laws.proofs.RelayedUnits.Citable.{line_passes}
 use Rattle.scenario_laws.proofs.Legals.{Legal, LinesInRange, legal, permitted, said_legally}
 use Rattle.scenario_laws.proofs.OneHappening.{answers_same, happened_same}
 use Rattle.scenario_laws.proofs.Sources.{Lawful, are_accepted, checked, group_in, hears, lawful, no_end, settled, takes}

@@ -3,14 +3,14 @@ use Rattle.std.proofs.Common.{ℕ, ◌≡◌, ◌<◌, ◌≤◌}
 use Rattle.std.proofs.Common.{true, List, [], ◌++◌, Some, refl, sym, ◌∙◌, ap, subst, arith}
 use Rattle.std.specs.Prelude.{unwrap_or}
 use Rattle.big_info.specs.declared.group.Group.{Group}
-use Rattle.iso_pdu.specs.Spelling.{pdu}
+use Rattle.iso_pdu.specs.Encoding.{pdu}
 use Rattle.isoal_base.specs.Air.{Air}
 use Rattle.isoal_unframed.specs.Struck.{air_at}
 use Rattle.radio_schedule.specs.PayloadNumber.{payload_number}
 use Rattle.source_machine.specs.Airs.{AreAirs, airs_of, content_at, pdu_of, slots_of, Airs}
 use Rattle.source_machine.specs.Calls.{Setup, Call as SourceCall, next_of}
 use Rattle.source_machine.specs.Setups.{IsChecked}
-use Rattle.sync_reference.specs.Joining.{Joining}
+use Rattle.sync_reference.specs.BigSync.{BigSync}
 use Rattle.group_sink.specs.Streams.{stay_on}
 use Rattle.scenario_text.specs.declared.step.Step.{Step}
 use Rattle.scenario_history.specs.Source.{setup_of, source_calls, is_started}
@@ -32,12 +32,12 @@ own_pdu below group setup whole calls airs more are event bis subevent same plai
     sym (below.sent_stays group setup more.0 calls airs (airs_of setup (more.0 ++ calls)) event bis subevent same are all_are least past bis_least bis_within within) ∙ sent in
     ap (λ o. unwrap_or o []) here ∙ ap (λ all. pdu (content_at setup all bis (payload_number setup.info event subevent))) (sym more.1)
 
-air_same : (setup : Setup) (whole : List SourceCall) (tuning : Joining) (bis : ℕ) (event subevent : ℕ) → tuning.info ≡ setup.info
+air_same : (setup : Setup) (whole : List SourceCall) (tuning : BigSync) (bis : ℕ) (event subevent : ℕ) → tuning.info ≡ setup.info
     → content_at setup whole bis (payload_number setup.info event subevent)
     ≡ air_at (stay_on tuning bis) (slots_of setup whole bis) (payload_number tuning.info event subevent)
 air_same setup whole tuning bis event subevent same = cc (same)
 
-pub sends_own : Below → (airs : Airs) → MeetAirs airs → (setup : Setup) (whole : List SourceCall) (tuning : Joining) (bis : ℕ) (own : List Step) → Lawful airs own → is_started own ≡ true
+pub sends_own : Below → (airs : Airs) → MeetAirs airs → (setup : Setup) (whole : List SourceCall) (tuning : BigSync) (bis : ℕ) (own : List Step) → Lawful airs own → is_started own ≡ true
     → Within setup whole own → tuning.info ≡ setup.info → setup.info.framing ≡ 0 → SendsOwn airs (air_at (stay_on tuning bis) (slots_of setup whole bis)) tuning bis own
 sends_own below airs meets setup whole tuning bis own legal started within same plain event subevent least past bis_least bis_within inside =
     let is : Settled own = settled airs own legal in

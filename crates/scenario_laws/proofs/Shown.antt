@@ -20,7 +20,7 @@ use Rattle.isoal_unframed.specs.State.Windows.{handed_of, time_of}
 use Rattle.isoal_unframed.proofs.Citable.{all_zip_append}
 use Rattle.source_machine.specs.Calls.{Setup, Call as SourceCall}
 use Rattle.group_sink.specs.Calls.{Call, tick, place}
-use Rattle.sync_reference.specs.Joining.{Joining}
+use Rattle.sync_reference.specs.BigSync.{BigSync}
 use Rattle.group_sink.specs.Handing.{bis_of, handed_at, handed_by as ticked_by, handed_since as ticked_since, of_stream}
 use Rattle.group_sink.specs.Streams.{closes, is_in, stay_on, stream_calls, streams_of}
 use Rattle.group_sink.proofs.Citable.{is_member, member_is}
@@ -48,7 +48,7 @@ use Rattle.scenario_laws.proofs.Ticks.{is_its}
 close_hands : (stay : Stay) (over : Bool) (calls : List stays.Call) → handed stay (cond over (stays.close ∷ calls) calls) ≡ handed stay calls ++ cond over (units_of stay calls (opened stay calls)) []
 close_hands stay over calls = grind (arith, append-nil)
 
-pub tick_hands : Below → (event : ℕ) (calls : List Call) (tuning : Joining) (bis : ℕ) → tuning.info.framing ≡ 0 → place calls ≡ Some tuning → Contains (streams_of tuning.which) bis
+pub tick_hands : Below → (event : ℕ) (calls : List Call) (tuning : BigSync) (bis : ℕ) → tuning.info.framing ≡ 0 → place calls ≡ Some tuning → Contains (streams_of tuning.which) bis
     → of_stream bis (handed_at calls event) ≡ cond (leb (opened (stay_on tuning bis) (stream_calls (stay_on tuning bis) calls)) event)
     (units_of (stay_on tuning bis) (stream_calls (stay_on tuning bis) calls) (opened (stay_on tuning bis) (stream_calls (stay_on tuning bis) calls))) []
 tick_hands below event calls tuning bis plain is taken =
@@ -60,7 +60,7 @@ tick_hands below event calls tuning bis plain is taken =
     append_cancel_left (handed stay sc) (of_stream bis (handed_at calls event)) _
     (ap (λ xs. xs ++ of_stream bis (handed_at calls event)) (sym (below.hands tuning calls bis plain is taken)) ∙ all)
 
-pub tick_others : Below → (event : ℕ) (calls : List Call) (tuning : Joining) (bis : ℕ) → place calls ≡ Some tuning → ¬ Contains (streams_of tuning.which) bis
+pub tick_others : Below → (event : ℕ) (calls : List Call) (tuning : BigSync) (bis : ℕ) → place calls ≡ Some tuning → ¬ Contains (streams_of tuning.which) bis
     → of_stream bis (handed_at calls event) ≡ []
 tick_others below event calls tuning bis is out =
     ap (λ xs. xs ++ of_stream bis (handed_at calls event)) (sym (below.others tuning calls bis is out))
@@ -68,7 +68,7 @@ tick_others below event calls tuning bis is out =
     ∙ below.others tuning (tick event ∷ calls) bis is out
 
 -- the time of a slot by the stay's anchor is that by the source's
-pub slot_time_is : (setup : Setup) (tuning : Joining) (bis event slot : ℕ) → TunedTo setup tuning → tuning.first ≤ event
+pub slot_time_is : (setup : Setup) (tuning : BigSync) (bis event slot : ℕ) → TunedTo setup tuning → tuning.first ≤ event
     → time_of (stay_on tuning bis) event slot ≡ time_of (whole_stay setup bis) event slot
 slot_time_is setup tuning bis event slot on least =
     let both : event - setup.first ≡ (tuning.first - setup.first) + (event - tuning.first) = omega (arith, least, on.first) in
@@ -90,7 +90,7 @@ zip_maps R f g start zero each = tt
 zip_maps R f g start (suc count) each =
     (each start (omega arith), zip_maps R f g (start + 1) count (λ i below. each i (omega (arith, below))))
 
-units_in_slots : (setup : Setup) (tuning : Joining) (bis : ℕ) (calls : List stays.Call) (event : ℕ) → TunedTo setup tuning → tuning.first ≤ event
+units_in_slots : (setup : Setup) (tuning : BigSync) (bis : ℕ) (calls : List stays.Call) (event : ℕ) → TunedTo setup tuning → tuning.first ≤ event
     → AllZip (IsOfSlot setup bis) (map (λ slot. record { event = event; slot = slot }) (range_with_len 0 (per_event_of setup.info)))
     (map (unit_at (stay_on tuning bis) calls event) (range_with_len 0 (per_event_of setup.info)))
 units_in_slots setup tuning bis calls event on least =
@@ -107,7 +107,7 @@ one_slots : (setup : Setup) (bis : ℕ) (closed : Closed) → is_in closed.which
     → slots_closed setup bis (closed ∷ []) ≡ map (λ slot. record { event = closed.event; slot = slot }) (range_with_len 0 (per_event_of setup.info))
 one_slots setup bis closed taken = search (append-nil, cond-true)
 
-taken_zip : (setup : Setup) (tuning : Joining) (bis : ℕ) (calls : List stays.Call) (count : ℕ) → TunedTo setup tuning → is_in tuning.which bis ≡ true → (over : Bool)
+taken_zip : (setup : Setup) (tuning : BigSync) (bis : ℕ) (calls : List stays.Call) (count : ℕ) → TunedTo setup tuning → is_in tuning.which bis ≡ true → (over : Bool)
     → AllZip (IsOfSlot setup bis) (slots_closed setup bis (cond over (record { event = tuning.first + count; which = tuning.which } ∷ []) []))
     (cond over (units_of (stay_on tuning bis) calls (tuning.first + count)) [])
 taken_zip setup tuning bis calls count on taken false = tt
@@ -118,7 +118,7 @@ taken_zip setup tuning bis calls count on taken true =
     (map (unit_at (stay_on tuning bis) calls (tuning.first + count)) (range_with_len 0 (per_event_of i)))) (sym on.info)
     (units_in_slots setup tuning bis calls (tuning.first + count) on (omega arith)))
 
-event_zip : Below → (setup : Setup) (bis event : ℕ) (calls : List Call) (p : Option Joining) → place calls ≡ p → ((tuning : Joining) → p ≡ Some tuning → TunedTo setup tuning)
+event_zip : Below → (setup : Setup) (bis event : ℕ) (calls : List Call) (p : Option BigSync) → place calls ≡ p → ((tuning : BigSync) → p ≡ Some tuning → TunedTo setup tuning)
     → setup.info.framing ≡ 0 → 1 ≤ bis → bis ≤ 31 → AllZip (IsOfSlot setup bis) (slots_closed setup bis (closed_in p calls event)) (of_stream bis (handed_at calls event))
 event_zip below setup bis event calls None is on plain least within = subst (λ q. AllZip (IsOfSlot setup bis) [] (of_stream bis (ticked_by event calls q))) (sym is) tt
 event_zip below setup bis event calls (Some tuning) is on plain least within = elim (cases_Bool (is_in tuning.which bis)) [
@@ -139,11 +139,11 @@ event_zip below setup bis event calls (Some tuning) is on plain least within = e
 
 -- ---- step by step
 
-open_zip : Below → (setup : Setup) (bis : ℕ) (calls : List Call) (last_open : Option ℕ) → ((tuning : Joining) → place calls ≡ Some tuning → TunedTo setup tuning)
+open_zip : Below → (setup : Setup) (bis : ℕ) (calls : List Call) (last_open : Option ℕ) → ((tuning : BigSync) → place calls ≡ Some tuning → TunedTo setup tuning)
     → setup.info.framing ≡ 0 → 1 ≤ bis → bis ≤ 31 → AllZip (IsOfSlot setup bis) (slots_closed setup bis (closed_at calls last_open)) (of_stream bis (handed_open calls last_open))
 open_zip below setup bis calls last_open on plain least within = grind (arith, event_zip)
 
-with_zip : Below → (setup : Setup) (bis : ℕ) (calls : List Call) (last_open : Option ℕ) (mine : Bool) → (mine ≡ true → (tuning : Joining) → place calls ≡ Some tuning → TunedTo setup tuning)
+with_zip : Below → (setup : Setup) (bis : ℕ) (calls : List Call) (last_open : Option ℕ) (mine : Bool) → (mine ≡ true → (tuning : BigSync) → place calls ≡ Some tuning → TunedTo setup tuning)
     → setup.info.framing ≡ 0 → 1 ≤ bis → bis ≤ 31 → AllZip (IsOfSlot setup bis) (slots_closed setup bis (closed_if mine calls last_open)) (of_stream bis (shown_if mine calls last_open))
 with_zip below setup bis calls last_open true on plain least within = open_zip below setup bis calls last_open (on refl) plain least within
 with_zip below setup bis calls last_open false on plain least within = tt
@@ -154,7 +154,7 @@ zip_if setup bis true closed units all = all
 zip_if setup bis false closed units all = tt
 
 pub step_zip : Below → (airs : Airs) (s n bis : ℕ) (setup : Setup) (step : Step) (earlier : List Step)
-    → (is_of s (source_of n earlier) ≡ true → (tuning : Joining) → place (sink_calls airs n earlier) ≡ Some tuning → TunedTo setup tuning) → setup.info.framing ≡ 0 → 1 ≤ bis → bis ≤ 31
+    → (is_of s (source_of n earlier) ≡ true → (tuning : BigSync) → place (sink_calls airs n earlier) ≡ Some tuning → TunedTo setup tuning) → setup.info.framing ≡ 0 → 1 ≤ bis → bis ≤ 31
     → AllZip (IsOfSlot setup bis) (slots_closed setup bis (closed_by airs s n earlier step)) (of_stream bis (shown_by airs s n earlier step))
 step_zip below airs s n bis setup step earlier on plain least within = grind (arith, zip_if, with_zip)
 
@@ -172,7 +172,7 @@ again_zip s n bis setup again closed more units others first rest = grind (arith
 
 -- the stay that a sink is in, by what fixes the whole source
 pub on_whole : Announcing → (airs : Airs) (boxes s n : ℕ) (setup : Setup) (whole : List SourceCall) (made : List Step) → Legal airs boxes made → given_since_made n made ≡ false
-    → Within setup whole (steps_of_source s made) → is_of s (source_of n made) ≡ true → (tuning : Joining) → place (sink_calls airs n made) ≡ Some tuning → TunedTo setup tuning
+    → Within setup whole (steps_of_source s made) → is_of s (source_of n made) ≡ true → (tuning : BigSync) → place (sink_calls airs n made) ≡ Some tuning → TunedTo setup tuning
 on_whole laws airs boxes s n setup whole made legal ungiven within mine tuning is =
     let on : OnSource (steps_of_source s made) tuning =
     on_source laws airs boxes s n made tuning legal (on_since_made airs s n made tuning is (is_its s (source_of n made) mine) ungiven) in

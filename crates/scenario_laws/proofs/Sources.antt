@@ -25,7 +25,7 @@ use Rattle.scenario_history.specs.Airs.{AreAccepted}
 use Rattle.scenario_history.specs.Bases.{is_base_too_long}
 use Rattle.scenario_history.specs.Refusals.{counter_ends, group_refusal, is_misplaced, is_out_of_phase, source_refusal}
 use Rattle.sink_history.specs.Refusals.{refuse_if}
-use Rattle.sink_history.specs.Lives.{horizon_in}
+use Rattle.sink_history.specs.History.{horizon_in}
 use Rattle.scenario_laws.proofs.Legals.{Legal, Permitted, maps_none, neither, permitted}
 use Rattle.scenario_laws.proofs.StartGroups.{may_be_sent}
 
@@ -100,8 +100,8 @@ its_step airs boxes s earlier step permits ranged is =
     ]
 
 lawful_if : (airs : Airs) (own : List Step) (step : Step) (is_its : Bool) → Lawful airs own → (is_its ≡ true → Allowed airs own step) → Lawful airs (cond is_its (step ∷ own) own)
-lawful_if airs own step true before allows = (before, allows refl)
-lawful_if airs own step false before allows = before
+lawful_if airs own this true before allows = (before, allows refl)
+lawful_if airs own this false before allows = before
 
 pub lawful : (airs : Airs) (boxes s : ℕ) (made : List Step) → Legal airs boxes made → Lawful airs (steps_of_source s made)
 lawful airs boxes s [] legal = tt

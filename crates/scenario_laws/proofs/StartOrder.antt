@@ -14,7 +14,7 @@ use Rattle.isoal_framed.specs.Histories.{decided}
 use Rattle.isoal_framed.specs.Struck.{closed_end}
 use Rattle.isoal_framed.proofs.Citable.{opened_least}
 use Rattle.source_machine.specs.Calls.{Setup, Call as SourceCall, next_of}
-use Rattle.sync_reference.specs.Joining.{Joining}
+use Rattle.sync_reference.specs.BigSync.{BigSync}
 use Rattle.group_sink.specs.Handing.{handed_since as ticked_since, of_stream}
 use Rattle.group_sink.specs.Streams.{is_in, stay_on, streams_of}
 use Rattle.group_sink.proofs.Citable.{is_member, member_is}
@@ -73,14 +73,14 @@ abbrev calls_in : List Step → ℕ → List SourceCall
 calls_in all s = source_calls (steps_of_source s all)
 
 -- a stay of the sink on a stream of the source
-record IsStay (airs : Airs) (all : List Step) (s n bis : ℕ) (made : List Step) (tuning : Joining) : Type 0 where
+record IsStay (airs : Airs) (all : List Step) (s n bis : ℕ) (made : List Step) (tuning : BigSync) : Type 0 where
   pub goes : GoesOn n all made
   pub is : IsOn airs s n made tuning
   pub taken : Contains (streams_of tuning.which) bis
   pub to : TunedTo (setup_in all s) tuning
   pub opens : opened (stay_on tuning bis) (calls_on airs made n tuning bis) ≤ next_of (setup_in all s) (calls_in all s)
 
-one_start : (airs : Airs) (all : List Step) (s n bis : ℕ) (made : List Step) (tuning : Joining) (at : SegmentPlace) (entry : Handed) → IsStay airs all s n bis made tuning
+one_start : (airs : Airs) (all : List Step) (s n bis : ℕ) (made : List Step) (tuning : BigSync) (at : SegmentPlace) (entry : Handed) → IsStay airs all s n bis made tuning
     → at.number < closed_end (stay_on tuning bis) (calls_on airs made n tuning bis) → AtStart (stay_on tuning bis) (calls_on airs made n tuning bis) at entry
     → IsOfStart airs all s n bis at entry
 one_start airs all s n bis made tuning at entry stay below starts =
@@ -116,7 +116,7 @@ one_start airs all s n bis made tuning at entry stay below starts =
       time_is = starts.time_is ∙ start_time_is (setup_in all s) tuning bis event starts.offset stay.to first_event;
     }
 
-all_behind : (airs : Airs) (all : List Step) (s n bis : ℕ) (made : List Step) (tuning : Joining) (at : SegmentPlace) (places : List SegmentPlace) (entries : List Handed)
+all_behind : (airs : Airs) (all : List Step) (s n bis : ℕ) (made : List Step) (tuning : BigSync) (at : SegmentPlace) (places : List SegmentPlace) (entries : List Handed)
     → IsStay airs all s n bis made tuning → Behind at places (closed_end (stay_on tuning bis) (calls_on airs made n tuning bis))
     → AllZip (AtStart (stay_on tuning bis) (calls_on airs made n tuning bis)) places entries → AllZip (IsOfStart airs all s n bis) places entries
 all_behind airs all s n bis made tuning at [] [] stay behind each = tt
@@ -128,7 +128,7 @@ all_behind airs all s n bis made tuning at (next ∷ places) (entry ∷ entries)
   all_behind airs all s n bis made tuning next places entries stay behind.1 each.1,
 )
 
-all_starts : (airs : Airs) (all : List Step) (s n bis : ℕ) (made : List Step) (tuning : Joining) (low : ℕ) (places : List SegmentPlace) (entries : List Handed)
+all_starts : (airs : Airs) (all : List Step) (s n bis : ℕ) (made : List Step) (tuning : BigSync) (low : ℕ) (places : List SegmentPlace) (entries : List Handed)
     → IsStay airs all s n bis made tuning → RiseTo low places (closed_end (stay_on tuning bis) (calls_on airs made n tuning bis))
     → AllZip (AtStart (stay_on tuning bis) (calls_on airs made n tuning bis)) places entries → AllZip (IsOfStart airs all s n bis) places entries
 all_starts airs all s n bis made tuning low [] [] stay rise each = tt

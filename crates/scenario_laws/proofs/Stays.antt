@@ -6,7 +6,7 @@ use Rattle.big_info.specs.Time.{iso_us_of}
 use Rattle.sync_reference.specs.Reference.{anchor_of}
 use Rattle.source_machine.specs.Calls.{Setup, next_of}
 use Rattle.group_sink.specs.Calls.{Call, tune, place}
-use Rattle.sync_reference.specs.Joining.{Joining}
+use Rattle.sync_reference.specs.BigSync.{BigSync}
 use Rattle.scenario_text.specs.declared.step.Step.{Step}
 use Rattle.scenario_text.specs.declared.step.Step.TheVariants as steps
 use Rattle.transcript_text.specs.declared.refusal.Refusal.TheVariants.{NoSuchBis}
@@ -14,7 +14,7 @@ use Rattle.scenario_history.specs.Steps.{chosen_of, chosen_steps, steps_of_sourc
 use Rattle.scenario_history.specs.Source.{is_started, setup_of, source_calls}
 use Rattle.source_machine.specs.Airs.{Airs}
 use Rattle.scenario_history.specs.Sinks.{sink_calls, source_of}
-use Rattle.scenario_history.specs.Worlds.{joining_on}
+use Rattle.scenario_history.specs.Worlds.{big_sync_on}
 use Rattle.scenario_history.specs.Refusals.{has_beyond}
 use Rattle.scenario_laws.specs.Laws.{any_since, given_since_made, injected_since, is_given, is_injected, is_made, is_tuned, steps_before}
 use Rattle.scenario_laws.proofs.Announced.{Announcing}
@@ -25,7 +25,7 @@ use Rattle.scenario_laws.proofs.Sources.{sends, takes, true_not_false}
 use Rattle.scenario_laws.proofs.Wholes.{goes, next_in}
 
 -- where the stay is on the source's group
-pub record TunedTo (setup : Setup) (tuning : Joining) : Type 0 where
+pub record TunedTo (setup : Setup) (tuning : BigSync) : Type 0 where
   pub info : tuning.info ≡ setup.info
   pub first : setup.first ≤ tuning.first
   pub anchor : tuning.anchor ≡ anchor_of setup.origin setup.first tuning.first (iso_us_of setup.info)
@@ -58,29 +58,29 @@ none_given begins n (step ∷ earlier) clean =
 -- ---- where a sink is
 
 -- the sink is there, on this source
-pub record IsThere (s : ℕ) (tuning : Joining) (calls : List Call) (source : Option ℕ) : Type 0 where
+pub record IsThere (s : ℕ) (tuning : BigSync) (calls : List Call) (source : Option ℕ) : Type 0 where
   pub place_is : place calls ≡ Some tuning
   pub source_is : source ≡ Some s
 
 -- and no train was given to it since it was put there
-pub record IsOn (airs : Airs) (s n : ℕ) (made : List Step) (tuning : Joining) : Type 0 where
+pub record IsOn (airs : Airs) (s n : ℕ) (made : List Step) (tuning : BigSync) : Type 0 where
   pub place_is : place (sink_calls airs n made) ≡ Some tuning
   pub source_is : source_of n made ≡ Some s
   pub ungiven : any_since (is_tuned n) (is_given n) made ≡ false
 
 -- the step puts the sink there, on this source
-pub record BeginsBy (airs : Airs) (s n : ℕ) (step : Step) (earlier : List Step) (tuning : Joining) : Type 0 where
+pub record BeginsBy (airs : Airs) (s n : ℕ) (step : Step) (earlier : List Step) (tuning : BigSync) : Type 0 where
   pub puts : Puts airs n step earlier
   pub on_is : puts.on ≡ tuning
   pub chosen_is : chosen_of earlier ≡ s
 
 -- or it was there before, and the step begins nothing
-pub record WasThere (airs : Airs) (s n : ℕ) (step : Step) (earlier : List Step) (tuning : Joining) : Type 0 where
+pub record WasThere (airs : Airs) (s n : ℕ) (step : Step) (earlier : List Step) (tuning : BigSync) : Type 0 where
   pub there : IsThere s tuning (sink_calls airs n earlier) (source_of n earlier)
   pub begins_not : is_tuned n earlier step ≡ false
   pub made_not : is_made n earlier step ≡ false
 
-pub there_before : (airs : Airs) (s n : ℕ) (step : Step) (earlier : List Step) (tuning : Joining) → is_given n step ≡ false
+pub there_before : (airs : Airs) (s n : ℕ) (step : Step) (earlier : List Step) (tuning : BigSync) → is_given n step ≡ false
     → IsThere s tuning (sink_calls airs n (step ∷ earlier)) (source_of n (step ∷ earlier)) → WasThere airs s n step earlier tuning ⊎ BeginsBy airs s n step earlier tuning
 there_before airs s n step earlier tuning ungiven is = elim (becomes airs n step earlier ungiven) [
   | inl keeps ↦ inl (assumption (sym keeps.same_place ∙ is.place_is, sym keeps.same_source ∙ is.source_is))
@@ -94,7 +94,7 @@ there_before airs s n step earlier tuning ungiven is = elim (becomes airs n step
   ]
 ]
 
-pub on_before : (airs : Airs) (s n : ℕ) (step : Step) (earlier : List Step) (tuning : Joining) → IsOn airs s n (step ∷ earlier) tuning
+pub on_before : (airs : Airs) (s n : ℕ) (step : Step) (earlier : List Step) (tuning : BigSync) → IsOn airs s n (step ∷ earlier) tuning
     → IsOn airs s n earlier tuning ⊎ BeginsBy airs s n step earlier tuning
 on_before airs s n step earlier tuning is =
     elim (there_before airs s n step earlier tuning (last_not (is_tuned n earlier step) (is_given n step) (any_since (is_tuned n) (is_given n) earlier) is.ungiven)
@@ -104,12 +104,12 @@ on_before airs s n step earlier tuning is =
       | inr begins ↦ inr begins
     ]
 
-pub begins_calls : (airs : Airs) (s n : ℕ) (step : Step) (earlier : List Step) (tuning : Joining) → BeginsBy airs s n step earlier tuning
+pub begins_calls : (airs : Airs) (s n : ℕ) (step : Step) (earlier : List Step) (tuning : BigSync) → BeginsBy airs s n step earlier tuning
     → sink_calls airs n (step ∷ earlier) ≡ tune tuning ∷ sink_calls airs n earlier
 begins_calls airs s n step earlier tuning begins = begins.puts.calls_is ∙ ap (λ on. tune on ∷ sink_calls airs n earlier) begins.on_is
 
 -- what is not so since a sink was made is not so since the stay began
-pub not_in_stay : (is_one : Step → Bool) (airs : Airs) (s n : ℕ) (made : List Step) (tuning : Joining) → IsThere s tuning (sink_calls airs n made) (source_of n made)
+pub not_in_stay : (is_one : Step → Bool) (airs : Airs) (s n : ℕ) (made : List Step) (tuning : BigSync) → IsThere s tuning (sink_calls airs n made) (source_of n made)
     → given_since_made n made ≡ false → any_since (is_made n) is_one made ≡ false → any_since (is_tuned n) is_one made ≡ false
 not_in_stay is_one airs s n [] tuning is ungiven clean = refl
 not_in_stay is_one airs s n (step ∷ earlier) tuning is ungiven clean =
@@ -122,41 +122,41 @@ not_in_stay is_one airs s n (step ∷ earlier) tuning is ungiven clean =
     ])
 
 -- a sink to which no train was given since it was made
-pub on_since_made : (airs : Airs) (s n : ℕ) (made : List Step) (tuning : Joining) → place (sink_calls airs n made) ≡ Some tuning → source_of n made ≡ Some s → given_since_made n made ≡ false
+pub on_since_made : (airs : Airs) (s n : ℕ) (made : List Step) (tuning : BigSync) → place (sink_calls airs n made) ≡ Some tuning → source_of n made ≡ Some s → given_since_made n made ≡ false
     → IsOn airs s n made tuning
 on_since_made airs s n made tuning place_is source_is ungiven =
     assumption (not_in_stay (is_given n) airs s n made tuning (record { place_is = place_is; source_is = source_is }) ungiven ungiven)
 
 -- ---- the stay is on the source's group
 
-pub record OnSource (own : List Step) (tuning : Joining) : Type 0 where
+pub record OnSource (own : List Step) (tuning : BigSync) : Type 0 where
   pub started : is_started own ≡ true
   pub tuned : TunedTo (setup_of own) tuning
   pub streams : has_beyond (setup_of own).info.num_bis tuning.which ≡ false
 
-tuned_to : (airs : Airs) (boxes s : ℕ) (earlier : List Step) (tuning : Joining) (which : ℕ) → is_started (chosen_steps earlier) ≡ true → joining_on (chosen_steps earlier) which ≡ tuning
+tuned_to : (airs : Airs) (boxes s : ℕ) (earlier : List Step) (tuning : BigSync) (which : ℕ) → is_started (chosen_steps earlier) ≡ true → big_sync_on (chosen_steps earlier) which ≡ tuning
     → has_beyond (setup_of (chosen_steps earlier)).info.num_bis which ≡ false → chosen_of earlier ≡ s → OnSource (steps_of_source s earlier) tuning
 tuned_to airs boxes s earlier tuning which started same within chosen = search arith
 
-pub begins_to : Announcing → (airs : Airs) (boxes s n : ℕ) (step : Step) (earlier : List Step) (tuning : Joining) → Legal airs boxes earlier → Permitted airs boxes earlier step
+pub begins_to : Announcing → (airs : Airs) (boxes s n : ℕ) (step : Step) (earlier : List Step) (tuning : BigSync) → Legal airs boxes earlier → Permitted airs boxes earlier step
     → BeginsBy airs s n step earlier tuning → OnSource (steps_of_source s earlier) tuning
 begins_to laws airs boxes s n (steps.Tuned sink which) earlier tuning legal permits begins =
     tuned_to airs boxes s earlier tuning which (takes (chosen_steps earlier) permits.in_phase) (begins.puts.by.0 ∙ begins.on_is)
     (fails_not (has_beyond (setup_of (chosen_steps earlier)).info.num_bis which) NoSuchBis permits.by_source) begins.chosen_is
 begins_to laws airs boxes s n (steps.Announce sink) earlier tuning legal permits begins =
-    let by_hand = as_by_hand laws airs boxes n sink earlier begins.puts.by.0.joining legal permits begins.puts.by.0.brings in
-    tuned_to airs boxes s earlier tuning begins.puts.by.0.joining.which (sends (chosen_steps earlier) permits.in_phase)
+    let by_hand = as_by_hand laws airs boxes n sink earlier begins.puts.by.0.big_sync legal permits begins.puts.by.0.brings in
+    tuned_to airs boxes s earlier tuning begins.puts.by.0.big_sync.which (sends (chosen_steps earlier) permits.in_phase)
     (sym by_hand.0 ∙ begins.puts.by.1 ∙ begins.on_is) by_hand.1 begins.chosen_is
 begins_to laws airs boxes s n _ earlier tuning legal permits begins = absurd begins.puts.by
 
 -- such a stay begins with the source's next event
-pub begins_next : Announcing → (airs : Airs) (boxes s n : ℕ) (step : Step) (earlier : List Step) (tuning : Joining) → Legal airs boxes earlier → Permitted airs boxes earlier step
+pub begins_next : Announcing → (airs : Airs) (boxes s n : ℕ) (step : Step) (earlier : List Step) (tuning : BigSync) → Legal airs boxes earlier → Permitted airs boxes earlier step
     → BeginsBy airs s n step earlier tuning → tuning.first ≡ next_in (steps_of_source s earlier)
 begins_next laws airs boxes s n step earlier tuning legal permits begins =
-    ap (λ (t : Joining). t.first) (sym begins.on_is) ∙ puts_first laws airs boxes n step earlier legal permits begins.puts
+    ap (λ (t : BigSync). t.first) (sym begins.on_is) ∙ puts_first laws airs boxes n step earlier legal permits begins.puts
     ∙ ap (λ t. next_in (steps_of_source t earlier)) begins.chosen_is
 
-still_to : (airs : Airs) (boxes s : ℕ) (step : Step) (earlier : List Step) (tuning : Joining) → Legal airs boxes (step ∷ earlier) → OnSource (steps_of_source s earlier) tuning
+still_to : (airs : Airs) (boxes s : ℕ) (step : Step) (earlier : List Step) (tuning : BigSync) → Legal airs boxes (step ∷ earlier) → OnSource (steps_of_source s earlier) tuning
     → OnSource (steps_of_source s (step ∷ earlier)) tuning
 still_to airs boxes s step earlier tuning legal on =
     let more = goes airs boxes s earlier step legal on.started in
@@ -166,7 +166,7 @@ still_to airs boxes s step earlier tuning legal on =
     )
 
 -- a sink on a group is on that of its source, which was started
-pub on_source : Announcing → (airs : Airs) (boxes s n : ℕ) (made : List Step) (tuning : Joining) → Legal airs boxes made → IsOn airs s n made tuning → OnSource (steps_of_source s made) tuning
+pub on_source : Announcing → (airs : Airs) (boxes s n : ℕ) (made : List Step) (tuning : BigSync) → Legal airs boxes made → IsOn airs s n made tuning → OnSource (steps_of_source s made) tuning
 on_source laws airs boxes s n [] tuning legal is = absurd (none-some tuning is.place_is)
 on_source laws airs boxes s n (step ∷ earlier) tuning legal is = still_to airs boxes s step earlier tuning legal (elim (on_before airs s n step earlier tuning is) [
   | inl before ↦ on_source laws airs boxes s n earlier tuning legal.0 before
@@ -174,14 +174,14 @@ on_source laws airs boxes s n (step ∷ earlier) tuning legal is = still_to airs
 ])
 
 -- the first event of a stay was the source's next one as the stay began
-stays_first : (airs : Airs) (boxes s n : ℕ) (step : Step) (earlier : List Step) (tuning : Joining) → Legal airs boxes (step ∷ earlier) → is_started (steps_of_source s earlier) ≡ true
+stays_first : (airs : Airs) (boxes s n : ℕ) (step : Step) (earlier : List Step) (tuning : BigSync) → Legal airs boxes (step ∷ earlier) → is_started (steps_of_source s earlier) ≡ true
     → (begins : Bool) → is_tuned n earlier step ≡ begins → (before : List Step)
     → tuning.first ≡ next_of (setup_of (steps_of_source s earlier)) (source_calls (steps_of_source s before)) → cond begins earlier (steps_before (is_tuned n) earlier) ≡ before
     → tuning.first ≡ next_of (setup_of (steps_of_source s (step ∷ earlier))) (source_calls (steps_of_source s (steps_before (is_tuned n) (step ∷ earlier))))
 stays_first airs boxes s n step earlier tuning legal started begins is before first same =
     cc (first, (goes airs boxes s earlier step legal started).setup_is, same, is)
 
-pub first_next : Announcing → (airs : Airs) (boxes s n : ℕ) (made : List Step) (tuning : Joining) → Legal airs boxes made → IsOn airs s n made tuning
+pub first_next : Announcing → (airs : Airs) (boxes s n : ℕ) (made : List Step) (tuning : BigSync) → Legal airs boxes made → IsOn airs s n made tuning
     → tuning.first ≡ next_of (setup_of (steps_of_source s made)) (source_calls (steps_of_source s (steps_before (is_tuned n) made)))
 first_next laws airs boxes s n [] tuning legal is = absurd (none-some tuning is.place_is)
 first_next laws airs boxes s n (step ∷ earlier) tuning legal is =

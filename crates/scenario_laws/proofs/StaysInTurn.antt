@@ -6,7 +6,7 @@ use Rattle.std.proofs.lemmas.List.{append-nil}
 use Rattle.std.proofs.lemmas.Option.{none-some}
 use Rattle.unit_outlets.specs.Handed.{Handed}
 use Rattle.group_sink.specs.Calls.{Call, tune, place}
-use Rattle.sync_reference.specs.Joining.{Joining}
+use Rattle.sync_reference.specs.BigSync.{BigSync}
 use Rattle.group_sink.specs.Handing.{handed_by as ticked_by, of_stream}
 use Rattle.scenario_text.specs.declared.step.Step.{Step}
 use Rattle.scenario_history.specs.Steps.{chosen_of, chosen_steps, steps_of_source}
@@ -38,10 +38,10 @@ all_closed airs s n [] = refl
 all_closed airs s n (step ∷ earlier) = ap (λ closed. cond (is_made n earlier step) [] (closed ++ closed_by airs s n earlier step)) (all_closed airs s n earlier)
 
 -- the group of the source that the sink is on
-abbrev pub here_at : Airs → ℕ → ℕ → List Step → Option Joining
+abbrev pub here_at : Airs → ℕ → ℕ → List Step → Option BigSync
 here_at airs s n made = stay_if (mine_in s n made) (sink_calls airs n made)
 
-pub stay_is : (mine : Bool) (calls : List Call) (tuning : Joining) → stay_if mine calls ≡ Some tuning → (mine ≡ true) × (place calls ≡ Some tuning)
+pub stay_is : (mine : Bool) (calls : List Call) (tuning : BigSync) → stay_if mine calls ≡ Some tuning → (mine ≡ true) × (place calls ≡ Some tuning)
 stay_is mine calls tuning is = grind (arith, none-some)
 
 pub no_stay : (mine : Bool) (calls : List Call) → place calls ≡ None → stay_if mine calls ≡ None
@@ -49,21 +49,21 @@ no_stay true calls nowhere = nowhere
 no_stay false calls nowhere = refl
 
 -- the first event of the stay, or the next event of the source
-abbrev pub first_of : Option Joining → ℕ → ℕ
+abbrev pub first_of : Option BigSync → ℕ → ℕ
 first_of None next = next
 first_of (Some tuning) next = tuning.first
 
 -- what is of the stay, where there is one
-abbrev pub in_stay : {A : Type 0} → Option Joining → List A → List A
+abbrev pub in_stay : {A : Type 0} → Option BigSync → List A → List A
 in_stay None xs = []
 in_stay (Some tuning) xs = xs
 
-in_stay_none : {A : Type 0} (here : Option Joining) → (let none : List A = [] in in_stay here none ≡ none)
+in_stay_none : {A : Type 0} (here : Option BigSync) → (let none : List A = [] in in_stay here none ≡ none)
 in_stay_none None = refl
 in_stay_none (Some tuning) = refl
 
 -- all events and entries are those of the stay behind past ones, of which the claim holds up to the first event of the stay
-pub record InTurn (Q : ℕ → List Closed → List Handed → Type 0) (s n bis : ℕ) (here : Option Joining) (next : ℕ) (closed now : List Closed) (units units_now : List SinkUnit) : Type 0 where
+pub record InTurn (Q : ℕ → List Closed → List Handed → Type 0) (s n bis : ℕ) (here : Option BigSync) (next : ℕ) (closed now : List Closed) (units units_now : List SinkUnit) : Type 0 where
   pub past : List Closed
   pub entries : List Handed
   pub claim : Q (first_of here next) past entries
@@ -74,16 +74,16 @@ pub record InTurn (Q : ℕ → List Closed → List Handed → Type 0) (s n bis 
 abbrev pub Rises : (ℕ → List Closed → List Handed → Type 0) → Type 0
 Rises Q = (e : ℕ) → (later : ℕ) → (closed : List Closed) → (entries : List Handed) → e ≤ later → Q e closed entries → Q later closed entries
 
-first_rises : (Q : ℕ → List Closed → List Handed → Type 0) → Rises Q → (here : Option Joining) (next later : ℕ) (closed : List Closed) (entries : List Handed) → next ≤ later
+first_rises : (Q : ℕ → List Closed → List Handed → Type 0) → Rises Q → (here : Option BigSync) (next later : ℕ) (closed : List Closed) (entries : List Handed) → next ≤ later
     → Q (first_of here next) closed entries → Q (first_of here later) closed entries
 first_rises Q rises None next later closed entries more claim = rises next later closed entries more claim
 first_rises Q rises (Some tuning) next later closed entries more claim = claim
 
-pub more_list : {A : Type 0} (all past now more : List A) (here : Option Joining) → all ≡ past ++ in_stay here now → (here ≡ None → more ≡ []) → all ++ more ≡ past ++ in_stay here (now ++ more)
+pub more_list : {A : Type 0} (all past now more : List A) (here : Option BigSync) → all ≡ past ++ in_stay here now → (here ≡ None → more ≡ []) → all ++ more ≡ past ++ in_stay here (now ++ more)
 more_list all past now more here is none = grind (arith, append_assoc, append-nil)
 
 goes_on : (Q : ℕ → List Closed → List Handed → Type 0) → Rises Q
-    → (s n bis : ℕ) (here : Option Joining) (next later : ℕ) (closed now more : List Closed) (units units_now others : List SinkUnit)
+    → (s n bis : ℕ) (here : Option BigSync) (next later : ℕ) (closed now more : List Closed) (units units_now others : List SinkUnit)
     → next ≤ later → (here ≡ None → more ≡ []) → (here ≡ None → shown s n bis others ≡ []) → InTurn Q s n bis here next closed now units units_now
     → InTurn Q s n bis here later (closed ++ more) (now ++ more) (units ++ others) (units_now ++ others)
 goes_on Q rises s n bis here next later closed now more units units_now others on no_more no_others before = record {
@@ -97,7 +97,7 @@ goes_on Q rises s n bis here next later closed now more units units_now others o
 }
 
 -- the same, where the step begins nothing
-same_turn : (Q : ℕ → List Closed → List Handed → Type 0) (s n bis : ℕ) (here here' : Option Joining) (made begins : Bool) (next : ℕ) (closed now : List Closed) (units units_now : List SinkUnit)
+same_turn : (Q : ℕ → List Closed → List Handed → Type 0) (s n bis : ℕ) (here here' : Option BigSync) (made begins : Bool) (next : ℕ) (closed now : List Closed) (units units_now : List SinkUnit)
     → here' ≡ here → made ≡ false → begins ≡ false → InTurn Q s n bis here next closed now units units_now
     → InTurn Q s n bis here' next (cond made [] closed) (cond begins [] now) (cond made [] units) (cond begins [] units_now)
 same_turn Q s n bis here here' made begins next closed now units units_now same made_not begins_not all = grind (arith, false≢true)
@@ -138,7 +138,7 @@ InTurnAt Q airs s n bis made =
 
 -- the claim goes on over a stay up to the source's next event
 abbrev pub OverStay : (ℕ → List Closed → List Handed → Type 0) → (List Step → Type 0) → Airs → ℕ → ℕ → ℕ → Type 0
-OverStay Q Fine airs s n bis = (made : List Step) → Fine made → (tuning : Joining) → IsOn airs s n made tuning → (past : List Closed) → (entries : List Handed) → Q tuning.first past entries
+OverStay Q Fine airs s n bis = (made : List Step) → Fine made → (tuning : BigSync) → IsOn airs s n made tuning → (past : List Closed) → (entries : List Handed) → Q tuning.first past entries
     → Q (next_in (steps_of_source s made)) (past ++ closed_from (is_tuned n) airs s n made) (entries ++ shown_since (is_tuned n) airs s n bis made)
 
 pub record Turns (Q : ℕ → List Closed → List Handed → Type 0) (Fine : List Step → Type 0) (airs : Airs) (boxes s n bis : ℕ) : Type 0 where
@@ -153,7 +153,7 @@ pub record Turns (Q : ℕ → List Closed → List Handed → Type 0) (Fine : Li
   pub sink_within : n ≤ 7
 
 pub at_end : (Q : ℕ → List Closed → List Handed → Type 0) (Fine : List Step → Type 0) (airs : Airs) (boxes s n bis : ℕ) → Turns Q Fine airs boxes s n bis → (made : List Step) → Fine made
-    → (here : Option Joining) → here_at airs s n made ≡ here
+    → (here : Option BigSync) → here_at airs s n made ≡ here
     → InTurn Q s n bis here (next_in (steps_of_source s made)) (closed_from (is_made n) airs s n made) (closed_from (is_tuned n) airs s n made) (handed_since (is_made n) airs made)
     (handed_since (is_tuned n) airs made)
     → Q (next_in (steps_of_source s made)) (closed_from (is_made n) airs s n made) (shown s n bis (handed_since (is_made n) airs made))
@@ -196,16 +196,16 @@ pub past_list : {A : Type 0} (made : Bool) (xs more : List A) → made ≡ false
 past_list made xs more made_not none = grind (arith, false≢true, append-nil)
 
 -- the stay has nothing yet
-abbrev pub IsFresh : Option Joining → Bool → Type 0
+abbrev pub IsFresh : Option BigSync → Bool → Type 0
 IsFresh here begins = (here ≡ None) ⊎ (begins ≡ true)
 
-fresh_closed : (here : Option Joining) (begins : Bool) (closed : List Closed) → IsFresh here begins → in_stay here (cond begins [] closed) ≡ []
+fresh_closed : (here : Option BigSync) (begins : Bool) (closed : List Closed) → IsFresh here begins → in_stay here (cond begins [] closed) ≡ []
 fresh_closed here begins closed fresh = elim fresh [
   | inl nowhere ↦ ap (λ h. in_stay h (cond begins [] closed)) nowhere
   | inr anew ↦ ap (λ b. in_stay here (cond b [] closed)) anew ∙ in_stay_none here
 ]
 
-pub fresh_shown : (s n bis : ℕ) (here : Option Joining) (begins : Bool) (units : List SinkUnit) → IsFresh here begins → in_stay here (shown s n bis (cond begins [] units)) ≡ []
+pub fresh_shown : (s n bis : ℕ) (here : Option BigSync) (begins : Bool) (units : List SinkUnit) → IsFresh here begins → in_stay here (shown s n bis (cond begins [] units)) ≡ []
 fresh_shown s n bis here begins units fresh = elim fresh [
   | inl nowhere ↦ ap (λ h. in_stay h (shown s n bis (cond begins [] units))) nowhere
   | inr anew ↦ ap (λ b. in_stay here (shown s n bis (cond b [] units))) anew ∙ in_stay_none here
@@ -245,13 +245,13 @@ off_turn Q Fine airs boxes s n bis step earlier before no_closed no_shown nowher
     anew_turn Q Fine airs boxes s n bis step earlier before no_closed no_shown
     (subst (λ here. next_in (steps_of_source s earlier) ≤ first_of here (next_in (steps_of_source s (step ∷ earlier)))) (sym none) before.more) (inl none)
 
--- it is put on this group of the chosen source, from the source's next event on
-put_least : (chosen s : ℕ) (on : Joining) (rest : List Call) (next next' : ℕ) → next ≤ next' → ((chosen == s) ≡ true → on.first ≡ next) → (mine : Bool) → (chosen == s) ≡ mine
+-- it is synchronized to this BIG of the chosen source, from the source's next event on
+put_least : (chosen s : ℕ) (on : BigSync) (rest : List Call) (next next' : ℕ) → next ≤ next' → ((chosen == s) ≡ true → on.first ≡ next) → (mine : Bool) → (chosen == s) ≡ mine
     → next ≤ first_of (stay_if mine (tune on ∷ rest)) next'
 put_least chosen s on rest next next' more first true is = omega (arith, first is)
 put_least chosen s on rest next next' more first false is = more
 
-pub put_turn : (Q : ℕ → List Closed → List Handed → Type 0) (Fine : List Step → Type 0) (airs : Airs) (boxes s n bis : ℕ) (step : Step) (earlier : List Step) (on : Joining)
+pub put_turn : (Q : ℕ → List Closed → List Handed → Type 0) (Fine : List Step → Type 0) (airs : Airs) (boxes s n bis : ℕ) (step : Step) (earlier : List Step) (on : BigSync)
     → Before Q Fine airs boxes s n bis step earlier → closed_by airs s n earlier step ≡ [] → handed_by airs earlier step ≡ [] → is_tuned n earlier step ≡ true
     → sink_calls airs n (step ∷ earlier) ≡ tune on ∷ sink_calls airs n earlier → source_of n (step ∷ earlier) ≡ Some (chosen_of earlier) → on.first ≡ next_in (chosen_steps earlier)
     → InTurnAt Q airs s n bis (step ∷ earlier)

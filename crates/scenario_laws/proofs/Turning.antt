@@ -4,7 +4,7 @@ use Rattle.std.proofs.lemmas.Bool.{cases_Bool, false≢true}
 use Rattle.std.proofs.lemmas.Option.{none-some}
 use Rattle.unit_outlets.specs.Handed.{Handed}
 use Rattle.group_sink.specs.Calls.{place}
-use Rattle.sync_reference.specs.Joining.{Joining}
+use Rattle.sync_reference.specs.BigSync.{BigSync}
 use Rattle.scenario_text.specs.declared.step.Step.{Step}
 use Rattle.scenario_history.specs.Steps.{steps_of_source}
 use Rattle.source_machine.specs.Airs.{Airs}
@@ -35,7 +35,7 @@ turn_after Q Fine airs boxes s n bis step earlier before = elim (becomes airs n 
 -- ---- all steps
 
 -- the sink is made: it closed nothing and handed up nothing
-made_turn : (Q : ℕ → List Closed → List Handed → Type 0) → ((e : ℕ) → Q e [] []) → (s n bis : ℕ) (here : Option Joining) (again : Bool) → here ≡ None → again ≡ true
+made_turn : (Q : ℕ → List Closed → List Handed → Type 0) → ((e : ℕ) → Q e [] []) → (s n bis : ℕ) (here : Option BigSync) (again : Bool) → here ≡ None → again ≡ true
     → (next : ℕ) (closed now : List Closed) (units units_now : List SinkUnit) → InTurn Q s n bis here next (cond again [] closed) now (cond again [] units) units_now
 made_turn Q none s n bis None true nowhere is next closed now units units_now = record { past = []; entries = []; claim = none next; closed_is = refl; shown_is = refl }
 made_turn Q none s n bis (Some tuning) again nowhere is next closed now units units_now = absurd (none-some tuning (sym nowhere))

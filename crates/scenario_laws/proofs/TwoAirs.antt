@@ -13,13 +13,13 @@ use Rattle.transcript_text.specs.declared.refusal.Refusal.{Refusal}
 use Rattle.scenario_history.specs.Steps.{chosen_of, chosen_steps, steps_of_source}
 use Rattle.scenario_history.specs.Source.{event_back, is_started, open_event, pdu_in, setup_of, source_calls}
 use Rattle.scenario_history.specs.Airs.{MeetAirs}
-use Rattle.scenario_history.specs.Sinks.{Spot, hear_at, heard_on_air, is_lost, sink_calls, spot_at, unless_lost, with_sink_call}
+use Rattle.scenario_history.specs.Sinks.{Position, hear_at, heard_on_air, is_lost, sink_calls, position_at, unless_lost, with_sink_call}
 use Rattle.scenario_history.specs.Boxes.{closing, closing_at, closing_both, handed_by, handed_up}
 use Rattle.scenario_history.specs.Refusals.{refusal_of}
 use Rattle.sink_history.specs.Refusals.{refuse_if}
 use Rattle.scenario_laws.proofs.Legals.{Legal, permitted}
 use Rattle.scenario_laws.proofs.Sources.{Lawful, checked, group_in, hears, lawful, settled, takes}
-use Rattle.scenario_laws.proofs.Gifts.Citable.{flat_same}
+use Rattle.scenario_laws.proofs.RelayedUnits.Citable.{flat_same}
 use Rattle.scenario_laws.proofs.Hears.{its_airs}
 
 -- the relation has at most one solution
@@ -81,11 +81,11 @@ air_same : (airs others : Airs) (own : List Step) (lose count : ℕ) (calls : Li
     → heard_on_air airs own lose count calls ≡ heard_on_air others own lose count calls
 air_same airs others own lose zero calls same = refl
 air_same airs others own lose (suc i) calls same =
-    let spot : Spot = spot_at (setup_of own).info i in
-    ap (λ octets. unless_lost (is_lost (setup_of own).info (event_back own 0) lose (spot_at (setup_of own).info i))
-    (hear (event_back own 0) (spot_at (setup_of own).info i).bis (spot_at (setup_of own).info i).subevent octets) (heard_on_air airs own lose i calls))
-    (pdu_same airs others own same (event_back own 0) (spot_at (setup_of own).info i).bis (spot_at (setup_of own).info i).subevent)
-    ∙ ap (unless_lost (is_lost (setup_of own).info (event_back own 0) lose (spot_at (setup_of own).info i)) (hear_at others own (event_back own 0) (spot_at (setup_of own).info i)))
+    let position : Position = position_at (setup_of own).info i in
+    ap (λ octets. unless_lost (is_lost (setup_of own).info (event_back own 0) lose (position_at (setup_of own).info i))
+    (hear (event_back own 0) (position_at (setup_of own).info i).bis (position_at (setup_of own).info i).subevent octets) (heard_on_air airs own lose i calls))
+    (pdu_same airs others own same (event_back own 0) (position_at (setup_of own).info i).bis (position_at (setup_of own).info i).subevent)
+    ∙ ap (unless_lost (is_lost (setup_of own).info (event_back own 0) lose (position_at (setup_of own).info i)) (hear_at others own (event_back own 0) (position_at (setup_of own).info i)))
     (air_same airs others own lose i calls same)
 
 step_same : (airs others : Airs) → Both airs others → (boxes n : ℕ) (step : Step) (earlier : List Step) (calls : List Call) → Twice airs others boxes earlier

@@ -19,7 +19,7 @@ use Rattle.isoal_framed.specs.Tokens.{time_of}
 use Rattle.isoal_framed.proofs.Citable.{cases_low, opened_least}
 use Rattle.sync_reference.specs.Reference.{anchor_of, framed_reference_of, render_of}
 use Rattle.source_machine.specs.Calls.{Setup, Call as SourceCall, framed_calls, next_of}
-use Rattle.sync_reference.specs.Joining.{Joining}
+use Rattle.sync_reference.specs.BigSync.{BigSync}
 use Rattle.group_sink.specs.Handing.{bis_of, handed_since as ticked_since, of_stream}
 use Rattle.group_sink.specs.Streams.{is_in, stay_on, streams_of}
 use Rattle.group_sink.proofs.Citable.{is_member, member_is}
@@ -86,7 +86,7 @@ numbered_each R Q low (n ∷ ns) (unit ∷ units) each all =
 -- ---- an entry is of its unit
 
 -- the time of a start by the stay's anchor is that by the source's
-pub start_time_is : (setup : Setup) (tuning : Joining) (bis event offset : ℕ) → TunedTo setup tuning → tuning.first ≤ event
+pub start_time_is : (setup : Setup) (tuning : BigSync) (bis event offset : ℕ) → TunedTo setup tuning → tuning.first ≤ event
     → time_of (stay_on tuning bis) event offset ≡ time_of (whole_stay setup bis) event offset
 start_time_is setup tuning bis event offset on least =
     let both : event - setup.first ≡ (tuning.first - setup.first) + (event - tuning.first) = omega (arith, least, on.first) in
@@ -133,7 +133,7 @@ entry_octets bis time octets all whole entry of_unit is bis' time' octets' same 
   | inr here ↦ ap octets_of (sym same ∙ here.1) ∙ of_unit here.0
 ]
 
-pub one_entry : (setup : Setup) (whole : List SourceCall) (tuning : Joining) (bis : ℕ) (air : Air) (n : ℕ) (sent : Sent) (entry : Handed) (calls : List stays.Call) → 1 ≤ setup.info.bn
+pub one_entry : (setup : Setup) (whole : List SourceCall) (tuning : BigSync) (bis : ℕ) (air : Air) (n : ℕ) (sent : Sent) (entry : Handed) (calls : List stays.Call) → 1 ≤ setup.info.bn
     → TunedTo setup tuning → opened (stay_on tuning bis) calls ≤ next_of setup whole → IsInAir setup whole bis air n sent
     → IsEntry (stay_on tuning bis) (is_heard (stay_on tuning bis) calls) (closed_end (stay_on tuning bis) calls) sent entry
     → IsOfUnit setup whole bis air n entry
@@ -182,7 +182,7 @@ one_entry setup whole tuning bis air n sent entry calls some on opens numbered i
           is_of.octets is.is;
     }
 
-stay_gives : (setup : Setup) (whole : List SourceCall) (tuning : Joining) (bis : ℕ) (air : Air) (calls : List stays.Call) → 1 ≤ setup.info.bn → TunedTo setup tuning
+stay_gives : (setup : Setup) (whole : List SourceCall) (tuning : BigSync) (bis : ℕ) (air : Air) (calls : List stays.Call) → 1 ≤ setup.info.bn → TunedTo setup tuning
     → opened (stay_on tuning bis) calls ≤ next_of setup whole
     → Gives (IsInAir setup whole bis air) (IsOfUnit setup whole bis air) (tuning.first * tuning.info.bn) (closed_end (stay_on tuning bis) calls)
     (entry_of (stay_on tuning bis) (is_heard (stay_on tuning bis) calls) (closed_end (stay_on tuning bis) calls))

@@ -17,7 +17,7 @@ use Rattle.source_machine.specs.Airs.{slots_of, Airs}
 use Rattle.source_machine.specs.Calls.{Call as SourceCall, stream_calls as source_stream}
 use Rattle.source_machine.specs.Faults.{give_fault}
 use Rattle.group_sink.specs.Calls.{Call, tune, hear, place}
-use Rattle.sync_reference.specs.Joining.{Joining}
+use Rattle.sync_reference.specs.BigSync.{BigSync}
 use Rattle.group_sink.specs.Handing.{handed_since as ticked_since, of_stream}
 use Rattle.group_sink.specs.Streams.{stay_on, streams_of}
 use Rattle.group_sink.proofs.Citable.{member_is}
@@ -27,8 +27,8 @@ use Rattle.scenario_text.specs.Ranges.{IsInRange}
 use Rattle.scenario_history.specs.Steps.{chosen_of, chosen_steps, steps_of_source}
 use Rattle.scenario_history.specs.Source.{open_event, setup_of, source_calls}
 use Rattle.scenario_history.specs.Airs.{MeetAirs}
-use Rattle.scenario_history.specs.Sinks.{heard_on_air, is_of, reaches, sink_calls, source_of, spots_of, ticked, ticked_if, unless_lost}
-use Rattle.scenario_history.specs.Worlds.{joining_on}
+use Rattle.scenario_history.specs.Sinks.{heard_on_air, is_of, reaches, sink_calls, source_of, positions_of, ticked, ticked_if, unless_lost}
+use Rattle.scenario_history.specs.Worlds.{big_sync_on}
 use Rattle.scenario_history.specs.Boxes.{SinkUnit, handed_by}
 use Rattle.scenario_history.specs.Refusals.{give_refusal}
 use Rattle.scenario_history.specs.Lines.{steps_of}
@@ -45,7 +45,7 @@ use Rattle.scenario_laws.proofs.FromSources.{from_source}
 use Rattle.scenario_laws.proofs.FramedStays.{framed_law, taken_within}
 use Rattle.scenario_laws.proofs.Closes.{stay_within}
 use Rattle.scenario_laws.proofs.Closings.{handed_open, of_sink_on, shown_by, shown_with, step_shown}
-use Rattle.scenario_laws.proofs.Gifts.Citable.{second_false}
+use Rattle.scenario_laws.proofs.RelayedUnits.Citable.{second_false}
 use Rattle.scenario_laws.proofs.Ticks.{chosen_within, end_ticks, event_ticks}
 use Rattle.scenario_laws.proofs.FramedCalls.{all_push}
 
@@ -112,7 +112,7 @@ slot_short airs bis own legal event slot unit has =
 
 -- ---- what the closes of a stay hand is struck
 
-pub stay_struck : Below → (airs : Airs) → MeetAirs airs → (boxes s n bis : ℕ) (made : List Step) (tuning : Joining) → Legal airs boxes made
+pub stay_struck : Below → (airs : Airs) → MeetAirs airs → (boxes s n bis : ℕ) (made : List Step) (tuning : BigSync) → Legal airs boxes made
     → IsOn airs s n made tuning → 1 ≤ bis → (setup_of (steps_of_source s made)).info.framing ≡ 0 → injected_since (is_tuned n) n made ≡ false
     → Struck (stay_on tuning bis) (slots_of (setup_of (steps_of_source s made)) (source_calls (steps_of_source s made)) bis)
     (calls_on airs made n tuning bis) (handed (stay_on tuning bis) (calls_on airs made n tuning bis))
@@ -162,10 +162,10 @@ closed_since_by airs s n earlier its =
     ∙ ap (λ us. ticked_since (sink_calls airs n earlier) ++ cond (chosen_of earlier == s) us [])
     (sym (own_if s (source_of n earlier) (handed_open (sink_calls airs n earlier) (open_event (steps_of_source s earlier))) its))
 
-gone_since : (gone : Bool) (calls : List Call) (tuning : Joining) → place (cond gone [] calls) ≡ Some tuning → ticked_since (cond gone [] calls) ≡ ticked_since calls ++ []
+gone_since : (gone : Bool) (calls : List Call) (tuning : BigSync) → place (cond gone [] calls) ≡ Some tuning → ticked_since (cond gone [] calls) ≡ ticked_since calls ++ []
 gone_since gone calls tuning is = grind (arith, none-some, append-nil)
 
-put_since : (s n : ℕ) (put : Bool) (on tuning : Joining) (chosen : ℕ) (calls : List Call) (source : Option ℕ) (units : List SinkUnit)
+put_since : (s n : ℕ) (put : Bool) (on tuning : BigSync) (chosen : ℕ) (calls : List Call) (source : Option ℕ) (units : List SinkUnit)
     → IsThere s tuning (cond put (tune on ∷ calls) calls) (cond put (Some chosen) source) → (IsThere s tuning calls source → put ≡ false → of_sink s n units ≡ ticked_since calls)
     → of_sink s n (cond put [] (units ++ [])) ≡ ticked_since (cond put (tune on ∷ calls) calls)
 put_since s n put on tuning chosen calls source units is before = grind (arith, append-nil)
@@ -174,7 +174,7 @@ abbrev Since : Airs → ℕ → ℕ → List Step → Type 0
 Since airs s n made = of_sink s n (handed_since (is_tuned n) airs made) ≡ ticked_since (sink_calls airs n made)
 
 -- a step that puts the sink nowhere
-still_since : (airs : Airs) (boxes s n : ℕ) (step : Step) (earlier : List Step) (tuning : Joining) → Legal airs boxes earlier → s ≤ 1 → n ≤ 7 → (BeginsBy airs s n step earlier tuning → ⊥)
+still_since : (airs : Airs) (boxes s n : ℕ) (step : Step) (earlier : List Step) (tuning : BigSync) → Legal airs boxes earlier → s ≤ 1 → n ≤ 7 → (BeginsBy airs s n step earlier tuning → ⊥)
     → IsOn airs s n (step ∷ earlier) tuning → (IsOn airs s n earlier tuning → Since airs s n earlier)
     → (source_of n earlier ≡ Some s → ticked_since (sink_calls airs n (step ∷ earlier)) ≡ ticked_since (sink_calls airs n earlier) ++ shown_by airs s n earlier step)
     → of_sink s n (handed_since (is_tuned n) airs earlier ++ handed_by airs earlier step) ≡ ticked_since (sink_calls airs n (step ∷ earlier))
@@ -188,7 +188,7 @@ still_since airs boxes s n step earlier tuning legal least within never is since
 ]
 
 -- a step by which the receivers stay
-stays_since : (airs : Airs) (boxes s n : ℕ) (step : Step) (earlier : List Step) (tuning : Joining) → StaysBy airs n step earlier → handed_by airs earlier step ≡ []
+stays_since : (airs : Airs) (boxes s n : ℕ) (step : Step) (earlier : List Step) (tuning : BigSync) → StaysBy airs n step earlier → handed_by airs earlier step ≡ []
     → IsOn airs s n (step ∷ earlier) tuning → (IsOn airs s n earlier tuning → Since airs s n earlier) → Since airs s n (step ∷ earlier)
 stays_since airs boxes s n step earlier tuning stays none is since =
     let same : sink_calls airs n (step ∷ earlier) ≡ sink_calls airs n earlier = elim stays.left [
@@ -204,10 +204,10 @@ stays_since airs boxes s n step earlier tuning stays none is since =
     ∙ ap (λ us. of_sink s n (handed_since (is_tuned n) airs earlier ++ us)) none
     ∙ ap (of_sink s n) (append-nil (handed_since (is_tuned n) airs earlier)) ∙ since before ∙ ap ticked_since (sym same)
 
-since_after : (airs : Airs) (boxes s n : ℕ) (step : Step) (earlier : List Step) (tuning : Joining) → Legal airs boxes earlier → s ≤ 1 → n ≤ 7 → IsOn airs s n (step ∷ earlier) tuning
+since_after : (airs : Airs) (boxes s n : ℕ) (step : Step) (earlier : List Step) (tuning : BigSync) → Legal airs boxes earlier → s ≤ 1 → n ≤ 7 → IsOn airs s n (step ∷ earlier) tuning
     → (IsOn airs s n earlier tuning → Since airs s n earlier) → Since airs s n (step ∷ earlier)
 since_after airs boxes s n (steps.Tuned sink which) earlier tuning legal least within is since =
-    put_since s n (sink == n) (joining_on (chosen_steps earlier) which) tuning (chosen_of earlier) (sink_calls airs n earlier) (source_of n earlier)
+    put_since s n (sink == n) (big_sync_on (chosen_steps earlier) which) tuning (chosen_of earlier) (sink_calls airs n earlier) (source_of n earlier)
     (handed_since (is_tuned n) airs earlier) (record { place_is = is.place_is; source_is = is.source_is })
     (λ there put_not. since (assumption (rest_not (sink == n) false (any_since (is_tuned n) (is_given n) earlier) is.ungiven put_not)))
 since_after airs boxes s n (steps.Sink sink streams slots mtu) earlier tuning legal least within is since =
@@ -221,7 +221,7 @@ since_after airs boxes s n (steps.Hear sink back bis subevent) earlier tuning le
     (λ its. more_since (reaches sink n earlier) _ (sink_calls airs n earlier) refl)
 since_after airs boxes s n (steps.Air sink lose) earlier tuning legal least within is since =
     still_since airs boxes s n (steps.Air sink lose) earlier tuning legal least within (λ begins. begins.puts.by) is since
-    (λ its. more_since (reaches sink n earlier) _ (sink_calls airs n earlier) (air_since airs (chosen_steps earlier) lose (spots_of (chosen_steps earlier)) (sink_calls airs n earlier)))
+    (λ its. more_since (reaches sink n earlier) _ (sink_calls airs n earlier) (air_since airs (chosen_steps earlier) lose (positions_of (chosen_steps earlier)) (sink_calls airs n earlier)))
 since_after airs boxes s n (steps.Inject sink back bis subevent octets) earlier tuning legal least within is since =
     still_since airs boxes s n (steps.Inject sink back bis subevent octets) earlier tuning legal least within (λ begins. begins.puts.by) is since
     (λ its. more_since (reaches sink n earlier) _ (sink_calls airs n earlier) refl)
@@ -251,7 +251,7 @@ since_after airs boxes s n (steps.Train sink time ext adv acad) earlier tuning l
 since_after airs boxes s n step earlier tuning legal least within is since =
     stays_since airs boxes s n step earlier tuning (plain_stays airs n step earlier refl refl refl refl) refl is since
 
-pub since : (airs : Airs) (boxes s n : ℕ) (made : List Step) (tuning : Joining) → Legal airs boxes made → s ≤ 1 → n ≤ 7 → IsOn airs s n made tuning → Since airs s n made
+pub since : (airs : Airs) (boxes s n : ℕ) (made : List Step) (tuning : BigSync) → Legal airs boxes made → s ≤ 1 → n ≤ 7 → IsOn airs s n made tuning → Since airs s n made
 since airs boxes s n [] tuning legal least within is = refl
 since airs boxes s n (step ∷ earlier) tuning legal least within is =
     since_after airs boxes s n step earlier tuning legal.0 least within is (λ before. since airs boxes s n earlier tuning legal.0 least within before)
@@ -262,7 +262,7 @@ pub record Numbers (s n : ℕ) : Type 0 where
   pub source_within : s ≤ 1
   pub sink_within : n ≤ 7
 
-begins_numbers : (airs : Airs) (boxes s n : ℕ) (step : Step) (earlier : List Step) (tuning : Joining) → Legal airs boxes earlier → IsInRange step → BeginsBy airs s n step earlier tuning → Numbers s n
+begins_numbers : (airs : Airs) (boxes s n : ℕ) (step : Step) (earlier : List Step) (tuning : BigSync) → Legal airs boxes earlier → IsInRange step → BeginsBy airs s n step earlier tuning → Numbers s n
 begins_numbers airs boxes s n (steps.Tuned sink which) earlier tuning legal ranged begins =
     record { source_within = subst (λ t. t ≤ 1) begins.chosen_is (chosen_within airs boxes earlier legal); sink_within = subst (λ m. m ≤ 7) (eqb-true sink n begins.puts.by.1) ranged }
 begins_numbers airs boxes s n (steps.Announce sink) earlier tuning legal ranged begins =
@@ -272,7 +272,7 @@ begins_numbers airs boxes s n (steps.Announce sink) earlier tuning legal ranged 
     )
 begins_numbers airs boxes s n _ earlier tuning legal ranged begins = absurd begins.puts.by
 
-pub numbers : (airs : Airs) (boxes s n : ℕ) (made : List Step) (tuning : Joining) → Legal airs boxes made → IsOn airs s n made tuning → Numbers s n
+pub numbers : (airs : Airs) (boxes s n : ℕ) (made : List Step) (tuning : BigSync) → Legal airs boxes made → IsOn airs s n made tuning → Numbers s n
 numbers airs boxes s n [] tuning legal is = absurd (none-some tuning is.place_is)
 numbers airs boxes s n (step ∷ earlier) tuning legal is = elim (on_before airs s n step earlier tuning is) [
   | inl before ↦ numbers airs boxes s n earlier tuning legal.0 before
@@ -282,7 +282,7 @@ numbers airs boxes s n (step ∷ earlier) tuning legal is = elim (on_before airs
 -- ---- the law
 
 -- of any steps of which none was refused
-pub stay_is_struck : Below → (airs : Airs) → MeetAirs airs → (boxes s n bis : ℕ) (made : List Step) (tuning : Joining) → Legal airs boxes made
+pub stay_is_struck : Below → (airs : Airs) → MeetAirs airs → (boxes s n bis : ℕ) (made : List Step) (tuning : BigSync) → Legal airs boxes made
     → place (sink_calls airs n made) ≡ Some tuning → source_of n made ≡ Some s → Contains (streams_of tuning.which) bis → injected_since (is_tuned n) n made ≡ false
     → IsStayStruck airs made s n tuning bis
 stay_is_struck below airs meets boxes s n bis made tuning lawful_steps there of_source taken clean =

@@ -1,12 +1,12 @@
 -- What a text of version 1 brings in version 2.
 pub mod Groups
 pub mod Lived
-pub mod Lives
+pub mod Histories
 pub mod Migrating
 pub mod Outputs
 pub mod Overs
 pub mod Printed
-pub mod Reach
+pub mod Horizons
 pub mod Reading
 pub mod Received
 pub mod Refused

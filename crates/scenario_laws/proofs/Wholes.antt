@@ -28,11 +28,11 @@ extends_before whole own _ more = more
 
 within_if : (airs : Airs) (setup : Setup) (whole : List SourceCall) (own : List Step) (step : Step) (is_its : Bool) → Lawful airs own → (is_its ≡ true → Allowed airs own step)
     → Within setup whole (cond is_its (step ∷ own) own) → Within setup whole own
-within_if airs setup whole own step true legal allows within = record {
-  setup_is = λ started. sym (setup_stays airs own step (settled airs own legal) (allows refl) started) ∙ within.setup_is (started_stays airs own step (allows refl) started);
-  calls = extends_before whole own step within.calls;
+within_if airs setup whole own this true legal allows within = record {
+  setup_is = λ started. sym (setup_stays airs own this (settled airs own legal) (allows refl) started) ∙ within.setup_is (started_stays airs own this (allows refl) started);
+  calls = extends_before whole own this within.calls;
 }
-within_if airs setup whole own step false legal allows within = within
+within_if airs setup whole own this false legal allows within = within
 
 pub within_before : (airs : Airs) (boxes s : ℕ) (setup : Setup) (whole : List SourceCall) (earlier : List Step) (step : Step) → Legal airs boxes (step ∷ earlier)
     → Within setup whole (steps_of_source s (step ∷ earlier)) → Within setup whole (steps_of_source s earlier)
@@ -56,7 +56,7 @@ pub record Goes (before after : List Step) : Type 0 where
   pub setup_is : setup_of after ≡ setup_of before
 
 goes_if : (airs : Airs) (own : List Step) (step : Step) (is_its : Bool) → Lawful airs own → (is_its ≡ true → Allowed airs own step) → is_started own ≡ true → Goes own (cond is_its (step ∷ own) own)
-goes_if airs own step is_its legal allows started = grind (arith, started_stays, setup_stays, settled)
+goes_if airs own this is_its legal allows started = grind (arith, started_stays, setup_stays, settled)
 
 pub goes : (airs : Airs) (boxes s : ℕ) (earlier : List Step) (step : Step) → Legal airs boxes (step ∷ earlier) → is_started (steps_of_source s earlier) ≡ true
     → Goes (steps_of_source s earlier) (steps_of_source s (step ∷ earlier))

@@ -12,9 +12,9 @@ use Rattle.sink_history.specs.Links.{notices_waiting, read_waits, state, view}
 use Rattle.scenario_text.specs.declared.step.Step.{Step}
 use Rattle.scenario_text.specs.declared.step.Step.TheVariants.{Tuned, Event, Announce, Train, Drop, Stop, Terminate, End}
 use Rattle.delegator_history.specs.Trains.{Settings}
-use Rattle.sink_history.specs.Lives.{made_of}
+use Rattle.sink_history.specs.History.{made_of}
 use Rattle.sink_history.specs.Moves.{follows_by, train_by}
-use Rattle.sink_history.specs.Output.{replied, sight_in}
+use Rattle.sink_history.specs.Output.{replied, snapshot_in}
 use Rattle.transcript_text.specs.Lines.{control_line, handed_line}
 use Rattle.scenario_history.specs.Airs.{MeetAirs}
 use Rattle.scenario_history.specs.Boxes.{SinkUnit, box_of, closing, closing_both, handed_up, valid_for}
@@ -25,7 +25,7 @@ use Rattle.scenario_history.specs.Sinks.{sink_calls, source_of}
 use Rattle.scenario_history.specs.Source.{end_pdu, stale_in}
 use Rattle.source_machine.specs.Airs.{Airs}
 use Rattle.scenario_history.specs.Steps.{chosen_of, chosen_steps}
-use Rattle.scenario_history.specs.Worlds.{life, source_at}
+use Rattle.scenario_history.specs.Worlds.{calls_made, source_at}
 use Rattle.scenario_laws.specs.Only.{is_kept, only}
 
 -- ---- what the law needs
@@ -33,16 +33,16 @@ use Rattle.scenario_laws.specs.Only.{is_kept, only}
 -- sink `n` follows the train that a step after these hands it: the answer isn't one of NoBroadcastId, NotWanted, OtherTrain and
 -- AlreadyOnGroup
 abbrev pub is_followed : ℕ → List Step → Step → Bool
-is_followed n earlier step = follows_by (source_at earlier) (train_by (source_at earlier) step) (made_of n earlier) (life n earlier)
+is_followed n earlier step = follows_by (source_at earlier) (train_by (source_at earlier) step) (made_of n earlier) (calls_made n earlier)
 
--- the step after these puts sink `n` on a train or a group: `tuned`, or an `announce` or a `train` whose train it follows
+-- the step after these synchronizes sink `n` to a train or a BIG: `tuned`, or an `announce` or a `train` whose train it follows
 abbrev pub puts : ℕ → List Step → Step → Bool
 puts n earlier (Tuned sink which) = sink == n
 puts n earlier (Announce sink) = (sink == n) && is_followed n earlier (Announce sink)
 puts n earlier (Train sink time ext adv acad) = (sink == n) && is_followed n earlier (Train sink time ext adv acad)
 puts n earlier _ = false
 
--- no step that was made while another source than `s` was chosen puts sink `n` on a train or a group
+-- no step that was made while another source than `s` was chosen synchronizes sink `n` to a train or a BIG
 abbrev pub NoOtherPuts : ℕ → ℕ → List Step → Type 0
 NoOtherPuts s n [] = Unit {0}
 NoOtherPuts s n (step ∷ earlier) = NoOtherPuts s n earlier × (chosen_of earlier ≢ s → puts n earlier step ≡ false)
@@ -81,10 +81,10 @@ kept_lines airs s n (step ∷ earlier) =
 
 -- ---- the law
 
--- two lives of one sink come to the same: it has the same slots, place, encryption, streams and capability, and the same receive
+-- two histories of one sink come to the same: it has the same slots, place, encryption, streams and capability, and the same receive
 -- states; and on each link the same is joined, waits and is known: writes with the reply to the first, notices, reads, and views
-pub record IsSameLife (made : Settings) (calls others : List Call) : Type 0 where
-  pub sight : sight_in made calls ≡ sight_in made others
+pub record IsSameHistory (made : Settings) (calls others : List Call) : Type 0 where
+  pub snapshot : snapshot_in made calls ≡ snapshot_in made others
   pub states : (slot : ℕ) → state made.setup slot calls ≡ state made.setup slot others
   pub joined : (link : ℕ) → is_joined link calls ≡ is_joined link others
   pub writes : (link : ℕ) → writes_waiting link calls ≡ writes_waiting link others
@@ -104,11 +104,11 @@ pub record IsIsolated (airs : Airs) (s n : ℕ) (steps : List Step) : Type 0 whe
   pub units : units_by n (handed_up airs steps) ≡ units_by n (handed_up airs (only s n steps))
   pub sums : (box other : ℕ) → box_of n steps ≡ Some box → box_of n (only s n steps) ≡ Some other
       → valid_for box (handed_up airs steps) ≡ valid_for other (handed_up airs (only s n steps))
-  pub lives : (made : Settings) → made_of n steps ≡ Some made → IsSameLife made (life n steps) (life n (only s n steps))
+  pub lives : (made : Settings) → made_of n steps ≡ Some made → IsSameHistory made (calls_made n steps) (calls_made n (only s n steps))
   pub lines : kept_lines airs s n steps ≡ lines_of airs n (only s n steps)
 
 -- The isolation law: of a scenario of which no line was refused and which has no `relay` line, where no step under another source
--- than `s` puts sink `n` on a train or a group, the sink is isolated from all steps that aren't kept for it and `s`. It holds after
+-- than `s` synchronizes sink `n` to a train or a BIG, the sink is isolated from all steps that aren't kept for it and `s`. It holds after
 -- each step. Without a `relay` line what the lines say is all that happens.
 abbrev pub IsolationLaw : List Account → Type 0
 IsolationLaw starts = (airs : Airs) → MeetAirs airs → (lines : List TextLine) → Accepted (rules_of airs starts) lines

@@ -19,21 +19,21 @@ use Rattle.scenario_history.specs.Runs.{Accepted}
 use Rattle.source_machine.specs.Airs.{slots_of, Airs}
 use Rattle.source_machine.specs.Calls.{Setup, next_of}
 use Rattle.group_sink.specs.Calls.{Call, place}
-use Rattle.sync_reference.specs.Joining.{Joining}
+use Rattle.sync_reference.specs.BigSync.{BigSync}
 use Rattle.group_sink.specs.Handing.{bis_of, of_stream}
 use Rattle.group_sink.specs.Streams.{closes, is_in, stay_on, stream_calls, streams_of}
 use Rattle.scenario_text.specs.declared.step.Step.{Step}
 use Rattle.scenario_text.specs.declared.step.Step.TheVariants.{Sink, Tuned, Event, Inject, Announce, Train, Stop, Terminate, End}
-use Rattle.sink_history.specs.Lives.{made_of}
+use Rattle.sink_history.specs.History.{made_of}
 use Rattle.sink_history.specs.Moves.{brings_by}
 use Rattle.scenario_history.specs.Steps.{chosen_of, steps_of_source}
-use Rattle.scenario_history.specs.Worlds.{life, source_at}
+use Rattle.scenario_history.specs.Worlds.{calls_made, source_at}
 use Rattle.scenario_history.specs.Source.{setup_of, source_calls, open_event}
 use Rattle.scenario_history.specs.Airs.{MeetAirs}
 use Rattle.scenario_history.specs.Sinks.{is_of, sink_calls, source_of}
 use Rattle.scenario_history.specs.Boxes.{SinkUnit, handed_by}
 use Rattle.scenario_history.specs.Lines.{rules_of, steps_of}
-use Rattle.scenario_laws.specs.Gifts.Legal.{AreLegal}
+use Rattle.scenario_laws.specs.RelayedUnits.Legal.{AreLegal}
 use Rattle.scenario_laws.specs.SourceUnits.{AreSent, InSourceOrder, InUnitOrder, IsOfSlot, anchor_in, time_in, valid_in, whole_stay}
 
 -- ---- what comes to a sink that its source did not send
@@ -49,11 +49,11 @@ abbrev pub is_given : ℕ → Step → Bool
 is_given n (Train sink time ext adv acad) = sink == n
 is_given n _ = false
 
--- a train that the line hands the sink that it names puts it on a group
+-- a train that the line hands the sink that it names synchronizes it to a BIG
 abbrev pub brings_to : ℕ → ℕ → Step → List Step → Bool
-brings_to n sink step earlier = (sink == n) && brings_by (source_at earlier) step (made_of n earlier) (life n earlier)
+brings_to n sink step earlier = (sink == n) && brings_by (source_at earlier) step (made_of n earlier) (calls_made n earlier)
 
--- the sink is put on a group: by `tuned`, or by a train that is taken
+-- the sink is synchronized to a BIG: by `tuned`, or by a train that is taken
 abbrev pub is_tuned : ℕ → List Step → Step → Bool
 is_tuned n earlier (Tuned sink which) = sink == n
 is_tuned n earlier (Announce sink) = brings_to n sink (Announce sink) earlier
@@ -96,8 +96,8 @@ shown_since begins airs s n bis steps = of_stream bis (of_sink s n (handed_since
 
 -- ---- one stay
 
--- what the stay on a stream took since the sink was put on its group
-abbrev pub calls_on : Airs → List Step → ℕ → Joining → ℕ → List stays.Call
+-- what the stay on a stream took since the sink was synchronized to its BIG
+abbrev pub calls_on : Airs → List Step → ℕ → BigSync → ℕ → List stays.Call
 calls_on airs steps n tuning bis = stream_calls (stay_on tuning bis) (sink_calls airs n steps)
 
 -- the steps before the last step that begins
@@ -108,7 +108,7 @@ steps_before begins (step ∷ earlier) = if begins earlier step then earlier els
 -- The stay is on the group of the source: the numbers of its group and its presentation delay are the source's, and its
 -- streams are some of the source's. Its first event was the source's next one as the stay began and has the anchor that it has
 -- by the source's own, and its open event is at most the source's next one. So the times of the stay are by the source's anchors.
-pub record IsOfSource (airs : Airs) (steps : List Step) (s n : ℕ) (tuning : Joining) : Type 0 where
+pub record IsOfSource (airs : Airs) (steps : List Step) (s n : ℕ) (tuning : BigSync) : Type 0 where
   pub info : tuning.info ≡ (setup_of (steps_of_source s steps)).info
   pub delay : tuning.delay ≡ (setup_of (steps_of_source s steps)).delay
   pub streams : (bis : ℕ) → Contains (streams_of tuning.which) bis → bis ≤ (setup_of (steps_of_source s steps)).info.num_bis
@@ -123,7 +123,7 @@ air_in airs own bis = unwrap_or (slice_get (airs (setup_of own) (source_calls ow
 -- in a stay on a framed stream: the air of the source sends units, and what the sink handed up on the stream since it was put
 -- on its group is struck over them: one entry for each unit whose start was heard, in order: valid where it is wholly laid and
 -- all numbers that carry it were heard before their events closed, lost where the first that wasn't is closed
-pub record IsFramedStruck (airs : Airs) (steps : List Step) (s n : ℕ) (tuning : Joining) (bis : ℕ) : Type 0 where
+pub record IsFramedStruck (airs : Airs) (steps : List Step) (s n : ℕ) (tuning : BigSync) (bis : ℕ) : Type 0 where
   pub some : (units : List Sent)
       × AreSent (setup_of (steps_of_source s steps)) (source_calls (steps_of_source s steps)) bis (air_in airs (steps_of_source s steps) bis) units
   pub each : (units : List Sent)
@@ -133,7 +133,7 @@ pub record IsFramedStruck (airs : Airs) (steps : List Step) (s n : ℕ) (tuning 
 -- the stay is on the source's group, and what the sink handed up on the stream since it was put there is struck, by the
 -- framing of the group. Unframed: over the slots of the source: one entry for each slot of each event that was closed in the
 -- stay, in order: the source's unit of the slot, valid, where the slot has one and all numbers that carry it are heard, else lost
-pub record IsStayStruck (airs : Airs) (steps : List Step) (s n : ℕ) (tuning : Joining) (bis : ℕ) : Type 0 where
+pub record IsStayStruck (airs : Airs) (steps : List Step) (s n : ℕ) (tuning : BigSync) (bis : ℕ) : Type 0 where
   pub of_source : IsOfSource airs steps s n tuning
   pub unframed : (setup_of (steps_of_source s steps)).info.framing ≡ 0
       → Struck (stay_on tuning bis) (slots_of (setup_of (steps_of_source s steps)) (source_calls (steps_of_source s steps)) bis)
@@ -146,7 +146,7 @@ pub record IsStayStruck (airs : Airs) (steps : List Step) (s n : ℕ) (tuning : 
 -- after each step, so at the end of each stay too.
 abbrev pub UnitsLaw : List Account → Type 0
 UnitsLaw starts = (airs : Airs) → MeetAirs airs → (lines : List TextLine) → Accepted (rules_of airs starts) lines
-    → (s : ℕ) → (n : ℕ) → (bis : ℕ) → (tuning : Joining) → place (sink_calls airs n (steps_of airs lines)) ≡ Some tuning
+    → (s : ℕ) → (n : ℕ) → (bis : ℕ) → (tuning : BigSync) → place (sink_calls airs n (steps_of airs lines)) ≡ Some tuning
     → source_of n (steps_of airs lines) ≡ Some s → Contains (streams_of tuning.which) bis
     → injected_since (is_tuned n) n (steps_of airs lines) ≡ false → IsStayStruck airs (steps_of airs lines) s n tuning bis
 
@@ -158,7 +158,7 @@ pub record Closed : Type 0 where
   pub which : ℕ
 
 -- the open event of the sink, where it is at most this event
-abbrev pub closed_in : Option Joining → List Call → ℕ → List Closed
+abbrev pub closed_in : Option BigSync → List Call → ℕ → List Closed
 closed_in None calls event = []
 closed_in (Some tuning) calls event =
     if nat_le (tuning.first + closes tuning calls) event
@@ -223,7 +223,7 @@ pub record IsStartHeard (airs : Airs) (steps : List Step) (s n bis : ℕ) (at : 
   pub made : List Step
   pub steps_are : steps ≡ later ++ made
   pub same_sink : list_any (is_made n made) later ≡ false
-  pub tuning : Joining
+  pub tuning : BigSync
   pub there : place (sink_calls airs n made) ≡ Some tuning
   pub its_source : source_of n made ≡ Some s
   pub taken : Contains (streams_of tuning.which) bis
@@ -279,7 +279,7 @@ pub record StaysInOrder (airs : Airs) (steps : List Step) (s n : ℕ) : Type 0 w
       → InUnitOrder (setup_of (steps_of_source s steps)) (source_calls (steps_of_source s steps)) bis
       (air_in airs (steps_of_source s steps) bis) (shown_since (is_made n) airs s n bis steps)
 
--- over steps of which none was refused, be they those of lines or gifts of relays, the stays of each sink with each source are in
+-- over steps of which none was refused, be they those of lines or relayed units, the stays of each sink with each source are in
 -- order, where no train was given to the sink by its octets since it was made
 abbrev pub StepsInOrder : Type 0
 StepsInOrder = (airs : Airs) → MeetAirs airs → (boxes : ℕ) → (steps : List Step) → AreLegal airs boxes steps

@@ -13,4 +13,4 @@ pub mod OrderRows
 pub mod Relayed
 pub mod SourceUnits
 pub mod Versions
-pub mod Gifts
+pub mod RelayedUnits

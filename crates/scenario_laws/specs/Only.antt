@@ -3,7 +3,7 @@
 use Rattle.std.specs.Prelude.{ℕ, ◌==◌, ◌&&◌, ◌||◌, not, Bool, true, false, List, [], ◌∷◌, Option, None, Some, if◌then◌else◌}
 use Rattle.scenario_text.specs.declared.step.Step.{Step}
 use Rattle.scenario_text.specs.declared.step.Step.TheVariants.{Sink, Source}
-use Rattle.sink_history.specs.Lives.{named_by}
+use Rattle.sink_history.specs.History.{named_by}
 use Rattle.scenario_history.specs.Steps.{chosen_of, is_common, is_source_line}
 
 -- the sink that a step names

@@ -15,14 +15,14 @@ use Rattle.source_machine.specs.Calls.{Setup, given}
 use Rattle.unit_outlets.specs.Account.{Account}
 use Rattle.unit_outlets.specs.Handed.{Handed, valid}
 use Rattle.scenario_history.specs.Airs.{MeetAirs}
-use Rattle.scenario_history.specs.Gifts.{closes_first, happened}
+use Rattle.scenario_history.specs.RelayedUnits.{closes_first, happened}
 use Rattle.scenario_history.specs.Relays.{relay_of}
 use Rattle.scenario_history.specs.Lines.{rules_of, said_of, steps_of}
 use Rattle.scenario_history.specs.Source.{setup_of, source_calls}
 use Rattle.source_machine.specs.Airs.{Airs}
 use Rattle.scenario_history.specs.Steps.{steps_of_source}
-use Rattle.scenario_laws.specs.Gifts.Laws.{IsRelayed, is_route, offered}
-use Rattle.scenario_laws.specs.Gifts.Legal.{AreSaidLegally}
+use Rattle.scenario_laws.specs.RelayedUnits.Laws.{IsRelayed, is_route, offered}
+use Rattle.scenario_laws.specs.RelayedUnits.Legal.{AreSaidLegally}
 use Rattle.scenario_laws.specs.Laws.{injected_since, is_made, shown_since}
 use Rattle.scenario_laws.specs.SourceUnits.{time_in}
 
@@ -79,7 +79,7 @@ pub record InFirstOrder (given : List (List ℕ)) (handed : List AudioUnit) (set
   pub each : AllZip (IsOfFirst given handed setup to) units entries
 
 -- Something came to sink `n` that source 0 did not send, from when it was made to the last close of source 0 at which its relay handed
--- stream `bis` on to stream `to`. A stream of source 1 has one relay at most, ever: so this is one life of the sink.
+-- stream `bis` on to stream `to`. A stream of source 1 has one relay at most, ever: so this is one history of the sink.
 abbrev pub injected_till_last_offer : (n bis to : ℕ) → List Step → Bool
 injected_till_last_offer n bis to [] = false
 injected_till_last_offer n bis to (step ∷ earlier) =

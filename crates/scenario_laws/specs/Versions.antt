@@ -1,5 +1,5 @@
 -- What a text brings that is written in version 2 of the scenario language, which is this project's own, where version 1 ran
--- it. Version 2 bounds less: how many events ahead a group may reach (Core 5.2, volume 6 part B, section 4.4.6), how far ahead
+-- it. Version 2 bounds less: the greatest horizon of a group (Core 5.2, volume 6 part B, section 4.4.6), how far ahead
 -- of its event the time of a framed unit may be (part G, section 2), and what a line may be. Histories have the newest line
 -- first.
 use Rattle.std.specs.Prelude.{ℕ, ◌≡◌, true, List, [], ◌∷◌, ◌++◌, reverse, codes, decimal}
@@ -19,25 +19,25 @@ use Rattle.scenario_history.specs.Transcript.{transcript_end, transcript_of, uni
 
 -- ---- trains that version 2 may take otherwise
 
--- the line `sink N BadGroup 11`: the group of a train that was heard reaches too many events ahead
-abbrev pub too_far_line : ℕ → List ℕ
-too_far_line sink = sink_line sink (codes "BadGroup" ∷ decimal 11 ∷ [])
+-- the line `sink N BadGroup 11`: the group of a train that was heard has too great a horizon
+abbrev pub horizon_line : ℕ → List ℕ
+horizon_line sink = sink_line sink (codes "BadGroup" ∷ decimal 11 ∷ [])
 
 -- the line after these says a `train` step, and prints that line
-pub record PrintsTooFar (airs : Airs) (starts : List Account) (earlier : List TextLine) (line : TextLine) : Type 0 where
+pub record PrintsHorizon (airs : Airs) (starts : List Account) (earlier : List TextLine) (line : TextLine) : Type 0 where
   pub sink : ℕ
   pub time : ℕ
   pub ext : List ℕ
   pub adv : List ℕ
   pub acad : List ℕ
   pub says : said_after earlier line ≡ a_step (Train sink time ext adv acad)
-  pub prints : (rules_of airs starts).output earlier line ≡ too_far_line sink
+  pub prints : (rules_of airs starts).output earlier line ≡ horizon_line sink
 
 -- no `train` step prints it, of those among these lines that are run: neither their line nor one before it is refused
-abbrev pub NonePrintsTooFar : Airs → List Account → List TextLine → Type 0
-NonePrintsTooFar airs starts lines = (earlier : List TextLine) → (line : TextLine) → (later : List TextLine)
+abbrev pub NonePrintsHorizon : Airs → List Account → List TextLine → Type 0
+NonePrintsHorizon airs starts lines = (earlier : List TextLine) → (line : TextLine) → (later : List TextLine)
     → lines ≡ reverse earlier ++ line ∷ later
-    → Accepted (rules_of airs starts) (line ∷ earlier) → PrintsTooFar airs starts earlier line → ⊥
+    → Accepted (rules_of airs starts) (line ∷ earlier) → PrintsHorizon airs starts earlier line → ⊥
 
 -- ---- refusals that version 2 may not have
 
@@ -58,7 +58,7 @@ EndsLasting (refused line reason) = IsLasting reason
 -- a text in which no `train` step prints `BadGroup 11`, and whose transcript has no refusal or a refusal other than BadLine,
 -- `BadGroup 11` and TimeOrder
 pub record IsLastingText (airs : Airs) (starts : List Account) (text : List ℕ) : Type 0 where
-  pub trains : NonePrintsTooFar airs starts (lines_of true text)
+  pub trains : NonePrintsHorizon airs starts (lines_of true text)
   pub end : EndsLasting (transcript_end airs starts (lines_of true text))
 
 -- one text brings what another brings: the same transcript, with the same end, and to the boxes the same units

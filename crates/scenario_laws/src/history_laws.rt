@@ -4,7 +4,7 @@ ghost use Rattle.bcast_io.specs.TextLines.{TextLine};
 ghost use Rattle.unit_outlets.specs.Account.{Account};
 ghost use Rattle.source_machine.specs.Airs.{airs_of, Airs};
 ghost use Rattle.scenario_history.specs.Airs.{MeetAirs};
-ghost use Rattle.scenario_history.specs.Gifts.{answered_by};
+ghost use Rattle.scenario_history.specs.RelayedUnits.{answered_by};
 ghost use Rattle.scenario_history.specs.Refusals.{line_refusal};
 ghost use Rattle.scenario_history.specs.Runs.{Accepted};
 ghost use Rattle.scenario_text.specs.declared.step.Step.{Step};
@@ -63,7 +63,7 @@ pub fn one_transcript()
     one_air();
 }
 
-/// The units law of a stay (Core 5.2, volume 6 part G, sections 2.1 and 2.2): where a sink was put on its group by hand or by
+/// The units law of a stay (Core 5.2, volume 6 part G, sections 2.1 and 2.2): where a sink was synchronized to its BIG by hand or by
 /// what a source announced, and since then no PDU was injected into it and no train was given to it by its octets, it is on the
 /// group of its source, by the source's own numbers, anchors and presentation delay, and what it handed up since on a stream that
 /// it takes is struck. Unframed: one entry for each slot of each event closed in the stay, in
@@ -113,7 +113,7 @@ pub fn order_law()
     a_sink_is_put_where_its_source_is();
 }
 
-/// The order of units over any steps of which none was refused, the gifts of relays among them: what the order law says of the
+/// The order of units over any steps of which none was refused, the relayed units among them: what the order law says of the
 /// steps of lines (Core 5.2, volume 6 part G, sections 2.1, 2.2 and 3.2).
 pub fn steps_keep_order()
     ensures { StepsInOrder }

@@ -6,7 +6,7 @@ ghost use Rattle.scenario_laws.specs.Only.{only};
 ghost use Rattle.scenario_laws.specs.IsolationRows.{left_of_both, two_sources};
 
 /// The isolation law over the lines of any text of which none is refused and none is `relay`: where no step under the other
-/// source puts a sink on a train or a group, all that the sink does is as if the other sinks and the lines of the other source
+/// source synchronizes a sink to a train or a BIG, all that the sink does is as if the other sinks and the lines of the other source
 /// were left out: the units that it hands up, valid and lost, with their times (Core 5.2, volume 6 part G, sections 2.1, 2.2 and 3.2),
 /// its place, its receive states, its replies, and the writes, notices, reads and views on each of its links (Broadcast Audio
 /// Scan Service 1.0, section 3.2), and what the lines that are left print of them. It holds after each step.

@@ -2,19 +2,15 @@
 //! is its state; what version 2 makes of a text of version 1; and that a sink is isolated from what it isn't of.
 #![tactic(auto)]
 
-mod gift_laws;
 mod hearing_laws;
 mod history_laws;
 mod isolation_laws;
 mod link_laws;
 mod moment_laws;
 mod relay_laws;
+mod relayed_unit_laws;
 mod version_laws;
 
-pub use gift_laws::{
-    gifts_are_permitted, gifts_leave_all_else, nothing_happens_without_relays, relay_law,
-    units_are_dropped_by_name, what_is_not_dropped_is_accepted,
-};
 pub use hearing_laws::{
     all_hearing_law, hearing_law, hearing_more_keeps_units, hearings_are_worked,
 };
@@ -25,4 +21,8 @@ pub use isolation_laws::{a_scenario_is_left, isolation_law};
 pub use link_laws::{agreement_law, links_law};
 pub use moment_laws::{in_time_law, moment_law, moments_are_worked};
 pub use relay_laws::{relay_lines_law, relayed_units_are_worked, relayed_units_law};
+pub use relayed_unit_laws::{
+    nothing_happens_without_relays, relay_law, relayed_units_are_permitted,
+    relayed_units_leave_all_else, units_are_dropped_by_name, what_is_not_dropped_is_accepted,
+};
 pub use version_laws::migration_law;

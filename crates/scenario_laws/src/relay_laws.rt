@@ -32,7 +32,7 @@ pub fn relayed_units_law()
 }
 
 /// Two units with the same octets that a sink hands up to its relay, by hand: a sink of source 1 may show both in order, and neither
-/// of them twice. And three lives of a sink: what is injected counts in the life that has the relay.
+/// of them twice. And three histories of a sink: what is injected counts in the history that has the relay.
 pub fn relayed_units_are_worked()
     ensures { IsRelayWorked }
 {}

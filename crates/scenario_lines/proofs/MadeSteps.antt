@@ -2,7 +2,7 @@
 use Rattle.std.proofs.Common.{◌≡◌, ℕ, zero, suc, ◌<◌, ◌≤◌, ◌%◌, None, List, length, refl, arith, codes}
 use Rattle.std.specs.Prelude.{replicate}
 use Rattle.std.proofs.lemmas.List.{length-replicate}
-use Rattle.bcast_base.specs.Spelling.{IsOctets}
+use Rattle.bcast_base.specs.Encoding.{IsOctets}
 use Rattle.scenario_words.specs.Lines.{◌▸◌}
 use Rattle.scenario_text.specs.declared.step.Step.TheVariants.{Unit, Event, Air}
 use Rattle.scenario_text.specs.Lines.{LineIs}

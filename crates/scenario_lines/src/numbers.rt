@@ -1,5 +1,5 @@
 ghost use Rattle.std.specs.Prelude.{◌≡◌};
-ghost use Rattle.bcast_base.specs.Spelling.{number as number_in};
+ghost use Rattle.bcast_base.specs.Encoding.{number as number_in};
 ghost use Rattle.scenario_words.specs.ValueWords.{framing_name, time_name};
 ghost use Rattle.scenario_words.specs.PrintedWords.{spelled};
 

@@ -11,9 +11,9 @@ use Rattle.assistant_machine.specs.State.Assistants.{IsLowest, NoneWaits}
 use Rattle.assistant_machine.proofs.Citable.{drop_more}
 use Rattle.delegator_history.specs.LastGiven.{last_given}
 use Rattle.delegator_history.specs.Trains.{Setup}
-use Rattle.sink_history.specs.Calls.{Call, stepped, joined, parted, asked, served, told, read, is_joined, joining_by, served_of, writes, writes_waiting}
+use Rattle.sink_history.specs.Calls.{Call, stepped, joined, parted, asked, served, notified, read, is_joined, joining_by, served_of, writes, writes_waiting}
 use Rattle.sink_history.specs.Drains.{IsApart}
-use Rattle.sink_history.specs.Links.{Acts, Told, acts_of, language, notices_waiting, read_first, reads_waiting, told_first}
+use Rattle.sink_history.specs.Links.{Acts, Told, acts_of, language, notices_waiting, read_first, reads_waiting, notified_first}
 use Rattle.sink_history.specs.Steps.{IsStep}
 
 pub first_and_rest : {A : Type 0} (xs : List A) (x : A) → slice_get xs 0 ≡ Some x → xs ≡ x ∷ drop 1 xs
@@ -84,10 +84,10 @@ writes_joined link calls =
 -- ---- what happens
 
 pub acts_told : (setup : Setup) (mtu : Option ℕ) (link : ℕ) (calls : List Call) (first : Told) (rest : List Told) → notices_waiting setup mtu link calls ≡ first ∷ rest
-    → acts_of setup mtu link (told link ∷ calls) ≡ links.told ∷ acts_of setup mtu link calls
+    → acts_of setup mtu link (notified link ∷ calls) ≡ links.notified ∷ acts_of setup mtu link calls
 acts_told setup mtu link calls first rest is =
     let acts : Acts = acts_of setup mtu link calls in
-    ap (λ (b : Bool). if b then told_first (waiting_of acts) acts else acts) (eq-eqb link link refl) ∙ ap (λ ws. told_first ws acts) is
+    ap (λ (b : Bool). if b then notified_first (waiting_of acts) acts else acts) (eq-eqb link link refl) ∙ ap (λ ws. notified_first ws acts) is
 
 pub acts_read : (setup : Setup) (mtu : Option ℕ) (link : ℕ) (calls : List Call) (slot : ℕ) → slice_get (reads_waiting setup mtu link calls) 0 ≡ Some slot
     → acts_of setup mtu link (read link ∷ calls) ≡ links.served slot ∷ acts_of setup mtu link calls

@@ -2,7 +2,7 @@
 use Rattle.std.proofs.Common.{ℕ, zero, suc, ◌≡◌, ◌≤◌, Bool, true, false, List, [], ◌∷◌, ◌++◌, length, map, drop, slice_get, Option, Some, refl, sym, ap, ◌∙◌, subst, arith, inl, inr}
 use Rattle.std.specs.Prelude.{◌==◌, ◌&&◌, not, unwrap_or}
 use Rattle.std.proofs.lemmas.Bool.{cases_eq, eq-eqb, ne_eqb}
-use Rattle.bcast_base.specs.Spelling.{IsOctets}
+use Rattle.bcast_base.specs.Encoding.{IsOctets}
 use Rattle.receive_state.specs.declared.state.ReceiveState.{ReceiveState}
 use Rattle.assistant_machine.specs.Calls as assistants
 use Rattle.assistant_machine.specs.State.Assistants.{Assistant, StandsFor}
@@ -93,10 +93,10 @@ heard_wait mtu known slot at octets old now is same =
     ∙ same_wait (at == slot) (asks mtu octets) now
 
 pub forged_holds : (slots : ℕ) (mtu : Option ℕ) (acts : Acts) (writes : List (List ℕ)) (on : Linked) (at : ℕ) (octets : List ℕ) (after : Assistant) → IsOctets octets
-    → ((slots : ℕ) (taken : List assistants.Call) → StandsFor slots taken on.assistant → StandsFor slots (assistants.told at octets ∷ taken) after)
+    → ((slots : ℕ) (taken : List assistants.Call) → StandsFor slots taken on.assistant → StandsFor slots (assistants.notified at octets ∷ taken) after)
     → LinkHolds slots mtu acts writes on → LinkHolds slots mtu (links.forged at octets ∷ acts) writes (record on { assistant = after })
 forged_holds slots mtu acts writes on at octets after are stands holds = record {
-  taken = assistants.told at octets ∷ holds.taken;
+  taken = assistants.notified at octets ∷ holds.taken;
   assistant = stands slots holds.taken holds.assistant;
   heard = (are, holds.heard);
   mtu_is = holds.mtu_is;
@@ -112,14 +112,14 @@ pub first_notice : (slots : ℕ) (mtu : Option ℕ) (acts : Acts) (writes : List
 first_notice slots mtu acts writes on holds = ap (λ ns. slice_get ns 0) holds.notices
 
 told_view : (mtu : Option ℕ) (slot : ℕ) (first : Told) (rest waiting : List Told) → waiting ≡ first ∷ rest
-    → links.first_told (language mtu) slot waiting ≡ told_by (language mtu) slot (delivered mtu first).slot (delivered mtu first).value
-told_view mtu slot first rest waiting is = ap (links.first_told (language mtu) slot) is
+    → links.first_notified (language mtu) slot waiting ≡ told_by (language mtu) slot (delivered mtu first).slot (delivered mtu first).value
+told_view mtu slot first rest waiting is = ap (links.first_notified (language mtu) slot) is
 
 told_wait : (mtu : Option ℕ) (slot : ℕ) (first : Told) (rest waiting : List Told) → waiting ≡ first ∷ rest
     → links.first_asked (language mtu) slot waiting ≡ links.asked_by (language mtu) slot (delivered mtu first).slot (delivered mtu first).value
 told_wait mtu slot first rest waiting is = ap (links.first_asked (language mtu) slot) is
 
-told_rest : (mtu : Option ℕ) (acts : Acts) → drop 1 (map (delivered mtu) (waiting_of acts)) ≡ map (delivered mtu) (waiting_of (links.told ∷ acts))
+told_rest : (mtu : Option ℕ) (acts : Acts) → drop 1 (map (delivered mtu) (waiting_of acts)) ≡ map (delivered mtu) (waiting_of (links.notified ∷ acts))
 told_rest mtu acts =
     dropped (waiting_of acts) ∙ ap (map (delivered mtu)) (sym (drop_one (delivered_of acts) (notices_of acts)))
   where
@@ -129,10 +129,10 @@ told_rest mtu acts =
 
 pub told_holds : (slots : ℕ) (mtu : Option ℕ) (acts : Acts) (writes : List (List ℕ)) (on : Linked) (first : Told) (rest : List Told) (notice : Notice) (after : Assistant)
     → waiting_of acts ≡ first ∷ rest → notice ≡ delivered mtu first → IsOctets notice.value
-    → ((slots : ℕ) (taken : List assistants.Call) → StandsFor slots taken on.assistant → StandsFor slots (assistants.told notice.slot notice.value ∷ taken) after)
-    → LinkHolds slots mtu acts writes on → LinkHolds slots mtu (links.told ∷ acts) writes (record { waiting = drop 1 on.waiting; assistant = after })
+    → ((slots : ℕ) (taken : List assistants.Call) → StandsFor slots taken on.assistant → StandsFor slots (assistants.notified notice.slot notice.value ∷ taken) after)
+    → LinkHolds slots mtu acts writes on → LinkHolds slots mtu (links.notified ∷ acts) writes (record { waiting = drop 1 on.waiting; assistant = after })
 told_holds slots mtu acts writes on first rest notice after waits is are stands holds = record {
-  taken = assistants.told notice.slot notice.value ∷ holds.taken;
+  taken = assistants.notified notice.slot notice.value ∷ holds.taken;
   assistant = stands slots holds.taken holds.assistant;
   heard = (are, holds.heard);
   mtu_is = holds.mtu_is;
@@ -151,15 +151,15 @@ told_holds slots mtu acts writes on first rest notice after waits is are stands 
 -- ---- reads
 
 read_view : (mtu : Option ℕ) (at slot : ℕ) (octets : List ℕ) (acts : Acts) (old : Option ReceiveState)
-    → octets ≡ (language mtu).spell (value_of (language mtu) at acts) → old ≡ view_of (language mtu) slot acts
+    → octets ≡ (language mtu).encode (value_of (language mtu) at acts) → old ≡ view_of (language mtu) slot acts
     → unwrap_or (if_slot (at == slot) (reading_of octets)) old
-    ≡ unwrap_or (if_its (at == slot) ((language mtu).reading ((language mtu).spell (value_of (language mtu) slot acts)))) (view_of (language mtu) slot acts)
+    ≡ unwrap_or (if_its (at == slot) ((language mtu).reading ((language mtu).encode (value_of (language mtu) slot acts)))) (view_of (language mtu) slot acts)
 read_view mtu at slot octets acts old is same = elim (cases_eq at slot) [
   | inl e ↦
-      let spelled : octets ≡ (language mtu).spell (value_of (language mtu) slot acts) = is ∙ ap (λ n. (language mtu).spell (value_of (language mtu) n acts)) e in
-      ap (λ os. unwrap_or (if_slot (at == slot) (reading_of os)) old) spelled
-      ∙ here (at == slot) (reading_of ((language mtu).spell (value_of (language mtu) slot acts))) (eq-eqb at slot e)
-  | inr other ↦ elsewhere (at == slot) (reading_of octets) ((language mtu).reading ((language mtu).spell (value_of (language mtu) slot acts))) (ne_eqb at slot other)
+      let encoded : octets ≡ (language mtu).encode (value_of (language mtu) slot acts) = is ∙ ap (λ n. (language mtu).encode (value_of (language mtu) n acts)) e in
+      ap (λ os. unwrap_or (if_slot (at == slot) (reading_of os)) old) encoded
+      ∙ here (at == slot) (reading_of ((language mtu).encode (value_of (language mtu) slot acts))) (eq-eqb at slot e)
+  | inr other ↦ elsewhere (at == slot) (reading_of octets) ((language mtu).reading ((language mtu).encode (value_of (language mtu) slot acts))) (ne_eqb at slot other)
 ]
   where
     elsewhere : (b : Bool) (given others : Option (Option ReceiveState)) → b ≡ false → unwrap_or (if_slot b given) old ≡ unwrap_or (if_its b others) (view_of (language mtu) slot acts)
@@ -175,7 +175,7 @@ read_wait true old now same = refl
 read_wait false old now same = same
 
 pub read_holds : (slots : ℕ) (mtu : Option ℕ) (acts : Acts) (writes : List (List ℕ)) (on : Linked) (at : ℕ) (octets : List ℕ) (asked after : Assistant)
-    → octets ≡ (language mtu).spell (value_of (language mtu) at acts) → IsOctets octets
+    → octets ≡ (language mtu).encode (value_of (language mtu) at acts) → IsOctets octets
     → ((slots : ℕ) (taken : List assistants.Call) → StandsFor slots taken on.assistant → StandsFor slots (assistants.asked at ∷ taken) asked)
     → ((slots : ℕ) (taken : List assistants.Call) → StandsFor slots taken asked → StandsFor slots (assistants.read at octets ∷ taken) after)
     → LinkHolds slots mtu acts writes on → LinkHolds slots mtu (links.served at ∷ acts) writes (record on { assistant = after })

@@ -12,7 +12,7 @@ use Rattle.multi_assist.specs.State.Links.{link_at, linked, mtu_of, slots_of}
 use Rattle.multi_assist.specs.State.Places.{Linked}
 use Rattle.multi_assist.specs.State.Terms.{joining}
 use Rattle.multi_assist.specs.declared.links.Links.{Links}
-use Rattle.scenario_sink.specs.Pasts.{SinkPast, new_sink}
+use Rattle.scenario_sink.specs.SinkHistory.{SinkHistory, new_sink}
 use Rattle.scenario_sink.specs.State.Links.{OnLink}
 use Rattle.scenario_sink.specs.State.Stands.{HasStepped, Stands, after_call}
 use Rattle.scenario_sink.specs.State.Untold.{its_mtu}
@@ -36,8 +36,8 @@ on_each made links are link =
     subst (λ ons. OnLink made.setup.slots made.mtu (is_joined link []) [] [] (slice_index_or ons link None)) (sym are) (fresh made.setup.slots made.mtu link)
 
 -- before its MTU was set
-abbrev unset : Setup → Option ℕ → SinkPast
-unset setup mtu = record { made = record { setup = setup; mtu = mtu }; source = None; life = []; received = [] }
+abbrev unset : Setup → Option ℕ → SinkHistory
+unset setup mtu = record { made = record { setup = setup; mtu = mtu }; source = None; calls_made = []; received = [] }
 
 alone : (setup : Setup) (mtu : ℕ) → (after_call (stepped (mtu_set mtu)) (unset setup (Some mtu))).received ≡ []
 unfolding answered
@@ -78,5 +78,5 @@ born_stands tells setup (Some mtu) d links stands slots_are mtu_are are =
       waiting = waiting_is setup (its_mtu (Some mtu)) d stands ∙ waiting_goes_on setup (mtu_set mtu) [];
       each = on_each (record { setup = setup; mtu = Some mtu }) links are;
     } in
-    subst (λ (past : List sinks.Call). Stands (record (new_sink (record { setup = setup; mtu = Some mtu })) { received = past }) d links) (alone setup mtu)
+    subst (λ (history : List sinks.Call). Stands (record (new_sink (record { setup = setup; mtu = Some mtu })) { received = history }) d links) (alone setup mtu)
     (settled tells (stepped (mtu_set mtu)) (unset setup (Some mtu)) d links so (so.waiting ∙ no_value))

@@ -1,4 +1,4 @@
--- A train puts a sink on it or on its group exactly where it gets none of the first four answers.
+-- A train synchronizes a sink to itself or to its BIG exactly where it gets none of the first four answers.
 use Rattle.std.proofs.Common.{ℕ, ◌≡◌, Bool, true, false, List, Option, Some, None, Result, Ok, Err, refl}
 use Rattle.std.specs.Prelude.{if◌then◌else◌}
 use Rattle.base_grammar.specs.AdReading.{broadcast_id_of}
@@ -12,9 +12,9 @@ use Rattle.big_info.specs.declared.info.BigInfo.{BigInfo}
 use Rattle.big_info.specs.Reading.{info_of}
 use Rattle.big_info.specs.Rows.{first_fault}
 use Rattle.delegator_history.specs.declared.train_heard.TrainHeard.TheVariants as answers
-use Rattle.delegator_history.specs.Sights.{Sight, entry_at, is_on_group}
+use Rattle.delegator_history.specs.Snapshots.{Snapshot, entry_at, is_on_group}
 use Rattle.delegator_history.specs.Steps.{wishes_at}
-use Rattle.delegator_history.specs.Trains.{Brought, ignored, heard, taken, Setup, Train, answer_of, are_none, base_in, big_info_in, brought_by, by_base, by_big_info}
+use Rattle.delegator_history.specs.Trains.{TrainOutcome, ignored, heard, taken, Setup, Train, answer_of, are_none, base_in, big_info_in, outcome_by, by_base, by_big_info}
 use Rattle.delegator_history.specs.Trains.{by_broadcast_id, by_endpoint, by_group, by_info, by_slot, by_streams, first_candidates, is_elsewhere, is_wanted}
 use Rattle.delegator_history.specs.Writes.{slot_where}
 use Rattle.pacs_records.specs.declared.capability.Capability.{Capability}
@@ -22,10 +22,10 @@ use Rattle.sink_history.specs.Moves.{follows}
 use Rattle.scenario_sink.specs.Answers.{is_followed}
 
 -- what a train brings is followed as its answer says
-abbrev IsTold : Brought → Type 0
-IsTold brought = is_followed (answer_of brought) ≡ follows brought
+abbrev IsTold : TrainOutcome → Type 0
+IsTold outcome = is_followed (answer_of outcome) ≡ follows outcome
 
-by_if : (b : Bool) (one other : Brought) → IsTold one → IsTold other → IsTold (if b then one else other)
+by_if : (b : Bool) (one other : TrainOutcome) → IsTold one → IsTold other → IsTold (if b then one else other)
 by_if true one other is also = is
 by_if false one other is also = also
 
@@ -59,17 +59,17 @@ base_told : (setup : Setup) (capability : Capability) (wishes : List Wish) (slot
 base_told setup capability wishes slot train None = refl
 base_told setup capability wishes slot train (Some octets) = endpoint_told setup capability wishes slot train (base_of octets)
 
-slot_told : (setup : Setup) (sight : Sight) (train : Train) (slot : Option ℕ) → IsTold (by_slot setup sight train slot)
-slot_told setup sight train None = refl
-slot_told setup sight train (Some slot) =
-    let more : Brought = by_base setup sight.capability (wishes_at (entry_at sight.slots slot)) slot train (base_in train.adv) in
-    by_if (is_elsewhere sight.place slot) (ignored answers.OtherTrain) (if is_on_group sight.place slot then ignored answers.AlreadyOnGroup else more) refl
-    (by_if (is_on_group sight.place slot) (ignored answers.AlreadyOnGroup) more refl
-    (base_told setup sight.capability (wishes_at (entry_at sight.slots slot)) slot train (base_in train.adv)))
+slot_told : (setup : Setup) (snapshot : Snapshot) (train : Train) (slot : Option ℕ) → IsTold (by_slot setup snapshot train slot)
+slot_told setup snapshot train None = refl
+slot_told setup snapshot train (Some slot) =
+    let more : TrainOutcome = by_base setup snapshot.capability (wishes_at (entry_at snapshot.slots slot)) slot train (base_in train.adv) in
+    by_if (is_elsewhere snapshot.place slot) (ignored answers.OtherTrain) (if is_on_group snapshot.place slot then ignored answers.AlreadyOnGroup else more) refl
+    (by_if (is_on_group snapshot.place slot) (ignored answers.AlreadyOnGroup) more refl
+    (base_told setup snapshot.capability (wishes_at (entry_at snapshot.slots slot)) slot train (base_in train.adv)))
 
-id_told : (setup : Setup) (sight : Sight) (train : Train) (id : Option (List ℕ)) → IsTold (by_broadcast_id setup sight train id)
-id_told setup sight train None = refl
-id_told setup sight train (Some id) = slot_told setup sight train (slot_where (is_wanted train.address_type train.sid id) 0 sight.slots)
+id_told : (setup : Setup) (snapshot : Snapshot) (train : Train) (id : Option (List ℕ)) → IsTold (by_broadcast_id setup snapshot train id)
+id_told setup snapshot train None = refl
+id_told setup snapshot train (Some id) = slot_told setup snapshot train (slot_where (is_wanted train.address_type train.sid id) 0 snapshot.slots)
 
-pub followed_is : (setup : Setup) (sight : Sight) (train : Train) → is_followed (answer_of (brought_by setup sight train)) ≡ follows (brought_by setup sight train)
-followed_is setup sight train = id_told setup sight train (broadcast_id_of train.ext)
+pub followed_is : (setup : Setup) (snapshot : Snapshot) (train : Train) → is_followed (answer_of (outcome_by setup snapshot train)) ≡ follows (outcome_by setup snapshot train)
+followed_is setup snapshot train = id_told setup snapshot train (broadcast_id_of train.ext)

@@ -2,14 +2,14 @@
 use Rattle.std.proofs.Common.{ℕ, suc, ◌≡◌, ◌<◌, ◌≤◌, Bool, true, false, List, [], ◌∷◌, length, map, Option, Some, None, Result, Ok, Err, refl, ap, subst, arith}
 use Rattle.std.specs.Prelude.{◌↔◌, ◌==◌, ◌&&◌, not, unwrap_or}
 use Rattle.std.specs.List.{AllByRecursion}
-use Rattle.bcast_base.specs.Spelling.{IsOctets}
+use Rattle.bcast_base.specs.Encoding.{IsOctets}
 use Rattle.bcast_base.specs.Subgroups.{Fits}
-use Rattle.receive_state.specs.Layout.{HasSpelling, IsSpelled, StateIs, group_of}
+use Rattle.receive_state.specs.Layout.{HasEncoding, IsEncoded, StateIs, group_of}
 use Rattle.receive_state.specs.Reading.{state_of}
 use Rattle.receive_state.specs.declared.fault.StateFault.{StateFault}
 use Rattle.receive_state.specs.declared.state.GroupState.{GroupState}
 use Rattle.receive_state.specs.declared.state.ReceiveState.{ReceiveState}
-use Rattle.assistant_machine.specs.Calls.{Call, told, read, mtu_of}
+use Rattle.assistant_machine.specs.Calls.{Call, notified, read, mtu_of}
 use Rattle.assistant_machine.specs.Views.{if_slot, reading_of, told_of, view_of}
 use Rattle.assistant_machine.specs.Cuts.{asks}
 use Rattle.scenario_sink.specs.State.Links.{AreHeard}
@@ -25,8 +25,8 @@ metadata_fit : (groups : List GroupState) → AllByRecursion Fits (map group_of 
 metadata_fit [] are = are
 metadata_fit (group ∷ groups) are = (let h : length group.metadata < 256 = are.0.metadata in omega (arith, h), metadata_fit groups are.1)
 
-spelled_fits : (state : ReceiveState) (octets : List ℕ) → IsSpelled state octets → HasSpelling state
-spelled_fits state octets is = record {
+encoded_fits : (state : ReceiveState) (octets : List ℕ) → IsEncoded state octets → HasEncoding state
+encoded_fits state octets is = record {
   few = subst (λ n. n ≤ 255) (count_same state.groups) is.widths.few;
   metadata = metadata_fit state.groups is.widths.groups;
   values = is.values;
@@ -37,19 +37,19 @@ of_result (Ok (Some other)) state is = let same : other ≡ state = cc in ap (λ
 of_result (Ok None) state is = absurd cc
 of_result (Err fault) state is = absurd cc
 
-read_fits : ReadsStates → (octets : List ℕ) (state : ReceiveState) → IsOctets octets → reading_of octets ≡ Some (Some state) → HasSpelling state
-read_fits reads octets state are is = spelled_fits state octets ((reads (Some state) octets are).0 (of_result (state_of octets) state is))
+read_fits : ReadsStates → (octets : List ℕ) (state : ReceiveState) → IsOctets octets → reading_of octets ≡ Some (Some state) → HasEncoding state
+read_fits reads octets state are is = encoded_fits state octets ((reads (Some state) octets are).0 (of_result (state_of octets) state is))
 
 -- a value that was given, or else the one before
-given : (b : Bool) (reading : Option (Option ReceiveState)) (old : Option ReceiveState) (state : ReceiveState) → (reading ≡ Some (Some state) → HasSpelling state)
-    → (old ≡ Some state → HasSpelling state) → unwrap_or (if_slot b reading) old ≡ Some state → HasSpelling state
+given : (b : Bool) (reading : Option (Option ReceiveState)) (old : Option ReceiveState) (state : ReceiveState) → (reading ≡ Some (Some state) → HasEncoding state)
+    → (old ≡ Some state → HasEncoding state) → unwrap_or (if_slot b reading) old ≡ Some state → HasEncoding state
 given true (Some other) old state here before is = here (ap Some is)
 given true None old state here before is = before is
 given false reading old state here before is = before is
 
-pub views_fit : ReadsStates → (slot : ℕ) (taken : List Call) (state : ReceiveState) → AreHeard taken → view_of slot taken ≡ Some state → HasSpelling state
+pub views_fit : ReadsStates → (slot : ℕ) (taken : List Call) (state : ReceiveState) → AreHeard taken → view_of slot taken ≡ Some state → HasEncoding state
 views_fit reads slot [] state are is = absurd cc
-views_fit reads slot (told at octets ∷ earlier) state are is =
+views_fit reads slot (notified at octets ∷ earlier) state are is =
     given ((at == slot) && not (asks (mtu_of earlier) octets)) (reading_of octets) (view_of slot earlier) state (read_fits reads octets state are.0)
     (views_fit reads slot earlier state are.1) is
 views_fit reads slot (read at octets ∷ earlier) state are is =

@@ -11,7 +11,7 @@ mod Heard
 mod Joins
 mod Leaving
 mod Lent
-mod Lives
+mod Histories
 mod Others
 mod Places
 mod Printing

@@ -9,10 +9,10 @@ within n [] x is = absurd (let none : None ≡ Some x = ap (λ ys. slice_get ys 
 within zero (y ∷ xs) x is = omega arith
 within (suc n) (y ∷ xs) x is = let more = within n xs x is in omega (arith, more)
 
-past : {A : Type 0} (n : ℕ) (xs : List A) → slice_get (drop n xs) 0 ≡ None → length xs ≤ n
-past n [] is = omega arith
-past zero (y ∷ xs) is = absurd cc
-past (suc n) (y ∷ xs) is = let more = past n xs is in omega (arith, more)
+history : {A : Type 0} (n : ℕ) (xs : List A) → slice_get (drop n xs) 0 ≡ None → length xs ≤ n
+history n [] is = omega arith
+history zero (y ∷ xs) is = absurd cc
+history (suc n) (y ∷ xs) is = let more = history n xs is in omega (arith, more)
 
 -- one more was there, after this many
 pub one_more : {A : Type 0} (call : Call) (waiting : List Call → List A) → ((calls : List Call) → waiting (call ∷ calls) ≡ drop 1 (waiting calls))
@@ -23,5 +23,5 @@ one_more call waiting each n calls x is = within n (waiting calls) x (ap (λ ys.
 pub no_more : {A : Type 0} (call : Call) (waiting : List Call → List A) → ((calls : List Call) → waiting (call ∷ calls) ≡ drop 1 (waiting calls))
     → (n : ℕ) (calls : List Call) → n ≤ length (waiting calls) → slice_get (waiting (repeated n call calls)) 0 ≡ None → n ≡ length (waiting calls)
 no_more call waiting each n calls least is =
-    let most : length (waiting calls) ≤ n = past n (waiting calls) (ap (λ ys. slice_get ys 0) (sym (taken_one_by_one call waiting each n calls)) ∙ is) in
+    let most : length (waiting calls) ≤ n = history n (waiting calls) (ap (λ ys. slice_get ys 0) (sym (taken_one_by_one call waiting each n calls)) ∙ is) in
     omega (arith, least, most)

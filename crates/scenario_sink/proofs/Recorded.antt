@@ -10,4 +10,4 @@ pub has_room : (count : ℕ) → count ≤ greatest_value → refuse_if (nat_lt 
 has_room count fits = ap (λ b. refuse_if b RecordsTooLong) (le-ltb greatest_value count fits)
 
 pub no_room : (count : ℕ) → greatest_value < count → refuse_if (nat_lt greatest_value count) RecordsTooLong ≡ Some RecordsTooLong
-no_room count past = ap (λ b. refuse_if b RecordsTooLong) (lt-ltb greatest_value count past)
+no_room count history = ap (λ b. refuse_if b RecordsTooLong) (lt-ltb greatest_value count history)

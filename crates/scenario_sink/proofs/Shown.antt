@@ -9,26 +9,26 @@ use Rattle.sink_history.specs.Calls.{Call}
 use Rattle.sink_history.specs.Output.{state_where, stated, viewed}
 use Rattle.transcript_text.specs.SinkLines.{value_line}
 use Rattle.scenario_sink.specs.Making.{slot_lines}
-use Rattle.scenario_sink.specs.Pasts.{SinkPast}
+use Rattle.scenario_sink.specs.SinkHistory.{SinkHistory}
 use Rattle.scenario_sink.proofs.Printing.{two_put}
 
 abbrev pub with_value : ℕ → List ℕ → Notice
 with_value slot octets = record { slot = slot; value = octets }
 
-pub slot_shown : (past : SinkPast) (sink slot : ℕ) (one other : List ℕ) (text mid told : List ℕ) → one ≡ (stated past.made past.life slot).value
-    → other ≡ (viewed past.made 0 past.life slot).value → mid ≡ text ++ value_line (codes "state") (decimal sink ∷ []) (with_value slot one)
-    → told ≡ mid ++ value_line (codes "view") (decimal sink ∷ []) (with_value slot other) → told ≡ text ++ concat (slot_lines sink past slot)
-slot_shown past sink slot one other text mid told first second put more =
+pub slot_shown : (history : SinkHistory) (sink slot : ℕ) (one other : List ℕ) (text mid told : List ℕ) → one ≡ (stated history.made history.calls_made slot).value
+    → other ≡ (viewed history.made 0 history.calls_made slot).value → mid ≡ text ++ value_line (codes "state") (decimal sink ∷ []) (with_value slot one)
+    → told ≡ mid ++ value_line (codes "view") (decimal sink ∷ []) (with_value slot other) → told ≡ text ++ concat (slot_lines sink history slot)
+slot_shown history sink slot one other text mid told first second put more =
     two_put text mid told (value_line (codes "state") (decimal sink ∷ []) (with_value slot one)) (value_line (codes "view") (decimal sink ∷ []) (with_value slot other)) put more
     ∙ (λ i. text ++ concat (value_line (codes "state") (decimal sink ∷ []) (with_value slot (first i))
     ∷ value_line (codes "view") (decimal sink ∷ []) (with_value slot (second i)) ∷ []))
 
 -- ---- the state of a slot that the sink has or hasn't
 
-pub there : (made : Settings) (life : List Call) (slot : ℕ) (octets : List ℕ) → slot < made.setup.slots → octets ≡ (stated made life slot).value
-    → Some octets ≡ state_where (Some made) life slot
-there made life slot octets below is =
-    ap Some is ∙ sym (cond-true (ltb slot made.setup.slots) (Some (stated made life slot).value) None (lt-ltb slot made.setup.slots below))
+pub there : (made : Settings) (calls_made : List Call) (slot : ℕ) (octets : List ℕ) → slot < made.setup.slots → octets ≡ (stated made calls_made slot).value
+    → Some octets ≡ state_where (Some made) calls_made slot
+there made calls_made slot octets below is =
+    ap Some is ∙ sym (cond-true (ltb slot made.setup.slots) (Some (stated made calls_made slot).value) None (lt-ltb slot made.setup.slots below))
 
-pub not_there : (made : Settings) (life : List Call) (slot : ℕ) → made.setup.slots ≤ slot → None ≡ state_where (Some made) life slot
-not_there made life slot above = sym (cond-false (ltb slot made.setup.slots) (Some (stated made life slot).value) None (le-ltb slot made.setup.slots above))
+pub not_there : (made : Settings) (calls_made : List Call) (slot : ℕ) → made.setup.slots ≤ slot → None ≡ state_where (Some made) calls_made slot
+not_there made calls_made slot above = sym (cond-false (ltb slot made.setup.slots) (Some (stated made calls_made slot).value) None (le-ltb slot made.setup.slots above))

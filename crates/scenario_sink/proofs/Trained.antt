@@ -4,15 +4,15 @@ use Rattle.std.specs.Prelude.{if◌then◌else◌}
 use Rattle.delegator_history.specs.Announced.{heard_as}
 use Rattle.announcement_train.specs.declared.train.Train.{Train as Announced}
 use Rattle.delegator_history.specs.States.{train_heard}
-use Rattle.delegator_history.specs.Trains.{Brought, Train, brought_by, joining_in}
+use Rattle.delegator_history.specs.Trains.{TrainOutcome, Train, outcome_by, big_sync_in}
 use Rattle.delegator_machine.specs.Groups.{with_step}
 use Rattle.sink_history.specs.Calls.{Call, stepped}
-use Rattle.sink_history.specs.Lives.{Source, given_train, own_train}
+use Rattle.sink_history.specs.History.{Source, given_train, own_train}
 use Rattle.sink_history.specs.Moves.{follows}
-use Rattle.sink_history.specs.Output.{sight_in}
+use Rattle.sink_history.specs.Output.{snapshot_in}
 use Rattle.scenario_sink.specs.declared.origin.Origin.{Origin}
 use Rattle.scenario_sink.specs.Origins.{IsFrom}
-use Rattle.scenario_sink.specs.Pasts.{SinkPast}
+use Rattle.scenario_sink.specs.SinkHistory.{SinkHistory}
 
 abbrev train_of : ℕ → ℕ → (ext adv acad : List ℕ) → ℕ → Train
 train_of address_type sid ext adv acad now = record { address_type = address_type; sid = sid; ext = ext; adv = adv; acad = acad; now = now }
@@ -31,13 +31,13 @@ announced_train source train ext adv acad is exts advs acads =
     (λ i. train_of source.address_type source.sid (exts i) (advs i) (acads i) train.time) ∙ ap (heard_as source.address_type source.sid) (sym is)
 
 -- what it makes of the past of a sink
-abbrev pub after_train : Source → Train → SinkPast → SinkPast
-after_train source train past =
-    let brought : Brought = brought_by past.made.setup (sight_in past.made past.life) train in
-    let life : List Call = stepped (train_heard train) ∷ past.life in
+abbrev pub after_train : Source → Train → SinkHistory → SinkHistory
+after_train source train history =
+    let outcome : TrainOutcome = outcome_by history.made.setup (snapshot_in history.made history.calls_made) train in
+    let calls_made : List Call = stepped (train_heard train) ∷ history.calls_made in
     record {
-      made = past.made;
-      source = if follows brought then Some source.number else past.source;
-      life = life;
-      received = with_step (joining_in brought) (sight_in past.made past.life) (sight_in past.made life) past.received;
+      made = history.made;
+      source = if follows outcome then Some source.number else history.source;
+      calls_made = calls_made;
+      received = with_step (big_sync_in outcome) (snapshot_in history.made history.calls_made) (snapshot_in history.made calls_made) history.received;
     }

@@ -6,9 +6,9 @@ use Rattle.std.specs.Option.{option_or}
 use Rattle.sink_history.specs.Calls.{Call, is_joined}
 use Rattle.sink_history.specs.Output.{Lines, if_there}
 use Rattle.sink_history.specs.Refusals.{refuse_if}
-use Rattle.scenario_sink.specs.declared.sink.LivingSink.{LivingSink}
+use Rattle.scenario_sink.specs.declared.sink.LinkedSink.{LinkedSink}
 use Rattle.scenario_sink.specs.Making.{Goes, LinkMakes, Makes, Stays, Turns, answer_if, stayed}
-use Rattle.scenario_sink.specs.Pasts.{SinkPast}
+use Rattle.scenario_sink.specs.SinkHistory.{SinkHistory}
 use Rattle.scenario_sink.proofs.Printing.{one_put}
 use Rattle.transcript_text.specs.declared.refusal.Refusal.{Refusal}
 use Rattle.transcript_text.specs.declared.refusal.Refusal.TheVariants.{NoSuchLink, NothingWaiting}
@@ -29,12 +29,12 @@ none_there f None is = refl
 
 -- ---- whether one was taken
 
-pub one_taken : {A : Type 0} (first : Option A) (next same : List ℕ → LivingSink → Type 0) (told : List ℕ) (new : LivingSink) (some : Bool) → some ≡ true
+pub one_taken : {A : Type 0} (first : Option A) (next same : List ℕ → LinkedSink → Type 0) (told : List ℕ) (new : LinkedSink) (some : Bool) → some ≡ true
     → Turns first next same told new (Ok some) → (is_none first ≡ false) × next told new
 one_taken first next same told new true is turn = turn
 one_taken first next same told new false is turn = absurd cc
 
-pub none_taken : {A : Type 0} (first : Option A) (next same : List ℕ → LivingSink → Type 0) (told : List ℕ) (new : LivingSink) (some : Bool) → some ≡ false
+pub none_taken : {A : Type 0} (first : Option A) (next same : List ℕ → LinkedSink → Type 0) (told : List ℕ) (new : LinkedSink) (some : Bool) → some ≡ false
     → Turns first next same told new (Ok some) → (is_none first ≡ true) × same told new
 none_taken first next same told new true is turn = absurd cc
 none_taken first next same told new false is turn = turn
@@ -63,21 +63,21 @@ some_wait joined none on waits = λ i. link_refusal (on i) (idle_refusal (waits 
 -- ---- a line that takes the first that waits
 
 -- it prints what that gives, or it is refused since none waits
-pub turned : {A : Type 0} (link : ℕ) (past : SinkPast) (life : List Call) (first : Option A) (lines : Lines) (text told : List ℕ) (new : LivingSink)
-    (waited : Bool) (result : Result (Unit {0}) Stop) → is_joined link past.life ≡ true → result ≡ answer_if waited
-    → Turns first (Goes past life lines text) (Stays past text) told new (Ok waited)
-    → LinkMakes link (idle_refusal (is_none first)) (Unit {0}) lines life past text told new result
-turned link past life first lines text told new true result joined is turn =
-    subst (λ (r : Result (Unit {0}) Stop). LinkMakes link (idle_refusal (is_none first)) (Unit {0}) lines life past text told new r) (sym is)
-    (past_link (is_joined link past.life) (idle_refusal (is_none first)) joined ∙ ap idle_refusal turn.0, turn.1.0, turn.1.1)
-turned link past life first lines text told new false result joined is turn =
-    subst (λ (r : Result (Unit {0}) Stop). LinkMakes link (idle_refusal (is_none first)) (Unit {0}) lines life past text told new r) (sym is)
-    (past_link (is_joined link past.life) (idle_refusal (is_none first)) joined ∙ ap idle_refusal turn.0, turn.1.0, turn.1.1)
+pub turned : {A : Type 0} (link : ℕ) (history : SinkHistory) (calls_made : List Call) (first : Option A) (lines : Lines) (text told : List ℕ) (new : LinkedSink)
+    (waited : Bool) (result : Result (Unit {0}) Stop) → is_joined link history.calls_made ≡ true → result ≡ answer_if waited
+    → Turns first (Goes history calls_made lines text) (Stays history text) told new (Ok waited)
+    → LinkMakes link (idle_refusal (is_none first)) (Unit {0}) lines calls_made history text told new result
+turned link history calls_made first lines text told new true result joined is turn =
+    subst (λ (r : Result (Unit {0}) Stop). LinkMakes link (idle_refusal (is_none first)) (Unit {0}) lines calls_made history text told new r) (sym is)
+    (past_link (is_joined link history.calls_made) (idle_refusal (is_none first)) joined ∙ ap idle_refusal turn.0, turn.1.0, turn.1.1)
+turned link history calls_made first lines text told new false result joined is turn =
+    subst (λ (r : Result (Unit {0}) Stop). LinkMakes link (idle_refusal (is_none first)) (Unit {0}) lines calls_made history text told new r) (sym is)
+    (past_link (is_joined link history.calls_made) (idle_refusal (is_none first)) joined ∙ ap idle_refusal turn.0, turn.1.0, turn.1.1)
 
 -- ---- a link that is joined refuses nothing
 
-pub joined_makes : (link : ℕ) (other : Option Refusal) (takes : Type 0) (lines : Lines) (life : List Call) (past : SinkPast) (text told : List ℕ) (new : LivingSink)
-    (result : Result (Unit {0}) Stop) → is_joined link past.life ≡ true → LinkMakes link other takes lines life past text told new result
-    → Makes other takes lines past (stayed life past) text told new result
-joined_makes link other takes lines life past text told new result on makes =
-    subst (λ refusal. Makes refusal takes lines past (stayed life past) text told new result) (past_link (is_joined link past.life) other on) makes
+pub joined_makes : (link : ℕ) (other : Option Refusal) (takes : Type 0) (lines : Lines) (calls_made : List Call) (history : SinkHistory) (text told : List ℕ) (new : LinkedSink)
+    (result : Result (Unit {0}) Stop) → is_joined link history.calls_made ≡ true → LinkMakes link other takes lines calls_made history text told new result
+    → Makes other takes lines history (stayed calls_made history) text told new result
+joined_makes link other takes lines calls_made history text told new result on makes =
+    subst (λ refusal. Makes refusal takes lines history (stayed calls_made history) text told new result) (past_link (is_joined link history.calls_made) other on) makes

@@ -1,6 +1,6 @@
 pub mod Answers
 pub mod Making
 pub mod Origins
-pub mod Pasts
+pub mod SinkHistory
 pub mod SinkLines
 pub mod State

@@ -1,6 +1,6 @@
 -- The source that a line means, as a sink meets it (Basic Audio Profile 1.0, section 3.7.2).
 use Rattle.std.specs.Prelude.{◌≡◌}
-use Rattle.sink_history.specs.Lives.{Source}
+use Rattle.sink_history.specs.History.{Source}
 use Rattle.scenario_sink.specs.declared.origin.Origin.{Origin}
 
 -- it has this number, this address type and this SID

@@ -15,4 +15,4 @@ mod trains;
 mod writes;
 
 pub use origin::Origin;
-pub use sink::LivingSink;
+pub use sink::LinkedSink;

@@ -1,28 +1,28 @@
 //! The lines of a sink's control and of its links.
 ghost use Rattle.scenario_text.specs.Ranges.{IsInRange};
-ghost use Rattle.sink_history.specs.Lives.{Source};
+ghost use Rattle.sink_history.specs.History.{Source};
 ghost use Rattle.scenario_sink.specs.Making.{LineMakes};
 ghost use Rattle.scenario_sink.specs.Origins.{IsFrom};
-ghost use Rattle.scenario_sink.specs.Pasts.{SinkPast};
+ghost use Rattle.scenario_sink.specs.SinkHistory.{SinkHistory};
 ghost use Rattle.scenario_sink.specs.SinkLines.{IsSinkLine};
-ghost use Rattle.scenario_sink.specs.State.Stands.{Lives};
+ghost use Rattle.scenario_sink.specs.State.Stands.{IsSink};
 
 use crate::origin::Origin;
-use crate::sink::LivingSink;
+use crate::sink::LinkedSink;
 use bass_operations::Operation;
 use bcast_base::Octets;
 use scenario_text::Step;
 use transcript_text::{Label, Stop};
 
-impl LivingSink {
+impl LinkedSink {
     /// Runs a line that names the sink, and puts what it prints at the end of the text. It is refused by the first reason that
     /// holds: NoSuchLink, LinkTwice, NothingWaiting, RecordsTooLong. A refused line changes nothing, and wants no memory; nor
     /// do `locate`, `context` and `apart`, and a drain of a link on which nothing waits.
     pub fn line(&mut self, step: Step, origin: Origin, text: &mut Octets) -> Result<(), Stop>
         requires range { IsInRange step }
         requires line { IsSinkLine step }
-        ensures { (source : Source) (past : SinkPast) → IsFrom origin source → Lives past self.old
-            → LineMakes source step past text.old text.new self.new result }
+        ensures { (source : Source) (history : SinkHistory) → IsFrom origin source → IsSink history self.old
+            → LineMakes source step history text.old text.new self.new result }
     {
         match step {
             Step::Pac {

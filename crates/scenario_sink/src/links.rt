@@ -1,22 +1,22 @@
 //! Who is on the links of a sink.
 ghost use Rattle.std.specs.Prelude.{ℕ, ◌≤◌};
 ghost use Rattle.scenario_text.specs.declared.step.Step.TheVariants.{Apart, Assist};
-ghost use Rattle.sink_history.specs.Lives.{Source};
+ghost use Rattle.sink_history.specs.History.{Source};
 ghost use Rattle.scenario_sink.specs.Making.{Does};
-ghost use Rattle.scenario_sink.specs.Pasts.{SinkPast};
-ghost use Rattle.scenario_sink.specs.State.Stands.{Lives};
+ghost use Rattle.scenario_sink.specs.SinkHistory.{SinkHistory};
+ghost use Rattle.scenario_sink.specs.State.Stands.{IsSink};
 
-use crate::sink::LivingSink;
+use crate::sink::LinkedSink;
 use multi_assist::LinkFault;
 use sink_history::links_law;
 use transcript_text::{Refusal, Stop};
 
-impl LivingSink {
+impl LinkedSink {
     /// `assist`: an assistant joins a link.
     pub(crate) fn assist(&mut self, link: u8) -> Result<(), Stop>
         requires { link ≤ 3 }
-        ensures { (source : Source) (sink : ℕ) (past : SinkPast) → Lives past self.old
-            → Does source (Assist sink link) past self.new result }
+        ensures { (source : Source) (sink : ℕ) (history : SinkHistory) → IsSink history self.old
+            → Does source (Assist sink link) history self.new result }
     {
         links_law();
         match self.links.assist(link) {
@@ -30,8 +30,8 @@ impl LivingSink {
     pub(crate) fn apart(&mut self, link: u8) -> Result<(), Stop>
         requires least { 1 ≤ link }
         requires most { link ≤ 3 }
-        ensures { (source : Source) (sink : ℕ) (past : SinkPast) → Lives past self.old
-            → Does source (Apart sink link) past self.new result }
+        ensures { (source : Source) (sink : ℕ) (history : SinkHistory) → IsSink history self.old
+            → Does source (Apart sink link) history self.new result }
     {
         links_law();
         if !self.links.is_joined(link) {

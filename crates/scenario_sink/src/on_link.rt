@@ -8,7 +8,7 @@ ghost use Rattle.assistant_machine.specs.State.Assistants.{Assistant, IsLowest, 
 ghost use Rattle.assistant_machine.specs.declared.fault.NoticeFault.TheVariants.{Memory as NoMemory};
 ghost use Rattle.multi_assist.specs.State.Links.{link_at, mtu_of, slots_of, with_assistant_on};
 ghost use Rattle.delegator_history.specs.Values.{value};
-ghost use Rattle.receive_state.specs.Layout.{HasSpelling};
+ghost use Rattle.receive_state.specs.Layout.{HasEncoding};
 ghost use Rattle.receive_state.specs.declared.state.ReceiveState.{ReceiveState};
 ghost use Rattle.multi_assist.specs.State.Places.{assistant_in};
 ghost use Rattle.scenario_sink.specs.State.Taking.{Takes};
@@ -53,7 +53,7 @@ pub(crate) fn take_notice(
     ensures cause { (before : Assistant) → assistant_in (link_at links.old link) ≡ Some before
         → IfErr result (λ fault. IsCause fault (answer_of (length before.views) before.mtu slot value.now)) }
     ensures takes { (before : Assistant) → assistant_in (link_at links.old link) ≡ Some before
-        → result ≢ Err NoMemory → Takes (assistants.told slot value.now ∷ []) link before links.old links.new }
+        → result ≢ Err NoMemory → Takes (assistants.notified slot value.now ∷ []) link before links.old links.new }
 {
     match links.assistant(link) {
         Some(assistant) => assistant.notice(slot, value),
@@ -64,7 +64,7 @@ pub(crate) fn take_notice(
 /// The same, whatever the assistant makes of it.
 pub(crate) fn deliver(links: &mut Links, link: u8, slot: u8, value: &[u8]) -> Result<(), Memory>
     ensures takes { (before : Assistant) → assistant_in (link_at links.old link) ≡ Some before
-        → OnOk result (Takes (assistants.told slot value.now ∷ []) link before links.old links.new) }
+        → OnOk result (Takes (assistants.notified slot value.now ∷ []) link before links.old links.new) }
 {
     match take_notice(links, link, slot, value) {
         Ok(_) => Ok(()),
@@ -122,7 +122,7 @@ pub(crate) fn view_on(
     slot: u8,
 ) -> Result<Octets, Memory>
     ensures answer { (before : Assistant) → assistant_in (link_at links.old link) ≡ Some before
-        → ((state : ReceiveState) → slice_index_or before.views slot None ≡ Some state → HasSpelling state)
+        → ((state : ReceiveState) → slice_index_or before.views slot None ≡ Some state → HasEncoding state)
         → IfOk result (λ octets. octets ≡ value (slice_index_or before.views slot None)) }
     ensures same { (other : ℕ) → link_at links.new other ≡ link_at links.old other }
     ensures terms { (slots_of links.new ≡ slots_of links.old) × (mtu_of links.new ≡ mtu_of links.old) }
@@ -135,7 +135,7 @@ pub(crate) fn view_on(
 
 /// The octets of a state that has any, or none where there is no source.
 fn octets_of(alloc: Global, view: Option<&ReceiveState>) -> Result<Octets, Memory>
-    ensures value { ((state : ReceiveState) → option_copied view.entry ≡ Some state → HasSpelling state)
+    ensures value { ((state : ReceiveState) → option_copied view.entry ≡ Some state → HasEncoding state)
         → IfOk result (λ octets. octets ≡ value (option_copied view.entry)) }
 {
     let Some(state) = view else {

@@ -8,17 +8,17 @@ ghost use Rattle.sink_history.specs.Output.{read_line, serve_line, tell_line};
 ghost use Rattle.sink_history.specs.Refusals.{no_notice, no_read, no_write};
 ghost use Rattle.transcript_text.specs.Labels.{label_of};
 ghost use Rattle.scenario_sink.specs.Making.{Goes, LinkMakes, Stays, Turns, answer_if};
-ghost use Rattle.scenario_sink.specs.Pasts.{SinkPast};
-ghost use Rattle.scenario_sink.specs.State.Stands.{Lives};
+ghost use Rattle.scenario_sink.specs.SinkHistory.{SinkHistory};
+ghost use Rattle.scenario_sink.specs.State.Stands.{IsSink};
 
 use crate::on_link::{deliver, next_read, take_value, take_write};
-use crate::sink::LivingSink;
+use crate::sink::LinkedSink;
 use bcast_base::{Memory, Octets};
 use delegator_history::Notice;
-use sink_history::{a_read_gives_the_state, a_step_tells_each_link, links_law};
+use sink_history::{a_read_gives_the_state, a_step_notifies_each_link, links_law};
 use transcript_text::{Label, Refusal, Stop, put_notice, put_read, put_reply};
 
-impl LivingSink {
+impl LinkedSink {
     /// Serves the first write that waits on a joined link, and puts its reply behind the text (Broadcast Audio Scan Service 1.0,
     /// section 3.1.1). It answers whether one waited.
     pub(crate) fn serve_next(
@@ -27,12 +27,12 @@ impl LivingSink {
         label: Label,
         text: &mut Octets,
     ) -> Result<bool, Memory>
-        ensures { (past : SinkPast) → Lives past self.old → is_joined link past.life ≡ true
-            → Turns (slice_get (writes_waiting link past.life) 0)
-            (Goes past (calls.served link ∷ past.life) (serve_line (label_of label) past.made link past.life) text.old)
-            (Stays past text.old) text.new self.new result }
+        ensures { (history : SinkHistory) → IsSink history self.old → is_joined link history.calls_made ≡ true
+            → Turns (slice_get (writes_waiting link history.calls_made) 0)
+            (Goes history (calls.served link ∷ history.calls_made) (serve_line (label_of label) history.made link history.calls_made) text.old)
+            (Stays history text.old) text.new self.new result }
     {
-        a_step_tells_each_link();
+        a_step_notifies_each_link();
         let Some(write) = take_write(&mut self.links, link) else {
             return Ok(false);
         };
@@ -50,10 +50,10 @@ impl LivingSink {
         label: Label,
         text: &mut Octets,
     ) -> Result<bool, Memory>
-        ensures { (past : SinkPast) → Lives past self.old → is_joined link past.life ≡ true
-            → Turns (slice_get (notices_waiting past.made.setup past.made.mtu link past.life) 0)
-            (Goes past (calls.told link ∷ past.life) (tell_line (label_of label) past.made link past.life) text.old)
-            (Stays past text.old) text.new self.new result }
+        ensures { (history : SinkHistory) → IsSink history self.old → is_joined link history.calls_made ≡ true
+            → Turns (slice_get (notices_waiting history.made.setup history.made.mtu link history.calls_made) 0)
+            (Goes history (calls.notified link ∷ history.calls_made) (tell_line (label_of label) history.made link history.calls_made) text.old)
+            (Stays history text.old) text.new self.new result }
     {
         links_law();
         let Some(notice) = self.links.next_notice(link) else {
@@ -72,10 +72,10 @@ impl LivingSink {
         label: Label,
         text: &mut Octets,
     ) -> Result<bool, Memory>
-        ensures { (past : SinkPast) → Lives past self.old → is_joined link past.life ≡ true
-            → Turns (slice_get (reads_waiting past.made.setup past.made.mtu link past.life) 0)
-            (Goes past (calls.read link ∷ past.life) (read_line (label_of label) past.made link past.life) text.old)
-            (Stays past text.old) text.new self.new result }
+        ensures { (history : SinkHistory) → IsSink history self.old → is_joined link history.calls_made ≡ true
+            → Turns (slice_get (reads_waiting history.made.setup history.made.mtu link history.calls_made) 0)
+            (Goes history (calls.read link ∷ history.calls_made) (read_line (label_of label) history.made link history.calls_made) text.old)
+            (Stays history text.old) text.new self.new result }
     {
         links_law();
         a_read_gives_the_state();
@@ -93,9 +93,9 @@ impl LivingSink {
 
     /// `serve` and `aserve`: serves the first write that waits on a link.
     pub(crate) fn serve(&mut self, link: u8, label: Label, text: &mut Octets) -> Result<(), Stop>
-        ensures { (past : SinkPast) → Lives past self.old
-            → LinkMakes link (option_or (no_write link past.life) None) (Unit {0}) (serve_line (label_of label) past.made link past.life)
-            (calls.served link ∷ past.life) past text.old text.new self.new result }
+        ensures { (history : SinkHistory) → IsSink history self.old
+            → LinkMakes link (option_or (no_write link history.calls_made) None) (Unit {0}) (serve_line (label_of label) history.made link history.calls_made)
+            (calls.served link ∷ history.calls_made) history text.old text.new self.new result }
     {
         if !self.links.is_joined(link) {
             return Err(Stop::Refused(Refusal::NoSuchLink));
@@ -106,9 +106,9 @@ impl LivingSink {
 
     /// `tell` and `atell`: delivers the first notice that waits on a link.
     pub(crate) fn tell(&mut self, link: u8, label: Label, text: &mut Octets) -> Result<(), Stop>
-        ensures { (past : SinkPast) → Lives past self.old
-            → LinkMakes link (option_or (no_notice past.made link past.life) None) (Unit {0})
-            (tell_line (label_of label) past.made link past.life) (calls.told link ∷ past.life) past text.old text.new self.new result }
+        ensures { (history : SinkHistory) → IsSink history self.old
+            → LinkMakes link (option_or (no_notice history.made link history.calls_made) None) (Unit {0})
+            (tell_line (label_of label) history.made link history.calls_made) (calls.notified link ∷ history.calls_made) history text.old text.new self.new result }
     {
         if !self.links.is_joined(link) {
             return Err(Stop::Refused(Refusal::NoSuchLink));
@@ -119,9 +119,9 @@ impl LivingSink {
 
     /// `read` and `aread`: serves the read that waits on a link of the lowest slot.
     pub(crate) fn read(&mut self, link: u8, label: Label, text: &mut Octets) -> Result<(), Stop>
-        ensures { (past : SinkPast) → Lives past self.old
-            → LinkMakes link (option_or (no_read past.made link past.life) None) (Unit {0})
-            (read_line (label_of label) past.made link past.life) (calls.read link ∷ past.life) past text.old text.new self.new result }
+        ensures { (history : SinkHistory) → IsSink history self.old
+            → LinkMakes link (option_or (no_read history.made link history.calls_made) None) (Unit {0})
+            (read_line (label_of label) history.made link history.calls_made) (calls.read link ∷ history.calls_made) history text.old text.new self.new result }
     {
         if !self.links.is_joined(link) {
             return Err(Stop::Refused(Refusal::NoSuchLink));

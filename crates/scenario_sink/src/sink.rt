@@ -12,18 +12,18 @@ use big_info::Limits;
 use delegator_machine::Delegator;
 use isoal_base::Hearing;
 use multi_assist::Links;
-use sink_history::a_step_tells_each_link;
+use sink_history::a_step_notifies_each_link;
 use std::alloc::Global;
-use sync_reference::Joining;
+use sync_reference::BigSync;
 use unit_outlets::{TakerFault, UnitTaker};
 
 /// A sink of a scenario: a Scan Delegator with the assistants on its four links, numbered from 0, and the source that it is of:
-/// the one of the last line that put it on a train or on a group (Basic Audio Profile 1.0, section 6.5; Broadcast Audio Scan
+/// the one of the last line that synchronized it to a train or a BIG (Basic Audio Profile 1.0, section 6.5; Broadcast Audio Scan
 /// Service 1.0, section 3). Between two calls every notice of the delegator waits on the links. Link 0 is always joined.
 ///
 /// After want of memory nothing is said of it: it may be dropped, and the scenario in which it is ends.
 #[derive(Drop)]
-pub struct LivingSink {
+pub struct LinkedSink {
     pub(crate) alloc: Global,
     pub(crate) delegator: Delegator,
     pub(crate) links: Links,
@@ -33,10 +33,10 @@ pub struct LivingSink {
     ghost few: { slots ≤ 8 },
 }
 
-impl LivingSink {
+impl LinkedSink {
     ghost use Rattle.sink_history.specs.Calls.{Call};
-    ghost use Rattle.scenario_sink.specs.Pasts.{SinkPast, after_tuning, new_sink, receiving};
-    ghost use Rattle.scenario_sink.specs.State.Stands.{HasStepped, Lives, Stands, after_call};
+    ghost use Rattle.scenario_sink.specs.SinkHistory.{SinkHistory, after_tuning, new_sink, receiving};
+    ghost use Rattle.scenario_sink.specs.State.Stands.{HasStepped, IsSink, Stands, after_call};
 
     /// A sink that takes so many streams at once, 1 to 31, with so many slots, 1 to 8, that are empty, on groups that send a
     /// payload at most so many events ahead, up to 31, and this MTU on every link, 23 to 517, where it has one. It is idle and of
@@ -47,14 +47,14 @@ impl LivingSink {
         slots: u8,
         horizon: u8,
         mtu: Option<u16>,
-    ) -> Result<LivingSink, Memory>
+    ) -> Result<LinkedSink, Memory>
         requires least_streams { 1 ≤ streams }
         requires most_streams { streams ≤ 31 }
         requires least_slots { 1 ≤ slots }
         requires few { slots ≤ 8 }
         requires horizon { horizon ≤ 31 }
         requires mtu { IsMtu mtu }
-        ensures { IfOk result (Lives (new_sink (record {
+        ensures { IfOk result (IsSink (new_sink (record {
           setup = record { streams = streams; slots = slots; horizon = horizon };
           mtu = mtu;
         }))) }
@@ -63,10 +63,10 @@ impl LivingSink {
             horizon,
             ahead: Limits::VERSION_1.ahead,
         };
-        a_step_tells_each_link();
+        a_step_notifies_each_link();
         let delegator = delegator_with(alloc, streams, slots, limits, mtu)?;
         let links = Links::new(alloc, slots, mtu)?;
-        Ok(LivingSink {
+        Ok(LinkedSink {
             alloc,
             delegator,
             links,
@@ -77,16 +77,16 @@ impl LivingSink {
 
     /// The source that it is of.
     pub fn source(&self) -> Option<u8>
-        ensures { (past : SinkPast) → Lives past self.now → result ≡ past.source }
+        ensures { (history : SinkHistory) → IsSink history self.now → result ≡ history.source }
     {
         self.source
     }
 
     /// Puts the sink on the group of a source, of no slot. It leaves what it was on.
-    pub fn tune(&mut self, source: u8, joining: &Joining) -> Result<(), Memory>
-        ensures { (past : SinkPast) → Lives past self.old → OnOk result (Lives (after_tuning source joining.now past) self.new) }
+    pub fn tune(&mut self, source: u8, big_sync: &BigSync) -> Result<(), Memory>
+        ensures { (history : SinkHistory) → IsSink history self.old → OnOk result (IsSink (after_tuning source big_sync.now history) self.new) }
     {
-        self.delegator.put_on(joining)?;
+        self.delegator.sync_to_group(big_sync)?;
         self.gather()?;
         self.source = Some(source);
         Ok(())
@@ -95,8 +95,8 @@ impl LivingSink {
     /// Hears a PDU in a subevent, from 0, of an event of a stream (Core 5.2, volume 6 part B, section 4.4.6). It takes no memory.
     pub fn hear(&mut self, event: u64, bis: Bis, subevent: u8, pdu: &[u8]) -> Hearing
         requires { event ≤ 2 ^ 39 }
-        ensures answer { (past : SinkPast) → Lives past self.old → result ≡ hearing_of past.received event bis subevent pdu.now }
-        ensures lives { (past : SinkPast) → Lives past self.old → Lives (receiving (sinks.hear event bis subevent pdu.now) past) self.new }
+        ensures answer { (history : SinkHistory) → IsSink history self.old → result ≡ hearing_of history.received event bis subevent pdu.now }
+        ensures lives { (history : SinkHistory) → IsSink history self.old → IsSink (receiving (sinks.hear event bis subevent pdu.now) history) self.new }
         ensures source { self.new.source ≡ self.old.source }
     {
         self.delegator.hear(event, bis, subevent, pdu)
@@ -105,7 +105,7 @@ impl LivingSink {
     /// What `hear` would answer. It changes nothing.
     pub fn would_answer(&self, event: u64, bis: Bis, subevent: u8, pdu: &[u8]) -> Hearing
         requires { event ≤ 2 ^ 39 }
-        ensures { (past : SinkPast) → Lives past self.now → result ≡ hearing_of past.received event bis subevent pdu.now }
+        ensures { (history : SinkHistory) → IsSink history self.now → result ≡ hearing_of history.received event bis subevent pdu.now }
     {
         self.delegator.would_answer(event, bis, subevent, pdu)
     }
@@ -115,9 +115,9 @@ impl LivingSink {
     /// stream. It takes no memory.
     pub fn tick<T: UnitTaker>(&mut self, event: u64, taker: &mut T) -> Result<(), TakerFault>
         requires { event < 2 ^ 39 }
-        ensures hands { (past : SinkPast) → Lives past self.old
-            → HandsOver (handed_at past.received event) (T.calls taker.old) (T.calls taker.new) result }
-        ensures lives { (past : SinkPast) → Lives past self.old → Lives (receiving (sinks.tick event) past) self.new }
+        ensures hands { (history : SinkHistory) → IsSink history self.old
+            → HandsOver (handed_at history.received event) (T.calls taker.old) (T.calls taker.new) result }
+        ensures lives { (history : SinkHistory) → IsSink history self.old → IsSink (receiving (sinks.tick event) history) self.new }
         ensures cause { Caused (T.counts taker.old) (T.counts taker.new) result }
         ensures source { self.new.source ≡ self.old.source }
     {
@@ -126,11 +126,11 @@ impl LivingSink {
 
     // Every notice that waits at the delegator, all of one step, goes to the links.
     pub(crate) fn gather(&mut self) -> Result<(), Memory>
-        ensures stands { (call : Call) (past : SinkPast) → HasStepped call past self.old.delegator self.old.links
-            → OnOk result (Stands (after_call call past) self.new.delegator self.new.links) }
+        ensures stands { (call : Call) (history : SinkHistory) → HasStepped call history self.old.delegator self.old.links
+            → OnOk result (Stands (after_call call history) self.new.delegator self.new.links) }
         ensures source { self.new.source ≡ self.old.source }
     {
-        a_step_tells_each_link();
+        a_step_notifies_each_link();
         self.links.gather(&mut self.delegator)
     }
 }

@@ -1,19 +1,19 @@
-//! What puts a sink on a train or on a group, what takes it from there, and what no sink sent.
+//! What synchronizes a sink to a train or to a BIG, what takes it from there, and what no sink sent.
 ghost use Rattle.std.specs.Prelude.{◌≡◌, ◌≢◌, ◌≤◌, ◌^◌, Err, false, IfOk, OnOk};
 ghost use Rattle.assistant_machine.specs.declared.fault.NoticeFault.TheVariants.{Memory as NoMemory};
-ghost use Rattle.delegator_history.specs.Trains.{answer_of, brought_by};
+ghost use Rattle.delegator_history.specs.Trains.{answer_of, outcome_by};
 ghost use Rattle.scenario_text.specs.declared.step.Step.TheVariants as steps;
-ghost use Rattle.sink_history.specs.Lives.{Source, given_train};
-ghost use Rattle.sink_history.specs.Output.{sight_in};
+ghost use Rattle.sink_history.specs.History.{Source, given_train};
+ghost use Rattle.sink_history.specs.Output.{snapshot_in};
 ghost use Rattle.scenario_sink.specs.Answers.{is_followed};
 ghost use Rattle.scenario_sink.specs.Making.{LineMakes};
 ghost use Rattle.scenario_sink.specs.Origins.{IsFrom};
-ghost use Rattle.scenario_sink.specs.Pasts.{SinkPast, after_line};
-ghost use Rattle.scenario_sink.specs.State.Stands.{Lives};
+ghost use Rattle.scenario_sink.specs.SinkHistory.{SinkHistory, after_line};
+ghost use Rattle.scenario_sink.specs.State.Stands.{IsSink};
 
 use crate::on_link::take_notice;
 use crate::origin::Origin;
-use crate::sink::LivingSink;
+use crate::sink::LinkedSink;
 use announcement_train::Train;
 use assistant_machine::{NoticeFault, NoticeTaken};
 use bcast_base::{Memory, Octets};
@@ -54,7 +54,7 @@ fn is_memory(fault: NoticeFault) -> bool
     }
 }
 
-impl LivingSink {
+impl LinkedSink {
     /// Hears a train of a source, at this time in µs: the data of its extended advertising, of its periodic advertising, and its
     /// additional controller data (Basic Audio Profile 1.0, sections 3.7.2 and 6.5).
     fn hear_train(
@@ -66,11 +66,11 @@ impl LivingSink {
         now: u64,
     ) -> Result<TrainHeard, Memory>
         requires { now ≤ 2 ^ 61 }
-        ensures answer { (source : Source) (past : SinkPast) → IsFrom origin source → Lives past self.old
-            → IfOk result (λ heard. heard ≡ answer_of (brought_by past.made.setup (sight_in past.made past.life)
+        ensures answer { (source : Source) (history : SinkHistory) → IsFrom origin source → IsSink history self.old
+            → IfOk result (λ heard. heard ≡ answer_of (outcome_by history.made.setup (snapshot_in history.made history.calls_made)
             (given_train source now ext.now adv.now acad.now))) }
-        ensures lives { (source : Source) (past : SinkPast) → IsFrom origin source → Lives past self.old
-            → OnOk result (Lives (after_line source (steps.Train 0 now ext.now adv.now acad.now) past) self.new) }
+        ensures lives { (source : Source) (history : SinkHistory) → IsFrom origin source → IsSink history self.old
+            → OnOk result (IsSink (after_line source (steps.Train 0 now ext.now adv.now acad.now) history) self.new) }
     {
         let heard = self
             .delegator
@@ -95,8 +95,8 @@ impl LivingSink {
         text: &mut Octets,
     ) -> Result<(), Stop>
         requires { time ≤ 2 ^ 61 }
-        ensures { (source : Source) (past : SinkPast) → IsFrom origin source → Lives past self.old
-            → LineMakes source (steps.Train sink time ext.now adv.now acad.now) past text.old text.new self.new result }
+        ensures { (source : Source) (history : SinkHistory) → IsFrom origin source → IsSink history self.old
+            → LineMakes source (steps.Train sink time ext.now adv.now acad.now) history text.old text.new self.new result }
     {
         let heard = self.hear_train(origin, ext, adv, acad, time)?;
         put_train_heard(text, sink, heard)?;
@@ -113,8 +113,8 @@ impl LivingSink {
         text: &mut Octets,
     ) -> Result<(), Stop>
         requires { train.now.time ≤ 2 ^ 61 }
-        ensures { (source : Source) (past : SinkPast) → IsFrom origin source → source.announced ≡ train.now → Lives past self.old
-            → LineMakes source (steps.Announce sink) past text.old text.new self.new result }
+        ensures { (source : Source) (history : SinkHistory) → IsFrom origin source → source.announced ≡ train.now → IsSink history self.old
+            → LineMakes source (steps.Announce sink) history text.old text.new self.new result }
     {
         put_train(text, sink, train)?;
         let ext = train.ext.as_slice();
@@ -127,8 +127,8 @@ impl LivingSink {
 
     /// `lose`: the train is lost, and the sink is idle.
     pub(crate) fn lose(&mut self, sink: u8, text: &mut Octets) -> Result<(), Stop>
-        ensures { (source : Source) (past : SinkPast) → Lives past self.old
-            → LineMakes source (steps.Lose sink) past text.old text.new self.new result }
+        ensures { (source : Source) (history : SinkHistory) → IsSink history self.old
+            → LineMakes source (steps.Lose sink) history text.old text.new self.new result }
     {
         self.delegator.lost()?;
         self.gather()?;
@@ -138,8 +138,8 @@ impl LivingSink {
 
     /// `control`: a PDU is heard as a control PDU (Core 5.2, volume 6 part B, section 2.6.3).
     pub(crate) fn control(&mut self, sink: u8, octets: &[u8], text: &mut Octets) -> Result<(), Stop>
-        ensures { (source : Source) (past : SinkPast) → Lives past self.old
-            → LineMakes source (steps.Control sink octets.now) past text.old text.new self.new result }
+        ensures { (source : Source) (history : SinkHistory) → IsSink history self.old
+            → LineMakes source (steps.Control sink octets.now) history text.old text.new self.new result }
     {
         let heard = self.delegator.control(octets)?;
         self.gather()?;
@@ -156,8 +156,8 @@ impl LivingSink {
         octets: &[u8],
         text: &mut Octets,
     ) -> Result<(), Stop>
-        ensures { (source : Source) (past : SinkPast) → Lives past self.old
-            → LineMakes source (steps.Forge sink slot octets.now) past text.old text.new self.new result }
+        ensures { (source : Source) (history : SinkHistory) → IsSink history self.old
+            → LineMakes source (steps.Forge sink slot octets.now) history text.old text.new self.new result }
     {
         links_law();
         let answer = take_notice(&mut self.links, 0, slot, octets);

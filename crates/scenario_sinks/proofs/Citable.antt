@@ -14,7 +14,7 @@ use Rattle.transcript_text.specs.declared.stop.Stop.TheVariants.{Refused, Outlet
 use Rattle.scenario_sinks.specs.declared.sink.Sink.{Sink}
 use Rattle.scenario_sinks.specs.declared.sinks.Sinks.{Sinks}
 use Rattle.scenario_sinks.specs.Handing.{Hands}
-use Rattle.scenario_sinks.specs.Pasts.{Past}
+use Rattle.scenario_sinks.specs.Histories.{Histories}
 use Rattle.scenario_sinks.specs.State.Standing.{EntryIs, SinksStand}
 pub use Rattle.scenario_sinks.proofs.Faults.{failed_one, none_counts, one_then, took_stay}
 
@@ -29,7 +29,7 @@ accounts_append (u ∷ us) vs old = accounts_append us vs (with_handed old u.box
 pub hands_then : (us vs : List SinkUnit) (text told told2 : List ℕ) (old mid new : List Account) (r : Result (Unit {0}) Stop)
     → told ≡ text ++ unit_lines us → mid ≡ accounts_after old us → Hands vs told told2 mid new r → Hands (us ++ vs) text told2 old new r
 hands_then us vs text told told2 old mid new (Ok x) t a h = (
-  h.0 ∙ ap (λ front. front ++ unit_lines vs) t ∙ append_assoc text (unit_lines us) (unit_lines vs) ∙ ap (λ rest. text ++ rest) (sym (lines_append us vs)),
+  h.0 ∙ ap (λ prefix. prefix ++ unit_lines vs) t ∙ append_assoc text (unit_lines us) (unit_lines vs) ∙ ap (λ rest. text ++ rest) (sym (lines_append us vs)),
   h.1 ∙ ap (λ accounts. accounts_after accounts vs) a ∙ sym (accounts_append us vs old),
 )
 hands_then us vs text told told2 old mid new (Err (Refused reason)) t a h = h
@@ -42,7 +42,7 @@ hands_then us vs text told told2 old mid new (Err OutletFault) t a h = record {
   time = h.time;
   octets = h.octets;
   is_valid = h.is_valid;
-  lines = h.lines ∙ ap (λ front. front ++ unit_lines h.done) t ∙ append_assoc text (unit_lines us) (unit_lines h.done) ∙ ap (λ rest. text ++ rest) (sym (lines_append us h.done));
+  lines = h.lines ∙ ap (λ prefix. prefix ++ unit_lines h.done) t ∙ append_assoc text (unit_lines us) (unit_lines h.done) ∙ ap (λ rest. text ++ rest) (sym (lines_append us h.done));
   box = let P : List Account → Type 0 = λ accounts. TookAt h.unit.box h.octets accounts new (Err Failed) in
       subst P (ap (λ accounts. accounts_after accounts h.done) a ∙ sym (accounts_append us h.done old)) h.box;
 }
@@ -77,7 +77,7 @@ hands_stop us vs text told old new Memory h = record {
 
 -- ---- the same past
 
-pub record SamePast (one other : Past) : Type 0 where
+pub record SameHistories (one other : Histories) : Type 0 where
   pub boxes : (n : ℕ) → one.boxes n ≡ other.boxes n
   pub mades : (n : ℕ) → one.mades n ≡ other.mades n
   pub sources : (n : ℕ) → one.sources n ≡ other.sources n
@@ -85,14 +85,14 @@ pub record SamePast (one other : Past) : Type 0 where
   pub received : (n : ℕ) → one.received n ≡ other.received n
   pub made : one.made ≡ other.made
 
-pub stands_same : (one other : Past) (sinks : Sinks) → SamePast one other → SinksStand one sinks → SinksStand other sinks
+pub stands_same : (one other : Histories) (sinks : Sinks) → SameHistories one other → SinksStand one sinks → SinksStand other sinks
 stands_same one other sinks same stands = record {
   entries = λ n below.
       let entry : Option (Option Sink) = slice_get sinks.entries.items n in
       let B : Option ℕ → Type 0 = λ b. EntryIs b (other.mades n) (other.sources n) (other.lives n) (other.received n) entry in
       let M : Option Settings → Type 0 = λ made. EntryIs (one.boxes n) made (other.sources n) (other.lives n) (other.received n) entry in
       let S : Option ℕ → Type 0 = λ s. EntryIs (one.boxes n) (one.mades n) s (other.lives n) (other.received n) entry in
-      let L : List links.Call → Type 0 = λ life. EntryIs (one.boxes n) (one.mades n) (one.sources n) life (other.received n) entry in
+      let L : List links.Call → Type 0 = λ calls_made. EntryIs (one.boxes n) (one.mades n) (one.sources n) calls_made (other.received n) entry in
       let C : List Call → Type 0 = λ c. EntryIs (one.boxes n) (one.mades n) (one.sources n) (one.lives n) c entry in
       subst B (same.boxes n) (subst M (same.mades n) (subst S (same.sources n) (subst L (same.lives n) (subst C (same.received n) (stands.entries n below)))));
   made = stands.made ∙ same.made;

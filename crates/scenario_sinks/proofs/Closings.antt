@@ -21,21 +21,21 @@ use Rattle.scenario_sinks.specs.declared.gathered.HandedUnit.{HandedUnit}
 use Rattle.scenario_sinks.specs.declared.sink.Owner.{Owner}
 use Rattle.scenario_sinks.specs.declared.sink.Sink.{Sink}
 use Rattle.transcript_text.specs.declared.stop.Stop.{Stop}
-use Rattle.scenario_sinks.specs.Pasts.{Past, with_close, with_close_at}
+use Rattle.scenario_sinks.specs.Histories.{Histories, with_close, with_close_at}
 use Rattle.scenario_sinks.specs.Handing.{Hands}
 use Rattle.scenario_sinks.specs.declared.sinks.Sinks.{Sinks}
 use Rattle.scenario_sinks.specs.Closing.{Closes, ClosesAt, closing_of, closings, handed_all}
 use Rattle.scenario_sinks.specs.State.Gathering.{calls_of, handed_of, units_for}
-use Rattle.scenario_sinks.specs.State.Standing.{EntryIs, EntryAt, EntriesAre, SinksStand, past_of}
+use Rattle.scenario_sinks.specs.State.Standing.{EntryIs, EntryAt, EntriesAre, SinksStand, histories_of}
 use Rattle.scenario_sinks.specs.State.Between.{SinkCloses, SinkHands, AllClose, Between, EntriesFrom, OneBetween, OneCloses, Unmoved}
 use Rattle.delegator_history.specs.Trains.{Settings}
-use Rattle.scenario_sink.specs.State.Stands.{Lives}
+use Rattle.scenario_sink.specs.State.Stands.{IsSink}
 use Rattle.scenario_sinks.proofs.Entries.{OthersStay, SinkIs, entry_of, one_entry}
 use Rattle.scenario_sinks.proofs.Citable.{hands_stop, hands_then}
-use Rattle.scenario_sink.specs.Pasts.{receiving}
+use Rattle.scenario_sink.specs.SinkHistory.{receiving}
 use Rattle.scenario_sinks.proofs.Ranges.{range_append}
 
-pub closings_more : (source event : ℕ) (past : Past) (n : ℕ)
+pub closings_more : (source event : ℕ) (past : Histories) (n : ℕ)
     → closings source event past (range_with_len 0 (n + 1)) ≡ closings source event past (range_with_len 0 n) ++ closing_by source event n (past.received n) (past.sources n) (past.boxes n)
 closings_more source event past n =
     let each : ℕ → List SinkUnit = λ i. closing_by source event i (past.received i) (past.sources i) (past.boxes i) in
@@ -44,7 +44,7 @@ closings_more source event past n =
     ∙ flat_map-append each (range_with_len 0 n) (range_with_len (0 + n) 1)
     ∙ ap (λ last. flat_map each (range_with_len 0 n) ++ last) (append-nil (each (0 + n)) ∙ ap each e)
 
-pub closings_split : (source event : ℕ) (past : Past) (n k : ℕ) → n + k ≡ most_sinks
+pub closings_split : (source event : ℕ) (past : Histories) (n k : ℕ) → n + k ≡ most_sinks
     → closings source event past sink_numbers ≡ closings source event past (range_with_len 0 n) ++ closings source event past (range_with_len n k)
 unfolding sink_numbers
 closings_split source event past n k e =
@@ -55,7 +55,7 @@ closings_split source event past n k e =
     ∙ flat_map-append each (range_with_len 0 n) (range_with_len (0 + n) k)
     ∙ ap (λ m. flat_map each (range_with_len 0 n) ++ flat_map each (range_with_len m k)) f
 
-entry_after : (past : Past) (source event number : ℕ) (sinks : List (Option Sink)) (entry : Option Sink) (n : ℕ)
+entry_after : (past : Histories) (source event number : ℕ) (sinks : List (Option Sink)) (entry : Option Sink) (n : ℕ)
     → number < length sinks → EntryAt (with_close source (Some event) past) number (Some entry)
     → ((m : ℕ) → m < number → EntryAt (with_close source (Some event) past) m (slice_get sinks m)) → n < number + 1
     → (n ≡ number) ⊎ (n ≢ number)
@@ -70,7 +70,7 @@ entry_after past source event number sinks entry n within here done below (inr o
     let less : n < number = omega arith in
     subst Q (sym (get_set_other sinks number n entry other)) (done n less)
 
-pub between_next : (past : Past) (source event number : ℕ) (sinks : List (Option Sink)) (entry : Option Sink) (gathered next : Gathered)
+pub between_next : (past : Histories) (source event number : ℕ) (sinks : List (Option Sink)) (entry : Option Sink) (gathered next : Gathered)
     (text told told2 : List ℕ) (before mid after : List Account) → length sinks ≡ most_sinks → number < most_sinks
     → Between past source event number sinks gathered text told before mid
     → SinkCloses (past.boxes number) (past.mades number) (past.sources number) (past.lives number) (past.received number) number source event entry next told told2 mid after (Ok tt)
@@ -91,24 +91,24 @@ between_next past source event number sinks entry gathered next text told told2 
       boxes_are = h.1 ∙ ap (accounts_after before) (sym (closings_more source event past number));
     }
 
-pub between_ends : (past : Past) (source event number k : ℕ) (sinks sinks2 : List (Option Sink)) (entry : Option Sink) (gathered next : Gathered)
+pub between_ends : (past : Histories) (source event number k : ℕ) (sinks sinks2 : List (Option Sink)) (entry : Option Sink) (gathered next : Gathered)
     (text told told2 : List ℕ) (before mid after : List Account) (stop : Stop) → number + 1 + k ≡ most_sinks
     → Between past source event number sinks gathered text told before mid
     → SinkCloses (past.boxes number) (past.mades number) (past.sources number) (past.lives number) (past.received number) number source event entry next told told2 mid after (Err stop)
     → AllClose past source event sinks2 next text told2 before after (Err stop)
 between_ends past source event number k sinks sinks2 entry gathered next text told told2 before mid after stop all b s =
-    let front : List SinkUnit = closings source event past (range_with_len 0 number) in
+    let prefix : List SinkUnit = closings source event past (range_with_len 0 number) in
     let here : List SinkUnit = closing_by source event number (past.received number) (past.sources number) (past.boxes number) in
     let rest : List SinkUnit = closings source event past (range_with_len (number + 1) k) in
     let P : List SinkUnit → Type 0 = λ units. Hands units text told2 before after (Err stop) in
     record {
       hands = subst P (sym (closings_split source event past (number + 1) k all ∙ ap (λ units. units ++ rest) (closings_more source event past number)))
-          (hands_stop (front ++ here) rest text told2 before after stop
-          (hands_then front here text told told2 before mid after (Err stop) b.lines b.boxes_are s.hands));
+          (hands_stop (prefix ++ here) rest text told2 before after stop
+          (hands_then prefix here text told told2 before mid after (Err stop) b.lines b.boxes_are s.hands));
       is_ticked = tt;
     }
 
-pub between_over : (past : Past) (source event number : ℕ) (sinks : List (Option Sink)) (gathered : Gathered)
+pub between_over : (past : Histories) (source event number : ℕ) (sinks : List (Option Sink)) (gathered : Gathered)
     (text told : List ℕ) (before after : List Account) → number ≡ most_sinks
     → Between past source event number sinks gathered text told before after
     → AllClose past source event sinks gathered text told before after (Ok tt)
@@ -124,7 +124,7 @@ between_over past source event number sinks gathered text told before after all 
     }
 
 -- the entry of the next sink
-pub entry_here : (past : Past) (number at : ℕ) (sinks : List (Option Sink)) (d : Option Sink) → at ≡ number → length sinks ≡ most_sinks → number < most_sinks
+pub entry_here : (past : Histories) (number at : ℕ) (sinks : List (Option Sink)) (d : Option Sink) → at ≡ number → length sinks ≡ most_sinks → number < most_sinks
     → EntriesFrom past number sinks → EntryAt past number (Some (get_or sinks at d))
 entry_here past number at sinks d same eight below left =
     let inside : at < length sinks = omega arith in
@@ -133,13 +133,13 @@ entry_here past number at sinks d same eight below left =
     subst Q (here ∙ slice_get-get_or sinks at d inside) (left number (omega arith) below)
 
 -- the entries of those behind it
-pub entries_next : (past : Past) (number at : ℕ) (sinks : List (Option Sink)) (entry : Option Sink) → at ≡ number → EntriesFrom past number sinks
+pub entries_next : (past : Histories) (number at : ℕ) (sinks : List (Option Sink)) (entry : Option Sink) → at ≡ number → EntriesFrom past number sinks
     → EntriesFrom past (number + 1) (slice_set sinks at entry)
 entries_next past number at sinks entry same left n least below =
     let other : n ≢ at = λ e. omega (arith, same, least, e) in
     subst (λ o. EntryAt past n o) (sym (get_set_other sinks at n entry other)) (left n (omega (arith, least)) below)
 
-pub between_next_at : (past : Past) (source event number at : ℕ) (sinks : List (Option Sink)) (entry : Option Sink) (gathered next : Gathered)
+pub between_next_at : (past : Histories) (source event number at : ℕ) (sinks : List (Option Sink)) (entry : Option Sink) (gathered next : Gathered)
     (text told told2 : List ℕ) (before mid after : List Account) → at ≡ number → length sinks ≡ most_sinks → number < most_sinks
     → Between past source event number sinks gathered text told before mid
     → SinkCloses (past.boxes number) (past.mades number) (past.sources number) (past.lives number) (past.received number) number source event entry next told told2 mid after (Ok tt)
@@ -149,7 +149,7 @@ between_next_at past source event number at sinks entry gathered next text told 
     subst P (sym same) (between_next past source event number sinks entry gathered next text told told2 before mid after eight within b s)
 
 -- the sinks after a close
-pub all_closed : (past : Past) (source event : ℕ) (closed : Option ℕ) (old new : Sinks) (sinks : List (Option Sink)) (text told : List ℕ)
+pub all_closed : (past : Histories) (source event : ℕ) (closed : Option ℕ) (old new : Sinks) (sinks : List (Option Sink)) (text told : List ℕ)
     (before after : List Account) (r : Result (Unit {0}) Stop)
     → SinksStand past old → closed ≡ Some event → new.entries.items ≡ sinks → AllClose past source event sinks new.gathered text told before after r → new.outlet_count ≡ old.outlet_count
     → Closes past source closed new text told before after r
@@ -161,13 +161,13 @@ all_closed past source event closed old new sinks text told before after r stand
       stands = on_ok_weaker r (λ t. record { entries = subst E (sym items) t.entries; made = more ∙ stands.made; empty = t.empty }) c.is_ticked;
     })
 
-entry_kept : (past : Past) (n : ℕ) (b : Bool) (entry : Option (Option Sink)) → EntryAt past n entry
+entry_kept : (past : Histories) (n : ℕ) (b : Bool) (entry : Option (Option Sink)) → EntryAt past n entry
     → EntryIs (past.boxes n) (past.mades n) (past.sources n) (past.lives n) (ticked_if b None (past.received n)) entry
 entry_kept past n true entry is = is
 entry_kept past n false entry is = is
 
 -- no event is open
-pub none_closed : (past : Past) (source : ℕ) (closed : Option ℕ) (old : Sinks) (text : List ℕ) (before : List Account)
+pub none_closed : (past : Histories) (source : ℕ) (closed : Option ℕ) (old : Sinks) (text : List ℕ) (before : List Account)
     → SinksStand past old → closed ≡ None → Closes past source closed old text text before before (Ok tt)
 none_closed past source closed old text before stands is =
     let P : Option ℕ → Type 0 = λ o. Closes past source o old text text before before (Ok tt) in
@@ -180,7 +180,7 @@ none_closed past source closed old text before stands is =
       };
     })
 
-pub lent_entries : (past : Past) (sinks lent : List (Option Sink)) → lent ≡ sinks → EntriesAre past sinks → EntriesAre past lent
+pub lent_entries : (past : Histories) (sinks lent : List (Option Sink)) → lent ≡ sinks → EntriesAre past sinks → EntriesAre past lent
 lent_entries past sinks lent is are = let E : List (Option Sink) → Type 0 = λ s. EntriesAre past s in subst E (sym is) are
 
 -- ---- one sink
@@ -193,18 +193,18 @@ handed_back : (owner : Owner) (units : List Handed) → handed_all (units_for ow
 handed_back owner [] = refl
 handed_back owner (unit ∷ units) = ap (λ rest. unit ∷ rest) (handed_back owner units)
 
-pub sink_hands : (box : Option ℕ) (made : Option Settings) (own : Option ℕ) (life : List links.Call) (received : List Call) (owner : Owner)
+pub sink_hands : (box : Option ℕ) (made : Option Settings) (own : Option ℕ) (calls_made : List links.Call) (received : List Call) (owner : Owner)
     (event : ℕ) (sink new : Sink)
     (units : List Handed) (gathered : Gathered) (text told : List ℕ) (before after : List Account) (r : Result (Unit {0}) Stop)
-    → (is : SinkIs box made own life received sink) → is_of owner.source own ≡ true → owner.outlet ≡ sink.outlet
+    → (is : SinkIs box made own calls_made received sink) → is_of owner.source own ≡ true → owner.outlet ≡ sink.outlet
     → units ≡ handed_at received event → Hands (units_for owner units) text told before after r
-    → new.outlet ≡ sink.outlet → Lives (receiving (tick event) (past_of is.how own life received)) new.living → OnOk r (calls_of gathered ≡ units)
-    → SinkHands box made own life received owner.sink owner.source event (Some new) gathered text told before after r
-sink_hands box made own life received owner event sink new units gathered text told before after r is mine at e hands outlet lives held =
+    → new.outlet ≡ sink.outlet → IsSink (receiving (tick event) (histories_of is.how own calls_made received)) new.living → OnOk r (calls_of gathered ≡ units)
+    → SinkHands box made own calls_made received owner.sink owner.source event (Some new) gathered text told before after r
+sink_hands box made own calls_made received owner event sink new units gathered text told before after r is mine at e hands outlet lives held =
     let box_at : box ≡ Some owner.outlet = is.box_is ∙ ap Some (sym at) in
     let own_units : closing_by owner.source event owner.sink received own box ≡ units_for owner (handed_at received event) = rw (mine, box_at) refl in
-    let here : EntryIs box made own life (ticked_if (is_of owner.source own) (Some event) received) (Some (Some new)) =
-    rw mine (entry_of box made own life (tick event ∷ received) new
+    let here : EntryIs box made own calls_made (ticked_if (is_of owner.source own) (Some event) received) (Some (Some new)) =
+    rw mine (entry_of box made own calls_made (tick event ∷ received) new
     (record { box_is = is.box_is ∙ ap Some (sym outlet); how = is.how; made_is = is.made_is; lives = lives })) in
     let P : List SinkUnit → Type 0 = λ us. Hands us text told before after r in
     record {
@@ -216,15 +216,15 @@ sink_hands box made own life received owner event sink new units gathered text t
     }
 
 -- a sink of another source
-pub sink_left : (box : Option ℕ) (made : Option Settings) (own : Option ℕ) (life : List links.Call) (received : List Call)
+pub sink_left : (box : Option ℕ) (made : Option Settings) (own : Option ℕ) (calls_made : List links.Call) (received : List Call)
     (n source event : ℕ) (sink : Sink)
-    (from : Option ℕ) (of : Bool) (gathered : Gathered) (text : List ℕ) (before : List Account) → SinkIs box made own life received sink
+    (from : Option ℕ) (of : Bool) (gathered : Gathered) (text : List ℕ) (before : List Account) → SinkIs box made own calls_made received sink
     → from ≡ own → of ≡ is_of source from → of ≡ false → gathered.units.items ≡ []
-    → SinkHands box made own life received n source event (Some sink) gathered text text before before (Ok tt)
-sink_left box made own life received n source event sink from of gathered text before is f o t empty =
+    → SinkHands box made own calls_made received n source event (Some sink) gathered text text before before (Ok tt)
+sink_left box made own calls_made received n source event sink from of gathered text before is f o t empty =
     let other : is_of source own ≡ false = ap (is_of source) (sym f) ∙ sym o ∙ t in
-    let here : EntryIs box made own life (ticked_if (is_of source own) (Some event) received) (Some (Some sink)) =
-    rw other (entry_of box made own life received sink is) in
+    let here : EntryIs box made own calls_made (ticked_if (is_of source own) (Some event) received) (Some (Some sink)) =
+    rw other (entry_of box made own calls_made received sink is) in
     record {
       hands = rw other (sym (append-nil text), refl);
       is_held = record { entry_is = here; held = rw other (ap (map handed_of) empty) };
@@ -235,18 +235,18 @@ none_handed true units none = none
 none_handed false units none = refl
 
 -- no sink, or one of another source
-pub sink_rests : (box : Option ℕ) (made : Option Settings) (own : Option ℕ) (life : List links.Call) (received : List Call)
+pub sink_rests : (box : Option ℕ) (made : Option Settings) (own : Option ℕ) (calls_made : List links.Call) (received : List Call)
     (n source event : ℕ) (entry : Option Sink)
-    (gathered : Gathered) (text : List ℕ) (before : List Account) → EntryIs box made own life received (Some entry) → (is_some box && is_of source own) ≡ false
-    → gathered.units.items ≡ [] → SinkCloses box made own life received n source event entry gathered text text before before (Ok tt)
-sink_rests None made own life received n source event entry gathered text before is other empty =
+    (gathered : Gathered) (text : List ℕ) (before : List Account) → EntryIs box made own calls_made received (Some entry) → (is_some box && is_of source own) ≡ false
+    → gathered.units.items ≡ [] → SinkCloses box made own calls_made received n source event entry gathered text text before before (Ok tt)
+sink_rests None made own calls_made received n source event entry gathered text before is other empty =
     let P : List SinkUnit → Type 0 = λ units. Hands units text text before before (Ok tt) in
     record {
       hands = subst P (sym (none_handed (is_of source own) [] refl)) (sym (append-nil text), refl);
       is_ticked = record { entry_is = is; empty = empty };
     }
-sink_rests (Some box) made own life received n source event entry gathered text before is other empty =
-    let here : EntryIs (Some box) made own life (ticked_if (is_of source own) (Some event) received) (Some entry) = rw other is in
+sink_rests (Some box) made own calls_made received n source event entry gathered text before is other empty =
+    let here : EntryIs (Some box) made own calls_made (ticked_if (is_of source own) (Some event) received) (Some entry) = rw other is in
     record {
       hands = rw other (sym (append-nil text), refl);
       is_ticked = record { entry_is = here; empty = empty };
@@ -257,12 +257,12 @@ no_units : (box : Option ℕ) (own : Option ℕ) (received : List Call) (n sourc
 no_units None own received n source event other = none_handed (is_of source own) [] refl
 no_units (Some box) own received n source event other = rw other refl
 
-pub sink_rests_held : (box : Option ℕ) (made : Option Settings) (own : Option ℕ) (life : List links.Call) (received : List Call)
+pub sink_rests_held : (box : Option ℕ) (made : Option Settings) (own : Option ℕ) (calls_made : List links.Call) (received : List Call)
     (n source event : ℕ) (entry : Option Sink)
-    (gathered : Gathered) (text : List ℕ) (before : List Account) → EntryIs box made own life received (Some entry) → (is_some box && is_of source own) ≡ false
-    → gathered.units.items ≡ [] → SinkHands box made own life received n source event entry gathered text text before before (Ok tt)
-sink_rests_held box made own life received n source event entry gathered text before is other empty =
-    let rests = sink_rests box made own life received n source event entry gathered text before is other empty in
+    (gathered : Gathered) (text : List ℕ) (before : List Account) → EntryIs box made own calls_made received (Some entry) → (is_some box && is_of source own) ≡ false
+    → gathered.units.items ≡ [] → SinkHands box made own calls_made received n source event entry gathered text text before before (Ok tt)
+sink_rests_held box made own calls_made received n source event entry gathered text before is other empty =
+    let rests = sink_rests box made own calls_made received n source event entry gathered text before is other empty in
     record {
       hands = rests.hands;
       is_held = record {
@@ -275,19 +275,19 @@ pub not_both : (b : Bool) → b ≡ true → b ≡ false → ⊥
 not_both b is other = cc (sym is ∙ other)
 
 -- its units are gathered no more
-pub sink_closes : (box : Option ℕ) (made : Option Settings) (own : Option ℕ) (life : List links.Call) (received : List Call)
+pub sink_closes : (box : Option ℕ) (made : Option Settings) (own : Option ℕ) (calls_made : List links.Call) (received : List Call)
     (n source event : ℕ) (entry : Option Sink)
     (held gathered : Gathered) (text told : List ℕ) (before after : List Account) (r : Result (Unit {0}) Stop)
-    → SinkHands box made own life received n source event entry held text told before after r → OnOk r (gathered.units.items ≡ [])
-    → SinkCloses box made own life received n source event entry gathered text told before after r
-sink_closes box made own life received n source event entry held gathered text told before after (Ok x) h empty =
+    → SinkHands box made own calls_made received n source event entry held text told before after r → OnOk r (gathered.units.items ≡ [])
+    → SinkCloses box made own calls_made received n source event entry gathered text told before after r
+sink_closes box made own calls_made received n source event entry held gathered text told before after (Ok x) h empty =
     record { hands = h.hands; is_ticked = record { entry_is = h.is_held.entry_is; empty = empty } }
-sink_closes box made own life received n source event entry held gathered text told before after (Err stop) h empty =
+sink_closes box made own calls_made received n source event entry held gathered text told before after (Err stop) h empty =
     record { hands = h.hands; is_ticked = tt }
 
 -- ---- one sink among all, which lends its units
 
-close_stays : (n source event : ℕ) (past : Past) → OthersStay n past (with_close_at n source event past)
+close_stays : (n source event : ℕ) (past : Histories) → OthersStay n past (with_close_at n source event past)
 close_stays n source event past = record {
   boxes = λ m apart. refl;
   mades = λ m apart. refl;
@@ -298,14 +298,14 @@ close_stays n source event past = record {
 
 -- ---- one sink alone
 
-one_hands : (past : Past) (n source event : ℕ) (sinks now : List (Option Sink)) (gathered : Gathered) (text told more : List ℕ) (before mid after : List Account)
+one_hands : (past : Histories) (n source event : ℕ) (sinks now : List (Option Sink)) (gathered : Gathered) (text told more : List ℕ) (before mid after : List Account)
     (r : Result (Unit {0}) Stop) → Unmoved sinks now gathered text told before mid → Hands (closing_of n source event past) told more mid after r
     → Hands (closing_of n source event past) text more before after r
 one_hands past n source event sinks now gathered text told more before mid after r u hands =
     let units : List SinkUnit = closing_of n source event past in
     subst (λ l. Hands units l more before after r) u.lines (subst (λ a. Hands units told more a after r) u.boxes_are hands)
 
-one_closes : (past : Past) (n at source event : ℕ) (sinks now : List (Option Sink)) (entry : Option Sink) (gathered next : Gathered) (text told more : List ℕ)
+one_closes : (past : Histories) (n at source event : ℕ) (sinks now : List (Option Sink)) (entry : Option Sink) (gathered next : Gathered) (text told more : List ℕ)
     (before mid after : List Account) (r : Result (Unit {0}) Stop) → at ≡ n → n < most_sinks → length now ≡ most_sinks → EntriesAre past sinks
     → Unmoved sinks now gathered text told before mid
     → SinkHands (past.boxes n) (past.mades n) (past.sources n) (past.lives n) (past.received n) n source event entry next told more mid after r
@@ -319,7 +319,7 @@ one_closes past n at source event sinks now entry gathered next text told more b
   }) h.is_held;
 }
 
-first_now : (past : Past) (first source event number end : ℕ) (sinks now : List (Option Sink)) (gathered : Gathered) (text told : List ℕ) (before after : List Account)
+first_now : (past : Histories) (first source event number end : ℕ) (sinks now : List (Option Sink)) (gathered : Gathered) (text told : List ℕ) (before after : List Account)
     → number < end → end ≡ first + 1 → OneBetween past first source event number sinks now gathered text told before after
     → (number ≡ first) × Unmoved sinks now gathered text told before after
 first_now past first source event number end sinks now gathered text told before after less alone (inl both) = both
@@ -327,7 +327,7 @@ first_now past first source event number end sinks now gathered text told before
     let over : number ≡ first + 1 = both.0 in
     absurd (omega (arith, less, alone, over))
 
-pub one_next : (past : Past) (first at source event number end : ℕ) (sinks now : List (Option Sink)) (entry : Option Sink) (gathered next : Gathered) (text told more : List ℕ)
+pub one_next : (past : Histories) (first at source event number end : ℕ) (sinks now : List (Option Sink)) (entry : Option Sink) (gathered next : Gathered) (text told more : List ℕ)
     (before mid after : List Account) → at ≡ number → number < most_sinks → length now ≡ most_sinks → EntriesAre past sinks → number < end → end ≡ first + 1
     → OneBetween past first source event number sinks now gathered text told before mid
     → (gathered.units.items ≡ []
@@ -341,7 +341,7 @@ one_next past first at source event number end sinks now entry gathered next tex
           (one_closes past number at source event sinks now entry gathered next text told more before mid after (Ok tt) same within eight are f.1 (h f.1.empty)),
     )
 
-pub one_ends : (past : Past) (first source event number end : ℕ) (sinks now last : List (Option Sink)) (entry : Option Sink) (gathered next : Gathered) (text told more : List ℕ)
+pub one_ends : (past : Histories) (first source event number end : ℕ) (sinks now last : List (Option Sink)) (entry : Option Sink) (gathered next : Gathered) (text told more : List ℕ)
     (before mid after : List Account) (stop : Stop) → number < end → end ≡ first + 1
     → OneBetween past first source event number sinks now gathered text told before mid
     → (gathered.units.items ≡ []
@@ -355,7 +355,7 @@ one_ends past first source event number end sinks now last entry gathered next t
       is_held = tt;
     })
 
-pub one_over : (past : Past) (first source event number end : ℕ) (sinks now : List (Option Sink)) (gathered : Gathered) (text told : List ℕ) (before after : List Account)
+pub one_over : (past : Histories) (first source event number end : ℕ) (sinks now : List (Option Sink)) (gathered : Gathered) (text told : List ℕ) (before after : List Account)
     → end ≤ number → end ≡ first + 1 → OneBetween past first source event number sinks now gathered text told before after
     → OneCloses past first source event now gathered text told before after (Ok tt)
 one_over past first source event number end sinks now gathered text told before after least alone (inl both) =
@@ -364,7 +364,7 @@ one_over past first source event number end sinks now gathered text told before 
 one_over past first source event number end sinks now gathered text told before after least alone (inr both) = both.1
 
 -- what became of the sinks by a close of one
-pub closed_one : (past : Past) (n source event : ℕ) (old new : Sinks) (sinks : List (Option Sink)) (text told : List ℕ) (before after : List Account) (r : Result (Unit {0}) Stop)
+pub closed_one : (past : Histories) (n source event : ℕ) (old new : Sinks) (sinks : List (Option Sink)) (text told : List ℕ) (before after : List Account) (r : Result (Unit {0}) Stop)
     → SinksStand past old → new.entries.items ≡ sinks → OneCloses past n source event sinks new.gathered text told before after r → new.outlet_count ≡ old.outlet_count
     → ClosesAt past n source event new text told before after r
 closed_one past n source event old new sinks text told before after r stands items c more =

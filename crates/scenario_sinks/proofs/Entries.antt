@@ -4,9 +4,9 @@ use Rattle.std.proofs.Common.{arith, Option, None, Some, Result, Ok, Err, ◌⊎
 use Rattle.std.proofs.lemmas.Option.{slice_get-get_or}
 use Rattle.std.proofs.lemmas.Bool.{cases_eq}
 use Rattle.delegator_machine.specs.Groups.{by_numbers}
-use Rattle.delegator_history.specs.States.{put_on}
+use Rattle.delegator_history.specs.States.{sync_to_group}
 use Rattle.delegator_history.specs.Trains.{Settings}
-use Rattle.sync_reference.specs.Joining.{Joining}
+use Rattle.sync_reference.specs.BigSync.{BigSync}
 use Rattle.group_sink.specs.Calls.{Call, hear, tune}
 use Rattle.group_sink.specs.Hearings.{hearing_of}
 use Rattle.isoal_base.specs.declared.hearing.Hearing.{Hearing}
@@ -18,37 +18,37 @@ use Rattle.sink_history.specs.Calls.{stepped}
 use Rattle.scenario_history.specs.Boxes.{most_sinks}
 use Rattle.scenario_history.proofs.Citable.{get_set_here, get_set_other}
 use Rattle.scenario_sinks.specs.declared.sink.Sink.{Sink}
-use Rattle.scenario_sinks.specs.Pasts.{Past}
-use Rattle.scenario_sinks.specs.State.Standing.{EntryIs, EntryAt, EntriesAre, past_of}
+use Rattle.scenario_sinks.specs.Histories.{Histories}
+use Rattle.scenario_sinks.specs.State.Standing.{EntryIs, EntryAt, EntriesAre, histories_of}
 use Rattle.scenario_sinks.specs.Hearing.{hearing_where}
 use Rattle.scenario_sinks.specs.State.Entries.{EntryHears, EntryRuns, EntryTunes}
 use Rattle.scenario_text.specs.declared.step.Step.{Step}
-use Rattle.sink_history.specs.Lives.{Source, lived_by}
+use Rattle.sink_history.specs.History.{Source, calls_by}
 use Rattle.sink_history.specs.Moves.{received_by, source_by}
 use Rattle.transcript_text.specs.declared.stop.Stop.{Stop}
 use Rattle.transcript_text.specs.declared.stop.Stop.TheVariants.{Refused, OutletFault, Memory}
-use Rattle.scenario_sink.specs.State.Stands.{Lives}
-use Rattle.scenario_sink.specs.Pasts.{after_tuning, receiving}
+use Rattle.scenario_sink.specs.State.Stands.{IsSink}
+use Rattle.scenario_sink.specs.SinkHistory.{after_tuning, receiving}
 use Rattle.scenario_sink.specs.Making.{LineMakes}
 
 -- ---- the sink of one entry
 
-pub none_lives : (box : Option ℕ) (made : Option Settings) (own : Option ℕ) (life : List links.Call) (received : List Call)
+pub none_lives : (box : Option ℕ) (made : Option Settings) (own : Option ℕ) (calls_made : List links.Call) (received : List Call)
     (entry : Option Sink)
-    → EntryIs box made own life received (Some entry) → is_some entry ≡ false → box ≡ None
-none_lives None made own life received entry is none = refl
-none_lives (Some box) made own life received entry is none =
+    → EntryIs box made own calls_made received (Some entry) → is_some entry ≡ false → box ≡ None
+none_lives None made own calls_made received entry is none = refl
+none_lives (Some box) made own calls_made received entry is none =
     let e : entry ≡ Some is.0 = cc (is.1) in
     let f : true ≡ false = sym (ap is_some e) ∙ none in
     cc
 
 -- what an entry says of its sink
-pub record SinkIs (box : Option ℕ) (made : Option Settings) (own : Option ℕ) (life : List links.Call) (received : List Call)
+pub record SinkIs (box : Option ℕ) (made : Option Settings) (own : Option ℕ) (calls_made : List links.Call) (received : List Call)
     (sink : Sink) : Type 0 where
   pub box_is : box ≡ Some sink.outlet
   pub how : Settings
   pub made_is : made ≡ Some how
-  pub lives : Lives (past_of how own life received) sink.living
+  pub lives : IsSink (histories_of how own calls_made received) sink.living
 
 some_same : {A : Type 0} (entry : Option A) (one other : A) → Some entry ≡ Some (Some one) → entry ≡ Some other → one ≡ other
 some_same entry one other e f = cc (e, f)
@@ -56,50 +56,50 @@ some_same entry one other e f = cc (e, f)
 none_some : {A : Type 0} (entry : Option A) (one : A) → Some entry ≡ Some None → entry ≡ Some one → ⊥
 none_some entry one e f = cc (e, f)
 
-pub sink_in : (box : Option ℕ) (made : Option Settings) (own : Option ℕ) (life : List links.Call) (received : List Call)
+pub sink_in : (box : Option ℕ) (made : Option Settings) (own : Option ℕ) (calls_made : List links.Call) (received : List Call)
     (entry : Option Sink) (sink : Sink)
-    → EntryIs box made own life received (Some entry) → entry ≡ Some sink → SinkIs box made own life received sink
-sink_in None made own life received entry sink is e = absurd (none_some entry sink is.0 e)
-sink_in (Some b) made own life received entry sink is e =
+    → EntryIs box made own calls_made received (Some entry) → entry ≡ Some sink → SinkIs box made own calls_made received sink
+sink_in None made own calls_made received entry sink is e = absurd (none_some entry sink is.0 e)
+sink_in (Some b) made own calls_made received entry sink is e =
     let same : is.0 ≡ sink = some_same entry is.0 sink is.1 e in
     record {
       box_is = ap Some (sym is.2 ∙ ap (λ (s : Sink). s.outlet) same);
       how = is.3;
       made_is = is.4;
-      lives = subst (λ (s : Sink). Lives (past_of is.3 own life received) s.living) same is.5;
+      lives = subst (λ (s : Sink). IsSink (histories_of is.3 own calls_made received) s.living) same is.5;
     }
 
-pub entry_of : (box : Option ℕ) (made : Option Settings) (own : Option ℕ) (life : List links.Call) (received : List Call) (sink : Sink)
-    → SinkIs box made own life received sink → EntryIs box made own life received (Some (Some sink))
-entry_of None made own life received sink is = absurd (cc is.box_is)
-entry_of (Some box) made own life received sink is =
+pub entry_of : (box : Option ℕ) (made : Option Settings) (own : Option ℕ) (calls_made : List links.Call) (received : List Call) (sink : Sink)
+    → SinkIs box made own calls_made received sink → EntryIs box made own calls_made received (Some (Some sink))
+entry_of None made own calls_made received sink is = absurd (cc is.box_is)
+entry_of (Some box) made own calls_made received sink is =
     let outlet : sink.outlet ≡ box = cc is.box_is in
     (sink, refl, outlet, is.how, is.made_is, is.lives)
 
-pub lives_in : (box : Option ℕ) (made : Option Settings) (own : Option ℕ) (life : List links.Call) (received : List Call)
+pub lives_in : (box : Option ℕ) (made : Option Settings) (own : Option ℕ) (calls_made : List links.Call) (received : List Call)
     (entry : Option Sink)
-    → EntryIs box made own life received (Some entry) → is_some entry ≡ is_some box
-lives_in None made own life received entry is = let e : entry ≡ None = cc is.0 in ap is_some e
-lives_in (Some box) made own life received entry is = let e : entry ≡ Some is.0 = cc is.1 in ap is_some e
+    → EntryIs box made own calls_made received (Some entry) → is_some entry ≡ is_some box
+lives_in None made own calls_made received entry is = let e : entry ≡ None = cc is.0 in ap is_some e
+lives_in (Some box) made own calls_made received entry is = let e : entry ≡ Some is.0 = cc is.1 in ap is_some e
 
 -- whether the sink of an entry is of this source
-pub sink_of : (box : Option ℕ) (made : Option Settings) (own : Option ℕ) (life : List links.Call) (received : List Call) (source : ℕ)
+pub sink_of : (box : Option ℕ) (made : Option Settings) (own : Option ℕ) (calls_made : List links.Call) (received : List Call) (source : ℕ)
     (entry : Option Sink) (sink : Sink)
-    (from : Option ℕ) → EntryIs box made own life received (Some entry) → entry ≡ Some sink → from ≡ own → is_of source from ≡ (is_some box && is_of source own)
-sink_of box made own life received source entry sink from is e f =
-    let was = sink_in box made own life received entry sink is e in
+    (from : Option ℕ) → EntryIs box made own calls_made received (Some entry) → entry ≡ Some sink → from ≡ own → is_of source from ≡ (is_some box && is_of source own)
+sink_of box made own calls_made received source entry sink from is e f =
+    let was = sink_in box made own calls_made received entry sink is e in
     ap (is_of source) f ∙ sym (ap (λ (b : Option ℕ). is_some b && is_of source own) was.box_is)
 
-pub no_sink_of : (box : Option ℕ) (made : Option Settings) (own : Option ℕ) (life : List links.Call) (received : List Call) (source : ℕ)
+pub no_sink_of : (box : Option ℕ) (made : Option Settings) (own : Option ℕ) (calls_made : List links.Call) (received : List Call) (source : ℕ)
     (entry : Option Sink)
-    → EntryIs box made own life received (Some entry) → entry ≡ None → false ≡ (is_some box && is_of source own)
-no_sink_of box made own life received source entry is e =
-    sym (ap (λ b. b && is_of source own) (sym (lives_in box made own life received entry is) ∙ ap is_some e))
+    → EntryIs box made own calls_made received (Some entry) → entry ≡ None → false ≡ (is_some box && is_of source own)
+no_sink_of box made own calls_made received source entry is e =
+    sym (ap (λ b. b && is_of source own) (sym (lives_in box made own calls_made received entry is) ∙ ap is_some e))
 
 -- ---- one entry among all
 
 -- the entry at a place that was read
-pub entry_read : (past : Past) (n at : ℕ) (sinks : List (Option Sink)) (entry : Option Sink) → at ≡ n → length sinks ≡ most_sinks → n < most_sinks
+pub entry_read : (past : Histories) (n at : ℕ) (sinks : List (Option Sink)) (entry : Option Sink) → at ≡ n → length sinks ≡ most_sinks → n < most_sinks
     → entry ≡ get_or sinks at entry → EntriesAre past sinks → EntryAt past n (Some entry)
 entry_read past n at sinks entry same eight below is are =
     let inside : at < length sinks = omega arith in
@@ -108,14 +108,14 @@ entry_read past n at sinks entry same eight below is are =
     subst Q (here ∙ slice_get-get_or sinks at entry inside ∙ ap Some (sym is)) (are n below)
 
 -- the past of the sinks of all other numbers stays
-pub record OthersStay (n : ℕ) (old new : Past) : Type 0 where
+pub record OthersStay (n : ℕ) (old new : Histories) : Type 0 where
   pub boxes : (m : ℕ) → (n == m) ≡ false → new.boxes m ≡ old.boxes m
   pub mades : (m : ℕ) → (n == m) ≡ false → new.mades m ≡ old.mades m
   pub sources : (m : ℕ) → (n == m) ≡ false → new.sources m ≡ old.sources m
   pub lives : (m : ℕ) → (n == m) ≡ false → new.lives m ≡ old.lives m
   pub received : (m : ℕ) → (n == m) ≡ false → new.received m ≡ old.received m
 
-touched : (n m : ℕ) (old new : Past) (sinks : List (Option Sink)) (entry : Option Sink) → n < length sinks → m < most_sinks
+touched : (n m : ℕ) (old new : Histories) (sinks : List (Option Sink)) (entry : Option Sink) → n < length sinks → m < most_sinks
     → OthersStay n old new → EntriesAre old sinks → EntryAt new n (Some entry)
     → (m ≡ n) ⊎ (m ≢ n) → EntryAt new m (slice_get (slice_set sinks n entry) m)
 touched n m old new sinks entry inside below others entries here (inl e) =
@@ -128,7 +128,7 @@ touched n m old new sinks entry inside below others entries here (inr other) =
     let B : Option ℕ → Type 0 = λ b. EntryIs b (new.mades m) (new.sources m) (new.lives m) (new.received m) at in
     let M : Option Settings → Type 0 = λ made. EntryIs (old.boxes m) made (new.sources m) (new.lives m) (new.received m) at in
     let S : Option ℕ → Type 0 = λ s. EntryIs (old.boxes m) (old.mades m) s (new.lives m) (new.received m) at in
-    let L : List links.Call → Type 0 = λ life. EntryIs (old.boxes m) (old.mades m) (old.sources m) life (new.received m) at in
+    let L : List links.Call → Type 0 = λ calls_made. EntryIs (old.boxes m) (old.mades m) (old.sources m) calls_made (new.received m) at in
     let C : List Call → Type 0 = λ c. EntryIs (old.boxes m) (old.mades m) (old.sources m) (old.lives m) c at in
     let Q : Option (Option Sink) → Type 0 = λ o. EntryAt old m o in
     subst B (sym (others.boxes m apart)) (subst M (sym (others.mades m apart)) (subst S (sym (others.sources m apart))
@@ -136,7 +136,7 @@ touched n m old new sinks entry inside below others entries here (inr other) =
     (subst Q (sym (get_set_other sinks n m entry other)) (entries m below))))))
 
 -- the entries where the one of a number is new
-pub one_entry : (n at : ℕ) (old new : Past) (sinks : List (Option Sink)) (entry : Option Sink)
+pub one_entry : (n at : ℕ) (old new : Histories) (sinks : List (Option Sink)) (entry : Option Sink)
     → at ≡ n → n < most_sinks → length sinks ≡ most_sinks → OthersStay n old new → EntriesAre old sinks → EntryAt new n (Some entry)
     → EntriesAre new (slice_set sinks at entry)
 one_entry n at old new sinks entry same within eight others entries here =
@@ -156,91 +156,91 @@ none_made sinks n k is below = ap (λ s. slice_get s n) is ∙ get_replicate Non
 
 -- ---- what comes to the sink of an entry
 
-pub entry_tuned : (box : Option ℕ) (made : Option Settings) (own : Option ℕ) (life : List links.Call) (received : List Call) (source : ℕ)
-    (joining : Joining)
-    (sink new : Sink) (beyond : Bool) → (is : SinkIs box made own life received sink) → new.outlet ≡ sink.outlet
-    → Lives (after_tuning source joining (past_of is.how own life received)) new.living
-    → beyond ≡ has_beyond joining.info.num_bis joining.which → beyond ≡ false
-    → EntryTunes box made own life received source joining (Some new) (Ok tt)
-entry_tuned box made own life received source joining sink new beyond is outlet lives b within = (
+pub entry_tuned : (box : Option ℕ) (made : Option Settings) (own : Option ℕ) (calls_made : List links.Call) (received : List Call) (source : ℕ)
+    (big_sync : BigSync)
+    (sink new : Sink) (beyond : Bool) → (is : SinkIs box made own calls_made received sink) → new.outlet ≡ sink.outlet
+    → IsSink (after_tuning source big_sync (histories_of is.how own calls_made received)) new.living
+    → beyond ≡ has_beyond big_sync.info.num_bis big_sync.which → beyond ≡ false
+    → EntryTunes box made own calls_made received source big_sync (Some new) (Ok tt)
+entry_tuned box made own calls_made received source big_sync sink new beyond is outlet lives b within = (
   rw (is.box_is, sym b ∙ within) refl,
-  entry_of box made (Some source) (stepped (put_on joining) ∷ life) (tune (by_numbers joining) ∷ received) new
+  entry_of box made (Some source) (stepped (sync_to_group big_sync) ∷ calls_made) (tune (by_numbers big_sync) ∷ received) new
       (record { box_is = is.box_is ∙ ap Some (sym outlet); how = is.how; made_is = is.made_is; lives = lives }),
 )
 
-pub entry_heard : (box : Option ℕ) (made : Option Settings) (own : Option ℕ) (life : List links.Call) (received : List Call)
+pub entry_heard : (box : Option ℕ) (made : Option Settings) (own : Option ℕ) (calls_made : List links.Call) (received : List Call)
     (source event bis subevent : ℕ) (octets : List ℕ)
-    (sink new : Sink) (from : Option ℕ) (of : Bool) (hearing : Hearing) → (is : SinkIs box made own life received sink) → new.outlet ≡ sink.outlet → from ≡ own
+    (sink new : Sink) (from : Option ℕ) (of : Bool) (hearing : Hearing) → (is : SinkIs box made own calls_made received sink) → new.outlet ≡ sink.outlet → from ≡ own
     → of ≡ is_of source from → of ≡ true → hearing ≡ hearing_of received event bis subevent octets
-    → Lives (receiving (hear event bis subevent octets) (past_of is.how own life received)) new.living
-    → EntryHears box made own life received source event bis subevent octets (Some new) (Some hearing)
-entry_heard box made own life received source event bis subevent octets sink new from of hearing is outlet f o t answer lives =
+    → IsSink (receiving (hear event bis subevent octets) (histories_of is.how own calls_made received)) new.living
+    → EntryHears box made own calls_made received source event bis subevent octets (Some new) (Some hearing)
+entry_heard box made own calls_made received source event bis subevent octets sink new from of hearing is outlet f o t answer lives =
     let mine : is_of source own ≡ true = ap (is_of source) (sym f) ∙ sym o ∙ t in (
       rw is.box_is refl,
       answer ∙ rw mine refl,
-      rw mine (entry_of box made own life (hear event bis subevent octets ∷ received) new
+      rw mine (entry_of box made own calls_made (hear event bis subevent octets ∷ received) new
           (record { box_is = is.box_is ∙ ap Some (sym outlet); how = is.how; made_is = is.made_is; lives = lives })),
     )
 
 -- a PDU of another source
-pub entry_passed : (box : Option ℕ) (made : Option Settings) (own : Option ℕ) (life : List links.Call) (received : List Call)
+pub entry_passed : (box : Option ℕ) (made : Option Settings) (own : Option ℕ) (calls_made : List links.Call) (received : List Call)
     (source event bis subevent : ℕ) (octets : List ℕ)
-    (sink : Sink) (from : Option ℕ) (of : Bool) → SinkIs box made own life received sink → from ≡ own → of ≡ is_of source from → of ≡ false
-    → EntryHears box made own life received source event bis subevent octets (Some sink) (Some NotOnGroup)
-entry_passed box made own life received source event bis subevent octets sink from of is f o t =
+    (sink : Sink) (from : Option ℕ) (of : Bool) → SinkIs box made own calls_made received sink → from ≡ own → of ≡ is_of source from → of ≡ false
+    → EntryHears box made own calls_made received source event bis subevent octets (Some sink) (Some NotOnGroup)
+entry_passed box made own calls_made received source event bis subevent octets sink from of is f o t =
     let other : is_of source own ≡ false = ap (is_of source) (sym f) ∙ sym o ∙ t in
-    (rw is.box_is refl, rw other refl, rw other (entry_of box made own life received sink is))
+    (rw is.box_is refl, rw other refl, rw other (entry_of box made own calls_made received sink is))
 
 -- what it would answer
-pub none_answers : (box : Option ℕ) (made : Option Settings) (own : Option ℕ) (life : List links.Call) (received : List Call)
+pub none_answers : (box : Option ℕ) (made : Option Settings) (own : Option ℕ) (calls_made : List links.Call) (received : List Call)
     (source event bis subevent : ℕ) (octets : List ℕ)
-    (entry : Option Sink) → EntryIs box made own life received (Some entry) → entry ≡ None
+    (entry : Option Sink) → EntryIs box made own calls_made received (Some entry) → entry ≡ None
     → None ≡ hearing_where box own received source event bis subevent octets
-none_answers box made own life received source event bis subevent octets entry is none =
-    let free : box ≡ None = none_lives box made own life received entry is (ap is_some none) in
+none_answers box made own calls_made received source event bis subevent octets entry is none =
+    let free : box ≡ None = none_lives box made own calls_made received entry is (ap is_some none) in
     sym (ap (λ (b : Option ℕ). hearing_where b own received source event bis subevent octets) free)
 
-pub entry_answers : (box : Option ℕ) (made : Option Settings) (own : Option ℕ) (life : List links.Call) (received : List Call)
+pub entry_answers : (box : Option ℕ) (made : Option Settings) (own : Option ℕ) (calls_made : List links.Call) (received : List Call)
     (source event bis subevent : ℕ) (octets : List ℕ)
-    (sink : Sink) (from : Option ℕ) (of : Bool) (hearing : Hearing) → SinkIs box made own life received sink → from ≡ own
+    (sink : Sink) (from : Option ℕ) (of : Bool) (hearing : Hearing) → SinkIs box made own calls_made received sink → from ≡ own
     → of ≡ is_of source from → of ≡ true → hearing ≡ hearing_of received event bis subevent octets
     → Some hearing ≡ hearing_where box own received source event bis subevent octets
-entry_answers box made own life received source event bis subevent octets sink from of hearing is f o t answer =
+entry_answers box made own calls_made received source event bis subevent octets sink from of hearing is f o t answer =
     let mine : is_of source own ≡ true = ap (is_of source) (sym f) ∙ sym o ∙ t in
     rw (is.box_is, mine) (ap Some answer)
 
-pub other_answers : (box : Option ℕ) (made : Option Settings) (own : Option ℕ) (life : List links.Call) (received : List Call)
+pub other_answers : (box : Option ℕ) (made : Option Settings) (own : Option ℕ) (calls_made : List links.Call) (received : List Call)
     (source event bis subevent : ℕ) (octets : List ℕ)
-    (sink : Sink) (from : Option ℕ) (of : Bool) → SinkIs box made own life received sink → from ≡ own → of ≡ is_of source from → of ≡ false
+    (sink : Sink) (from : Option ℕ) (of : Bool) → SinkIs box made own calls_made received sink → from ≡ own → of ≡ is_of source from → of ≡ false
     → Some NotOnGroup ≡ hearing_where box own received source event bis subevent octets
-other_answers box made own life received source event bis subevent octets sink from of is f o t =
+other_answers box made own calls_made received source event bis subevent octets sink from of is f o t =
     let other : is_of source own ≡ false = ap (is_of source) (sym f) ∙ sym o ∙ t in
     rw (is.box_is, other) refl
 
-line_ran : (box : Option ℕ) (how : Settings) (own : Option ℕ) (life : List links.Call) (received : List Call) (source : Source)
+line_ran : (box : Option ℕ) (how : Settings) (own : Option ℕ) (calls_made : List links.Call) (received : List Call) (source : Source)
     (line : Step) (new : Sink) (text told : List ℕ)
-    (r : Result (Unit {0}) Stop) → box ≡ Some new.outlet → LineMakes source line (past_of how own life received) text told new.living r
-    → EntryRuns box (Some how) own life received source line (Some new) text told r
-line_ran box how own life received source line new text told (Ok x) here makes =
-    let after : List links.Call = lived_by source line (Some how) life in (
+    (r : Result (Unit {0}) Stop) → box ≡ Some new.outlet → LineMakes source line (histories_of how own calls_made received) text told new.living r
+    → EntryRuns box (Some how) own calls_made received source line (Some new) text told r
+line_ran box how own calls_made received source line new text told (Ok x) here makes =
+    let after : List links.Call = calls_by source line (Some how) calls_made in (
       makes.0,
-      entry_of box (Some how) (source_by source line (Some how) life own) after (received_by source line (Some how) life after received) new
+      entry_of box (Some how) (source_by source line (Some how) calls_made own) after (received_by source line (Some how) calls_made after received) new
           (record { box_is = here; how = how; made_is = refl; lives = makes.1 }),
       makes.2,
     )
-line_ran box how own life received source line new text told (Err (Refused reason)) here makes = (
+line_ran box how own calls_made received source line new text told (Err (Refused reason)) here makes = (
   makes.0,
-  entry_of box (Some how) own life received new (record { box_is = here; how = how; made_is = refl; lives = makes.1 }),
+  entry_of box (Some how) own calls_made received new (record { box_is = here; how = how; made_is = refl; lives = makes.1 }),
   makes.2,
 )
-line_ran box how own life received source line new text told (Err OutletFault) here makes = makes
-line_ran box how own life received source line new text told (Err Memory) here makes = makes
+line_ran box how own calls_made received source line new text told (Err OutletFault) here makes = makes
+line_ran box how own calls_made received source line new text told (Err Memory) here makes = makes
 
 -- a line runs on the sink
-pub entry_ran : (box : Option ℕ) (made : Option Settings) (own : Option ℕ) (life : List links.Call) (received : List Call) (source : Source)
+pub entry_ran : (box : Option ℕ) (made : Option Settings) (own : Option ℕ) (calls_made : List links.Call) (received : List Call) (source : Source)
     (step : Step) (sink new : Sink)
-    (text told : List ℕ) (r : Result (Unit {0}) Stop) → (is : SinkIs box made own life received sink) → new.outlet ≡ sink.outlet
-    → LineMakes source step (past_of is.how own life received) text told new.living r → EntryRuns box made own life received source step (Some new) text told r
-entry_ran box made own life received source step sink new text told r is outlet makes =
-    let P : Option Settings → Type 0 = λ m. EntryRuns box m own life received source step (Some new) text told r in
-    subst P (sym is.made_is) (line_ran box is.how own life received source step new text told r (is.box_is ∙ ap Some (sym outlet)) makes)
+    (text told : List ℕ) (r : Result (Unit {0}) Stop) → (is : SinkIs box made own calls_made received sink) → new.outlet ≡ sink.outlet
+    → LineMakes source step (histories_of is.how own calls_made received) text told new.living r → EntryRuns box made own calls_made received source step (Some new) text told r
+entry_ran box made own calls_made received source step sink new text told r is outlet makes =
+    let P : Option Settings → Type 0 = λ m. EntryRuns box m own calls_made received source step (Some new) text told r in
+    subst P (sym is.made_is) (line_ran box is.how own calls_made received source step new text told r (is.box_is ∙ ap Some (sym outlet)) makes)

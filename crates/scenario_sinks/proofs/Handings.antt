@@ -19,7 +19,7 @@ use Rattle.scenario_sinks.proofs.Citable.{hands_stop, hands_then}
 
 pub set_same : {A : Type 0} (xs : List A) (i : ℕ) (x : A) → slice_get xs i ≡ Some x → slice_set xs i x ≡ xs
 set_same [] i x h = refl
-set_same (y ∷ xs) zero x h = let e : y ≡ x = cc in ap (λ front. front ∷ xs) (sym e)
+set_same (y ∷ xs) zero x h = let e : y ≡ x = cc in ap (λ prefix. prefix ∷ xs) (sym e)
 set_same (y ∷ xs) (suc i) x h = ap (λ rest. y ∷ rest) (set_same xs i x h)
 
 pub box_wanted : (place : ℕ) (octets : List ℕ) (old new : List Account) (result : Result (Unit {0}) Refusal)
@@ -51,7 +51,7 @@ hands_valid owner bis time octets text old new Memory h = record { done = []; re
 pub units_more : (owner : Owner) (units : List HandedUnit) (i : ℕ) (unit : HandedUnit) → i < length units → unit ≡ get_or units i unit
     → units_for owner (map handed_of (take (i + 1) units)) ≡ units_for owner (map handed_of (take i units)) ++ units_for owner (handed_of unit ∷ [])
 units_more owner units i unit within is =
-    ap (λ front. units_for owner (map handed_of front)) (take_more units i unit within ∙ ap (λ last. take i units ++ last ∷ []) (sym is))
+    ap (λ prefix. units_for owner (map handed_of prefix)) (take_more units i unit within ∙ ap (λ last. take i units ++ last ∷ []) (sym is))
     ∙ ap (units_for owner) (map-append handed_of (take i units) (unit ∷ []))
     ∙ map-append (λ handed. record { source = owner.source; sink = owner.sink; box = owner.outlet; unit = handed }) (map handed_of (take i units)) (handed_of unit ∷ [])
 

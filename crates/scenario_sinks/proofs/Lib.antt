@@ -1,7 +1,7 @@
 pub mod Citable
 pub mod Ranges
 pub mod Handings
-mod Untaken
+mod Unassigned
 pub mod Faults
 pub mod Entries
 pub mod Closings

@@ -2,7 +2,7 @@
 use Rattle.std.proofs.Common.{◌≡◌, ℕ, ◌+◌, ◌<◌, ◌≤◌, true, false, List, length, refl, sym, ◌∙◌, ap, subst, is_some, slice_set, get_or, eq-eqb}
 use Rattle.std.proofs.Common.{arith, Option, None, Some, Result, Ok, Err}
 use Rattle.std.proofs.lemmas.Bool.{le-leb, lt-leb}
-use Rattle.sync_reference.specs.Joining.{Joining}
+use Rattle.sync_reference.specs.BigSync.{BigSync}
 use Rattle.isoal_base.specs.declared.hearing.Hearing.{Hearing}
 use Rattle.transcript_text.specs.declared.refusal.Refusal.TheVariants.{SinkTwice, NoOutlet}
 use Rattle.scenario_history.specs.Boxes.{most_sinks}
@@ -12,17 +12,17 @@ use Rattle.scenario_sinks.specs.declared.sinks.Sinks.{Sinks}
 use Rattle.transcript_text.specs.declared.stop.Stop.{Stop}
 use Rattle.transcript_text.specs.declared.stop.Stop.TheVariants.{Refused, OutletFault, Memory}
 use Rattle.scenario_sinks.specs.Hearing.{Hears}
-use Rattle.scenario_sinks.specs.Pasts.{Past, with_sink, without, with_tuning, with_hearing}
+use Rattle.scenario_sinks.specs.Histories.{Histories, with_sink, without, with_tuning, with_hearing}
 use Rattle.scenario_sinks.specs.Refusals.{Answers, Tunes, not_made, not_living, not_tuned}
 use Rattle.scenario_sinks.specs.State.Standing.{EntryAt, EntriesAre, SinksStand}
 use Rattle.scenario_sinks.specs.State.Entries.{EntryHears, EntryTunes}
 use Rattle.delegator_history.specs.Trains.{Settings}
-use Rattle.scenario_sink.specs.State.Stands.{Lives}
-use Rattle.scenario_sink.specs.Pasts.{new_sink}
+use Rattle.scenario_sink.specs.State.Stands.{IsSink}
+use Rattle.scenario_sink.specs.SinkHistory.{new_sink}
 use Rattle.scenario_sinks.proofs.Entries.{OthersStay, one_entry, entry_read, none_lives, lives_in, sink_in}
 
 -- the sinks where the entry of a number is new
-pub one_changed : (n at : ℕ) (past next : Past) (old new : Sinks) (entry : Option Sink) → at ≡ n → n < most_sinks → length old.entries.items ≡ most_sinks
+pub one_changed : (n at : ℕ) (past next : Histories) (old new : Sinks) (entry : Option Sink) → at ≡ n → n < most_sinks → length old.entries.items ≡ most_sinks
     → OthersStay n past next → SinksStand past old → EntryAt next n (Some entry) → new.entries.items ≡ slice_set old.entries.items at entry
     → new.outlet_count ≡ next.made → new.gathered ≡ old.gathered → SinksStand next new
 one_changed n at past next old new entry same within eight others stands here set made gathered =
@@ -35,7 +35,7 @@ one_changed n at past next old new entry same within eight others stands here se
 
 -- ---- a sink is made
 
-make_stays : (n : ℕ) (how : Settings) (past : Past) → OthersStay n past (with_sink n how past)
+make_stays : (n : ℕ) (how : Settings) (past : Histories) → OthersStay n past (with_sink n how past)
 make_stays n how past = record {
   boxes = λ m apart. rw apart refl;
   mades = λ m apart. rw apart refl;
@@ -44,10 +44,10 @@ make_stays n how past = record {
   received = λ m apart. rw apart refl;
 }
 
-pub made : (boxes n at : ℕ) (how : Settings) (past : Past) (old new : Sinks) (entry : Option Sink) (sink : Sink) → SinksStand past old
+pub made : (boxes n at : ℕ) (how : Settings) (past : Histories) (old new : Sinks) (entry : Option Sink) (sink : Sink) → SinksStand past old
     → at ≡ n → n < most_sinks
     → length old.entries.items ≡ most_sinks → entry ≡ get_or old.entries.items at entry → is_some entry ≡ false → old.outlet_count < boxes
-    → sink.outlet ≡ old.outlet_count → Lives (new_sink how) sink.living
+    → sink.outlet ≡ old.outlet_count → IsSink (new_sink how) sink.living
     → new.entries.items ≡ slice_set old.entries.items at (Some sink) → new.outlet_count ≡ old.outlet_count + 1 → new.gathered ≡ old.gathered
     → Answers (not_made (past.boxes n) past.made boxes) past (with_sink n how past) new (Ok tt)
 made boxes n at how past old new entry sink stands same within eight is none room outlet fresh set more gathered =
@@ -60,7 +60,7 @@ made boxes n at how past old new entry sink stands same within eight is none roo
     )
 
 -- a sink of the number lives
-pub taken : (boxes n at : ℕ) (how : Settings) (past : Past) (old : Sinks) (entry : Option Sink) → SinksStand past old → at ≡ n
+pub taken : (boxes n at : ℕ) (how : Settings) (past : Histories) (old : Sinks) (entry : Option Sink) → SinksStand past old → at ≡ n
     → n < most_sinks
     → length old.entries.items ≡ most_sinks → entry ≡ get_or old.entries.items at entry → is_some entry ≡ true
     → Answers (not_made (past.boxes n) past.made boxes) past (with_sink n how past) old (Err (Refused SinkTwice))
@@ -70,7 +70,7 @@ taken boxes n at how past old entry stands same within eight is some =
     (rw lives refl, stands)
 
 -- no box is left
-pub no_box : (boxes n at : ℕ) (how : Settings) (past : Past) (old : Sinks) (entry : Option Sink) → SinksStand past old → at ≡ n
+pub no_box : (boxes n at : ℕ) (how : Settings) (past : Histories) (old : Sinks) (entry : Option Sink) → SinksStand past old → at ≡ n
     → n < most_sinks
     → length old.entries.items ≡ most_sinks → entry ≡ get_or old.entries.items at entry → is_some entry ≡ false → boxes ≤ old.outlet_count
     → Answers (not_made (past.boxes n) past.made boxes) past (with_sink n how past) old (Err (Refused NoOutlet))
@@ -82,7 +82,7 @@ no_box boxes n at how past old entry stands same within eight is none full =
 
 -- ---- a sink ends
 
-end_stays : (n : ℕ) (past : Past) → OthersStay n past (without n past)
+end_stays : (n : ℕ) (past : Histories) → OthersStay n past (without n past)
 end_stays n past = record {
   boxes = λ m apart. rw apart refl;
   mades = λ m apart. rw apart refl;
@@ -91,7 +91,7 @@ end_stays n past = record {
   received = λ m apart. rw apart refl;
 }
 
-pub ended : (n at : ℕ) (past : Past) (old new : Sinks) (sink : Sink) → SinksStand past old → at ≡ n → n < most_sinks
+pub ended : (n at : ℕ) (past : Histories) (old new : Sinks) (sink : Sink) → SinksStand past old → at ≡ n → n < most_sinks
     → length old.entries.items ≡ most_sinks → Some sink ≡ get_or old.entries.items at (Some sink)
     → new.entries.items ≡ slice_set old.entries.items at None → new.outlet_count ≡ old.outlet_count → new.gathered ≡ old.gathered
     → Answers (not_living (past.boxes n)) past (without n past) new (Ok tt)
@@ -103,10 +103,10 @@ ended n at past old new sink stands same within eight is set more gathered =
       one_changed n at past (without n past) old new None same within eight (end_stays n past) stands here set (more ∙ stands.made) gathered,
     )
 
--- ---- a sink is put on a group
+-- ---- a sink is synchronized to a BIG
 
-tune_stays : (n source : ℕ) (joining : Joining) (past : Past) → OthersStay n past (with_tuning n source joining past)
-tune_stays n source joining past = record {
+tune_stays : (n source : ℕ) (big_sync : BigSync) (past : Histories) → OthersStay n past (with_tuning n source big_sync past)
+tune_stays n source big_sync past = record {
   boxes = λ m apart. refl;
   mades = λ m apart. refl;
   sources = λ m apart. rw apart refl;
@@ -114,25 +114,25 @@ tune_stays n source joining past = record {
   received = λ m apart. rw apart refl;
 }
 
-pub same_stays : (n : ℕ) (past : Past) → OthersStay n past past
+pub same_stays : (n : ℕ) (past : Histories) → OthersStay n past past
 same_stays n past = record { boxes = λ m apart. refl; mades = λ m apart. refl; sources = λ m apart. refl; lives = λ m apart. refl; received = λ m apart. refl }
 
-pub tuned : (n at source : ℕ) (joining : Joining) (past : Past) (old new : Sinks) (entry : Option Sink) (r : Result (Unit {0}) Stop) → SinksStand past old → at ≡ n
+pub tuned : (n at source : ℕ) (big_sync : BigSync) (past : Histories) (old new : Sinks) (entry : Option Sink) (r : Result (Unit {0}) Stop) → SinksStand past old → at ≡ n
     → n < most_sinks → length old.entries.items ≡ most_sinks
-    → EntryTunes (past.boxes n) (past.mades n) (past.sources n) (past.lives n) (past.received n) source joining entry r
+    → EntryTunes (past.boxes n) (past.mades n) (past.sources n) (past.lives n) (past.received n) source big_sync entry r
     → new.entries.items ≡ slice_set old.entries.items at entry → new.outlet_count ≡ old.outlet_count → new.gathered ≡ old.gathered
-    → Tunes (not_tuned (past.boxes n) joining.info.num_bis joining.which) past (with_tuning n source joining past) new r
-tuned n at source joining past old new entry (Ok x) stands same within eight t set more gathered =
-    let here : EntryAt (with_tuning n source joining past) n (Some entry) = rw (eq-eqb n n refl) t.1 in
-    (t.0, one_changed n at past (with_tuning n source joining past) old new entry same within eight (tune_stays n source joining past) stands here set (more ∙ stands.made) gathered)
-tuned n at source joining past old new entry (Err (Refused reason)) stands same within eight t set more gathered =
+    → Tunes (not_tuned (past.boxes n) big_sync.info.num_bis big_sync.which) past (with_tuning n source big_sync past) new r
+tuned n at source big_sync past old new entry (Ok x) stands same within eight t set more gathered =
+    let here : EntryAt (with_tuning n source big_sync past) n (Some entry) = rw (eq-eqb n n refl) t.1 in
+    (t.0, one_changed n at past (with_tuning n source big_sync past) old new entry same within eight (tune_stays n source big_sync past) stands here set (more ∙ stands.made) gathered)
+tuned n at source big_sync past old new entry (Err (Refused reason)) stands same within eight t set more gathered =
     (t.0, one_changed n at past past old new entry same within eight (same_stays n past) stands t.1 set (more ∙ stands.made) gathered)
-tuned n at source joining past old new entry (Err OutletFault) stands same within eight t set more gathered = t
-tuned n at source joining past old new entry (Err Memory) stands same within eight t set more gathered = tt
+tuned n at source big_sync past old new entry (Err OutletFault) stands same within eight t set more gathered = t
+tuned n at source big_sync past old new entry (Err Memory) stands same within eight t set more gathered = tt
 
 -- ---- a sink hears
 
-hear_stays : (n source event bis subevent : ℕ) (octets : List ℕ) (past : Past) → OthersStay n past (with_hearing n source event bis subevent octets past)
+hear_stays : (n source event bis subevent : ℕ) (octets : List ℕ) (past : Histories) → OthersStay n past (with_hearing n source event bis subevent octets past)
 hear_stays n source event bis subevent octets past = record {
   boxes = λ m apart. refl;
   mades = λ m apart. refl;
@@ -141,7 +141,7 @@ hear_stays n source event bis subevent octets past = record {
   received = λ m apart. rw apart refl;
 }
 
-pub heard : (n at source event bis subevent : ℕ) (octets : List ℕ) (past : Past) (old new : Sinks) (entry : Option Sink) (r : Option Hearing) → SinksStand past old → at ≡ n
+pub heard : (n at source event bis subevent : ℕ) (octets : List ℕ) (past : Histories) (old new : Sinks) (entry : Option Sink) (r : Option Hearing) → SinksStand past old → at ≡ n
     → n < most_sinks → length old.entries.items ≡ most_sinks
     → EntryHears (past.boxes n) (past.mades n) (past.sources n) (past.lives n) (past.received n) source event bis subevent octets entry r
     → new.entries.items ≡ slice_set old.entries.items at entry → new.outlet_count ≡ old.outlet_count → new.gathered ≡ old.gathered

@@ -4,7 +4,7 @@ use Rattle.std.specs.List.{list_all, range_with_len}
 use Rattle.std.proofs.lemmas.Bool.{cases_eq}
 use Rattle.std.proofs.Math.Bool.{and-false}
 use Rattle.scenario_sinks.specs.declared.route.Route.{Route}
-use Rattle.scenario_sinks.specs.RelayPasts.{Past, is_idle, with_relay}
+use Rattle.scenario_sinks.specs.RelayHistories.{Histories, is_idle, with_relay}
 
 set_here : {A : Type 0} (xs : List A) (i : ℕ) (old new : A) → slice_get xs i ≡ Some old → slice_get (slice_set xs i new) i ≡ Some new
 set_here [] i old new is = absurd (cc is)
@@ -42,6 +42,6 @@ not_all test start (suc count) n least below fails =
     ]
 
 -- a sink has a relay
-pub not_idle : (n bis to : ℕ) (past : Past) → n < 8 → false ≡ is_idle (with_relay n bis to past)
+pub not_idle : (n bis to : ℕ) (past : Histories) → n < 8 → false ≡ is_idle (with_relay n bis to past)
 not_idle n bis to past below =
     sym (not_all (λ m. is_none ((with_relay n bis to past).routes m)) 0 8 n (omega arith) (omega (arith, below)) (rw (eq-eqb n n refl) refl))

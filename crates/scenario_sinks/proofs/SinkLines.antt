@@ -5,13 +5,13 @@ use Rattle.group_sink.specs.Calls.{Call}
 use Rattle.sink_history.specs.Calls as links
 use Rattle.scenario_history.specs.Boxes.{most_sinks}
 use Rattle.scenario_text.specs.declared.step.Step.{Step}
-use Rattle.sink_history.specs.Lives.{Source, lived_by}
+use Rattle.sink_history.specs.History.{Source, calls_by}
 use Rattle.sink_history.specs.Moves.{follows_by, received_by, source_by, train_by}
 use Rattle.transcript_text.specs.declared.stop.Stop.{Stop}
 use Rattle.transcript_text.specs.declared.stop.Stop.TheVariants.{Refused, OutletFault, Memory}
 use Rattle.scenario_sinks.specs.declared.sink.Sink.{Sink}
 use Rattle.scenario_sinks.specs.declared.sinks.Sinks.{Sinks}
-use Rattle.scenario_sinks.specs.Pasts.{Past, sourced_by, with_line}
+use Rattle.scenario_sinks.specs.Histories.{Histories, sourced_by, with_line}
 use Rattle.scenario_sinks.specs.SinkLines.{SinkLineMakes}
 use Rattle.scenario_sinks.specs.State.Entries.{EntryRuns}
 use Rattle.scenario_sinks.specs.State.Standing.{EntryAt, EntryIs, SinksStand}
@@ -20,12 +20,12 @@ use Rattle.scenario_sinks.proofs.OneSink.{one_changed, same_stays}
 
 -- ---- the source of the sink, and of the others
 
-others_sourced : (n : ℕ) (source : Source) (step : Step) (train : Option Train) (past : Past) (m : ℕ) → (n == m) ≡ false
+others_sourced : (n : ℕ) (source : Source) (step : Step) (train : Option Train) (past : Histories) (m : ℕ) → (n == m) ≡ false
     → sourced_by n source step train past m ≡ past.sources m
 others_sourced n source line None past m apart = refl
 others_sourced n source line (Some train) past m apart = rw apart refl
 
-own_sourced : (n : ℕ) (source : Source) (step : Step) (train : Option Train) (past : Past) → train_by source step ≡ train
+own_sourced : (n : ℕ) (source : Source) (step : Step) (train : Option Train) (past : Histories) → train_by source step ≡ train
     → sourced_by n source step train past n ≡ source_by source step (past.mades n) (past.lives n) (past.sources n)
 own_sourced n source line None past none =
     let unmoved : follows_by source (train_by source line) (past.mades n) (past.lives n) ≡ false = rw none refl in
@@ -34,7 +34,7 @@ own_sourced n source line (Some train) past some = rw (eq-eqb n n refl) refl
 
 -- ---- the sinks
 
-line_stays : (n : ℕ) (source : Source) (step : Step) (past : Past) → OthersStay n past (with_line n source step past)
+line_stays : (n : ℕ) (source : Source) (step : Step) (past : Histories) → OthersStay n past (with_line n source step past)
 line_stays n source step past = record {
   boxes = λ m apart. refl;
   mades = λ m apart. refl;
@@ -43,24 +43,24 @@ line_stays n source step past = record {
   received = λ m apart. rw apart refl;
 }
 
-line_here : (n : ℕ) (source : Source) (step : Step) (past : Past) (entry : Option (Option Sink))
+line_here : (n : ℕ) (source : Source) (step : Step) (past : Histories) (entry : Option (Option Sink))
     → EntryIs (past.boxes n) (past.mades n) (source_by source step (past.mades n) (past.lives n) (past.sources n))
-    (lived_by source step (past.mades n) (past.lives n))
-    (received_by source step (past.mades n) (past.lives n) (lived_by source step (past.mades n) (past.lives n)) (past.received n)) entry
+    (calls_by source step (past.mades n) (past.lives n))
+    (received_by source step (past.mades n) (past.lives n) (calls_by source step (past.mades n) (past.lives n)) (past.received n)) entry
     → EntryAt (with_line n source step past) n entry
 line_here n source step past entry is =
-    let next : Past = with_line n source step past in
-    let lives : next.lives n ≡ lived_by source step (past.mades n) (past.lives n) = rw (eq-eqb n n refl) refl in
+    let next : Histories = with_line n source step past in
+    let lives : next.lives n ≡ calls_by source step (past.mades n) (past.lives n) = rw (eq-eqb n n refl) refl in
     let received : next.received n
-    ≡ received_by source step (past.mades n) (past.lives n) (lived_by source step (past.mades n) (past.lives n)) (past.received n) = rw (eq-eqb n n refl) refl in
+    ≡ received_by source step (past.mades n) (past.lives n) (calls_by source step (past.mades n) (past.lives n)) (past.received n) = rw (eq-eqb n n refl) refl in
     let S : Option ℕ → Type 0 = λ s. EntryIs (past.boxes n) (past.mades n) s (next.lives n) (next.received n) entry in
-    let L : List links.Call → Type 0 = λ life. EntryIs (past.boxes n) (past.mades n)
-    (source_by source step (past.mades n) (past.lives n) (past.sources n)) life (next.received n) entry in
+    let L : List links.Call → Type 0 = λ calls_made. EntryIs (past.boxes n) (past.mades n)
+    (source_by source step (past.mades n) (past.lives n) (past.sources n)) calls_made (next.received n) entry in
     let C : List Call → Type 0 = λ calls. EntryIs (past.boxes n) (past.mades n)
-    (source_by source step (past.mades n) (past.lives n) (past.sources n)) (lived_by source step (past.mades n) (past.lives n)) calls entry in
+    (source_by source step (past.mades n) (past.lives n) (past.sources n)) (calls_by source step (past.mades n) (past.lives n)) calls entry in
     subst S (sym (own_sourced n source step (train_by source step) past refl)) (subst L (sym lives) (subst C (sym received) is))
 
-pub ran : (n at : ℕ) (source : Source) (step : Step) (past : Past) (old new : Sinks) (entry : Option Sink) (text told : List ℕ) (r : Result (Unit {0}) Stop)
+pub ran : (n at : ℕ) (source : Source) (step : Step) (past : Histories) (old new : Sinks) (entry : Option Sink) (text told : List ℕ) (r : Result (Unit {0}) Stop)
     → SinksStand past old → at ≡ n → n < most_sinks → length old.entries.items ≡ most_sinks
     → EntryRuns (past.boxes n) (past.mades n) (past.sources n) (past.lives n) (past.received n) source step entry text told r
     → new.entries.items ≡ slice_set old.entries.items at entry → new.outlet_count ≡ old.outlet_count → new.gathered ≡ old.gathered

@@ -41,6 +41,6 @@ sums_all accounts boxes n text told e h = h ∙ ap (λ k. text ++ sums_where acc
 pub sums_next : (accounts : List Account) (boxes : ℕ → Option ℕ) (n : ℕ) (text mid told : List ℕ) → mid ≡ text ++ sums_where accounts boxes (range_with_len 0 n)
     → told ≡ mid ++ sum_where accounts n (boxes n) → told ≡ text ++ sums_where accounts boxes (range_with_len 0 (n + 1))
 sums_next accounts boxes n text mid told m h =
-    h ∙ ap (λ front. front ++ sum_where accounts n (boxes n)) m
+    h ∙ ap (λ prefix. prefix ++ sum_where accounts n (boxes n)) m
     ∙ append_assoc text (sums_where accounts boxes (range_with_len 0 n)) (sum_where accounts n (boxes n))
     ∙ ap (λ rest. text ++ rest) (sym (sums_more accounts boxes n))

@@ -6,7 +6,7 @@ use Rattle.isoal_base.specs.declared.hearing.Hearing.{Hearing}
 use Rattle.isoal_base.specs.declared.hearing.Hearing.TheVariants.{NotOnGroup}
 use Rattle.scenario_history.specs.Sinks.{is_of}
 use Rattle.scenario_sinks.specs.declared.sinks.Sinks.{Sinks}
-use Rattle.scenario_sinks.specs.Pasts.{Past, with_hearing}
+use Rattle.scenario_sinks.specs.Histories.{Histories, with_hearing}
 use Rattle.scenario_sinks.specs.State.Standing.{SinksStand}
 
 -- a sink that isn't of the source is on no group of it
@@ -20,7 +20,7 @@ hearing_where None own received source event bis subevent octets = None
 hearing_where (Some box) own received source event bis subevent octets = Some (hearing_by own received source event bis subevent octets)
 
 -- what the sink of a number, where it lives, made of them
-abbrev pub Hears : Past → (n source event bis subevent : ℕ) → List ℕ → Sinks → Option Hearing → Type 0
+abbrev pub Hears : Histories → (n source event bis subevent : ℕ) → List ℕ → Sinks → Option Hearing → Type 0
 Hears past n source event bis subevent octets new None = past.boxes n ≡ None
 Hears past n source event bis subevent octets new (Some hearing) =
     (is_some (past.boxes n) ≡ true) × (hearing ≡ hearing_by (past.sources n) (past.received n) source event bis subevent octets)

@@ -1,11 +1,11 @@
-pub mod Pasts
+pub mod Histories
 pub mod Refusals
 pub mod Handing
-pub mod Untaken
+pub mod Unassigned
 pub mod Faults
 pub mod Closing
 pub mod Hearing
 pub mod Sums
 pub mod SinkLines
 pub mod State
-pub mod RelayPasts
+pub mod RelayHistories

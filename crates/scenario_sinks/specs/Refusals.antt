@@ -1,4 +1,4 @@
--- Why a sink with this box, where it lives, is not made, not ended or not put on a group, in the order of test, and what
+-- Why a sink with this box, where it lives, is not made, not ended or not synchronized to a BIG, in the order of test, and what
 -- became of the sinks then. The refusals are the scenario language's own.
 use Rattle.std.specs.Prelude.{ℕ, ◌≡◌, nat_le, not, is_some, Option, None, Some, Result, Ok, Err}
 use Rattle.std.specs.Option.{option_or}
@@ -9,7 +9,7 @@ use Rattle.sink_history.specs.Refusals.{refuse_if}
 use Rattle.scenario_sinks.specs.declared.sinks.Sinks.{Sinks}
 use Rattle.transcript_text.specs.declared.stop.Stop.{Stop}
 use Rattle.transcript_text.specs.declared.stop.Stop.TheVariants.{Refused, OutletFault, Memory}
-use Rattle.scenario_sinks.specs.Pasts.{Past}
+use Rattle.scenario_sinks.specs.Histories.{Histories}
 use Rattle.scenario_sinks.specs.State.Standing.{SinksStand}
 
 abbrev pub not_living : Option ℕ → Option Refusal
@@ -24,14 +24,14 @@ abbrev pub not_tuned : Option ℕ → ℕ → ℕ → Option Refusal
 not_tuned box num_bis which = option_or (not_living box) (refuse_if (has_beyond num_bis which) NoSuchBis)
 
 -- what became of the sinks, where `fault` is why the step is refused: they have this past, and after a refusal the old one
-abbrev pub Answers : Option Refusal → Past → Past → Sinks → Result (Unit {0}) Stop → Type 0
+abbrev pub Answers : Option Refusal → Histories → Histories → Sinks → Result (Unit {0}) Stop → Type 0
 Answers fault old next new (Ok _) = (fault ≡ None) × SinksStand next new
 Answers fault old next new (Err (Refused reason)) = (fault ≡ Some reason) × SinksStand old new
 Answers fault old next new (Err OutletFault) = ⊥
 Answers fault old next new (Err Memory) = SinksStand old new
 
 -- the same of a step that changes the sink itself, of which nothing is said after want of memory
-abbrev pub Tunes : Option Refusal → Past → Past → Sinks → Result (Unit {0}) Stop → Type 0
+abbrev pub Tunes : Option Refusal → Histories → Histories → Sinks → Result (Unit {0}) Stop → Type 0
 Tunes fault old next new (Ok _) = (fault ≡ None) × SinksStand next new
 Tunes fault old next new (Err (Refused reason)) = (fault ≡ Some reason) × SinksStand old new
 Tunes fault old next new (Err OutletFault) = ⊥

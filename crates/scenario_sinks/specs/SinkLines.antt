@@ -3,19 +3,19 @@
 use Rattle.std.specs.Prelude.{ℕ, ◌≡◌, List, ◌++◌, None, Some, Result, Ok, Err}
 use Rattle.std.specs.List.{concat}
 use Rattle.scenario_text.specs.declared.step.Step.{Step}
-use Rattle.sink_history.specs.Lives.{Source}
+use Rattle.sink_history.specs.History.{Source}
 use Rattle.sink_history.specs.Output.{printed_where}
 use Rattle.sink_history.specs.Refusals.{refused_where}
 use Rattle.scenario_sink.specs.Making.{Takes}
 use Rattle.transcript_text.specs.declared.stop.Stop.{Stop}
 use Rattle.transcript_text.specs.declared.stop.Stop.TheVariants.{Refused, OutletFault, Memory}
 use Rattle.scenario_sinks.specs.declared.sinks.Sinks.{Sinks}
-use Rattle.scenario_sinks.specs.Pasts.{Past, with_line}
+use Rattle.scenario_sinks.specs.Histories.{Histories, with_line}
 use Rattle.scenario_sinks.specs.State.Standing.{SinksStand}
 
 -- it is refused and the sinks have the past without it, or else it prints its lines behind a text, and they have the past with it, or
 -- memory ran out, of a line that isn't refused and takes some
-abbrev pub SinkLineMakes : Past → ℕ → Source → Step → Sinks → (text told : List ℕ) → Result (Unit {0}) Stop → Type 0
+abbrev pub SinkLineMakes : Histories → ℕ → Source → Step → Sinks → (text told : List ℕ) → Result (Unit {0}) Stop → Type 0
 SinkLineMakes past n source line new text told (Ok _) =
     (refused_where line (past.mades n) (past.lives n) ≡ None) × SinksStand (with_line n source line past) new
     × (told ≡ text ++ concat (printed_where source line (past.mades n) (past.lives n)))

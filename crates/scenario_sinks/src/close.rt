@@ -4,10 +4,10 @@ ghost use Rattle.group_sink.specs.Calls.{Call};
 ghost use Rattle.sink_history.specs.Calls as links;
 ghost use Rattle.scenario_history.specs.Sinks as history;
 ghost use Rattle.delegator_history.specs.Trains.{Settings};
-ghost use Rattle.scenario_sinks.specs.Pasts.{Past};
+ghost use Rattle.scenario_sinks.specs.Histories.{Histories};
 ghost use Rattle.scenario_sinks.specs.State.Standing.{EntryIs, EntriesAre};
 ghost use Rattle.scenario_sinks.specs.State.Between.{SinkCloses, SinkHands, AllClose, OneCloses};
-ghost use Rattle.scenario_sinks.specs.Untaken.{AllButSame, UntakenSame};
+ghost use Rattle.scenario_sinks.specs.Unassigned.{AllButSame, UnassignedSame};
 ghost use Rattle.unit_outlets.specs.Took.{OthersSame};
 
 use crate::gathered::Gathered;
@@ -19,8 +19,8 @@ use unit_outlets::{Outlet, TakerFault};
 
 /// Whether a sink lives in an entry that is of this source.
 fn is_sink_of(entry: &Option<Sink>, source: u8) -> bool
-    ensures { (box : Option ℕ) (made : Option Settings) (own : Option ℕ) (life : List links.Call) (received : List Call)
-        → EntryIs box made own life received (Some entry.now) → result ≡ (is_some box && history.is_of source own) }
+    ensures { (box : Option ℕ) (made : Option Settings) (own : Option ℕ) (calls_made : List links.Call) (received : List Call)
+        → EntryIs box made own calls_made received (Some entry.now) → result ≡ (is_some box && history.is_of source own) }
 {
     match entry {
         Some(sink) => is_of(sink.living.source(), source),
@@ -39,10 +39,10 @@ fn hand_living(
     text: &mut Octets,
 ) -> Result<(), Stop>
     requires { event < 2 ^ 39 }
-    ensures hands { (box : Option ℕ) (made : Option Settings) (own : Option ℕ) (life : List links.Call) (received : List Call)
-        → EntryIs box made own life received (Some (Some sink.old)) → history.is_of owner.source own ≡ true
+    ensures hands { (box : Option ℕ) (made : Option Settings) (own : Option ℕ) (calls_made : List links.Call) (received : List Call)
+        → EntryIs box made own calls_made received (Some (Some sink.old)) → history.is_of owner.source own ≡ true
         → owner.outlet ≡ sink.old.outlet → gathered.old.units.items ≡ []
-        → SinkHands box made own life received owner.sink owner.source event (Some sink.new) gathered.new text.old text.new
+        → SinkHands box made own calls_made received owner.sink owner.source event (Some sink.new) gathered.new text.old text.new
         (map account outlets.old.items) (map account outlets.new.items) result }
     ensures others { OthersSame owner.outlet outlets.old.items outlets.new.items }
 {
@@ -70,12 +70,12 @@ fn hand_sink(
     text: &mut Octets,
 ) -> Result<(), Stop>
     requires { event < 2 ^ 39 }
-    ensures hands { (box : Option ℕ) (made : Option Settings) (own : Option ℕ) (life : List links.Call) (received : List Call)
-        → EntryIs box made own life received (Some entry.old) → gathered.old.units.items ≡ []
-        → SinkHands box made own life received number source event entry.new gathered.new text.old text.new (map account outlets.old.items)
+    ensures hands { (box : Option ℕ) (made : Option Settings) (own : Option ℕ) (calls_made : List links.Call) (received : List Call)
+        → EntryIs box made own calls_made received (Some entry.old) → gathered.old.units.items ≡ []
+        → SinkHands box made own calls_made received number source event entry.new gathered.new text.old text.new (map account outlets.old.items)
         (map account outlets.new.items) result }
-    ensures others { (box : Option ℕ) (made : Option Settings) (own : Option ℕ) (life : List links.Call) (received : List Call)
-        → EntryIs box made own life received (Some entry.old) → AllButSame box outlets.old.items outlets.new.items }
+    ensures others { (box : Option ℕ) (made : Option Settings) (own : Option ℕ) (calls_made : List links.Call) (received : List Call)
+        → EntryIs box made own calls_made received (Some entry.old) → AllButSame box outlets.old.items outlets.new.items }
 {
     let Some(sink) = entry else {
         return Ok(());
@@ -104,16 +104,16 @@ fn close_sink(
     text: &mut Octets,
 ) -> Result<(), Stop>
     requires { event < 2 ^ 39 }
-    ensures closes { (box : Option ℕ) (made : Option Settings) (own : Option ℕ) (life : List links.Call) (received : List Call)
-        → EntryIs box made own life received (Some entry.old) → gathered.old.units.items ≡ [] → keeps ≡ false
-        → SinkCloses box made own life received number source event entry.new gathered.new text.old text.new (map account outlets.old.items)
+    ensures closes { (box : Option ℕ) (made : Option Settings) (own : Option ℕ) (calls_made : List links.Call) (received : List Call)
+        → EntryIs box made own calls_made received (Some entry.old) → gathered.old.units.items ≡ [] → keeps ≡ false
+        → SinkCloses box made own calls_made received number source event entry.new gathered.new text.old text.new (map account outlets.old.items)
         (map account outlets.new.items) result }
-    ensures hands { (box : Option ℕ) (made : Option Settings) (own : Option ℕ) (life : List links.Call) (received : List Call)
-        → EntryIs box made own life received (Some entry.old) → gathered.old.units.items ≡ [] → keeps ≡ true
-        → SinkHands box made own life received number source event entry.new gathered.new text.old text.new (map account outlets.old.items)
+    ensures hands { (box : Option ℕ) (made : Option Settings) (own : Option ℕ) (calls_made : List links.Call) (received : List Call)
+        → EntryIs box made own calls_made received (Some entry.old) → gathered.old.units.items ≡ [] → keeps ≡ true
+        → SinkHands box made own calls_made received number source event entry.new gathered.new text.old text.new (map account outlets.old.items)
         (map account outlets.new.items) result }
-    ensures others { (box : Option ℕ) (made : Option Settings) (own : Option ℕ) (life : List links.Call) (received : List Call)
-        → EntryIs box made own life received (Some entry.old) → AllButSame box outlets.old.items outlets.new.items }
+    ensures others { (box : Option ℕ) (made : Option Settings) (own : Option ℕ) (calls_made : List links.Call) (received : List Call)
+        → EntryIs box made own calls_made received (Some entry.old) → AllButSame box outlets.old.items outlets.new.items }
 {
     if !is_sink_of(entry, source) {
         return Ok(());
@@ -145,13 +145,13 @@ pub(crate) fn close_sinks(
     requires event { event < 2 ^ 39 }
     requires eight { length sinks.old ≡ 8 }
     requires end { end ≤ 8 }
-    ensures closes { (past : Past) → EntriesAre past sinks.old → gathered.old.units.items ≡ [] → first ≡ 0 → end ≡ 8 → keeps ≡ false
+    ensures closes { (past : Histories) → EntriesAre past sinks.old → gathered.old.units.items ≡ [] → first ≡ 0 → end ≡ 8 → keeps ≡ false
         → AllClose past source event sinks.new gathered.new text.old text.new (map account outlets.old.items)
         (map account outlets.new.items) result }
-    ensures one { (past : Past) → EntriesAre past sinks.old → gathered.old.units.items ≡ [] → end ≡ first + 1 → keeps ≡ true
+    ensures one { (past : Histories) → EntriesAre past sinks.old → gathered.old.units.items ≡ [] → end ≡ first + 1 → keeps ≡ true
         → OneCloses past first source event sinks.new gathered.new text.old text.new (map account outlets.old.items)
         (map account outlets.new.items) result }
-    ensures others { (past : Past) → EntriesAre past sinks.old → UntakenSame past outlets.old.items outlets.new.items }
+    ensures others { (past : Histories) → EntriesAre past sinks.old → UnassignedSame past outlets.old.items outlets.new.items }
 {
     'sinks: for number in first..end {
         match close_sink(

@@ -9,13 +9,13 @@ ghost use Rattle.scenario_sinks.specs.State.Standing.{EntryIs};
 ghost use Rattle.scenario_text.specs.Ranges.{IsInRange};
 ghost use Rattle.scenario_text.specs.declared.step.Step.TheVariants.{Announce};
 ghost use Rattle.delegator_history.specs.Trains.{Settings};
-ghost use Rattle.sink_history.specs.Lives.{Source};
+ghost use Rattle.sink_history.specs.History.{Source};
 ghost use Rattle.sink_history.specs.Output.{state_where};
 ghost use Rattle.scenario_sink.specs.Making.{LineMakes};
 ghost use Rattle.scenario_sink.specs.Origins.{IsFrom};
-ghost use Rattle.scenario_sink.specs.Pasts.{SinkPast, after_tuning, receiving};
+ghost use Rattle.scenario_sink.specs.SinkHistory.{SinkHistory, after_tuning, receiving};
 ghost use Rattle.scenario_sink.specs.SinkLines.{IsSinkLine};
-ghost use Rattle.scenario_sink.specs.State.Stands.{Lives};
+ghost use Rattle.scenario_sink.specs.State.Stands.{IsSink};
 
 use crate::beyond::is_beyond;
 use crate::sink::{Sink, is_of};
@@ -24,39 +24,39 @@ use bcast_base::{Bis, Memory, Octets};
 use isoal_base::Hearing;
 use scenario_sink::Origin;
 use scenario_text::Step;
-use sync_reference::Joining;
+use sync_reference::BigSync;
 use transcript_text::{Refusal, Stop};
 
 /// Puts the sink of an entry on the group of a source.
 pub(crate) fn tune_entry(
     entry: &mut Option<Sink>,
     source: u8,
-    joining: &Joining,
+    big_sync: &BigSync,
 ) -> Result<(), Stop>
-    ensures { (box : Option ℕ) (made : Option Settings) (own : Option ℕ) (life : List links.Call) (received : List Call)
-        → EntryIs box made own life received (Some entry.old)
-        → EntryTunes box made own life received source joining.now entry.new result }
+    ensures { (box : Option ℕ) (made : Option Settings) (own : Option ℕ) (calls_made : List links.Call) (received : List Call)
+        → EntryIs box made own calls_made received (Some entry.old)
+        → EntryTunes box made own calls_made received source big_sync.now entry.new result }
 {
     let Some(sink) = entry else {
         return Err(Stop::Refused(Refusal::NoSuchSink));
     };
-    if is_beyond(joining.group.info.num_bis, joining.which) {
+    if is_beyond(big_sync.group.info.num_bis, big_sync.which) {
         return Err(Stop::Refused(Refusal::NoSuchBis));
     }
-    match put_on_group(sink, source, joining) {
+    match sync_sink(sink, source, big_sync) {
         Ok(()) => {}
         Err(Memory) => return Err(Stop::Memory),
     }
     Ok(())
 }
 
-/// Puts a sink on the group of a source.
-fn put_on_group(sink: &mut Sink, source: u8, joining: &Joining) -> Result<(), Memory>
-    ensures lives { (past : SinkPast) → Lives past sink.old.living
-        → OnOk result (Lives (after_tuning source joining.now past) sink.new.living) }
+/// Synchronizes a sink to the BIG of a source.
+fn sync_sink(sink: &mut Sink, source: u8, big_sync: &BigSync) -> Result<(), Memory>
+    ensures lives { (past : SinkHistory) → IsSink past sink.old.living
+        → OnOk result (IsSink (after_tuning source big_sync.now past) sink.new.living) }
     ensures outlet { sink.new.outlet ≡ sink.old.outlet }
 {
-    sink.living.tune(source, joining)
+    sink.living.tune(source, big_sync)
 }
 
 /// Runs a line that names the sink of an entry.
@@ -68,10 +68,10 @@ pub(crate) fn run_entry(
 ) -> Result<(), Stop>
     requires range { IsInRange step }
     requires line { IsSinkLine step }
-    ensures { (source : Source) (box : Option ℕ) (made : Option Settings) (own : Option ℕ) (life : List links.Call) (received : List Call)
+    ensures { (source : Source) (box : Option ℕ) (made : Option Settings) (own : Option ℕ) (calls_made : List links.Call) (received : List Call)
         → IsFrom origin source
-        → EntryIs box made own life received (Some entry.old)
-        → EntryRuns box made own life received source step entry.new text.old text.new result }
+        → EntryIs box made own calls_made received (Some entry.old)
+        → EntryRuns box made own calls_made received source step entry.new text.old text.new result }
 {
     let Some(sink) = entry else {
         return Err(Stop::Refused(Refusal::NoSuchSink));
@@ -83,7 +83,7 @@ pub(crate) fn run_entry(
 fn run(sink: &mut Sink, step: Step, origin: Origin, text: &mut Octets) -> Result<(), Stop>
     requires range { IsInRange step }
     requires line { IsSinkLine step }
-    ensures makes { (source : Source) (past : SinkPast) → IsFrom origin source → Lives past sink.old.living
+    ensures makes { (source : Source) (past : SinkHistory) → IsFrom origin source → IsSink past sink.old.living
         → LineMakes source step past text.old text.new sink.new.living result }
     ensures outlet { sink.new.outlet ≡ sink.old.outlet }
 {
@@ -99,10 +99,10 @@ pub(crate) fn announce_entry(
     text: &mut Octets,
 ) -> Result<(), Stop>
     requires { train.now.time ≤ 2 ^ 61 }
-    ensures { (source : Source) (box : Option ℕ) (made : Option Settings) (own : Option ℕ) (life : List links.Call) (received : List Call)
+    ensures { (source : Source) (box : Option ℕ) (made : Option Settings) (own : Option ℕ) (calls_made : List links.Call) (received : List Call)
         → IsFrom origin source
-        → source.announced ≡ train.now → EntryIs box made own life received (Some entry.old)
-        → EntryRuns box made own life received source (Announce number) entry.new text.old text.new result }
+        → source.announced ≡ train.now → EntryIs box made own calls_made received (Some entry.old)
+        → EntryRuns box made own calls_made received source (Announce number) entry.new text.old text.new result }
 {
     let Some(sink) = entry else {
         return Err(Stop::Refused(Refusal::NoSuchSink));
@@ -119,8 +119,8 @@ fn tell(
     text: &mut Octets,
 ) -> Result<(), Stop>
     requires { train.now.time ≤ 2 ^ 61 }
-    ensures makes { (source : Source) (past : SinkPast) → IsFrom origin source → source.announced ≡ train.now
-        → Lives past sink.old.living → LineMakes source (Announce number) past text.old text.new sink.new.living result }
+    ensures makes { (source : Source) (past : SinkHistory) → IsFrom origin source → source.announced ≡ train.now
+        → IsSink past sink.old.living → LineMakes source (Announce number) past text.old text.new sink.new.living result }
     ensures outlet { sink.new.outlet ≡ sink.old.outlet }
 {
     sink.living.announce(number, origin, train, text)
@@ -137,9 +137,9 @@ pub(crate) fn hear_entry(
     octets: &[u8],
 ) -> Option<Hearing>
     requires { event ≤ 2 ^ 39 }
-    ensures { (box : Option ℕ) (made : Option Settings) (own : Option ℕ) (life : List links.Call) (received : List Call)
-        → EntryIs box made own life received (Some entry.old)
-        → EntryHears box made own life received source event bis subevent octets.now entry.new result }
+    ensures { (box : Option ℕ) (made : Option Settings) (own : Option ℕ) (calls_made : List links.Call) (received : List Call)
+        → EntryIs box made own calls_made received (Some entry.old)
+        → EntryHears box made own calls_made received source event bis subevent octets.now entry.new result }
 {
     let Some(sink) = entry else {
         return None;
@@ -160,8 +160,8 @@ pub(crate) fn answer_entry(
     octets: &[u8],
 ) -> Option<Hearing>
     requires { event ≤ 2 ^ 39 }
-    ensures { (box : Option ℕ) (made : Option Settings) (own : Option ℕ) (life : List links.Call) (received : List Call)
-        → EntryIs box made own life received (Some entry.now)
+    ensures { (box : Option ℕ) (made : Option Settings) (own : Option ℕ) (calls_made : List links.Call) (received : List Call)
+        → EntryIs box made own calls_made received (Some entry.now)
         → result ≡ hearing_where box own received source event bis subevent octets.now }
 {
     let Some(sink) = entry else {
@@ -175,9 +175,9 @@ pub(crate) fn answer_entry(
 
 /// The octets of the state of a slot of the sink of an entry: none where there is no such slot.
 pub(crate) fn state_of_entry(entry: &Option<Sink>, slot: u8) -> Result<Option<Octets>, Memory>
-    ensures { (box : Option ℕ) (made : Option Settings) (own : Option ℕ) (life : List links.Call) (received : List Call)
-        → EntryIs box made own life received (Some entry.now)
-        → IfOk result (λ octets. octets ≡ state_where made life slot) }
+    ensures { (box : Option ℕ) (made : Option Settings) (own : Option ℕ) (calls_made : List links.Call) (received : List Call)
+        → EntryIs box made own calls_made received (Some entry.now)
+        → IfOk result (λ octets. octets ≡ state_where made calls_made slot) }
 {
     match entry {
         None => Ok(None),
@@ -188,10 +188,10 @@ pub(crate) fn state_of_entry(entry: &Option<Sink>, slot: u8) -> Result<Option<Oc
 /// Hands a sink octets in the place of a PDU.
 fn deliver(sink: &mut Sink, event: u64, bis: Bis, subevent: u8, octets: &[u8]) -> Hearing
     requires { event ≤ 2 ^ 39 }
-    ensures answer { (past : SinkPast) → Lives past sink.old.living
+    ensures answer { (past : SinkHistory) → IsSink past sink.old.living
         → result ≡ hearing_of past.received event bis subevent octets.now }
-    ensures lives { (past : SinkPast) → Lives past sink.old.living
-        → Lives (receiving (hear event bis subevent octets.now) past) sink.new.living }
+    ensures lives { (past : SinkHistory) → IsSink past sink.old.living
+        → IsSink (receiving (hear event bis subevent octets.now) past) sink.new.living }
     ensures outlet { sink.new.outlet ≡ sink.old.outlet }
 {
     sink.living.hear(event, bis, subevent, octets)

@@ -1,11 +1,11 @@
 //! The lines of a sink's control and of its links.
 ghost use Rattle.std.specs.Prelude.{◌≡◌, ◌≤◌, ◌^◌};
-ghost use Rattle.scenario_sinks.specs.Pasts.{Past};
+ghost use Rattle.scenario_sinks.specs.Histories.{Histories};
 ghost use Rattle.scenario_sinks.specs.SinkLines.{SinkLineMakes};
 ghost use Rattle.scenario_sinks.specs.State.Standing.{SinksStand};
 ghost use Rattle.scenario_text.specs.Ranges.{IsInRange};
 ghost use Rattle.scenario_text.specs.declared.step.Step.TheVariants.{Announce};
-ghost use Rattle.sink_history.specs.Lives.{Source};
+ghost use Rattle.sink_history.specs.History.{Source};
 ghost use Rattle.scenario_sink.specs.Origins.{IsFrom};
 ghost use Rattle.scenario_sink.specs.SinkLines.{IsSinkLine};
 
@@ -22,7 +22,7 @@ impl Sinks {
     /// NoSuchSink where no sink of this number lives, else by the first reason that holds of the sink: NoSuchLink, LinkTwice,
     /// NothingWaiting, RecordsTooLong; a refused line changes nothing, and wants no memory, nor do `locate`, `context` and `apart`,
     /// and a drain of a link on which nothing waits.
-    /// A train may put the sink on a group of the source that the line means (Basic Audio Profile 1.0, section 6.5).
+    /// A train may synchronize the sink to a BIG of the source that the line means (Basic Audio Profile 1.0, section 6.5).
     pub fn line(
         &mut self,
         sink: u8,
@@ -33,7 +33,7 @@ impl Sinks {
         requires sink { sink ≤ 7 }
         requires range { IsInRange step }
         requires line { IsSinkLine step }
-        ensures { (past : Past) (source : Source) → IsFrom origin source → SinksStand past self.old
+        ensures { (past : Histories) (source : Source) → IsFrom origin source → SinksStand past self.old
             → SinkLineMakes past sink source step self.new text.old text.new result }
     {
         run_entry(&mut self.entries[usize::from(sink)], step, origin, text)
@@ -51,7 +51,7 @@ impl Sinks {
     ) -> Result<(), Stop>
         requires sink { sink ≤ 7 }
         requires time { train.now.time ≤ 2 ^ 61 }
-        ensures { (past : Past) (source : Source) → IsFrom origin source → source.announced ≡ train.now → SinksStand past self.old
+        ensures { (past : Histories) (source : Source) → IsFrom origin source → source.announced ≡ train.now → SinksStand past self.old
             → SinkLineMakes past sink source (Announce sink) self.new text.old text.new result }
     {
         announce_entry(

@@ -1,5 +1,5 @@
 ghost use Rattle.std.specs.Prelude.{◌≡◌, ◌≤◌, ◌||◌, is_some};
-ghost use Rattle.scenario_sinks.specs.RelayPasts.{Past, is_idle};
+ghost use Rattle.scenario_sinks.specs.RelayHistories.{Histories, is_idle};
 ghost use Rattle.scenario_sinks.specs.State.RelaysStand.{RoutesAre};
 
 use crate::route::Route;
@@ -18,7 +18,7 @@ pub struct Relays {
 }
 
 impl Relays {
-    ghost use Rattle.scenario_sinks.specs.RelayPasts.{nothing, with_gift, with_relay, without};
+    ghost use Rattle.scenario_sinks.specs.RelayHistories.{nothing, with_relayed_unit, with_relay, without};
     ghost use Rattle.scenario_sinks.specs.State.RelaysStand.{RelaysStand};
 
     /// No relay, and nothing was given to source 1.
@@ -36,21 +36,21 @@ impl Relays {
     /// The relay of the sink of this number, where it has one.
     pub fn route(&self, sink: u8) -> Option<Route>
         requires { sink ≤ 7 }
-        ensures { (past : Past) → RelaysStand past self.now → result ≡ past.routes sink }
+        ensures { (past : Histories) → RelaysStand past self.now → result ≡ past.routes sink }
     {
         self.routes[usize::from(sink)]
     }
 
     /// Whether no sink has a relay.
     pub fn is_idle(&self) -> bool
-        ensures { (past : Past) → RelaysStand past self.now → result ≡ is_idle past }
+        ensures { (past : Histories) → RelaysStand past self.now → result ≡ is_idle past }
     {
         self.idle
     }
 
     /// Whether this stream of source 1 has had a relay, also where its sink was dropped since.
     pub fn had_relay(&self, bis: Bis) -> bool
-        ensures { (past : Past) → RelaysStand past self.now → result ≡ past.relayed bis }
+        ensures { (past : Histories) → RelaysStand past self.now → result ≡ past.relayed bis }
     {
         self.relayed.has(bis)
     }
@@ -59,7 +59,7 @@ impl Relays {
     /// a unit.
     pub fn is_taken(&self, sink: u8, to: Bis) -> bool
         requires { sink ≤ 7 }
-        ensures { (past : Past) → RelaysStand past self.now
+        ensures { (past : Histories) → RelaysStand past self.now
             → result ≡ (is_some (past.routes sink) || (past.relayed to || past.given to)) }
     {
         self.route(sink).is_some() || self.relayed.has(to) || self.given.has(to)
@@ -68,7 +68,7 @@ impl Relays {
     /// `relay`: the sink of this number hands each valid unit of its stream on to stream `to` of source 1.
     pub fn relay(&mut self, sink: u8, bis: Bis, to: Bis)
         requires { sink ≤ 7 }
-        ensures { (past : Past) → RelaysStand past self.old → RelaysStand (with_relay sink bis to past) self.new }
+        ensures { (past : Histories) → RelaysStand past self.old → RelaysStand (with_relay sink bis to past) self.new }
     {
         self.routes[usize::from(sink)] = Some(Route { bis, to });
         self.idle = false;
@@ -78,7 +78,7 @@ impl Relays {
     /// `drop`: the sink of this number has no relay any more.
     pub fn end(&mut self, sink: u8)
         requires { sink ≤ 7 }
-        ensures { (past : Past) → RelaysStand past self.old → RelaysStand (without sink past) self.new }
+        ensures { (past : Histories) → RelaysStand past self.old → RelaysStand (without sink past) self.new }
     {
         self.routes[usize::from(sink)] = None;
         self.idle = has_none(&self.routes);
@@ -86,7 +86,7 @@ impl Relays {
 
     /// Source 1 was given a unit of this stream.
     pub fn give(&mut self, bis: Bis)
-        ensures { (past : Past) → RelaysStand past self.old → RelaysStand (with_gift bis past) self.new }
+        ensures { (past : Histories) → RelaysStand past self.old → RelaysStand (with_relayed_unit bis past) self.new }
     {
         self.given = self.given.with(bis);
     }
@@ -94,7 +94,7 @@ impl Relays {
 
 /// Whether no sink has a relay of these.
 fn has_none(routes: &[Option<Route>; 8]) -> bool
-    ensures { (past : Past) → RoutesAre past routes.now → result ≡ is_idle past }
+    ensures { (past : Histories) → RoutesAre past routes.now → result ≡ is_idle past }
 {
     routes.iter().all(|route| route.is_none())
 }

@@ -1,7 +1,7 @@
 ghost use Rattle.std.specs.Prelude.{◌≡◌};
 ghost use Rattle.scenario_history.specs.Sinks.{is_of};
 
-use scenario_sink::LivingSink;
+use scenario_sink::LinkedSink;
 
 /// A sink of a scenario.
 #[derive(Drop)]
@@ -9,7 +9,7 @@ pub(crate) struct Sink {
     /// The place of its box in the list.
     pub(crate) outlet: usize,
     /// The sink, with the source that it is of: the one that put it where it is.
-    pub(crate) living: LivingSink,
+    pub(crate) living: LinkedSink,
 }
 
 /// Whose units are handed up: the source and the number of a sink, and the place of its box.

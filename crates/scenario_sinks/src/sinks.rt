@@ -8,9 +8,9 @@ use crate::sink::Sink;
 use crate::sums::{put_sum_at, put_sums};
 use bcast_base::{Bis, Memory, Octets};
 use isoal_base::Hearing;
-use scenario_sink::LivingSink;
+use scenario_sink::LinkedSink;
 use std::alloc::Global;
-use sync_reference::Joining;
+use sync_reference::BigSync;
 use transcript_text::{Refusal, Stop};
 use unit_outlets::Outlet;
 
@@ -35,12 +35,12 @@ impl Sinks {
     ghost use Rattle.sink_history.specs.Output.{state_where};
     ghost use Rattle.scenario_sinks.specs.Closing.{Closes, ClosesAt};
     ghost use Rattle.scenario_sinks.specs.Hearing.{Hears, hearing_where};
-    ghost use Rattle.scenario_sinks.specs.Pasts.{Past, nothing, with_sink, with_tuning, without};
+    ghost use Rattle.scenario_sinks.specs.Histories.{Histories, nothing, with_sink, with_tuning, without};
     ghost use Rattle.scenario_sinks.specs.Refusals.{Answers, Tunes, not_living, not_made, not_tuned};
     ghost use Rattle.scenario_sinks.specs.State.Gathering.{handed_of};
     ghost use Rattle.scenario_sinks.specs.State.Standing.{SinksLend, SinksStand};
     ghost use Rattle.scenario_sinks.specs.Sums.{Puts, sum_where, sums_where};
-    ghost use Rattle.scenario_sinks.specs.Untaken.{UntakenSame};
+    ghost use Rattle.scenario_sinks.specs.Unassigned.{UnassignedSame};
 
     /// No sinks yet.
     pub fn new(alloc: Global) -> Result<Sinks, Memory>
@@ -57,7 +57,7 @@ impl Sinks {
     /// Whether a sink of this number lives.
     pub fn lives(&self, sink: u8) -> bool
         requires { sink ≤ 7 }
-        ensures { (past : Past) → SinksStand past self.now → result ≡ is_some (past.boxes sink) }
+        ensures { (past : Histories) → SinksStand past self.now → result ≡ is_some (past.boxes sink) }
     {
         self.entries[usize::from(sink)].is_some()
     }
@@ -81,7 +81,7 @@ impl Sinks {
         requires few { slots ≤ 8 }
         requires horizon { horizon ≤ 31 }
         requires mtu { IsMtu mtu }
-        ensures { (past : Past) → SinksStand past self.old
+        ensures { (past : Histories) → SinksStand past self.old
             → Answers (not_made (past.boxes sink) past.made boxes) past
             (with_sink sink (record { setup = record { streams = streams; slots = slots; horizon = horizon }; mtu = mtu }) past)
             self.new result }
@@ -93,7 +93,7 @@ impl Sinks {
         if self.outlet_count >= boxes {
             return Err(Stop::Refused(Refusal::NoOutlet));
         }
-        let Ok(living) = LivingSink::new(self.alloc, streams, slots, horizon, mtu) else {
+        let Ok(living) = LinkedSink::new(self.alloc, streams, slots, horizon, mtu) else {
             return Err(Stop::Memory);
         };
         self.entries[place] = Some(Sink {
@@ -113,9 +113,9 @@ impl Sinks {
         text: &mut Octets,
     ) -> Result<(), Stop>
         requires { sink ≤ 7 }
-        ensures answer { (past : Past) → SinksStand past self.old
+        ensures answer { (past : Histories) → SinksStand past self.old
             → Answers (not_living (past.boxes sink)) past (without sink past) self.new result }
-        ensures text { (past : Past) → SinksStand past self.old
+        ensures text { (past : Histories) → SinksStand past self.old
             → Puts (sum_where (map account outlets.now.items) sink (past.boxes sink)) text.old text.new result }
     {
         let Some(entry) = &self.entries[usize::from(sink)] else {
@@ -129,15 +129,15 @@ impl Sinks {
         Ok(())
     }
 
-    /// Puts a sink on the group of a source. It is refused with NoSuchSink where no sink of this number lives, else with
+    /// Synchronizes a sink to the BIG of a source. It is refused with NoSuchSink where no sink of this number lives, else with
     /// NoSuchBis where a stream is above those of the group.
-    pub fn tune(&mut self, sink: u8, source: u8, joining: &Joining) -> Result<(), Stop>
+    pub fn tune(&mut self, sink: u8, source: u8, big_sync: &BigSync) -> Result<(), Stop>
         requires { sink ≤ 7 }
-        ensures { (past : Past) → SinksStand past self.old
-            → Tunes (not_tuned (past.boxes sink) joining.now.info.num_bis joining.now.which) past
-            (with_tuning sink source joining.now past) self.new result }
+        ensures { (past : Histories) → SinksStand past self.old
+            → Tunes (not_tuned (past.boxes sink) big_sync.now.info.num_bis big_sync.now.which) past
+            (with_tuning sink source big_sync.now past) self.new result }
     {
-        tune_entry(&mut self.entries[usize::from(sink)], source, joining)
+        tune_entry(&mut self.entries[usize::from(sink)], source, big_sync)
     }
 
     /// Hands a sink octets in the place of a PDU of a source: in a subevent, from 0, of an event of a stream. The answer is
@@ -154,7 +154,7 @@ impl Sinks {
     ) -> Option<Hearing>
         requires sink { sink ≤ 7 }
         requires event { event ≤ 2 ^ 39 }
-        ensures { (past : Past) → SinksStand past self.old → Hears past sink source event bis subevent octets.now self.new result }
+        ensures { (past : Histories) → SinksStand past self.old → Hears past sink source event bis subevent octets.now self.new result }
     {
         hear_entry(
             &mut self.entries[usize::from(sink)],
@@ -178,7 +178,7 @@ impl Sinks {
     ) -> Option<Hearing>
         requires sink { sink ≤ 7 }
         requires event { event ≤ 2 ^ 39 }
-        ensures { (past : Past) → SinksStand past self.now
+        ensures { (past : Histories) → SinksStand past self.now
             → result ≡ hearing_where (past.boxes sink) (past.sources sink) (past.received sink) source event bis subevent octets.now }
     {
         answer_entry(
@@ -195,7 +195,7 @@ impl Sinks {
     /// 3.2): `None` where no sink of this number lives, or it has no such slot.
     pub fn state(&self, sink: u8, slot: u8) -> Result<Option<Octets>, Memory>
         requires { sink ≤ 7 }
-        ensures { (past : Past) → SinksStand past self.now
+        ensures { (past : Histories) → SinksStand past self.now
             → IfOk result (λ octets. octets ≡ state_where (past.mades sink) (past.lives sink) slot) }
     {
         state_of_entry(&self.entries[usize::from(sink)], slot)
@@ -203,7 +203,7 @@ impl Sinks {
 
     /// Closes the open event of a source, where one is open: the sinks of the source hand their units up, by rising number
     /// and then by rising stream, each valid unit to the box of its sink and then, as a line, to the end of the text. After a
-    /// refusal of a box, or want of memory, a front of the units was handed. The boxes of no living sink stay the same.
+    /// refusal of a box, or want of memory, a prefix of the units was handed. The boxes of no living sink stay the same.
     pub fn close(
         &mut self,
         source: u8,
@@ -212,9 +212,9 @@ impl Sinks {
         text: &mut Octets,
     ) -> Result<(), Stop>
         requires { ForSome closed (λ event. event < 2 ^ 39) }
-        ensures closes { (past : Past) → SinksStand past self.old
+        ensures closes { (past : Histories) → SinksStand past self.old
             → Closes past source closed self.new text.old text.new (map account outlets.old.items) (map account outlets.new.items) result }
-        ensures others { (past : Past) → SinksStand past self.old → UntakenSame past outlets.old.items outlets.new.items }
+        ensures others { (past : Histories) → SinksStand past self.old → UnassignedSame past outlets.old.items outlets.new.items }
     {
         let Some(event) = closed else {
             return Ok(());
@@ -243,10 +243,10 @@ impl Sinks {
     ) -> Result<(), Stop>
         requires sink { sink ≤ 7 }
         requires event { event < 2 ^ 39 }
-        ensures closes { (past : Past) → SinksStand past self.old
+        ensures closes { (past : Histories) → SinksStand past self.old
             → ClosesAt past sink source event self.new text.old text.new (map account outlets.old.items)
             (map account outlets.new.items) result }
-        ensures others { (past : Past) → SinksStand past self.old → UntakenSame past outlets.old.items outlets.new.items }
+        ensures others { (past : Histories) → SinksStand past self.old → UnassignedSame past outlets.old.items outlets.new.items }
     {
         close_sinks(
             &mut self.entries,
@@ -263,21 +263,21 @@ impl Sinks {
 
     /// The units that the sink handed up which was closed last, until `forget`: in order.
     pub fn lent(&self) -> &[HandedUnit]
-        ensures { (past : Past) (units : List Handed) → SinksLend past units self.now → map handed_of result.now ≡ units }
+        ensures { (past : Histories) (units : List Handed) → SinksLend past units self.now → map handed_of result.now ≡ units }
     {
         self.gathered.units.as_slice()
     }
 
     /// Lends no units any more.
     pub fn forget(&mut self)
-        ensures { (past : Past) (units : List Handed) → SinksLend past units self.old → SinksStand past self.new }
+        ensures { (past : Histories) (units : List Handed) → SinksLend past units self.old → SinksStand past self.new }
     {
         self.gathered.clear();
     }
 
     /// Puts the sums of the boxes of the living sinks at the end of the text, by rising number.
     pub fn sums(&self, outlets: &Vec<Box<dyn Outlet>>, text: &mut Octets) -> Result<(), Memory>
-        ensures { (past : Past) → SinksStand past self.now
+        ensures { (past : Histories) → SinksStand past self.now
             → OnOk result (text.new ≡ text.old ++ sums_where (map account outlets.now.items) past.boxes sink_numbers) }
     {
         put_sums(&self.entries, outlets, text)

@@ -3,7 +3,7 @@ ghost use Rattle.std.specs.Prelude.{◌≡◌, ◌++◌, ℕ, List, Option, Some
 ghost use Rattle.group_sink.specs.Calls.{Call};
 ghost use Rattle.sink_history.specs.Calls as links;
 ghost use Rattle.scenario_history.specs.Boxes.{sink_numbers};
-ghost use Rattle.scenario_sinks.specs.Pasts.{Past};
+ghost use Rattle.scenario_sinks.specs.Histories.{Histories};
 ghost use Rattle.delegator_history.specs.Trains.{Settings};
 ghost use Rattle.scenario_sinks.specs.Sums.{sum_at, sum_where, sums_where};
 ghost use Rattle.scenario_sinks.specs.State.Standing.{EntryIs, EntriesAre};
@@ -49,8 +49,8 @@ fn put_sums_of(
     outlets: &Vec<Box<dyn Outlet>>,
     text: &mut Octets,
 ) -> Result<(), Memory>
-    ensures { (box : Option ℕ) (made : Option Settings) (own : Option ℕ) (life : List links.Call) (received : List Call)
-        → EntryIs box made own life received (Some entry.now)
+    ensures { (box : Option ℕ) (made : Option Settings) (own : Option ℕ) (calls_made : List links.Call) (received : List Call)
+        → EntryIs box made own calls_made received (Some entry.now)
         → OnOk result (text.new ≡ text.old ++ sum_where (map account outlets.now.items) number box) }
 {
     match entry {
@@ -66,7 +66,7 @@ pub(crate) fn put_sums(
     text: &mut Octets,
 ) -> Result<(), Memory>
     requires { length sinks.now ≡ 8 }
-    ensures { (past : Past) → EntriesAre past sinks.now
+    ensures { (past : Histories) → EntriesAre past sinks.now
         → OnOk result (text.new ≡ text.old ++ sums_where (map account outlets.now.items) past.boxes sink_numbers) }
 {
     'sinks: for number in 0..8u8 {

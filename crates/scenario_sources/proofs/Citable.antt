@@ -13,7 +13,7 @@ use Rattle.scenario_history.specs.Bases.{base_lines, base_of}
 use Rattle.scenario_history.specs.Source.{cipher_of, group_of, ident_of, no_identity, phase_of, setup_of, source_calls}
 use Rattle.std.proofs.lemmas.Bool.{false≢true}
 use Rattle.std.proofs.lemmas.Option.{none-some}
-use Rattle.sink_history.specs.Lives.{named_by}
+use Rattle.sink_history.specs.History.{named_by}
 use Rattle.scenario_history.proofs.Citable.{stage_same}
 use Rattle.scenario_sources.specs.declared.phase.Phase.{Phase}
 use Rattle.scenario_sources.specs.declared.phase.Phase.TheVariants as phases

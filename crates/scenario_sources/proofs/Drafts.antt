@@ -7,7 +7,7 @@ use Rattle.ltv_codec.specs.Layout.{AreLtvs}
 use Rattle.big_info.specs.declared.info.BigInfo.{BigInfo}
 use Rattle.base_grammar.specs.Draft.{Refuses, entry_fault, finish_fault, is_empty_last, last_of, metadata_fault}
 use Rattle.base_grammar.specs.Draft.{opened, size_fault, subgroup_fault, with_entry, with_metadata, with_subgroup}
-use Rattle.base_grammar.specs.Layout.{Endpoint, IsConfig, endpoint, indices, is_lc3, spelling, stands_in}
+use Rattle.base_grammar.specs.Layout.{Endpoint, IsConfig, endpoint, indices, is_lc3, encoding, stands_in}
 use Rattle.base_grammar.specs.declared.fault.DraftFault.{DraftFault}
 use Rattle.base_grammar.specs.declared.fault.DraftFault.TheVariants as of_draft
 use Rattle.base_grammar.specs.declared.subgroup.BaseEntry.{BaseEntry}
@@ -86,7 +86,7 @@ sized false octets = long_is (nat_lt 252 octets)
 missing_of : (ss : List Subgroup) (delay : ℕ) → not (is_missing (finish_fault (endpoint delay ss))) ≡ is_some (last_of ss)
 missing_of [] delay = refl
 missing_of (s ∷ others) delay =
-    ap not (sized (is_empty_last (last_of (s ∷ others))) (length (spelling (endpoint delay (s ∷ others))))) ∙ sym (has_last s others)
+    ap not (sized (is_empty_last (last_of (s ∷ others))) (length (encoding (endpoint delay (s ∷ others))))) ∙ sym (has_last s others)
 
 pub missing_is : (v : Endpoint) (fault : Option DraftFault) → fault ≡ finish_fault v → not (is_missing fault) ≡ is_some (last_of v.subgroups)
 missing_is v fault is = ap (λ f. not (is_missing f)) is ∙ missing_of v.subgroups v.delay
@@ -101,7 +101,7 @@ bare_sized false octets = bare_long (nat_lt 252 octets)
 
 bare_of : (ss : List Subgroup) (delay : ℕ) → is_bare (finish_fault (endpoint delay ss)) ≡ is_empty_last (last_of ss)
 bare_of [] delay = refl
-bare_of (s ∷ others) delay = bare_sized (is_empty_last (last_of (s ∷ others))) (length (spelling (endpoint delay (s ∷ others))))
+bare_of (s ∷ others) delay = bare_sized (is_empty_last (last_of (s ∷ others))) (length (encoding (endpoint delay (s ∷ others))))
 
 pub bare_is : (v : Endpoint) (fault : Option DraftFault) → fault ≡ finish_fault v → is_bare fault ≡ is_empty_last (last_of v.subgroups)
 bare_is v fault is = ap is_bare is ∙ bare_of v.subgroups v.delay

@@ -8,7 +8,7 @@ use Rattle.big_info.specs.declared.info.BigInfo.{BigInfo}
 use Rattle.big_info.specs.declared.info.Cipher.{Cipher}
 use Rattle.announcement_train.specs.BaseLines.{subgroups_in}
 use Rattle.source_machine.specs.Ciphers.{with_cipher, without_cipher}
-use Rattle.iso_pdu.specs.Spelling.{pdu}
+use Rattle.iso_pdu.specs.Encoding.{pdu}
 use Rattle.source_machine.specs.Airs.{airs_of, pdu_of, stale_of, waiting_of}
 use Rattle.source_machine.specs.Calls.{Call, Setup, event as perform, last_of, next_of}
 use Rattle.source_machine.specs.declared.sent.Stale.{Stale}

@@ -4,7 +4,7 @@ use Rattle.std.specs.Option.{option_or}
 use Rattle.std.proofs.lemmas.Bool.{false≢true}
 use Rattle.std.proofs.lemmas.Option.{none-some}
 use Rattle.base_grammar.specs.Draft.{finish_fault, is_empty_last, last_of, size_fault}
-use Rattle.base_grammar.specs.Layout.{Endpoint, endpoint, spelling}
+use Rattle.base_grammar.specs.Layout.{Endpoint, endpoint, encoding}
 use Rattle.base_grammar.specs.declared.fault.DraftFault.TheVariants as of_draft
 use Rattle.base_grammar.specs.declared.subgroup.Subgroup.{Subgroup}
 use Rattle.big_info.specs.Rows.{first_fault}
@@ -28,7 +28,7 @@ use Rattle.scenario_text.specs.declared.step.Step.TheVariants.{Start}
 use Rattle.scenario_history.specs.Bases.{base_from, base_of, has_subgroup, is_base_too_long, is_last_bare, subgroups_of}
 use Rattle.scenario_history.specs.Refusals.{fault_refusal, group_refusal}
 use Rattle.sink_history.specs.Refusals.{refuse_if}
-use Rattle.sink_history.specs.Lives.{horizon_in}
+use Rattle.sink_history.specs.History.{horizon_in}
 use Rattle.scenario_history.specs.Source.{GroupLine, Phase, checked_info, described, identity_of, is_ahead_in, is_described_at, no_identity, phase_of}
 use Rattle.scenario_history.specs.Steps.{is_unbegun_at, running, stage_of}
 use Rattle.scenario_history.proofs.Citable.{neither, fails_not}
@@ -86,17 +86,17 @@ long_closed false octets f = long_sized (nat_lt 252 octets)
 
 -- the draft of a BASE that was said has too many octets exactly where the BASE has
 long_said : (group : GroupLine) (ss : List Subgroup) → is_empty_last (last_of ss) ≡ false → is_some (last_of ss) ≡ true
-    → is_long (finish_fault (endpoint group.delay ss)) ≡ nat_lt 252 (length (spelling (base_from group ss)))
+    → is_long (finish_fault (endpoint group.delay ss)) ≡ nat_lt 252 (length (encoding (base_from group ss)))
 long_said group [] bare has = absurd (false≢true has)
-long_said group (s ∷ others) bare has = long_closed (is_empty_last (last_of (s ∷ others))) (length (spelling (endpoint group.delay (s ∷ others)))) bare
+long_said group (s ∷ others) bare has = long_closed (is_empty_last (last_of (s ∷ others))) (length (encoding (endpoint group.delay (s ∷ others)))) bare
 
 too_long : (group : GroupLine) (ss : List Subgroup) → is_empty_last (last_of ss) ≡ false → is_long (finish_fault (endpoint group.delay ss)) ≡ true
-    → nat_lt 252 (length (spelling (base_from group ss))) ≡ true
+    → nat_lt 252 (length (encoding (base_from group ss))) ≡ true
 too_long group [] bare long = absurd (false≢true long)
 too_long group (s ∷ others) bare long =
-    sym (long_closed (is_empty_last (last_of (s ∷ others))) (length (spelling (endpoint group.delay (s ∷ others)))) bare) ∙ long
+    sym (long_closed (is_empty_last (last_of (s ∷ others))) (length (encoding (endpoint group.delay (s ∷ others)))) bare) ∙ long
 
-none_said : (group : GroupLine) (ss : List Subgroup) → group.info.num_bis ≤ 31 → is_some (last_of ss) ≡ false → nat_lt 252 (length (spelling (base_from group ss))) ≡ false
+none_said : (group : GroupLine) (ss : List Subgroup) → group.info.num_bis ≤ 31 → is_some (last_of ss) ≡ false → nat_lt 252 (length (encoding (base_from group ss))) ≡ false
 none_said group [] few none = plain_is_small group.delay group.info.num_bis few
 none_said group (s ∷ others) few none = absurd (false≢true (sym none ∙ has_last s others))
 
@@ -109,7 +109,7 @@ pub start_long : (version first horizon : ℕ) (own : List Step) (said : Describ
 start_long version first horizon own said bare long h is e f g l t =
     let closed : is_last_bare own ≡ false = sym (bare_own own said bare is.1 e) ∙ f in
     let much : is_base_too_long own ≡ true =
-    ap (λ v. nat_lt 252 (length (spelling v))) (base_is own said is.1)
+    ap (λ v. nat_lt 252 (length (encoding v))) (base_is own said is.1)
     ∙ too_long (line_of said) (subgroups_of own) closed (sym (ap is_long (draft_is own said is.1)) ∙ sym l ∙ t) in
     start_fault version first horizon own said None h is closed g ∙ ap (λ b. refuse_if b BaseTooLong) much
 
@@ -125,7 +125,7 @@ may_start_said version first horizon own said bare long has h is e f g l n k t =
     let closed : is_last_bare own ≡ false = sym (bare_own own said bare is.1 e) ∙ f in
     let some : has_subgroup own ≡ true = sym (has_own own said has is.1 k) ∙ t in
     let little : is_base_too_long own ≡ false =
-    ap (λ v. nat_lt 252 (length (spelling v))) (base_is own said is.1)
+    ap (λ v. nat_lt 252 (length (encoding v))) (base_is own said is.1)
     ∙ sym (long_said (line_of said) (subgroups_of own) closed some) ∙ sym (ap is_long (draft_is own said is.1)) ∙ sym l ∙ n in
     (start_fault version first horizon own said None h is closed g ∙ ap (λ b. refuse_if b BaseTooLong) little, some)
 
@@ -140,7 +140,7 @@ may_start_plain version first horizon own said bare has base few h is e f g k n 
     let closed : is_last_bare own ≡ false = sym (bare_own own said bare is.1 e) ∙ f in
     let none : has_subgroup own ≡ false = sym (has_own own said has is.1 k) ∙ n in
     let little : is_base_too_long own ≡ false =
-    ap (λ v. nat_lt 252 (length (spelling v))) (base_is own said is.1) ∙ none_said (line_of said) (subgroups_of own) few none in (
+    ap (λ v. nat_lt 252 (length (encoding v))) (base_is own said is.1) ∙ none_said (line_of said) (subgroups_of own) few none in (
       start_fault version first horizon own said None h is closed g ∙ ap (λ b. refuse_if b BaseTooLong) little,
       b ∙ sym (no_subgroups (line_of said) (subgroups_of own) none) ∙ sym (base_is own said is.1),
     )
@@ -166,16 +166,16 @@ closed_none true octets f l = absurd (false≢true (sym f))
 closed_none false octets f l = ap (λ (b : Bool). cond b (Some of_draft.TooLong) None) l
 
 said_ends : (group : GroupLine) (ss : List Subgroup) → is_some (last_of ss) ≡ true → is_empty_last (last_of ss) ≡ false
-    → nat_lt 252 (length (spelling (base_from group ss))) ≡ false → finish_fault (endpoint group.delay ss) ≡ None
+    → nat_lt 252 (length (encoding (base_from group ss))) ≡ false → finish_fault (endpoint group.delay ss) ≡ None
 said_ends group [] has bare little = absurd (false≢true has)
 said_ends group (s ∷ others) has bare little =
-    closed_none (is_empty_last (last_of (s ∷ others))) (length (spelling (endpoint group.delay (s ∷ others)))) bare little
+    closed_none (is_empty_last (last_of (s ∷ others))) (length (encoding (endpoint group.delay (s ∷ others)))) bare little
 
 finish_none : (version first : ℕ) (own : List Step) (said : Described) → DescribedSo own said → MayStart version first own None → finish_fault said.base ≡ None
 finish_none version first own said is may =
     let all = passes version first own is.0 may.0 in
     draft_is own said is.1
-    ∙ said_ends (line_of said) (subgroups_of own) may.1 all.closed (sym (ap (λ v. nat_lt 252 (length (spelling v))) (base_is own said is.1)) ∙ all.little)
+    ∙ said_ends (line_of said) (subgroups_of own) may.1 all.closed (sym (ap (λ v. nat_lt 252 (length (encoding v))) (base_is own said is.1)) ∙ all.little)
 
 pub finish_fails : (version first : ℕ) (own : List Step) (said : Described) (plain : Option Endpoint) (stop : Stop) → DescribedSo own said → MayStart version first own plain
     → FinishStops said.base plain stop → Begins first own (Err stop)

@@ -14,9 +14,9 @@ use Rattle.scenario_history.specs.Steps.{chosen_steps, is_over}
 use Rattle.scenario_history.specs.Source.{end_pdu, event_back, is_heard, is_sending, open_event, performed, setup_of, source_calls, stale_in, takes_units}
 use Rattle.scenario_history.specs.Refusals.{no_place, train_ends}
 use Rattle.sink_history.specs.Refusals.{refuse_if}
-use Rattle.scenario_history.specs.Worlds.{announced_of, joining_on}
+use Rattle.scenario_history.specs.Worlds.{announced_of, big_sync_on}
 use Rattle.scenario_sources.specs.declared.performed.Performed.{Performed}
-use Rattle.sync_reference.specs.Joining.{Joining}
+use Rattle.sync_reference.specs.BigSync.{BigSync}
 use Rattle.scenario_sources.specs.declared.terminated.Terminated.{Terminated}
 use Rattle.scenario_sources.specs.declared.sources.Sources.{Sources}
 use Rattle.scenario_sources.specs.Faults.{fault_of}
@@ -68,9 +68,9 @@ AnnouncesAs own (Err OutletFault) = ⊥
 AnnouncesAs own (Err Memory) = Unit {0}
 
 -- how a source puts a sink on these streams of its group, where it takes units; these are its steps
-abbrev pub JoinsAs : List Step → ℕ → Option Joining → Type 0
+abbrev pub JoinsAs : List Step → ℕ → Option BigSync → Type 0
 JoinsAs own which None = takes_units own ≡ false
-JoinsAs own which (Some joining) = (takes_units own ≡ true) × (joining ≡ joining_on own which)
+JoinsAs own which (Some big_sync) = (takes_units own ≡ true) × (big_sync ≡ big_sync_on own which)
 
 -- the group of a source that takes units
 abbrev pub TakesAs : List Step → Option Group → Type 0

@@ -19,7 +19,7 @@ use big_info::Group;
 use multi_source::Broadcast;
 use source_machine::{EventFault, GiveFault};
 use std::mem::replace;
-use sync_reference::Joining;
+use sync_reference::BigSync;
 use transcript_text::{Refusal, Stop};
 
 /// `unit`: gives a source a unit of a stream.
@@ -184,7 +184,7 @@ pub(crate) fn taking_in(phase: &Phase) -> Option<Group>
 }
 
 /// How a source that takes units puts a sink on these streams of its group.
-pub(crate) fn joining_in(phase: &Phase, which: BisSet) -> Option<Joining>
+pub(crate) fn big_sync_in(phase: &Phase, which: BisSet) -> Option<BigSync>
     ensures { (own : List Step) → PhaseIs own phase.now → JoinsAs own which result }
 {
     let Phase::Sending(started) = phase else {
@@ -193,7 +193,7 @@ pub(crate) fn joining_in(phase: &Phase, which: BisSet) -> Option<Joining>
     if started.is_ciphered() {
         return None;
     }
-    Some(Joining {
+    Some(BigSync {
         group: *started.group(),
         which,
         first: started.next_event(),

@@ -10,7 +10,7 @@ use crate::performed::Performed;
 use crate::phase::Phase;
 use crate::place::{Place, event_in, group_in, heard_in, last_in};
 use crate::sending::{
-    give, is_sending_in, joining_in, open, perform, relayed_in, stop, taking_in, terminate,
+    big_sync_in, give, is_sending_in, open, perform, relayed_in, stop, taking_in, terminate,
 };
 use crate::starting::{begin, check_start, is_twice};
 use crate::terminated::Terminated;
@@ -19,7 +19,7 @@ use bcast_base::{Bis, BisSet, Memory};
 use big_info::{BigInfo, Cipher, Group, Limits};
 use source_machine::Identity;
 use std::alloc::Global;
-use sync_reference::Joining;
+use sync_reference::BigSync;
 use transcript_text::{Refusal, Stop};
 
 /// The two sources of a scenario, 0 and 1, and the one that was chosen last.
@@ -41,7 +41,7 @@ impl Sources {
     ghost use Rattle.scenario_text.specs.declared.step.Step.TheVariants.{Start as StartStep, Unit as UnitStep};
     ghost use Rattle.scenario_text.specs.declared.step.Step.TheVariants.{Stop as StopStep, Source as SourceStep};
     ghost use Rattle.scenario_history.specs.Refusals.{no_place, relayed_or};
-    ghost use Rattle.sink_history.specs.Lives.{horizon_in};
+    ghost use Rattle.sink_history.specs.History.{horizon_in};
     ghost use Rattle.scenario_history.specs.Source.{event_back, identity_of, is_ahead_in, is_heard, is_sending, open_event, pdu_in};
     ghost use Rattle.scenario_history.specs.Steps.{chosen_of, chosen_steps, is_over, running, stage_of, steps_of_source};
     ghost use Rattle.scenario_sources.specs.Answers.{AnnouncesAs, Answers, Closes, GroupIs, JoinsAs};
@@ -271,10 +271,10 @@ impl Sources {
 
     /// How the chosen source puts a sink on these streams of its group from its next event on; `None` exactly outside its start
     /// and its end, and where its group is encrypted.
-    pub fn joining(&self, which: BisSet) -> Option<Joining>
+    pub fn big_sync(&self, which: BisSet) -> Option<BigSync>
         ensures { (steps : List Step) → SourcesStand steps self.now → JoinsAs (chosen_steps steps) which result }
     {
-        joining_in(&self.phases[usize::from(self.chosen)], which)
+        big_sync_in(&self.phases[usize::from(self.chosen)], which)
     }
 
     /// The group of the chosen source; `None` exactly before its start, and where it is encrypted.

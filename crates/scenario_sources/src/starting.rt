@@ -7,7 +7,7 @@ ghost use Rattle.source_machine.specs.Setups.{are_twins};
 ghost use Rattle.scenario_text.specs.declared.step.Step.{Step};
 ghost use Rattle.scenario_text.specs.declared.step.Step.TheVariants.{Start as StartStep};
 ghost use Rattle.scenario_history.specs.Refusals.{group_refusal};
-ghost use Rattle.sink_history.specs.Lives.{horizon_in};
+ghost use Rattle.sink_history.specs.History.{horizon_in};
 ghost use Rattle.scenario_history.specs.Source.{identity_of, is_ahead_in, is_started};
 ghost use Rattle.scenario_history.specs.Steps.{running, stage_of};
 ghost use Rattle.scenario_sources.specs.Bases.{is_long as is_long_fault};

@@ -13,7 +13,7 @@ use Rattle.bcast_base.specs.Tries.{◌>>=◌}
 use Rattle.bcast_base.proofs.Citable.{bind_ok}
 use Rattle.scenario_words.specs.Reading.{Left, Gives, any_word, next_of, taken, word_in, decimal_in, with_stream, streams_of, rising_of, perhaps_of}
 use Rattle.scenario_words.specs.Reading.{wishes_of, bounded, all_wishes_of, ended}
-use Rattle.scenario_words.specs.Fitting.{FitsIndices, FitsPairs, FitsFront}
+use Rattle.scenario_words.specs.Fitting.{FitsIndices, FitsPairs, FitsPrefix}
 use Rattle.scenario_words.proofs.Citable.{word_spelled, is_small, bounded_is, Stops, misfit, bad_is, indices_first, indices_stop, indices_all, pairs_stop, pairs_end}
 use Rattle.scenario_text.specs.declared.step.Step.{Step}
 use Rattle.scenario_text.specs.Table.{Build, Row, row_of}
@@ -33,10 +33,10 @@ failed A fault = Err fault
 
 -- the fault k has the number of the words that fit
 abbrev Halts : List Place → List (List ℕ) → ℕ → ℕ → Type 0
-Halts places words read k = (j : ℕ) × (k ≡ read + j) × Stops (FitsFront places) words j
+Halts places words read k = (j : ℕ) × (k ≡ read + j) × Stops (FitsPrefix places) words j
 
 none_fit : (places : List Place) (read k : ℕ) → read ≡ k → Halts places [] read k
-none_fit places read k e = (0, omega arith, record { within = omega arith; front = tt; no_more = λ inside fits. absurd (omega (arith, inside)) })
+none_fit places read k e = (0, omega arith, record { within = omega arith; prefix = tt; no_more = λ inside fits. absurd (omega (arith, inside)) })
 
 -- ---- a place of one word
 
@@ -49,14 +49,14 @@ word_halts : (place : WordPlace) (places : List Place) (build : WordValue place 
     → Halts (one place ∷ places) (word ∷ words) read k
 word_halts place places build read k word words None small is e rest =
     let same : read ≡ k = bad_is (Step × Left) read k e in
-    (0, omega arith, record { within = omega arith; front = tt; no_more = λ inside fits. misfit place word small is fits.0 })
+    (0, omega arith, record { within = omega arith; prefix = tt; no_more = λ inside fits. misfit place word small is fits.0 })
 word_halts place places build read k word words (Some value) small is e rest =
     let it = rest value e in (
       suc it.0,
       omega (arith, it.1),
       record {
         within = omega (arith, it.2.within);
-        front = ((value, word_spelled place value word is), it.2.front);
+        prefix = ((value, word_spelled place value word is), it.2.prefix);
         no_more = λ inside fits. it.2.no_more (omega (arith, inside)) fits.1;
       },
     )
@@ -73,7 +73,7 @@ word_ends place places build read word words (Some value) made left is e rest =
       omega (arith, it.1),
       record {
         within = omega (arith, it.2.within);
-        front = ((value, word_spelled place value word is), it.2.front);
+        prefix = ((value, word_spelled place value word is), it.2.prefix);
         no_more = λ inside fits. it.2.no_more (omega (arith, inside)) fits.1;
       },
     )
@@ -81,7 +81,7 @@ word_ends place places build read word words (Some value) made left is e rest =
 -- ---- the last places
 
 -- no word may follow
-no_place : (words : List (List ℕ)) → 0 < length words → FitsFront [] (take 1 words) → ⊥
+no_place : (words : List (List ℕ)) → 0 < length words → FitsPrefix [] (take 1 words) → ⊥
 no_place [] inside fits = omega (arith, inside)
 no_place (word ∷ words) inside fits = fits
 
@@ -102,7 +102,7 @@ perhaps_halts : (least greatest read k : ℕ) (word : List ℕ) (words : List (L
     → (taken read words found >>= as_some) ≡ perhaps_bad k → Halts (perhaps least greatest ∷ []) (word ∷ words) read k
 perhaps_halts least greatest read k word words None small is e =
     let same : read ≡ k = bad_is (Option ℕ × Left) read k e in
-    (0, omega arith, record { within = omega arith; front = tt; no_more = λ inside fits. misfit (between least greatest) word small is fits.0 })
+    (0, omega arith, record { within = omega arith; prefix = tt; no_more = λ inside fits. misfit (between least greatest) word small is fits.0 })
 perhaps_halts least greatest read k word words (Some n) small is e = absurd cc
 
 perhaps_ends : (least greatest read : ℕ) (word : List ℕ) (words : List (List ℕ)) (found : Option ℕ) (value : Option ℕ) (left : Left) → decimal_in least greatest word ≡ found
@@ -115,16 +115,16 @@ perhaps_ends least greatest read word words (Some n) value left is e =
       omega arith,
       record {
         within = omega arith;
-        front = ((n, word_spelled (between least greatest) n word is), tt);
+        prefix = ((n, word_spelled (between least greatest) n word is), tt);
         no_more = λ inside fits. no_place words (omega (arith, inside)) fits.1;
       },
     )
 
-as_front : (words : List (List ℕ)) → FitsIndices 1 words → FitsFront (rising ∷ []) words
-as_front [] fits = tt
-as_front (word ∷ words) fits = fits
+as_prefix : (words : List (List ℕ)) → FitsIndices 1 words → FitsPrefix (rising ∷ []) words
+as_prefix [] fits = tt
+as_prefix (word ∷ words) fits = fits
 
-as_indices : (words : List (List ℕ)) → FitsFront (rising ∷ []) words → FitsIndices 1 words
+as_indices : (words : List (List ℕ)) → FitsPrefix (rising ∷ []) words → FitsIndices 1 words
 as_indices [] fits = tt
 as_indices (word ∷ words) fits = fits
 
@@ -134,16 +134,16 @@ from_indices words read k it = (
   it.1,
   record {
     within = it.2.within;
-    front = as_front (take it.0 words) it.2.front;
+    prefix = as_prefix (take it.0 words) it.2.prefix;
     no_more = λ inside fits. it.2.no_more inside (as_indices (take (suc it.0) words) fits);
   },
 )
 
-as_front_pairs : (most : ℕ) (words : List (List ℕ)) → FitsPairs 31 words → FitsFront (wishes most ∷ []) words
-as_front_pairs most [] fits = tt
-as_front_pairs most (word ∷ words) fits = fits
+as_prefix_pairs : (most : ℕ) (words : List (List ℕ)) → FitsPairs 31 words → FitsPrefix (wishes most ∷ []) words
+as_prefix_pairs most [] fits = tt
+as_prefix_pairs most (word ∷ words) fits = fits
 
-as_pairs : (most : ℕ) (words : List (List ℕ)) → FitsFront (wishes most ∷ []) words → FitsPairs 31 words
+as_pairs : (most : ℕ) (words : List (List ℕ)) → FitsPrefix (wishes most ∷ []) words → FitsPairs 31 words
 as_pairs most [] fits = tt
 as_pairs most (word ∷ words) fits = fits
 
@@ -153,7 +153,7 @@ from_pairs most words read k it = (
   it.1,
   record {
     within = it.2.within;
-    front = as_front_pairs most (take it.0 words) it.2.front;
+    prefix = as_prefix_pairs most (take it.0 words) it.2.prefix;
     no_more = λ inside fits. it.2.no_more inside (as_pairs most (take (suc it.0) words) fits);
   },
 )
@@ -181,7 +181,7 @@ rising_ends read word words (Some n) set left is e =
       omega (arith, all.0),
       record {
         within = omega arith;
-        front = (n, word_spelled (between 1 31) n word is, subst (λ (ws : List (List ℕ)). FitsIndices (n + 1) ws) (sym (take_all (length words) words (omega arith))) all.1);
+        prefix = (n, word_spelled (between 1 31) n word is, subst (λ (ws : List (List ℕ)). FitsIndices (n + 1) ws) (sym (take_all (length words) words (omega arith))) all.1);
         no_more = λ inside fits. absurd (omega (arith, inside));
       },
     )
@@ -226,7 +226,7 @@ built_halts (rising ∷ place ∷ places) build words read k small last e = absu
 built_halts (wishes most ∷ place ∷ places) build words read k small last e = absurd cc
 
 end_here : (words : List (List ℕ)) (read : ℕ) (left : Left) → read ≡ left.read → Halts [] words read left.read
-end_here words read left e = (0, omega arith, record { within = omega arith; front = tt; no_more = λ inside fits. no_place words inside fits })
+end_here words read left e = (0, omega arith, record { within = omega arith; prefix = tt; no_more = λ inside fits. no_place words inside fits })
 
 built_ok : {A : Type 0} (r : Result (A × Left) LineFault) (build : A → Step) (made : Step) (left : Left) → (r >>= with_built build) ≡ Ok (made, left) → (value : A) × (r ≡ Ok (value, left))
 built_ok (Ok x) build made left e =
@@ -275,9 +275,9 @@ in_line version k first words row is it =
     let count : k ≡ suc it.0 = omega (arith, it.1) in
     rw count (record {
       within = omega (arith, it.2.within);
-      fits = (row, is, it.2.front);
+      fits = (row, is, it.2.prefix);
       no_more = λ inside fits. it.2.no_more (omega (arith, inside))
-          (subst (λ (r : Row). FitsFront r.places (take (suc it.0) words)) (same_Some fits.0 row (sym fits.1 ∙ is)) fits.2);
+          (subst (λ (r : Row). FitsPrefix r.places (take (suc it.0) words)) (same_Some fits.0 row (sym fits.1 ∙ is)) fits.2);
     })
 
 abbrev step_bad : ℕ → Result Step LineFault

@@ -4,13 +4,13 @@ use Rattle.std.specs.List.{flat_map, AllByRecursion}
 use Rattle.hex.specs.Hex.{decode_of}
 use Rattle.hex.proofs.HexLemmas.{decode_of-ok}
 use Rattle.bcast_base.specs.Layout.{laid}
-use Rattle.bcast_base.specs.Spelling.{IsOctets, number}
+use Rattle.bcast_base.specs.Encoding.{IsOctets, number}
 use Rattle.bcast_base.specs.Subgroups.{subgroup_fields}
 use Rattle.bass_operations.specs.declared.wishes.Wish.{Wish}
 use Rattle.bass_operations.specs.declared.operation.AddSource.{AddSource}
 use Rattle.bass_operations.specs.declared.operation.ModifySource.{ModifySource}
 use Rattle.bass_operations.specs.declared.operation.Operation.TheVariants.{Add, Modify}
-use Rattle.bass_operations.specs.Layout.{MetadataFits, group_of, spelling}
+use Rattle.bass_operations.specs.Layout.{MetadataFits, group_of, encoding}
 use Rattle.scenario_words.specs.Spelling.{SpellsOctets, SpellsWishes}
 
 -- each metadata is octets
@@ -24,9 +24,9 @@ pub cons_octets : (first : ℕ) (rest : List ℕ) → first < 256 → IsOctets r
 cons_octets first rest h hs zero = h
 cons_octets first rest h hs (suc i) = hs i
 
-append_octets : (front rest : List ℕ) → IsOctets front → IsOctets rest → IsOctets (front ++ rest)
+append_octets : (prefix rest : List ℕ) → IsOctets prefix → IsOctets rest → IsOctets (prefix ++ rest)
 append_octets [] rest h hs = hs
-append_octets (first ∷ front) rest h hs = cons_octets first (front ++ rest) (h 0) (append_octets front rest (λ i. h (suc i)) hs)
+append_octets (first ∷ prefix) rest h hs = cons_octets first (prefix ++ rest) (h 0) (append_octets prefix rest (λ i. h (suc i)) hs)
 
 number_octets : (k value : ℕ) → IsOctets (number k value)
 unfolding number
@@ -87,7 +87,7 @@ pub record AddOctets (op : AddSource) : Type 0 where
   pub fits : MetadataFits op.wishes
   pub are : AreOctets op.wishes
 
-pub add_octets : (op : AddSource) → AddOctets op → IsOctets (spelling (Add op))
+pub add_octets : (op : AddSource) → AddOctets op → IsOctets (encoding (Add op))
 add_octets op are =
     let ends = number 2 op.pa_interval ++ length op.wishes ∷ laid (flat_map (λ w. subgroup_fields (group_of w)) op.wishes) in
     let synced = cons_octets op.pa_sync ends are.pa_sync (ends_octets op.pa_interval op.wishes are.few are.fits are.are) in
@@ -97,7 +97,7 @@ add_octets op are =
     let typed = cons_octets op.address_type (op.address ++ op.sid ∷ (op.broadcast_id ++ op.pa_sync ∷ ends)) are.address_type address in
     cons_octets 2 (op.address_type ∷ (op.address ++ op.sid ∷ (op.broadcast_id ++ op.pa_sync ∷ ends))) (omega arith) typed
 
-pub modify_octets : (op : ModifySource) → op.source_id < 256 → op.pa_sync < 256 → length op.wishes ≤ 31 → MetadataFits op.wishes → AreOctets op.wishes → IsOctets (spelling (Modify op))
+pub modify_octets : (op : ModifySource) → op.source_id < 256 → op.pa_sync < 256 → length op.wishes ≤ 31 → MetadataFits op.wishes → AreOctets op.wishes → IsOctets (encoding (Modify op))
 modify_octets op source_id pa_sync few fits are =
     let ends = number 2 op.pa_interval ++ length op.wishes ∷ laid (flat_map (λ w. subgroup_fields (group_of w)) op.wishes) in
     let synced = cons_octets op.pa_sync ends pa_sync (ends_octets op.pa_interval op.wishes few fits are) in

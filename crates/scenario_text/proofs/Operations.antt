@@ -5,12 +5,12 @@ use Rattle.std.proofs.lemmas.List.{length-append}
 use Rattle.bcast_base.specs.Layout.{laid}
 use Rattle.bcast_base.specs.Subgroups.{subgroup_fields}
 use Rattle.bcast_base.proofs.Citable.{number-length}
-use Rattle.bcast_base.specs.Spelling.{number}
+use Rattle.bcast_base.specs.Encoding.{number}
 use Rattle.bass_operations.specs.declared.wishes.Wish.{Wish}
 use Rattle.bass_operations.specs.declared.operation.AddSource.{AddSource}
 use Rattle.bass_operations.specs.declared.operation.ModifySource.{ModifySource}
 use Rattle.bass_operations.specs.declared.operation.Operation.TheVariants.{Add, Modify}
-use Rattle.bass_operations.specs.Layout.{group_of, spelling}
+use Rattle.bass_operations.specs.Layout.{group_of, encoding}
 use Rattle.scenario_words.specs.Places.{wishes_octets}
 
 wishes_length : (wishes : List Wish) → length (laid (flat_map (λ wish. subgroup_fields (group_of wish)) wishes)) ≡ wishes_octets wishes
@@ -22,7 +22,7 @@ wishes_length (wish ∷ wishes) =
     let metadata = length-append wish.metadata (laid (flat_map (λ w. subgroup_fields (group_of w)) wishes)) in
     omega (arith, rest, bits, whole, metadata)
 
-pub add_length : (op : AddSource) → length op.address ≡ 6 → length op.broadcast_id ≡ 3 → length (spelling (Add op)) ≡ 16 + wishes_octets op.wishes
+pub add_length : (op : AddSource) → length op.address ≡ 6 → length op.broadcast_id ≡ 3 → length (encoding (Add op)) ≡ 16 + wishes_octets op.wishes
 add_length op address broadcast_id =
     let rest = wishes_length op.wishes in
     let all = laid (flat_map (λ w. subgroup_fields (group_of w)) op.wishes) in
@@ -32,7 +32,7 @@ add_length op address broadcast_id =
     let first = length-append op.address (op.sid ∷ (op.broadcast_id ++ op.pa_sync ∷ (number 2 op.pa_interval ++ length op.wishes ∷ all))) in
     omega (arith, rest, interval, two, id, first)
 
-pub modify_length : (op : ModifySource) → length (spelling (Modify op)) ≡ 6 + wishes_octets op.wishes
+pub modify_length : (op : ModifySource) → length (encoding (Modify op)) ≡ 6 + wishes_octets op.wishes
 modify_length op =
     let rest = wishes_length op.wishes in
     let all = laid (flat_map (λ w. subgroup_fields (group_of w)) op.wishes) in

@@ -8,7 +8,7 @@ use Rattle.scenario_words.specs.Places.{perhaps, rising, wishes, WordValue, Plac
 use Rattle.scenario_words.specs.Spelling.{Spells, SpellsWord}
 use Rattle.ltv_codec.specs.Reading.{bad_of}
 use Rattle.scenario_words.specs.Lines.{◌▸◌}
-use Rattle.bcast_base.specs.Spelling.{IsOctets}
+use Rattle.bcast_base.specs.Encoding.{IsOctets}
 use Rattle.bass_operations.specs.Layout.{MetadataFits}
 use Rattle.scenario_text.specs.declared.step.Step.{Step}
 use Rattle.scenario_text.specs.Ranges.{IsInRange}

@@ -2,7 +2,7 @@
 -- fit: the first so many words fit the places of some line, and no more do.
 use Rattle.std.specs.Prelude.{◌≡◌, ◌≤◌, ◌<◌, ℕ, suc, List, [], ◌∷◌, length, take, ⊤, Some}
 use Rattle.scenario_words.specs.Words.{words_of}
-use Rattle.scenario_words.specs.Fitting.{FitsFront}
+use Rattle.scenario_words.specs.Fitting.{FitsPrefix}
 use Rattle.scenario_text.specs.declared.step.Step.{Step}
 use Rattle.scenario_text.specs.Table.{Row, row_of}
 use Rattle.scenario_text.specs.Lines.{LineIs, IsBlank}
@@ -10,7 +10,7 @@ use Rattle.scenario_text.specs.Lines.{LineIs, IsBlank}
 -- the words fit the first places of some line
 abbrev pub FitsLine : ℕ → List (List ℕ) → Type 0
 FitsLine version [] = ⊤
-FitsLine version (first ∷ words) = (row : Row) × (row_of version first ≡ Some row) × FitsFront row.places words
+FitsLine version (first ∷ words) = (row : Row) × (row_of version first ≡ Some row) × FitsPrefix row.places words
 
 -- a line that says no step, and isn't blank: its first k words fit, and no more do; where all fit, k is their number
 pub record IsMisfit (version : ℕ) (line : List ℕ) (k : ℕ) : Type 0 where

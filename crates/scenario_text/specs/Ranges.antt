@@ -4,8 +4,8 @@
 use Rattle.std.specs.Prelude.{ℕ, ◌≡◌, ◌≤◌, ◌<◌, ◌^◌, ⊤, length, None}
 use Rattle.std.specs.Option.{ForSome}
 use Rattle.ltv_codec.specs.Reading.{bad_of}
-use Rattle.bcast_base.specs.Spelling.{IsOctets}
-use Rattle.bass_operations.specs.Layout.{MetadataFits, spelling}
+use Rattle.bcast_base.specs.Encoding.{IsOctets}
+use Rattle.bass_operations.specs.Layout.{MetadataFits, encoding}
 use Rattle.bass_operations.specs.declared.operation.Operation.TheVariants as operations
 use Rattle.scenario_text.specs.declared.step.Step.{Step}
 use Rattle.scenario_text.specs.declared.step.Step.TheVariants.{Scenario, Group, Ident, Subgroup, Meta, Bis, Cipher, Start, Sink, Pac, Locate, Context, Tuned}
@@ -60,8 +60,8 @@ IsInRange (Announce sink) = sink ≤ 7
 IsInRange (Train sink time ext adv acad) =
     (sink ≤ 7) × (time ≤ 2 ^ 48) × (length ext ≤ 255) × (length adv ≤ 1650) × (length acad ≤ 255) × IsOctets ext × IsOctets adv × IsOctets acad
 IsInRange (Write sink octets) = (sink ≤ 7) × (length octets ≤ 512) × IsOctets octets
-IsInRange (Add sink op) = (sink ≤ 7) × MetadataFits op.wishes × IsOctets (spelling (operations.Add op))
-IsInRange (Modify sink op) = (sink ≤ 7) × MetadataFits op.wishes × IsOctets (spelling (operations.Modify op))
+IsInRange (Add sink op) = (sink ≤ 7) × MetadataFits op.wishes × IsOctets (encoding (operations.Add op))
+IsInRange (Modify sink op) = (sink ≤ 7) × MetadataFits op.wishes × IsOctets (encoding (operations.Modify op))
 IsInRange (Remove sink source_id) = (sink ≤ 7) × (source_id < 256)
 IsInRange (Code sink source_id code) = (sink ≤ 7) × (length code ≡ 16) × (source_id < 256) × IsOctets code
 IsInRange (Serve sink) = sink ≤ 7

@@ -1,6 +1,6 @@
 //! What holds of every line, whatever reads it.
 ghost use Rattle.std.specs.Prelude.{◌≡◌, ◌+◌, ◌↔◌, ℕ, List, length, Some, None, Ok, Err};
-ghost use Rattle.bass_operations.specs.Layout.{spelling};
+ghost use Rattle.bass_operations.specs.Layout.{encoding};
 ghost use Rattle.bass_operations.specs.declared.operation.AddSource.{AddSource};
 ghost use Rattle.bass_operations.specs.declared.operation.ModifySource.{ModifySource};
 ghost use Rattle.bass_operations.specs.declared.operation.Operation.TheVariants.{Add, Modify};
@@ -28,6 +28,6 @@ pub fn a_line_says_one_step()
 /// place exactly where its operation passes 512 octets.
 pub fn an_operation_has_so_many_octets()
     ensures add { (op : AddSource) → length op.address ≡ 6 → length op.broadcast_id ≡ 3
-        → length (spelling (Add op)) ≡ before_add + wishes_octets op.wishes }
-    ensures modify { (op : ModifySource) → length (spelling (Modify op)) ≡ before_modify + wishes_octets op.wishes }
+        → length (encoding (Add op)) ≡ before_add + wishes_octets op.wishes }
+    ensures modify { (op : ModifySource) → length (encoding (Modify op)) ≡ before_modify + wishes_octets op.wishes }
 {}

@@ -23,36 +23,36 @@ none_is_some : (octets : List ℕ) (some : Option (List ℕ)) → some ≡ Some 
 none_is_some octets some is none = let both : Some octets ≡ None = sym is ∙ none in cc
 
 -- a part that was put leaves what follows it
-pub after_both : (front back : Option (List ℕ)) (old mid : List ℕ) → after old front ≡ Some mid
-    → after old (both front back) ≡ after mid back
+pub after_both : (prefix back : Option (List ℕ)) (old mid : List ℕ) → after old prefix ≡ Some mid
+    → after old (both prefix back) ≡ after mid back
 after_both None back old mid put = absurd (none_is_some mid None put refl)
-after_both (Some front) None old mid put = refl
-after_both (Some front) (Some back) old mid put = ap Some (sym (append_assoc old front back) ∙ ap (λ l. l ++ back) (same_Some _ _ put))
+after_both (Some prefix) None old mid put = refl
+after_both (Some prefix) (Some back) old mid put = ap Some (sym (append_assoc old prefix back) ∙ ap (λ l. l ++ back) (same_Some _ _ put))
 
 -- no part, no both
-pub both_none : (front back : Option (List ℕ)) → front ≡ None → both front back ≡ None
+pub both_none : (prefix back : Option (List ℕ)) → prefix ≡ None → both prefix back ≡ None
 both_none None back none = refl
-both_none (Some front) back none = absurd (none_is_some front (Some front) refl none)
+both_none (Some prefix) back none = absurd (none_is_some prefix (Some prefix) refl none)
 
 pub after_none : (old : List ℕ) (part : Option (List ℕ)) → after old part ≡ None → part ≡ None
 after_none old None none = refl
 after_none old (Some part) none = absurd (none_is_some (old ++ part) _ refl none)
 
 -- one part was put, and then the other
-pub goes : (front back : Option (List ℕ)) (old mid new : List ℕ) (r : Result ⊤ TomlFault) → after old front ≡ Some mid
-    → Grows back mid new r → Grows (both front back) old new r
-goes front back old mid new (Ok done) put grows = after_both front back old mid put ∙ grows
-goes front back old mid new (Err faults.BadToml) put grows = grows
-goes front back old mid new (Err faults.BadDocument) put grows =
-    after_none old _ (after_both front back old mid put ∙ ap (after mid) grows)
-goes front back old mid new (Err faults.Memory) put grows = tt
+pub goes : (prefix back : Option (List ℕ)) (old mid new : List ℕ) (r : Result ⊤ TomlFault) → after old prefix ≡ Some mid
+    → Grows back mid new r → Grows (both prefix back) old new r
+goes prefix back old mid new (Ok done) put grows = after_both prefix back old mid put ∙ grows
+goes prefix back old mid new (Err faults.BadToml) put grows = grows
+goes prefix back old mid new (Err faults.BadDocument) put grows =
+    after_none old _ (after_both prefix back old mid put ∙ ap (after mid) grows)
+goes prefix back old mid new (Err faults.Memory) put grows = tt
 
 -- the first part was not put
-pub stops : (front back : Option (List ℕ)) (old new new' : List ℕ) (fault : TomlFault) → Grows front old new (Err fault)
-    → Grows (both front back) old new' (Err fault)
-stops front back old new new' faults.BadToml grows = grows
-stops front back old new new' faults.BadDocument grows = both_none front back grows
-stops front back old new new' faults.Memory grows = tt
+pub stops : (prefix back : Option (List ℕ)) (old new new' : List ℕ) (fault : TomlFault) → Grows prefix old new (Err fault)
+    → Grows (both prefix back) old new' (Err fault)
+stops prefix back old new new' faults.BadToml grows = grows
+stops prefix back old new new' faults.BadDocument grows = both_none prefix back grows
+stops prefix back old new new' faults.Memory grows = tt
 
 -- a loop over keys: what is left of the whole when one more word was put
 pub words_goes : (keys : List CodeField) (i : ℕ) (key : CodeField) (table : Members) (text text' : List ℕ) → i < length keys

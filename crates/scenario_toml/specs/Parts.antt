@@ -5,13 +5,13 @@ use Rattle.toml.specs.Data.{Data, Items, no_items, item}
 
 -- so many octets, and then those
 abbrev pub after : List ℕ → Option (List ℕ) → Option (List ℕ)
-after front None = None
-after front (Some back) = Some (front ++ back)
+after prefix None = None
+after prefix (Some back) = Some (prefix ++ back)
 
 -- one part and then another
 abbrev pub both : Option (List ℕ) → Option (List ℕ) → Option (List ℕ)
 both None back = None
-both (Some front) back = after front back
+both (Some prefix) back = after prefix back
 
 -- a part for each item of an array, in order
 abbrev pub each : (Data → Option (List ℕ)) → Items → Option (List ℕ)

@@ -40,7 +40,7 @@ no_further word i value n inside is fails small e =
     let digits : AreDigits word = subst (λ (w : List ℕ). AreDigits w) (sym e) (digits_decimal own n small) in
     let digit = digits i inside in
     let whole : digits_value 10 word ≡ n = ap (λ (w : List ℕ). digits_value 10 w) e ∙ digits_value-decimal own n small in
-    let front = digits_value-take-le 10 word (i + 1) (omega arith) in
+    let prefix = digits_value-take-le 10 word (i + 1) (omega arith) in
     let more = more_value word i value inside is digit in
     fails (digit.0, digit.1, omega arith)
 

@@ -27,7 +27,7 @@ reads i (a ∷ b ∷ rest) even all =
 spells : (word : List ℕ) → length word % 2 ≡ 0 → list_all is_hex_digit word ≡ true → decode_of word ≡ Ok (pairs_of word)
 spells word even all = decode_of-even word even ∙ reads 0 word even all
 
-pairs_split : (front back : List ℕ) → length front % 2 ≡ 0 → pairs_of (front ++ back) ≡ pairs_of front ++ pairs_of back
+pairs_split : (prefix back : List ℕ) → length prefix % 2 ≡ 0 → pairs_of (prefix ++ back) ≡ pairs_of prefix ++ pairs_of back
 unfolding pairs_of
 pairs_split [] back even = refl
 pairs_split (digit ∷ []) back even = absurd cc
@@ -50,11 +50,11 @@ parted rest n all =
 
 pub piece_read : (word octets rest piece left bytes new : List ℕ) (n : ℕ) → ReadTo word octets rest → piece ≡ take n rest → left ≡ drop n rest
     → length piece % 2 ≡ 0 → length left % 2 ≡ 0 → decode_of piece ≡ Ok bytes → new ≡ octets ++ bytes → ReadTo word new left
-piece_read word octets rest piece left bytes new n before front back even_piece even_left read put =
+piece_read word octets rest piece left bytes new n before prefix back even_piece even_left read put =
     let all = parted rest n before.digits in
-    let digits : list_all is_hex_digit piece ≡ true = rw front all.0 in
+    let digits : list_all is_hex_digit piece ≡ true = rw prefix all.0 in
     let same : bytes ≡ pairs_of piece = decode_of-same piece bytes (pairs_of piece) read (spells piece even_piece digits) in
-    let whole : rest ≡ piece ++ left = rw (front, back) (sym (take-append-drop n rest)) in
+    let whole : rest ≡ piece ++ left = rw (prefix, back) (sym (take-append-drop n rest)) in
     record {
       even = even_left;
       digits = rw back all.1;

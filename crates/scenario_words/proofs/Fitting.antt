@@ -18,7 +18,7 @@ left_of words read = record { words = words; read = read }
 -- the first j of the words fit, and no more do
 pub record Stops (fits : List (List ℕ) → Type 0) (words : List (List ℕ)) (j : ℕ) : Type 0 where
   pub within : j ≤ length words
-  pub front : fits (take j words)
+  pub prefix : fits (take j words)
   pub no_more : j < length words → fits (take (suc j) words) → ⊥
 
 some_is : {A : Type 0} (x y : A) → Some x ≡ Some y → x ≡ y
@@ -48,7 +48,7 @@ pub indices_first : (least read k : ℕ) (word : List ℕ) (words : List (List �
     → ((n : ℕ) → found ≡ Some n → (j : ℕ) × (k ≡ read + 1 + j) × Stops (FitsIndices (n + 1)) words j)
     → ((found ≡ None) → k ≡ read) → (j : ℕ) × (k ≡ read + j) × Stops (FitsIndices least) (word ∷ words) j
 indices_first least read k word words None is rest none =
-    (0, omega (arith, none refl), record { within = omega arith; front = tt; no_more = λ more fits. misfit (between least 31) word refl is (fits.0, fits.1) })
+    (0, omega (arith, none refl), record { within = omega arith; prefix = tt; no_more = λ more fits. misfit (between least 31) word refl is (fits.0, fits.1) })
 indices_first least read k word words (Some n) is rest none =
     let it = rest n refl in
     let spelled = word_spelled (between least 31) n word is in (
@@ -56,7 +56,7 @@ indices_first least read k word words (Some n) is rest none =
       omega (arith, it.1),
       record {
         within = omega (arith, it.2.within);
-        front = (n, spelled, it.2.front);
+        prefix = (n, spelled, it.2.prefix);
         no_more = λ more fits. it.2.no_more (omega (arith, more)) (subst (λ (m : ℕ). FitsIndices (m + 1) (take (suc it.0) words)) (decimal_once least n fits.0 word is fits.1) fits.2);
       },
     )
@@ -137,16 +137,16 @@ pair_stops : (before : List Wish) (more read k : ℕ) (word : List ℕ) (words :
     → (j : ℕ) × (k ≡ read + j) × Stops (FitsPairs (suc more)) (word ∷ words) j
 pair_stops before more read k word words r (first_misfits misfits) e rest =
     let same : read ≡ k = bad_is (List Wish × Left) read k e in
-    (0, omega arith, record { within = omega arith; front = tt; no_more = λ inside fits. misfits fits })
+    (0, omega arith, record { within = omega arith; prefix = tt; no_more = λ inside fits. misfits fits })
 pair_stops before more read k word words r (second_lacks fits none) e rest =
     let same : read + 1 ≡ k = bad_is (List Wish × Left) (read + 1) k e in
-    rw none (1, omega arith, record { within = omega arith; front = fits; no_more = λ inside more_fits. absurd (omega (arith, inside)) })
+    rw none (1, omega arith, record { within = omega arith; prefix = fits; no_more = λ inside more_fits. absurd (omega (arith, inside)) })
 pair_stops before more read k word words r (second_misfits metadata others is fits misfits) e rest =
     let same : read + 1 ≡ k = bad_is (List Wish × Left) (read + 1) k e in
-    rw is (1, omega arith, record { within = omega arith; front = fits; no_more = λ inside both. misfits both.1 })
+    rw is (1, omega arith, record { within = omega arith; prefix = fits; no_more = λ inside both. misfits both.1 })
 pair_stops before more read k word words r (both_fit metadata others wish is fits also) e rest =
     let it = rest metadata others wish is e in
-    rw is (suc (suc it.0), omega (arith, it.1), record { within = omega (arith, it.2.within); front = (fits, also, it.2.front); no_more = λ inside all. it.2.no_more (omega (arith, inside)) all.2 })
+    rw is (suc (suc it.0), omega (arith, it.1), record { within = omega (arith, it.2.within); prefix = (fits, also, it.2.prefix); no_more = λ inside all. it.2.no_more (omega (arith, inside)) all.2 })
 
 pub pairs_stop : (more : ℕ) (before : List Wish) (read k : ℕ) (words : List (List ℕ)) → wishes_of before more read words ≡ Err (BadLine k) → (j : ℕ) × (k ≡ read + j) × Stops (FitsPairs more) words j
 unfolding wishes_of
@@ -167,7 +167,7 @@ pair_ends before all more read word words left r (second_lacks fits none) e rest
 pair_ends before all more read word words left r (second_misfits metadata others is fits misfits) e rest = absurd cc
 pair_ends before all more read word words left r (both_fit metadata others wish is fits also) e rest =
     let it = rest metadata others wish is e in
-    rw is (suc (suc it.0), omega (arith, it.1), record { within = omega (arith, it.2.within); front = (fits, also, it.2.front); no_more = λ inside all. it.2.no_more (omega (arith, inside)) all.2 })
+    rw is (suc (suc it.0), omega (arith, it.1), record { within = omega (arith, it.2.within); prefix = (fits, also, it.2.prefix); no_more = λ inside all. it.2.no_more (omega (arith, inside)) all.2 })
 
 left_now : (before all : List Wish) (words : List (List ℕ)) (read : ℕ) (left : Left) → pairs_are before words read ≡ done (all, left) → (left.read ≡ read + 0)
 left_now before all words read left e =
@@ -178,9 +178,9 @@ left_now before all words read left e =
 pub pairs_end : (more : ℕ) (before : List Wish) (read : ℕ) (words : List (List ℕ)) (all : List Wish) (left : Left) → wishes_of before more read words ≡ Ok (all, left)
     → (j : ℕ) × (left.read ≡ read + j) × Stops (FitsPairs more) words j
 unfolding wishes_of
-pairs_end zero before read [] all left e = (0, left_now before all [] read left e, record { within = omega arith; front = tt; no_more = λ inside fits. absurd (omega (arith, inside)) })
-pairs_end zero before read (word ∷ words) all left e = (0, left_now before all (word ∷ words) read left e, record { within = omega arith; front = tt; no_more = λ inside fits. fits })
-pairs_end (suc more) before read [] all left e = (0, left_now before all [] read left e, record { within = omega arith; front = tt; no_more = λ inside fits. absurd (omega (arith, inside)) })
+pairs_end zero before read [] all left e = (0, left_now before all [] read left e, record { within = omega arith; prefix = tt; no_more = λ inside fits. absurd (omega (arith, inside)) })
+pairs_end zero before read (word ∷ words) all left e = (0, left_now before all (word ∷ words) read left e, record { within = omega arith; prefix = tt; no_more = λ inside fits. fits })
+pairs_end (suc more) before read [] all left e = (0, left_now before all [] read left e, record { within = omega arith; prefix = tt; no_more = λ inside fits. absurd (omega (arith, inside)) })
 pairs_end (suc more) before read (word ∷ words) all left e =
     pair_ends before all more read word words left (wish_of (left_of (word ∷ words) read)) (one_pair read word words) e
     (λ metadata rest wish is next. pairs_end more (before ++ wish ∷ []) (read + 1 + 1) rest all left next)

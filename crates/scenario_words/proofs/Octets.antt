@@ -5,7 +5,7 @@ use Rattle.std.proofs.lemmas.List.{append-nil, take_all}
 use Rattle.hex.specs.Hex.{decode_of, encode_with, encode_lower}
 use Rattle.hex.proofs.HexLemmas.{decode_of-encode_lower, decode_of-ok}
 use Rattle.bcast_base.specs.Numbers.{sum_from}
-use Rattle.bcast_base.specs.Spelling.{IsOctets, number}
+use Rattle.bcast_base.specs.Encoding.{IsOctets, number}
 use Rattle.bcast_base.proofs.Citable.{number-length, number_again}
 
 pub digits_back : (octets : List ℕ) → IsOctets octets → decode_of (encode_lower octets) ≡ Ok octets

@@ -147,8 +147,8 @@ pub pairs_spell : (most : ℕ) (word : List ℕ) → ArePairs most word → Spel
 pairs_spell most word are =
     spells_some most word (λ none. let some = are.some in omega (arith, none, some)) (dash_has_one word _ refl are.even) are.even are.digits are.fit
 
-pub whole_front : (n : ℕ) (octets rest : List ℕ) → n ≡ length octets → take n (octets ++ rest) ≡ octets
-whole_front n octets rest e = rw e (take-append_seam octets rest)
+pub whole_prefix : (n : ℕ) (octets rest : List ℕ) → n ≡ length octets → take n (octets ++ rest) ≡ octets
+whole_prefix n octets rest e = rw e (take-append_seam octets rest)
 
 within_range : (most : ℕ) (read : Result (List ℕ) FromHexError) (bytes : List ℕ) → within most read ≡ Some bytes → length bytes ≤ most
 within_range most (Ok octets) bytes e = let found = some_is _ _ bytes e in rw (← found.1) (leb-true (length octets) most found.0)

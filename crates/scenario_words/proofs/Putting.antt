@@ -1,4 +1,4 @@
--- A line that is put piece by piece: what was put so far is a front of it, and what is left is its rest.
+-- A line that is put piece by piece: what was put so far is a prefix of it, and what is left is its rest.
 use Rattle.std.proofs.Common.{◌≡◌, ◌<◌, ◌≤◌, ◌+◌, ◌*◌, ◌/◌, ◌%◌, ℕ, suc, List, [], ◌∷◌, ◌++◌, length, get_or, slice_index, map, take, drop, Result, Ok, Err, refl, ap, sym, ◌∙◌, append_assoc, arith, decimal}
 use Rattle.std.specs.Prelude.{OnErr}
 use Rattle.std.proofs.Math.Seq.{drop-cons}
@@ -8,7 +8,7 @@ use Rattle.std.proofs.lemmas.List.{take-append-drop, append-nil}
 use borrow.Rule.Slice.PartMut.{put_mid}
 use Rattle.hex.proofs.Pairs.{encode_with-drop}
 use Rattle.hex.specs.Hex.{encode_with, encode_lower, lower_digits}
-use Rattle.scenario_words.specs.Fronts.{AFront, PutUpTo}
+use Rattle.scenario_words.specs.Prefixes.{APrefix, PutUpTo}
 use Rattle.scenario_words.specs.Joined.{space, behind}
 use Rattle.scenario_words.specs.PrintedWords.{spelled}
 use Rattle.scenario_words.specs.declared.printed_word.Word.{Word}
@@ -16,8 +16,8 @@ use Rattle.scenario_words.specs.declared.printed_word.Word.{Word}
 -- more stands behind a line and behind its rest
 pub with_more : (old new line rest piece left : List ℕ) → PutUpTo old new line rest → left ≡ rest ++ piece → PutUpTo old new (line ++ piece) left
 with_more old new line rest piece left so_far more = record {
-  front = so_far.front;
-  whole = ap (λ (l : List ℕ). l ++ piece) so_far.whole ∙ (append_assoc so_far.front rest piece ∙ ap (λ (l : List ℕ). so_far.front ++ l) (sym more));
+  prefix = so_far.prefix;
+  whole = ap (λ (l : List ℕ). l ++ piece) so_far.whole ∙ (append_assoc so_far.prefix rest piece ∙ ap (λ (l : List ℕ). so_far.prefix ++ l) (sym more));
   put = so_far.put;
 }
 
@@ -25,42 +25,42 @@ with_more old new line rest piece left so_far more = record {
 pub put_more : (old now new line left piece waits rest : List ℕ) → PutUpTo old now line left → left ≡ piece ++ rest → PutUpTo now new piece waits
     → PutUpTo old new line (waits ++ rest)
 put_more old now new line left piece waits rest so_far split more = record {
-  front = so_far.front ++ more.front;
-  whole = so_far.whole ∙ (ap (λ (l : List ℕ). so_far.front ++ l) (split ∙ (ap (λ (l : List ℕ). l ++ rest) more.whole ∙ append_assoc more.front waits rest))
-      ∙ sym (append_assoc so_far.front more.front (waits ++ rest)));
-  put = more.put ∙ (ap (λ (l : List ℕ). l ++ more.front) so_far.put ∙ append_assoc old so_far.front more.front);
+  prefix = so_far.prefix ++ more.prefix;
+  whole = so_far.whole ∙ (ap (λ (l : List ℕ). so_far.prefix ++ l) (split ∙ (ap (λ (l : List ℕ). l ++ rest) more.whole ∙ append_assoc more.prefix waits rest))
+      ∙ sym (append_assoc so_far.prefix more.prefix (waits ++ rest)));
+  put = more.put ∙ (ap (λ (l : List ℕ). l ++ more.prefix) so_far.put ∙ append_assoc old so_far.prefix more.prefix);
 }
 
 pub put_all : (old now new line rest : List ℕ) → PutUpTo old now line rest → new ≡ now ++ rest → new ≡ old ++ line
 put_all old now new line rest so_far more =
-    more ∙ (ap (λ (l : List ℕ). l ++ rest) so_far.put ∙ (append_assoc old so_far.front rest ∙ ap (λ (l : List ℕ). old ++ l) (sym so_far.whole)))
+    more ∙ (ap (λ (l : List ℕ). l ++ rest) so_far.put ∙ (append_assoc old so_far.prefix rest ∙ ap (λ (l : List ℕ). old ++ l) (sym so_far.whole)))
 
 -- what waits, with a piece of what is behind it
 pub regrouped : (waits left piece rest : List ℕ) → left ≡ piece ++ rest → waits ++ left ≡ (waits ++ piece) ++ rest
 regrouped waits left piece rest split = ap (λ (l : List ℕ). waits ++ l) split ∙ sym (append_assoc waits piece rest)
 
 -- the next piece was put in part
-pub front_of : (old now new line left piece rest : List ℕ) → PutUpTo old now line left → left ≡ piece ++ rest → AFront now new piece → AFront old new line
-front_of old now new line left piece rest so_far split part = record {
-  front = so_far.front ++ part.front;
+pub prefix_of : (old now new line left piece rest : List ℕ) → PutUpTo old now line left → left ≡ piece ++ rest → APrefix now new piece → APrefix old new line
+prefix_of old now new line left piece rest so_far split part = record {
+  prefix = so_far.prefix ++ part.prefix;
   rest = part.rest ++ rest;
-  whole = so_far.whole ∙ (ap (λ (l : List ℕ). so_far.front ++ l) (split ∙ (ap (λ (l : List ℕ). l ++ rest) part.whole ∙ append_assoc part.front part.rest rest))
-      ∙ sym (append_assoc so_far.front part.front (part.rest ++ rest)));
-  put = part.put ∙ (ap (λ (l : List ℕ). l ++ part.front) so_far.put ∙ append_assoc old so_far.front part.front);
+  whole = so_far.whole ∙ (ap (λ (l : List ℕ). so_far.prefix ++ l) (split ∙ (ap (λ (l : List ℕ). l ++ rest) part.whole ∙ append_assoc part.prefix part.rest rest))
+      ∙ sym (append_assoc so_far.prefix part.prefix (part.rest ++ rest)));
+  put = part.put ∙ (ap (λ (l : List ℕ). l ++ part.prefix) so_far.put ∙ append_assoc old so_far.prefix part.prefix);
 }
 
 -- nothing was put
 begun : (old line : List ℕ) → PutUpTo old old line line
-begun old line = record { front = []; whole = refl; put = sym (append-nil old) }
+begun old line = record { prefix = []; whole = refl; put = sym (append-nil old) }
 
--- a front of a piece is one of the piece with its rest
-pub front_of_more : (old new waits piece rest : List ℕ) → AFront old new (waits ++ piece) → AFront old new (waits ++ (piece ++ rest))
-front_of_more old new waits piece rest part =
-    front_of old old new (waits ++ (piece ++ rest)) (waits ++ (piece ++ rest)) (waits ++ piece) rest (begun old (waits ++ (piece ++ rest)))
+-- a prefix of a piece is one of the piece with its rest
+pub prefix_of_more : (old new waits piece rest : List ℕ) → APrefix old new (waits ++ piece) → APrefix old new (waits ++ (piece ++ rest))
+prefix_of_more old new waits piece rest part =
+    prefix_of old old new (waits ++ (piece ++ rest)) (waits ++ (piece ++ rest)) (waits ++ piece) rest (begun old (waits ++ (piece ++ rest)))
     (regrouped waits (piece ++ rest) piece rest refl) part
 
-pub front_of_first : (old new waits first rest : List ℕ) → waits ≡ [] → AFront old new (waits ++ first) → AFront old new (first ++ rest)
-front_of_first old new waits first rest none part = front_of_more old new [] first rest (rw none at part)
+pub prefix_of_first : (old new waits first rest : List ℕ) → waits ≡ [] → APrefix old new (waits ++ first) → APrefix old new (first ++ rest)
+prefix_of_first old new waits first rest none part = prefix_of_more old new [] first rest (rw none at part)
 
 -- the digits of one octet more were put, as a pair
 pub pair_put : (octets digits put : List ℕ) (i k pair : ℕ) → i < length octets → 2 * i + 2 ≤ length digits → pair < 65536 → put ≡ pair % 256 ∷ pair / 256 % 256 ∷ []
@@ -70,16 +70,16 @@ pub pair_put : (octets digits put : List ℕ) (i k pair : ℕ) → i < length oc
 pair_put octets digits put i k pair inside fits small is first second so_far =
     let whole : pair / 256 % 256 ≡ pair / 256 = omega arith in
     let two : 2 * (i + 1) ≡ 2 * i + length put = rw is (omega arith) in
-    let front = take-put_mid (2 * i) k digits put (2 * (i + 1)) two (omega arith) in
-    rw (front, append_assoc, is, whole, first, second) (rw (encode_with-drop lower_digits octets i inside) at so_far)
+    let prefix = take-put_mid (2 * i) k digits put (2 * (i + 1)) two (omega arith) in
+    rw (prefix, append_assoc, is, whole, first, second) (rw (encode_with-drop lower_digits octets i inside) at so_far)
 
 encode_append : (t xs ys : List ℕ) → encode_with t (xs ++ ys) ≡ encode_with t xs ++ encode_with t ys
 unfolding encode_with
 encode_append t [] ys = refl
 encode_append t (x ∷ xs) ys = rw (encode_append t xs ys) refl
 
-pub encode_split : (n : ℕ) (octets front back : List ℕ) → front ≡ take n octets → back ≡ drop n octets → encode_lower octets ≡ encode_lower front ++ encode_lower back
-encode_split n octets front back is rest =
+pub encode_split : (n : ℕ) (octets prefix back : List ℕ) → prefix ≡ take n octets → back ≡ drop n octets → encode_lower octets ≡ encode_lower prefix ++ encode_lower back
+encode_split n octets prefix back is rest =
     rw (is, rest) (ap encode_lower (sym (take-append-drop n octets)) ∙ encode_append lower_digits (take n octets) (drop n octets))
 
 pub digits_put : (old new line waits rest : List ℕ) → length rest ≡ 0 → PutUpTo old new line (waits ++ encode_lower rest) → PutUpTo old new line waits
@@ -106,11 +106,11 @@ word_put old now new line waits waiting words i none so_far more =
     let next : i + 1 ≡ suc i = omega arith in
     rw next (put_more old now new line _ (waits ++ spelled (get_or words i none)) waiting _ so_far (regrouped waits _ (spelled (get_or words i none)) _ refl) more)
 
-pub word_front : (old now new line waits : List ℕ) (words : List Word) (i : ℕ) (none : Word)
+pub word_prefix : (old now new line waits : List ℕ) (words : List Word) (i : ℕ) (none : Word)
     → PutUpTo old now line (waits ++ (spelled (get_or words i none) ++ behind (map spelled (drop (suc i) words))))
-    → AFront now new (waits ++ spelled (get_or words i none)) → AFront old new line
-word_front old now new line waits words i none so_far part =
-    front_of old now new line _ (waits ++ spelled (get_or words i none)) _ so_far (regrouped waits _ (spelled (get_or words i none)) _ refl) part
+    → APrefix now new (waits ++ spelled (get_or words i none)) → APrefix old new line
+word_prefix old now new line waits words i none so_far part =
+    prefix_of old now new line _ (waits ++ spelled (get_or words i none)) _ so_far (regrouped waits _ (spelled (get_or words i none)) _ refl) part
 
 -- a number below 10 is one digit
 pub digit_put : (old new waits waiting : List ℕ) (number : ℕ) → number < 10 → PutUpTo old new (waits ++ (48 + number) ∷ []) waiting

@@ -2,7 +2,7 @@
 use Rattle.std.proofs.Common.{◌≡◌, ◌<◌, ◌/◌, ◌%◌, ◌^◌, ℕ, zero, suc, Bool, true, false, not, ◌&&◌, nat_eq, List, [], ◌∷◌, ◌++◌, length, get_or, decimal, refl, ap, arith, eqb-true}
 use Rattle.std.specs.Prelude.{slice_index, ⊤}
 use Rattle.hex.specs.Hex.{encode_with, lower_digits, encode_lower}
-use Rattle.bcast_base.specs.Spelling.{IsOctets}
+use Rattle.bcast_base.specs.Encoding.{IsOctets}
 use Rattle.bcast_base.proofs.Citable.{IsOctets-rest}
 use Rattle.scenario_words.specs.Words.{words_of}
 use Rattle.scenario_words.proofs.Citable.{own}

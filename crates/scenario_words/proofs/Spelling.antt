@@ -230,8 +230,8 @@ word_spelled (number_in_octets count) n word e = number_spelled count word n e
 word_spelled (list_up_to most) octets word e = let is = list_is most word octets e in (octets_spelled most word octets is.0, is.1)
 
 -- a decimal at the front
-front : (word : List ℕ) (n : ℕ) (rest : List (List ℕ)) → word ≡ decimal n → word ∷ rest ≡ decimal n ∷ rest
-front word n rest e = ap (λ (w : List ℕ). w ∷ rest) e
+prefix : (word : List ℕ) (n : ℕ) (rest : List (List ℕ)) → word ≡ decimal n → word ∷ rest ≡ decimal n ∷ rest
+prefix word n rest e = ap (λ (w : List ℕ). w ∷ rest) e
 
 abbrev head_of : List (List ℕ) → List ℕ
 head_of [] = []
@@ -251,7 +251,7 @@ streams_back (word ∷ words) set least read last left e =
     let fits : decimal_in least 31 word ≡ Some n = ap (decimal_in least 31) same ∙ one.fits in
     let rest = streams_back words (with_stream set n) (n + 1) (read + 1) last left t.2 in
     let range = decimal_range least 31 n word fits in
-    (n ∷ rest.0, (range.0, range.1, rest.1), front word n words (decimal_is least 31 n word fits) ∙ ap (λ (ws : List (List ℕ)). decimal n ∷ ws) rest.2, rest.3, rest.4)
+    (n ∷ rest.0, (range.0, range.1, rest.1), prefix word n words (decimal_is least 31 n word fits) ∙ ap (λ (ws : List (List ℕ)). decimal n ∷ ws) rest.2, rest.3, rest.4)
 
 rising_spelled : (words : List (List ℕ)) (read : ℕ) (set : ℕ) (left : Left) → rising_of (left_of words read) ≡ Ok (set, left) → Spells rising set words left.words
 rising_spelled words read set left e =
@@ -260,7 +260,7 @@ rising_spelled words read set left e =
     let one = one_read (decimal_in 1 31) words read n t.0.1 t.1 in
     let rest = streams_back t.0.1.words (with_stream 0 n) (n + 1) t.0.1.read set left t.2 in
     let range = decimal_range 1 31 n one.word one.fits in
-    let all : words ≡ map decimal (n ∷ rest.0) = one.split ∙ front one.word n t.0.1.words (decimal_is 1 31 n one.word one.fits) ∙ ap (λ (ws : List (List ℕ)). decimal n ∷ ws) rest.2 in
+    let all : words ≡ map decimal (n ∷ rest.0) = one.split ∙ prefix one.word n t.0.1.words (decimal_is 1 31 n one.word one.fits) ∙ ap (λ (ws : List (List ℕ)). decimal n ∷ ws) rest.2 in
     (n, rest.0, sym rest.3, all, rest.4, (range.0, range.1, rest.1))
 
 perhaps_spelled : (least greatest : ℕ) (words : List (List ℕ)) (read : ℕ) (value : Option ℕ) (left : Left)
@@ -274,7 +274,7 @@ perhaps_spelled least greatest (word ∷ words) read value left e =
     let both = ok_is (Some t.0.0, t.0.1) (value, left) t.2 in
     let range = decimal_range least greatest t.0.0 one.word one.fits in
     let all : word ∷ words ≡ decimal t.0.0 ∷ left.words =
-    one.split ∙ front one.word t.0.0 t.0.1.words (decimal_is least greatest t.0.0 one.word one.fits) ∙ ap (λ (p : Option ℕ × Left). decimal t.0.0 ∷ p.1.words) both in
+    one.split ∙ prefix one.word t.0.0 t.0.1.words (decimal_is least greatest t.0.0 one.word one.fits) ∙ ap (λ (p : Option ℕ × Left). decimal t.0.0 ∷ p.1.words) both in
     inr (t.0.0, sym (ap (λ (p : Option ℕ × Left). p.0) both), all, range.0, range.1)
 
 -- the pairs behind those before

@@ -30,15 +30,15 @@ pub streams_rise : (set : ℕ) → Rising 1 (streams_in set)
 streams_rise set = rising_from 31 set 1 (omega arith)
 
 -- a set that has the first k bits of another, and no others
-record Front (set part k : ℕ) : Type 0 where
+record Prefix (set part k : ℕ) : Type 0 where
   pub below : (i : ℕ) → i < k → bit_at part i ≡ bit_at set i
   pub above : (i : ℕ) → k ≤ i → bit_at part i ≡ 0
 
 with_bit : (set k i : ℕ) → bit_at (bit_or set (2 ^ k)) i ≡ max (bit_at set i) (bit_at (2 ^ k) i)
 with_bit set k i = bit_at_or set (2 ^ k) i
 
-bit_taken : (set part k : ℕ) → bit_at set k ≡ 1 → Front set part k → Front set (bit_or part (2 ^ k)) (k + 1)
-bit_taken set part k one front = record {
+bit_taken : (set part k : ℕ) → bit_at set k ≡ 1 → Prefix set part k → Prefix set (bit_or part (2 ^ k)) (k + 1)
+bit_taken set part k one prefix = record {
   below = λ i inside. elim (cases_eq i k) [
     | inl same ↦
         let here = with_bit part k i in
@@ -49,53 +49,53 @@ bit_taken set part k one front = record {
     | inr not ↦
         let here = with_bit part k i in
         let this = bit_at-pow_other k i not in
-        let there = front.below i (omega arith) in
+        let there = prefix.below i (omega arith) in
         omega arith
   ];
   above = λ i past.
       let here = with_bit part k i in
       let this = bit_at-pow_other k i (λ same. omega arith) in
-      let there = front.above i (omega arith) in
+      let there = prefix.above i (omega arith) in
       omega arith;
 }
 
-bit_left : (set part k : ℕ) → (bit_at set k ≡ 1 → ⊥) → Front set part k → Front set part (k + 1)
-bit_left set part k none front = record {
+bit_left : (set part k : ℕ) → (bit_at set k ≡ 1 → ⊥) → Prefix set part k → Prefix set part (k + 1)
+bit_left set part k none prefix = record {
   below = λ i inside. elim (cases_eq i k) [
     | inl same ↦
         let small = bit_at-lt set k in
         let zero_there : bit_at set k ≡ 0 = elim (cases_eq (bit_at set k) 1) [ inl one ↦ absurd (none one) | inr not ↦ omega arith ] in
-        front.above i (omega arith) ∙ sym (ap (bit_at set) same ∙ zero_there)
-    | inr not ↦ front.below i (omega arith)
+        prefix.above i (omega arith) ∙ sym (ap (bit_at set) same ∙ zero_there)
+    | inr not ↦ prefix.below i (omega arith)
   ];
-  above = λ i past. front.above i (omega arith);
+  above = λ i past. prefix.above i (omega arith);
 }
 
 not_one : (n : ℕ) → nat_eq n 1 ≡ false → n ≡ 1 → ⊥
 not_one n e same = let one : nat_eq 1 1 ≡ false = ap (λ (m : ℕ). nat_eq m 1) (sym same) ∙ e in cc one
 
-front_chosen : (b : Bool) (set part index k last : ℕ) (others : List ℕ) → index - 1 ≡ k → nat_eq (bit_at set (index - 1)) 1 ≡ b
-    → ((next : ℕ) → Front set next (k + 1) → Front set (with_streams next others) last) → Front set part k → Front set (with_streams part (chosen b index others)) last
-front_chosen true set part index k last others place e rest front =
+prefix_chosen : (b : Bool) (set part index k last : ℕ) (others : List ℕ) → index - 1 ≡ k → nat_eq (bit_at set (index - 1)) 1 ≡ b
+    → ((next : ℕ) → Prefix set next (k + 1) → Prefix set (with_streams next others) last) → Prefix set part k → Prefix set (with_streams part (chosen b index others)) last
+prefix_chosen true set part index k last others place e rest prefix =
     let one : bit_at set k ≡ 1 = ap (bit_at set) (sym place) ∙ eqb-true (bit_at set (index - 1)) 1 e in
-    rest (with_stream part index) (subst (λ (m : ℕ). Front set (bit_or part (2 ^ m)) (k + 1)) (sym place) (bit_taken set part k one front))
-front_chosen false set part index k last others place e rest front =
+    rest (with_stream part index) (subst (λ (m : ℕ). Prefix set (bit_or part (2 ^ m)) (k + 1)) (sym place) (bit_taken set part k one prefix))
+prefix_chosen false set part index k last others place e rest prefix =
     let none : bit_at set k ≡ 1 → ⊥ = λ one. not_one (bit_at set (index - 1)) e (ap (bit_at set) place ∙ one) in
-    rest part (bit_left set part k none front)
+    rest part (bit_left set part k none prefix)
 
-front_from : (more set part index k : ℕ) → index ≡ k + 1 → Front set part k → Front set (with_streams part (streams_from set index more)) (k + more)
-front_from zero set part index k is front = subst (λ (m : ℕ). Front set part m) (omega arith) front
-front_from (suc more) set part index k is front =
-    front_chosen (nat_eq (bit_at set (index - 1)) 1) set part index k (k + suc more) (streams_from set (index + 1) more) (omega arith) refl
-    (λ next so_far. subst (λ (m : ℕ). Front set (with_streams next (streams_from set (index + 1) more)) m) (omega arith) (front_from more set next (index + 1) (k + 1) (omega arith) so_far))
-    front
+prefix_from : (more set part index k : ℕ) → index ≡ k + 1 → Prefix set part k → Prefix set (with_streams part (streams_from set index more)) (k + more)
+prefix_from zero set part index k is prefix = subst (λ (m : ℕ). Prefix set part m) (omega arith) prefix
+prefix_from (suc more) set part index k is prefix =
+    prefix_chosen (nat_eq (bit_at set (index - 1)) 1) set part index k (k + suc more) (streams_from set (index + 1) more) (omega arith) refl
+    (λ next so_far. subst (λ (m : ℕ). Prefix set (with_streams next (streams_from set (index + 1) more)) m) (omega arith) (prefix_from more set next (index + 1) (k + 1) (omega arith) so_far))
+    prefix
 
-nothing_yet : (set : ℕ) → Front set 0 0
+nothing_yet : (set : ℕ) → Prefix set 0 0
 nothing_yet set = record { below = λ i inside. absurd (omega arith); above = λ i past. bit_at-zero i }
 
 pub all_streams : (set : ℕ) → set < 2 ^ 31 → set ≡ with_streams 0 (streams_in set)
 all_streams set small =
-    let all = front_from 31 set 0 1 0 refl (nothing_yet set) in
+    let all = prefix_from 31 set 0 1 0 refl (nothing_yet set) in
     sym (same_from_bits (with_streams 0 (streams_in set)) set (λ i. elim (cases_lt i 31) [
       | inl inside ↦ all.below i inside
       | inr past ↦ all.above i past ∙ sym (bit_at_above set 31 i small past)

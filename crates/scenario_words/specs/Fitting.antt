@@ -22,10 +22,10 @@ FitsPairs (suc more) (bits ∷ metadata ∷ words) =
     FitsWord (number_in_octets 4) bits × FitsWord (octets_up_to 255) metadata × FitsPairs more words
 
 -- the words fit the first of these places
-abbrev pub FitsFront : List Place → List (List ℕ) → Type 0
-FitsFront places [] = ⊤
-FitsFront [] (word ∷ words) = ⊥
-FitsFront (one place ∷ places) (word ∷ words) = FitsWord place word × FitsFront places words
-FitsFront (perhaps least greatest ∷ places) (word ∷ words) = FitsWord (between least greatest) word × FitsFront places words
-FitsFront (rising ∷ places) (word ∷ words) = FitsIndices 1 (word ∷ words)
-FitsFront (wishes most ∷ places) (word ∷ words) = FitsPairs most_wishes (word ∷ words)
+abbrev pub FitsPrefix : List Place → List (List ℕ) → Type 0
+FitsPrefix places [] = ⊤
+FitsPrefix [] (word ∷ words) = ⊥
+FitsPrefix (one place ∷ places) (word ∷ words) = FitsWord place word × FitsPrefix places words
+FitsPrefix (perhaps least greatest ∷ places) (word ∷ words) = FitsWord (between least greatest) word × FitsPrefix places words
+FitsPrefix (rising ∷ places) (word ∷ words) = FitsIndices 1 (word ∷ words)
+FitsPrefix (wishes most ∷ places) (word ∷ words) = FitsPairs most_wishes (word ∷ words)

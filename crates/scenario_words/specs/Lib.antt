@@ -1,6 +1,6 @@
 pub mod Digits
 pub mod Fitting
-pub mod Fronts
+pub mod Prefixes
 pub mod Given
 pub mod Joined
 pub mod Lines

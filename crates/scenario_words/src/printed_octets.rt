@@ -1,6 +1,6 @@
 ghost use Rattle.std.specs.Prelude.{◌≡◌, ◌++◌, OnOk, OnErr, ◌<◌, ◌≤◌, ◌+◌, ◌*◌, ◌/◌, ◌%◌, length, slice_index};
 ghost use Rattle.hex.specs.Hex.{encode_lower, lower_digits};
-ghost use Rattle.scenario_words.specs.Fronts.{AFront, PutUpTo};
+ghost use Rattle.scenario_words.specs.Prefixes.{APrefix, PutUpTo};
 ghost use Rattle.scenario_words.specs.Digits.{digits};
 
 use crate::waiting::Waiting;
@@ -36,7 +36,7 @@ pub(crate) fn put_digits(
     octets: &[u8],
 ) -> Result<(), Memory>
     ensures ok { OnOk result (PutUpTo text.old text.new (waiting.old ++ encode_lower octets.now) waiting.new) }
-    ensures err { OnErr result (AFront text.old text.new (waiting.old ++ encode_lower octets.now)) }
+    ensures err { OnErr result (APrefix text.old text.new (waiting.old ++ encode_lower octets.now)) }
 {
     let mut rest = octets;
     'chunks: while !rest.is_empty() {
@@ -54,7 +54,7 @@ pub(crate) fn put_octets(
     octets: &[u8],
 ) -> Result<(), Memory>
     ensures ok { OnOk result (PutUpTo text.old text.new (waiting.old ++ digits octets.now) waiting.new) }
-    ensures err { OnErr result (AFront text.old text.new (waiting.old ++ digits octets.now)) }
+    ensures err { OnErr result (APrefix text.old text.new (waiting.old ++ digits octets.now)) }
 {
     if octets.is_empty() {
         return waiting.put_octet(text, b'-');

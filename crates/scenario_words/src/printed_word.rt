@@ -1,5 +1,5 @@
 ghost use Rattle.std.specs.Prelude.{◌++◌, decimal, codes, OnOk, OnErr};
-ghost use Rattle.scenario_words.specs.Fronts.{AFront, PutUpTo};
+ghost use Rattle.scenario_words.specs.Prefixes.{APrefix, PutUpTo};
 ghost use Rattle.scenario_words.specs.PrintedWords.{spelled};
 
 use crate::printed_octets::{put_digits, put_octets};
@@ -27,7 +27,7 @@ pub enum Word<'a> {
 #[inline(always)]
 fn put_number(text: &mut Octets, waiting: &mut Waiting, number: u64) -> Result<(), Memory>
     ensures ok { OnOk result (PutUpTo text.old text.new (waiting.old ++ decimal number) waiting.new) }
-    ensures err { OnErr result (AFront text.old text.new (waiting.old ++ decimal number)) }
+    ensures err { OnErr result (APrefix text.old text.new (waiting.old ++ decimal number)) }
 {
     if number < 10 {
         return waiting.put_octet(text, b'0' + number as u8);
@@ -38,7 +38,7 @@ fn put_number(text: &mut Octets, waiting: &mut Waiting, number: u64) -> Result<(
 
 fn put_label(text: &mut Octets, waiting: &mut Waiting, number: u64) -> Result<(), Memory>
     ensures ok { OnOk result (PutUpTo text.old text.new (waiting.old ++ (decimal number ++ codes ":")) waiting.new) }
-    ensures err { OnErr result (AFront text.old text.new (waiting.old ++ (decimal number ++ codes ":"))) }
+    ensures err { OnErr result (APrefix text.old text.new (waiting.old ++ (decimal number ++ codes ":"))) }
 {
     put_number(text, waiting, number)?;
     waiting.put_octet(text, b':')
@@ -51,7 +51,7 @@ pub(crate) fn put_word(
     word: Word<'_>,
 ) -> Result<(), Memory>
     ensures ok { OnOk result (PutUpTo text.old text.new (waiting.old ++ spelled word.entry) waiting.new) }
-    ensures err { OnErr result (AFront text.old text.new (waiting.old ++ spelled word.entry)) }
+    ensures err { OnErr result (APrefix text.old text.new (waiting.old ++ spelled word.entry)) }
 {
     match word {
         Word::Text(octets) => waiting.put(text, octets),

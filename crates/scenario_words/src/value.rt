@@ -1,6 +1,6 @@
 ghost use Rattle.std.specs.Prelude.{◌≡◌, ◌≢◌, ◌≤◌, ◌<◌, ◌^◌, ◌↔◌, IsTrue, length, None};
 ghost use Rattle.std.specs.List.{AllByRecursion};
-ghost use Rattle.bcast_base.specs.Spelling.{IsOctets};
+ghost use Rattle.bcast_base.specs.Encoding.{IsOctets};
 ghost use Rattle.ltv_codec.specs.Reading.{bad_of};
 ghost use Rattle.scenario_words.specs.ValueFitting.{HasWishWords, LiesBetween};
 ghost use Rattle.scenario_words.specs.Places.{most_wishes, wishes_octets};

@@ -1,6 +1,6 @@
 ghost use Rattle.std.specs.Prelude.{◌≡◌, ◌<◌, ◌≤◌, ◌+◌, ◌*◌, [], ◌∷◌, ◌++◌, length, OnOk, OnErr};
 ghost use Rattle.hex.specs.Hex.{encode_lower};
-ghost use Rattle.scenario_words.specs.Fronts.{AFront, PutUpTo};
+ghost use Rattle.scenario_words.specs.Prefixes.{APrefix, PutUpTo};
 
 use crate::printed_octets::write_digits;
 use bcast_base::{Memory, Octets};
@@ -131,7 +131,7 @@ impl Waiting {
     /// Puts octets that may be more than the room, with those that wait before them.
     fn put_many(&mut self, text: &mut Octets, octets: &[u8]) -> Result<(), Memory>
         ensures ok { OnOk result (PutUpTo text.old text.new (self.old ++ octets.now) self.new) }
-        ensures err { OnErr result (AFront text.old text.new (self.old ++ octets.now)) }
+        ensures err { OnErr result (APrefix text.old text.new (self.old ++ octets.now)) }
     {
         self.flush(text)?;
         put_all(text, octets)
@@ -141,7 +141,7 @@ impl Waiting {
     #[inline(always)]
     pub(crate) fn put(&mut self, text: &mut Octets, octets: &[u8]) -> Result<(), Memory>
         ensures ok { OnOk result (PutUpTo text.old text.new (self.old ++ octets.now) self.new) }
-        ensures err { OnErr result (AFront text.old text.new (self.old ++ octets.now)) }
+        ensures err { OnErr result (APrefix text.old text.new (self.old ++ octets.now)) }
     {
         if octets.len() > ROOM {
             return self.put_many(text, octets);

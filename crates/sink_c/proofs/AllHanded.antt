@@ -1,15 +1,15 @@
--- All that the ticks handed up ends with what they handed since the sink was put on its group.
+-- All that the ticks handed up ends with what they handed since the sink was synchronized to its BIG.
 use Rattle.std.proofs.Common.{◌≡◌, Bool, true, false, List, [], ◌∷◌, ◌++◌, Option, Some, None, append-nil, append_assoc, ap, refl, sym, ◌∙◌}
 use Rattle.std.specs.Prelude.{◌&&◌, not, if◌then◌else◌}
 use Rattle.delegator_control.specs.Groups.{has_group}
-use Rattle.delegator_history.specs.Sights.{Sight}
-use Rattle.delegator_history.specs.States.{sight_of}
+use Rattle.delegator_history.specs.Snapshots.{Snapshot}
+use Rattle.delegator_history.specs.States.{snapshot_of}
 use Rattle.delegator_history.specs.Trains.{Setup}
 use Rattle.delegator_machine.specs.Calls.{Call, control, hear, tick, steps_of}
-use Rattle.delegator_machine.specs.Groups.{group_calls, joining_given, with_leave, with_step}
+use Rattle.delegator_machine.specs.Groups.{group_calls, big_sync_given, with_leave, with_step}
 use Rattle.group_sink.specs.Calls as sinks
 use Rattle.group_sink.specs.Handing.{handed_at, handed_since}
-use Rattle.sync_reference.specs.Joining.{Joining}
+use Rattle.sync_reference.specs.BigSync.{BigSync}
 use Rattle.unit_outlets.specs.Handed.{Handed}
 use Rattle.sink_c.specs.Sinks.{all_handed}
 
@@ -20,15 +20,15 @@ by_leave : (left : Bool) (all : List Handed) (calls : List sinks.Call) → Ends 
 by_leave true all calls ends = (all, sym (append-nil all))
 by_leave false all calls ends = ends
 
-by_step : (joining : Option Joining) (before after : Sight) (all : List Handed) (calls : List sinks.Call) → Ends all calls → Ends all (with_step joining before after calls)
+by_step : (big_sync : Option BigSync) (before after : Snapshot) (all : List Handed) (calls : List sinks.Call) → Ends all calls → Ends all (with_step big_sync before after calls)
 by_step None before after all calls ends = by_leave (has_group before.place && not (has_group after.place)) all calls ends
-by_step (Some joining) before after all calls ends = (all, sym (append-nil all))
+by_step (Some big_sync) before after all calls ends = (all, sym (append-nil all))
 
 pub ends_with : (setup : Setup) (calls : List Call) → Ends (all_handed setup calls) (group_calls setup calls)
 ends_with setup [] = ([], refl)
 ends_with setup (control step ∷ calls) =
-    let before = sight_of setup (steps_of calls) in
-    by_step (joining_given setup before step) before (sight_of setup (step ∷ steps_of calls)) (all_handed setup calls) (group_calls setup calls) (ends_with setup calls)
+    let before = snapshot_of setup (steps_of calls) in
+    by_step (big_sync_given setup before step) before (snapshot_of setup (step ∷ steps_of calls)) (all_handed setup calls) (group_calls setup calls) (ends_with setup calls)
 ends_with setup (hear event bis subevent octets ∷ calls) = ends_with setup calls
 ends_with setup (tick event ∷ calls) =
     let rest = ends_with setup calls in

@@ -9,7 +9,7 @@ use Rattle.delegator_machine.specs.Groups.{group_calls}
 use Rattle.delegator_machine.specs.State.Halves.{StandsFor}
 use Rattle.group_sink.specs.Handing.{handed_at}
 use Rattle.group_sink.specs.Streams.{is_in}
-use Rattle.sync_reference.specs.Joining.{Joining}
+use Rattle.sync_reference.specs.BigSync.{BigSync}
 use Rattle.unit_outlets.specs.Handed.{Handed}
 use Rattle.sink_c.specs.declared.handle.VmSink.{VmSink}
 use Rattle.sink_c.specs.declared.machine.SinkMachine.{SinkMachine}
@@ -47,9 +47,9 @@ all_handed setup (hear event bis subevent octets ∷ calls) = all_handed setup c
 all_handed setup (tick event ∷ calls) = all_handed setup calls ++ handed_at (group_calls setup calls) event
 
 -- the sink is on a group, and takes this stream of it
-abbrev pub is_taken : Option Joining → ℕ → Bool
+abbrev pub is_taken : Option BigSync → ℕ → Bool
 is_taken None bis = false
-is_taken (Some joining) bis = is_in joining.which bis
+is_taken (Some big_sync) bis = is_in big_sync.which bis
 
 -- the first notice that waits, as it is handed out
 abbrev pub notices_of : Setup → List Step → Option Notice

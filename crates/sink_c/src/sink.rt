@@ -1,8 +1,8 @@
 //! The calls of a sink.
 ghost use Rattle.std.specs.Prelude.{◌≡◌, ◌≢◌, ◌∷◌, ◌++◌, ◌≤◌, ◌<◌, ◌^◌, [], List, length, take, IfOk, IsSome, Some, None};
 ghost use Rattle.delegator_history.specs.Controls.{control_heard};
-ghost use Rattle.delegator_history.specs.States.{control_heard as controlled, sight_of, told, train_heard, train_lost, written};
-ghost use Rattle.delegator_history.specs.Trains.{Setup, Train, answer_of, brought_by};
+ghost use Rattle.delegator_history.specs.States.{control_heard as controlled, snapshot_of, notified, train_heard, train_lost, written};
+ghost use Rattle.delegator_history.specs.Trains.{Setup, Train, answer_of, outcome_by};
 ghost use Rattle.delegator_history.specs.Writes.{reply_of};
 ghost use Rattle.delegator_machine.specs.Calls.{Call, control, hear, steps_of};
 ghost use Rattle.delegator_machine.specs.Groups.{group_calls};
@@ -80,7 +80,7 @@ pub extern "C" fn vm_sink_write(sink: &mut VmSink, write: &[u8], reply: &mut VmR
     ensures stands { (setup : Setup) (calls : List Call) → Stands setup calls sink.old → result ≡ ok
         → Stands setup (control (written write.now) ∷ calls) sink.new }
     ensures answer { (setup : Setup) (calls : List Call) → Stands setup calls sink.old → result ≡ ok
-        → reply.new ≡ reply_c (reply_of (sight_of setup (steps_of calls)) write.now) }
+        → reply.new ≡ reply_c (reply_of (snapshot_of setup (steps_of calls)) write.now) }
     ensures units { waiting_in sink.new ≡ waiting_in sink.old }
     ensures room { room_in sink.new ≡ room_in sink.old }
     ensures same { result ≢ ok → (sink.new.kept ≡ sink.old.kept) × (reply.new ≡ reply.old) }
@@ -113,10 +113,10 @@ pub extern "C" fn vm_sink_train(
         → Stands setup (control (train_heard train) ∷ calls) sink.new }
     ensures answer { let train : Train = train_of address_type sid ext.now adv.now acad.now now in
         (setup : Setup) (calls : List Call) → Stands setup calls sink.old → result ≡ ok
-        → heard.new.answer ≡ (train_c (answer_of (brought_by setup (sight_of setup (steps_of calls)) train))).0 }
+        → heard.new.answer ≡ (train_c (answer_of (outcome_by setup (snapshot_of setup (steps_of calls)) train))).0 }
     ensures fault { let train : Train = train_of address_type sid ext.now adv.now acad.now now in
         (setup : Setup) (calls : List Call) → Stands setup calls sink.old → result ≡ ok
-        → heard.new.fault ≡ (train_c (answer_of (brought_by setup (sight_of setup (steps_of calls)) train))).1 }
+        → heard.new.fault ≡ (train_c (answer_of (outcome_by setup (snapshot_of setup (steps_of calls)) train))).1 }
     ensures units { waiting_in sink.new ≡ waiting_in sink.old }
     ensures room { room_in sink.new ≡ room_in sink.old }
     ensures same { result ≢ ok → (sink.new.kept ≡ sink.old.kept) × (heard.new ≡ heard.old) }
@@ -177,7 +177,7 @@ pub extern "C" fn vm_sink_control(sink: &mut VmSink, pdu: &[u8], heard: &mut VmH
     ensures stands { (setup : Setup) (calls : List Call) → Stands setup calls sink.old → result ≡ ok
         → Stands setup (control (controlled pdu.now) ∷ calls) sink.new }
     ensures answer { (setup : Setup) (calls : List Call) → Stands setup calls sink.old → result ≡ ok
-        → heard.new ≡ control_c (control_heard (sight_of setup (steps_of calls)).place pdu.now) }
+        → heard.new ≡ control_c (control_heard (snapshot_of setup (steps_of calls)).place pdu.now) }
     ensures units { waiting_in sink.new ≡ waiting_in sink.old }
     ensures room { room_in sink.new ≡ room_in sink.old }
     ensures same { result ≢ ok → (sink.new.kept ≡ sink.old.kept) × (heard.new ≡ heard.old) }
@@ -224,7 +224,7 @@ pub extern "C" fn vm_sink_next_notice(
     ensures none { (setup : Setup) (calls : List Call) → Stands setup calls sink.old → result ≡ empty
         → notices_of setup (steps_of calls) ≡ None }
     ensures stands { (setup : Setup) (calls : List Call) → Stands setup calls sink.old → result ≢ range
-        → Stands setup (control told ∷ calls) sink.new }
+        → Stands setup (control notified ∷ calls) sink.new }
     ensures units { waiting_in sink.new ≡ waiting_in sink.old }
     ensures room { room_in sink.new ≡ room_in sink.old }
     ensures same { result ≡ range → sink.new.kept ≡ sink.old.kept }
@@ -288,7 +288,7 @@ pub extern "C" fn vm_sink_read_state(
     ensures exists { (setup : Setup) (calls : List Call) → Stands setup calls sink.old → slot < setup.slots → result ≢ no_slot }
     ensures none { (setup : Setup) (calls : List Call) → Stands setup calls sink.old → setup.slots ≤ slot → result ≡ no_slot }
     ensures value { (setup : Setup) (calls : List Call) → Stands setup calls sink.old → result ≡ ok
-        → take count.new room.new ≡ value_at (sight_of setup (steps_of calls)) slot }
+        → take count.new room.new ≡ value_at (snapshot_of setup (steps_of calls)) slot }
     ensures kept { sink.new.kept ≡ sink.old.kept }
 {
     let machine = sink.lend();

@@ -1,10 +1,10 @@
-//! A sink is put on a group of no slot.
+//! A sink is synchronized to a BIG of no slot.
 ghost use Rattle.std.specs.Prelude.{◌≡◌, ◌≢◌, ◌∷◌, ◌≤◌, ◌<◌, ◌^◌, List, IsSome};
 ghost use Rattle.big_info.specs.Rows.{first_fault};
 ghost use Rattle.big_info.specs.Widths.{FitsWidths};
 ghost use Rattle.c_values.specs.Infos.{big_info, row_of};
 ghost use Rattle.c_values.specs.Statuses.{group, ok, range};
-ghost use Rattle.delegator_history.specs.States.{put_on};
+ghost use Rattle.delegator_history.specs.States.{sync_to_group};
 ghost use Rattle.delegator_history.specs.Trains.{Setup};
 ghost use Rattle.delegator_machine.specs.Calls.{Call, control};
 ghost use Rattle.sink_c.specs.Sinks.{Stands, room_in, waiting_in};
@@ -30,7 +30,7 @@ pub extern "C" fn vm_sink_tune(
     requires { IsSome sink.old.kept }
     ensures stands { (setup : Setup) (calls : List Call) → Stands setup calls sink.old → result ≡ ok
         → Stands setup
-        (control (put_on (record { info = big_info info.now; which = streams; first = first_event; anchor = anchor; delay = delay })) ∷ calls) sink.new }
+        (control (sync_to_group (record { info = big_info info.now; which = streams; first = first_event; anchor = anchor; delay = delay })) ∷ calls) sink.new }
     ensures group { result ≡ group → row.new ≡ row_of (first_fault 31 (big_info info.now)) }
     ensures units { waiting_in sink.new ≡ waiting_in sink.old }
     ensures room { room_in sink.new ≡ room_in sink.old }

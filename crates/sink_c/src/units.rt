@@ -35,7 +35,7 @@ pub extern "C" fn vm_sink_reserve(sink: &mut VmSink, units: usize, octets: usize
 }
 
 /// All events up to this one are over. The units that this hands up wait behind those that wait. After want of memory the events are
-/// over too, and a front of the units waits. It never wants memory where there is room for those that wait and those that it hands up.
+/// over too, and a prefix of the units waits. It never wants memory where there is room for those that wait and those that it hands up.
 #[unsafe(no_mangle)]
 pub extern "C" fn vm_sink_tick(sink: &mut VmSink, event: u64) -> u32
     requires { IsSome sink.old.kept }

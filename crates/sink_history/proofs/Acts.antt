@@ -13,26 +13,26 @@ use Rattle.assistant_machine.specs.Links.{Act, AreFounded, AreReadBack, Language
 use Rattle.delegator_history.specs.declared.notice.Notice.{Notice}
 use Rattle.delegator_history.specs.LastGiven.{last_given}
 use Rattle.delegator_history.specs.Notices.{change, changes}
-use Rattle.delegator_history.specs.Sights.{Entry, Sight, entry_at}
-use Rattle.delegator_history.specs.States.{answered, entry_in, sight_of}
+use Rattle.delegator_history.specs.Snapshots.{Entry, Snapshot, entry_at}
+use Rattle.delegator_history.specs.States.{answered, entry_in, snapshot_of}
 use Rattle.delegator_history.specs.Trains.{Setup}
 use Rattle.delegator_history.specs.Values.{received, state_at, status_of, value, value_at}
-use Rattle.sink_history.specs.Calls.{Call, stepped, joined, served, told, read, forged, steps_of}
-use Rattle.sink_history.specs.Links.{Acts, Told, acts_of, forging_by, is_forged, language, made_all, read_first, state, told_first}
+use Rattle.sink_history.specs.Calls.{Call, stepped, joined, served, notified, read, forged, steps_of}
+use Rattle.sink_history.specs.Links.{Acts, Told, acts_of, forging_by, is_forged, language, made_all, read_first, state, notified_first}
 use Rattle.sink_history.specs.Octets.{AreOctets}
 use Rattle.sink_history.proofs.ReadBack.{ReadsOperations, ReadsStates, states_back}
 
 -- ---- what the sink makes
 
-made_founded : (now : Sight) (notices : List Notice) (acts : Acts) → AreFounded acts → AreFounded (made_all now notices acts)
+made_founded : (now : Snapshot) (notices : List Notice) (acts : Acts) → AreFounded acts → AreFounded (made_all now notices acts)
 made_founded now [] acts founded = founded
 made_founded now (notice ∷ notices) acts founded = made_founded now notices (made notice.slot (state_at now notice.slot) ∷ acts) founded
 
-made_plain : (now : Sight) (notices : List Notice) (acts : Acts) → links.is_forged (made_all now notices acts) ≡ links.is_forged acts
+made_plain : (now : Snapshot) (notices : List Notice) (acts : Acts) → links.is_forged (made_all now notices acts) ≡ links.is_forged acts
 made_plain now [] acts = refl
 made_plain now (notice ∷ notices) acts = made_plain now notices (made notice.slot (state_at now notice.slot) ∷ acts)
 
-made_back : (mtu : Option ℕ) (now : Sight) → ((slot : ℕ) → reading_of (value (state_at now slot)) ≡ Some (state_at now slot)) → (notices : List Notice) (acts : Acts)
+made_back : (mtu : Option ℕ) (now : Snapshot) → ((slot : ℕ) → reading_of (value (state_at now slot)) ≡ Some (state_at now slot)) → (notices : List Notice) (acts : Acts)
     → AreReadBack (language mtu) acts → AreReadBack (language mtu) (made_all now notices acts)
 made_back mtu now each [] acts back = back
 made_back mtu now each (notice ∷ notices) acts back = made_back mtu now each notices (made notice.slot (state_at now notice.slot) ∷ acts) (each notice.slot, back)
@@ -49,7 +49,7 @@ below zero (y ∷ xs) rest x e = omega arith
 below {A} (suc n) [] rest x e = absurd (let h : length {A = A} [] ≡ length (x ∷ rest) = ap length e in omega (arith, h))
 below (suc n) (y ∷ xs) rest x e = let h : n < length xs = below n xs rest x e in omega (arith, h)
 
-told_founded : (waiting : List Told) (acts : Acts) → waiting_of acts ≡ waiting → AreFounded acts → AreFounded (told_first waiting acts)
+told_founded : (waiting : List Told) (acts : Acts) → waiting_of acts ≡ waiting → AreFounded acts → AreFounded (notified_first waiting acts)
 told_founded [] acts is founded = founded
 told_founded (notice ∷ rest) acts is founded = (founded, below (delivered_of acts) (notices_of acts) rest notice is)
 
@@ -60,19 +60,19 @@ read_founded (slot ∷ rest) acts founded = founded
 pub founded : (setup : Setup) (mtu : Option ℕ) (link : ℕ) (calls : List Call) → AreFounded (acts_of setup mtu link calls)
 founded setup mtu link [] = tt
 founded setup mtu link (stepped step ∷ earlier) =
-    let before : Sight = sight_of setup (steps_of earlier) in
-    let now : Sight = sight_of setup (steps_of (stepped step ∷ earlier)) in
+    let before : Snapshot = snapshot_of setup (steps_of earlier) in
+    let now : Snapshot = snapshot_of setup (steps_of (stepped step ∷ earlier)) in
     made_founded now (changes setup.slots before now) (acts_of setup mtu link earlier) (founded setup mtu link earlier)
 founded setup mtu link (served at ∷ earlier) =
-    let before : Sight = sight_of setup (steps_of earlier) in
-    let now : Sight = sight_of setup (steps_of (served at ∷ earlier)) in
+    let before : Snapshot = snapshot_of setup (steps_of earlier) in
+    let now : Snapshot = snapshot_of setup (steps_of (served at ∷ earlier)) in
     made_founded now (changes setup.slots before now) (acts_of setup mtu link earlier) (founded setup mtu link earlier)
 founded setup mtu link (joined at ∷ earlier) =
     let acts : Acts = acts_of setup mtu link earlier in
     either (λ acts. AreFounded acts) (at == link) (links.joined ∷ acts) acts (founded setup mtu link earlier) (founded setup mtu link earlier)
-founded setup mtu link (told at ∷ earlier) =
+founded setup mtu link (notified at ∷ earlier) =
     let acts : Acts = acts_of setup mtu link earlier in
-    either (λ acts. AreFounded acts) (at == link) (told_first (waiting_of acts) acts) acts
+    either (λ acts. AreFounded acts) (at == link) (notified_first (waiting_of acts) acts) acts
     (told_founded (waiting_of acts) acts refl (founded setup mtu link earlier)) (founded setup mtu link earlier)
 founded setup mtu link (read at ∷ earlier) =
     let acts : Acts = acts_of setup mtu link earlier in
@@ -85,7 +85,7 @@ founded setup mtu link (_ ∷ earlier) = founded setup mtu link earlier
 
 -- ---- what was forged
 
-told_plain : (waiting : List Told) (acts : Acts) → links.is_forged (told_first waiting acts) ≡ links.is_forged acts
+told_plain : (waiting : List Told) (acts : Acts) → links.is_forged (notified_first waiting acts) ≡ links.is_forged acts
 told_plain [] acts = refl
 told_plain (notice ∷ rest) acts = refl
 
@@ -106,18 +106,18 @@ joined_if false acts given is = is
 pub forged_is : (setup : Setup) (mtu : Option ℕ) (link : ℕ) (calls : List Call) → links.is_forged (acts_of setup mtu link calls) ≡ is_forged link calls
 forged_is setup mtu link [] = refl
 forged_is setup mtu link (stepped step ∷ earlier) =
-    let before : Sight = sight_of setup (steps_of earlier) in
-    let now : Sight = sight_of setup (steps_of (stepped step ∷ earlier)) in
+    let before : Snapshot = snapshot_of setup (steps_of earlier) in
+    let now : Snapshot = snapshot_of setup (steps_of (stepped step ∷ earlier)) in
     made_plain now (changes setup.slots before now) (acts_of setup mtu link earlier) ∙ forged_is setup mtu link earlier
 forged_is setup mtu link (served at ∷ earlier) =
-    let before : Sight = sight_of setup (steps_of earlier) in
-    let now : Sight = sight_of setup (steps_of (served at ∷ earlier)) in
+    let before : Snapshot = snapshot_of setup (steps_of earlier) in
+    let now : Snapshot = snapshot_of setup (steps_of (served at ∷ earlier)) in
     made_plain now (changes setup.slots before now) (acts_of setup mtu link earlier) ∙ forged_is setup mtu link earlier
 forged_is setup mtu link (joined at ∷ earlier) =
     joined_if (at == link) (acts_of setup mtu link earlier) (last_given (forging_by link) earlier) (forged_is setup mtu link earlier)
-forged_is setup mtu link (told at ∷ earlier) =
+forged_is setup mtu link (notified at ∷ earlier) =
     let acts : Acts = acts_of setup mtu link earlier in
-    either (λ new. links.is_forged new ≡ links.is_forged acts) (at == link) (told_first (waiting_of acts) acts) acts (told_plain (waiting_of acts) acts) refl
+    either (λ new. links.is_forged new ≡ links.is_forged acts) (at == link) (notified_first (waiting_of acts) acts) acts (told_plain (waiting_of acts) acts) refl
     ∙ forged_is setup mtu link earlier
 forged_is setup mtu link (read at ∷ earlier) =
     let acts : Acts = acts_of setup mtu link earlier in
@@ -142,7 +142,7 @@ unforged link (_ ∷ earlier) other = unforged link earlier other
 
 -- ---- its values are read back
 
-told_back : (mtu : Option ℕ) (waiting : List Told) (acts : Acts) → AreReadBack (language mtu) acts → AreReadBack (language mtu) (told_first waiting acts)
+told_back : (mtu : Option ℕ) (waiting : List Told) (acts : Acts) → AreReadBack (language mtu) acts → AreReadBack (language mtu) (notified_first waiting acts)
 told_back mtu [] acts back = back
 told_back mtu (notice ∷ rest) acts back = back
 
@@ -154,23 +154,23 @@ pub are_back : ReadsOperations → ReadsStates → (setup : Setup) (mtu : Option
     → AreReadBack (language mtu) (acts_of setup mtu link calls)
 are_back operations states setup mtu link [] few are = refl
 are_back operations states setup mtu link (stepped step ∷ earlier) few are =
-    let before : Sight = sight_of setup (steps_of earlier) in
-    let now : Sight = sight_of setup (steps_of (stepped step ∷ earlier)) in
+    let before : Snapshot = snapshot_of setup (steps_of earlier) in
+    let now : Snapshot = snapshot_of setup (steps_of (stepped step ∷ earlier)) in
     made_back mtu now (λ slot. states_back operations states setup slot (stepped step ∷ earlier) few are) (changes setup.slots before now) (acts_of setup mtu link earlier)
     (are_back operations states setup mtu link earlier few are.1)
 are_back operations states setup mtu link (served at ∷ earlier) few are =
-    let before : Sight = sight_of setup (steps_of earlier) in
-    let now : Sight = sight_of setup (steps_of (served at ∷ earlier)) in
+    let before : Snapshot = snapshot_of setup (steps_of earlier) in
+    let now : Snapshot = snapshot_of setup (steps_of (served at ∷ earlier)) in
     made_back mtu now (λ slot. states_back operations states setup slot (served at ∷ earlier) few are) (changes setup.slots before now) (acts_of setup mtu link earlier)
     (are_back operations states setup mtu link earlier few are.1)
 are_back operations states setup mtu link (joined at ∷ earlier) few are =
     let acts : Acts = acts_of setup mtu link earlier in
     let before = are_back operations states setup mtu link earlier few are.1 in
     either (λ acts. AreReadBack (language mtu) acts) (at == link) (links.joined ∷ acts) acts before before
-are_back operations states setup mtu link (told at ∷ earlier) few are =
+are_back operations states setup mtu link (notified at ∷ earlier) few are =
     let acts : Acts = acts_of setup mtu link earlier in
     let before = are_back operations states setup mtu link earlier few are.1 in
-    either (λ acts. AreReadBack (language mtu) acts) (at == link) (told_first (waiting_of acts) acts) acts (told_back mtu (waiting_of acts) acts before) before
+    either (λ acts. AreReadBack (language mtu) acts) (at == link) (notified_first (waiting_of acts) acts) acts (told_back mtu (waiting_of acts) acts before) before
 are_back operations states setup mtu link (read at ∷ earlier) few are =
     let acts : Acts = acts_of setup mtu link earlier in
     let reads : List ℕ = reads_of (language mtu) setup.slots acts in
@@ -184,7 +184,7 @@ are_back operations states setup mtu link (_ ∷ earlier) few are = are_back ope
 
 -- ---- the values of its slots are the states
 
-first_made : (now : Sight) (b : Bool) (slot : ℕ) (octets : List ℕ) (more : List Notice) (acts : Acts)
+first_made : (now : Snapshot) (b : Bool) (slot : ℕ) (octets : List ℕ) (more : List Notice) (acts : Acts)
     → made_all now ((if b then [] else record { slot = slot; value = octets } ∷ []) ++ more) acts ≡ made_all now more (if b then acts else made slot (state_at now slot) ∷ acts)
 first_made now true slot octets more acts = refl
 first_made now false slot octets more acts = refl
@@ -194,17 +194,17 @@ made_other : (mtu : Option ℕ) (slot other : ℕ) (b : Bool) (state : Option Re
 made_other mtu slot other true state acts e = refl
 made_other mtu slot other false state acts e = ap (λ (t : Bool). unwrap_or (if t then Some state else None) (value_of (language mtu) slot acts)) e
 
-made_this : (mtu : Option ℕ) (slot at : ℕ) (now : Sight) (b : Bool) (acts : Acts) (old : Option ReceiveState) → at ≡ slot → value_of (language mtu) slot acts ≡ old
+made_this : (mtu : Option ℕ) (slot at : ℕ) (now : Snapshot) (b : Bool) (acts : Acts) (old : Option ReceiveState) → at ≡ slot → value_of (language mtu) slot acts ≡ old
     → (b ≡ true → old ≡ state_at now slot) → value_of (language mtu) slot (if b then acts else made at (state_at now at) ∷ acts) ≡ state_at now slot
 made_this mtu slot at now true acts old here is same = is ∙ same refl
 made_this mtu slot at now false acts old here is same =
     ap (λ (t : Bool). unwrap_or (if t then Some (state_at now at) else None) (value_of (language mtu) slot acts)) (eq-eqb at slot here) ∙ ap (state_at now) here
 
 -- the notices of so many slots from the first one on
-abbrev changes_from : Sight → Sight → ℕ → ℕ → List Notice
+abbrev changes_from : Snapshot → Snapshot → ℕ → ℕ → List Notice
 changes_from before now start n = flat_map (λ slot. change slot (value_at before slot) (value_at now slot)) (range_with_len start n)
 
-made_elsewhere : (mtu : Option ℕ) (slot : ℕ) (before now : Sight) (start n : ℕ) (acts : Acts) → slot < start
+made_elsewhere : (mtu : Option ℕ) (slot : ℕ) (before now : Snapshot) (start n : ℕ) (acts : Acts) → slot < start
     → value_of (language mtu) slot (made_all now (changes_from before now start n) acts) ≡ value_of (language mtu) slot acts
 made_elsewhere mtu slot before now start zero acts past = refl
 made_elsewhere mtu slot before now start (suc n) acts past =
@@ -215,7 +215,7 @@ made_elsewhere mtu slot before now start (suc n) acts past =
     ∙ made_elsewhere mtu slot before now (start + 1) n first (omega arith)
     ∙ made_other mtu slot start b (state_at now start) acts (ne_eqb start slot (λ e. omega arith))
 
-made_here : (mtu : Option ℕ) (slot : ℕ) (before now : Sight) (start n : ℕ) (acts : Acts) → start ≤ slot → slot < start + n
+made_here : (mtu : Option ℕ) (slot : ℕ) (before now : Snapshot) (start n : ℕ) (acts : Acts) → start ≤ slot → slot < start + n
     → value_of (language mtu) slot acts ≡ state_at before slot
     → (bytes_eq (value_at before slot) (value_at now slot) ≡ true → state_at before slot ≡ state_at now slot)
     → value_of (language mtu) slot (made_all now (changes_from before now start n) acts) ≡ state_at now slot
@@ -244,13 +244,13 @@ no_entry f start zero at none = refl
 no_entry f start (suc n) zero none = none start
 no_entry f start (suc n) (suc at) none = no_entry f (start + 1) n at none
 
-no_state : (setup : Setup) (slot : ℕ) → None ≡ state_at (sight_of setup []) slot
+no_state : (setup : Setup) (slot : ℕ) → None ≡ state_at (snapshot_of setup []) slot
 unfolding answered
 no_state setup slot =
-    let s : Sight = sight_of setup [] in
+    let s : Snapshot = snapshot_of setup [] in
     ap (λ entry. option_map (received (status_of s.place s.encrypted s.taken slot)) entry) (sym (no_entry (entry_in []) 0 setup.slots slot (λ i. refl)))
 
-told_value : (mtu : Option ℕ) (slot : ℕ) (waiting : List Told) (acts : Acts) → value_of (language mtu) slot (told_first waiting acts) ≡ value_of (language mtu) slot acts
+told_value : (mtu : Option ℕ) (slot : ℕ) (waiting : List Told) (acts : Acts) → value_of (language mtu) slot (notified_first waiting acts) ≡ value_of (language mtu) slot acts
 told_value mtu slot [] acts = refl
 told_value mtu slot (notice ∷ rest) acts = refl
 
@@ -262,15 +262,15 @@ pub value_is : ReadsOperations → ReadsStates → (setup : Setup) (mtu : Option
     → value_of (language mtu) slot (acts_of setup mtu link calls) ≡ state setup slot calls
 value_is operations states setup mtu link slot [] few within are = no_state setup slot
 value_is operations states setup mtu link slot (stepped step ∷ earlier) few within are =
-    let before : Sight = sight_of setup (steps_of earlier) in
-    let now : Sight = sight_of setup (steps_of (stepped step ∷ earlier)) in
+    let before : Snapshot = snapshot_of setup (steps_of earlier) in
+    let now : Snapshot = snapshot_of setup (steps_of (stepped step ∷ earlier)) in
     made_here mtu slot before now 0 setup.slots (acts_of setup mtu link earlier) (omega arith) (omega (arith, within))
     (value_is operations states setup mtu link slot earlier few within are.1)
     (same_state (state_at before slot) (state_at now slot) (states_back operations states setup slot earlier few are.1)
     (states_back operations states setup slot (stepped step ∷ earlier) few are))
 value_is operations states setup mtu link slot (served at ∷ earlier) few within are =
-    let before : Sight = sight_of setup (steps_of earlier) in
-    let now : Sight = sight_of setup (steps_of (served at ∷ earlier)) in
+    let before : Snapshot = snapshot_of setup (steps_of earlier) in
+    let now : Snapshot = snapshot_of setup (steps_of (served at ∷ earlier)) in
     made_here mtu slot before now 0 setup.slots (acts_of setup mtu link earlier) (omega arith) (omega (arith, within))
     (value_is operations states setup mtu link slot earlier few within are.1)
     (same_state (state_at before slot) (state_at now slot) (states_back operations states setup slot earlier few are.1)
@@ -279,9 +279,9 @@ value_is operations states setup mtu link slot (joined at ∷ earlier) few withi
     let acts : Acts = acts_of setup mtu link earlier in
     either (λ new. value_of (language mtu) slot new ≡ value_of (language mtu) slot acts) (at == link) (links.joined ∷ acts) acts refl refl
     ∙ value_is operations states setup mtu link slot earlier few within are.1
-value_is operations states setup mtu link slot (told at ∷ earlier) few within are =
+value_is operations states setup mtu link slot (notified at ∷ earlier) few within are =
     let acts : Acts = acts_of setup mtu link earlier in
-    either (λ new. value_of (language mtu) slot new ≡ value_of (language mtu) slot acts) (at == link) (told_first (waiting_of acts) acts) acts
+    either (λ new. value_of (language mtu) slot new ≡ value_of (language mtu) slot acts) (at == link) (notified_first (waiting_of acts) acts) acts
     (told_value mtu slot (waiting_of acts) acts) refl
     ∙ value_is operations states setup mtu link slot earlier few within are.1
 value_is operations states setup mtu link slot (read at ∷ earlier) few within are =

@@ -4,7 +4,7 @@ use Rattle.receive_state.specs.declared.state.ReceiveState.{ReceiveState}
 use Rattle.assistant_machine.specs.Links.{Act, AreFounded, AreReadBack, Agrees, Language, is_forged as is_forged_by}
 use Rattle.delegator_history.specs.Trains.{Setup}
 use Rattle.sink_history.specs.Calls.{Call}
-use Rattle.sink_history.specs.Drains.{NoneTells, told_and_read}
+use Rattle.sink_history.specs.Drains.{NoneNotifies, notified_and_read}
 use Rattle.sink_history.specs.Links.{acts_of, is_forged, language, read_waits, state, view}
 use Rattle.sink_history.specs.Octets.{AreOctets}
 use Rattle.sink_history.proofs.Acts.{are_back, forged_is, founded, value_is}
@@ -19,7 +19,7 @@ pub record Below : Type 0 where
       → is_forged_by acts ≡ false → Agrees language slot acts
 
 pub agrees : Below → (setup : Setup) (mtu : Option ℕ) (link slot : ℕ) (calls : List Call) → setup.slots < 256 → slot < setup.slots → AreOctets calls
-    → is_forged link calls ≡ false → NoneTells setup mtu link slot calls → read_waits setup mtu link slot calls ≡ false
+    → is_forged link calls ≡ false → NoneNotifies setup mtu link slot calls → read_waits setup mtu link slot calls ≡ false
     → view setup mtu link slot calls ≡ state setup slot calls
 agrees below setup mtu link slot calls few within are plain none quiet =
     below.agree (language mtu) slot (acts_of setup mtu link calls) (founded setup mtu link calls) (are_back below.operations below.states setup mtu link calls few are)
@@ -27,8 +27,8 @@ agrees below setup mtu link slot calls few within are plain none quiet =
     ∙ value_is below.operations below.states setup mtu link slot calls few within are
 
 pub drained_agrees : Below → (setup : Setup) (mtu : Option ℕ) (link slot : ℕ) (calls : List Call) → setup.slots < 256 → slot < setup.slots → AreOctets calls
-    → is_forged link calls ≡ false → view setup mtu link slot (told_and_read setup mtu link calls) ≡ state setup slot calls
+    → is_forged link calls ≡ false → view setup mtu link slot (notified_and_read setup mtu link calls) ≡ state setup slot calls
 drained_agrees below setup mtu link slot calls few within are plain =
-    agrees below setup mtu link slot (told_and_read setup mtu link calls) few within (out_octets setup mtu link calls are) (out_forged setup mtu link calls ∙ plain)
+    agrees below setup mtu link slot (notified_and_read setup mtu link calls) few within (out_octets setup mtu link calls are) (out_forged setup mtu link calls ∙ plain)
     (out_tells setup mtu link slot calls) (out_waits setup mtu link slot calls within)
     ∙ out_state setup mtu link slot calls

@@ -6,9 +6,9 @@ use Rattle.std.proofs.lemmas.Bool.{cases_eq, eq-eqb, ne_eqb}
 use Rattle.assistant_machine.specs.Links as links
 use Rattle.assistant_machine.specs.Links.{delivered_of, if_its, notices_of, reads_of, waiting_of, waits_of}
 use Rattle.delegator_history.specs.Trains.{Setup}
-use Rattle.sink_history.specs.Calls.{Call, stepped, joined, asked, served, told, read, forged, served_of, writes, writes_waiting}
-use Rattle.sink_history.specs.Drains.{IsAnew, IsApart, IsDrained, LeavesLink, NoneTells, drained, repeated, served_out, told_and_read, told_out}
-use Rattle.sink_history.specs.Links.{Acts, Told, acts_of, is_forged, language, notices_waiting, read_first, read_waits, reads_waiting, state, told_first}
+use Rattle.sink_history.specs.Calls.{Call, stepped, joined, asked, served, notified, read, forged, served_of, writes, writes_waiting}
+use Rattle.sink_history.specs.Drains.{IsAnew, IsApart, IsDrained, LeavesLink, NoneNotifies, drained, repeated, served_out, notified_and_read, notified_out}
+use Rattle.sink_history.specs.Links.{Acts, Told, acts_of, is_forged, language, notices_waiting, read_first, read_waits, reads_waiting, state, notified_first}
 use Rattle.sink_history.specs.Octets.{AreOctets}
 
 -- ---- lists
@@ -70,15 +70,15 @@ writes_one link calls =
 
 -- ---- a notice is delivered
 
-told_waiting : (waiting : List Told) (acts : Acts) → waiting_of acts ≡ waiting → waiting_of (told_first waiting acts) ≡ drop 1 waiting
+told_waiting : (waiting : List Told) (acts : Acts) → waiting_of acts ≡ waiting → waiting_of (notified_first waiting acts) ≡ drop 1 waiting
 told_waiting [] acts is = is
 told_waiting (notice ∷ rest) acts is = drop_one (delivered_of acts) (notices_of acts) ∙ ap (drop 1) is
 
 pub notices_one : (setup : Setup) (mtu : Option ℕ) (link : ℕ) (calls : List Call)
-    → notices_waiting setup mtu link (told link ∷ calls) ≡ drop 1 (notices_waiting setup mtu link calls)
+    → notices_waiting setup mtu link (notified link ∷ calls) ≡ drop 1 (notices_waiting setup mtu link calls)
 notices_one setup mtu link calls =
     let acts : Acts = acts_of setup mtu link calls in
-    ap (λ (b : Bool). waiting_of (if b then told_first (waiting_of acts) acts else acts)) (eq-eqb link link refl) ∙ told_waiting (waiting_of acts) acts refl
+    ap (λ (b : Bool). waiting_of (if b then notified_first (waiting_of acts) acts else acts)) (eq-eqb link link refl) ∙ told_waiting (waiting_of acts) acts refl
 
 -- ---- a read is served
 
@@ -137,20 +137,20 @@ notices_stay setup mtu link calls =
 
 -- ---- a drain
 
-out_writes : (setup : Setup) (mtu : Option ℕ) (link : ℕ) (calls : List Call) → writes_waiting link (told_and_read setup mtu link calls) ≡ writes_waiting link calls
+out_writes : (setup : Setup) (mtu : Option ℕ) (link : ℕ) (calls : List Call) → writes_waiting link (notified_and_read setup mtu link calls) ≡ writes_waiting link calls
 out_writes setup mtu link calls =
-    let tellings : List Call = told_out setup mtu link calls in
+    let tellings : List Call = notified_out setup mtu link calls in
     unchanged (read link) (writes_waiting link) (λ c. refl) (length (reads_waiting setup mtu link tellings)) tellings
-    ∙ unchanged (told link) (writes_waiting link) (λ c. refl) (length (notices_waiting setup mtu link calls)) calls
+    ∙ unchanged (notified link) (writes_waiting link) (λ c. refl) (length (notices_waiting setup mtu link calls)) calls
 
-pub out_notices : (setup : Setup) (mtu : Option ℕ) (link : ℕ) (calls : List Call) → notices_waiting setup mtu link (told_and_read setup mtu link calls) ≡ []
+pub out_notices : (setup : Setup) (mtu : Option ℕ) (link : ℕ) (calls : List Call) → notices_waiting setup mtu link (notified_and_read setup mtu link calls) ≡ []
 out_notices setup mtu link calls =
-    let tellings : List Call = told_out setup mtu link calls in
+    let tellings : List Call = notified_out setup mtu link calls in
     unchanged (read link) (notices_waiting setup mtu link) (notices_stay setup mtu link) (length (reads_waiting setup mtu link tellings)) tellings
-    ∙ none_left (told link) (notices_waiting setup mtu link) (notices_one setup mtu link) calls
+    ∙ none_left (notified link) (notices_waiting setup mtu link) (notices_one setup mtu link) calls
 
-pub out_reads : (setup : Setup) (mtu : Option ℕ) (link : ℕ) (calls : List Call) → reads_waiting setup mtu link (told_and_read setup mtu link calls) ≡ []
-out_reads setup mtu link calls = none_left (read link) (reads_waiting setup mtu link) (reads_one setup mtu link) (told_out setup mtu link calls)
+pub out_reads : (setup : Setup) (mtu : Option ℕ) (link : ℕ) (calls : List Call) → reads_waiting setup mtu link (notified_and_read setup mtu link calls) ≡ []
+out_reads setup mtu link calls = none_left (read link) (reads_waiting setup mtu link) (reads_one setup mtu link) (notified_out setup mtu link calls)
 
 pub is_drained : (setup : Setup) (mtu : Option ℕ) (link : ℕ) (calls : List Call) → IsDrained setup mtu link (drained setup mtu link calls)
 is_drained setup mtu link calls = record {
@@ -174,35 +174,35 @@ not_kept test at start (suc n) least most none =
       | inr elsewhere ↦ behind elsewhere e
     ]
 
-pub out_waits : (setup : Setup) (mtu : Option ℕ) (link slot : ℕ) (calls : List Call) → slot < setup.slots → read_waits setup mtu link slot (told_and_read setup mtu link calls) ≡ false
+pub out_waits : (setup : Setup) (mtu : Option ℕ) (link slot : ℕ) (calls : List Call) → slot < setup.slots → read_waits setup mtu link slot (notified_and_read setup mtu link calls) ≡ false
 out_waits setup mtu link slot calls within =
-    not_kept (λ s. read_waits setup mtu link s (told_and_read setup mtu link calls)) slot 0 setup.slots (omega arith) (omega (arith, within)) (out_reads setup mtu link calls)
+    not_kept (λ s. read_waits setup mtu link s (notified_and_read setup mtu link calls)) slot 0 setup.slots (omega arith) (omega (arith, within)) (out_reads setup mtu link calls)
 
 -- what the calls of a drain behind its writes leave
-out_same : {A : Type 0} (setup : Setup) (mtu : Option ℕ) (link : ℕ) (f : List Call → A) → ((calls : List Call) → f (told link ∷ calls) ≡ f calls)
-    → ((calls : List Call) → f (read link ∷ calls) ≡ f calls) → (calls : List Call) → f (told_and_read setup mtu link calls) ≡ f calls
+out_same : {A : Type 0} (setup : Setup) (mtu : Option ℕ) (link : ℕ) (f : List Call → A) → ((calls : List Call) → f (notified link ∷ calls) ≡ f calls)
+    → ((calls : List Call) → f (read link ∷ calls) ≡ f calls) → (calls : List Call) → f (notified_and_read setup mtu link calls) ≡ f calls
 out_same setup mtu link f tells reads calls =
-    let tellings : List Call = told_out setup mtu link calls in
+    let tellings : List Call = notified_out setup mtu link calls in
     unchanged (read link) f reads (length (reads_waiting setup mtu link tellings)) tellings
-    ∙ unchanged (told link) f tells (length (notices_waiting setup mtu link calls)) calls
+    ∙ unchanged (notified link) f tells (length (notices_waiting setup mtu link calls)) calls
 
-pub out_state : (setup : Setup) (mtu : Option ℕ) (link slot : ℕ) (calls : List Call) → state setup slot (told_and_read setup mtu link calls) ≡ state setup slot calls
+pub out_state : (setup : Setup) (mtu : Option ℕ) (link slot : ℕ) (calls : List Call) → state setup slot (notified_and_read setup mtu link calls) ≡ state setup slot calls
 out_state setup mtu link slot calls = out_same setup mtu link (state setup slot) (λ c. refl) (λ c. refl) calls
 
-pub out_forged : (setup : Setup) (mtu : Option ℕ) (link : ℕ) (calls : List Call) → is_forged link (told_and_read setup mtu link calls) ≡ is_forged link calls
+pub out_forged : (setup : Setup) (mtu : Option ℕ) (link : ℕ) (calls : List Call) → is_forged link (notified_and_read setup mtu link calls) ≡ is_forged link calls
 out_forged setup mtu link calls = out_same setup mtu link (is_forged link) (λ c. refl) (λ c. refl) calls
 
 more_octets : (call : Call) → ((calls : List Call) → AreOctets calls → AreOctets (call ∷ calls)) → (n : ℕ) (calls : List Call) → AreOctets calls → AreOctets (repeated n call calls)
 more_octets call each zero calls are = are
 more_octets call each (suc n) calls are = each (repeated n call calls) (more_octets call each n calls are)
 
-pub out_octets : (setup : Setup) (mtu : Option ℕ) (link : ℕ) (calls : List Call) → AreOctets calls → AreOctets (told_and_read setup mtu link calls)
+pub out_octets : (setup : Setup) (mtu : Option ℕ) (link : ℕ) (calls : List Call) → AreOctets calls → AreOctets (notified_and_read setup mtu link calls)
 out_octets setup mtu link calls are =
-    let tellings : List Call = told_out setup mtu link calls in
+    let tellings : List Call = notified_out setup mtu link calls in
     more_octets (read link) (λ calls are. (tt, are)) (length (reads_waiting setup mtu link tellings)) tellings
-    (more_octets (told link) (λ calls are. (tt, are)) (length (notices_waiting setup mtu link calls)) calls are)
+    (more_octets (notified link) (λ calls are. (tt, are)) (length (notices_waiting setup mtu link calls)) calls are)
 
-pub out_tells : (setup : Setup) (mtu : Option ℕ) (link slot : ℕ) (calls : List Call) → NoneTells setup mtu link slot (told_and_read setup mtu link calls)
+pub out_tells : (setup : Setup) (mtu : Option ℕ) (link slot : ℕ) (calls : List Call) → NoneNotifies setup mtu link slot (notified_and_read setup mtu link calls)
 out_tells setup mtu link slot calls =
     subst (λ (waiting : List Told). AllByRecursion (λ (notice : Told). (notice.slot == slot) ≡ false) waiting) (sym (out_notices setup mtu link calls)) tt
 
@@ -220,9 +220,9 @@ leaves setup mtu link (asked at octets) calls other = record {
   writes = ap (λ (b : Bool). drop (served_of link calls) (if b then writes link calls ++ octets ∷ [] else writes link calls)) (ne_eqb at link other);
   steps = refl;
 }
-leaves setup mtu link (told at) calls other =
+leaves setup mtu link (notified at) calls other =
     let acts : Acts = acts_of setup mtu link calls in record {
-      acts = ap (λ (b : Bool). if b then told_first (waiting_of acts) acts else acts) (ne_eqb at link other);
+      acts = ap (λ (b : Bool). if b then notified_first (waiting_of acts) acts else acts) (ne_eqb at link other);
       writes = refl;
       steps = refl;
     }

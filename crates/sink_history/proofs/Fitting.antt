@@ -5,9 +5,9 @@ use Rattle.std.specs.List.{AllByRecursion, flat_map, range_with_len}
 use Rattle.std.proofs.lemmas.Bool.{ltb-false}
 use Rattle.std.proofs.lemmas.List.{length-set}
 use Rattle.bcast_base.specs.Layout.{laid}
-use Rattle.bcast_base.specs.Spelling.{IsOctets, number}
+use Rattle.bcast_base.specs.Encoding.{IsOctets, number}
 use Rattle.bcast_base.specs.Subgroups.{subgroup_fields}
-use Rattle.bcast_base.proofs.Citable.{IsOctets-front, IsOctets-rest}
+use Rattle.bcast_base.proofs.Citable.{IsOctets-prefix, IsOctets-rest}
 use Rattle.bass_operations.specs.declared.fault.OpFault.{OpFault}
 use Rattle.bass_operations.specs.declared.operation.AddSource.{AddSource}
 use Rattle.bass_operations.specs.declared.operation.ModifySource.{ModifySource}
@@ -17,7 +17,7 @@ use Rattle.bass_operations.specs.declared.wishes.Wish.{Wish}
 use Rattle.bass_operations.specs.Layout.{OpIs, WishFits, group_of}
 use Rattle.delegator_history.specs.declared.replies.Cause.{Cause}
 use Rattle.delegator_history.specs.declared.source.Source.{Source}
-use Rattle.delegator_history.specs.Sights.{Entry, Place, Sight, Wanted, idle, on_group, on_train, entry_at}
+use Rattle.delegator_history.specs.Snapshots.{Entry, Place, Snapshot, Wanted, idle, on_group, on_train, entry_at}
 use Rattle.delegator_history.specs.Steps.{Done, added, modified, removed, joined}
 use Rattle.delegator_history.specs.Steps.{after, capability_after, encryption_given, place_given, placed, slots_after, taken_given, taken_on, wanting}
 use Rattle.delegator_history.specs.Writes.{done_read, entry_of, least_unused, operated, slot_with, unused_from}
@@ -52,10 +52,10 @@ SlotIs (Some entry) = EntryIs entry
 abbrev pub AreSets : List ℕ → Type 0
 AreSets sets = AllByRecursion (λ set. set < 2 ^ 31) sets
 
-pub record SightIs (n : ℕ) (sight : Sight) : Type 0 where
-  pub count : length sight.slots ≡ n
-  pub slots : AllByRecursion SlotIs sight.slots
-  pub taken : AreSets sight.taken
+pub record SnapshotIs (n : ℕ) (snapshot : Snapshot) : Type 0 where
+  pub count : length snapshot.slots ≡ n
+  pub slots : AllByRecursion SlotIs snapshot.slots
+  pub taken : AreSets snapshot.taken
 
 abbrev pub DoneIs : Done → Type 0
 DoneIs (added slot entry) = EntryIs entry
@@ -106,17 +106,17 @@ taken_are (on_group None) given old new are = tt
 taken_are (on_group (Some slot)) None old new are = are
 taken_are (on_group (Some slot)) (Some sets) old new are = new
 
-placed_is : (n : ℕ) (place : Option Place) (encryption : Option Bool) (given : Option (List ℕ)) (sight : Sight) → GivenAre given → SightIs n sight
-    → SightIs n (placed place encryption given sight)
-placed_is n None encryption given sight new is = is
-placed_is n (Some place) encryption given sight new is =
-    record { count = is.count; slots = is.slots; taken = taken_are place given sight.taken new is.taken }
+placed_is : (n : ℕ) (place : Option Place) (encryption : Option Bool) (given : Option (List ℕ)) (snapshot : Snapshot) → GivenAre given → SnapshotIs n snapshot
+    → SnapshotIs n (placed place encryption given snapshot)
+placed_is n None encryption given snapshot new is = is
+placed_is n (Some place) encryption given snapshot new is =
+    record { count = is.count; slots = is.slots; taken = taken_are place given snapshot.taken new is.taken }
 
-pub after_is : (n : ℕ) (done : Done) (sight : Sight) → DoneIs done → SightIs n sight → SightIs n (after done sight)
-after_is n done sight new is =
-    let changed : Sight = record sight { slots = slots_after done sight.slots; capability = capability_after done sight.capability } in
-    placed_is n (place_given sight done) (encryption_given done) (taken_given done) changed (given_are done new)
-    (record { count = slots_count done sight.slots ∙ is.count; slots = slots_are done sight.slots new is.slots; taken = is.taken })
+pub after_is : (n : ℕ) (done : Done) (snapshot : Snapshot) → DoneIs done → SnapshotIs n snapshot → SnapshotIs n (after done snapshot)
+after_is n done snapshot new is =
+    let changed : Snapshot = record snapshot { slots = slots_after done snapshot.slots; capability = capability_after done snapshot.capability } in
+    placed_is n (place_given snapshot done) (encryption_given done) (taken_given done) changed (given_are done new)
+    (record { count = slots_count done snapshot.slots ∙ is.count; slots = slots_are done snapshot.slots new is.slots; taken = is.taken })
 
 -- ---- an operation that was read
 
@@ -133,7 +133,7 @@ metadata_are (wish ∷ wishes) fit octets =
     let counted : IsOctets (length wish.metadata ∷ (wish.metadata ++ rest)) =
     octets_behind (number 4 wish.bis_sync) (length wish.metadata ∷ (wish.metadata ++ rest)) octets in
     let behind : IsOctets (wish.metadata ++ rest) = IsOctets-rest (length wish.metadata) (wish.metadata ++ rest) counted in
-    ((fit.0.metadata, IsOctets-front wish.metadata rest behind), metadata_are wishes fit.1 (octets_behind wish.metadata rest behind))
+    ((fit.0.metadata, IsOctets-prefix wish.metadata rest behind), metadata_are wishes fit.1 (octets_behind wish.metadata rest behind))
 
 add_is : (add : AddSource) (octets : List ℕ) → IsOctets octets → OpIs (Add add) octets → OperationIs (Add add)
 add_is add octets are is =
@@ -142,7 +142,7 @@ add_is add octets are is =
     let interval : List ℕ = number 2 add.pa_interval ++ back in
     let id : List ℕ = add.broadcast_id ++ (add.pa_sync ∷ interval) in
     let address : List ℕ = add.address ++ (add.sid ∷ id) in
-    let all : IsOctets (2 ∷ add.address_type ∷ address) = subst IsOctets is.layout.spelled are in
+    let all : IsOctets (2 ∷ add.address_type ∷ address) = subst IsOctets is.layout.encoded are in
     let at_address : IsOctets address = IsOctets-rest add.address_type address (IsOctets-rest 2 (add.address_type ∷ address) all) in
     let at_id : IsOctets id = IsOctets-rest add.sid id (octets_behind add.address (add.sid ∷ id) at_address) in
     let at_interval : IsOctets interval = IsOctets-rest add.pa_sync interval (octets_behind add.broadcast_id (add.pa_sync ∷ interval) at_id) in
@@ -153,10 +153,10 @@ add_is add octets are is =
         source_id = small;
         address_type = ltb-false 1 add.address_type is.values.1.0;
         address = widths.address;
-        address_octets = IsOctets-front add.address (add.sid ∷ id) at_address;
+        address_octets = IsOctets-prefix add.address (add.sid ∷ id) at_address;
         sid = ltb-false 15 add.sid is.values.1.1.1.0;
         broadcast_id = widths.broadcast_id;
-        broadcast_id_octets = IsOctets-front add.broadcast_id (add.pa_sync ∷ interval) at_id;
+        broadcast_id_octets = IsOctets-prefix add.broadcast_id (add.pa_sync ∷ interval) at_id;
       };
       wishes = record { few = widths.wishes.0; metadata = metadata_are add.wishes widths.wishes.1 at_wishes };
     }
@@ -166,7 +166,7 @@ modify_is modify octets are is =
     let wishes : List ℕ = laid (flat_map (λ wish. subgroup_fields (group_of wish)) modify.wishes) in
     let back : List ℕ = length modify.wishes ∷ wishes in
     let interval : List ℕ = number 2 modify.pa_interval ++ back in
-    let all : IsOctets (3 ∷ modify.source_id ∷ modify.pa_sync ∷ interval) = subst IsOctets is.layout.spelled are in
+    let all : IsOctets (3 ∷ modify.source_id ∷ modify.pa_sync ∷ interval) = subst IsOctets is.layout.encoded are in
     let at_interval : IsOctets interval =
     IsOctets-rest modify.pa_sync interval
     (IsOctets-rest modify.source_id (modify.pa_sync ∷ interval) (IsOctets-rest 3 (modify.source_id ∷ modify.pa_sync ∷ interval) all)) in
@@ -202,12 +202,12 @@ operated_is n slots ScanStarted count few is = tt
 operated_is n slots (Code source_id code) count few is = tt
 operated_is n slots (Remove source_id) count few is = tt
 
-pub read_done_is : (n : ℕ) (sight : Sight) (read : Result Operation OpFault) (cause : Option Cause) → length sight.slots ≡ n → n < 256
-    → ((op : Operation) → read ≡ Ok op → OperationIs op) → DoneIs (done_read sight read cause)
-read_done_is n sight (Ok op) None count few is = operated_is n sight.slots op count few (is op refl)
-read_done_is n sight (Ok op) (Some cause) count few is = tt
-read_done_is n sight (Err fault) None count few is = tt
-read_done_is n sight (Err fault) (Some cause) count few is = tt
+pub read_done_is : (n : ℕ) (snapshot : Snapshot) (read : Result Operation OpFault) (cause : Option Cause) → length snapshot.slots ≡ n → n < 256
+    → ((op : Operation) → read ≡ Ok op → OperationIs op) → DoneIs (done_read snapshot read cause)
+read_done_is n snapshot (Ok op) None count few is = operated_is n snapshot.slots op count few (is op refl)
+read_done_is n snapshot (Ok op) (Some cause) count few is = tt
+read_done_is n snapshot (Err fault) None count few is = tt
+read_done_is n snapshot (Err fault) (Some cause) count few is = tt
 
 -- ---- a new sink
 

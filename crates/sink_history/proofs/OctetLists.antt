@@ -1,6 +1,6 @@
 -- Lists of octets, put together and taken apart.
 use Rattle.std.proofs.Common.{ℕ, zero, suc, ◌<◌, ◌/◌, ◌%◌, List, [], ◌∷◌, ◌++◌, arith}
-use Rattle.bcast_base.specs.Spelling.{IsOctets, number}
+use Rattle.bcast_base.specs.Encoding.{IsOctets, number}
 use Rattle.bcast_base.proofs.Citable.{IsOctets-rest}
 
 pub no_octets : IsOctets []
@@ -11,8 +11,8 @@ one_more x xs small octets zero = small
 one_more x xs small octets (suc i) = octets i
 
 pub joined_octets : (xs ys : List ℕ) → IsOctets xs → IsOctets ys → IsOctets (xs ++ ys)
-joined_octets [] ys front back = back
-joined_octets (x ∷ xs) ys front back = one_more x (xs ++ ys) (front 0) (joined_octets xs ys (IsOctets-rest x xs front) back)
+joined_octets [] ys prefix back = back
+joined_octets (x ∷ xs) ys prefix back = one_more x (xs ++ ys) (prefix 0) (joined_octets xs ys (IsOctets-rest x xs prefix) back)
 
 pub octets_behind : (xs ys : List ℕ) → IsOctets (xs ++ ys) → IsOctets ys
 octets_behind [] ys all = all

@@ -1,5 +1,5 @@
 -- Names that open what writes, states, trains and PDUs are read by, for rows that are worked out by computing.
-use Rattle.bcast_base.specs.Spelling.{number}
+use Rattle.bcast_base.specs.Encoding.{number}
 use Rattle.bcast_base.specs.Subgroups.{subgroup_in, subgroups_in, reserved_in}
 use Rattle.ltv_codec.specs.Reading.{ltvs_from}
 use Rattle.base_grammar.specs.Reading.{base_of, count_at, entries_at, entry_at, fields_of, index_at, run_at, streams_at, subgroup_at, subgroups_at}

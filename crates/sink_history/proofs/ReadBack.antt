@@ -5,29 +5,29 @@ use Rattle.std.specs.Prelude.{nat_lt, ◌==◌, ◌&&◌, not, if◌then◌else�
 use Rattle.std.specs.List.{AllByRecursion, flat_map}
 use Rattle.std.proofs.lemmas.Bool.{le-ltb}
 use Rattle.bcast_base.specs.Layout.{NoneReserved, laid}
-use Rattle.bcast_base.specs.Spelling.{IsOctets, number}
+use Rattle.bcast_base.specs.Encoding.{IsOctets, number}
 use Rattle.bcast_base.specs.Subgroups.{Fits, subgroup_fields, is_reserved, all_bits}
 use Rattle.bass_operations.specs.declared.operation.Operation.{Operation}
 use Rattle.bass_operations.specs.declared.wishes.Wish.{Wish}
 use Rattle.bass_operations.specs.Layout.{OpIs}
 use Rattle.bass_operations.specs.Reading.{op_of}
 use Rattle.receive_state.specs.declared.state.ReceiveState.{ReceiveState}
-use Rattle.receive_state.specs.Layout.{IsSpelled, StateIs, code_of, code_width, group_of, number_of, spelling}
+use Rattle.receive_state.specs.Layout.{IsEncoded, StateIs, code_of, code_width, group_of, number_of, encoding}
 use Rattle.receive_state.specs.Reading.{state_of}
 use Rattle.assistant_machine.specs.Views.{reading_of, told_of}
 use Rattle.delegator_history.specs.declared.train_heard.ControlHeard.{ControlHeard}
 use Rattle.delegator_history.specs.declared.train_heard.ControlHeard.TheVariants.{NotOnGroup, Malformed, NotControl, UnknownOpcode, ControlLength, MapIgnored, Left}
 use Rattle.delegator_history.specs.Controls.{control_heard, done_heard}
-use Rattle.delegator_history.specs.Sights.{Entry, Sight, is_on_group, entry_at}
-use Rattle.delegator_history.specs.States.{Step, record_added, locations_set, contexts_set, mtu_set, put_on, written, train_heard}
-use Rattle.delegator_history.specs.States.{train_lost, control_heard as control, told, answered, done_by, entry_in, sight_of}
+use Rattle.delegator_history.specs.Snapshots.{Entry, Snapshot, is_on_group, entry_at}
+use Rattle.delegator_history.specs.States.{Step, record_added, locations_set, contexts_set, mtu_set, sync_to_group, written, train_heard}
+use Rattle.delegator_history.specs.States.{train_lost, control_heard as control, notified, answered, done_by, entry_in, snapshot_of}
 use Rattle.delegator_history.specs.Trains.{Setup}
 use Rattle.delegator_history.specs.Values.{Status, encryption_of, groups_from, received, state_at, status_of, value}
 use Rattle.delegator_history.specs.Writes.{cause_of}
-use Rattle.delegator_history.proofs.Citable.{sight_goes_on}
+use Rattle.delegator_history.proofs.Citable.{snapshot_goes_on}
 use Rattle.sink_history.specs.Calls.{Call, stepped, joined, asked, served, served_of, steps_of, with_step, writes, writes_waiting}
 use Rattle.sink_history.specs.Octets.{AreOctets, IsWritten}
-use Rattle.sink_history.proofs.Fitting.{AreSets, DoneIs, EntryIs, MetadataIs, SightIs, SlotIs, after_is, entries_count, entry_is, no_entries, operation_is, read_done_is}
+use Rattle.sink_history.proofs.Fitting.{AreSets, DoneIs, EntryIs, MetadataIs, SnapshotIs, SlotIs, after_is, entries_count, entry_is, no_entries, operation_is, read_done_is}
 use Rattle.sink_history.proofs.OctetLists.{joined_octets, no_octets, number_octets, one_more}
 use Rattle.sink_history.proofs.Trains.{train_is}
 
@@ -94,7 +94,7 @@ encryption_octets : (b : Bool) (rest : List ℕ) → IsOctets rest → IsOctets 
 encryption_octets true rest are = one_more 1 rest (omega arith) are
 encryption_octets false rest are = one_more 0 rest (omega arith) are
 
-state_octets : (status : Status) (entry : Entry) → EntryIs entry → IsOctets (spelling (received status entry))
+state_octets : (status : Status) (entry : Entry) → EntryIs entry → IsOctets (encoding (received status entry))
 state_octets status entry is =
     let s = entry.source in
     let groups : List ℕ = laid (flat_map subgroup_fields (map group_of (groups_from 0 status.bits entry.wanted.wishes))) in
@@ -113,8 +113,8 @@ state_octets status entry is =
     one_more s.source_id (s.address_type ∷ address) is.source.source_id
     (one_more s.address_type address (omega (arith, is.source.address_type)) addressed)
 
-state_spelled : (status : Status) (entry : Entry) → AreSets status.bits → EntryIs entry → IsSpelled (received status entry) (spelling (received status entry))
-state_spelled status entry sets is = record {
+state_encoded : (status : Status) (entry : Entry) → AreSets status.bits → EntryIs entry → IsEncoded (received status entry) (encoding (received status entry))
+state_encoded status entry sets is = record {
   widths = record {
     address = is.source.address;
     broadcast_id = is.source.broadcast_id;
@@ -138,23 +138,23 @@ state_spelled status entry sets is = record {
       ),
     ),
   );
-  spelled = refl;
+  encoded = refl;
 }
 
 entry_back : ReadsStates → (status : Status) (entry : Option Entry) → AreSets status.bits → SlotIs entry
     → reading_of (value (option_map (received status) entry)) ≡ Some (option_map (received status) entry)
 entry_back reads status None sets is = refl
 entry_back reads status (Some entry) sets is =
-    ap told_of ((reads (Some (received status entry)) (spelling (received status entry)) (state_octets status entry is)).1 (state_spelled status entry sets is))
+    ap told_of ((reads (Some (received status entry)) (encoding (received status entry)) (state_octets status entry is)).1 (state_encoded status entry sets is))
 
 bits_are : (b : Bool) (taken : List ℕ) → AreSets taken → AreSets (if b then taken else [])
 bits_are true taken are = are
 bits_are false taken are = tt
 
-pub sight_back : ReadsStates → (n : ℕ) (sight : Sight) (slot : ℕ) → SightIs n sight → reading_of (value (state_at sight slot)) ≡ Some (state_at sight slot)
-sight_back reads n sight slot is =
-    entry_back reads (status_of sight.place sight.encrypted sight.taken slot) (entry_at sight.slots slot) (bits_are (is_on_group sight.place slot) sight.taken is.taken)
-    (entry_is sight.slots slot is.slots)
+pub snapshot_back : ReadsStates → (n : ℕ) (snapshot : Snapshot) (slot : ℕ) → SnapshotIs n snapshot → reading_of (value (state_at snapshot slot)) ≡ Some (state_at snapshot slot)
+snapshot_back reads n snapshot slot is =
+    entry_back reads (status_of snapshot.place snapshot.encrypted snapshot.taken slot) (entry_at snapshot.slots slot) (bits_are (is_on_group snapshot.place slot) snapshot.taken is.taken)
+    (entry_is snapshot.slots slot is.slots)
 
 -- ---- a sink fits after each step
 
@@ -167,30 +167,30 @@ control_is ControlLength = tt
 control_is MapIgnored = tt
 control_is Left = tt
 
-done_is : ReadsOperations → (setup : Setup) (sight : Sight) (step : Step) → length sight.slots ≡ setup.slots → setup.slots < 256 → IsWritten step
-    → DoneIs (done_by setup sight step)
-done_is reads setup sight (record_added entry) count few octets = tt
-done_is reads setup sight (locations_set locations) count few octets = tt
-done_is reads setup sight (contexts_set contexts) count few octets = tt
-done_is reads setup sight (mtu_set mtu) count few octets = tt
-done_is reads setup sight (put_on joining) count few octets = tt
-done_is reads setup sight (written write) count few octets =
-    read_done_is setup.slots sight (op_of write) (cause_of sight write) count few (λ op is. operation_is op write octets ((reads op write octets).0 is))
-done_is reads setup sight (train_heard train) count few octets = train_is setup sight train
-done_is reads setup sight train_lost count few octets = tt
-done_is reads setup sight (control heard) count few octets = control_is (control_heard sight.place heard)
-done_is reads setup sight told count few octets = tt
+done_is : ReadsOperations → (setup : Setup) (snapshot : Snapshot) (step : Step) → length snapshot.slots ≡ setup.slots → setup.slots < 256 → IsWritten step
+    → DoneIs (done_by setup snapshot step)
+done_is reads setup snapshot (record_added entry) count few octets = tt
+done_is reads setup snapshot (locations_set locations) count few octets = tt
+done_is reads setup snapshot (contexts_set contexts) count few octets = tt
+done_is reads setup snapshot (mtu_set mtu) count few octets = tt
+done_is reads setup snapshot (sync_to_group big_sync) count few octets = tt
+done_is reads setup snapshot (written write) count few octets =
+    read_done_is setup.slots snapshot (op_of write) (cause_of snapshot write) count few (λ op is. operation_is op write octets ((reads op write octets).0 is))
+done_is reads setup snapshot (train_heard train) count few octets = train_is setup snapshot train
+done_is reads setup snapshot train_lost count few octets = tt
+done_is reads setup snapshot (control heard) count few octets = control_is (control_heard snapshot.place heard)
+done_is reads setup snapshot notified count few octets = tt
 
-new_is : (setup : Setup) → SightIs setup.slots (sight_of setup [])
+new_is : (setup : Setup) → SnapshotIs setup.slots (snapshot_of setup [])
 unfolding answered
 new_is setup = record { count = entries_count (entry_in []) 0 setup.slots; slots = no_entries (entry_in []) 0 setup.slots (λ i. refl); taken = tt }
 
-pub sight_is : ReadsOperations → (setup : Setup) (steps : List Step) → setup.slots < 256 → AllByRecursion IsWritten steps → SightIs setup.slots (sight_of setup steps)
-sight_is reads setup [] few are = new_is setup
-sight_is reads setup (step ∷ steps) few are =
-    let is : SightIs setup.slots (sight_of setup steps) = sight_is reads setup steps few are.1 in
-    subst (SightIs setup.slots) (sym (sight_goes_on setup step steps))
-    (after_is setup.slots (done_by setup (sight_of setup steps) step) (sight_of setup steps) (done_is reads setup (sight_of setup steps) step is.count few are.0) is)
+pub snapshot_is : ReadsOperations → (setup : Setup) (steps : List Step) → setup.slots < 256 → AllByRecursion IsWritten steps → SnapshotIs setup.slots (snapshot_of setup steps)
+snapshot_is reads setup [] few are = new_is setup
+snapshot_is reads setup (step ∷ steps) few are =
+    let is : SnapshotIs setup.slots (snapshot_of setup steps) = snapshot_is reads setup steps few are.1 in
+    subst (SnapshotIs setup.slots) (sym (snapshot_goes_on setup step steps))
+    (after_is setup.slots (done_by setup (snapshot_of setup steps) step) (snapshot_of setup steps) (done_is reads setup (snapshot_of setup steps) step is.count few are.0) is)
 
 -- ---- what is written over the links
 
@@ -229,6 +229,6 @@ steps_are (served link ∷ earlier) are =
 steps_are (_ ∷ earlier) are = steps_are earlier are.1
 
 pub states_back : ReadsOperations → ReadsStates → (setup : Setup) (slot : ℕ) (calls : List Call) → setup.slots < 256 → AreOctets calls
-    → reading_of (value (state_at (sight_of setup (steps_of calls)) slot)) ≡ Some (state_at (sight_of setup (steps_of calls)) slot)
+    → reading_of (value (state_at (snapshot_of setup (steps_of calls)) slot)) ≡ Some (state_at (snapshot_of setup (steps_of calls)) slot)
 states_back operations states setup slot calls few are =
-    sight_back states setup.slots (sight_of setup (steps_of calls)) slot (sight_is operations setup (steps_of calls) few (steps_are calls are))
+    snapshot_back states setup.slots (snapshot_of setup (steps_of calls)) slot (snapshot_is operations setup (steps_of calls) few (steps_are calls are))

@@ -8,13 +8,13 @@ use Rattle.assistant_machine.specs.Links as links
 use Rattle.assistant_machine.specs.Links.{Act, AreFounded, delivered_of, made, notices_of, view_of, waiting_of, waits_of}
 use Rattle.delegator_history.specs.declared.notice.Notice.{Notice}
 use Rattle.delegator_history.specs.Notices.{change, changes, handed_out}
-use Rattle.delegator_history.specs.Sights.{Sight}
-use Rattle.delegator_history.specs.States.{sight_of}
+use Rattle.delegator_history.specs.Snapshots.{Snapshot}
+use Rattle.delegator_history.specs.States.{snapshot_of}
 use Rattle.delegator_history.specs.Trains.{Setup}
 use Rattle.delegator_history.specs.Values.{state_at, value_at}
 use Rattle.sink_history.specs.Calls.{Call, stepped, served, steps_of}
 use Rattle.sink_history.specs.Links.{Acts, Told, acts_of, delivered, language, made_all}
-use Rattle.sink_history.specs.Steps.{IsStep, TellsLink}
+use Rattle.sink_history.specs.Steps.{IsStep, NotifiesLink}
 use Rattle.sink_history.proofs.Acts.{founded}
 
 delivered_within : (acts : Acts) → AreFounded acts → delivered_of acts ≤ length (notices_of acts)
@@ -22,7 +22,7 @@ delivered_within [] is = omega arith
 delivered_within (made slot value ∷ earlier) is =
     let h : delivered_of earlier ≤ length (notices_of earlier) = delivered_within earlier is in
     subst (λ n. delivered_of earlier ≤ n) (sym (length-append (notices_of earlier) (record { slot = slot; value = value } ∷ []))) (omega (arith, h))
-delivered_within (links.told ∷ earlier) is = is.1
+delivered_within (links.notified ∷ earlier) is = is.1
 delivered_within (links.served slot ∷ earlier) is = delivered_within earlier is
 delivered_within (links.joined ∷ earlier) is = omega arith
 delivered_within (links.forged slot octets ∷ earlier) is = delivered_within earlier is
@@ -37,10 +37,10 @@ map_both f [] ys = refl
 map_both f (x ∷ xs) ys = ap (λ zs. f x ∷ zs) (map_both f xs ys)
 
 -- a notice with the state that it tells of
-abbrev told_of : Sight → Notice → Told
+abbrev told_of : Snapshot → Notice → Told
 told_of now notice = record { slot = notice.slot; value = state_at now notice.slot }
 
-made_waiting : (now : Sight) (notices : List Notice) (acts : Acts) → AreFounded acts
+made_waiting : (now : Snapshot) (notices : List Notice) (acts : Acts) → AreFounded acts
     → waiting_of (made_all now notices acts) ≡ waiting_of acts ++ map (told_of now) notices
 made_waiting now [] acts is = sym (append-nil (waiting_of acts))
 made_waiting now (notice ∷ notices) acts is =
@@ -48,33 +48,33 @@ made_waiting now (notice ∷ notices) acts is =
     ∙ ap (λ xs. xs ++ map (told_of now) notices) (drop_more (delivered_of acts) (notices_of acts) (told_of now notice) (delivered_within acts is))
     ∙ append_assoc (waiting_of acts) (told_of now notice ∷ []) (map (told_of now) notices)
 
-made_views : (mtu : Option ℕ) (slot : ℕ) (now : Sight) (notices : List Notice) (acts : Acts) → view_of (language mtu) slot (made_all now notices acts) ≡ view_of (language mtu) slot acts
+made_views : (mtu : Option ℕ) (slot : ℕ) (now : Snapshot) (notices : List Notice) (acts : Acts) → view_of (language mtu) slot (made_all now notices acts) ≡ view_of (language mtu) slot acts
 made_views mtu slot now [] acts = refl
 made_views mtu slot now (notice ∷ notices) acts = made_views mtu slot now notices (made notice.slot (state_at now notice.slot) ∷ acts)
 
-made_waits : (mtu : Option ℕ) (slot : ℕ) (now : Sight) (notices : List Notice) (acts : Acts) → waits_of (language mtu) slot (made_all now notices acts) ≡ waits_of (language mtu) slot acts
+made_waits : (mtu : Option ℕ) (slot : ℕ) (now : Snapshot) (notices : List Notice) (acts : Acts) → waits_of (language mtu) slot (made_all now notices acts) ≡ waits_of (language mtu) slot acts
 made_waits mtu slot now [] acts = refl
 made_waits mtu slot now (notice ∷ notices) acts = made_waits mtu slot now notices (made notice.slot (state_at now notice.slot) ∷ acts)
 
 -- ---- what is delivered of it is what the delegator hands out
 
-abbrev changes_from : Sight → Sight → ℕ → ℕ → List Notice
+abbrev changes_from : Snapshot → Snapshot → ℕ → ℕ → List Notice
 changes_from before now start n = flat_map (λ slot. change slot (value_at before slot) (value_at now slot)) (range_with_len start n)
 
-one_handed : (mtu : Option ℕ) (now : Sight) (b : Bool) (slot : ℕ) (more : List Notice)
+one_handed : (mtu : Option ℕ) (now : Snapshot) (b : Bool) (slot : ℕ) (more : List Notice)
     → map (delivered mtu) (map (told_of now) more) ≡ map (handed_out mtu) more
     → map (delivered mtu) (map (told_of now) ((if b then [] else record { slot = slot; value = value_at now slot } ∷ []) ++ more))
     ≡ map (handed_out mtu) ((if b then [] else record { slot = slot; value = value_at now slot } ∷ []) ++ more)
 one_handed mtu now true slot more is = is
 one_handed mtu now false slot more is = λ i. record { slot = slot; value = cut mtu (value_at now slot) } ∷ is i
 
-all_handed : (mtu : Option ℕ) (before now : Sight) (start n : ℕ)
+all_handed : (mtu : Option ℕ) (before now : Snapshot) (start n : ℕ)
     → map (delivered mtu) (map (told_of now) (changes_from before now start n)) ≡ map (handed_out mtu) (changes_from before now start n)
 all_handed mtu before now start zero = refl
 all_handed mtu before now start (suc n) =
     one_handed mtu now (bytes_eq (value_at before start) (value_at now start)) start (changes_from before now (start + 1) n) (all_handed mtu before now (start + 1) n)
 
-told_on : (setup : Setup) (mtu : Option ℕ) (before now : Sight) (acts : Acts) → AreFounded acts
+told_on : (setup : Setup) (mtu : Option ℕ) (before now : Snapshot) (acts : Acts) → AreFounded acts
     → map (delivered mtu) (waiting_of (made_all now (changes setup.slots before now) acts))
     ≡ map (delivered mtu) (waiting_of acts) ++ map (handed_out mtu) (changes setup.slots before now)
 told_on setup mtu before now acts is =
@@ -82,18 +82,18 @@ told_on setup mtu before now acts is =
     ∙ map_both (delivered mtu) (waiting_of acts) (map (told_of now) (changes setup.slots before now))
     ∙ ap (λ xs. map (delivered mtu) (waiting_of acts) ++ xs) (all_handed mtu before now 0 setup.slots)
 
-pub tells : (setup : Setup) (mtu : Option ℕ) (link : ℕ) (call : Call) (calls : List Call) → IsStep call → TellsLink setup mtu link call calls
+pub tells : (setup : Setup) (mtu : Option ℕ) (link : ℕ) (call : Call) (calls : List Call) → IsStep call → NotifiesLink setup mtu link call calls
 tells setup mtu link (stepped step) calls is =
-    let before : Sight = sight_of setup (steps_of calls) in
-    let now : Sight = sight_of setup (steps_of (stepped step ∷ calls)) in
+    let before : Snapshot = snapshot_of setup (steps_of calls) in
+    let now : Snapshot = snapshot_of setup (steps_of (stepped step ∷ calls)) in
     let acts : Acts = acts_of setup mtu link calls in record {
       notices = told_on setup mtu before now acts (founded setup mtu link calls);
       views = λ slot. made_views mtu slot now (changes setup.slots before now) acts;
       reads = λ slot. made_waits mtu slot now (changes setup.slots before now) acts;
     }
 tells setup mtu link (served at) calls is =
-    let before : Sight = sight_of setup (steps_of calls) in
-    let now : Sight = sight_of setup (steps_of (served at ∷ calls)) in
+    let before : Snapshot = snapshot_of setup (steps_of calls) in
+    let now : Snapshot = snapshot_of setup (steps_of (served at ∷ calls)) in
     let acts : Acts = acts_of setup mtu link calls in record {
       notices = told_on setup mtu before now acts (founded setup mtu link calls);
       views = λ slot. made_views mtu slot now (changes setup.slots before now) acts;

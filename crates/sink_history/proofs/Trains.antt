@@ -16,11 +16,11 @@ use Rattle.big_info.specs.Rows.{first_fault}
 use Rattle.base_grammar.specs.AdReading.{broadcast_id_of}
 use Rattle.pacs_records.specs.declared.capability.Capability.{Capability}
 use Rattle.delegator_history.specs.declared.train_heard.TrainHeard.TheVariants as answers
-use Rattle.delegator_history.specs.Sights.{Sight, is_on_group, entry_at}
+use Rattle.delegator_history.specs.Snapshots.{Snapshot, is_on_group, entry_at}
 use Rattle.delegator_history.specs.Steps.{wishes_at}
-use Rattle.delegator_history.specs.Trains.{Brought, ignored, heard, taken, Setup, Train, is_candidate, candidates, set_with, sets_with, first_candidates, are_none}
-use Rattle.delegator_history.specs.Trains.{base_in, big_info_in, joining_of, by_streams, by_group, by_info, by_big_info, by_endpoint}
-use Rattle.delegator_history.specs.Trains.{by_base, by_slot, by_broadcast_id, brought_by, done_brought, is_elsewhere, is_wanted}
+use Rattle.delegator_history.specs.Trains.{TrainOutcome, ignored, heard, taken, Setup, Train, is_candidate, candidates, set_with, sets_with, first_candidates, are_none}
+use Rattle.delegator_history.specs.Trains.{base_in, big_info_in, big_sync_of, by_streams, by_group, by_info, by_big_info, by_endpoint}
+use Rattle.delegator_history.specs.Trains.{by_base, by_slot, by_broadcast_id, outcome_by, done_by_outcome, is_elsewhere, is_wanted}
 use Rattle.delegator_history.specs.Writes.{slot_where}
 use Rattle.sink_history.proofs.Fitting.{AreSets, DoneIs}
 
@@ -41,10 +41,10 @@ filtered_is : (test : ℕ → Bool) (streams : List ℕ) → AllByRecursion BisI
 filtered_is test [] are = tt
 filtered_is test (bis ∷ streams) are = kept_is (test bis) bis (filter test streams) are.0 (filtered_is test streams are.1)
 
-front_is : (n : ℕ) (streams : List ℕ) → AllByRecursion BisIs streams → AllByRecursion BisIs (take n streams)
-front_is zero streams are = tt
-front_is (suc n) [] are = tt
-front_is (suc n) (bis ∷ streams) are = (are.0, front_is n streams are.1)
+prefix_is : (n : ℕ) (streams : List ℕ) → AllByRecursion BisIs streams → AllByRecursion BisIs (take n streams)
+prefix_is zero streams are = tt
+prefix_is (suc n) [] are = tt
+prefix_is (suc n) (bis ∷ streams) are = (are.0, prefix_is n streams are.1)
 
 bit_small : (bis : ℕ) → BisIs bis → 2 ^ (bis - 1) < 2 ^ 31
 bit_small bis is = pow_below (bis - 1) 31 (omega (arith, is.0, is.1))
@@ -63,73 +63,73 @@ candidates_are capability base num_bis room [] subgroups = tt
 candidates_are capability base num_bis room (wish ∷ wishes) [] = tt
 candidates_are capability base num_bis room (wish ∷ wishes) (subgroup ∷ subgroups) =
     let all : List ℕ = candidates capability base num_bis wish.bis_sync subgroup in (
-      front_is room all
+      prefix_is room all
           (filtered_is (is_candidate capability base num_bis wish.bis_sync subgroup) (range_with_len 1 31) (range_is 1 31 (omega arith) (omega arith))),
       candidates_are capability base num_bis (room - length all) wishes subgroups,
     )
 
 -- ---- what a train brings
 
-abbrev BroughtIs : Brought → Type 0
-BroughtIs (taken slot bits encrypted joining) = AreSets bits
-BroughtIs _ = Unit {0}
+abbrev OutcomeIs : TrainOutcome → Type 0
+OutcomeIs (taken slot bits encrypted big_sync) = AreSets bits
+OutcomeIs _ = Unit {0}
 
-either_is : (b : Bool) (x y : Brought) → BroughtIs x → BroughtIs y → BroughtIs (if b then x else y)
+either_is : (b : Bool) (x y : TrainOutcome) → OutcomeIs x → OutcomeIs y → OutcomeIs (if b then x else y)
 either_is true x y of_x of_y = of_x
 either_is false x y of_x of_y = of_y
 
 streams_are : (slot : ℕ) (train : Train) (base : Endpoint) (info : BigInfo) (encrypted : Bool) (streams : List (List ℕ))
-    → AllByRecursion (λ some. AllByRecursion BisIs some) streams → BroughtIs (by_streams slot train base info encrypted streams)
+    → AllByRecursion (λ some. AllByRecursion BisIs some) streams → OutcomeIs (by_streams slot train base info encrypted streams)
 streams_are slot train base info encrypted streams are =
-    either_is (are_none streams) (heard slot answers.NoneTaken (Some encrypted)) (taken slot (map (set_with 0) streams) encrypted (joining_of train base info (sets_with 0 streams)))
+    either_is (are_none streams) (heard slot answers.NoneTaken (Some encrypted)) (taken slot (map (set_with 0) streams) encrypted (big_sync_of train base info (sets_with 0 streams)))
     tt (sets_are streams are)
 
 group_is : (setup : Setup) (capability : Capability) (wishes : List Wish) (slot : ℕ) (train : Train) (base : Endpoint) (info : BigInfo) (encrypted : Bool)
-    (fault : Option GroupFault) → BroughtIs (by_group setup capability wishes slot train base info encrypted fault)
+    (fault : Option GroupFault) → OutcomeIs (by_group setup capability wishes slot train base info encrypted fault)
 group_is setup capability wishes slot train base info encrypted (Some fault) = tt
 group_is setup capability wishes slot train base info encrypted None =
     streams_are slot train base info encrypted (first_candidates capability base info.num_bis setup.streams wishes base.subgroups)
     (candidates_are capability base info.num_bis setup.streams wishes base.subgroups)
 
 info_is : (setup : Setup) (capability : Capability) (wishes : List Wish) (slot : ℕ) (train : Train) (base : Endpoint) (encrypted : Bool)
-    (read : Result BigInfo BigFault) → BroughtIs (by_info setup capability wishes slot train base encrypted read)
+    (read : Result BigInfo BigFault) → OutcomeIs (by_info setup capability wishes slot train base encrypted read)
 info_is setup capability wishes slot train base encrypted (Err fault) = tt
 info_is setup capability wishes slot train base encrypted (Ok info) =
     group_is setup capability wishes slot train base info encrypted (first_fault setup.horizon info)
 
 big_info_is : (setup : Setup) (capability : Capability) (wishes : List Wish) (slot : ℕ) (train : Train) (base : Endpoint) (found : Option (List ℕ))
-    → BroughtIs (by_big_info setup capability wishes slot train base found)
+    → OutcomeIs (by_big_info setup capability wishes slot train base found)
 big_info_is setup capability wishes slot train base None = tt
 big_info_is setup capability wishes slot train base (Some octets) =
     info_is setup capability wishes slot train base (length octets == 57) (info_of octets)
 
 endpoint_is : (setup : Setup) (capability : Capability) (wishes : List Wish) (slot : ℕ) (train : Train) (read : Result Endpoint BaseFault)
-    → BroughtIs (by_endpoint setup capability wishes slot train read)
+    → OutcomeIs (by_endpoint setup capability wishes slot train read)
 endpoint_is setup capability wishes slot train (Err fault) = tt
 endpoint_is setup capability wishes slot train (Ok base) = big_info_is setup capability wishes slot train base (big_info_in train.acad)
 
 base_is : (setup : Setup) (capability : Capability) (wishes : List Wish) (slot : ℕ) (train : Train) (found : Option (List ℕ))
-    → BroughtIs (by_base setup capability wishes slot train found)
+    → OutcomeIs (by_base setup capability wishes slot train found)
 base_is setup capability wishes slot train None = tt
 base_is setup capability wishes slot train (Some octets) = endpoint_is setup capability wishes slot train (base_of octets)
 
-slot_is : (setup : Setup) (sight : Sight) (train : Train) (found : Option ℕ) → BroughtIs (by_slot setup sight train found)
-slot_is setup sight train None = tt
-slot_is setup sight train (Some slot) =
-    let based : Brought = by_base setup sight.capability (wishes_at (entry_at sight.slots slot)) slot train (base_in train.adv) in
-    let here : Brought = if is_on_group sight.place slot then ignored answers.AlreadyOnGroup else based in
-    either_is (is_elsewhere sight.place slot) (ignored answers.OtherTrain) here tt
-    (either_is (is_on_group sight.place slot) (ignored answers.AlreadyOnGroup) based tt
-    (base_is setup sight.capability (wishes_at (entry_at sight.slots slot)) slot train (base_in train.adv)))
+slot_is : (setup : Setup) (snapshot : Snapshot) (train : Train) (found : Option ℕ) → OutcomeIs (by_slot setup snapshot train found)
+slot_is setup snapshot train None = tt
+slot_is setup snapshot train (Some slot) =
+    let based : TrainOutcome = by_base setup snapshot.capability (wishes_at (entry_at snapshot.slots slot)) slot train (base_in train.adv) in
+    let here : TrainOutcome = if is_on_group snapshot.place slot then ignored answers.AlreadyOnGroup else based in
+    either_is (is_elsewhere snapshot.place slot) (ignored answers.OtherTrain) here tt
+    (either_is (is_on_group snapshot.place slot) (ignored answers.AlreadyOnGroup) based tt
+    (base_is setup snapshot.capability (wishes_at (entry_at snapshot.slots slot)) slot train (base_in train.adv)))
 
-id_is : (setup : Setup) (sight : Sight) (train : Train) (found : Option (List ℕ)) → BroughtIs (by_broadcast_id setup sight train found)
-id_is setup sight train None = tt
-id_is setup sight train (Some id) = slot_is setup sight train (slot_where (is_wanted train.address_type train.sid id) 0 sight.slots)
+id_is : (setup : Setup) (snapshot : Snapshot) (train : Train) (found : Option (List ℕ)) → OutcomeIs (by_broadcast_id setup snapshot train found)
+id_is setup snapshot train None = tt
+id_is setup snapshot train (Some id) = slot_is setup snapshot train (slot_where (is_wanted train.address_type train.sid id) 0 snapshot.slots)
 
-done_is : (brought : Brought) → BroughtIs brought → DoneIs (done_brought brought)
+done_is : (outcome : TrainOutcome) → OutcomeIs outcome → DoneIs (done_by_outcome outcome)
 done_is (ignored answer) is = tt
 done_is (heard slot answer encrypted) is = tt
-done_is (taken slot bits encrypted joining) is = is
+done_is (taken slot bits encrypted big_sync) is = is
 
-pub train_is : (setup : Setup) (sight : Sight) (train : Train) → DoneIs (done_brought (brought_by setup sight train))
-train_is setup sight train = done_is (brought_by setup sight train) (id_is setup sight train (broadcast_id_of train.ext))
+pub train_is : (setup : Setup) (snapshot : Snapshot) (train : Train) → DoneIs (done_by_outcome (outcome_by setup snapshot train))
+train_is setup snapshot train = done_is (outcome_by setup snapshot train) (id_is setup snapshot train (broadcast_id_of train.ext))

@@ -11,7 +11,7 @@ pub data Call : Type 0 where
   parted : (link : ℕ) → Call  -- it leaves the link
   asked : (link : ℕ) (octets : List ℕ) → Call  -- it puts a write behind those that wait
   served : (link : ℕ) → Call  -- the first of its writes that wait is served
-  told : (link : ℕ) → Call  -- the first notice that waits for it is delivered
+  notified : (link : ℕ) → Call  -- the first notice that waits for it is delivered
   read : (link : ℕ) → Call  -- of its reads that wait the one of the lowest slot is served
   forged : (slot : ℕ) (octets : List ℕ) → Call  -- over link 0 a notice comes that the delegator did not send
 

@@ -3,7 +3,7 @@
 use Rattle.std.specs.Prelude.{ℕ, zero, suc, ◌≡◌, ◌==◌, ◌≢◌, true, false, List, [], ◌∷◌, length, Option, None}
 use Rattle.std.specs.List.{AllByRecursion}
 use Rattle.delegator_history.specs.Trains.{Setup}
-use Rattle.sink_history.specs.Calls.{Call, stepped, joined, parted, asked, served, told, read, forged, steps_of, writes_waiting}
+use Rattle.sink_history.specs.Calls.{Call, stepped, joined, parted, asked, served, notified, read, forged, steps_of, writes_waiting}
 use Rattle.sink_history.specs.Links.{acts_of, notices_waiting, read_waits, reads_waiting, view}
 
 -- the call stands so many times
@@ -14,18 +14,18 @@ repeated (suc count) call calls = call ∷ repeated count call calls
 abbrev pub served_out : ℕ → List Call → List Call
 served_out link calls = repeated (length (writes_waiting link calls)) (served link) calls
 
-abbrev pub told_out : Setup → Option ℕ → ℕ → List Call → List Call
-told_out setup mtu link calls = repeated (length (notices_waiting setup mtu link calls)) (told link) calls
+abbrev pub notified_out : Setup → Option ℕ → ℕ → List Call → List Call
+notified_out setup mtu link calls = repeated (length (notices_waiting setup mtu link calls)) (notified link) calls
 
 abbrev pub read_out : Setup → Option ℕ → ℕ → List Call → List Call
 read_out setup mtu link calls = repeated (length (reads_waiting setup mtu link calls)) (read link) calls
 
 -- the notices and then the reads
-abbrev pub told_and_read : Setup → Option ℕ → ℕ → List Call → List Call
-told_and_read setup mtu link calls = read_out setup mtu link (told_out setup mtu link calls)
+abbrev pub notified_and_read : Setup → Option ℕ → ℕ → List Call → List Call
+notified_and_read setup mtu link calls = read_out setup mtu link (notified_out setup mtu link calls)
 
 abbrev pub drained : Setup → Option ℕ → ℕ → List Call → List Call
-drained setup mtu link calls = told_and_read setup mtu link (served_out link calls)
+drained setup mtu link calls = notified_and_read setup mtu link (served_out link calls)
 
 -- no write, no notice and no read waits
 pub record IsDrained (setup : Setup) (mtu : Option ℕ) (link : ℕ) (calls : List Call) : Type 0 where
@@ -34,8 +34,8 @@ pub record IsDrained (setup : Setup) (mtu : Option ℕ) (link : ℕ) (calls : Li
   pub reads : reads_waiting setup mtu link calls ≡ []
 
 -- no notice of the slot waits
-abbrev pub NoneTells : Setup → Option ℕ → ℕ → ℕ → List Call → Type 0
-NoneTells setup mtu link slot calls = AllByRecursion (λ notice. (notice.slot == slot) ≡ false) (notices_waiting setup mtu link calls)
+abbrev pub NoneNotifies : Setup → Option ℕ → ℕ → ℕ → List Call → Type 0
+NoneNotifies setup mtu link slot calls = AllByRecursion (λ notice. (notice.slot == slot) ≡ false) (notices_waiting setup mtu link calls)
 
 -- the call is no step of the delegator, and one of another link where it is of one
 abbrev pub IsApart : ℕ → Call → Type 0
@@ -44,7 +44,7 @@ IsApart link (served at) = ⊥
 IsApart link (joined at) = at ≢ link
 IsApart link (parted at) = at ≢ link
 IsApart link (asked at octets) = at ≢ link
-IsApart link (told at) = at ≢ link
+IsApart link (notified at) = at ≢ link
 IsApart link (read at) = at ≢ link
 IsApart link (forged slot octets) = 0 ≢ link
 

@@ -1,4 +1,4 @@
-pub mod Lives
+pub mod History
 pub mod Moves
 pub mod Output
 pub mod Refusals

@@ -10,15 +10,15 @@ use Rattle.assistant_machine.specs.Links.{Act, Language, reads_of, view_of, wait
 use Rattle.delegator_history.specs.declared.notice.Notice.{Notice}
 use Rattle.delegator_history.specs.LastGiven.{last_given}
 use Rattle.delegator_history.specs.Notices.{changes}
-use Rattle.delegator_history.specs.Sights.{Sight}
-use Rattle.delegator_history.specs.States.{Step, sight_of}
+use Rattle.delegator_history.specs.Snapshots.{Snapshot}
+use Rattle.delegator_history.specs.States.{Step, snapshot_of}
 use Rattle.delegator_history.specs.Trains.{Setup}
 use Rattle.delegator_history.specs.Values.{state_at, value}
-use Rattle.sink_history.specs.Calls.{Call, stepped, joined, served, told, read, forged, steps_of}
+use Rattle.sink_history.specs.Calls.{Call, stepped, joined, served, notified, read, forged, steps_of}
 
 -- the value of a slot is a state or no source
 abbrev pub language : Option ℕ → Language (Option ReceiveState)
-language mtu = record { spell = value; reading = reading_of; empty = None; mtu = mtu }
+language mtu = record { encode = value; reading = reading_of; empty = None; mtu = mtu }
 
 abbrev pub Acts : Type 0
 Acts = List (Act (Option ReceiveState))
@@ -30,18 +30,18 @@ Told = links.Notice (Option ReceiveState)
 -- ---- what happens on a link
 
 -- each slot that is to be told of got the state that it has now
-abbrev pub made_all : Sight → List Notice → Acts → Acts
+abbrev pub made_all : Snapshot → List Notice → Acts → Acts
 made_all now [] acts = acts
 made_all now (notice ∷ notices) acts = made_all now notices (links.made notice.slot (state_at now notice.slot) ∷ acts)
 
 -- what steps of the delegator change
 abbrev pub changed : Setup → List Step → List Step → Acts → Acts
-changed setup before now acts = made_all (sight_of setup now) (changes setup.slots (sight_of setup before) (sight_of setup now)) acts
+changed setup before now acts = made_all (snapshot_of setup now) (changes setup.slots (snapshot_of setup before) (snapshot_of setup now)) acts
 
 -- the first notice is delivered, where one waits
-abbrev pub told_first : List Told → Acts → Acts
-told_first [] acts = acts
-told_first (notice ∷ rest) acts = links.told ∷ acts
+abbrev pub notified_first : List Told → Acts → Acts
+notified_first [] acts = acts
+notified_first (notice ∷ rest) acts = links.notified ∷ acts
 
 -- the first read is served, where one waits
 abbrev pub read_first : List ℕ → Acts → Acts
@@ -53,7 +53,7 @@ abbrev pub acts_by : Setup → Option ℕ → ℕ → Call → List Step → Lis
 acts_by setup mtu link (stepped step) before now acts = changed setup before now acts
 acts_by setup mtu link (served at) before now acts = changed setup before now acts
 acts_by setup mtu link (joined at) before now acts = if at == link then links.joined ∷ acts else acts
-acts_by setup mtu link (told at) before now acts = if at == link then told_first (waiting_of acts) acts else acts
+acts_by setup mtu link (notified at) before now acts = if at == link then notified_first (waiting_of acts) acts else acts
 acts_by setup mtu link (read at) before now acts = if at == link then read_first (reads_of (language mtu) setup.slots acts) acts else acts
 acts_by setup mtu link (forged slot octets) before now acts = if link == 0 then links.forged slot octets ∷ acts else acts
 acts_by setup mtu link _ before now acts = acts
@@ -87,7 +87,7 @@ view setup mtu link slot calls = view_of (language mtu) slot (acts_of setup mtu 
 
 -- the state of a slot
 abbrev pub state : Setup → ℕ → List Call → Option ReceiveState
-state setup slot calls = state_at (sight_of setup (steps_of calls)) slot
+state setup slot calls = state_at (snapshot_of setup (steps_of calls)) slot
 
 -- ---- notices that the delegator did not send
 

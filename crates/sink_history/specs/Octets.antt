@@ -1,7 +1,7 @@
 -- What is written to a control point is octets (Broadcast Audio Scan Service 1.0, section 3.1).
 use Rattle.std.specs.Prelude.{List}
 use Rattle.std.specs.List.{AllByRecursion}
-use Rattle.bcast_base.specs.Spelling.{IsOctets}
+use Rattle.bcast_base.specs.Encoding.{IsOctets}
 use Rattle.delegator_history.specs.States.{Step, written}
 use Rattle.sink_history.specs.Calls.{Call, stepped, asked}
 

@@ -1,4 +1,4 @@
--- What a step prints of a sink and of its assistants, by the life of the sink before it (Basic Audio Profile 1.0, section 6.5;
+-- What a step prints of a sink and of its assistants, by the history of the sink before it (Basic Audio Profile 1.0, section 6.5;
 -- Broadcast Audio Scan Service 1.0, section 3). The lines are this project's own.
 use Rattle.std.specs.Prelude.{ℕ, zero, suc, List, [], ◌∷◌, ◌++◌, length, map, slice_get, Option, Some, None, option_map, codes, decimal, if◌then◌else◌, nat_lt}
 use Rattle.std.specs.List.{flat_map, range_with_len}
@@ -6,33 +6,33 @@ use Rattle.assistant_machine.specs.Answers.{answer_of as forged_answer}
 use Rattle.delegator_history.specs.declared.notice.Notice.{Notice}
 use Rattle.delegator_history.specs.declared.replies.Reply.{Reply}
 use Rattle.delegator_history.specs.Controls as controls
-use Rattle.delegator_history.specs.Sights.{Sight}
-use Rattle.delegator_history.specs.States.{sight_of}
-use Rattle.delegator_history.specs.Trains.{Settings, Train, answer_of, brought_by}
+use Rattle.delegator_history.specs.Snapshots.{Snapshot}
+use Rattle.delegator_history.specs.States.{snapshot_of}
+use Rattle.delegator_history.specs.Trains.{Settings, Train, answer_of, outcome_by}
 use Rattle.delegator_history.specs.Values.{value}
 use Rattle.delegator_history.specs.Writes.{reply_of}
 use Rattle.sink_history.specs.Calls as links
 use Rattle.sink_history.specs.Calls.{Call, steps_of, writes_waiting}
-use Rattle.sink_history.specs.Drains.{repeated, served_out, told_out}
+use Rattle.sink_history.specs.Drains.{repeated, served_out, notified_out}
 use Rattle.sink_history.specs.Links.{delivered, notices_waiting, reads_waiting, state, view}
 use Rattle.scenario_text.specs.declared.step.Step.{Step}
 use Rattle.scenario_text.specs.declared.step.Step.TheVariants as steps
 use Rattle.transcript_text.specs.SinkLines.{Label, control_words, forged_line, on_link, plain, reply_line, sink_line, train_line, train_words, value_line}
-use Rattle.sink_history.specs.Lives.{Source, World, given_train, life_of, made_of, named_by, own_train}
+use Rattle.sink_history.specs.History.{Source, World, given_train, history_of, made_of, named_by, own_train}
 
 -- what the sink has
-abbrev pub sight_in : Settings → List Call → Sight
-sight_in made calls = sight_of made.setup (steps_of calls)
+abbrev pub snapshot_in : Settings → List Call → Snapshot
+snapshot_in made calls = snapshot_of made.setup (steps_of calls)
 
 -- ---- one call on a link
 
 -- the reply to the first write that waits
 abbrev pub replied : Settings → ℕ → List Call → Option Reply
-replied made link calls = option_map (reply_of (sight_in made calls)) (slice_get (writes_waiting link calls) 0)
+replied made link calls = option_map (reply_of (snapshot_in made calls)) (slice_get (writes_waiting link calls) 0)
 
 -- the first notice that waits, cut to the MTU
-abbrev pub notified : Settings → ℕ → List Call → Option Notice
-notified made link calls = option_map (delivered made.mtu) (slice_get (notices_waiting made.setup made.mtu link calls) 0)
+abbrev pub notice_delivered : Settings → ℕ → List Call → Option Notice
+notice_delivered made link calls = option_map (delivered made.mtu) (slice_get (notices_waiting made.setup made.mtu link calls) 0)
 
 -- a slot with the octets of its state
 abbrev pub stated : Settings → List Call → ℕ → Notice
@@ -60,7 +60,7 @@ abbrev pub serve_line : Label → Settings → ℕ → List Call → Lines
 serve_line label made link calls = if_there (reply_line label) (replied made link calls)
 
 abbrev pub tell_line : Label → Settings → ℕ → List Call → Lines
-tell_line label made link calls = if_there (value_line label.notice label.numbers) (notified made link calls)
+tell_line label made link calls = if_there (value_line label.notice label.numbers) (notice_delivered made link calls)
 
 abbrev pub read_line : Label → Settings → ℕ → List Call → Lines
 read_line label made link calls = if_there (value_line label.read label.numbers) (was_read made link calls)
@@ -75,7 +75,7 @@ serve_lines label made link (suc count) calls =
 abbrev pub tell_lines : Label → Settings → (link count : ℕ) → List Call → Lines
 tell_lines label made link zero calls = []
 tell_lines label made link (suc count) calls =
-    tell_lines label made link count calls ++ tell_line label made link (repeated count (links.told link) calls)
+    tell_lines label made link count calls ++ tell_line label made link (repeated count (links.notified link) calls)
 
 abbrev pub read_lines : Label → Settings → (link count : ℕ) → List Call → Lines
 read_lines label made link zero calls = []
@@ -85,10 +85,10 @@ read_lines label made link (suc count) calls =
 abbrev pub drain_lines : Label → Settings → ℕ → List Call → Lines
 drain_lines label made link calls =
     let served : List Call = served_out link calls in
-    let told : List Call = told_out made.setup made.mtu link served in
+    let notified : List Call = notified_out made.setup made.mtu link served in
     serve_lines label made link (length (writes_waiting link calls)) calls
     ++ tell_lines label made link (length (notices_waiting made.setup made.mtu link served)) served
-    ++ read_lines label made link (length (reads_waiting made.setup made.mtu link told)) told
+    ++ read_lines label made link (length (reads_waiting made.setup made.mtu link notified)) notified
 
 -- ---- states and views, by rising slot
 
@@ -108,11 +108,11 @@ view_lines sink link made calls =
 -- ---- trains
 
 abbrev pub heard_line : ℕ → Settings → List Call → Train → List ℕ
-heard_line sink made calls train = sink_line sink (train_words (answer_of (brought_by made.setup (sight_in made calls) train)))
+heard_line sink made calls train = sink_line sink (train_words (answer_of (outcome_by made.setup (snapshot_in made calls) train)))
 
 -- ---- all of it
 
--- what a step prints that names a living sink with this life
+-- what a step prints that names a living sink with this history
 abbrev pub printed_of : Source → Step → Settings → List Call → Lines
 printed_of source (steps.Serve sink) made calls = serve_line (plain sink) made 0 calls
 printed_of source (steps.Tell sink) made calls = tell_line (plain sink) made 0 calls
@@ -123,7 +123,7 @@ printed_of source (steps.Forge sink slot octets) made calls =
     forged_line sink (forged_answer made.setup.slots made.mtu slot octets) ∷ []
 printed_of source (steps.Lose sink) made calls = sink_line sink (codes "Idle" ∷ []) ∷ []
 printed_of source (steps.Control sink octets) made calls =
-    sink_line sink (control_words (controls.control_heard (sight_in made calls).place octets)) ∷ []
+    sink_line sink (control_words (controls.control_heard (snapshot_in made calls).place octets)) ∷ []
 printed_of source (steps.Announce sink) made calls =
     train_line sink source.announced ∷ heard_line sink made calls (own_train source) ∷ []
 printed_of source (steps.Train sink time ext adv acad) made calls =
@@ -142,7 +142,7 @@ printed_where source line (Some made) calls = printed_of source line made calls
 
 abbrev pub printed_at : World → List Step → Step → Option ℕ → Lines
 printed_at world earlier line None = []
-printed_at world earlier line (Some n) = printed_where (world.source earlier) line (made_of n earlier) (life_of world n earlier)
+printed_at world earlier line (Some n) = printed_where (world.source earlier) line (made_of n earlier) (history_of world n earlier)
 
 -- what a step after these prints of the sink that it names
 abbrev pub printed : World → List Step → Step → Lines

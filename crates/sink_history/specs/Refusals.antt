@@ -11,8 +11,8 @@ use Rattle.scenario_text.specs.declared.step.Step.TheVariants as steps
 use Rattle.transcript_text.specs.declared.refusal.Refusal.{Refusal}
 use Rattle.transcript_text.specs.declared.refusal.Refusal.TheVariants.{NoSuchSink, NoSuchLink, LinkTwice, NothingWaiting, RecordsTooLong}
 use Rattle.delegator_history.specs.Trains.{Settings}
-use Rattle.sink_history.specs.Lives.{World, life_of, made_of, named_by, record_of}
-use Rattle.sink_history.specs.Output.{sight_in}
+use Rattle.sink_history.specs.History.{World, history_of, made_of, named_by, record_of}
+use Rattle.sink_history.specs.Output.{snapshot_in}
 
 abbrev pub refuse_if : Bool → Refusal → Option Refusal
 refuse_if true reason = Some reason
@@ -60,7 +60,7 @@ nothing_waits made calls _ = None
 -- the value of the records, with this one behind them, is too long
 abbrev pub no_record_room : Settings → List Call → Step → Option Refusal
 no_record_room made calls (steps.Pac sink codec caps metadata) =
-    refuse_if (nat_lt greatest_value (length (value ((sight_in made calls).capability.entries ++ record_of codec caps metadata ∷ [])))) RecordsTooLong
+    refuse_if (nat_lt greatest_value (length (value ((snapshot_in made calls).capability.entries ++ record_of codec caps metadata ∷ [])))) RecordsTooLong
 no_record_room made calls _ = None
 
 -- ---- the first that holds
@@ -76,7 +76,7 @@ refused_where line (Some made) calls = refused_by line made calls
 
 abbrev pub refused_at : World → List Step → Step → Option ℕ → Option Refusal
 refused_at world earlier line None = None
-refused_at world earlier line (Some n) = refused_where line (made_of n earlier) (life_of world n earlier)
+refused_at world earlier line (Some n) = refused_where line (made_of n earlier) (history_of world n earlier)
 
 -- why a step after these is refused
 abbrev pub refusal_of : World → List Step → Step → Option Refusal

@@ -6,7 +6,7 @@ use Rattle.scenario_text.specs.declared.step.Step.{Step}
 use Rattle.scenario_text.specs.declared.step.Step.TheVariants as steps
 use Rattle.transcript_text.specs.Lines.{line_of}
 use Rattle.transcript_text.specs.declared.refusal.Refusal.TheVariants.{LinkTwice, NoSuchLink, NothingWaiting}
-use Rattle.sink_history.specs.Lives.{World}
+use Rattle.sink_history.specs.History.{World}
 use Rattle.sink_history.specs.Output.{Lines, out_of}
 use Rattle.sink_history.specs.Refusals.{first_refusal, refusal_of}
 

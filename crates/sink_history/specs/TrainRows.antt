@@ -12,7 +12,7 @@ use Rattle.scenario_words.specs.Digits.{digits}
 use Rattle.scenario_text.specs.declared.step.Step.{Step}
 use Rattle.scenario_text.specs.declared.step.Step.TheVariants as steps
 use Rattle.transcript_text.specs.Lines.{line_of}
-use Rattle.sink_history.specs.Lives.{World}
+use Rattle.sink_history.specs.History.{World}
 use Rattle.sink_history.specs.Output.{Lines, printed}
 use Rattle.sink_history.specs.Rows.{an_add, its_value}
 
@@ -24,7 +24,7 @@ world_of train = record {
     address_type = 0;
     sid = 3;
     announced = train;
-    joining = λ which. record { info = a_group; which = which; first = 0; anchor = 20000; delay = 40000 };
+    big_sync = λ which. record { info = a_group; which = which; first = 0; anchor = 20000; delay = 40000 };
   };
 }
 
@@ -36,7 +36,7 @@ abbrev pub on_its_group : List ℕ
 on_its_group =
     0x00 ∷ 0x00 ∷ 0x66 ∷ 0x55 ∷ 0x44 ∷ 0x33 ∷ 0x22 ∷ 0x11 ∷ 0x03 ∷ 0x56 ∷ 0x34 ∷ 0x12 ∷ 0x02 ∷ 0x00 ∷ 0x01 ∷ 0x01 ∷ 0x00 ∷ 0x00 ∷ 0x00 ∷ 0x00 ∷ []
 
--- a sink that is put on its group by what the source announces, and loses the train
+-- a sink that is synchronized to its BIG by what the source announces, and loses the train
 abbrev pub train_and_loss : List Step
 train_and_loss = reverse (
     steps.Scenario 1 ∷ steps.Sink 0 1 1 None ∷ steps.Pac 0 (0xff ∷ 0x01 ∷ 0x00 ∷ 0x02 ∷ 0x00 ∷ []) [] [] ∷ steps.Write 0 an_add ∷ steps.Serve 0

@@ -5,7 +5,7 @@ use Rattle.scenario_words.specs.Digits.{digits}
 use Rattle.scenario_text.specs.declared.step.Step.{Step}
 use Rattle.scenario_text.specs.declared.step.Step.TheVariants as steps
 use Rattle.transcript_text.specs.Lines.{line_of}
-use Rattle.sink_history.specs.Lives.{World}
+use Rattle.sink_history.specs.History.{World}
 use Rattle.sink_history.specs.Output.{Lines, printed}
 use Rattle.sink_history.specs.Rows.{an_add, its_value}
 

@@ -1,5 +1,5 @@
 //! Scenarios worked by hand.
-ghost use Rattle.sink_history.specs.Lives.{World};
+ghost use Rattle.sink_history.specs.History.{World};
 ghost use Rattle.sink_history.specs.Rows.{PartedRefuses, Prints, an_add, its_value, known_source};
 ghost use Rattle.sink_history.specs.Rows.{known_source_lines, parted, parted_lines, second_assistant, second_assistant_lines};
 ghost use Rattle.sink_history.specs.TrainRows.{ForgedTrains, a_world, coded_world, encrypted, encrypted_lines};
@@ -15,7 +15,7 @@ pub fn worked_rows()
     ensures refused { (world : World) → PartedRefuses world }
 {}
 
-/// Scenarios with trains worked by hand: a sink that is put on its group by what a source announces and loses the train, a
+/// Scenarios with trains worked by hand: a sink that is synchronized to its BIG by what a source announces and loses the train, a
 /// whole life but for the air, an encrypted group, and eight trains that are given by their octets.
 pub fn worked_trains()
     ensures train_and_loss { Prints a_world train_and_loss train_and_loss_lines }

@@ -4,10 +4,10 @@ ghost use Rattle.assistant_machine.specs.Views.{reading_of};
 ghost use Rattle.delegator_history.specs.Trains.{Setup};
 ghost use Rattle.delegator_history.specs.Values.{value};
 ghost use Rattle.sink_history.specs.Calls.{Call};
-ghost use Rattle.sink_history.specs.Drains.{IsAnew, IsApart, IsDrained, LeavesLink, NoneTells, drained, told_and_read};
+ghost use Rattle.sink_history.specs.Drains.{IsAnew, IsApart, IsDrained, LeavesLink, NoneNotifies, drained, notified_and_read};
 ghost use Rattle.sink_history.specs.Links.{acts_of, is_forged, language, read_waits, state, view};
 ghost use Rattle.sink_history.specs.Octets.{AreOctets};
-ghost use Rattle.sink_history.specs.Steps.{IsStep, TellsLink};
+ghost use Rattle.sink_history.specs.Steps.{IsStep, NotifiesLink};
 ghost use Rattle.assistant_machine.specs.Links.{value_of};
 
 use assistant_machine::where_nothing_waits_both_agree;
@@ -25,9 +25,9 @@ pub fn states_are_read_back()
 
 /// A step of the delegator, and a write that is served on any link, puts the notices of the step behind those that wait on
 /// each link, as the delegator hands them out, and changes nothing that the assistants know.
-pub fn a_step_tells_each_link()
+pub fn a_step_notifies_each_link()
     ensures { (setup : Setup) (mtu : Option ℕ) (link : ℕ) (call : Call) (calls : List Call) → IsStep call
-        → TellsLink setup mtu link call calls }
+        → NotifiesLink setup mtu link call calls }
 {}
 
 /// A read that is served gives the state of its slot: the value of the slot on each link is its state.
@@ -46,11 +46,11 @@ pub fn a_read_gives_the_state()
 pub fn agreement_law()
     ensures agrees { (setup : Setup) (mtu : Option ℕ) (link slot : ℕ) (calls : List Call) → setup.slots < 256 → slot < setup.slots
         → AreOctets calls
-        → is_forged link calls ≡ false → NoneTells setup mtu link slot calls → read_waits setup mtu link slot calls ≡ false
+        → is_forged link calls ≡ false → NoneNotifies setup mtu link slot calls → read_waits setup mtu link slot calls ≡ false
         → view setup mtu link slot calls ≡ state setup slot calls }
     ensures drained { (setup : Setup) (mtu : Option ℕ) (link slot : ℕ) (calls : List Call) → setup.slots < 256 → slot < setup.slots
         → AreOctets calls
-        → is_forged link calls ≡ false → view setup mtu link slot (told_and_read setup mtu link calls) ≡ state setup slot calls }
+        → is_forged link calls ≡ false → view setup mtu link slot (notified_and_read setup mtu link calls) ≡ state setup slot calls }
 {
     read_is_operation();
     read_is_state();
@@ -63,7 +63,7 @@ pub fn agreement_law()
 pub fn links_law()
     ensures agrees { (setup : Setup) (mtu : Option ℕ) (link slot : ℕ) (calls : List Call) → setup.slots < 256 → slot < setup.slots
         → AreOctets calls
-        → link ≢ 0 → NoneTells setup mtu link slot calls → read_waits setup mtu link slot calls ≡ false
+        → link ≢ 0 → NoneNotifies setup mtu link slot calls → read_waits setup mtu link slot calls ≡ false
         → view setup mtu link slot calls ≡ state setup slot calls }
     ensures apart { (setup : Setup) (mtu : Option ℕ) (link : ℕ) (call : Call) (calls : List Call) → IsApart link call
         → LeavesLink setup mtu link call calls }

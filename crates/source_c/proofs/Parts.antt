@@ -1,11 +1,11 @@
 -- Parts that lie one behind the other, and how long those of a train are.
 use Rattle.std.proofs.Common.{◌≡◌, ℕ, ◌+◌, ◌≤◌, List, [], ◌∷◌, ◌++◌, length, take, drop, refl, ap, ◌∙◌, subst, zero, suc, arith, length-append}
 use Rattle.std.proofs.lemmas.List.{length-drop}
-use Rattle.bcast_base.specs.Spelling.{number}
+use Rattle.bcast_base.specs.Encoding.{number}
 use Rattle.big_info.specs.declared.info.BigInfo.{BigInfo}
 use Rattle.big_info.specs.declared.info.Cipher.{Cipher}
 use Rattle.std.specs.Prelude.{Option, Some, None}
-use Rattle.big_info.specs.Layout.{CipherIs, Spells}
+use Rattle.big_info.specs.Layout.{CipherIs, Encodes}
 use Rattle.base_grammar.specs.Layout.{Endpoint, BaseIs}
 use Rattle.announcement_train.specs.Layout.{IsTrain}
 use Rattle.announcement_train.specs.declared.train.Train.{Train}
@@ -54,13 +54,13 @@ unfolding number
 behind_uuid uuid content = omega arith
 
 base_length : (base : Endpoint) (octets : List ℕ) → BaseIs base octets → length octets ≤ 252
-base_length base octets is = omega (arith, ap length is.spelled, is.base.small)
+base_length base octets is = omega (arith, ap length is.encoded, is.base.small)
 
 cipher_length : (cipher : Option Cipher) (octets : List ℕ) → CipherIs cipher octets → length octets ≤ 24
 cipher_length None octets is = omega (arith, ap length is)
 cipher_length (Some cipher) octets is = omega (arith, ap length is.2, length-append cipher.giv cipher.gskd, is.0, is.1)
 
-info_length : (info : BigInfo) (octets : List ℕ) → Spells info 0 octets → length octets ≤ 57
+info_length : (info : BigInfo) (octets : List ℕ) → Encodes info 0 octets → length octets ≤ 57
 info_length info octets is = omega (arith, cipher_length info.cipher (drop 33 octets) is.cipher, length-drop 33 octets)
 
 pub train_is_short : (id : List ℕ) (base : Endpoint) (info : BigInfo) (event anchor : ℕ) (train : Train) → IsTrain id base info event anchor train → IsShort train

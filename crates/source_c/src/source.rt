@@ -5,7 +5,7 @@ ghost use Rattle.isoal_base.specs.Air.{Air};
 ghost use Rattle.radio_schedule.specs.PayloadNumber.{payload_number};
 ghost use Rattle.iso_pdu.specs.Control.{terminate};
 ghost use Rattle.iso_pdu.specs.Layout.{control};
-ghost use Rattle.iso_pdu.specs.Spelling.{pdu};
+ghost use Rattle.iso_pdu.specs.Encoding.{pdu};
 ghost use Rattle.source_machine.specs.Airs.{AreAirs, pdu_of, stale_of};
 ghost use Rattle.source_machine.specs.Calls.{Call, event as performed, give, next_anchor_of, next_of};
 ghost use Rattle.source_machine.specs.Faults.{air_fault, event_fault, give_fault};

@@ -4,5 +4,5 @@ pub use Rattle.source_machine.proofs.AirLaws.{airs_exist, is_checked, sends_stay
 pub use Rattle.source_machine.proofs.Ciphers.{none_holds}
 pub use Rattle.source_machine.proofs.FramedCalls.{lays_accepted as timed_accepted}
 pub use Rattle.source_machine.proofs.Histories.{lays_events}
-pub use Rattle.source_machine.proofs.Orders.{front_accepted}
+pub use Rattle.source_machine.proofs.Orders.{prefix_accepted}
 pub use Rattle.source_machine.proofs.Payloads.{ahead_within, event_of_number}

@@ -11,16 +11,16 @@ use Rattle.isoal_unframed.specs.Air.{before_event, unit_at}
 use Rattle.isoal_unframed.specs.Calls.{Call as StreamCall, accept, lay, accepted, begun, events as laid_events}
 use Rattle.isoal_unframed.proofs.Citable.{begun_within}
 
--- what was accepted before an event is a front of all that was accepted
-pub front_accepted : (calls : List StreamCall) (e : ℕ) → (rest : List (List ℕ)) × (accepted calls ≡ accepted (before_event calls e) ++ rest)
-front_accepted [] e = ([], refl)
-front_accepted (accept octets ∷ calls) e =
-    let front = front_accepted calls e in
-    (front.0 ++ octets ∷ [], ap (λ units. units ++ octets ∷ []) front.1 ∙ append_assoc (accepted (before_event calls e)) front.0 (octets ∷ []))
-front_accepted (lay ∷ calls) e =
+-- what was accepted before an event is a prefix of all that was accepted
+pub prefix_accepted : (calls : List StreamCall) (e : ℕ) → (rest : List (List ℕ)) × (accepted calls ≡ accepted (before_event calls e) ++ rest)
+prefix_accepted [] e = ([], refl)
+prefix_accepted (accept octets ∷ calls) e =
+    let prefix = prefix_accepted calls e in
+    (prefix.0 ++ octets ∷ [], ap (λ units. units ++ octets ∷ []) prefix.1 ∙ append_assoc (accepted (before_event calls e)) prefix.0 (octets ∷ []))
+prefix_accepted (lay ∷ calls) e =
     elim (cases_eq (laid_events calls) e) [
       | inl here ↦ rw (eq-eqb (laid_events calls) e here) ([], sym (append-nil (accepted calls)))
-      | inr other ↦ rw (ne_eqb (laid_events calls) e other) (front_accepted calls e)
+      | inr other ↦ rw (ne_eqb (laid_events calls) e other) (prefix_accepted calls e)
     ]
 
 none_before : (calls : List StreamCall) (e : ℕ) → laid_events calls ≤ e → before_event calls e ≡ []
@@ -55,9 +55,9 @@ begun_between info (lay ∷ calls) e later order below =
 pub unit_is_accepted : (info : BigInfo) (calls : List StreamCall) (e slot : ℕ) (unit : List ℕ) → unit_at info calls e slot ≡ Some unit
     → slice_get (accepted calls) (begun info (before_event calls e) + slot) ≡ Some unit
 unit_is_accepted info calls e slot unit is =
-    let front = front_accepted calls e in
-    ap (λ units. slice_get units (begun info (before_event calls e) + slot)) front.1
-    ∙ slice_get-append_left (accepted (before_event calls e)) front.0 (begun info (before_event calls e) + slot)
+    let prefix = prefix_accepted calls e in
+    ap (λ units. slice_get units (begun info (before_event calls e) + slot)) prefix.1
+    ∙ slice_get-append_left (accepted (before_event calls e)) prefix.0 (begun info (before_event calls e) + slot)
     (slice_get_within (accepted (before_event calls e)) (begun info (before_event calls e) + slot) unit is)
     ∙ is
 

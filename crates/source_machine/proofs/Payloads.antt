@@ -14,7 +14,7 @@ use Rattle.isoal_unframed.specs.Air.{laid_u}
 use Rattle.isoal_unframed.specs.Calls.{events as laid_events}
 use Rattle.radio_schedule.specs.PayloadNumber.{ahead_of, payload_number}
 use Rattle.source_machine.specs.Airs.{air_of, airs_of, content_at, pdu_of}
-use Rattle.iso_pdu.specs.Spelling.{pdu as spelled}
+use Rattle.iso_pdu.specs.Encoding.{pdu as encoded}
 use Rattle.source_machine.specs.Calls.{Setup, Call, events, framed_calls, next_of, stream_calls}
 use Rattle.source_machine.specs.State.Sources.{Stream, StreamIs, info_in, kept_of, last_laid, pdus_at, pdus_in}
 use Rattle.source_machine.specs.State.Streams.{sent_of}
@@ -130,7 +130,7 @@ sent_stays setup later calls event bis subevent some whole least past bis_least 
 -- the PDU at a payload number, where the payload counter has passed the events before the first one
 pub number_counted : (setup : Setup) (calls : List Call) (event bis subevent : ℕ) → 1 ≤ setup.info.bn → setup.first ≤ event
     → laid_u setup.info (stream_calls setup.info bis calls) (payload_number setup.info (event - setup.first) subevent)
-    ≡ spelled (content_at setup calls bis (payload_number setup.info event subevent))
+    ≡ encoded (content_at setup calls bis (payload_number setup.info event subevent))
 number_counted setup calls event bis subevent some least =
     let info = setup.info in
     let counted : payload_number info event subevent / info.bn - setup.first ≡ payload_number info (event - setup.first) subevent / info.bn =

@@ -2,7 +2,7 @@
 ghost use Rattle.std.specs.Prelude.{◌≡◌, ◌≤◌, ◌<◌, ◌-◌, ◌++◌, ℕ, List, Some, length, map, slice_get};
 ghost use Rattle.big_info.specs.Schedule.{per_event_of};
 ghost use Rattle.big_info.specs.declared.group.Group.{Group};
-ghost use Rattle.iso_pdu.specs.Spelling.{pdu};
+ghost use Rattle.iso_pdu.specs.Encoding.{pdu};
 ghost use Rattle.isoal_base.specs.Air.{Air};
 ghost use Rattle.isoal_framed.specs.Calls.{Timed, accepted};
 ghost use Rattle.isoal_framed.specs.Sends.{Sends as TimedSends};

@@ -8,7 +8,7 @@ ghost use Rattle.big_info.specs.Time.{iso_us_of};
 ghost use Rattle.big_info.specs.Widths.{FitsWidths};
 ghost use Rattle.iso_pdu.specs.Control.{terminate};
 ghost use Rattle.iso_pdu.specs.Layout.{control};
-ghost use Rattle.iso_pdu.specs.Spelling.{pdu};
+ghost use Rattle.iso_pdu.specs.Encoding.{pdu};
 ghost use Rattle.sync_reference.specs.Reference.{anchor_of};
 ghost use Rattle.isoal_base.specs.Air.{Air};
 ghost use Rattle.source_machine.specs.Airs.{AreAirs};

@@ -153,7 +153,7 @@ pub extern "C" fn vm_stream_reserve(stream: &mut VmStream, units: usize, octets:
     }
 }
 
-/// The open event is over. Its units wait behind those that wait. After want of memory it is over too, and a front of the units waits. It
+/// The open event is over. Its units wait behind those that wait. After want of memory it is over too, and a prefix of the units waits. It
 /// never wants memory where there is room for those that wait and those of the event.
 #[unsafe(no_mangle)]
 pub extern "C" fn vm_stream_close(stream: &mut VmStream) -> u32

@@ -1,8 +1,8 @@
 //! When the events of a group are sent and its units are due (Core 5.2, volume 6 part G, section 3.2), and how a sink is put on it.
 #![tactic(auto)]
 
-mod joining;
+mod big_sync;
 mod times;
 
-pub use joining::Joining;
+pub use big_sync::BigSync;
 pub use times::{anchor, framed_reference, render, unframed_reference};

@@ -6,7 +6,7 @@ fn grows(octets: &mut Octets) -> bool {
     octets.push(3).is_ok() && octets.append(&[4, 5]).is_ok()
 }
 
-/// Whether octets in new memory are the same ones, and a front of them once they are cut.
+/// Whether octets in new memory are the same ones, and a prefix of them once they are cut.
 fn comes_again(octets: &Octets) -> bool {
     let Ok(mut again) = octets.copy_again() else {
         return false;

@@ -6,7 +6,7 @@ use big_info::{BigInfo, check_group};
 use group_sink::GroupSink;
 use isoal_framed::FramedIn;
 use isoal_unframed::UnframedIn;
-use sync_reference::Joining;
+use sync_reference::BigSync;
 use unit_outlets::TakerFault;
 
 /// Two streams of units of 4 octets every 10 ms, three an event, each in one PDU on LE 2M.
@@ -155,14 +155,14 @@ fn a_tick_of_two_streams_ends_with_the_call_that_was_refused(rt: HostRuntime) {
     };
     let both = BisSet::new().with(first).with(second);
     let mut sink = GroupSink::new(rt.alloc());
-    let joining = Joining {
+    let big_sync = BigSync {
         group,
         which: both,
         first: 0,
         anchor: 20000,
         delay: 40000,
     };
-    assert!(rt; sink.tune(&joining).is_ok());
+    assert!(rt; sink.tune(&big_sync).is_ok());
     let mut taker = Refusing::new(rt.alloc());
     let all = tick(&mut sink, 0, &mut taker);
     assert!(rt; taker.took(all, 6));

@@ -64,7 +64,7 @@ impl Notes {
 
     /// Puts the notes of the line that began last and was run: `text` has the rows of the transcript that it brought, `machine` is what it
     /// left, and `refused` why it was refused. What stands in the rows stays, and after Memory no note is put.
-    #[tactic(auto, using(crate::proofs::Stays::front_stays))]
+    #[tactic(auto, using(crate::proofs::Stays::prefix_stays))]
     pub fn put(
         &mut self,
         rows: &mut Octets,
@@ -81,7 +81,7 @@ impl Notes {
         rows.append(notes.as_slice())
     }
 
-    /// The same notes alone. After Memory a front of them may stand there.
+    /// The same notes alone. After Memory a prefix of them may stand there.
     fn put_notes(
         &mut self,
         rows: &mut Octets,

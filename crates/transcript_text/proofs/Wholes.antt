@@ -15,8 +15,8 @@ whole_append xs ys whole others more =
     ∙ ap (λ lines. lines ++ lines_of more) (sym (whole ys))
 
 -- an octet joins the first of lines, and there is one
-onto_front : (octet : ℕ) (line : List ℕ) (lines more : List (List ℕ)) → onto_first octet ((line ∷ lines) ++ more) ≡ onto_first octet (line ∷ lines) ++ more
-onto_front octet line lines more = refl
+onto_prefix : (octet : ℕ) (line : List ℕ) (lines more : List (List ℕ)) → onto_first octet ((line ∷ lines) ++ more) ≡ onto_first octet (line ∷ lines) ++ more
+onto_prefix octet line lines more = refl
 
 -- a text has a line
 record SomeLine (lines : List (List ℕ)) : Type 0 where
@@ -41,7 +41,7 @@ ended_some (octet ∷ text) = some_line octet (text ++ 10 ∷ [])
 
 onto_ended : (octet : ℕ) (lines more : List (List ℕ)) → SomeLine lines → onto_first octet (lines ++ more) ≡ onto_first octet lines ++ more
 onto_ended octet lines more some =
-    ap (λ ls. onto_first octet (ls ++ more)) some.are ∙ onto_front octet some.first some.others more ∙ ap (λ ls. onto_first octet ls ++ more) (sym some.are)
+    ap (λ ls. onto_first octet (ls ++ more)) some.are ∙ onto_prefix octet some.first some.others more ∙ ap (λ ls. onto_first octet ls ++ more) (sym some.are)
 
 chosen_ended : (b : Bool) (octet : ℕ) (text more : List ℕ) → lines_of (text ++ 10 ∷ more) ≡ lines_of (text ++ 10 ∷ []) ++ lines_of more
     → cond b ((octet ∷ []) ∷ lines_of (text ++ 10 ∷ more)) (onto_first octet (lines_of (text ++ 10 ∷ more)))

@@ -1,5 +1,5 @@
 ghost use Rattle.std.specs.Prelude.{◌≡◌, ◌++◌, OnOk, OnErr};
-ghost use Rattle.scenario_words.specs.Fronts.{AFront};
+ghost use Rattle.scenario_words.specs.Prefixes.{APrefix};
 ghost use Rattle.transcript_text.specs.Lines.{heard_line, hearing_name, hearing_number};
 
 use crate::word::put_named;
@@ -36,10 +36,10 @@ fn number_of(hearing: Hearing) -> Option<u64>
 
 /// Puts the line of what a sink made of a PDU, with the number of the fault where it is malformed.
 ///
-/// After Memory a front of the line stands at the end of the text.
+/// After Memory a prefix of the line stands at the end of the text.
 pub fn put_heard(text: &mut Octets, sink: u8, hearing: Hearing) -> Result<(), Memory>
     ensures ok { OnOk result (text.new ≡ text.old ++ heard_line sink hearing) }
-    ensures err { OnErr result (AFront text.old text.new (heard_line sink hearing)) }
+    ensures err { OnErr result (APrefix text.old text.new (heard_line sink hearing)) }
 {
     let sink = Word::Number(u64::from(sink));
     put_named(text, b"heard", sink, name_of(hearing), number_of(hearing))

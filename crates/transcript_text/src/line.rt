@@ -1,5 +1,5 @@
 ghost use Rattle.std.specs.Prelude.{◌≡◌, ◌++◌, OnOk, OnErr};
-ghost use Rattle.scenario_words.specs.Fronts.{AFront};
+ghost use Rattle.scenario_words.specs.Prefixes.{APrefix};
 ghost use Rattle.transcript_text.specs.Lines.{valid_line, lost_line, dropped_line, dropped_name};
 ghost use Rattle.transcript_text.specs.Lines.{pdu_line, stale_line, control_line, sum_line};
 
@@ -10,7 +10,7 @@ use scenario_words::Word;
 
 /// Puts the line of a unit that was rebuilt, with its time in µs.
 ///
-/// After Memory a front of the line stands at the end of the text.
+/// After Memory a prefix of the line stands at the end of the text.
 pub fn put_valid(
     text: &mut Octets,
     sink: u8,
@@ -19,7 +19,7 @@ pub fn put_valid(
     octets: &[u8],
 ) -> Result<(), Memory>
     ensures ok { OnOk result (text.new ≡ text.old ++ valid_line sink bis time octets.now) }
-    ensures err { OnErr result (AFront text.old text.new (valid_line sink bis time octets.now)) }
+    ensures err { OnErr result (APrefix text.old text.new (valid_line sink bis time octets.now)) }
 {
     put_line(
         text,
@@ -38,10 +38,10 @@ pub fn put_valid(
 
 /// Puts the line of a unit that was not rebuilt, with its time in µs.
 ///
-/// After Memory a front of the line stands at the end of the text.
+/// After Memory a prefix of the line stands at the end of the text.
 pub fn put_lost(text: &mut Octets, sink: u8, bis: u8, time: u64) -> Result<(), Memory>
     ensures ok { OnOk result (text.new ≡ text.old ++ lost_line sink bis time) }
-    ensures err { OnErr result (AFront text.old text.new (lost_line sink bis time)) }
+    ensures err { OnErr result (APrefix text.old text.new (lost_line sink bis time)) }
 {
     put_line(
         text,
@@ -69,10 +69,10 @@ fn dropped_name_of(reason: Refusal) -> &'static [u8]
 /// Puts the line of a unit of a stream that the relay of a sink offers and that isn't taken, where a `unit` line of it would be
 /// refused for this reason: NotStreaming stands for Order.
 ///
-/// After Memory a front of the line stands at the end of the text.
+/// After Memory a prefix of the line stands at the end of the text.
 pub fn put_dropped(text: &mut Octets, sink: u8, bis: u8, reason: Refusal) -> Result<(), Memory>
     ensures ok { OnOk result (text.new ≡ text.old ++ dropped_line sink bis reason) }
-    ensures err { OnErr result (AFront text.old text.new (dropped_line sink bis reason)) }
+    ensures err { OnErr result (APrefix text.old text.new (dropped_line sink bis reason)) }
 {
     put_line(
         text,
@@ -88,7 +88,7 @@ pub fn put_dropped(text: &mut Octets, sink: u8, bis: u8, reason: Refusal) -> Res
 
 /// Puts the line of a PDU that an event sent.
 ///
-/// After Memory a front of the line stands at the end of the text.
+/// After Memory a prefix of the line stands at the end of the text.
 pub fn put_pdu(
     text: &mut Octets,
     event: u64,
@@ -97,7 +97,7 @@ pub fn put_pdu(
     octets: &[u8],
 ) -> Result<(), Memory>
     ensures ok { OnOk result (text.new ≡ text.old ++ pdu_line event bis subevent octets.now) }
-    ensures err { OnErr result (AFront text.old text.new (pdu_line event bis subevent octets.now)) }
+    ensures err { OnErr result (APrefix text.old text.new (pdu_line event bis subevent octets.now)) }
 {
     put_line(
         text,
@@ -113,10 +113,10 @@ pub fn put_pdu(
 
 /// Puts the line of a unit that a framed stream left out, with its time in µs.
 ///
-/// After Memory a front of the line stands at the end of the text.
+/// After Memory a prefix of the line stands at the end of the text.
 pub fn put_stale(text: &mut Octets, bis: u8, time: u64) -> Result<(), Memory>
     ensures ok { OnOk result (text.new ≡ text.old ++ stale_line bis time) }
-    ensures err { OnErr result (AFront text.old text.new (stale_line bis time)) }
+    ensures err { OnErr result (APrefix text.old text.new (stale_line bis time)) }
 {
     put_line(
         text,
@@ -127,20 +127,20 @@ pub fn put_stale(text: &mut Octets, bis: u8, time: u64) -> Result<(), Memory>
 
 /// Puts the line of the PDU that ends a group.
 ///
-/// After Memory a front of the line stands at the end of the text.
+/// After Memory a prefix of the line stands at the end of the text.
 pub fn put_control(text: &mut Octets, octets: &[u8]) -> Result<(), Memory>
     ensures ok { OnOk result (text.new ≡ text.old ++ control_line octets.now) }
-    ensures err { OnErr result (AFront text.old text.new (control_line octets.now)) }
+    ensures err { OnErr result (APrefix text.old text.new (control_line octets.now)) }
 {
     put_line(text, b"control", &[Word::Octets(octets)])
 }
 
 /// Puts the line of a sink's sums: the units that its box took, and their octets.
 ///
-/// After Memory a front of the line stands at the end of the text.
+/// After Memory a prefix of the line stands at the end of the text.
 pub fn put_sum(text: &mut Octets, sink: u8, units: u64, octets: u64) -> Result<(), Memory>
     ensures ok { OnOk result (text.new ≡ text.old ++ sum_line sink units octets) }
-    ensures err { OnErr result (AFront text.old text.new (sum_line sink units octets)) }
+    ensures err { OnErr result (APrefix text.old text.new (sum_line sink units octets)) }
 {
     put_line(
         text,

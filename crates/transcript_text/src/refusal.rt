@@ -1,5 +1,5 @@
 ghost use Rattle.std.specs.Prelude.{◌≡◌, ◌++◌, OnOk, OnErr};
-ghost use Rattle.scenario_words.specs.Fronts.{AFront};
+ghost use Rattle.scenario_words.specs.Prefixes.{APrefix};
 ghost use Rattle.transcript_text.specs.Lines.{refusal_line, refusal_name, refusal_number};
 
 use crate::word::put_named;
@@ -115,10 +115,10 @@ fn number_of(reason: Refusal) -> Option<u64>
 /// Puts the line of a refusal, with the number of the line that is refused, from 1, or 0 for a document; behind BadLine stands the
 /// number of the word, and behind BadGroup that of the fault.
 ///
-/// After Memory a front of the line stands at the end of the text.
+/// After Memory a prefix of the line stands at the end of the text.
 pub fn put_refusal(text: &mut Octets, line: u64, reason: Refusal) -> Result<(), Memory>
     ensures ok { OnOk result (text.new ≡ text.old ++ refusal_line line reason) }
-    ensures err { OnErr result (AFront text.old text.new (refusal_line line reason)) }
+    ensures err { OnErr result (APrefix text.old text.new (refusal_line line reason)) }
 {
     put_named(
         text,

@@ -65,7 +65,7 @@ impl Units {
         let Some(event) = self.schedule(source).event(0) else {
             return Ok(());
         };
-        let mut spot = event
+        let mut position = event
             .saturating_mul(numbers.num_bis)
             .saturating_mul(numbers.nse);
         'streams: for index in 1..32u8 {
@@ -73,9 +73,9 @@ impl Units {
                 break 'streams;
             }
             if let Some(bis) = Bis::new(index) {
-                self.air_stream(machine, source, sink, lose, event, spot, bis)?;
+                self.air_stream(machine, source, sink, lose, event, position, bis)?;
             }
-            spot = spot.saturating_add(numbers.nse);
+            position = position.saturating_add(numbers.nse);
         }
         Ok(())
     }

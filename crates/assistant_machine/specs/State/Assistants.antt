@@ -1,6 +1,6 @@
 -- What an assistant keeps, the calls that it stands for, and what each call makes of it.
 use Rattle.std.specs.Prelude.{All, ℕ, ◌≡◌, ◌<◌, ◌≤◌, ◌++◌, ◌∷◌, [], nat_lt, Bool, true, false, List, length, replicate, slice_get, slice_set, Option, Some, None, if◌then◌else◌}
-use Rattle.receive_state.specs.Layout.{HasSpelling}
+use Rattle.receive_state.specs.Layout.{HasEncoding}
 use Rattle.receive_state.specs.declared.state.ReceiveState.{ReceiveState}
 use Rattle.assistant_machine.specs.Calls.{Call, mtu_of, sent_of, waiting_of, writes_of}
 use Rattle.assistant_machine.specs.Cuts.{asks}
@@ -13,16 +13,16 @@ pub record Assistant : Type 0 where
   pub views : List (Option ReceiveState)
   pub reads : List Bool
 
--- the view of a slot is spelled by octets
-abbrev pub IsSpelledView : Option ReceiveState → Type 0
-IsSpelledView None = Unit {0}
-IsSpelledView (Some state) = HasSpelling state
+-- the view of a slot is encoded by octets
+abbrev pub IsEncodedView : Option ReceiveState → Type 0
+IsEncodedView None = Unit {0}
+IsEncodedView (Some state) = HasEncoding state
 
--- what is true of every assistant: it has as many views as reads, at most 255, and each view is spelled by octets
+-- what is true of every assistant: it has as many views as reads, at most 255, and each view is encoded by octets
 pub record Keeps (views reads : ℕ) (states : List (Option ReceiveState)) : Type 0 where
   pub same : views ≡ reads
   pub few : reads < 256
-  pub spelled : All IsSpelledView states
+  pub encoded : All IsEncodedView states
 
 -- the assistant has so many slots and is as these calls leave it
 pub record StandsFor (slots : ℕ) (calls : List Call) (assistant : Assistant) : Type 0 where

@@ -3,7 +3,7 @@ use Rattle.std.specs.Prelude.{ℕ, ◌<◌, ◌≤◌, ◌^◌, List, length, Op
 use Rattle.std.specs.List.{AllByRecursion}
 use Rattle.bass_operations.specs.declared.wishes.Wish.{Wish}
 use Rattle.delegator_history.specs.declared.source.Source.{Source}
-use Rattle.delegator_history.specs.Sights.{Entry}
+use Rattle.delegator_history.specs.Snapshots.{Entry}
 use Rattle.delegator_history.specs.Trains.{is_wanted}
 use Rattle.delegator_history.specs.Writes.{has_id, has_source}
 use Rattle.delegator_choices.specs.declared.search.Sought.{Sought}

@@ -1,9 +1,9 @@
 -- A train that is heard, and that some train brings what the code tells.
 use Rattle.std.specs.Prelude.{◌≡◌}
 use Rattle.delegator_history.specs.Trains as trains
-use Rattle.delegator_history.specs.Trains.{brought_by}
-use Rattle.delegator_choices.specs.declared.brought.Brought.{Brought}
-use Rattle.delegator_choices.specs.State.Brings.{brought_of}
+use Rattle.delegator_history.specs.Trains.{outcome_by}
+use Rattle.delegator_choices.specs.declared.outcome.TrainOutcome.{TrainOutcome}
+use Rattle.delegator_choices.specs.State.Brings.{outcome_of}
 use Rattle.delegator_control.specs.declared.train.Train.{Train}
 use Rattle.delegator_control.specs.State.Machines.{Machine}
 
@@ -18,6 +18,6 @@ train_of train = record {
 }
 
 -- some train brings this to the machine
-pub record IsBrought (brought : Brought) (m : Machine) : Type 0 where
+pub record IsOutcome (outcome : TrainOutcome) (m : Machine) : Type 0 where
   pub train : trains.Train
-  pub is : brought_of brought ≡ brought_by m.setup m.sight train
+  pub is : outcome_of outcome ≡ outcome_by m.setup m.snapshot train

@@ -6,7 +6,7 @@ use Rattle.bass_operations.specs.declared.operation.Operation.TheVariants.{Add, 
 use Rattle.bcast_base.specs.declared.memory.Memory.{Memory}
 use Rattle.delegator_history.specs.declared.notice.Notice.{Notice}
 use Rattle.delegator_history.specs.Notices.{change}
-use Rattle.delegator_history.specs.Sights.{Entry}
+use Rattle.delegator_history.specs.Snapshots.{Entry}
 use Rattle.delegator_history.specs.Writes.{entry_of}
 use Rattle.delegator_choices.specs.State.Slots.{EntryFits}
 

@@ -5,7 +5,7 @@ use Rattle.bass_operations.specs.declared.wishes.Wish.{Wish}
 use Rattle.bcast_base.specs.Layout.{laid}
 use Rattle.bcast_base.specs.Subgroups.{subgroup_fields}
 use Rattle.receive_state.specs.Layout.{group_of}
-use Rattle.delegator_history.specs.Sights.{Sight}
+use Rattle.delegator_history.specs.Snapshots.{Snapshot}
 use Rattle.delegator_history.specs.Values as values
 use Rattle.delegator_history.specs.Values.{groups_from, status_of}
 use Rattle.delegator_control.specs.declared.values.Status.{Status}
@@ -14,8 +14,8 @@ abbrev pub status_seen : Status → values.Status
 status_seen status = record { is_synced = status.is_synced; is_encrypted = status.is_encrypted; bits = status.bits.now }
 
 -- how a sink that has this stands to a slot
-abbrev pub status_at : ℕ → Sight → values.Status
-status_at slot sight = status_of sight.place sight.encrypted sight.taken slot
+abbrev pub status_at : ℕ → Snapshot → values.Status
+status_at slot snapshot = status_of snapshot.place snapshot.encrypted snapshot.taken slot
 
 -- the octets of the subgroups that are wanted, of which the first is the one at this place
 abbrev pub groups_laid : ℕ → List ℕ → List Wish → List ℕ

@@ -3,7 +3,7 @@ use Rattle.std.specs.Prelude.{ℕ, ◌≡◌, ◌-◌, List, length, map, Option
 use Rattle.std.specs.List.{filter, range_with_len}
 use Rattle.big_info.specs.declared.info.BigInfo.{BigInfo}
 use Rattle.group_sink.specs.Calls.{Call, place}
-use Rattle.sync_reference.specs.Joining.{Joining}
+use Rattle.sync_reference.specs.BigSync.{BigSync}
 use Rattle.group_sink.specs.Streams.{is_in, stay_on, stream_calls, streams_of}
 use Rattle.group_sink.specs.State.Receivers.{receiver_after}
 use Rattle.group_sink.specs.declared.receiver.Receiver.{Receiver}
@@ -22,14 +22,14 @@ place_in set bis = if is_in set bis then length (filter (is_in set) (range_with_
 abbrev pub places_of : ℕ → List ℕ
 places_of set = map (place_in set) (range_with_len 1 31)
 
-abbrev pub stream_after : Joining → List Call → ℕ → Receiver
-stream_after joining calls bis = receiver_after (stay_on joining bis) (stream_calls (stay_on joining bis) calls)
+abbrev pub stream_after : BigSync → List Call → ℕ → Receiver
+stream_after big_sync calls bis = receiver_after (stay_on big_sync bis) (stream_calls (stay_on big_sync bis) calls)
 
-abbrev pub on_after : List Call → Joining → OnGroup
-on_after calls joining = record {
-  info = joining.info;
-  places = places_of joining.which;
-  streams = map (stream_after joining calls) (streams_of joining.which);
+abbrev pub on_after : List Call → BigSync → OnGroup
+on_after calls big_sync = record {
+  info = big_sync.info;
+  places = places_of big_sync.which;
+  streams = map (stream_after big_sync calls) (streams_of big_sync.which);
 }
 
 -- the sink is where these calls left it, and each stream keeps what it heard

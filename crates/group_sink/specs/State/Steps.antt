@@ -4,26 +4,26 @@ use Rattle.std.specs.List.{flat_map}
 use Rattle.unit_outlets.specs.Handed.{Handed}
 use Rattle.isoal_base.specs.declared.hearing.Hearing.{Hearing}
 use Rattle.isoal_base.specs.declared.hearing.Hearing.TheVariants as hearings
-use Rattle.sync_reference.specs.Joining.{Joining}
+use Rattle.sync_reference.specs.BigSync.{BigSync}
 use Rattle.group_sink.specs.State.Receivers.{fresh, open_of, answer_by, hear_by, owed_of, closed}
 use Rattle.group_sink.specs.State.Sinks.{OnGroup, places_of}
 use Rattle.group_sink.specs.Streams.{is_in, number_of, stay_on, streams_of}
 use Rattle.group_sink.specs.declared.receiver.Receiver.{Receiver}
 
--- the receiver of a stream, where it is taken, and those of all that are, as the sink is put on the group
-abbrev pub fresh_at : Joining → ℕ → Option Receiver
-fresh_at joining bis = if is_in joining.which bis then Some (fresh (stay_on joining bis)) else None
+-- the receiver of a stream, where it is taken, and those of all that are, as the sink is synchronized to the BIG
+abbrev pub fresh_at : BigSync → ℕ → Option Receiver
+fresh_at big_sync bis = if is_in big_sync.which bis then Some (fresh (stay_on big_sync bis)) else None
 
-abbrev pub fresh_on : Joining → OnGroup
-fresh_on joining = record {
-  info = joining.info;
-  places = places_of joining.which;
-  streams = map (λ bis. fresh (stay_on joining bis)) (streams_of joining.which);
+abbrev pub fresh_on : BigSync → OnGroup
+fresh_on big_sync = record {
+  info = big_sync.info;
+  places = places_of big_sync.which;
+  streams = map (λ bis. fresh (stay_on big_sync bis)) (streams_of big_sync.which);
 }
 
 -- these receivers are for this group, and heard nothing yet
-abbrev pub AreFor : Joining → OnGroup → Type 0
-AreFor joining receivers = receivers ≡ fresh_on joining
+abbrev pub AreFor : BigSync → OnGroup → Type 0
+AreFor big_sync receivers = receivers ≡ fresh_on big_sync
 
 -- what a receiver makes of a PDU, where there is one and the subevent has a payload number
 abbrev pub answer_at : Option ℕ → List ℕ → Option Receiver → Hearing

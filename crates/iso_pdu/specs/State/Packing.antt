@@ -2,7 +2,7 @@
 use Rattle.std.specs.Prelude.{ℕ, ◌+◌, ◌-◌, ◌≤◌, ◌≡◌, List, length, take, drop}
 use Rattle.iso_pdu.specs.Layout.{Part, framed}
 use Rattle.iso_pdu.specs.Reading.{parts_in}
-use Rattle.iso_pdu.specs.Spelling.{segments, pdu}
+use Rattle.iso_pdu.specs.Encoding.{segments, pdu}
 
 -- its greatest payload, and the segments put so far
 pub record Packed : Type 0 where
@@ -20,4 +20,4 @@ packed_in max_pdu end octets = record { max_pdu = max_pdu; parts = parts_in (dro
 pub record IsPacked (max_pdu end : ℕ) (octets : List ℕ) : Type 0 where
   pub greatest : max_pdu ≤ 251
   pub within : end ≤ max_pdu + 2
-  pub spelled : take end octets ≡ pdu (framed (parts_in (drop 2 (take end octets))))
+  pub encoded : take end octets ≡ pdu (framed (parts_in (drop 2 (take end octets))))

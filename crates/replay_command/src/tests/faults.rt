@@ -64,7 +64,7 @@ fn second_failing_box(alloc: Global, takes: Calls) -> Option<Vec<Box<dyn Outlet>
     Some(outlets)
 }
 
-/// Whether a status may come with what was written: a front of the transcript, and all of it at the end.
+/// Whether a status may come with what was written: a prefix of the transcript, and all of it at the end.
 fn may_end(status: Status, written: &[u8]) -> bool {
     let transcript = WHOLE_LIFE_TRANSCRIPT.as_bytes();
     if status == Status::Done {

@@ -72,8 +72,8 @@ pub record Told (starts ends : List Account) (lines : List TextLine) (counts : C
   pub counted : counts ≡ counts_of (transcript_of airs_of starts lines)
   pub boxes : Took starts ends (units_of airs_of starts lines)
 
--- the boxes took a front of the units of these lines
-pub record FrontTaken (starts ends : List Account) (lines : List TextLine) : Type 0 where
+-- the boxes took a prefix of the units of these lines
+pub record PrefixTaken (starts ends : List Account) (lines : List TextLine) : Type 0 where
   pub done : List SinkUnit
   pub rest : List SinkUnit
   pub split : units_of airs_of starts lines ≡ done ++ rest
@@ -84,7 +84,7 @@ abbrev pub Ran : List Account → List Account → List TextLine → Counts → 
 Ran starts ends lines counts endings.Through = Told starts ends lines counts through
 Ran starts ends lines counts (endings.Refused line reason) = Told starts ends lines counts (refused line reason)
 Ran starts ends lines counts endings.OutletFault = BoxFailed airs_of starts ends lines
-Ran starts ends lines counts endings.Memory = FrontTaken starts ends lines
+Ran starts ends lines counts endings.Memory = PrefixTaken starts ends lines
 
 -- ---- the summary
 

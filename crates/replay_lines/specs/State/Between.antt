@@ -4,7 +4,7 @@ use Rattle.std.specs.Prelude.{ℕ, ◌≡◌, ◌+◌, Bool, true, false, List, 
 use Rattle.std.specs.Io.KnownBytes.{Appends, Consumes, IsAtEnd}
 use Rattle.bcast_io.specs.TextLines.{TextLine, plain, too_long, past, lines_of}
 use Rattle.bcast_io.specs.State.Reading.{Reading, IsSound, MayFollow, lines_after}
-use Rattle.bcast_io.specs.Writing.{AppendsFront, AppendsShort}
+use Rattle.bcast_io.specs.Writing.{AppendsPrefix, AppendsShort}
 use Rattle.bcast_io.specs.declared.line_reader.LineRead.{LineRead}
 use Rattle.bcast_io.specs.declared.line_reader.LineRead.TheVariants.{Line, LineTooLong, TextTooLong, End}
 use Rattle.bcast_io.specs.declared.source.Failed.{Failed}
@@ -59,7 +59,7 @@ abbrev pub Refuses : ℕ → Refusal → Option (List ℕ) → Option (List ℕ)
 Refuses number reason kept kept' (endings.Refused line why) =
     (line ≡ number) × (why ≡ reason) × Appends kept kept' (refusal_line number reason)
 Refuses number reason kept kept' endings.WriteFault = AppendsShort kept kept' (refusal_line number reason)
-Refuses number reason kept kept' endings.Memory = AppendsFront kept kept' (refusal_line number reason)
+Refuses number reason kept kept' endings.Memory = AppendsPrefix kept kept' (refusal_line number reason)
 Refuses number reason kept kept' _ = ⊥
 
 -- octets were put to a sink, or why not all of them

@@ -2,7 +2,7 @@
 use Rattle.std.specs.Prelude.{ℕ, ◌≡◌, ◌≢◌, List, Option, Some, Ok, Err}
 use Rattle.std.specs.Io.KnownBytes.{Appends}
 use Rattle.bcast_base.specs.Counts.{Rose}
-use Rattle.bcast_io.specs.Writing.{AppendsFront, AppendsShort}
+use Rattle.bcast_io.specs.Writing.{AppendsPrefix, AppendsShort}
 use Rattle.replay_lines.specs.Promised.{Promised}
 use Rattle.replay_lines.specs.World.{World}
 use Rattle.replay_lines.specs.declared.ending.Ending.{Ending}
@@ -16,7 +16,7 @@ use Rattle.replay_lines.specs.Standing.{Standing, refused_for, stands_for, cause
 abbrev pub Refuses : Cause → Option (List ℕ) → Option (List ℕ) → TomlEnding → Type 0
 Refuses cause kept kept' (Err why) = (why ≡ cause) × Appends kept kept' (cause_line cause)
 Refuses cause kept kept' (Ok endings.WriteFault) = AppendsShort kept kept' (cause_line cause)
-Refuses cause kept kept' (Ok endings.Memory) = AppendsFront kept kept' (cause_line cause)
+Refuses cause kept kept' (Ok endings.Memory) = AppendsPrefix kept kept' (cause_line cause)
 Refuses cause kept kept' (Ok _) = ⊥
 
 -- a document was refused, and no box was called

@@ -4,7 +4,7 @@ use Rattle.std.proofs.Common.{ap}
 use Rattle.std.proofs.lemmas.Bool.{and_right, false≢true, ne_eqb, cond-false}
 use Rattle.delegator_machine.specs.Groups.{with_leave}
 use Rattle.delegator_history.specs.States.{train_heard}
-use Rattle.delegator_history.specs.Trains.{Brought, Settings, Train, joining_in}
+use Rattle.delegator_history.specs.Trains.{TrainOutcome, Settings, Train, big_sync_in}
 use Rattle.group_sink.specs.Calls.{Call}
 use Rattle.sink_history.specs.Calls as links
 use Rattle.scenario_text.specs.declared.step.Step.{Step}
@@ -13,14 +13,14 @@ use Rattle.scenario_history.specs.Sinks.{is_of, sink_calls, source_of, ticked_if
 use Rattle.scenario_history.specs.Source.{open_event}
 use Rattle.source_machine.specs.Airs.{Airs}
 use Rattle.scenario_history.specs.Steps.{chosen_of, chosen_steps, is_common, is_of_source, is_source_line}
-use Rattle.scenario_history.specs.Worlds.{life, source_at}
-use Rattle.sink_history.specs.Lives.{Source, given_train, lived_by, made_of, own_train}
+use Rattle.scenario_history.specs.Worlds.{calls_made, source_at}
+use Rattle.sink_history.specs.History.{Source, given_train, calls_by, made_of, own_train}
 use Rattle.sink_history.specs.Moves.{follows, follows_by, received_by, train_by}
 use Rattle.scenario_laws.specs.Isolation.{puts}
-use Rattle.scenario_laws.proofs.Isolating.Lives.{ignores}
+use Rattle.scenario_laws.proofs.Isolating.Histories.{ignores}
 use Rattle.scenario_laws.proofs.Isolating.Left.{Leaves, lives_equal, lives_itself}
 use Rattle.scenario_laws.proofs.Isolating.Said.{said_elsewhere}
-use Rattle.scenario_laws.proofs.Isolating.Same.{LivesAlike}
+use Rattle.scenario_laws.proofs.Isolating.Same.{HistoriesAlike}
 use Rattle.scenario_laws.proofs.Isolating.Units.{closing_none}
 use Rattle.scenario_laws.proofs.Moves.{same_if}
 
@@ -34,12 +34,12 @@ not_common step is = grind (arith, false≢true)
 -- ---- a train that isn't followed
 
 train_lives : (hit : Bool) (source : Source) (train : Train) (made : Option Settings) (a : List links.Call)
-    → (hit && follows_by source (Some train) made a) ≡ false → LivesAlike made (cond hit (links.stepped (train_heard train) ∷ a) a) a
+    → (hit && follows_by source (Some train) made a) ≡ false → HistoriesAlike made (cond hit (links.stepped (train_heard train) ∷ a) a) a
 train_lives true source train None a not = tt
 train_lives true source train (Some made) a not = ignores made.setup made.mtu train a not
 train_lives false source train made a not = lives_itself made a
 
-not_joined : (brought : Brought) → follows brought ≡ false → joining_in brought ≡ None
+not_joined : (brought : TrainOutcome) → follows brought ≡ false → big_sync_in brought ≡ None
 not_joined brought not = grind (arith, false≢true)
 
 not_left : (on : Bool) (calls : List Call) → with_leave on on calls ≡ calls
@@ -48,23 +48,23 @@ not_left false calls = refl
 
 train_received : (hit : Bool) (source : Source) (line : Step) (train : Train) (made : Option Settings) (a a' : List links.Call)
     (calls : List Call)
-    → train_by source line ≡ Some train → (hit && follows_by source (Some train) made a) ≡ false → LivesAlike made (cond hit a' a) a
+    → train_by source line ≡ Some train → (hit && follows_by source (Some train) made a) ≡ false → HistoriesAlike made (cond hit a' a) a
     → cond hit (received_by source line made a (cond hit a' a) calls) calls ≡ calls
 train_received hit source line train made a a' calls is not same = grind (arith, not_joined, not_left)
 
--- ---- the life
+-- ---- the history
 
-life_stays : (n : ℕ) (step : Step) (made : List Step) → is_source_line step ≡ true → puts n made step ≡ false
-    → LivesAlike (made_of n made) (life n (step ∷ made)) (life n made)
-life_stays n (steps.Tuned sink which) made is not = search (lives_equal, cond-false)
-life_stays n (steps.Announce sink) made is not =
-    train_lives (sink == n) (source_at made) (own_train (source_at made)) (made_of n made) (life n made) not
-life_stays n (steps.Train sink time ext adv acad) made is not =
-    train_lives (sink == n) (source_at made) (given_train (source_at made) time ext adv acad) (made_of n made) (life n made) not
-life_stays n (steps.Hear sink back bis subevent) made is not = search (lives_equal, same_if)
-life_stays n (steps.Air sink lose) made is not = search (lives_equal, same_if)
-life_stays n (steps.Inject sink back bis subevent octets) made is not = search (lives_equal, same_if)
-life_stays n _ made is not = search (false≢true, lives_itself (made_of n made) (life n made))
+history_stays : (n : ℕ) (step : Step) (made : List Step) → is_source_line step ≡ true → puts n made step ≡ false
+    → HistoriesAlike (made_of n made) (calls_made n (step ∷ made)) (calls_made n made)
+history_stays n (steps.Tuned sink which) made is not = search (lives_equal, cond-false)
+history_stays n (steps.Announce sink) made is not =
+    train_lives (sink == n) (source_at made) (own_train (source_at made)) (made_of n made) (calls_made n made) not
+history_stays n (steps.Train sink time ext adv acad) made is not =
+    train_lives (sink == n) (source_at made) (given_train (source_at made) time ext adv acad) (made_of n made) (calls_made n made) not
+history_stays n (steps.Hear sink back bis subevent) made is not = search (lives_equal, same_if)
+history_stays n (steps.Air sink lose) made is not = search (lives_equal, same_if)
+history_stays n (steps.Inject sink back bis subevent octets) made is not = search (lives_equal, same_if)
+history_stays n _ made is not = search (false≢true, lives_itself (made_of n made) (calls_made n made))
 
 -- ---- the source that it is of
 
@@ -83,14 +83,14 @@ calls_stay : (airs : Airs) (n : ℕ) (step : Step) (made : List Step) → is_sou
     → is_of (chosen_of made) (source_of n made) ≡ false → sink_calls airs n (step ∷ made) ≡ sink_calls airs n made
 calls_stay airs n (steps.Tuned sink which) made is not apart = search (cond-false)
 calls_stay airs n (steps.Announce sink) made is not apart =
-    train_received (sink == n) (source_at made) (steps.Announce sink) (own_train (source_at made)) (made_of n made) (life n made)
-    (lived_by (source_at made) (steps.Announce sink) (made_of n made) (life n made)) (sink_calls airs n made) refl not
-    (life_stays n (steps.Announce sink) made is not)
+    train_received (sink == n) (source_at made) (steps.Announce sink) (own_train (source_at made)) (made_of n made) (calls_made n made)
+    (calls_by (source_at made) (steps.Announce sink) (made_of n made) (calls_made n made)) (sink_calls airs n made) refl not
+    (history_stays n (steps.Announce sink) made is not)
 calls_stay airs n (steps.Train sink time ext adv acad) made is not apart =
     train_received (sink == n) (source_at made) (steps.Train sink time ext adv acad) (given_train (source_at made) time ext adv acad)
-    (made_of n made) (life n made)
-    (lived_by (source_at made) (steps.Train sink time ext adv acad) (made_of n made) (life n made)) (sink_calls airs n made) refl not
-    (life_stays n (steps.Train sink time ext adv acad) made is not)
+    (made_of n made) (calls_made n made)
+    (calls_by (source_at made) (steps.Train sink time ext adv acad) (made_of n made) (calls_made n made)) (sink_calls airs n made) refl not
+    (history_stays n (steps.Train sink time ext adv acad) made is not)
 calls_stay airs n (steps.Hear sink back bis subevent) made is not apart = search (cond-false, and_right)
 calls_stay airs n (steps.Air sink lose) made is not apart = search (cond-false, and_right)
 calls_stay airs n (steps.Inject sink back bis subevent octets) made is not apart = search (cond-false, and_right)
@@ -104,4 +104,4 @@ not_own s step made is other = cc (not_common step is, and_right (is_source_line
 pub elsewhere : (airs : Airs) (s n : ℕ) (step : Step) (made : List Step) → is_source_line step ≡ true → chosen_of made ≢ s
     → puts n made step ≡ false → is_of (chosen_of made) (source_of n made) ≡ false → Leaves airs s n step made
 elsewhere airs s n step made is other not apart =
-    grind (arith, said_elsewhere, not_own, life_stays, source_stays, calls_stay, false≢true, closing_none)
+    grind (arith, said_elsewhere, not_own, history_stays, source_stays, calls_stay, false≢true, closing_none)

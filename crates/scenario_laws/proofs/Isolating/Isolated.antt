@@ -12,15 +12,15 @@ use Rattle.unit_outlets.specs.Account.{Account}
 use Rattle.scenario_history.specs.Lines.{steps_of}
 use Rattle.source_machine.specs.Airs.{Airs}
 use Rattle.scenario_history.specs.Steps.{chosen_of, is_common, is_source_line}
-use Rattle.scenario_history.specs.Worlds.{life}
-use Rattle.scenario_laws.specs.Isolation.{IsIsolated, IsSameLife, IsolationLaw, NoOtherPuts, kept_lines, lines_by, lines_of, puts}
+use Rattle.scenario_history.specs.Worlds.{calls_made}
+use Rattle.scenario_laws.specs.Isolation.{IsIsolated, IsSameHistory, IsolationLaw, NoOtherPuts, kept_lines, lines_by, lines_of, puts}
 use Rattle.scenario_laws.specs.Only.{chooses, is_kept, is_other, is_sink, only, sink_in}
 use Rattle.scenario_laws.proofs.Isolating.Elsewhere.{elsewhere}
 use Rattle.scenario_laws.proofs.Isolating.Kept.{Means, kept}
 use Rattle.scenario_laws.proofs.Isolating.Left.{another_sink, left_out}
 use Rattle.scenario_laws.proofs.Isolating.Lines.{replied_same}
-use Rattle.scenario_laws.proofs.Isolating.Lives.{Alike, notices_same, waiting_same}
-use Rattle.scenario_laws.proofs.Isolating.Same.{LivesAlike, Same}
+use Rattle.scenario_laws.proofs.Isolating.Histories.{Alike, notices_same, waiting_same}
+use Rattle.scenario_laws.proofs.Isolating.Same.{HistoriesAlike, Same}
 use Rattle.scenario_laws.proofs.Isolating.Printed.{lines_same, append_same}
 
 -- ---- why a step is left out
@@ -93,10 +93,10 @@ lines_kept airs s n (step ∷ made) puts_not =
 
 -- ---- the law
 
-same_life : (made : Settings) (a b : List Call) → Alike made.setup made.mtu a b → IsSameLife made a b
-same_life made a b same = record {
-  sight = same.sight;
-  states = λ slot. ap (λ sight. state_at sight slot) same.sight;
+same_history : (made : Settings) (a b : List Call) → Alike made.setup made.mtu a b → IsSameHistory made a b
+same_history made a b same = record {
+  snapshot = same.snapshot;
+  states = λ slot. ap (λ snapshot. state_at snapshot slot) same.snapshot;
   joined = same.joined;
   writes = λ link. waiting_same made.setup made.mtu link a b same;
   replies = λ link. replied_same made link a b same;
@@ -113,8 +113,8 @@ isolated airs s n made puts_not =
       calls = same.calls;
       units = same.units;
       sums = same.took;
-      lives = λ sink is. same_life sink (life n made) (life n (only s n made))
-          (subst (λ m. LivesAlike m (life n made) (life n (only s n made))) is same.lives);
+      lives = λ sink is. same_history sink (calls_made n made) (calls_made n (only s n made))
+          (subst (λ m. HistoriesAlike m (calls_made n made) (calls_made n (only s n made))) is same.lives);
       lines = lines_kept airs s n made puts_not;
     }
 

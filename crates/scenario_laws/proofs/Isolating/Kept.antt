@@ -11,12 +11,12 @@ use Rattle.scenario_history.specs.Sinks.{is_of, reaches, sink_calls, source_of, 
 use Rattle.scenario_history.specs.Source.{open_event}
 use Rattle.source_machine.specs.Airs.{Airs}
 use Rattle.scenario_history.specs.Steps.{chosen_given, chosen_of, is_source_line, steps_of_source}
-use Rattle.scenario_history.specs.Worlds.{life, source_at}
-use Rattle.sink_history.specs.Lives.{made_of, version_given}
+use Rattle.scenario_history.specs.Worlds.{calls_made, source_at}
+use Rattle.sink_history.specs.History.{made_of, version_given}
 use Rattle.scenario_laws.specs.Isolation.{units_by}
-use Rattle.scenario_laws.proofs.Isolating.Moves.{Sourced, cond_same, life_grows, moved_same, sourced_same}
+use Rattle.scenario_laws.proofs.Isolating.Moves.{Sourced, cond_same, history_grows, moved_same, sourced_same}
 use Rattle.scenario_laws.proofs.Isolating.Said.{back_same, hear_same, heard_same, said_grows, tuning_same}
-use Rattle.scenario_laws.proofs.Isolating.Same.{LivesAlike, Same, chosen_alike, horizon_alike, own_alike, source_alike}
+use Rattle.scenario_laws.proofs.Isolating.Same.{HistoriesAlike, Same, chosen_alike, horizon_alike, own_alike, source_alike}
 use Rattle.scenario_laws.proofs.Isolating.Sums.{kept_took}
 use Rattle.scenario_laws.proofs.Isolating.Units.{both_alike, closing_alike, opens_alike, units_append}
 
@@ -26,7 +26,7 @@ Means s made step = is_source_line step ≡ true → chosen_of made ≡ s
 
 pub sourced : (airs : Airs) (s n : ℕ) (step : Step) (made others : List Step) → Means s made step → Same airs s n made others
     → Sourced step (source_at made) (source_at others)
-sourced airs s n step made others means same is = source_alike airs s n made others (means is) same
+sourced airs s n this made others means same is = source_alike airs s n made others (means is) same
 
 pub cond_both : {A : Type 0} (hit hit' : Bool) (x x' y y' : A) → hit ≡ hit' → x ≡ x' → y ≡ y' → cond hit x y ≡ cond hit' x' y'
 cond_both hit hit' x x' y y' hits then otherwise = ap (λ b. cond b x y) hits ∙ cond_same hit' x x' y y' then otherwise
@@ -82,7 +82,7 @@ reaches_alike : (airs : Airs) (s n sink : ℕ) (made others : List Step) → Sam
 reaches_alike airs s n sink made others same = cc (chosen_alike airs s n made others same, same.source)
 
 calls_grow : (airs : Airs) (s n : ℕ) (step : Step) (made others : List Step) → Means s made step → Same airs s n made others
-    → LivesAlike (made_of n (step ∷ made)) (life n (step ∷ made)) (life n (step ∷ others))
+    → HistoriesAlike (made_of n (step ∷ made)) (calls_made n (step ∷ made)) (calls_made n (step ∷ others))
     → sink_calls airs n (step ∷ made) ≡ sink_calls airs n (step ∷ others)
 calls_grow airs s n step made others means same later =
     grind (
@@ -136,8 +136,8 @@ units_grow airs s n step made others same =
 pub kept : (airs : Airs) (s n : ℕ) (step : Step) (made others : List Step) → Means s made step → Same airs s n made others
     → Same airs s n (step ∷ made) (step ∷ others)
 kept airs s n step made others means same =
-    let lives : LivesAlike (made_of n (step ∷ made)) (life n (step ∷ made)) (life n (step ∷ others)) =
-    life_grows n step made others (sourced airs s n step made others means same) same.sink same.lives in
+    let lives : HistoriesAlike (made_of n (step ∷ made)) (calls_made n (step ∷ made)) (calls_made n (step ∷ others)) =
+    history_grows n step made others (sourced airs s n step made others means same) same.sink same.lives in
     assumption (
       ap (option_or (chosen_given step)) same.chosen,
       said_grows s step made others (chosen_alike airs s n made others same) same.own,

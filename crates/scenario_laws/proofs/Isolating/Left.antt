@@ -14,13 +14,13 @@ use Rattle.scenario_history.specs.Boxes.{box_of, handed_by, handed_up}
 use Rattle.scenario_history.specs.Sinks.{is_of, sink_calls, source_of}
 use Rattle.source_machine.specs.Airs.{Airs}
 use Rattle.scenario_history.specs.Steps.{chosen_given, last_given, steps_of_source}
-use Rattle.scenario_history.specs.Worlds.{life}
-use Rattle.sink_history.specs.Lives.{made_of, version_given}
+use Rattle.scenario_history.specs.Worlds.{calls_made}
+use Rattle.sink_history.specs.History.{made_of, version_given}
 use Rattle.scenario_laws.specs.Isolation.{units_by}
 use Rattle.scenario_laws.specs.Only.{is_other, sink_in}
-use Rattle.scenario_laws.proofs.Isolating.Lives.{alike_itself, alike_then}
+use Rattle.scenario_laws.proofs.Isolating.Histories.{alike_itself, alike_then}
 use Rattle.scenario_laws.proofs.Isolating.Said.{Said, said_after, said_of, said_stays}
-use Rattle.scenario_laws.proofs.Isolating.Same.{LivesAlike, Same}
+use Rattle.scenario_laws.proofs.Isolating.Same.{HistoriesAlike, Same}
 use Rattle.scenario_laws.proofs.Isolating.Sums.{left_took}
 use Rattle.scenario_laws.proofs.Isolating.Units.{units_append}
 
@@ -31,19 +31,19 @@ pub record Leaves (airs : Airs) (s n : ℕ) (step : Step) (made : List Step) : T
   pub own : said_of (steps_of_source s (step ∷ made)) ≡ said_of (steps_of_source s made)
   pub version : version_given step ≡ None
   pub sink : made_of n (step ∷ made) ≡ made_of n made
-  pub lives : LivesAlike (made_of n made) (life n (step ∷ made)) (life n made)
+  pub lives : HistoriesAlike (made_of n made) (calls_made n (step ∷ made)) (calls_made n made)
   pub source : source_of n (step ∷ made) ≡ source_of n made
   pub calls : sink_calls airs n (step ∷ made) ≡ sink_calls airs n made
   pub boxed : box_of n (step ∷ made) ≡ box_of n made
   pub units : units_by n (handed_by airs made step) ≡ []
 
-pub lives_itself : (made : Option Settings) (a : List links.Call) → LivesAlike made a a
+pub lives_itself : (made : Option Settings) (a : List links.Call) → HistoriesAlike made a a
 lives_itself made a = grind (arith, alike_itself)
 
-pub lives_equal : (made : Option Settings) (a b : List links.Call) → a ≡ b → LivesAlike made a b
-lives_equal made a b is = subst (LivesAlike made a) is (lives_itself made a)
+pub lives_equal : (made : Option Settings) (a b : List links.Call) → a ≡ b → HistoriesAlike made a b
+lives_equal made a b is = subst (HistoriesAlike made a) is (lives_itself made a)
 
-lives_then : (made : Option Settings) (a b c : List links.Call) → LivesAlike made a b → LivesAlike made b c → LivesAlike made a c
+lives_then : (made : Option Settings) (a b c : List links.Call) → HistoriesAlike made a b → HistoriesAlike made b c → HistoriesAlike made a c
 lives_then made a b c first second = grind (arith, alike_then)
 
 pub left_out : (airs : Airs) (s n : ℕ) (step : Step) (made others : List Step) → Leaves airs s n step made → Same airs s n made others
@@ -53,8 +53,8 @@ left_out airs s n step made others leaves same = record {
   own = leaves.own ∙ same.own;
   version = ap (λ given. option_or given (last_of version_given made)) leaves.version ∙ same.version;
   sink = leaves.sink ∙ same.sink;
-  lives = subst (λ m. LivesAlike m (life n (step ∷ made)) (life n others)) (sym leaves.sink)
-      (lives_then (made_of n made) (life n (step ∷ made)) (life n made) (life n others) leaves.lives same.lives);
+  lives = subst (λ m. HistoriesAlike m (calls_made n (step ∷ made)) (calls_made n others)) (sym leaves.sink)
+      (lives_then (made_of n made) (calls_made n (step ∷ made)) (calls_made n made) (calls_made n others) leaves.lives same.lives);
   source = leaves.source ∙ same.source;
   apart = λ t other. ap (is_of t) leaves.source ∙ same.apart t other;
   calls = leaves.calls ∙ same.calls;
@@ -82,8 +82,8 @@ quiet n step other = grind (arith, false≢true)
 made_other : (n : ℕ) (step : Step) (made : List Step) → is_other n (sink_in step) ≡ true → made_of n (step ∷ made) ≡ made_of n made
 made_other n step made other = grind (arith, pass)
 
-life_other : (n : ℕ) (step : Step) (made : List Step) → is_other n (sink_in step) ≡ true → life n (step ∷ made) ≡ life n made
-life_other n step made other = grind (arith, pass)
+history_other : (n : ℕ) (step : Step) (made : List Step) → is_other n (sink_in step) ≡ true → calls_made n (step ∷ made) ≡ calls_made n made
+history_other n step made other = grind (arith, pass)
 
 source_other : (n : ℕ) (step : Step) (made : List Step) → is_other n (sink_in step) ≡ true → source_of n (step ∷ made) ≡ source_of n made
 source_other n step made other = grind (arith, pass)
@@ -100,7 +100,7 @@ another_sink airs s n step made other =
     let is : Quiet step = quiet n step other in assumption (
       said_stays s step made is.says,
       made_other n step made other,
-      lives_equal (made_of n made) (life n (step ∷ made)) (life n made) (life_other n step made other),
+      lives_equal (made_of n made) (calls_made n (step ∷ made)) (calls_made n made) (history_other n step made other),
       source_other n step made other,
       calls_other airs n step made other,
       box_other n step made other,

@@ -2,36 +2,36 @@
 use Rattle.std.proofs.Common.{ℕ, zero, suc, ◌≡◌, ◌∙◌, List, [], ◌∷◌, ◌++◌, length, map, Option, refl, ap, arith}
 use Rattle.std.specs.Prelude.{codes, decimal, option_map, slice_get}
 use Rattle.std.specs.List.{flat_map, range_with_len}
-use Rattle.delegator_history.specs.Trains.{Settings, Train, answer_of, brought_by}
+use Rattle.delegator_history.specs.Trains.{Settings, Train, answer_of, outcome_by}
 use Rattle.delegator_history.specs.Values.{state_at, value}
 use Rattle.sink_history.specs.Calls.{Call, writes_waiting}
-use Rattle.sink_history.specs.Drains.{served_out, told_out}
+use Rattle.sink_history.specs.Drains.{served_out, notified_out}
 use Rattle.sink_history.specs.Links.{language, notices_waiting, reads_waiting}
 use Rattle.assistant_machine.specs.Links.{view_of}
 use Rattle.scenario_text.specs.declared.step.Step.{Step}
 use Rattle.scenario_text.specs.declared.step.Step.TheVariants as steps
 use Rattle.transcript_text.specs.SinkLines.{Label, reply_line, sink_line, train_words, value_line}
-use Rattle.sink_history.specs.Lives.{Source}
-use Rattle.sink_history.specs.Output.{Lines, drain_lines, heard_line, if_there, notified, printed_of, printed_where, read_line}
+use Rattle.sink_history.specs.History.{Source}
+use Rattle.sink_history.specs.Output.{Lines, drain_lines, heard_line, if_there, notice_delivered, printed_of, printed_where, read_line}
 use Rattle.sink_history.specs.Output.{read_lines, replied, serve_line}
 use Rattle.sink_history.specs.Output.{serve_lines, show_lines, stated, tell_line, tell_lines, view_lines, viewed, was_read}
-use Rattle.scenario_laws.proofs.Isolating.Lives.{Alike, notices_same, reads_same, repeats, served_grow, told_grow, waiting_same}
+use Rattle.scenario_laws.proofs.Isolating.Histories.{Alike, notices_same, reads_same, repeats, served_grow, told_grow, waiting_same}
 use Rattle.scenario_laws.proofs.Isolating.Moves.{Sourced}
-use Rattle.scenario_laws.proofs.Isolating.Same.{LivesAlike}
+use Rattle.scenario_laws.proofs.Isolating.Same.{HistoriesAlike}
 
 -- ---- one call on a link
 
 pub replied_same : (made : Settings) (link : ℕ) (a b : List Call) → Alike made.setup made.mtu a b
     → replied made link a ≡ replied made link b
-replied_same made link a b same = cc (same.sight, waiting_same made.setup made.mtu link a b same)
+replied_same made link a b same = cc (same.snapshot, waiting_same made.setup made.mtu link a b same)
 
-notified_same : (made : Settings) (link : ℕ) (a b : List Call) → Alike made.setup made.mtu a b → notified made link a ≡ notified made link b
-notified_same made link a b same = cc (notices_same made.setup made.mtu link a b same)
+notice_delivered_same : (made : Settings) (link : ℕ) (a b : List Call) → Alike made.setup made.mtu a b → notice_delivered made link a ≡ notice_delivered made link b
+notice_delivered_same made link a b same = cc (notices_same made.setup made.mtu link a b same)
 
 read_same : (made : Settings) (link : ℕ) (a b : List Call) → Alike made.setup made.mtu a b → was_read made link a ≡ was_read made link b
 read_same made link a b same =
-    ap (λ sight. option_map (λ slot. record { slot = slot; value = value (state_at sight slot) })
-    (slice_get (reads_waiting made.setup made.mtu link a) 0)) same.sight
+    ap (λ snapshot. option_map (λ slot. record { slot = slot; value = value (state_at snapshot slot) })
+    (slice_get (reads_waiting made.setup made.mtu link a) 0)) same.snapshot
     ∙ ap (λ reads. option_map (stated made b) (slice_get reads 0)) (reads_same made.setup made.mtu link a b same)
 
 serve_same : (label : Label) (made : Settings) (link : ℕ) (a b : List Call) → Alike made.setup made.mtu a b
@@ -40,7 +40,7 @@ serve_same label made link a b same = ap (if_there (reply_line label)) (replied_
 
 tell_same : (label : Label) (made : Settings) (link : ℕ) (a b : List Call) → Alike made.setup made.mtu a b
     → tell_line label made link a ≡ tell_line label made link b
-tell_same label made link a b same = ap (if_there (value_line label.notice label.numbers)) (notified_same made link a b same)
+tell_same label made link a b same = ap (if_there (value_line label.notice label.numbers)) (notice_delivered_same made link a b same)
 
 read_line_same : (label : Label) (made : Settings) (link : ℕ) (a b : List Call) → Alike made.setup made.mtu a b
     → read_line label made link a ≡ read_line label made link b
@@ -73,10 +73,10 @@ drain_same label made link a b same =
     let served : Alike made.setup made.mtu (served_out link a) (served_out link b) = served_grow made.setup made.mtu link a b same in
     let sa : List Call = served_out link a in
     let sb : List Call = served_out link b in
-    let told : Alike made.setup made.mtu (told_out made.setup made.mtu link sa)
-    (told_out made.setup made.mtu link sb) = told_grow made.setup made.mtu link sa sb served in
-    let ta : List Call = told_out made.setup made.mtu link sa in
-    let tb : List Call = told_out made.setup made.mtu link sb in
+    let told : Alike made.setup made.mtu (notified_out made.setup made.mtu link sa)
+    (notified_out made.setup made.mtu link sb) = told_grow made.setup made.mtu link sa sb served in
+    let ta : List Call = notified_out made.setup made.mtu link sa in
+    let tb : List Call = notified_out made.setup made.mtu link sb in
     append_same (serve_lines label made link (length (writes_waiting link a)) a ++ tell_lines label made link
     (length (notices_waiting made.setup made.mtu link sa)) sa)
     (read_lines label made link (length (reads_waiting made.setup made.mtu link ta)) ta)
@@ -99,9 +99,9 @@ drain_same label made link a b same =
 shown_same : (sink : ℕ) (made : Settings) (a b : List Call) → Alike made.setup made.mtu a b
     → show_lines sink made a ≡ show_lines sink made b
 shown_same sink made a b same =
-    ap (λ sight. flat_map (λ slot. value_line (codes "state") (decimal sink ∷ [])
-    (record { slot = slot; value = value (state_at sight slot) })
-    ∷ value_line (codes "view") (decimal sink ∷ []) (viewed made 0 a slot) ∷ []) (range_with_len 0 made.setup.slots)) same.sight
+    ap (λ snapshot. flat_map (λ slot. value_line (codes "state") (decimal sink ∷ [])
+    (record { slot = slot; value = value (state_at snapshot slot) })
+    ∷ value_line (codes "view") (decimal sink ∷ []) (viewed made 0 a slot) ∷ []) (range_with_len 0 made.setup.slots)) same.snapshot
     ∙ ap (λ acts. flat_map (λ slot. value_line (codes "state") (decimal sink ∷ []) (stated made b slot)
     ∷ value_line (codes "view") (decimal sink ∷ []) (record { slot = slot; value = value (view_of (language made.mtu) slot acts) }) ∷ [])
     (range_with_len 0 made.setup.slots)) (same.acts 0)
@@ -116,7 +116,7 @@ views_same sink link made a b same =
 
 train_same : (sink : ℕ) (made : Settings) (a b : List Call) (train : Train) → Alike made.setup made.mtu a b
     → heard_line sink made a train ≡ heard_line sink made b train
-train_same sink made a b train same = ap (λ sight. sink_line sink (train_words (answer_of (brought_by made.setup sight train)))) same.sight
+train_same sink made a b train same = ap (λ snapshot. sink_line sink (train_words (answer_of (outcome_by made.setup snapshot train)))) same.snapshot
 
 -- ---- what a line prints that names the sink
 
@@ -127,6 +127,6 @@ printed_sourced (steps.Train sink time ext adv acad) source source' sourced made
 printed_sourced _ source source' sourced made calls = refl
 
 pub printed_same : (line : Step) (source source' : Source) (made made' : Option Settings) (a b : List Call) → Sourced line source source'
-    → made ≡ made' → LivesAlike made a b → printed_where source line made a ≡ printed_where source' line made' b
+    → made ≡ made' → HistoriesAlike made a b → printed_where source line made a ≡ printed_where source' line made' b
 printed_same line source source' made made' a b sourced sinks_same same =
     grind (arith, printed_sourced, serve_same, tell_same, read_line_same, drain_same, shown_same, train_same, views_same)

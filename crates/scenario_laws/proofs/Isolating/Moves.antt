@@ -1,10 +1,10 @@
--- What a line makes of two lives of the sink that it names which come to the same: of the lives, of the receivers, and of the source
--- that the sink is of.
+-- What a line makes of two histories of the sink that it names which come to the same: of the histories, of the receivers, and of the
+-- source that the sink is of.
 use Rattle.std.proofs.Common.{ℕ, ◌≡◌, cond, Bool, true, false, List, [], ◌∷◌, Option, None, Some, refl, ap, subst, arith}
 use Rattle.bass_operations.specs.declared.operation.Operation.TheVariants as operations
-use Rattle.bass_operations.specs.Layout.{spelling}
+use Rattle.bass_operations.specs.Layout.{encoding}
 use Rattle.delegator_history.specs.States.{control_heard, locations_set, train_heard, train_lost}
-use Rattle.delegator_history.specs.Trains.{Settings, Train, brought_by}
+use Rattle.delegator_history.specs.Trains.{Settings, Train, outcome_by}
 use Rattle.group_sink.specs.Calls as sinks
 use Rattle.sink_history.specs.Calls as links
 use Rattle.sink_history.specs.Calls.{Call, born}
@@ -12,11 +12,11 @@ use Rattle.scenario_text.specs.declared.step.Step.{Step}
 use Rattle.scenario_text.specs.declared.step.Step.TheVariants as steps
 use Rattle.scenario_history.specs.Sinks.{moved}
 use Rattle.scenario_history.specs.Steps.{is_source_line}
-use Rattle.scenario_history.specs.Worlds.{life, source_at, the_world}
-use Rattle.sink_history.specs.Lives.{Source, lived_at, lived_by, made_of, named_by, own_train}
+use Rattle.scenario_history.specs.Worlds.{calls_made, source_at, the_world}
+use Rattle.sink_history.specs.History.{Source, calls_at, calls_by, made_of, named_by, own_train}
 use Rattle.sink_history.specs.Moves.{follows, follows_by, received_by, source_by, train_by}
-use Rattle.scenario_laws.proofs.Isolating.Lives.{Alike, alike_itself, drains, grows}
-use Rattle.scenario_laws.proofs.Isolating.Same.{LivesAlike}
+use Rattle.scenario_laws.proofs.Isolating.Histories.{Alike, alike_itself, drains, grows}
+use Rattle.scenario_laws.proofs.Isolating.Same.{HistoriesAlike}
 
 -- ---- a line takes something of a source only where it is a source line
 
@@ -24,79 +24,79 @@ use Rattle.scenario_laws.proofs.Isolating.Same.{LivesAlike}
 abbrev pub Sourced : Step → (source source' : Source) → Type 0
 Sourced line source source' = is_source_line line ≡ true → source ≡ source'
 
-lived_sourced : (line : Step) (source source' : Source) → Sourced line source source' → (made : Option Settings) (calls : List Call)
-    → lived_by source line made calls ≡ lived_by source' line made calls
-lived_sourced (steps.Tuned sink which) source source' same made calls = cc (same refl)
-lived_sourced (steps.Announce sink) source source' same made calls = ap (λ src. lived_by src (steps.Announce sink) made calls) (same refl)
-lived_sourced (steps.Train sink time ext adv acad) source source' same made calls = cc (same refl)
-lived_sourced _ source source' same made calls = refl
+called_sourced : (line : Step) (source source' : Source) → Sourced line source source' → (made : Option Settings) (calls : List Call)
+    → calls_by source line made calls ≡ calls_by source' line made calls
+called_sourced (steps.Tuned sink which) source source' same made calls = cc (same refl)
+called_sourced (steps.Announce sink) source source' same made calls = ap (λ src. calls_by src (steps.Announce sink) made calls) (same refl)
+called_sourced (steps.Train sink time ext adv acad) source source' same made calls = cc (same refl)
+called_sourced _ source source' same made calls = refl
 
 train_sourced : (line : Step) (source source' : Source) → Sourced line source source' → train_by source line ≡ train_by source' line
 train_sourced (steps.Announce sink) source source' same = ap (λ src. train_by src (steps.Announce sink)) (same refl)
 train_sourced (steps.Train sink time ext adv acad) source source' same = cc (same refl)
 train_sourced _ source source' same = refl
 
--- ---- the lives
+-- ---- the histories
 
-lived_some : (source : Source) (line : Step) (made : Settings) (a b : List Call) → Alike made.setup made.mtu a b
-    → Alike made.setup made.mtu (lived_by source line (Some made) a) (lived_by source line (Some made) b)
-lived_some source (steps.Drop sink) made a b same = alike_itself made.setup made.mtu []
-lived_some source (steps.Pac sink codec caps metadata) made a b same = search (grows)
-lived_some source (steps.Locate sink bits) made a b same = grows made.setup made.mtu (links.stepped (locations_set bits)) a b same
-lived_some source (steps.Context sink sink_bits source_bits) made a b same = search (grows)
-lived_some source (steps.Tuned sink which) made a b same = search (grows)
-lived_some source (steps.Announce sink) made a b same = grows made.setup made.mtu (links.stepped (train_heard (own_train source))) a b same
-lived_some source (steps.Train sink time ext adv acad) made a b same = search (grows)
-lived_some source (steps.Lose sink) made a b same = grows made.setup made.mtu (links.stepped train_lost) a b same
-lived_some source (steps.Control sink octets) made a b same = grows made.setup made.mtu (links.stepped (control_heard octets)) a b same
-lived_some source (steps.Write sink octets) made a b same = grows made.setup made.mtu (links.asked 0 octets) a b same
-lived_some source (steps.Add sink op) made a b same = grows made.setup made.mtu (links.asked 0 (spelling (operations.Add op))) a b same
-lived_some source (steps.Modify sink op) made a b same = search (grows)
-lived_some source (steps.Remove sink source_id) made a b same = search (grows)
-lived_some source (steps.Code sink source_id code) made a b same = search (grows)
-lived_some source (steps.Serve sink) made a b same = grows made.setup made.mtu (links.served 0) a b same
-lived_some source (steps.Tell sink) made a b same = grows made.setup made.mtu (links.told 0) a b same
-lived_some source (steps.Read sink) made a b same = grows made.setup made.mtu (links.read 0) a b same
-lived_some source (steps.Drain sink) made a b same = drains made.setup made.mtu 0 a b same
-lived_some source (steps.Forge sink slot octets) made a b same = grows made.setup made.mtu (links.forged slot octets) a b same
-lived_some source (steps.Assist sink link) made a b same = grows made.setup made.mtu (links.joined link) a b same
-lived_some source (steps.Apart sink link) made a b same = grows made.setup made.mtu (links.parted link) a b same
-lived_some source (steps.AWrite sink link octets) made a b same = grows made.setup made.mtu (links.asked link octets) a b same
-lived_some source (steps.AServe sink link) made a b same = grows made.setup made.mtu (links.served link) a b same
-lived_some source (steps.ATell sink link) made a b same = grows made.setup made.mtu (links.told link) a b same
-lived_some source (steps.ARead sink link) made a b same = grows made.setup made.mtu (links.read link) a b same
-lived_some source (steps.ADrain sink link) made a b same = drains made.setup made.mtu link a b same
-lived_some source _ made a b same = same
+called_some : (source : Source) (line : Step) (made : Settings) (a b : List Call) → Alike made.setup made.mtu a b
+    → Alike made.setup made.mtu (calls_by source line (Some made) a) (calls_by source line (Some made) b)
+called_some source (steps.Drop sink) made a b same = alike_itself made.setup made.mtu []
+called_some source (steps.Pac sink codec caps metadata) made a b same = search (grows)
+called_some source (steps.Locate sink bits) made a b same = grows made.setup made.mtu (links.stepped (locations_set bits)) a b same
+called_some source (steps.Context sink sink_bits source_bits) made a b same = search (grows)
+called_some source (steps.Tuned sink which) made a b same = search (grows)
+called_some source (steps.Announce sink) made a b same = grows made.setup made.mtu (links.stepped (train_heard (own_train source))) a b same
+called_some source (steps.Train sink time ext adv acad) made a b same = search (grows)
+called_some source (steps.Lose sink) made a b same = grows made.setup made.mtu (links.stepped train_lost) a b same
+called_some source (steps.Control sink octets) made a b same = grows made.setup made.mtu (links.stepped (control_heard octets)) a b same
+called_some source (steps.Write sink octets) made a b same = grows made.setup made.mtu (links.asked 0 octets) a b same
+called_some source (steps.Add sink op) made a b same = grows made.setup made.mtu (links.asked 0 (encoding (operations.Add op))) a b same
+called_some source (steps.Modify sink op) made a b same = search (grows)
+called_some source (steps.Remove sink source_id) made a b same = search (grows)
+called_some source (steps.Code sink source_id code) made a b same = search (grows)
+called_some source (steps.Serve sink) made a b same = grows made.setup made.mtu (links.served 0) a b same
+called_some source (steps.Tell sink) made a b same = grows made.setup made.mtu (links.notified 0) a b same
+called_some source (steps.Read sink) made a b same = grows made.setup made.mtu (links.read 0) a b same
+called_some source (steps.Drain sink) made a b same = drains made.setup made.mtu 0 a b same
+called_some source (steps.Forge sink slot octets) made a b same = grows made.setup made.mtu (links.forged slot octets) a b same
+called_some source (steps.Assist sink link) made a b same = grows made.setup made.mtu (links.joined link) a b same
+called_some source (steps.Apart sink link) made a b same = grows made.setup made.mtu (links.parted link) a b same
+called_some source (steps.AWrite sink link octets) made a b same = grows made.setup made.mtu (links.asked link octets) a b same
+called_some source (steps.AServe sink link) made a b same = grows made.setup made.mtu (links.served link) a b same
+called_some source (steps.ATell sink link) made a b same = grows made.setup made.mtu (links.notified link) a b same
+called_some source (steps.ARead sink link) made a b same = grows made.setup made.mtu (links.read link) a b same
+called_some source (steps.ADrain sink link) made a b same = drains made.setup made.mtu link a b same
+called_some source _ made a b same = same
 
-lives_if : (hit : Bool) (made : Option Settings) (a b a' b' : List Call) → LivesAlike made a b → LivesAlike made a' b'
-    → LivesAlike made (cond hit a' a) (cond hit b' b)
+lives_if : (hit : Bool) (made : Option Settings) (a b a' b' : List Call) → HistoriesAlike made a b → HistoriesAlike made a' b'
+    → HistoriesAlike made (cond hit a' a) (cond hit b' b)
 lives_if true made a b a' b' before later = later
 lives_if false made a b a' b' before later = before
 
 named_lives : (n : ℕ) (named : Option ℕ) (line : Step) (earlier others : List Step) (made : Option Settings) (a b : List Call)
-    → Sourced line (source_at earlier) (source_at others) → LivesAlike made a b
-    → LivesAlike made (lived_at the_world n named line earlier made a) (lived_at the_world n named line others made b)
-named_lives n named line earlier others made a b sourced same = grind (arith, lives_if, lived_sourced, lived_some)
+    → Sourced line (source_at earlier) (source_at others) → HistoriesAlike made a b
+    → HistoriesAlike made (calls_at the_world n named line earlier made a) (calls_at the_world n named line others made b)
+named_lives n named line earlier others made a b sourced same = grind (arith, lives_if, called_sourced, called_some)
 
-born_lives : (hit : Bool) (new : Settings) (mtu : Option ℕ) (made : Option Settings) (a b : List Call) → LivesAlike made a b
-    → LivesAlike (cond hit (Some new) made) (cond hit (born mtu) a) (cond hit (born mtu) b)
+born_lives : (hit : Bool) (new : Settings) (mtu : Option ℕ) (made : Option Settings) (a b : List Call) → HistoriesAlike made a b
+    → HistoriesAlike (cond hit (Some new) made) (cond hit (born mtu) a) (cond hit (born mtu) b)
 born_lives hit new mtu made a b same = grind (arith, alike_itself)
 
-gone_lives : (hit : Bool) (made : Option Settings) (a b : List Call) → LivesAlike made a b
-    → LivesAlike (cond hit None made) (cond hit [] a) (cond hit [] b)
+gone_lives : (hit : Bool) (made : Option Settings) (a b : List Call) → HistoriesAlike made a b
+    → HistoriesAlike (cond hit None made) (cond hit [] a) (cond hit [] b)
 gone_lives true made a b same = tt
 gone_lives false made a b same = same
 
 -- over two lists of steps
-pub life_grows : (n : ℕ) (step : Step) (earlier others : List Step) → Sourced step (source_at earlier) (source_at others)
-    → made_of n earlier ≡ made_of n others → LivesAlike (made_of n earlier) (life n earlier) (life n others)
-    → LivesAlike (made_of n (step ∷ earlier)) (life n (step ∷ earlier)) (life n (step ∷ others))
-life_grows n (steps.Sink sink streams slots mtu) earlier others sourced sink_same same = search (born_lives)
-life_grows n (steps.Drop sink) earlier others sourced sink_same same = search (gone_lives)
-life_grows n step earlier others sourced sink_same same =
-    subst (λ made. LivesAlike (made_of n earlier) (lived_at the_world n (named_by step) step earlier (made_of n earlier) (life n earlier))
-    (lived_at the_world n (named_by step) step others made (life n others))) sink_same
-    (named_lives n (named_by step) step earlier others (made_of n earlier) (life n earlier) (life n others) sourced same)
+pub history_grows : (n : ℕ) (step : Step) (earlier others : List Step) → Sourced step (source_at earlier) (source_at others)
+    → made_of n earlier ≡ made_of n others → HistoriesAlike (made_of n earlier) (calls_made n earlier) (calls_made n others)
+    → HistoriesAlike (made_of n (step ∷ earlier)) (calls_made n (step ∷ earlier)) (calls_made n (step ∷ others))
+history_grows n (steps.Sink sink streams slots mtu) earlier others sourced sink_same same = search (born_lives)
+history_grows n (steps.Drop sink) earlier others sourced sink_same same = search (gone_lives)
+history_grows n step earlier others sourced sink_same same =
+    subst (λ made. HistoriesAlike (made_of n earlier) (calls_at the_world n (named_by step) step earlier (made_of n earlier) (calls_made n earlier))
+    (calls_at the_world n (named_by step) step others made (calls_made n others))) sink_same
+    (named_lives n (named_by step) step earlier others (made_of n earlier) (calls_made n earlier) (calls_made n others) sourced same)
 
 -- ---- the receivers
 
@@ -105,7 +105,7 @@ received_some : (line : Step) (source source' : Source) → Sourced line source 
     → Alike made.setup made.mtu a b → Alike made.setup made.mtu a' b' → calls ≡ calls'
     → received_by source line (Some made) a a' calls ≡ received_by source' line (Some made) b b' calls'
 received_some line source source' sourced made a a' b b' calls calls' before later took =
-    cc (train_sourced line source source' sourced, before.sight, later.sight, took)
+    cc (train_sourced line source source' sourced, before.snapshot, later.snapshot, took)
 
 pub cond_same : {A : Type 0} (hit : Bool) (x x' y y' : A) → x ≡ x' → y ≡ y' → cond hit x y ≡ cond hit x' y'
 cond_same hit x x' y y' then otherwise = cc
@@ -113,21 +113,21 @@ cond_same hit x x' y y' then otherwise = cc
 -- over two lists of steps
 pub moved_same : (n : ℕ) (named : Option ℕ) (line : Step) (earlier others : List Step) (calls calls' : List sinks.Call)
     → Sourced line (source_at earlier) (source_at others) → made_of n earlier ≡ made_of n others
-    → LivesAlike (made_of n earlier) (life n earlier) (life n others)
-    → LivesAlike (made_of n earlier) (life n (line ∷ earlier)) (life n (line ∷ others)) → calls ≡ calls'
+    → HistoriesAlike (made_of n earlier) (calls_made n earlier) (calls_made n others)
+    → HistoriesAlike (made_of n earlier) (calls_made n (line ∷ earlier)) (calls_made n (line ∷ others)) → calls ≡ calls'
     → moved n named line earlier calls ≡ moved n named line others calls'
 moved_same n named line earlier others calls calls' sourced sink_same before later took = grind (arith, cond_same, received_some)
 
 -- ---- the source that the sink is of
 
-follows_same : (source : Source) (train : Option Train) (made : Option Settings) (a b : List Call) → LivesAlike made a b
+follows_same : (source : Source) (train : Option Train) (made : Option Settings) (a b : List Call) → HistoriesAlike made a b
     → follows_by source train made a ≡ follows_by source train made b
 follows_same source None made a b same = refl
 follows_same source (Some train) None a b same = refl
-follows_same source (Some train) (Some made) a b same = ap (λ sight. follows (brought_by made.setup sight train)) same.sight
+follows_same source (Some train) (Some made) a b same = ap (λ snapshot. follows (outcome_by made.setup snapshot train)) same.snapshot
 
 pub sourced_same : (line : Step) (source source' : Source) (made made' : Option Settings) (a b : List Call) (its its' : Option ℕ)
     → source ≡ source' → made ≡ made'
-    → LivesAlike made a b → its ≡ its' → source_by source line made a its ≡ source_by source' line made' b its'
+    → HistoriesAlike made a b → its ≡ its' → source_by source line made a its ≡ source_by source' line made' b its'
 sourced_same line source source' made made' a b its its' sources sinks_same same of_same =
     cc (follows_same source (train_by source line) made a b same, sinks_same, sources, of_same)

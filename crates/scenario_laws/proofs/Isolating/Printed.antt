@@ -13,8 +13,8 @@ use Rattle.scenario_history.specs.Sinks.{is_of, sink_calls, source_of}
 use Rattle.scenario_history.specs.Source.{end_pdu, event_back, stale_in}
 use Rattle.source_machine.specs.Airs.{Airs}
 use Rattle.scenario_history.specs.Steps.{chosen_of, chosen_steps}
-use Rattle.scenario_history.specs.Worlds.{life, source_at}
-use Rattle.sink_history.specs.Lives.{made_of}
+use Rattle.scenario_history.specs.Worlds.{calls_made, source_at}
+use Rattle.sink_history.specs.History.{made_of}
 use Rattle.sink_history.specs.Output.{printed_where}
 use Rattle.scenario_laws.specs.Isolation.{lines_by, unit_lines_by}
 use Rattle.scenario_laws.specs.Only.{is_other, sink_in}
@@ -55,14 +55,14 @@ injected_same airs s n back bis subevent octets made others own same =
 -- ---- lines of the sink
 
 named_same : (airs : Airs) (s n sink : ℕ) (line : Step) (made others : List Step) → not (sink == n) ≡ false → Means s made line
-    → Same airs s n made others → concat (printed_where (source_at made) line (made_of sink made) (life sink made))
-    ≡ concat (printed_where (source_at others) line (made_of sink others) (life sink others))
+    → Same airs s n made others → concat (printed_where (source_at made) line (made_of sink made) (calls_made sink made))
+    ≡ concat (printed_where (source_at others) line (made_of sink others) (calls_made sink others))
 named_same airs s n sink line made others this means same =
     let is : sink ≡ n = this_one sink n this in
-    ap (λ m. concat (printed_where (source_at made) line (made_of m made) (life m made))) is
-    ∙ ap concat (printed_same line (source_at made) (source_at others) (made_of n made) (made_of n others) (life n made) (life n others)
+    ap (λ m. concat (printed_where (source_at made) line (made_of m made) (calls_made m made))) is
+    ∙ ap concat (printed_same line (source_at made) (source_at others) (made_of n made) (made_of n others) (calls_made n made) (calls_made n others)
     (sourced airs s n line made others means same) same.sink same.lives)
-    ∙ sym (ap (λ m. concat (printed_where (source_at others) line (made_of m others) (life m others))) is)
+    ∙ sym (ap (λ m. concat (printed_where (source_at others) line (made_of m others) (calls_made m others))) is)
 
 -- ---- all of them
 
@@ -90,4 +90,4 @@ lines_same airs s n (steps.Sniff back bis subevent) made others this means same 
       back_same (chosen_steps made) (chosen_steps others) back (own_alike airs s n made others (means refl) same),
       pdu_back_same airs (chosen_steps made) (chosen_steps others) back bis subevent (own_alike airs s n made others (means refl) same),
     )
-lines_same airs s n step made others this means same = search (named_same, this, means, same)
+lines_same airs s n last made others this means same = search (named_same, this, means, same)

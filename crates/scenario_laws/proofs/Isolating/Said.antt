@@ -7,14 +7,14 @@ use Rattle.delegator_history.specs.Octets.{train_of}
 use Rattle.base_grammar.specs.Layout.{Endpoint}
 use Rattle.big_info.specs.declared.info.Cipher.{Cipher}
 use Rattle.group_sink.specs.Calls.{Call, hear}
-use Rattle.sync_reference.specs.Joining.{Joining}
+use Rattle.sync_reference.specs.BigSync.{BigSync}
 use Rattle.iso_pdu.specs.Control.{terminate}
 use Rattle.iso_pdu.specs.Layout.{control}
-use Rattle.iso_pdu.specs.Spelling.{pdu}
+use Rattle.iso_pdu.specs.Encoding.{pdu}
 use Rattle.announcement_train.specs.BaseLines.{BaseLine, subgroups_in}
 use Rattle.scenario_text.specs.declared.step.Step.{Step}
 use Rattle.scenario_history.specs.Bases.{base_from, base_lines, with_base_line}
-use Rattle.scenario_history.specs.Sinks.{Spot, hear_at, heard_on_air, is_lost, spot_at, spots_of, unless_lost}
+use Rattle.scenario_history.specs.Sinks.{Position, hear_at, heard_on_air, is_lost, position_at, positions_of, unless_lost}
 use Rattle.scenario_history.specs.Source.{GroupLine, Phase, absent, cipher_given, cipher_of, end_pdu, event_back, group_given}
 use Rattle.source_machine.specs.Airs.{Airs, pdu_of, stale_of}
 use Rattle.scenario_history.specs.Source.{group_of, ident_of, identity_given}
@@ -23,8 +23,8 @@ use Rattle.scenario_history.specs.Source.{setup_of, source_calls}
 use Rattle.scenario_history.specs.Source.{stale_in, start_given, start_of, with_source_call}
 use Rattle.scenario_history.specs.Steps.{Stage, chosen_of, chosen_steps, is_of_source, is_over_at, last_given}
 use Rattle.scenario_history.specs.Steps.{stage_after, stage_of, steps_of_source, version_at}
-use Rattle.scenario_history.specs.Worlds.{joining_on, source_at}
-use Rattle.sink_history.specs.Lives.{Source}
+use Rattle.scenario_history.specs.Worlds.{big_sync_on, source_at}
+use Rattle.sink_history.specs.History.{Source}
 use Rattle.source_machine.specs.Calls.{Setup, Call as SourceCall, event as perform, events, next_anchor_of, next_of}
 use Rattle.source_machine.specs.Ciphers.{with_cipher}
 use Rattle.source_machine.specs.declared.setup.Identity.{Identity}
@@ -91,7 +91,7 @@ source_in number said = record {
   sid = (identity_in said).sid;
   announced = train_of (identity_in said).broadcast_id (base_in said) (with_cipher (unwrap_or said.group no_group).info said.cipher)
       (next_in said) (next_anchor_of (setup_in said) said.calls);
-  joining = λ which. record {
+  big_sync = λ which. record {
     info = (setup_in said).info;
     which = which;
     first = next_in said;
@@ -100,7 +100,7 @@ source_in number said = record {
   };
 }
 
-abbrev tuning_in : ℕ → Said → Joining
+abbrev tuning_in : ℕ → Said → BigSync
 tuning_in which said = record {
   info = (setup_in said).info;
   which = which;
@@ -127,13 +127,13 @@ pub pdu_back_same : (airs : Airs) (own own' : List Step) (back bis subevent : �
     → pdu_in airs own (event_back own back) bis subevent ≡ pdu_in airs own' (event_back own' back) bis subevent
 pdu_back_same airs own own' back bis subevent same = ap (λ said. pdu_said airs said (back_in said back) bis subevent) same
 
-pub tuning_same : (own own' : List Step) (which : ℕ) → said_of own ≡ said_of own' → joining_on own which ≡ joining_on own' which
+pub tuning_same : (own own' : List Step) (which : ℕ) → said_of own ≡ said_of own' → big_sync_on own which ≡ big_sync_on own' which
 tuning_same own own' which same = ap (tuning_in which) same
 
-pub hear_same : (airs : Airs) (own own' : List Step) (back : ℕ) (spot : Spot) → said_of own ≡ said_of own'
-    → hear_at airs own (event_back own back) spot ≡ hear_at airs own' (event_back own' back) spot
-hear_same airs own own' back spot same =
-    ap (λ said. hear (back_in said back) spot.bis spot.subevent (pdu_said airs said (back_in said back) spot.bis spot.subevent)) same
+pub hear_same : (airs : Airs) (own own' : List Step) (back : ℕ) (position : Position) → said_of own ≡ said_of own'
+    → hear_at airs own (event_back own back) position ≡ hear_at airs own' (event_back own' back) position
+hear_same airs own own' back position same =
+    ap (λ said. hear (back_in said back) position.bis position.subevent (pdu_said airs said (back_in said back) position.bis position.subevent)) same
 
 pub stale_same : (airs : Airs) (own own' : List Step) → said_of own ≡ said_of own' → stale_in airs own ≡ stale_in airs own'
 stale_same airs own own' same = ap (λ said. stale_of (setup_in said) said.calls (airs (setup_in said) (perform ∷ said.calls))) same
@@ -143,18 +143,18 @@ end_same own own' reason same = ap (λ said. pdu (control (terminate reason (nex
 
 -- ---- what is heard on the air
 
-abbrev spot_in : ℕ → Said → Spot
-spot_in i said = spot_at (setup_in said).info i
+abbrev position_in : ℕ → Said → Position
+position_in i said = position_at (setup_in said).info i
 
 heard_one : (airs : Airs) (own own' : List Step) (lose i : ℕ) (calls : List Call) → said_of own ≡ said_of own'
-    → unless_lost (is_lost (setup_of own).info (event_back own 0) lose (spot_at (setup_of own).info i))
-    (hear_at airs own (event_back own 0) (spot_at (setup_of own).info i)) calls
-    ≡ unless_lost (is_lost (setup_of own').info (event_back own' 0) lose (spot_at (setup_of own').info i))
-    (hear_at airs own' (event_back own' 0) (spot_at (setup_of own').info i)) calls
+    → unless_lost (is_lost (setup_of own).info (event_back own 0) lose (position_at (setup_of own).info i))
+    (hear_at airs own (event_back own 0) (position_at (setup_of own).info i)) calls
+    ≡ unless_lost (is_lost (setup_of own').info (event_back own' 0) lose (position_at (setup_of own').info i))
+    (hear_at airs own' (event_back own' 0) (position_at (setup_of own').info i)) calls
 heard_one airs own own' lose i calls same =
-    ap (λ said. unless_lost (is_lost (setup_in said).info (back_in said 0) lose (spot_in i said))
-    (hear (back_in said 0) (spot_in i said).bis (spot_in i said).subevent
-    (pdu_said airs said (back_in said 0) (spot_in i said).bis (spot_in i said).subevent)) calls) same
+    ap (λ said. unless_lost (is_lost (setup_in said).info (back_in said 0) lose (position_in i said))
+    (hear (back_in said 0) (position_in i said).bis (position_in i said).subevent
+    (pdu_said airs said (back_in said 0) (position_in i said).bis (position_in i said).subevent)) calls) same
 
 heard_first : (airs : Airs) (own own' : List Step) (lose count : ℕ) (calls calls' : List Call) → said_of own ≡ said_of own' → calls ≡ calls'
     → heard_on_air airs own lose count calls ≡ heard_on_air airs own' lose count calls'
@@ -163,10 +163,10 @@ heard_first airs own own' lose (suc i) calls calls' same took =
     cc (heard_one airs own own' lose i (heard_on_air airs own lose i calls) same, heard_first airs own own' lose i calls calls' same took)
 
 pub heard_same : (airs : Airs) (own own' : List Step) (lose : ℕ) (calls calls' : List Call) → said_of own ≡ said_of own' → calls ≡ calls'
-    → heard_on_air airs own lose (spots_of own) calls ≡ heard_on_air airs own' lose (spots_of own') calls'
+    → heard_on_air airs own lose (positions_of own) calls ≡ heard_on_air airs own' lose (positions_of own') calls'
 heard_same airs own own' lose calls calls' same took =
     ap (λ said. heard_on_air airs own lose ((setup_in said).info.num_bis * (setup_in said).info.nse) calls) same
-    ∙ heard_first airs own own' lose (spots_of own') calls calls' same took
+    ∙ heard_first airs own own' lose (positions_of own') calls calls' same took
 
 -- ---- the chosen source
 
@@ -184,8 +184,8 @@ chosen_said s made others is chosen same = cc (is, same, is, chosen)
 
 said_if : (is_its : Bool) (step : Step) (own own' : List Step) → said_of own ≡ said_of own'
     → said_of (cond is_its (step ∷ own) own) ≡ said_of (cond is_its (step ∷ own') own')
-said_if true step own own' same = ap (said_after step) same
-said_if false step own own' same = same
+said_if true this own own' same = ap (said_after this) same
+said_if false this own own' same = same
 
 -- that both lists have
 pub said_grows : (s : ℕ) (step : Step) (made others : List Step) → chosen_of made ≡ chosen_of others
@@ -196,8 +196,8 @@ said_grows s step made others chosen same =
 
 stays_if : (is_its : Bool) (step : Step) (own : List Step) → said_after step (said_of own) ≡ said_of own
     → said_of (cond is_its (step ∷ own) own) ≡ said_of own
-stays_if true step own same = same
-stays_if false step own same = refl
+stays_if true this own same = same
+stays_if false this own same = refl
 
 -- that says nothing of a source
 pub said_stays : (s : ℕ) (step : Step) (made : List Step) → ((said : Said) → said_after step said ≡ said)

@@ -9,24 +9,24 @@ use Rattle.scenario_history.specs.Boxes.{box_of, handed_up}
 use Rattle.scenario_history.specs.Sinks.{is_of, sink_calls, source_of}
 use Rattle.source_machine.specs.Airs.{Airs}
 use Rattle.scenario_history.specs.Steps.{chosen_given, chosen_of, chosen_steps, last_given, steps_of_source}
-use Rattle.scenario_history.specs.Worlds.{life, source_at}
-use Rattle.sink_history.specs.Lives.{horizon_in, horizon_of, made_of, version_given}
+use Rattle.scenario_history.specs.Worlds.{calls_made, source_at}
+use Rattle.sink_history.specs.History.{horizon_in, horizon_of, made_of, version_given}
 use Rattle.scenario_laws.specs.Isolation.{units_by}
-use Rattle.scenario_laws.proofs.Isolating.Lives.{Alike}
+use Rattle.scenario_laws.proofs.Isolating.Histories.{Alike}
 use Rattle.scenario_laws.proofs.Isolating.Sums.{TookAlike}
 use Rattle.scenario_laws.proofs.Isolating.Said.{chosen_said, said_of, source_same}
 
--- two lives of a sink that lives come to the same
-abbrev pub LivesAlike : Option Settings → List Call → List Call → Type 0
-LivesAlike None a b = Unit {0}
-LivesAlike (Some made) a b = Alike made.setup made.mtu a b
+-- two histories of a sink that lives come to the same
+abbrev pub HistoriesAlike : Option Settings → List Call → List Call → Type 0
+HistoriesAlike None a b = Unit {0}
+HistoriesAlike (Some made) a b = Alike made.setup made.mtu a b
 
 pub record Same (airs : Airs) (s n : ℕ) (made others : List Step) : Type 0 where
   pub chosen : last_given chosen_given made ≡ last_given chosen_given others
   pub own : said_of (steps_of_source s made) ≡ said_of (steps_of_source s others)
   pub version : last_of version_given made ≡ last_of version_given others
   pub sink : made_of n made ≡ made_of n others
-  pub lives : LivesAlike (made_of n made) (life n made) (life n others)
+  pub lives : HistoriesAlike (made_of n made) (calls_made n made) (calls_made n others)
   pub source : source_of n made ≡ source_of n others
   pub apart : (t : ℕ) → t ≢ s → is_of t (source_of n made) ≡ false
   pub calls : sink_calls airs n made ≡ sink_calls airs n others

@@ -15,7 +15,7 @@ use Rattle.source_machine.specs.Airs.{Airs}
 use Rattle.scenario_history.specs.Steps.{steps_of_source}
 use Rattle.scenario_laws.specs.Isolation.{units_by}
 use Rattle.scenario_laws.proofs.Isolating.Said.{open_same}
-use Rattle.scenario_laws.proofs.Gifts.Citable.{flat_same}
+use Rattle.scenario_laws.proofs.RelayedUnits.Citable.{flat_same}
 use Rattle.scenario_laws.proofs.Isolating.Same.{Same}
 
 -- ---- lists

@@ -12,11 +12,11 @@ use Rattle.bcast_base.specs.declared.unit.Unit.{Unit as AudioUnit}
 use Rattle.scenario_text.specs.declared.step.Step.{Step}
 use Rattle.source_machine.specs.Calls.{Setup, given}
 use Rattle.unit_outlets.specs.Handed.{Handed}
-use Rattle.scenario_history.specs.Gifts.{happened}
+use Rattle.scenario_history.specs.RelayedUnits.{happened}
 use Rattle.scenario_history.specs.Source.{setup_of, source_calls}
 use Rattle.scenario_history.specs.Steps.{steps_of_source}
-use Rattle.scenario_laws.proofs.Gifts.Citable.{had_happened, happens_legally, has_had, settled}
-use Rattle.scenario_laws.specs.Gifts.Laws.{RelayLaw, offered}
+use Rattle.scenario_laws.proofs.RelayedUnits.Citable.{had_happened, happens_legally, has_had, settled}
+use Rattle.scenario_laws.specs.RelayedUnits.Laws.{RelayLaw, offered}
 use Rattle.scenario_laws.specs.Laws.{StepsInOrder, air_in, is_made, shown_since}
 use Rattle.scenario_laws.specs.Relayed.{InFirstOrder, InRelayOrder, IsOfFirst, IsOfOffered, RelayedUnits, UnitPlace}
 use Rattle.scenario_laws.proofs.Relaying.Numbered.{Numbered}

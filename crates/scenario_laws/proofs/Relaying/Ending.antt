@@ -21,12 +21,12 @@ use Rattle.sink_history.specs.Refusals.{refuse_if}
 use Rattle.source_machine.specs.Airs.{Airs}
 use Rattle.scenario_history.specs.Steps.{last_given, sinks_made}
 use Rattle.scenario_laws.specs.Laws.{handed_since, is_made, of_sink}
-use Rattle.scenario_laws.proofs.Gifts.Citable.{OneStands, contains_cases, first_free, had_happened, happens_legally, has_had, is_free}
-use Rattle.scenario_laws.proofs.Gifts.Citable.{left_by_gifts, line_passes, not_yet, one_stands}
-use Rattle.scenario_history.specs.Gifts.{Offer, after_offer, after_offers, happened, offers_before, units_on}
-use Rattle.scenario_history.specs.Gifts.{with_gift_unless, with_gifts}
-use Rattle.scenario_laws.specs.Gifts.Laws.{handed_on, is_route, offered}
-use Rattle.scenario_laws.specs.Gifts.Legal.{AreLegal, AreSaidLegally}
+use Rattle.scenario_laws.proofs.RelayedUnits.Citable.{OneStands, contains_cases, first_free, had_happened, happens_legally, has_had, is_free}
+use Rattle.scenario_laws.proofs.RelayedUnits.Citable.{left_by_relayed_units, line_passes, not_yet, one_stands}
+use Rattle.scenario_history.specs.RelayedUnits.{Offer, after_offer, after_offers, happened, offers_before, units_on}
+use Rattle.scenario_history.specs.RelayedUnits.{with_relayed_unit_unless, with_relayed_units}
+use Rattle.scenario_laws.specs.RelayedUnits.Laws.{handed_on, is_route, offered}
+use Rattle.scenario_laws.specs.RelayedUnits.Legal.{AreLegal, AreSaidLegally}
 use Rattle.scenario_history.specs.Relays.{Route, had_relay, relay_given, relay_of}
 use Rattle.scenario_laws.specs.Relayed.{EndsWith}
 
@@ -56,7 +56,7 @@ boxed airs boxes n route (steps.Relay sink bis to ∷ earlier) legal is =
 boxed airs boxes n route (steps.Drop sink ∷ earlier) legal is = search (dropped_boxed, boxed airs boxes n route earlier legal.0)
 boxed airs boxes n route (steps.Sink sink streams slots mtu ∷ earlier) legal is =
     boxed_if (sink == n) (box_of n earlier) (sinks_made earlier) (boxed airs boxes n route earlier legal.0 is)
-boxed airs boxes n route (step ∷ earlier) legal is = boxed airs boxes n route earlier legal.0 is
+boxed airs boxes n route (this ∷ earlier) legal is = boxed airs boxes n route earlier legal.0 is
 
 -- a sink that is made didn't live
 unboxed : (airs : Airs) (boxes : ℕ) (made : List Step) (sink streams slots : ℕ) (mtu : Option ℕ)
@@ -67,9 +67,9 @@ unboxed airs boxes made sink streams slots mtu none =
     fails_not (is_some (box_of sink made)) refusals.SinkTwice twice.0
 
 -- a sink that lives isn't made
-made_not : (airs : Airs) (boxes n : ℕ) (made gifted : List Step) (step : Step) → line_refusal airs boxes made step ≡ None
-    → is_some (box_of n made) ≡ true → is_made n gifted step ≡ false
-made_not airs boxes n made gifted step none living = grind (arith, unboxed, line_passes, false_from_ne_true, false≢true, eqb-true)
+made_not : (airs : Airs) (boxes n : ℕ) (made after_relays : List Step) (step : Step) → line_refusal airs boxes made step ≡ None
+    → is_some (box_of n made) ≡ true → is_made n after_relays step ≡ false
+made_not airs boxes n made after_relays this none living = grind (arith, unboxed, line_passes, false_from_ne_true, false≢true, eqb-true)
 
 -- ---- what it handed up
 
@@ -77,7 +77,7 @@ abbrev since : Airs → ℕ → List Step → List SinkUnit
 since airs n made = handed_since (is_made n) airs made
 
 unless_since : (airs : Airs) (n : ℕ) (reason : Option Refusal) (offer : Offer) (made : List Step)
-    → since airs n (with_gift_unless reason offer made) ≡ since airs n made
+    → since airs n (with_relayed_unit_unless reason offer made) ≡ since airs n made
 unless_since airs n reason offer made = grind (arith, append-nil)
 
 offers_since : (airs : Airs) (n : ℕ) (offers : List Offer) (made : List Step)
@@ -106,13 +106,13 @@ goes_on : (airs : Airs) (boxes n bis to : ℕ) (step : Step) (earlier : List Ste
     → EndsWith (own_units n bis (since airs n (happened airs (step ∷ earlier)))) (offered airs n bis to (step ∷ earlier))
 goes_on airs boxes n bis to step earlier route legal is goes ends =
     let made = happened airs earlier in
-    let gifted = with_gifts airs made step in
+    let after_relays = with_relayed_units airs made step in
     let now = handed_on airs n bis made step in
     let living = boxed airs boxes n route made (happens_legally airs boxes earlier legal.0) is in
     record {
       before = ends.before;
-      parts = step_since (is_made n gifted step) n bis (since airs n gifted) (handed_by airs gifted step)
-          (made_not airs boxes n made gifted step legal.1 living)
+      parts = step_since (is_made n after_relays step) n bis (since airs n after_relays) (handed_by airs after_relays step)
+          (made_not airs boxes n made after_relays step legal.1 living)
           ∙ ap (λ l. own_units n bis l ++ now) (offers_since airs n (offers_before airs made step) made) ∙ ap (λ l. l ++ now) ends.parts
           ∙ append_assoc ends.before (offered airs n bis to earlier) now
           ∙ ap (λ hit. ends.before ++ (offered airs n bis to earlier ++ cond hit now [])) (sym goes);
@@ -127,14 +127,14 @@ dropped_not : (hit : Bool) (route : Route) (later : Option (Option Route))
 dropped_not hit route later is = grind (arith, none-some)
 
 -- a relay to a stream that had one stood before
-stood : (airs : Airs) (boxes n to : ℕ) (made gifted : List Step) (step : Step) (route : Route) → line_refusal airs boxes made step ≡ None
-    → had_relay to made ≡ true → relay_of n (step ∷ gifted) ≡ Some route → route.to ≡ to → relay_of n gifted ≡ Some route
-stood airs boxes n to made gifted (steps.Relay sink from into) route none had is goes =
-    still_if (sink == n) (record { bis = from; to = into }) route (last_given (relay_given n) gifted)
+stood : (airs : Airs) (boxes n to : ℕ) (made after_relays : List Step) (step : Step) (route : Route) → line_refusal airs boxes made step ≡ None
+    → had_relay to made ≡ true → relay_of n (step ∷ after_relays) ≡ Some route → route.to ≡ to → relay_of n after_relays ≡ Some route
+stood airs boxes n to made after_relays (steps.Relay sink from into) route none had is goes =
+    still_if (sink == n) (record { bis = from; to = into }) route (last_given (relay_given n) after_relays)
     (λ its same. false≢true (sym (is_free airs boxes made sink from into
     (line_passes airs boxes made (steps.Relay sink from into) none)).had ∙ ap (λ b. had_relay b made) (same ∙ goes) ∙ had)) is
-stood airs boxes n to made gifted (steps.Drop sink) route none had is goes = search (dropped_not)
-stood airs boxes n to made gifted step route none had is goes = is
+stood airs boxes n to made after_relays (steps.Drop sink) route none had is goes = search (dropped_not)
+stood airs boxes n to made after_relays this route none had is goes = is
 
 is_its : (n bis to : ℕ) (made : List Step) (route : Route) → OneStands n bis to made → relay_of n made ≡ Some route → route.to ≡ to
     → is_route bis to (relay_of n made) ≡ true
@@ -147,7 +147,7 @@ pub ends_with : (airs : Airs) (boxes n bis to : ℕ) (said : List Step) → AreS
 ends_with airs boxes n bis to [] legal within route is goes = absurd (none-some route is)
 ends_with airs boxes n bis to (step ∷ earlier) legal within route is goes =
     let made = happened airs earlier in
-    let left = left_by_gifts airs made step in
+    let left = left_by_relayed_units airs made step in
     elim (contains_cases step earlier (steps.Relay n bis to) within) [
       | inl line ↦
           let all = own_units n bis (since airs n (happened airs (step ∷ earlier))) in
@@ -155,7 +155,7 @@ ends_with airs boxes n bis to (step ∷ earlier) legal within route is goes =
           record { before = all; parts = sym (ap (λ l. all ++ l) (not_yet airs n bis to step earlier none) ∙ append-nil all) }
       | inr before ↦
           let had = had_happened airs to earlier ∙ has_had n bis to earlier before in
-          let stands = sym (left.relay n) ∙ stood airs boxes n to made (with_gifts airs made step) step route legal.1 had is goes in
+          let stands = sym (left.relay n) ∙ stood airs boxes n to made (with_relayed_units airs made step) step route legal.1 had is goes in
           goes_on airs boxes n bis to step earlier route legal stands
           (is_its n bis to made route (one_stands airs boxes n bis to earlier legal.0 before) stands goes)
           (ends_with airs boxes n bis to earlier legal.0 before route stands goes)

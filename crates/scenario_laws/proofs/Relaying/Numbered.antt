@@ -13,8 +13,8 @@ use Rattle.isoal_framed.specs.Calls.{Call as FramedCall, accept, accepted}
 use Rattle.source_machine.specs.Calls.{Call, Setup, event, framed_calls, given, give}
 use Rattle.unit_outlets.specs.Handed.{Handed, lost, valid}
 use Rattle.scenario_laws.specs.SourceUnits.{InSourceOrder, InUnitOrder, IsGiven, IsOfUnit, is_valid, valid_in}
-use Rattle.scenario_laws.proofs.Gifts.Citable.{event_accepts_none}
-use Rattle.scenario_history.specs.Gifts.{units_on}
+use Rattle.scenario_laws.proofs.RelayedUnits.Citable.{event_accepts_none}
+use Rattle.scenario_history.specs.RelayedUnits.{units_on}
 use Rattle.scenario_laws.proofs.Relaying.Order.{place, place_by, place_gets, place_rises}
 
 -- the number of each of these units, by its place, among the units with these octets

@@ -17,16 +17,16 @@ use Rattle.unit_outlets.specs.Handed.{Handed}
 use Rattle.transcript_text.specs.declared.refusal.Refusal.{Refusal}
 use Rattle.scenario_history.specs.Airs.{MeetAirs}
 use Rattle.scenario_history.specs.Boxes.{closing}
-use Rattle.scenario_history.specs.Gifts.{Offer, after_offer, after_offers, closes_first, handed_of, happened, offers_before}
-use Rattle.scenario_history.specs.Gifts.{units_on, with_gift_unless, with_gifts}
+use Rattle.scenario_history.specs.RelayedUnits.{Offer, after_offer, after_offers, closes_first, handed_of, happened, offers_before}
+use Rattle.scenario_history.specs.RelayedUnits.{units_on, with_relayed_unit_unless, with_relayed_units}
 use Rattle.scenario_history.specs.Relays.{Route, had_relay, relay_given, relay_of}
 use Rattle.scenario_history.specs.Source.{setup_of, source_calls}
 use Rattle.source_machine.specs.Airs.{Airs}
 use Rattle.scenario_history.specs.Steps.{chosen_of, is_of_source, last_given, steps_of_source}
-use Rattle.scenario_laws.proofs.Gifts.Citable.{chosen_happened, contains_cases, first_free, first_handed, had_happened, happens_legally}
-use Rattle.scenario_laws.proofs.Gifts.Citable.{in_range, left_by_gifts, not_yet}
-use Rattle.scenario_laws.specs.Gifts.Laws.{is_route, offered}
-use Rattle.scenario_laws.specs.Gifts.Legal.{AreLegal, AreSaidLegally}
+use Rattle.scenario_laws.proofs.RelayedUnits.Citable.{chosen_happened, contains_cases, first_free, first_handed, had_happened, happens_legally}
+use Rattle.scenario_laws.proofs.RelayedUnits.Citable.{in_range, left_by_relayed_units, not_yet}
+use Rattle.scenario_laws.specs.RelayedUnits.Laws.{is_route, offered}
+use Rattle.scenario_laws.specs.RelayedUnits.Legal.{AreLegal, AreSaidLegally}
 use Rattle.scenario_laws.specs.Laws.{StepsInOrder, given_since_made, handed_since, injected_since, is_given, is_injected, is_made}
 use Rattle.scenario_laws.specs.Laws.{air_in, of_sink}
 use Rattle.scenario_laws.specs.Relayed.{EndsWith, injected_till_last_offer}
@@ -70,12 +70,12 @@ numbered_end octets all last ends numbered = record {
 abbrev Extends : List (List ℕ) → List (List ℕ) → Type 0
 Extends one other = (k : ℕ) → (octets : List ℕ) → slice_get one k ≡ Some octets → slice_get other k ≡ Some octets
 
-get_front : (xs ys : List (List ℕ)) → Extends xs (xs ++ ys)
-get_front (x ∷ xs) ys (suc k) octets is = get_front xs ys k octets is
-get_front xs ys k octets is = search (none-some)
+get_prefix : (xs ys : List (List ℕ)) → Extends xs (xs ++ ys)
+get_prefix (x ∷ xs) ys (suc k) octets is = get_prefix xs ys k octets is
+get_prefix xs ys k octets is = search (none-some)
 
 step_extends : (bis : ℕ) (step : Step) (own : List Step) → Extends (given bis (source_calls own)) (given bis (source_calls (step ∷ own)))
-step_extends bis step own = grind (arith, get_front)
+step_extends bis this own = grind (arith, get_prefix)
 
 own_extends : (mine : Bool) (bis : ℕ) (step : Step) (own : List Step)
     → Extends (given bis (source_calls own)) (given bis (source_calls (cond mine (step ∷ own) own)))
@@ -88,7 +88,7 @@ numbered_more one other units extends numbered = search arith
 
 either_given : (n : ℕ) (step : Step) → is_injected n step ≡ false → is_given n step ≡ false
 either_given n (steps.Train sink time ext adv acad) none = none
-either_given n step none = refl
+either_given n this none = refl
 
 given_if : (begins one other : Bool) (rest others : Bool) → (one ≡ false → other ≡ false) → (rest ≡ false → others ≡ false)
     → cond begins one (one || rest) ≡ false → cond begins other (other || others) ≡ false
@@ -99,9 +99,9 @@ pub ungiven : (n : ℕ) (made : List Step) → injected_since (is_made n) n made
 ungiven n [] none = refl
 ungiven n (step ∷ earlier) none = search (given_if, either_given, ungiven n earlier)
 
--- gifts inject nothing
+-- relayed units inject nothing
 injected_unless : (n : ℕ) (reason : Option Refusal) (offer : Offer) (made : List Step)
-    → injected_since (is_made n) n (with_gift_unless reason offer made) ≡ injected_since (is_made n) n made
+    → injected_since (is_made n) n (with_relayed_unit_unless reason offer made) ≡ injected_since (is_made n) n made
 injected_unless n None offer made = refl
 injected_unless n (Some reason) offer made = refl
 
@@ -111,15 +111,15 @@ injected_offers airs n [] made = refl
 injected_offers airs n (offer ∷ offers) made = search (injected_unless, injected_offers airs n offers (after_offer airs offer made))
 
 made_alike : (n : ℕ) (one other : List Step) (step : Step) → is_made n one step ≡ is_made n other step
-made_alike n one other step = cc
+made_alike n one other this = cc
 
 injected_happened : (airs : Airs) (n : ℕ) (said : List Step)
     → injected_since (is_made n) n (happened airs said) ≡ injected_since (is_made n) n said
 injected_happened airs n [] = refl
 injected_happened airs n (step ∷ earlier) =
     let now = is_injected n step in
-    let gifted = with_gifts airs (happened airs earlier) step in
-    ap (λ begins. cond begins now (now || injected_since (is_made n) n gifted)) (made_alike n gifted earlier step)
+    let after_relays = with_relayed_units airs (happened airs earlier) step in
+    ap (λ begins. cond begins now (now || injected_since (is_made n) n after_relays)) (made_alike n after_relays earlier step)
     ∙ ap (λ rest. cond (is_made n earlier step) now (now || rest))
     (injected_offers airs n (offers_before airs (happened airs earlier) step) (happened airs earlier) ∙ injected_happened airs n earlier)
 
@@ -130,35 +130,35 @@ relay_next : (given one other : Option (Option Route)) → unwrap_or one None �
 relay_next None one other same = same
 relay_next (Some route) one other same = refl
 
--- gifts are no part of the relays
+-- relayed units are no part of the relays
 relay_happened : (airs : Airs) (n : ℕ) (said : List Step) → relay_of n (happened airs said) ≡ relay_of n said
 relay_happened airs n [] = refl
 relay_happened airs n (step ∷ earlier) =
-    relay_next (relay_given n step) (last_given (relay_given n) (with_gifts airs (happened airs earlier) step))
-    (last_given (relay_given n) earlier) ((left_by_gifts airs (happened airs earlier) step).relay n ∙ relay_happened airs n earlier)
+    relay_next (relay_given n step) (last_given (relay_given n) (with_relayed_units airs (happened airs earlier) step))
+    (last_given (relay_given n) earlier) ((left_by_relayed_units airs (happened airs earlier) step).relay n ∙ relay_happened airs n earlier)
 
 closes_alike : (one other : List Step) (step : Step) → chosen_of one ≡ chosen_of other → closes_first one step ≡ closes_first other step
 closes_alike one other steps.Event same = ap (λ s. s == 0) same
 closes_alike one other steps.Stop same = ap (λ s. s == 0) same
 closes_alike one other (steps.Terminate reason) same = ap (λ s. s == 0) same
-closes_alike one other step same = refl
+closes_alike one other this same = refl
 
 -- it leaves the relays
-close_relays : (n : ℕ) (said gifted : List Step) (step : Step) → closes_first said step ≡ true
-    → relay_of n (step ∷ gifted) ≡ relay_of n gifted
-close_relays n said gifted step is = grind (arith, false≢true)
+close_relays : (n : ℕ) (said after_relays : List Step) (step : Step) → closes_first said step ≡ true
+    → relay_of n (step ∷ after_relays) ≡ relay_of n after_relays
+close_relays n said after_relays this is = grind (arith, false≢true)
 
 -- and it injects nothing
-close_injects : (n : ℕ) (said gifted : List Step) (step : Step) → closes_first said step ≡ true
-    → injected_since (is_made n) n (step ∷ gifted) ≡ injected_since (is_made n) n gifted
-close_injects n said gifted step is = grind (arith, false≢true)
+close_injects : (n : ℕ) (said after_relays : List Step) (step : Step) → closes_first said step ≡ true
+    → injected_since (is_made n) n (step ∷ after_relays) ≡ injected_since (is_made n) n after_relays
+close_injects n said after_relays this is = grind (arith, false≢true)
 
 -- ---- what it handed up
 
 framing_by : (step : Step) (own : List Step) → IsInRange step → (setup_of own).info.framing ≤ 1 → (setup_of (step ∷ own)).info.framing ≤ 1
 framing_by (steps.Group framing origin delay iso sdu max_sdu max_pdu num_bis bn nse irc pto sub spacing phy) own ranged before =
     ranged.framing_is
-framing_by step own ranged before = before
+framing_by this own ranged before = before
 
 framing_if : (mine : Bool) (step : Step) (own : List Step) → IsInRange step → (setup_of own).info.framing ≤ 1
     → (setup_of (cond mine (step ∷ own) own)).info.framing ≤ 1
@@ -224,11 +224,11 @@ numbered_none octets = record { number = λ k. k; rises = λ j k below within. b
 
 -- a step more gives source 0 the same units, and may be more
 happens_more : (airs : Airs) (bis : ℕ) (made : List Step) (step : Step) → Extends (given bis (source_calls (steps_of_source 0 made)))
-    (given bis (source_calls (steps_of_source 0 (step ∷ with_gifts airs made step))))
+    (given bis (source_calls (steps_of_source 0 (step ∷ with_relayed_units airs made step))))
 happens_more airs bis made step k octets is =
-    let gifted = with_gifts airs made step in
-    own_extends (is_of_source 0 gifted step) bis step (steps_of_source 0 gifted) k octets
-    (subst (λ own. slice_get (given bis (source_calls own)) k ≡ Some octets) (sym (left_by_gifts airs made step).first) is)
+    let after_relays = with_relayed_units airs made step in
+    own_extends (is_of_source 0 after_relays step) bis step (steps_of_source 0 after_relays) k octets
+    (subst (λ own. slice_get (given bis (source_calls own)) k ≡ Some octets) (sym (left_by_relayed_units airs made step).first) is)
 
 pub offered_numbered : StepsInOrder → (airs : Airs) → MeetAirs airs → (boxes n bis to : ℕ) (said : List Step)
     → AreSaidLegally airs boxes said
@@ -238,23 +238,23 @@ offered_numbered order airs meets boxes n bis to [] legal within least greatest 
 offered_numbered order airs meets boxes n bis to (step ∷ earlier) legal within least greatest clean =
     let said = step ∷ earlier in
     let made = happened airs earlier in
-    let gifted = with_gifts airs made step in
-    let octets = given bis (source_calls (steps_of_source 0 (step ∷ gifted))) in
-    let left = left_by_gifts airs made step in
+    let after_relays = with_relayed_units airs made step in
+    let octets = given bis (source_calls (steps_of_source 0 (step ∷ after_relays))) in
+    let left = left_by_relayed_units airs made step in
     let one = injected_since (is_made n) n earlier in
     let other = injected_till_last_offer n bis to earlier in
     elim (cases_Bool (is_route bis to (relay_of n earlier) && closes_first earlier step)) [
       | inl here ↦
           let parts = and_parts (is_route bis to (relay_of n earlier)) (closes_first earlier step) here in
-          let relay : relay_of n (step ∷ gifted) ≡ relay_of n earlier =
-          close_relays n earlier gifted step parts.1 ∙ left.relay n ∙ relay_happened airs n earlier in
-          let way = way_of bis to (relay_of n (step ∷ gifted)) (ap (is_route bis to) relay ∙ parts.0) in
-          let clean_now : injected_since (is_made n) n (step ∷ gifted) ≡ false = close_injects n earlier gifted step parts.1
+          let relay : relay_of n (step ∷ after_relays) ≡ relay_of n earlier =
+          close_relays n earlier after_relays step parts.1 ∙ left.relay n ∙ relay_happened airs n earlier in
+          let way = way_of bis to (relay_of n (step ∷ after_relays)) (ap (is_route bis to) relay ∙ parts.0) in
+          let clean_now : injected_since (is_made n) n (step ∷ after_relays) ≡ false = close_injects n earlier after_relays step parts.1
           ∙ injected_offers airs n (offers_before airs made step) made
           ∙ injected_happened airs n earlier ∙ ap (λ b. cond b one other) (sym here) ∙ clean in
-          numbered_end octets (units_on bis (of_sink 0 n (handed_since (is_made n) airs (step ∷ gifted)))) (offered airs n bis to said)
+          numbered_end octets (units_on bis (of_sink 0 n (handed_since (is_made n) airs (step ∷ after_relays)))) (offered airs n bis to said)
           (ends_with airs boxes n bis to said legal within way.route way.is way.goes)
-          (numbered_since order airs meets boxes n bis (step ∷ gifted) (happens_legally airs boxes said legal)
+          (numbered_since order airs meets boxes n bis (step ∷ after_relays) (happens_legally airs boxes said legal)
           (in_range airs boxes n bis to said legal within) least greatest clean_now)
       | inr not ↦ elim (contains_cases step earlier (steps.Relay n bis to) within) [
         | inl is ↦

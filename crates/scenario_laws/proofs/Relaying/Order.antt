@@ -16,10 +16,10 @@ use Rattle.scenario_text.specs.declared.step.Step.TheVariants as steps
 use Rattle.scenario_history.specs.Source.{setup_of, source_calls}
 use Rattle.source_machine.specs.Airs.{Airs}
 use Rattle.scenario_history.specs.Steps.{steps_of_source}
-use Rattle.scenario_laws.specs.Gifts.Legal.{AreSaidLegally}
+use Rattle.scenario_laws.specs.RelayedUnits.Legal.{AreSaidLegally}
 use Rattle.scenario_laws.specs.SourceUnits.{InUnitOrder, IsOfUnit, anchor_in}
-use Rattle.scenario_history.specs.Gifts.{Answered, all_answered, happened, offered_to, passed}
-use Rattle.scenario_laws.specs.Gifts.Laws.{RelayLaw, offered}
+use Rattle.scenario_history.specs.RelayedUnits.{Answered, all_answered, happened, offered_to, passed}
+use Rattle.scenario_laws.specs.RelayedUnits.Laws.{RelayLaw, offered}
 use Rattle.scenario_laws.specs.Relayed.{InRelayOrder, IsOfOffered}
 
 -- ---- the places of what passes a test

@@ -1,4 +1,4 @@
--- The group check where a group may reach more events ahead: but for the row of the horizon it finds the same.
+-- The group check where a group may have a greater horizon: but for the row of the horizon it finds the same.
 use Rattle.std.proofs.Common.{ℕ, ◌≡◌, ◌⊎◌, ◌≤◌, ltb, cond, Bool, true, false, List, [], ◌∷◌, Option, None, Some, refl, inl, inr, arith}
 use Rattle.std.specs.List.{find}
 use Rattle.std.proofs.lemmas.Bool.{false≢true, le-ltb, ltb-true, lt-ltb}
@@ -9,7 +9,7 @@ use Rattle.big_info.specs.Faults.{faults}
 use Rattle.big_info.specs.Rows.{first_fault, has_fault}
 use Rattle.big_info.specs.Schedule.{horizon_of}
 
--- the fault isn't that the group reaches too far
+-- the fault isn't the horizon of the group
 abbrev pub IsNear : GroupFault → Type 0
 IsNear faults_of.Horizon = ⊥
 IsNear _ = Unit {0}
@@ -32,19 +32,19 @@ past_horizon : (close wide : Bool) (one other : Option GroupFault) → (wide ≡
 past_horizon close wide one other more is same = grind (arith, false≢true)
 
 -- what lies past the greater horizon lies past the smaller one
-past_both : (near far reach : ℕ) → near ≤ far → ltb far reach ≡ true → ltb near reach ≡ true
-past_both near far reach within past_far = let below = ltb-true far reach past_far in lt-ltb near reach (omega (arith, below))
+past_both : (near wider reach : ℕ) → near ≤ wider → ltb wider reach ≡ true → ltb near reach ≡ true
+past_both near wider reach within past_far = let below = ltb-true wider reach past_far in lt-ltb near reach (omega (arith, below))
 
-found : (near far : ℕ) (info : BigInfo) (all : List GroupFault) → near ≤ far → FoundNear (find (has_fault near info) all)
-    → find (has_fault far info) all ≡ find (has_fault near info) all
-found near far info [] within is = refl
-found near far info (faults_of.Horizon ∷ all) within is = search (past_horizon, ltb, past_both, found near far info all within)
-found near far info (fault ∷ all) within is = search (past, found near far info all within)
+found : (near wider : ℕ) (info : BigInfo) (all : List GroupFault) → near ≤ wider → FoundNear (find (has_fault near info) all)
+    → find (has_fault wider info) all ≡ find (has_fault near info) all
+found near wider info [] within is = refl
+found near wider info (faults_of.Horizon ∷ all) within is = search (past_horizon, ltb, past_both, found near wider info all within)
+found near wider info (fault ∷ all) within is = search (past, found near wider info all within)
 
-pub first_same : (near far : ℕ) (info : BigInfo) → near ≤ far → FoundNear (first_fault near info)
-    → first_fault far info ≡ first_fault near info
+pub first_same : (near wider : ℕ) (info : BigInfo) → near ≤ wider → FoundNear (first_fault near info)
+    → first_fault wider info ≡ first_fault near info
 unfolding first_fault
-first_same near far info within is = found near far info faults within is
+first_same near wider info within is = found near wider info faults within is
 
 -- ---- where the row of the horizon doesn't hold
 
@@ -68,7 +68,7 @@ within_near near info within = near_in near info faults within
 
 -- ---- either way
 
-pub near_or_far : (found : Option GroupFault) → FoundNear found ⊎ (found ≡ Some faults_of.Horizon)
-near_or_far None = inl tt
-near_or_far (Some faults_of.Horizon) = inr refl
-near_or_far (Some fault) = inl tt
+pub near_or_horizon : (found : Option GroupFault) → FoundNear found ⊎ (found ≡ Some faults_of.Horizon)
+near_or_horizon None = inl tt
+near_or_horizon (Some faults_of.Horizon) = inr refl
+near_or_horizon (Some fault) = inl tt

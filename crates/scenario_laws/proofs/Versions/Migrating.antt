@@ -24,7 +24,7 @@ use Rattle.scenario_history.specs.Relays.{has_relay}
 use Rattle.scenario_history.specs.Steps.{is_over, is_unbegun_at, stage_of, version_of}
 use Rattle.scenario_history.specs.Transcript.{end_after, has_end, last_end_after, last_line_after, out_of, transcript_end, transcript_of}
 use Rattle.scenario_history.specs.Transcript.{units_of}
-use Rattle.scenario_laws.specs.Versions.{EndsLasting, IsLastingText, NonePrintsTooFar}
+use Rattle.scenario_laws.specs.Versions.{EndsLasting, IsLastingText, NonePrintsHorizon}
 use Rattle.scenario_laws.proofs.Versions.Lived.{AreCalm}
 use Rattle.scenario_laws.proofs.Versions.Runs.{Begins, Its, Laws, RunAlike, RunsAlike, Stands, run_alike}
 use Rattle.scenario_laws.proofs.Versions.Seconds.{seconds}
@@ -58,8 +58,8 @@ skips starts history others reason reason' brought brought' octets octets' end e
     (sym none)
     (subst (λ r. RunsAlike (brought ++ octets) (out_unless (Its starts) others r (brought' ++ octets')) end (end_unless others r end') all
     (accepted_unless others r all')) (sym none')
-    (subst (λ front. RunsAlike (front ++ octets) (brought' ++ octets') end end' all all') (sym empty)
-    (subst (λ front. RunsAlike octets (front ++ octets') end end' all all') (sym empty') alike)))
+    (subst (λ prefix. RunsAlike (prefix ++ octets) (brought' ++ octets') end end' all all') (sym empty)
+    (subst (λ prefix. RunsAlike octets (prefix ++ octets') end end' all all') (sym empty') alike)))
 
 -- a line that both histories refuse
 stops : (starts : List Account) (history : List TextLine) (reason : Option Refusal) (why : Refusal) (octets octets' : List ℕ)
@@ -125,7 +125,7 @@ first_stands starts history none accepted =
 
 -- ---- the lines of both texts
 
-first_alike : Laws → (starts : List Account) (all history rest : List TextLine) → NonePrintsTooFar airs_of starts all
+first_alike : Laws → (starts : List Account) (all history rest : List TextLine) → NonePrintsHorizon airs_of starts all
     → Begins all history (plain first_version ∷ rest)
     → said_of history ≡ [] → Accepted (Its starts) history → EndsLasting (end_of (Its starts) history (plain first_version ∷ rest))
     → RunAlike starts history history (plain first_version ∷ rest) (plain second_version ∷ rest)
@@ -145,7 +145,7 @@ first_alike laws starts all history rest never begins none accepted lasting =
     (lasting_next history ((Its starts).refusal history (plain first_version)) (end_of (Its starts) (plain first_version ∷ history) rest)
     none_one lasting))
 
-turned_alike : Laws → (starts : List Account) (all history lines others : List TextLine) → NonePrintsTooFar airs_of starts all
+turned_alike : Laws → (starts : List Account) (all history lines others : List TextLine) → NonePrintsHorizon airs_of starts all
     → Begins all history lines → said_of history ≡ []
     → Accepted (Its starts) history → EndsLasting (end_of (Its starts) history lines) → Turned lines others
     → RunAlike starts history history lines others

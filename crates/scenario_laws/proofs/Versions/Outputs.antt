@@ -9,7 +9,7 @@ use Rattle.scenario_text.specs.declared.step.Step.{Step}
 use Rattle.scenario_text.specs.declared.step.Step.TheVariants as steps
 use Rattle.transcript_text.specs.Lines.{control_line}
 use Rattle.delegator_history.specs.Trains.{Settings}
-use Rattle.sink_history.specs.Lives.{Source, named_by}
+use Rattle.sink_history.specs.History.{Source, named_by}
 use Rattle.sink_history.specs.Moves.{train_by}
 use Rattle.sink_history.specs.Output.{printed_at, printed_where}
 use Rattle.scenario_history.specs.Boxes.{SinkUnit, closing, closing_at, handed_by, handed_up}
@@ -18,8 +18,8 @@ use Rattle.scenario_history.specs.Relays.{has_relay}
 use Rattle.scenario_history.specs.Source.{end_pdu, open_event, stale_in}
 use Rattle.scenario_history.specs.Steps.{chosen_of, chosen_steps, steps_of_source}
 use Rattle.scenario_history.specs.Worlds.{the_world}
-use Rattle.scenario_laws.proofs.Gifts.Citable.{plain_close, plain_end, flat_same}
-use Rattle.scenario_laws.proofs.Versions.Lived.{AreCalm, AreFar, IsCalm, QuietLife, is_quiet, life_same, made_far, quiet_life, source_same}
+use Rattle.scenario_laws.proofs.RelayedUnits.Citable.{plain_close, plain_end, flat_same}
+use Rattle.scenario_laws.proofs.Versions.Lived.{AreCalm, AreWider, IsCalm, QuietHistory, is_quiet, history_same, made_wider, quiet_history, source_same}
 use Rattle.scenario_laws.proofs.Versions.Printed.{printed_same}
 use Rattle.scenario_laws.proofs.Versions.Received.{HeardNear, sink_calls_same, source_of_same}
 use Rattle.scenario_laws.proofs.Versions.Refused.{box_same}
@@ -51,14 +51,14 @@ handed_up_same (step ∷ earlier) calm = λ i. handed_up_same earlier calm.0 i
 
 -- ---- what a step prints of a sink
 
-where_same : (source : Source) (step : Step) (made other : Option Settings) (calls : List Call) → AreFar made other → QuietLife made calls
+where_same : (source : Source) (step : Step) (made other : Option Settings) (calls : List Call) → AreWider made other → QuietHistory made calls
     → HeardNear made calls (train_by source step) → printed_where source step other calls ≡ printed_where source step made calls
-where_same source this made other calls far quiet near = grind (arith, printed_same, is_quiet)
+where_same source this made other calls wider quiet near = grind (arith, printed_same, is_quiet)
 
 named_same : (made : List Step) (step : Step) (named : Option ℕ) → named_by step ≡ named → AreCalm made → IsCalm made step
     → printed_at the_world (seconds made) step named ≡ printed_at the_world made step named
 named_same made this None names calm is = refl
-named_same made this (Some n) names calm is = search (ap₂, seconds, source_same, life_same, where_same, made_far, quiet_life)
+named_same made this (Some n) names calm is = search (ap₂, seconds, source_same, history_same, where_same, made_wider, quiet_history)
 
 lines_same : (made : List Step) (step : Step) → AreCalm made → IsCalm made step → sink_lines (seconds made) step ≡ sink_lines made step
 lines_same made step calm is = ap concat (named_same made step (named_by step) refl calm is)

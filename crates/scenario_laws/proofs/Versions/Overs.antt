@@ -9,7 +9,7 @@ use Rattle.scenario_text.specs.declared.step.Step.TheVariants as steps
 use Rattle.scenario_history.specs.Airs.{MeetAirs}
 use Rattle.scenario_history.specs.Lines.{rules_of, steps_of}
 use Rattle.scenario_history.specs.Transcript.{transcript_end, transcript_of, units_of}
-use Rattle.scenario_laws.specs.Versions.{EndsLasting, IsLastingText, MigrationLaw, PrintsTooFar}
+use Rattle.scenario_laws.specs.Versions.{EndsLasting, IsLastingText, MigrationLaw, PrintsHorizon}
 use Rattle.scenario_laws.proofs.Versions.Migrating.{LinesAlike, text_alike}
 use Rattle.scenario_laws.proofs.Versions.Runs.{Laws}
 
@@ -28,7 +28,7 @@ pub record OneTranscript : Type 0 where
 
 -- a `train` step prints the same over all airs
 prints_over : (airs others : Airs) (starts : List Account) (earlier : List TextLine) (line : TextLine)
-    → steps_of airs earlier ≡ steps_of others earlier → PrintsTooFar airs starts earlier line → PrintsTooFar others starts earlier line
+    → steps_of airs earlier ≡ steps_of others earlier → PrintsHorizon airs starts earlier line → PrintsHorizon others starts earlier line
 prints_over airs others starts earlier line same prints = search arith
 
 lasting_over : OneTranscript → MeetAirs airs_of → (airs : Airs) (starts : List Account) (text : List ℕ) → MeetAirs airs

@@ -46,19 +46,19 @@ then_on (Err fault) f g on = inl refl
 
 -- ---- a number
 
-fits_more : (is_decimal least : Bool) (n near far : ℕ) → near ≤ far → (is_decimal && (least && leb n near)) ≡ true
-    → (is_decimal && (least && leb n far)) ≡ true
-fits_more is_decimal least n near far within is = grind (arith, leb-true, le-leb)
+fits_more : (is_decimal least : Bool) (n near wider : ℕ) → near ≤ wider → (is_decimal && (least && leb n near)) ≡ true
+    → (is_decimal && (least && leb n wider)) ≡ true
+fits_more is_decimal least n near wider within is = grind (arith, leb-true, le-leb)
 
 taken_on : (b c : Bool) (n read : ℕ) (words : List (List ℕ)) → (b ≡ true → c ≡ true)
     → ReadsOn (taken read words (cond b (Some n) None)) (taken read words (cond c (Some n) None))
 taken_on true c n read words more = inl (ap (λ it. taken read words (cond it (Some n) None)) (more refl))
 taken_on false c n read words more = inr tt
 
-number_on : (near far : ℕ) (read : ℕ) (words : List (List ℕ)) → near ≤ far
-    → ReadsOn (next_of (decimal_in 1 near) read words) (next_of (decimal_in 1 far) read words)
+number_on : (near wider : ℕ) (read : ℕ) (words : List (List ℕ)) → near ≤ wider
+    → ReadsOn (next_of (decimal_in 1 near) read words) (next_of (decimal_in 1 wider) read words)
 unfolding decimal_in
-number_on near far read words within = grind (arith, taken_on, fits_more)
+number_on near wider read words within = grind (arith, taken_on, fits_more)
 
 -- ---- a row
 

@@ -5,66 +5,66 @@ use Rattle.std.proofs.Common.{ℕ, zero, suc, ◌≡◌, ◌==◌, cond, Bool, t
 use Rattle.std.proofs.Common.{ap₂}
 use Rattle.std.proofs.lemmas.Bool.{eqb-true}
 use Rattle.delegator_machine.specs.Groups.{with_step}
-use Rattle.delegator_history.specs.Trains.{Settings, Train, brought_by}
+use Rattle.delegator_history.specs.Trains.{Settings, Train, outcome_by}
 use Rattle.group_sink.specs.Calls.{Call as SinkCall}
 use Rattle.sink_history.specs.Calls.{Call}
 use Rattle.source_machine.specs.Airs.{airs_of}
 use Rattle.scenario_text.specs.declared.step.Step.{Step}
 use Rattle.scenario_text.specs.declared.step.Step.TheVariants as steps
-use Rattle.sink_history.specs.Lives.{Source, made_of, named_by}
-use Rattle.sink_history.specs.Moves.{follows, follows_by, joining_of, received_by, source_by, train_by}
-use Rattle.sink_history.specs.Output.{sight_in}
+use Rattle.sink_history.specs.History.{Source, made_of, named_by}
+use Rattle.sink_history.specs.Moves.{follows, follows_by, big_sync_of, received_by, source_by, train_by}
+use Rattle.sink_history.specs.Output.{snapshot_in}
 use Rattle.scenario_history.specs.Sinks.{heard_on_air, moved, sink_calls, source_after, source_of}
 use Rattle.scenario_history.specs.Sinks.{sourced}
 use Rattle.scenario_history.specs.Sinks.{ticked_by, with_sink_call}
-use Rattle.scenario_history.specs.Worlds.{life, source_at}
-use Rattle.scenario_laws.proofs.Versions.Lived.{AreCalm, AreFar, IsCalm, IsFar, QuietLife, after_same, is_quiet, life_same, made_far, quiet_life}
+use Rattle.scenario_history.specs.Worlds.{calls_made, source_at}
+use Rattle.scenario_laws.proofs.Versions.Lived.{AreCalm, AreWider, IsCalm, IsWider, QuietHistory, after_same, is_quiet, history_same, made_wider, quiet_history}
 use Rattle.scenario_laws.proofs.Versions.Lived.{source_same}
-use Rattle.scenario_laws.proofs.Versions.Lives.{AreQuietCalls}
-use Rattle.scenario_laws.proofs.Versions.Printed.{HearsNear, brings_same, its_sight, reaching_made}
+use Rattle.scenario_laws.proofs.Versions.Histories.{AreQuietCalls}
+use Rattle.scenario_laws.proofs.Versions.Printed.{HearsNear, brings_same, its_snapshot, made_with_horizon}
 use Rattle.scenario_laws.proofs.Versions.Seconds.{at_second, over_same, same, seconds}
 
 -- ---- trains
 
-brought_far : (made other : Settings) (calls : List Call) (train : Train) → IsFar made other → AreQuietCalls made.setup calls
+outcome_wider : (made other : Settings) (calls : List Call) (train : Train) → IsWider made other → AreQuietCalls made.setup calls
     → HearsNear made calls (Some train)
-    → brought_by other.setup (sight_in other calls) train ≡ brought_by made.setup (sight_in made calls) train
-brought_far made other calls train far quiet near = cc (far.is, brings_same far.horizon made calls train (is_quiet made other calls far quiet) near)
+    → outcome_by other.setup (snapshot_in other calls) train ≡ outcome_by made.setup (snapshot_in made calls) train
+outcome_wider made other calls train wider quiet near = cc (wider.is, brings_same wider.horizon made calls train (is_quiet made other calls wider quiet) near)
 
 -- each train that is heard so isn't answered `BadGroup 11`
 abbrev pub HeardNear : Option Settings → List Call → Option Train → Type 0
 HeardNear made calls train = (sink : Settings) → made ≡ Some sink → HearsNear sink calls train
 
-follows_same : (source : Source) (train : Option Train) (made other : Option Settings) (calls : List Call) → AreFar made other
-    → QuietLife made calls → HeardNear made calls train → follows_by source train other calls ≡ follows_by source train made calls
-follows_same source None made other calls far quiet near = refl
-follows_same source (Some train) None None calls far quiet near = refl
-follows_same source (Some train) (Some made) (Some other) calls far quiet near =
-    ap follows (brought_far made other calls train far quiet (near made refl))
-follows_same source (Some train) None (Some other) calls far quiet near = absurd far
-follows_same source (Some train) (Some made) None calls far quiet near = absurd far
+follows_same : (source : Source) (train : Option Train) (made other : Option Settings) (calls : List Call) → AreWider made other
+    → QuietHistory made calls → HeardNear made calls train → follows_by source train other calls ≡ follows_by source train made calls
+follows_same source None made other calls wider quiet near = refl
+follows_same source (Some train) None None calls wider quiet near = refl
+follows_same source (Some train) (Some made) (Some other) calls wider quiet near =
+    ap follows (outcome_wider made other calls train wider quiet (near made refl))
+follows_same source (Some train) None (Some other) calls wider quiet near = absurd wider
+follows_same source (Some train) (Some made) None calls wider quiet near = absurd wider
 
-joining_same : (horizon : ℕ) (made : Settings) (calls : List Call) (train : Option Train) → (far : IsFar made (reaching_made horizon made))
+big_sync_same : (horizon : ℕ) (made : Settings) (calls : List Call) (train : Option Train) → (wider : IsWider made (made_with_horizon horizon made))
     → AreQuietCalls made.setup calls
-    → HearsNear made calls train → joining_of (reaching_made horizon made) (sight_in (reaching_made horizon made) calls) train
-    ≡ joining_of made (sight_in made calls) train
-joining_same horizon made calls None far quiet near = refl
-joining_same horizon made calls (Some train) far quiet near = cc (brought_far made (reaching_made horizon made) calls train far quiet near)
+    → HearsNear made calls train → big_sync_of (made_with_horizon horizon made) (snapshot_in (made_with_horizon horizon made) calls) train
+    ≡ big_sync_of made (snapshot_in made calls) train
+big_sync_same horizon made calls None wider quiet near = refl
+big_sync_same horizon made calls (Some train) wider quiet near = cc (outcome_wider made (made_with_horizon horizon made) calls train wider quiet near)
 
 received_same : (source : Source) (step : Step) (made other : Option Settings) (before after : List Call) (calls : List SinkCall)
-    → AreFar made other → QuietLife made before → QuietLife made after → HeardNear made before (train_by source step)
+    → AreWider made other → QuietHistory made before → QuietHistory made after → HeardNear made before (train_by source step)
     → received_by source step other before after calls ≡ received_by source step made before after calls
-received_same source this None None before after calls far quiet later near = refl
-received_same source this (Some made) (Some other) before after calls far quiet later near =
-    let it : Settings = reaching_made far.horizon made in
-    ap (λ sink. received_by source this (Some sink) before after calls) far.is
-    ∙ ap (λ joining. with_step joining (sight_in it before) (sight_in it after) calls)
-    (joining_same far.horizon made before (train_by source this) (record { horizon = far.horizon; within = far.within; is = refl }) quiet
-    (near made refl)) ∙ ap₂ (λ one two. with_step (joining_of made (sight_in made before) (train_by source this)) one two calls)
-    (its_sight far.horizon made before (is_quiet made other before far quiet))
-    (its_sight far.horizon made after (is_quiet made other after far later))
-received_same source this None (Some other) before after calls far quiet later near = absurd far
-received_same source this (Some made) None before after calls far quiet later near = absurd far
+received_same source this None None before after calls wider quiet later near = refl
+received_same source this (Some made) (Some other) before after calls wider quiet later near =
+    let it : Settings = made_with_horizon wider.horizon made in
+    ap (λ sink. received_by source this (Some sink) before after calls) wider.is
+    ∙ ap (λ big_sync. with_step big_sync (snapshot_in it before) (snapshot_in it after) calls)
+    (big_sync_same wider.horizon made before (train_by source this) (record { horizon = wider.horizon; within = wider.within; is = refl }) quiet
+    (near made refl)) ∙ ap₂ (λ one two. with_step (big_sync_of made (snapshot_in made before) (train_by source this)) one two calls)
+    (its_snapshot wider.horizon made before (is_quiet made other before wider quiet))
+    (its_snapshot wider.horizon made after (is_quiet made other after wider later))
+received_same source this None (Some other) before after calls wider quiet later near = absurd wider
+received_same source this (Some made) None before after calls wider quiet later near = absurd wider
 
 -- ---- the source of a sink
 
@@ -72,21 +72,21 @@ choose_same : {A : Type 0} (b : Bool) (one two here there : A) → (b ≡ true �
 choose_same b one two here there same others = grind (arith, same)
 
 its_source : (n : ℕ) (step : Step) (earlier : List Step) (source others : Option ℕ) → AreCalm earlier
-    → HeardNear (made_of n earlier) (life n earlier) (train_by (source_at earlier) step)
-    → others ≡ source → source_by (source_at (seconds earlier)) step (made_of n (seconds earlier)) (life n (seconds earlier)) others
-    ≡ source_by (source_at earlier) step (made_of n earlier) (life n earlier) source
+    → HeardNear (made_of n earlier) (calls_made n earlier) (train_by (source_at earlier) step)
+    → others ≡ source → source_by (source_at (seconds earlier)) step (made_of n (seconds earlier)) (calls_made n (seconds earlier)) others
+    ≡ source_by (source_at earlier) step (made_of n earlier) (calls_made n earlier) source
 its_source n step earlier source others calm near same =
     let other : Option Settings = made_of n (seconds earlier) in
-    ap₂ (λ at calls. source_by at step other calls others) (source_same earlier) (life_same n earlier calm)
+    ap₂ (λ at calls. source_by at step other calls others) (source_same earlier) (history_same n earlier calm)
     ∙ ap₂ (λ b its. cond b (Some (source_at earlier).number) its)
-    (follows_same (source_at earlier) (train_by (source_at earlier) step) (made_of n earlier) other (life n earlier) (made_far n earlier)
-    (quiet_life n earlier calm) near) same
+    (follows_same (source_at earlier) (train_by (source_at earlier) step) (made_of n earlier) other (calls_made n earlier) (made_wider n earlier)
+    (quiet_history n earlier calm) near) same
 
 sourced_same : (n sink : ℕ) (step : Step) (earlier : List Step) (source others : Option ℕ) → named_by step ≡ Some sink → AreCalm earlier
     → IsCalm earlier step → others ≡ source → sourced n step sink (seconds earlier) others ≡ sourced n step sink earlier source
 sourced_same n sink step earlier source others names calm is same =
-    choose_same (sink == n) (source_by (source_at earlier) step (made_of n earlier) (life n earlier) source)
-    (source_by (source_at (seconds earlier)) step (made_of n (seconds earlier)) (life n (seconds earlier)) others) source others
+    choose_same (sink == n) (source_by (source_at earlier) step (made_of n earlier) (calls_made n earlier) source)
+    (source_by (source_at (seconds earlier)) step (made_of n (seconds earlier)) (calls_made n (seconds earlier)) others) source others
     (λ its. its_source n step earlier source others calm (λ it made. is n it (names ∙ ap Some (eqb-true sink n its)) made) same) same
 
 source_next : (n : ℕ) (step : Step) (earlier : List Step) (source others : Option ℕ) → AreCalm earlier → IsCalm earlier step
@@ -116,29 +116,29 @@ ticked_same : (s n : ℕ) (earlier : List Step) (calls others : List SinkCall) �
 ticked_same s n earlier calls others calm stays = search (same, over_same, source_of_same n earlier calm, stays)
 
 its_moves : (n : ℕ) (step : Step) (earlier : List Step) (calls others : List SinkCall) → AreCalm earlier
-    → QuietLife (made_of n earlier) (life n (step ∷ earlier))
-    → HeardNear (made_of n earlier) (life n earlier) (train_by (source_at earlier) step) → others ≡ calls
-    → received_by (source_at (seconds earlier)) step (made_of n (seconds earlier)) (life n (seconds earlier))
-    (life n (step ∷ seconds earlier)) others
-    ≡ received_by (source_at earlier) step (made_of n earlier) (life n earlier) (life n (step ∷ earlier)) calls
+    → QuietHistory (made_of n earlier) (calls_made n (step ∷ earlier))
+    → HeardNear (made_of n earlier) (calls_made n earlier) (train_by (source_at earlier) step) → others ≡ calls
+    → received_by (source_at (seconds earlier)) step (made_of n (seconds earlier)) (calls_made n (seconds earlier))
+    (calls_made n (step ∷ seconds earlier)) others
+    ≡ received_by (source_at earlier) step (made_of n earlier) (calls_made n earlier) (calls_made n (step ∷ earlier)) calls
 its_moves n step earlier calls others calm later near same =
     let other : Option Settings = made_of n (seconds earlier) in
-    let quiet : QuietLife (made_of n earlier) (life n earlier) = quiet_life n earlier calm in
-    ap₂ (λ source before. received_by source step other before (life n (step ∷ seconds earlier)) others) (source_same earlier)
-    (life_same n earlier calm) ∙ ap₂ (received_by (source_at earlier) step other (life n earlier))
-    (after_same n step earlier (made_of n earlier) other (life n earlier) (life n (seconds earlier)) (made_far n earlier) quiet
-    (life_same n earlier calm)) same
-    ∙ received_same (source_at earlier) step (made_of n earlier) other (life n earlier) (life n (step ∷ earlier)) calls (made_far n earlier)
+    let quiet : QuietHistory (made_of n earlier) (calls_made n earlier) = quiet_history n earlier calm in
+    ap₂ (λ source before. received_by source step other before (calls_made n (step ∷ seconds earlier)) others) (source_same earlier)
+    (history_same n earlier calm) ∙ ap₂ (received_by (source_at earlier) step other (calls_made n earlier))
+    (after_same n step earlier (made_of n earlier) other (calls_made n earlier) (calls_made n (seconds earlier)) (made_wider n earlier) quiet
+    (history_same n earlier calm)) same
+    ∙ received_same (source_at earlier) step (made_of n earlier) other (calls_made n earlier) (calls_made n (step ∷ earlier)) calls (made_wider n earlier)
     quiet later near
 
 moved_same : (n : ℕ) (named : Option ℕ) (step : Step) (earlier : List Step) (calls others : List SinkCall) → named_by step ≡ named
-    → AreCalm earlier → IsCalm earlier step → QuietLife (made_of n earlier) (life n (step ∷ earlier)) → others ≡ calls
+    → AreCalm earlier → IsCalm earlier step → QuietHistory (made_of n earlier) (calls_made n (step ∷ earlier)) → others ≡ calls
     → moved n named step (seconds earlier) others ≡ moved n named step earlier calls
 moved_same n None this earlier calls others names calm is later same = same
 moved_same n (Some sink) this earlier calls others names calm is later same =
-    choose_same (sink == n) (received_by (source_at earlier) this (made_of n earlier) (life n earlier) (life n (this ∷ earlier)) calls)
-    (received_by (source_at (seconds earlier)) this (made_of n (seconds earlier)) (life n (seconds earlier))
-    (life n (this ∷ seconds earlier)) others) calls others
+    choose_same (sink == n) (received_by (source_at earlier) this (made_of n earlier) (calls_made n earlier) (calls_made n (this ∷ earlier)) calls)
+    (received_by (source_at (seconds earlier)) this (made_of n (seconds earlier)) (calls_made n (seconds earlier))
+    (calls_made n (this ∷ seconds earlier)) others) calls others
     (λ its. its_moves n this earlier calls others calm later (λ it made. is n it (names ∙ ap Some (eqb-true sink n its)) made) same) same
 
 call_next : (n : ℕ) (step : Step) (earlier : List Step) (calls others : List SinkCall) → AreCalm earlier → IsCalm earlier step
@@ -155,7 +155,7 @@ call_next n steps.Stop earlier calls others calm is stays = search (same, over_s
 call_next n (steps.Terminate reason) earlier calls others calm is stays = search (same, over_same, source_of_same n earlier calm, stays)
 call_next n steps.End earlier calls others calm is stays = search (ticked_same, seconds)
 call_next n this earlier calls others calm is stays =
-    moved_same n (named_by this) this earlier calls others refl calm is (quiet_life n (this ∷ earlier) (calm, is)) stays
+    moved_same n (named_by this) this earlier calls others refl calm is (quiet_history n (this ∷ earlier) (calm, is)) stays
 
 pub sink_calls_same : (n : ℕ) (made : List Step) → AreCalm made → sink_calls airs_of n (seconds made) ≡ sink_calls airs_of n made
 sink_calls_same n [] calm = refl

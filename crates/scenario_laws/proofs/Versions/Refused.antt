@@ -18,7 +18,7 @@ use Rattle.transcript_text.specs.declared.refusal.Refusal.{Refusal}
 use Rattle.transcript_text.specs.declared.refusal.Refusal.TheVariants.{AfterEnd}
 use Rattle.transcript_text.specs.declared.refusal.Refusal.TheVariants.{Order}
 use Rattle.delegator_history.specs.Trains.{Settings}
-use Rattle.sink_history.specs.Lives.{named_by}
+use Rattle.sink_history.specs.History.{named_by}
 use Rattle.sink_history.specs.Refusals.{refused_at, refused_where, refuse_if}
 use Rattle.scenario_history.specs.Boxes.{box_after, box_of}
 use Rattle.scenario_history.specs.Refusals.{give_refusal, group_refusal}
@@ -29,8 +29,8 @@ use Rattle.scenario_history.specs.Source.{setup_of, source_calls}
 use Rattle.scenario_history.specs.Steps.{chosen_steps, is_over, version_of}
 use Rattle.scenario_history.specs.Worlds.{the_world}
 use Rattle.scenario_laws.specs.Versions.{IsLasting}
-use Rattle.scenario_laws.proofs.Versions.Groups.{first_same, near_or_far}
-use Rattle.scenario_laws.proofs.Versions.Lived.{AreCalm, AreFar, QuietLife, is_quiet, life_same, made_far, quiet_life}
+use Rattle.scenario_laws.proofs.Versions.Groups.{first_same, near_or_horizon}
+use Rattle.scenario_laws.proofs.Versions.Lived.{AreCalm, AreWider, QuietHistory, is_quiet, history_same, made_wider, quiet_history}
 use Rattle.scenario_laws.proofs.Versions.Printed.{refused_same}
 use Rattle.scenario_laws.proofs.Versions.Relays.{relays_same}
 use Rattle.scenario_laws.proofs.Versions.Seconds.{IsLater, ahead_stays, at_second, calls_same, horizon_grows}
@@ -60,10 +60,10 @@ lasts_or here there b h3 = grind (arith, same, gone_or)
 
 -- ---- a group
 
-group_lasts : (near far : ℕ) (info : BigInfo) → near ≤ far
-    → Lasts (group_refusal (first_fault near info)) (group_refusal (first_fault far info))
-group_lasts near far info within = elim (near_or_far (first_fault near info)) [
-  | inl is ↦ inl (ap group_refusal (first_same near far info within is))
+group_lasts : (near wider : ℕ) (info : BigInfo) → near ≤ wider
+    → Lasts (group_refusal (first_fault near info)) (group_refusal (first_fault wider info))
+group_lasts near wider info within = elim (near_or_horizon (first_fault near info)) [
+  | inl is ↦ inl (ap group_refusal (first_same near wider info within is))
   | inr too_far ↦ inr (subst (λ found. IsGone (group_refusal found)) (sym too_far) (λ lasting. lasting))
 ]
 
@@ -131,13 +131,13 @@ box_same n (step ∷ earlier) =
     ≡ box_after n one (seconds earlier) (box_of n (seconds earlier))) (λ version. refl) (λ same. refl) step
     ∙ box_next n step earlier (box_of n earlier) (box_of n (seconds earlier)) (box_same n earlier)
 
-where_same : (step : Step) (made other : Option Settings) (calls : List links.Call) → AreFar made other → QuietLife made calls
+where_same : (step : Step) (made other : Option Settings) (calls : List links.Call) → AreWider made other → QuietHistory made calls
     → refused_where step other calls ≡ refused_where step made calls
-where_same this made other calls far quiet = grind (arith, refused_same, is_quiet)
+where_same this made other calls wider quiet = grind (arith, refused_same, is_quiet)
 
 named_same : (step : Step) (named : Option ℕ) (made : List Step) → AreCalm made
     → refused_at the_world (seconds made) step named ≡ refused_at the_world made step named
-named_same this named made calm = grind (arith, seconds, life_same, where_same, made_far, quiet_life)
+named_same this named made calm = grind (arith, seconds, history_same, where_same, made_wider, quiet_history)
 
 sink_same : (boxes : ℕ) (made : List Step) (step : Step) → AreCalm made
     → sink_refusal boxes (seconds made) step ≡ sink_refusal boxes made step

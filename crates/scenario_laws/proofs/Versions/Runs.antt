@@ -9,7 +9,7 @@ use Rattle.std.proofs.lemmas.Option.{none-some, same_Some}
 use Rattle.bcast_io.specs.TextLines.{TextLine}
 use Rattle.unit_outlets.specs.Account.{Account}
 use Rattle.big_info.specs.declared.fault.GroupFault.TheVariants.{Horizon}
-use Rattle.delegator_history.specs.Trains.{Settings, Train, answer_of, brought_by}
+use Rattle.delegator_history.specs.Trains.{Settings, Train, answer_of, outcome_by}
 use Rattle.delegator_history.specs.declared.train_heard.TrainHeard.TheVariants.{BadGroup as Refused}
 use Rattle.scenario_history.specs.Runs.{Accepted, End, Rules, accepted_of, accepted_unless, end_of, end_unless, number_after, out, out_unless}
 use Rattle.scenario_history.specs.Runs.{refused}
@@ -21,27 +21,27 @@ use Rattle.transcript_text.specs.Lines.{refusal_line}
 use Rattle.transcript_text.specs.declared.refusal.Refusal.{Refusal}
 use Rattle.transcript_text.specs.declared.refusal.Refusal.TheVariants.{BadLine}
 use Rattle.transcript_text.specs.SinkLines.{sink_line, train_words}
-use Rattle.sink_history.specs.Lives.{given_train, made_of}
-use Rattle.sink_history.specs.Output.{printed_where, sight_in}
+use Rattle.sink_history.specs.History.{given_train, made_of}
+use Rattle.sink_history.specs.Output.{printed_where, snapshot_in}
 use Rattle.scenario_history.specs.Boxes.{handed_up}
 use Rattle.scenario_history.specs.Lines.{Said, a_step, nothing, unsaid, output_said, refusal_said, rules_of, said_after, said_in, said_of}
 use Rattle.scenario_history.specs.Lines.{steps_of, with_said}
 use Rattle.scenario_history.specs.Refusals.{is_misplaced, refusal_of}
 use Rattle.scenario_history.specs.Relays.{has_relay}
-use Rattle.scenario_laws.proofs.Gifts.Citable.{SaidNever, line_passes, none_relayed, nothing_else, plain_after, says_no_relay}
+use Rattle.scenario_laws.proofs.RelayedUnits.Citable.{SaidNever, line_passes, none_relayed, nothing_else, plain_after, says_no_relay}
 use Rattle.scenario_history.specs.Steps.{is_over, is_unbegun_at, stage_after, stage_of, version_of}
-use Rattle.scenario_history.specs.Worlds.{life, source_at}
+use Rattle.scenario_history.specs.Worlds.{calls_made, source_at}
 use Rattle.scenario_laws.proofs.Citable.{Legal, LinesInRange, legal, permitted}
-use Rattle.scenario_laws.specs.Versions.{EndsLasting, NonePrintsTooFar, PrintsTooFar, too_far_line}
+use Rattle.scenario_laws.specs.Versions.{EndsLasting, NonePrintsHorizon, PrintsHorizon, horizon_line}
 use Rattle.scenario_laws.proofs.Versions.Lived.{AreCalm, IsCalm}
 use Rattle.scenario_laws.proofs.Versions.Outputs.{handed_up_same, output_same}
 use Rattle.scenario_laws.proofs.Versions.Printed.{HearsNear}
-use Rattle.scenario_laws.proofs.Versions.Reach.{Announcing, announced_calm}
+use Rattle.scenario_laws.proofs.Versions.Horizons.{Announcing, announced_calm}
 use Rattle.scenario_laws.proofs.Versions.Reading.{IsUnsaid, said_later}
 use Rattle.scenario_laws.proofs.Versions.Refused.{IsGone, Lasts, step_lasts}
 use Rattle.scenario_laws.proofs.Versions.Relays.{has_relay_same}
 use Rattle.scenario_laws.proofs.Versions.Seconds.{is_later, over_same, second, seconds}
-use Rattle.scenario_laws.proofs.Versions.Trains.{near_or_far}
+use Rattle.scenario_laws.proofs.Versions.Trains.{near_or_horizon}
 
 -- the rules of a scenario with these boxes
 abbrev pub Its : List Account → Rules TextLine Refusal
@@ -86,42 +86,42 @@ as_said lines plain = nothing_else airs_of (said_of lines) plain
 answers_so : (starts : List Account) (earlier : List TextLine) (line : TextLine) (sink time : ℕ) (ext adv acad : List ℕ) (made : Settings)
     → has_relay (said_of earlier) ≡ false
     → said_after earlier line ≡ a_step (steps.Train sink time ext adv acad) → made_of sink (said_of earlier) ≡ Some made
-    → answer_of (brought_by made.setup (sight_in made (life sink (said_of earlier)))
-    (given_train (source_at (said_of earlier)) time ext adv acad)) ≡ Refused Horizon → (Its starts).output earlier line ≡ too_far_line sink
-answers_so starts earlier line sink time ext adv acad made plain says lives far =
+    → answer_of (outcome_by made.setup (snapshot_in made (calls_made sink (said_of earlier)))
+    (given_train (source_at (said_of earlier)) time ext adv acad)) ≡ Refused Horizon → (Its starts).output earlier line ≡ horizon_line sink
+answers_so starts earlier line sink time ext adv acad made plain says lives wider =
     let before : List Step = said_of earlier in
     let train : Train = given_train (source_at before) time ext adv acad in
     ap (λ made. output_said airs_of starts made (said_after earlier line)) (as_said earlier plain)
     ∙ ap (output_said airs_of starts before) says
-    ∙ ap (λ it. concat (printed_where (source_at before) (steps.Train sink time ext adv acad) it (life sink before))) lives
-    ∙ append-nil (sink_line sink (train_words (answer_of (brought_by made.setup (sight_in made (life sink before)) train))))
-    ∙ ap (λ answer. sink_line sink (train_words answer)) far
+    ∙ ap (λ it. concat (printed_where (source_at before) (steps.Train sink time ext adv acad) it (calls_made sink before))) lives
+    ∙ append-nil (sink_line sink (train_words (answer_of (outcome_by made.setup (snapshot_in made (calls_made sink before)) train))))
+    ∙ ap (λ answer. sink_line sink (train_words answer)) wider
 
 given_calm : (starts : List Account) (earlier : List TextLine) (line : TextLine) (sink time : ℕ) (ext adv acad : List ℕ)
-    → has_relay (said_of earlier) ≡ false → said_after earlier line ≡ a_step (steps.Train sink time ext adv acad) → (PrintsTooFar airs_of starts earlier line → ⊥)
+    → has_relay (said_of earlier) ≡ false → said_after earlier line ≡ a_step (steps.Train sink time ext adv acad) → (PrintsHorizon airs_of starts earlier line → ⊥)
     → IsCalm (said_of earlier) (steps.Train sink time ext adv acad)
 given_calm starts earlier line sink time ext adv acad plain says never n made names lives =
     let before : List Step = said_of earlier in
     let train : Train = given_train (source_at before) time ext adv acad in
-    let here : made_of sink before ≡ Some made → HearsNear made (life sink before) (Some train) =
-    λ is. elim (near_or_far (answer_of (brought_by made.setup (sight_in made (life sink before)) train))) [
+    let here : made_of sink before ≡ Some made → HearsNear made (calls_made sink before) (Some train) =
+    λ is. elim (near_or_horizon (answer_of (outcome_by made.setup (snapshot_in made (calls_made sink before)) train))) [
       | inl near ↦ near
-      | inr far ↦ absurd (never (record {
+      | inr wider ↦ absurd (never (record {
         sink = sink;
         time = time;
         ext = ext;
         adv = adv;
         acad = acad;
         says = says;
-        prints = answers_so starts earlier line sink time ext adv acad made plain says is far;
+        prints = answers_so starts earlier line sink time ext adv acad made plain says is wider;
       }))
     ] in
-    subst (λ m. made_of m before ≡ Some made → HearsNear made (life m before) (Some train)) (same_Some sink n names) here lives
+    subst (λ m. made_of m before ≡ Some made → HearsNear made (calls_made m before) (Some train)) (same_Some sink n names) here lives
 
 step_calm : Laws → (starts : List Account) (earlier : List TextLine) (line : TextLine) (step : Step)
     → has_relay (said_of earlier) ≡ false → said_after earlier line ≡ a_step step
     → Accepted (Its starts) earlier → refusal_of airs_of (length starts) (said_of earlier) step ≡ None
-    → (PrintsTooFar airs_of starts earlier line → ⊥) → IsCalm (said_of earlier) step
+    → (PrintsHorizon airs_of starts earlier line → ⊥) → IsCalm (said_of earlier) step
 step_calm laws starts earlier line (steps.Announce sink) plain says accepted none never =
     announced_calm laws.announcing airs_of (length starts) sink (said_of earlier)
     (subst (Legal airs_of (length starts)) (as_said earlier plain) (legal laws.ranged airs_of starts earlier accepted)) none
@@ -196,7 +196,7 @@ record Goes (made later : List Step) (said : Said) : Type 0 where
 
 goes_on : Laws → (starts : List Account) (history later : List TextLine) (line : TextLine) (said : Said) → said_after history line ≡ said
     → Stands starts history later
-    → refusal_said airs_of (length starts) (said_of history) said ≡ None → (PrintsTooFar airs_of starts history line → ⊥)
+    → refusal_said airs_of (length starts) (said_of history) said ≡ None → (PrintsHorizon airs_of starts history line → ⊥)
     → Goes (said_of history) (said_of later) said
 goes_on laws starts history later line (a_step this) says stands none never =
     let passes = line_passes airs_of (length starts) (said_of history) this none in
@@ -215,7 +215,7 @@ goes_on laws starts history later line (unsaid reason) says stands none never =
 
 stands_next : Laws → (starts : List Account) (history later : List TextLine) (line : TextLine) → Stands starts history later
     → (Its starts).refusal history line ≡ None
-    → (PrintsTooFar airs_of starts history line → ⊥) → Stands starts (line ∷ history) (line ∷ later)
+    → (PrintsHorizon airs_of starts history line → ⊥) → Stands starts (line ∷ history) (line ∷ later)
 stands_next laws starts history later line stands none never =
     let passes = passes_said starts history later line stands none in
     let same : said_after later line ≡ said_after history line =
@@ -231,7 +231,7 @@ brought_same starts made said plain calm next = grind (arith, output_same)
 
 line_same : Laws → (starts : List Account) (history later : List TextLine) (line : TextLine) → Stands starts history later
     → (Its starts).refusal history line ≡ None
-    → (PrintsTooFar airs_of starts history line → ⊥) → (Its starts).output later line ≡ (Its starts).output history line
+    → (PrintsHorizon airs_of starts history line → ⊥) → (Its starts).output later line ≡ (Its starts).output history line
 line_same laws starts history later line stands none never =
     ap₂ (output_said airs_of starts) (happens_later starts history later stands)
     (said_same (length starts) (said_of history) (said_after history line) (said_after later line)
@@ -294,7 +294,7 @@ run_next : (starts : List Account) (history later rest : List TextLine) (line : 
     (accepted_of (Its starts) (line ∷ history) rest) (accepted_of (Its starts) (line ∷ later) rest)
 run_next starts history later rest line same more = search (ap₂, over_same)
 
-pub run_alike : Laws → (starts : List Account) (lines history later rest : List TextLine) → NonePrintsTooFar airs_of starts lines
+pub run_alike : Laws → (starts : List Account) (lines history later rest : List TextLine) → NonePrintsHorizon airs_of starts lines
     → Begins lines history rest
     → Stands starts history later → EndsLasting (end_of (Its starts) history rest) → RunAlike starts history later rest rest
 run_alike laws starts lines history later (line ∷ rest) never begins stands lasting =
@@ -303,7 +303,7 @@ run_alike laws starts lines history later (line ∷ rest) never begins stands la
     ++ out (Its starts) (line ∷ later) rest) (end_of (Its starts) (line ∷ history) rest) (end_of (Its starts) (line ∷ later) rest)
     (accepted_of (Its starts) (line ∷ history) rest) (accepted_of (Its starts) (line ∷ later) rest) stands
     (line_lasts starts history later line stands) lasting (λ none on.
-    let prints_not : PrintsTooFar airs_of starts history line → ⊥ = never history line rest begins (stands.accepted, none) in
+    let prints_not : PrintsHorizon airs_of starts history line → ⊥ = never history line rest begins (stands.accepted, none) in
     run_next starts history later rest line (line_same laws starts history later line stands none prints_not)
     (run_alike laws starts lines (line ∷ history) (line ∷ later) rest never (begins ∙ sym (reverse_onto line history rest))
     (stands_next laws starts history later line stands none prints_not) on))

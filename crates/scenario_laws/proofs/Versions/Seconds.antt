@@ -7,7 +7,7 @@ use Rattle.std.specs.Option.{option_or}
 use Rattle.delegator_history.specs.LastGiven.{last_given as last_of}
 use Rattle.scenario_text.specs.declared.step.Step.{Step}
 use Rattle.scenario_text.specs.declared.step.Step.TheVariants as steps
-use Rattle.sink_history.specs.Lives.{horizon_in, horizon_of, version_given}
+use Rattle.sink_history.specs.History.{horizon_in, horizon_of, version_given}
 use Rattle.scenario_history.specs.Bases.{base_lines, with_base_line}
 use Rattle.scenario_history.specs.Source.{cipher_given, cipher_of, group_given, group_of, ident_of, identity_given, is_ahead_in}
 use Rattle.scenario_history.specs.Source.{phase_given, source_calls}

@@ -59,12 +59,12 @@ line_in : (taken : ℕ) (part line text : List ℕ) → Clean line → taken + l
     → lines_from true taken part (line ++ text) ≡ lines_from true (taken + length line) (part ++ line) text
 line_in taken part [] text clean within =
     let same : taken ≡ taken + 0 = omega arith in
-    ap₂ (λ count front. lines_from true count front text) same (sym (append-nil part))
+    ap₂ (λ count prefix. lines_from true count prefix text) same (sym (append-nil part))
 line_in taken part (octet ∷ line) text clean within =
     let count : (taken + 1) + length line ≡ taken + suc (length line) = omega arith in
     octet_in taken part octet (line ++ text) (omega arith) clean.0
     ∙ line_in (taken + 1) (part ++ octet ∷ []) line text clean.1 (omega (arith, within))
-    ∙ ap₂ (λ all front. lines_from true all front text) count (append_assoc part (octet ∷ []) line)
+    ∙ ap₂ (λ all prefix. lines_from true all prefix text) count (append_assoc part (octet ∷ []) line)
 
 line_past : (taken : ℕ) (part line text : List ℕ) → Clean line → taken ≤ text_limit → text_limit < taken + length line
     → lines_from true taken part (line ++ text) ≡ past ∷ []

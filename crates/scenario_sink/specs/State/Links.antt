@@ -1,9 +1,9 @@
 -- The links of a sink, by what happens on each of them.
 use Rattle.std.specs.Prelude.{ℕ, ◌≡◌, Bool, List, map, Option, Some, is_some}
 use Rattle.std.specs.List.{AllByRecursion}
-use Rattle.bcast_base.specs.Spelling.{IsOctets}
+use Rattle.bcast_base.specs.Encoding.{IsOctets}
 use Rattle.assistant_machine.specs.Calls as assistants
-use Rattle.assistant_machine.specs.Calls.{told, read}
+use Rattle.assistant_machine.specs.Calls.{notified, read}
 use Rattle.assistant_machine.specs.State.Assistants.{StandsFor}
 use Rattle.assistant_machine.specs.Views as known
 use Rattle.assistant_machine.specs.Links.{view_of, waiting_of, waits_of}
@@ -12,7 +12,7 @@ use Rattle.multi_assist.specs.State.Places.{Linked}
 
 -- what an assistant was told and what it read is octets
 abbrev pub IsHeard : assistants.Call → Type 0
-IsHeard (told slot value) = IsOctets value
+IsHeard (notified slot value) = IsOctets value
 IsHeard (read slot value) = IsOctets value
 IsHeard _ = Unit {0}
 

@@ -1,13 +1,13 @@
 -- What a sink with its links is after its calls.
 use Rattle.std.specs.Prelude.{ℕ, ◌≡◌, ◌∷◌, true, [], List, Option, Some, None}
 use Rattle.delegator_machine.specs.Calls as machine
-use Rattle.delegator_machine.specs.Groups.{group_calls, joining_given, with_step}
+use Rattle.delegator_machine.specs.Groups.{group_calls, big_sync_given, with_step}
 use Rattle.delegator_machine.specs.State.Halves.{Halves, StandsFor, settings_of}
 use Rattle.delegator_history.specs.Notices.{changes}
-use Rattle.delegator_history.specs.Sights.{Sight}
+use Rattle.delegator_history.specs.Snapshots.{Snapshot}
 use Rattle.delegator_history.specs.States.{Step}
 use Rattle.delegator_history.specs.Trains.{Setup}
-use Rattle.sync_reference.specs.Joining.{Joining}
+use Rattle.sync_reference.specs.BigSync.{BigSync}
 use Rattle.sink_history.specs.Calls.{Call, is_joined, step_by, steps_of, writes_waiting}
 use Rattle.sink_history.specs.Links.{acts_of}
 use Rattle.sink_history.specs.Octets.{AreOctets}
@@ -15,62 +15,62 @@ use Rattle.sink_history.specs.Steps.{IsStep}
 use Rattle.multi_assist.specs.State.Links.{link_at, mtu_of, slots_of}
 use Rattle.multi_assist.specs.State.Places.{Linked}
 use Rattle.multi_assist.specs.declared.links.Links.{Links}
-use Rattle.sink_history.specs.Output.{sight_in}
-use Rattle.scenario_sink.specs.declared.sink.LivingSink.{LivingSink}
-use Rattle.scenario_sink.specs.Pasts.{SinkPast}
+use Rattle.sink_history.specs.Output.{snapshot_in}
+use Rattle.scenario_sink.specs.declared.sink.LinkedSink.{LinkedSink}
+use Rattle.scenario_sink.specs.SinkHistory.{SinkHistory}
 use Rattle.scenario_sink.specs.State.Links.{OnLink}
 use Rattle.scenario_sink.specs.State.Untold.{untold}
 
--- the delegator took the steps of the sink's life, and more that asked for notices, and its receivers what they took; it has the
+-- the delegator took the steps of the sink's history, and more that asked for notices, and its receivers what they took; it has the
 -- settings of the sink, and the links have its slots and its MTU; link 0 is never left
-pub record Took (past : SinkPast) (delegator : Halves) (links : Links) : Type 0 where
+pub record Took (history : SinkHistory) (delegator : Halves) (links : Links) : Type 0 where
   pub taken : List machine.Call
-  pub stands : StandsFor past.made.setup taken delegator
-  pub own : untold (machine.steps_of taken) ≡ steps_of past.life
-  pub received_is : group_calls past.made.setup taken ≡ past.received
-  pub settings_is : settings_of delegator ≡ past.made
-  pub links_slots : slots_of links ≡ past.made.setup.slots
-  pub links_mtu : mtu_of links ≡ past.made.mtu
-  pub octets : AreOctets past.life
-  pub first : is_joined 0 past.life ≡ true
+  pub stands : StandsFor history.made.setup taken delegator
+  pub own : untold (machine.steps_of taken) ≡ steps_of history.calls_made
+  pub received_is : group_calls history.made.setup taken ≡ history.received
+  pub settings_is : settings_of delegator ≡ history.made
+  pub links_slots : slots_of links ≡ history.made.setup.slots
+  pub links_mtu : mtu_of links ≡ history.made.mtu
+  pub octets : AreOctets history.calls_made
+  pub first : is_joined 0 history.calls_made ≡ true
 
--- a link is as the sink's life leaves it
-abbrev pub LinkIs : ℕ → SinkPast → Option Linked → Type 0
-LinkIs link past on =
-    OnLink past.made.setup.slots past.made.mtu (is_joined link past.life) (acts_of past.made.setup past.made.mtu link past.life) (writes_waiting link past.life) on
+-- a link is as the sink's history leaves it
+abbrev pub LinkIs : ℕ → SinkHistory → Option Linked → Type 0
+LinkIs link history on =
+    OnLink history.made.setup.slots history.made.mtu (is_joined link history.calls_made) (acts_of history.made.setup history.made.mtu link history.calls_made) (writes_waiting link history.calls_made) on
 
--- no notice waits at the delegator, and each link is as the sink's life leaves it
-pub record Stands (past : SinkPast) (delegator : Halves) (links : Links) : Type 0 where
-  pub took : Took past delegator links
+-- no notice waits at the delegator, and each link is as the sink's history leaves it
+pub record Stands (history : SinkHistory) (delegator : Halves) (links : Links) : Type 0 where
+  pub took : Took history delegator links
   pub none_waits : delegator.scan.waiting ≡ []
-  pub each : (link : ℕ) → LinkIs link past (link_at links link)
+  pub each : (link : ℕ) → LinkIs link history (link_at links link)
 
 -- a sink is what its past makes of it, and of the source that this says
-pub record Lives (past : SinkPast) (living : LivingSink) : Type 0 where
-  pub stands : Stands past living.delegator living.links
-  pub source_is : living.source ≡ past.source
+pub record IsSink (history : SinkHistory) (living : LinkedSink) : Type 0 where
+  pub stands : Stands history living.delegator living.links
+  pub source_is : living.source ≡ history.source
 
 -- ---- a call more
 
 -- the group that a step of a delegator puts the sink on
-abbrev pub given : Setup → Sight → Option Step → Option Joining
-given setup sight None = None
-given setup sight (Some step) = joining_given setup sight step
+abbrev pub given : Setup → Snapshot → Option Step → Option BigSync
+given setup snapshot None = None
+given setup snapshot (Some step) = big_sync_given setup snapshot step
 
-abbrev pub after_call : Call → SinkPast → SinkPast
-after_call call past = record {
-  made = past.made;
-  source = past.source;
-  life = call ∷ past.life;
-  received = with_step (given past.made.setup (sight_in past.made past.life) (step_by call past.life)) (sight_in past.made past.life)
-      (sight_in past.made (call ∷ past.life)) past.received;
+abbrev pub after_call : Call → SinkHistory → SinkHistory
+after_call call history = record {
+  made = history.made;
+  source = history.source;
+  calls_made = call ∷ history.calls_made;
+  received = with_step (given history.made.setup (snapshot_in history.made history.calls_made) (step_by call history.calls_made)) (snapshot_in history.made history.calls_made)
+      (snapshot_in history.made (call ∷ history.calls_made)) history.received;
 }
 
 -- the delegator took a step, of which the notices still wait there; where the step is a write that was served, the write is taken
 -- off its link
-pub record HasStepped (call : Call) (past : SinkPast) (delegator : Halves) (links : Links) : Type 0 where
-  pub took : Took (after_call call past) delegator links
+pub record HasStepped (call : Call) (history : SinkHistory) (delegator : Halves) (links : Links) : Type 0 where
+  pub took : Took (after_call call history) delegator links
   pub is_step : IsStep call
-  pub waiting : delegator.scan.waiting ≡ changes past.made.setup.slots (sight_in past.made past.life) (sight_in past.made (call ∷ past.life))
-  pub each : (link : ℕ) → OnLink past.made.setup.slots past.made.mtu (is_joined link past.life) (acts_of past.made.setup past.made.mtu link past.life)
-      (writes_waiting link (call ∷ past.life)) (link_at links link)
+  pub waiting : delegator.scan.waiting ≡ changes history.made.setup.slots (snapshot_in history.made history.calls_made) (snapshot_in history.made (call ∷ history.calls_made))
+  pub each : (link : ℕ) → OnLink history.made.setup.slots history.made.mtu (is_joined link history.calls_made) (acts_of history.made.setup history.made.mtu link history.calls_made)
+      (writes_waiting link (call ∷ history.calls_made)) (link_at links link)

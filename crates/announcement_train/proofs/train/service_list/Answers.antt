@@ -1,5 +1,5 @@
 use Rattle.std.proofs.Common.{◌++◌, ap, length, arith, ◌∙◌, length-append}
-use Rattle.bcast_base.specs.Spelling.{number}
+use Rattle.bcast_base.specs.Encoding.{number}
 use Rattle.bcast_base.proofs.Citable.{number-length}
 use Rattle.announcement_train.proofs.train.service_list.Goals as goal
 

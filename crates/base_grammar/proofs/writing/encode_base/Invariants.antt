@@ -1,6 +1,6 @@
 use Rattle.std.proofs.Common.{◌≡◌, ◌++◌, ◌∷◌, [], length, take}
 use Rattle.std.specs.List.{flat_map}
-use Rattle.bcast_base.specs.Spelling.{number}
+use Rattle.bcast_base.specs.Encoding.{number}
 use Rattle.base_grammar.specs.Layout.{subgroup}
 use Rattle.base_grammar.proofs.writing.encode_base.Given as goal
 

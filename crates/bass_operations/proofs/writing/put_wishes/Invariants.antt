@@ -1,7 +1,7 @@
 use Rattle.std.proofs.Common.{◌≡◌, ◌++◌, ◌<◌, ◌^◌, take}
 use Rattle.std.specs.List.{flat_map, AllByRecursion}
 use Rattle.bcast_base.specs.Layout.{laid}
-use Rattle.bass_operations.proofs.Spelled.{wish_fields}
+use Rattle.bass_operations.proofs.Encoded.{wish_fields}
 use Rattle.bass_operations.proofs.writing.put_wishes.Given as goal
 
 abbrev pub invariant-loop-wish : goal.invariant-loop-wish

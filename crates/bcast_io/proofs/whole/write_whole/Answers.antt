@@ -1,13 +1,13 @@
 use Rattle.std.proofs.Common.{rules}
 use Rattle.std.proofs.lemmas.Result.{err_from_is_err_and}
 use Rattle.std.proofs.lemmas.List.{take_rest}
-use Rattle.bcast_io.proofs.Transfers.{Appends-kept, Appends-more, AppendsFront-cut, AppendsShort-cut}
+use Rattle.bcast_io.proofs.Transfers.{Appends-kept, Appends-more, AppendsPrefix-cut, AppendsShort-cut}
 use Rattle.bcast_io.proofs.whole.write_whole.Goals as goal
 
 pub returns-in_err-done-clause-err : goal.returns-in_err-done-clause-err
 returns-in_err-done-clause-err g c =
     let p = err_from_is_err_and c.from_residual.result c.from_residual.ensures.1 in
-    rw p.1 (AppendsFront-cut _ _ _ _ (Appends-kept _ _ _ _ c.loop-done.invariant.written c.in_err-done.ensures.bytes))
+    rw p.1 (AppendsPrefix-cut _ _ _ _ (Appends-kept _ _ _ _ c.loop-done.invariant.written c.in_err-done.ensures.bytes))
 
 pub returns-in_err-done-clause-short : goal.returns-in_err-done-clause-short
 returns-in_err-done-clause-short g c =

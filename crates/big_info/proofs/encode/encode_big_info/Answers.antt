@@ -1,7 +1,7 @@
 use Rattle.std.proofs.Common.{◌≡◌, ℕ, List, length, take, drop, arith, ◌∙◌, subst, sym, length-take}
 use Rattle.std.proofs.lemmas.List.{drop_all, take_all}
 use Rattle.bcast_base.specs.Numbers.{Le}
-use Rattle.big_info.specs.Layout.{Spells, CipherIs, number_of}
+use Rattle.big_info.specs.Layout.{Encodes, CipherIs, number_of}
 use Rattle.big_info.proofs.encode.encode_big_info.Goals as goal
 
 pub returns-in-None-clause-layout : goal.returns-in-None-clause-layout
@@ -23,7 +23,7 @@ returns-in-Some-clause-layout c =
     let number : Le (number_of c.args.info.now 0) (take 33 new) =
     subst (λ (xs : List ℕ). Le (number_of c.args.info.now 0) xs) (sym c.write_cipher.ensures.fields) c.write_fields.ensures.number in
     let cipher : CipherIs c.args.info.now.cipher (drop 33 new) = rw c.in-Some.is c.write_cipher.ensures.cipher in
-    subst (λ (xs : List ℕ). Spells c.args.info.now 0 xs) (sym (take_all 57 new (omega (arith, long)))) (record {
+    subst (λ (xs : List ℕ). Encodes c.args.info.now 0 xs) (sym (take_all 57 new (omega (arith, long)))) (record {
       widths = c.requires;
       rfu_width = omega arith;
       whole = omega (arith, long);

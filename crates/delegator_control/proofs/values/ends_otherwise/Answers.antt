@@ -3,7 +3,7 @@ use Rattle.std.specs.Prelude.{not}
 use Rattle.std.proofs.lemmas.Slice.Eq.{ends_is}
 use Rattle.std.proofs.lemmas.Bool.Decides.{Decides-eqb}
 use Rattle.bass_operations.specs.declared.wishes.Wish.{Wish}
-use Rattle.delegator_control.proofs.Spelled.{ends_so}
+use Rattle.delegator_control.proofs.Encoded.{ends_so}
 use Rattle.delegator_control.proofs.values.ends_otherwise.Goals as goal
 
 pub returns : goal.returns

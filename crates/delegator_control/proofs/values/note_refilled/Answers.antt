@@ -1,6 +1,6 @@
 use Rattle.std.proofs.Common.{◌++◌, ◌∙◌, ap, sym}
 use Rattle.std.proofs.lemmas.Result.{on_ok_weaker}
-use Rattle.receive_state.specs.Layout.{spelling}
+use Rattle.receive_state.specs.Layout.{encoding}
 use Rattle.delegator_history.specs.Values.{received}
 use Rattle.delegator_control.specs.State.Statuses.{status_seen}
 use Rattle.delegator_control.proofs.Apart.{told}
@@ -10,6 +10,6 @@ pub returns-then-ends_otherwise-clause-ok : goal.returns-then-ends_otherwise-cla
 returns-then-ends_otherwise-clause-ok c =
     on_ok_weaker c.put_notice.result
     (λ put. put ∙ ap (λ notices. c.args.waiting.now.items ++ notices)
-    (sym (told c.args.slot (spelling (received (status_seen c.args.before.now) c.args.filled.now)) c.args.now
+    (sym (told c.args.slot (encoding (received (status_seen c.args.before.now) c.args.filled.now)) c.args.now
     (c.ends_otherwise.ensures c.if-ends_otherwise.true (status_seen c.args.before.now)))))
     c.put_notice.ensures.ok

@@ -1,7 +1,7 @@
 use Rattle.std.proofs.Common.{◌+◌, ◌++◌, ◌<◌, ◌∙◌, ap, sym, subst, drop, length, append_assoc}
 use Rattle.bcast_base.specs.Subgroups.{subgroup}
 use Rattle.delegator_control.specs.State.Statuses.{groups_laid}
-use Rattle.delegator_control.proofs.Spelled.{metadata_at, one_laid}
+use Rattle.delegator_control.proofs.Encoded.{metadata_at, one_laid}
 use Rattle.delegator_control.proofs.values.put_group.Goals as goal
 
 pub put_subgroup-requires : goal.put_subgroup-requires

@@ -1,5 +1,5 @@
 use Rattle.std.proofs.Common.{refl}
-use Rattle.bcast_base.specs.Spelling.{number}
+use Rattle.bcast_base.specs.Encoding.{number}
 use Rattle.delegator_history.proofs.Octets.{train_is, train_only}
 use Rattle.delegator_history.proofs.announced_laws.a_source_has_one_train.Goals as goal
 

@@ -1,13 +1,13 @@
 use Rattle.std.proofs.Common.{◌∙◌, ap}
-use Rattle.delegator_history.specs.States.{sight_of}
+use Rattle.delegator_history.specs.States.{snapshot_of}
 use Rattle.delegator_control.specs.Groups.{has_group}
 use Rattle.delegator_machine.specs.Calls.{steps_of}
 use Rattle.delegator_machine.proofs.Where.{both_on}
 use Rattle.delegator_machine.proofs.laws.bits_stand_where_the_sink_is.Goals as goal
 
 pub returns-clause-slot : goal.returns-clause-slot
-returns-clause-slot c setup calls slot state is set = c.bits_stand_on_the_group.ensures (sight_of setup (steps_of calls)) slot state is set
+returns-clause-slot c setup calls slot state is set = c.bits_stand_on_the_group.ensures (snapshot_of setup (steps_of calls)) slot state is set
 
 pub returns-clause-receivers : goal.returns-clause-receivers
 returns-clause-receivers c setup calls slot state is set =
-    both_on setup calls ∙ ap has_group (c.bits_stand_on_the_group.ensures (sight_of setup (steps_of calls)) slot state is set)
+    both_on setup calls ∙ ap has_group (c.bits_stand_on_the_group.ensures (snapshot_of setup (steps_of calls)) slot state is set)

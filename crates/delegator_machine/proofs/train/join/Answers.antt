@@ -4,4 +4,4 @@ use Rattle.group_sink.specs.State.Steps.{fresh_on}
 use Rattle.delegator_machine.proofs.train.join.Goals as goal
 
 pub returns-in-Some-clause-some : goal.returns-in-Some-clause-some
-returns-in-Some-clause-some c tuning past is = c.put_on.ensures tuning past (same_Some c.in-Some.receivers (fresh_on tuning) (sym c.in-Some.is ∙ is))
+returns-in-Some-clause-some c tuning past is = c.sync_to_group.ensures tuning past (same_Some c.in-Some.receivers (fresh_on tuning) (sym c.in-Some.is ∙ is))

@@ -1,5 +1,5 @@
 use Rattle.std.proofs.Common.{Some, ap, ◌∙◌, option_copied, option_map, sym}
-use Rattle.sync_reference.specs.Joining.{Joining}
+use Rattle.sync_reference.specs.BigSync.{BigSync}
 use Rattle.group_sink.specs.State.Steps.{fresh_on}
 use Rattle.delegator_machine.specs.Groups.{by_numbers}
 use Rattle.delegator_machine.proofs.train.receivers_of.Goals as goal
@@ -7,4 +7,4 @@ use Rattle.delegator_machine.proofs.train.receivers_of.Goals as goal
 pub returns-clause-made : goal.returns-clause-made
 returns-clause-made c =
     ap Some (c.in_ok-made.ensures ∙ ap fresh_on c.by_numbers.ensures)
-    ∙ ap (λ o. option_map (λ (joining : Joining). fresh_on (by_numbers joining)) (option_copied o)) (sym c.in-Some.is)
+    ∙ ap (λ o. option_map (λ (big_sync : BigSync). fresh_on (by_numbers big_sync)) (option_copied o)) (sym c.in-Some.is)

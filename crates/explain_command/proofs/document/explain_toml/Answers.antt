@@ -1,11 +1,11 @@
 use Rattle.std.proofs.Common.{◌≡◌, ◌∙◌, ap, sym, subst, map, Some, Ok, Err}
 use Rattle.bcast_io.specs.declared.document.Document.TheVariants.{Whole, TooLong}
 use Rattle.bcast_io.specs.declared.piece.Unread.TheVariants.{Failed, Memory}
-use Rattle.replay_steps.specs.Untaken.{UntakenBy}
+use Rattle.replay_steps.specs.Unassigned.{UnassignedBy}
 use Rattle.replay_lines.specs.Documents.{DocumentIs}
 use Rattle.replay_lines.specs.Standing.{lines_over, standing_by}
 use Rattle.replay_lines.specs.declared.cause.Cause.TheVariants as causes
-use Rattle.replay_lines.proofs.Citable.{document_told, front_read, read_at, whole_is}
+use Rattle.replay_lines.proofs.Citable.{document_told, prefix_read, read_at, whole_is}
 use Rattle.scenario_toml.specs.Document.{meaning_of}
 use Rattle.explain_command.specs.Rows.{lines_at, told_at}
 use Rattle.explain_command.specs.Told.{told_world}
@@ -34,8 +34,8 @@ returns-in-Ok-clause-told g c =
     (subst (λ standing. DocumentIs old.left left standing) (ap standing_by (ap meaning_of (sym same) ∙ c.in-Ok.ensures.ok)) read)
     (c.read_document.ensures.none_failed (λ fails. cc)) c.explain.ensures.told
 
-pub returns-in-Ok-clause-untaken : goal.returns-in-Ok-clause-untaken
-returns-in-Ok-clause-untaken g c told airs tells meets =
+pub returns-in-Ok-clause-unassigned : goal.returns-in-Ok-clause-unassigned
+returns-in-Ok-clause-unassigned g c told airs tells meets =
     let boxes = map (λ b. (goal.Outlet-dyn g (b.vtable, b.value)).account b.value) c.args.outlets.now.items in
     let old = told_world (g.S.ByteSource.left c.args.source.now) (g.S.ByteSource.faults c.args.source.now) g.W.ByteSink.contents g.W.ByteSink.faults
     c.args.sink.now boxes in
@@ -50,8 +50,8 @@ returns-in-Ok-clause-untaken g c told airs tells meets =
     let same : c.as_slice.result.now ≡ document = cc in
     let means = document_told old.left left told tells (standing_by (meaning_of document)) read
     ∙ ap standing_by (ap meaning_of (sym same) ∙ c.in-Ok.ensures.ok) in
-    subst (λ standing. UntakenBy airs boxes (lines_over standing) c.args.outlets.now.items c.explain.new.outlets.items) (sym means)
-    (c.explain.ensures.untaken c.in-Ok.text airs (ap (λ s. Some s.left) c.new-lines.ensures) meets)
+    subst (λ standing. UnassignedBy airs boxes (lines_over standing) c.args.outlets.now.items c.explain.new.outlets.items) (sym means)
+    (c.explain.ensures.unassigned c.in-Ok.text airs (ap (λ s. Some s.left) c.new-lines.ensures) meets)
 
 pub returns-in-Err-BadToml-clause-told : goal.returns-in-Err-BadToml-clause-told
 returns-in-Err-BadToml-clause-told g c =
@@ -109,7 +109,7 @@ returns-in-Ok-Whole-clause-told g c =
     let is = c.in-Ok-Whole.is ∙ ap Ok c.in-Ok-Whole.field-0-is in
     let read = whole_is old.left left document (read_at old.left left c.read_document.result (Ok (Whole document)) is c.read_document.ensures.reads) in
     let laws = (c.want_of_memory_before_a_document.ensures old).laws in
-    told_wanting old left reads before laws (front_read old.left left (standing_by (meaning_of document)) read)
+    told_wanting old left reads before laws (prefix_read old.left left (standing_by (meaning_of document)) read)
     (c.read_document.ensures.none_failed (λ fails. cc))
 
 pub returns-in-Ok-TooLong-clause-told : goal.returns-in-Ok-TooLong-clause-told

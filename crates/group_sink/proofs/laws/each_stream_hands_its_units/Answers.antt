@@ -2,10 +2,10 @@ use Rattle.group_sink.proofs.OneStream.{framed_hands, others_hand_nothing, unfra
 use Rattle.group_sink.proofs.laws.each_stream_hands_its_units.Goals as goal
 
 pub returns-clause-unframed : goal.returns-clause-unframed
-returns-clause-unframed c joining calls bis plain is at = unframed_hands joining calls bis plain is at
+returns-clause-unframed c big_sync calls bis plain is at = unframed_hands big_sync calls bis plain is at
 
 pub returns-clause-framed : goal.returns-clause-framed
-returns-clause-framed c joining calls bis framed is at = framed_hands joining calls bis framed is at
+returns-clause-framed c big_sync calls bis framed is at = framed_hands big_sync calls bis framed is at
 
 pub returns-clause-others : goal.returns-clause-others
-returns-clause-others c joining calls bis is out = others_hand_nothing joining calls bis is out
+returns-clause-others c big_sync calls bis is out = others_hand_nothing big_sync calls bis is out

@@ -6,18 +6,18 @@ use Rattle.iso_pdu.specs.Faults.{FaultIs}
 use Rattle.iso_pdu.specs.Layout.{PduIs, HasAtMost}
 use Rattle.iso_pdu.specs.Reading.{read_of}
 use Rattle.iso_pdu.specs.State.Views.{content_of}
-use Rattle.iso_pdu.proofs.PdusRead.{read_of-spelled, read_of-fault, pdu_long}
+use Rattle.iso_pdu.proofs.PdusRead.{read_of-encoded, read_of-fault, pdu_long}
 use Rattle.iso_pdu.proofs.pdu.read_pdu.Goals as goal
 
 abbrev Answers : ℕ → List ℕ → Result Pdu PduFault → Type 0
 Answers max_pdu octets read = MatchResult read (λ p. read_of max_pdu octets ≡ Ok (content_of p)) (λ fault. read_of max_pdu octets ≡ Err fault)
 
 layout_of : (max_pdu : ℕ) (octets : List ℕ) (read : Result Pdu PduFault) → Answers max_pdu octets read → IfOk read (λ p. PduIs (content_of p) octets × (length octets ≤ max_pdu + 2))
-layout_of max_pdu octets (Ok p) e = read_of-spelled max_pdu (content_of p) octets e
+layout_of max_pdu octets (Ok p) e = read_of-encoded max_pdu (content_of p) octets e
 layout_of max_pdu octets (Err fault) e = tt
 
 within_of : (max_pdu : ℕ) (octets : List ℕ) (read : Result Pdu PduFault) → Answers max_pdu octets read → IfOk read (λ p. HasAtMost max_pdu (content_of p))
-within_of max_pdu octets (Ok p) e = pdu_long max_pdu (content_of p) octets (read_of-spelled max_pdu (content_of p) octets e)
+within_of max_pdu octets (Ok p) e = pdu_long max_pdu (content_of p) octets (read_of-encoded max_pdu (content_of p) octets e)
 within_of max_pdu octets (Err fault) e = tt
 
 cut_of : (max_pdu : ℕ) (octets : List ℕ) (read : Result Pdu PduFault) → Answers max_pdu octets read → IfErr read (λ fault. FaultIs max_pdu fault octets)

@@ -4,17 +4,17 @@ use Rattle.std.proofs.lemmas.List.{length-set, drop-set-lt}
 use Rattle.iso_pdu.proofs.Lists.{take-set_two}
 use Rattle.iso_pdu.proofs.pdu.write_payload.Goals as goal
 
-pub returns-clause-spelled : goal.returns-clause-spelled
-returns-clause-spelled c =
+pub returns-clause-encoded : goal.returns-clause-encoded
+returns-clause-encoded c =
     let into = set (set c.args.into.now 0 c.args.llid) 1 (length c.args.payload.now) in
     let long : length into ≡ length c.args.into.now = simp length-set in
     let room : 2 ≤ length into = omega (arith, c.told-into) in
     let same : c.copy_from_slice.new.self ≡ c.args.payload.now = c.copy_from_slice.ensures.after in
     let all : 2 + length c.args.payload.now ≡ 2 + length c.copy_from_slice.new.self = rw same refl in
-    let front : take 2 into ≡ c.args.llid ∷ length c.args.payload.now ∷ [] =
+    let prefix : take 2 into ≡ c.args.llid ∷ length c.args.payload.now ∷ [] =
     take-set_two c.args.into.now c.args.llid (length c.args.payload.now) (omega (arith, c.told-into)) in
     take-put_mid 2 (2 + length c.args.payload.now - 2) into c.copy_from_slice.new.self (2 + length c.args.payload.now) all room
-    ∙ rw (front, same) refl
+    ∙ rw (prefix, same) refl
 
 pub returns-clause-rest : goal.returns-clause-rest
 returns-clause-rest c =

@@ -7,7 +7,7 @@ use Rattle.unit_outlets.specs.Handed.{HandsOver}
 use Rattle.isoal_unframed.specs.State.Rings.{kept_of}
 use Rattle.isoal_unframed.proofs.Places.{places_fit}
 use Rattle.isoal_unframed.proofs.Windows.{place_at_most}
-use Rattle.isoal_unframed.proofs.Handing.{front_more, behind_more, owed_more, owed_stops, owed_all}
+use Rattle.isoal_unframed.proofs.Handing.{prefix_more, behind_more, owed_more, owed_stops, owed_all}
 use Rattle.isoal_unframed.proofs.window.hand_event.Goals as goal
 
 pub hand_slot-requires : goal.hand_slot-requires
@@ -21,8 +21,8 @@ slots-preserved g c = record {
   cells = c.hand_slot.ensures.places ∙ c.slots.invariant.cells;
   max_pdu = c.hand_slot.ensures.max_pdu ∙ c.slots.invariant.max_pdu;
   place = omega (arith, c.slots.invariant.place);
-  front = front_more c.args.current.place c.slots.first (kept_of c.args.ring.now) (kept_of c.slots.ring) (kept_of c.hand_slot.new.self)
-      (omega (arith, c.slots.invariant.place)) c.slots.invariant.front c.hand_slot.ensures.front;
+  prefix = prefix_more c.args.current.place c.slots.first (kept_of c.args.ring.now) (kept_of c.slots.ring) (kept_of c.hand_slot.new.self)
+      (omega (arith, c.slots.invariant.place)) c.slots.invariant.prefix c.hand_slot.ensures.prefix;
   behind = grind (arith, behind_more);
   handed = owed_more (stay_of c.args.stream.now) c.args.current.event c.slots.slot c.slots-slot-end.result c.time-time.result c.slots.first c.args.current.place c.places-places.result
       (kept_of c.args.ring.now) (kept_of c.slots.ring) _ _ _ c.time-time.ensures c.slots.invariant.place c.places-places.ensures.exact c.slots.invariant.behind
@@ -41,11 +41,11 @@ returns-in_err-hand_slot-clause-hands g c =
     c.in_err-hand_slot.field-0.0 c.from_residual.result c.from_residual.ensures.0
     c.slots-test.true c.slots-slot-end.ensures c.slots.invariant.handed c.in_err-hand_slot.ensures.hands)
 
-pub returns-in_err-hand_slot-clause-front : goal.returns-in_err-hand_slot-clause-front
-returns-in_err-hand_slot-clause-front g c =
+pub returns-in_err-hand_slot-clause-prefix : goal.returns-in_err-hand_slot-clause-prefix
+returns-in_err-hand_slot-clause-prefix g c =
     subst (λ p. take p (kept_of c.hand_slot.new.self) ≡ take p (kept_of c.args.ring.now)) c.requires.is_open.place
-    (front_more c.args.current.place c.slots.first (kept_of c.args.ring.now) (kept_of c.slots.ring) (kept_of c.hand_slot.new.self)
-    (omega (arith, c.slots.invariant.place)) c.slots.invariant.front c.hand_slot.ensures.front)
+    (prefix_more c.args.current.place c.slots.first (kept_of c.args.ring.now) (kept_of c.slots.ring) (kept_of c.hand_slot.new.self)
+    (omega (arith, c.slots.invariant.place)) c.slots.invariant.prefix c.hand_slot.ensures.prefix)
 
 pub returns-in_err-hand_slot-clause-behind : goal.returns-in_err-hand_slot-clause-behind
 returns-in_err-hand_slot-clause-behind g c =

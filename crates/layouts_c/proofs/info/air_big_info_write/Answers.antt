@@ -1,7 +1,7 @@
 use Rattle.std.proofs.Common.{◌≡◌, ◌≤◌, length, take, sym, ◌∙◌, ap, subst, arith, true, false}
 use Rattle.std.proofs.lemmas.List.{length-take}
 use Rattle.std.specs.Prelude.{Bool, is_some, if◌then◌else◌}
-use Rattle.big_info.specs.Layout.{Spells, octet_count}
+use Rattle.big_info.specs.Layout.{Encodes, octet_count}
 use Rattle.big_info.specs.declared.info.BigInfo.{BigInfo}
 use Rattle.c_values.specs.Infos.{big_info}
 use Rattle.layouts_c.proofs.info.air_big_info_write.Goals as goal
@@ -18,8 +18,8 @@ returns-then-put-clause-written c = λ _.
     let long : count ≤ length octets = omega (arith, within, c.encode_big_info-written.array_long) in
     let whole : length (take count octets) ≡ count = omega (arith, length-take count octets, long) in
     let put : take count c.put.new.room ≡ take count octets = ap (λ n. take n c.put.new.room) (sym whole) ∙ c.put.ensures.put c.if-put.true in
-    subst (λ (info : BigInfo). Spells info 0 (take count c.put.new.room)) c.info_in-info.ensures
-    (subst (Spells c.info_in-info.result 0) (sym put) c.encode_big_info-written.ensures.layout)
+    subst (λ (info : BigInfo). Encodes info 0 (take count c.put.new.room)) c.info_in-info.ensures
+    (subst (Encodes c.info_in-info.result 0) (sym put) c.encode_big_info-written.ensures.layout)
 
 pub returns-else-put-clause-room : goal.returns-else-put-clause-room
 returns-else-put-clause-room c = λ enough _.

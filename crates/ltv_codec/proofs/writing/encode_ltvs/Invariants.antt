@@ -1,6 +1,6 @@
 use Rattle.std.proofs.Common.{◌≡◌, take}
-use Rattle.ltv_codec.specs.Layout.{spelling}
+use Rattle.ltv_codec.specs.Layout.{encoding}
 use Rattle.ltv_codec.proofs.writing.encode_ltvs.Given as goal
 
 abbrev pub invariant-loop-ltv : goal.invariant-loop-ltv
-invariant-loop-ltv l = l.out ≡ spelling (take l.ltv-index l.list)
+invariant-loop-ltv l = l.out ≡ encoding (take l.ltv-index l.list)

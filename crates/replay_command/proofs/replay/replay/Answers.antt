@@ -1,6 +1,6 @@
 use Rattle.std.proofs.Common.{◌≡◌, ◌∙◌, refl, sym, subst, map, string_bytes}
 use Rattle.replay_generated.specs.Generated.{lines_made}
-use Rattle.replay_steps.specs.Untaken.{UntakenBy}
+use Rattle.replay_steps.specs.Unassigned.{UnassignedBy}
 use Rattle.replay_words.specs.Words.{mode_of}
 use Rattle.replay_lines.specs.World.{world_of}
 use Rattle.replay_command.specs.Migrated.{Migrated}
@@ -52,45 +52,45 @@ returns-in-Ok-Generate-clause-promised g c =
     (sym c.in-Ok-Generate.ensures.meaning ∙ c.in-Ok-Generate.field-0-is)
     (record { outcome = c.run_generated.result; told = c.from-in-Ok-Generate.ensures; run = c.run_generated.ensures.generated; left = refl; reads = refl })
 
-pub returns-in-Ok-Replay-clause-untaken : goal.returns-in-Ok-Replay-clause-untaken
-returns-in-Ok-Replay-clause-untaken g c text airs replays is meets = c.run_text.ensures.untaken text airs is meets
+pub returns-in-Ok-Replay-clause-unassigned : goal.returns-in-Ok-Replay-clause-unassigned
+returns-in-Ok-Replay-clause-unassigned g c text airs replays is meets = c.run_text.ensures.unassigned text airs is meets
 
-pub returns-in-Ok-Replay-clause-untaken_generated : goal.returns-in-Ok-Replay-clause-untaken_generated
-returns-in-Ok-Replay-clause-untaken_generated g c seed events airs generates meets =
+pub returns-in-Ok-Replay-clause-unassigned_generated : goal.returns-in-Ok-Replay-clause-unassigned_generated
+returns-in-Ok-Replay-clause-unassigned_generated g c seed events airs generates meets =
     absurd (let same = sym c.in-Ok-Replay.field-0-is ∙ c.in-Ok-Replay.ensures.meaning ∙ generates in cc)
 
-pub returns-in-Ok-Generate-clause-untaken : goal.returns-in-Ok-Generate-clause-untaken
-returns-in-Ok-Generate-clause-untaken g c text airs replays is meets =
+pub returns-in-Ok-Generate-clause-unassigned : goal.returns-in-Ok-Generate-clause-unassigned
+returns-in-Ok-Generate-clause-unassigned g c text airs replays is meets =
     absurd (let same = sym c.in-Ok-Generate.field-0-is ∙ c.in-Ok-Generate.ensures.meaning ∙ replays in cc)
 
-pub returns-in-Ok-Generate-clause-untaken_generated : goal.returns-in-Ok-Generate-clause-untaken_generated
-returns-in-Ok-Generate-clause-untaken_generated g c seed events airs generates meets =
+pub returns-in-Ok-Generate-clause-unassigned_generated : goal.returns-in-Ok-Generate-clause-unassigned_generated
+returns-in-Ok-Generate-clause-unassigned_generated g c seed events airs generates meets =
     let boxes = (map (λ b. (goal.Outlet-dyn g (b.vtable, b.value)).account b.value) c.args.outlets.now.items) in
     let same = sym c.in-Ok-Generate.field-0-is ∙ c.in-Ok-Generate.ensures.meaning ∙ generates in
     let first : c.in-Ok-Generate.seed ≡ seed = cc in
     let second : c.in-Ok-Generate.events ≡ events = cc in
-    subst (λ e. UntakenBy airs boxes (lines_made seed e) c.args.outlets.now.items c.run_generated.new.outlets.items) second
-    (subst (λ s. UntakenBy airs boxes (lines_made s c.in-Ok-Generate.events) c.args.outlets.now.items c.run_generated.new.outlets.items) first
-    (c.run_generated.ensures.untaken airs meets))
+    subst (λ e. UnassignedBy airs boxes (lines_made seed e) c.args.outlets.now.items c.run_generated.new.outlets.items) second
+    (subst (λ s. UnassignedBy airs boxes (lines_made s c.in-Ok-Generate.events) c.args.outlets.now.items c.run_generated.new.outlets.items) first
+    (c.run_generated.ensures.unassigned airs meets))
 
-pub returns-in-Ok-Replay-clause-untaken_document : goal.returns-in-Ok-Replay-clause-untaken_document
-returns-in-Ok-Replay-clause-untaken_document g c document airs documents is meets =
+pub returns-in-Ok-Replay-clause-unassigned_document : goal.returns-in-Ok-Replay-clause-unassigned_document
+returns-in-Ok-Replay-clause-unassigned_document g c document airs documents is meets =
     absurd (let same = sym c.in-Ok-Replay.field-0-is ∙ c.in-Ok-Replay.ensures.meaning ∙ documents in cc)
 
-pub returns-in-Ok-Generate-clause-untaken_document : goal.returns-in-Ok-Generate-clause-untaken_document
-returns-in-Ok-Generate-clause-untaken_document g c document airs documents is meets =
+pub returns-in-Ok-Generate-clause-unassigned_document : goal.returns-in-Ok-Generate-clause-unassigned_document
+returns-in-Ok-Generate-clause-unassigned_document g c document airs documents is meets =
     absurd (let same = sym c.in-Ok-Generate.field-0-is ∙ c.in-Ok-Generate.ensures.meaning ∙ documents in cc)
 
-pub returns-in-Ok-Toml-clause-untaken : goal.returns-in-Ok-Toml-clause-untaken
-returns-in-Ok-Toml-clause-untaken g c text airs replays is meets =
+pub returns-in-Ok-Toml-clause-unassigned : goal.returns-in-Ok-Toml-clause-unassigned
+returns-in-Ok-Toml-clause-unassigned g c text airs replays is meets =
     absurd (let same = sym c.in-Ok-Toml.field-0-is ∙ c.in-Ok-Toml.ensures.meaning ∙ replays in cc)
 
-pub returns-in-Ok-Toml-clause-untaken_generated : goal.returns-in-Ok-Toml-clause-untaken_generated
-returns-in-Ok-Toml-clause-untaken_generated g c seed events airs generates meets =
+pub returns-in-Ok-Toml-clause-unassigned_generated : goal.returns-in-Ok-Toml-clause-unassigned_generated
+returns-in-Ok-Toml-clause-unassigned_generated g c seed events airs generates meets =
     absurd (let same = sym c.in-Ok-Toml.field-0-is ∙ c.in-Ok-Toml.ensures.meaning ∙ generates in cc)
 
-pub returns-in-Ok-Toml-clause-untaken_document : goal.returns-in-Ok-Toml-clause-untaken_document
-returns-in-Ok-Toml-clause-untaken_document g c document airs documents is meets = c.run_toml.ensures.untaken document airs is meets
+pub returns-in-Ok-Toml-clause-unassigned_document : goal.returns-in-Ok-Toml-clause-unassigned_document
+returns-in-Ok-Toml-clause-unassigned_document g c document airs documents is meets = c.run_toml.ensures.unassigned document airs is meets
 
 pub returns-in-Ok-Replay-clause-uncalled_document : goal.returns-in-Ok-Replay-clause-uncalled_document
 returns-in-Ok-Replay-clause-uncalled_document g c documents is =

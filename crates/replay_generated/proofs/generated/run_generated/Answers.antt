@@ -2,7 +2,7 @@ use Rattle.std.proofs.Common.{map}
 use Rattle.source_machine.specs.Airs.{airs_of}
 use Rattle.replay_generated.specs.Generated.{lines_made}
 use Rattle.replay_generated.proofs.Promising.{run_promises}
-use Rattle.replay_steps.proofs.Citable.{untaken_run}
+use Rattle.replay_steps.proofs.Citable.{unassigned_run}
 use Rattle.replay_generated.proofs.generated.run_generated.Goals as goal
 
 pub returns-clause-generated : goal.returns-clause-generated
@@ -19,9 +19,9 @@ returns-clause-generated g c =
     })
     c.run.ensures.ends
 
-pub returns-clause-untaken : goal.returns-clause-untaken
-returns-clause-untaken g c airs meets =
-    untaken_run airs (map (λ b. (goal.Outlet-dyn g (b.vtable, b.value)).account b.value) c.args.outlets.now.items) (lines_made c.args.seed c.args.events) _ _
+pub returns-clause-unassigned : goal.returns-clause-unassigned
+returns-clause-unassigned g c airs meets =
+    unassigned_run airs (map (λ b. (goal.Outlet-dyn g (b.vtable, b.value)).account b.value) c.args.outlets.now.items) (lines_made c.args.seed c.args.events) _ _
     (λ history. c.one_transcript.ensures.accepted airs_of airs (map (λ b. (goal.Outlet-dyn g (b.vtable, b.value)).account b.value) c.args.outlets.now.items) history
     c.some_airs_meet.ensures meets)
-    c.run.ensures.untaken
+    c.run.ensures.unassigned

@@ -27,14 +27,14 @@ returns-in-Err-Memory-clause-runs g c =
     line_memory starts lines (plain made) c.args.machine.now c.run_coming.new.machine _ _ c.args.counts.now c.clear.new.self c.run_coming.new.text c.run_coming.result run c.clear.ensures
     (c.run_coming.ensures.meets starts lines made is) c.args.counts.now (c.in-Err-Memory.is ∙ ap Err c.in-Err-Memory.field-0-is)
 
-pub returns-in-Ok-clause-untaken : goal.returns-in-Ok-clause-untaken
-returns-in-Ok-clause-untaken g c = λ starts lines run. c.run_coming.ensures.untaken starts lines _ run.stands
+pub returns-in-Ok-clause-unassigned : goal.returns-in-Ok-clause-unassigned
+returns-in-Ok-clause-unassigned g c = λ starts lines run. c.run_coming.ensures.unassigned starts lines _ run.stands
 
-pub returns-in-Err-Refused-clause-untaken : goal.returns-in-Err-Refused-clause-untaken
-returns-in-Err-Refused-clause-untaken g c = λ starts lines run. c.run_coming.ensures.untaken starts lines _ run.stands
+pub returns-in-Err-Refused-clause-unassigned : goal.returns-in-Err-Refused-clause-unassigned
+returns-in-Err-Refused-clause-unassigned g c = λ starts lines run. c.run_coming.ensures.unassigned starts lines _ run.stands
 
-pub returns-in-Err-OutletFault-clause-untaken : goal.returns-in-Err-OutletFault-clause-untaken
-returns-in-Err-OutletFault-clause-untaken g c = λ starts lines run. c.run_coming.ensures.untaken starts lines _ run.stands
+pub returns-in-Err-OutletFault-clause-unassigned : goal.returns-in-Err-OutletFault-clause-unassigned
+returns-in-Err-OutletFault-clause-unassigned g c = λ starts lines run. c.run_coming.ensures.unassigned starts lines _ run.stands
 
-pub returns-in-Err-Memory-clause-untaken : goal.returns-in-Err-Memory-clause-untaken
-returns-in-Err-Memory-clause-untaken g c = λ starts lines run. c.run_coming.ensures.untaken starts lines _ run.stands
+pub returns-in-Err-Memory-clause-unassigned : goal.returns-in-Err-Memory-clause-unassigned
+returns-in-Err-Memory-clause-unassigned g c = λ starts lines run. c.run_coming.ensures.unassigned starts lines _ run.stands

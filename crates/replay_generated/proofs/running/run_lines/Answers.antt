@@ -6,7 +6,7 @@ use Rattle.replay_generated.proofs.Comings.{one_comes}
 use Rattle.replay_generated.proofs.EndLines.{made_end}
 use Rattle.replay_generated.proofs.GeneratedText.{generated_count, generated_read}
 use Rattle.replay_steps.proofs.Citable.{none_run}
-use Rattle.replay_generated.proofs.Runs.{none_taken, running_none, runs_on, runs_out, runs_through, stops_here, untaken_here, untaken_out}
+use Rattle.replay_generated.proofs.Runs.{none_taken, running_none, runs_on, runs_out, runs_through, stops_here, unassigned_here, unassigned_out}
 use Rattle.replay_generated.proofs.running.run_lines.Goals as goal
 
 pub returns-in_default-clause-ran : goal.returns-in_default-clause-ran
@@ -45,7 +45,7 @@ lines-preserved g c =
           (lines_made c.args.seed c.args.events) c.lines.lines c.lines.number c.lines.machine c.lines.counts c.lines.invariant.running
           comes.line c.next_of.new.lines comes.next
           c.run_line.new.outlets.items (map (λ b. (goal.Outlet-dyn g (b.vtable, b.value)).account b.value) c.run_line.new.outlets.items)
-          c.run_line.new.machine c.run_line.new.counts (c.lines.number + 1) c.run_line.result refl c.in-None.is (c.run_line.ensures.untaken starts) (λ history number run. c.run_line.ensures.runs starts history comes.line number is run);
+          c.run_line.new.machine c.run_line.new.counts (c.lines.number + 1) c.run_line.result refl c.in-None.is (c.run_line.ensures.unassigned starts) (λ history number run. c.run_line.ensures.runs starts history comes.line number is run);
       bound = omega (arith, c.lines.invariant.bound, ap length comes.next);
     }
 
@@ -61,24 +61,24 @@ returns-in-Some-clause-ran g c =
     (map (λ b. (goal.Outlet-dyn g (b.vtable, b.value)).account b.value) c.run_line.new.outlets.items)
     c.run_line.new.machine c.run_line.new.counts (c.lines.number + 1) c.run_line.result c.in-Some.ending refl c.in-Some.is (λ history number run. c.run_line.ensures.runs starts history comes.line number is run)
 
-pub returns-in-Err-clause-untaken : goal.returns-in-Err-clause-untaken
-returns-in-Err-clause-untaken g c =
-    untaken_here c.args.outlets.now.items c.lines.outlets.items (map (λ b. (goal.Outlet-dyn g (b.vtable, b.value)).account b.value) c.args.outlets.now.items)
+pub returns-in-Err-clause-unassigned : goal.returns-in-Err-clause-unassigned
+returns-in-Err-clause-unassigned g c =
+    unassigned_here c.args.outlets.now.items c.lines.outlets.items (map (λ b. (goal.Outlet-dyn g (b.vtable, b.value)).account b.value) c.args.outlets.now.items)
     (map (λ b. (goal.Outlet-dyn g (b.vtable, b.value)).account b.value) c.lines.outlets.items)
     (lines_made c.args.seed c.args.events) c.lines.lines c.lines.number c.lines.machine c.lines.counts c.lines.invariant.running
 
-pub returns-in-Ok-None-clause-untaken : goal.returns-in-Ok-None-clause-untaken
-returns-in-Ok-None-clause-untaken g c =
-    untaken_here c.args.outlets.now.items c.lines.outlets.items (map (λ b. (goal.Outlet-dyn g (b.vtable, b.value)).account b.value) c.args.outlets.now.items)
+pub returns-in-Ok-None-clause-unassigned : goal.returns-in-Ok-None-clause-unassigned
+returns-in-Ok-None-clause-unassigned g c =
+    unassigned_here c.args.outlets.now.items c.lines.outlets.items (map (λ b. (goal.Outlet-dyn g (b.vtable, b.value)).account b.value) c.args.outlets.now.items)
     (map (λ b. (goal.Outlet-dyn g (b.vtable, b.value)).account b.value) c.lines.outlets.items)
     (lines_made c.args.seed c.args.events) c.lines.lines c.lines.number c.lines.machine c.lines.counts c.lines.invariant.running
 
-pub returns-in-Some-clause-untaken : goal.returns-in-Some-clause-untaken
-returns-in-Some-clause-untaken g c =
-    untaken_out c.args.outlets.now.items c.lines.outlets.items (map (λ b. (goal.Outlet-dyn g (b.vtable, b.value)).account b.value) c.args.outlets.now.items)
+pub returns-in-Some-clause-unassigned : goal.returns-in-Some-clause-unassigned
+returns-in-Some-clause-unassigned g c =
+    unassigned_out c.args.outlets.now.items c.lines.outlets.items (map (λ b. (goal.Outlet-dyn g (b.vtable, b.value)).account b.value) c.args.outlets.now.items)
     (map (λ b. (goal.Outlet-dyn g (b.vtable, b.value)).account b.value) c.lines.outlets.items)
     (lines_made c.args.seed c.args.events) c.lines.lines c.lines.number c.lines.machine c.lines.counts c.lines.invariant.running
-    c.run_line.new.outlets.items (c.run_line.ensures.untaken (map (λ b. (goal.Outlet-dyn g (b.vtable, b.value)).account b.value) c.args.outlets.now.items))
+    c.run_line.new.outlets.items (c.run_line.ensures.unassigned (map (λ b. (goal.Outlet-dyn g (b.vtable, b.value)).account b.value) c.args.outlets.now.items))
 
-pub returns-in_default-clause-untaken : goal.returns-in_default-clause-untaken
-returns-in_default-clause-untaken g c = none_run (map (λ b. (goal.Outlet-dyn g (b.vtable, b.value)).account b.value) c.args.outlets.now.items) (lines_made c.args.seed c.args.events) c.args.outlets.now.items
+pub returns-in_default-clause-unassigned : goal.returns-in_default-clause-unassigned
+returns-in_default-clause-unassigned g c = none_run (map (λ b. (goal.Outlet-dyn g (b.vtable, b.value)).account b.value) c.args.outlets.now.items) (lines_made c.args.seed c.args.events) c.args.outlets.now.items

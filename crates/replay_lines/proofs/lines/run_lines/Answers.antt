@@ -7,7 +7,7 @@ use Rattle.replay_lines.proofs.Hearing.{wanted_told}
 use Rattle.replay_lines.proofs.ReadingOn.{none_within}
 use Rattle.replay_lines.proofs.LineSteps.{running_none, bound_none, running_more, running_ends}
 use Rattle.replay_lines.proofs.Listening.{has_none, telling_ends, telling_more, telling_none}
-use Rattle.replay_lines.proofs.Untaken.{untaken_at}
+use Rattle.replay_lines.proofs.Unassigned.{unassigned_at}
 use Rattle.replay_lines.specs.Tellings.{listened}
 use Rattle.replay_lines.proofs.lines.run_lines.Goals as goal
 
@@ -55,7 +55,7 @@ lines-preserved g c = record {
       (g.K.ByteSink.contents c.args.sink.now) (g.K.ByteSink.contents c.lines.sink) (g.K.ByteSink.contents c.run_line.new.sink)
       c.lines.number (c.lines.number + 1) c.lines.reader c.run_line.new.reader c.lines.machine c.run_line.new.machine c.run_line.result
       c.lines.invariant.running refl c.in-None.is
-      (λ lines. c.run_line.ensures.untaken (map (λ b. (goal.Outlet-dyn g (b.vtable, b.value)).account b.value) c.args.outlets.now.items) lines
+      (λ lines. c.run_line.ensures.unassigned (map (λ b. (goal.Outlet-dyn g (b.vtable, b.value)).account b.value) c.args.outlets.now.items) lines
       (map (λ b. (goal.Outlet-dyn g (b.vtable, b.value)).account b.value) c.lines.outlets.items))
       (λ lines. c.run_line.ensures.runs (map (λ b. (goal.Outlet-dyn g (b.vtable, b.value)).account b.value) c.args.outlets.now.items) lines
       (g.S.ByteSource.left c.args.source.now) (g.K.ByteSink.contents c.args.sink.now));
@@ -83,19 +83,19 @@ returns-in-Some-clause-ended g c =
     (λ lines. c.run_line.ensures.runs (map (λ b. (goal.Outlet-dyn g (b.vtable, b.value)).account b.value) c.args.outlets.now.items) lines
     (g.S.ByteSource.left c.args.source.now) (g.K.ByteSink.contents c.args.sink.now))
 
-pub returns-in_default-clause-untaken : goal.returns-in_default-clause-untaken
-returns-in_default-clause-untaken g c text is = none_run (map (λ b. (goal.Outlet-dyn g (b.vtable, b.value)).account b.value) c.args.outlets.now.items) (lines_of true text) c.args.outlets.now.items
+pub returns-in_default-clause-unassigned : goal.returns-in_default-clause-unassigned
+returns-in_default-clause-unassigned g c text is = none_run (map (λ b. (goal.Outlet-dyn g (b.vtable, b.value)).account b.value) c.args.outlets.now.items) (lines_of true text) c.args.outlets.now.items
 
-pub returns-in_default-new-clause-untaken : goal.returns-in_default-new-clause-untaken
-returns-in_default-new-clause-untaken g c text is = none_run (map (λ b. (goal.Outlet-dyn g (b.vtable, b.value)).account b.value) c.args.outlets.now.items) (lines_of true text) c.args.outlets.now.items
+pub returns-in_default-new-clause-unassigned : goal.returns-in_default-new-clause-unassigned
+returns-in_default-new-clause-unassigned g c text is = none_run (map (λ b. (goal.Outlet-dyn g (b.vtable, b.value)).account b.value) c.args.outlets.now.items) (lines_of true text) c.args.outlets.now.items
 
-pub returns-in-Some-clause-untaken : goal.returns-in-Some-clause-untaken
-returns-in-Some-clause-untaken g c =
+pub returns-in-Some-clause-unassigned : goal.returns-in-Some-clause-unassigned
+returns-in-Some-clause-unassigned g c =
     let starts = (map (λ b. (goal.Outlet-dyn g (b.vtable, b.value)).account b.value) c.args.outlets.now.items) in
     let before = (map (λ b. (goal.Outlet-dyn g (b.vtable, b.value)).account b.value) c.lines.outlets.items) in
-    untaken_at c.args.outlets.now.items c.lines.outlets.items c.run_line.new.outlets.items starts before
+    unassigned_at c.args.outlets.now.items c.lines.outlets.items c.run_line.new.outlets.items starts before
     (g.S.ByteSource.left c.args.source.now) (g.S.ByteSource.left c.lines.source) (g.K.ByteSink.contents c.args.sink.now) (g.K.ByteSink.contents c.lines.sink)
-    c.lines.number c.lines.reader c.lines.machine c.lines.invariant.running (λ lines. c.run_line.ensures.untaken starts lines before)
+    c.lines.number c.lines.reader c.lines.machine c.lines.invariant.running (λ lines. c.run_line.ensures.unassigned starts lines before)
 
 pub returns-in_default-clause-told : goal.returns-in_default-clause-told
 returns-in_default-clause-told g c =

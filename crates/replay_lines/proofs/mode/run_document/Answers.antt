@@ -1,5 +1,5 @@
 use Rattle.std.proofs.Common.{◌∙◌, refl, ap, sym, subst, map, Some, Err}
-use Rattle.replay_steps.specs.Untaken.{UntakenBy}
+use Rattle.replay_steps.specs.Unassigned.{UnassignedBy}
 use Rattle.scenario_toml.specs.Document.{meaning_of}
 use Rattle.replay_lines.specs.declared.cause.Cause.TheVariants.{BadToml, BadDocument}
 use Rattle.replay_lines.specs.Standing.{refused_for, stands_for, standing_by, lines_over}
@@ -20,12 +20,12 @@ returns-in-Ok-clause-runs g c =
     (g.K.ByteSink.faults c.args.sink.now) (g.K.ByteSink.faults c.run_text.new.sink)
     c.run_text.result (ap (λ s. s.left) c.new-source.ensures) c.run_text.ensures.promised)
 
-pub returns-in-Ok-clause-untaken : goal.returns-in-Ok-clause-untaken
-returns-in-Ok-clause-untaken g c airs meets =
+pub returns-in-Ok-clause-unassigned : goal.returns-in-Ok-clause-unassigned
+returns-in-Ok-clause-unassigned g c airs meets =
     let boxes = map (λ b. (goal.Outlet-dyn g (b.vtable, b.value)).account b.value) c.args.outlets.now.items in
-    subst (λ standing. UntakenBy airs boxes (lines_over standing) c.args.outlets.now.items c.run_text.new.outlets.items)
+    subst (λ standing. UnassignedBy airs boxes (lines_over standing) c.args.outlets.now.items c.run_text.new.outlets.items)
     (sym (ap standing_by (ap meaning_of (sym c.as_slice.ensures) ∙ c.in-Ok.ensures.ok)))
-    (c.run_text.ensures.untaken c.in-Ok.text airs (ap (λ s. Some s.left) c.new-source.ensures) meets)
+    (c.run_text.ensures.unassigned c.in-Ok.text airs (ap (λ s. Some s.left) c.new-source.ensures) meets)
 
 pub returns-in-Err-BadToml-clause-runs : goal.returns-in-Err-BadToml-clause-runs
 returns-in-Err-BadToml-clause-runs g c =

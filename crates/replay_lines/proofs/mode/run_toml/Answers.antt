@@ -1,7 +1,7 @@
 use Rattle.std.proofs.Common.{◌∙◌, refl, ap, sym, subst, map, Ok, Err}
 use Rattle.bcast_io.specs.declared.document.Document.TheVariants.{Whole, TooLong}
 use Rattle.bcast_io.specs.declared.piece.Unread.TheVariants.{Failed, Memory}
-use Rattle.replay_steps.specs.Untaken.{UntakenBy}
+use Rattle.replay_steps.specs.Unassigned.{UnassignedBy}
 use Rattle.replay_lines.specs.World.{world_of}
 use Rattle.replay_lines.specs.declared.ending.Ending.TheVariants as endings
 use Rattle.scenario_toml.specs.Document.{meaning_of}
@@ -63,8 +63,8 @@ returns-in-Err-Memory-clause-promised g c =
     (read_at old.left (g.S.ByteSource.left c.read_document.new.source) c.read_document.result (Err Memory) is c.read_document.ensures.reads)
     (c.read_document.ensures.none_failed (λ fails. cc)) (laws_of old old endings.Memory (c.want_of_memory_at_once.ensures old))
 
-pub returns-in-Ok-Whole-clause-untaken : goal.returns-in-Ok-Whole-clause-untaken
-returns-in-Ok-Whole-clause-untaken g c told airs tells meets =
+pub returns-in-Ok-Whole-clause-unassigned : goal.returns-in-Ok-Whole-clause-unassigned
+returns-in-Ok-Whole-clause-unassigned g c told airs tells meets =
     let boxes = map (λ b. (goal.Outlet-dyn g (b.vtable, b.value)).account b.value) c.args.outlets.now.items in
     let document = c.in-Ok-Whole.document in
     let is = c.in-Ok-Whole.is ∙ ap Ok c.in-Ok-Whole.field-0-is in
@@ -72,8 +72,8 @@ returns-in-Ok-Whole-clause-untaken g c told airs tells meets =
     let left' = g.S.ByteSource.left c.read_document.new.source in
     let read = whole_is left left' document
     (read_at left left' c.read_document.result (Ok (Whole document)) is c.read_document.ensures.reads) in
-    subst (λ standing. UntakenBy airs boxes (lines_over standing) c.args.outlets.now.items c.run_document.new.outlets.items)
-    (sym (document_told left left' told tells (standing_by (meaning_of document)) read)) (c.run_document.ensures.untaken airs meets)
+    subst (λ standing. UnassignedBy airs boxes (lines_over standing) c.args.outlets.now.items c.run_document.new.outlets.items)
+    (sym (document_told left left' told tells (standing_by (meaning_of document)) read)) (c.run_document.ensures.unassigned airs meets)
 
 pub returns-in-Ok-Whole-clause-uncalled : goal.returns-in-Ok-Whole-clause-uncalled
 returns-in-Ok-Whole-clause-uncalled g c is =

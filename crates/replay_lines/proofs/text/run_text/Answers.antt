@@ -1,6 +1,6 @@
 use Rattle.std.proofs.Common.{true, map}
 use Rattle.bcast_io.specs.TextLines.{lines_of}
-use Rattle.replay_steps.proofs.Citable.{untaken_run}
+use Rattle.replay_steps.proofs.Citable.{unassigned_run}
 use Rattle.replay_lines.specs.World.{world_of}
 use Rattle.replay_lines.proofs.Promises.{promised_run}
 use Rattle.replay_lines.proofs.text.run_text.Goals as goal
@@ -17,9 +17,9 @@ returns-clause-promised g c =
     c.run_lines.ensures.read_fault c.run_lines.ensures.no_read_fault c.run_lines.ensures.write_fault c.run_lines.ensures.no_write_fault
     (c.laws_hold.ensures boxes)
 
-pub returns-clause-untaken : goal.returns-clause-untaken
-returns-clause-untaken g c text airs is meets =
+pub returns-clause-unassigned : goal.returns-clause-unassigned
+returns-clause-unassigned g c text airs is meets =
     let boxes = map (λ b. (goal.Outlet-dyn g (b.vtable, b.value)).account b.value) c.args.outlets.now.items in
-    untaken_run airs boxes (lines_of true text) c.args.outlets.now.items c.run_lines.new.outlets.items
+    unassigned_run airs boxes (lines_of true text) c.args.outlets.now.items c.run_lines.new.outlets.items
     (((c.laws_hold.ensures boxes).same airs meets).accepted boxes)
-    (c.run_lines.ensures.untaken text is)
+    (c.run_lines.ensures.unassigned text is)

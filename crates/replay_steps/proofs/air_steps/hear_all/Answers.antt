@@ -2,27 +2,27 @@ use Rattle.std.proofs.Common.{◌≡◌, ℕ, ◌*◌, ◌∙◌, ap, subst, ari
 use Rattle.scenario_history.specs.Steps.{chosen_steps}
 use Rattle.scenario_history.specs.Source.{setup_of}
 use Rattle.scenario_sinks.specs.State.Standing.{SinksStand}
-use Rattle.replay_steps.specs.Airing.{past_on_air}
+use Rattle.replay_steps.specs.Airing.{histories_on_air}
 use Rattle.replay_steps.proofs.Airing.{air_begins, air_ends}
 use Rattle.replay_steps.proofs.air_steps.hear_all.Goals as goal
 
-pub spots-init : goal.spots-init
-spots-init c = (λ steps on sources sinks. air_begins steps c.args.sink c.args.lose c.args.sinks.now sinks, c.first-spot.ensures.first, c.first-spot.ensures.within)
+pub positions-init : goal.positions-init
+positions-init c = (λ steps on sources sinks. air_begins steps c.args.sink c.args.lose c.args.sinks.now sinks, c.first-position.ensures.first, c.first-position.ensures.within)
 
-pub spots-preserved : goal.spots-preserved
-spots-preserved c =
+pub positions-preserved : goal.positions-preserved
+positions-preserved c =
     let count : c.from.result * c.from-2.result ≡ c.args.grid.streams * c.args.grid.subevents = cc in (
-      λ steps on sources sinks. c.hear_spot.ensures steps c.args.grid.streams c.args.grid.subevents c.spots.number (omega (arith, count)) c.spots.invariant.1 on sources
-          (c.spots.invariant.0 steps on sources sinks),
-      c.next-spot.ensures.next c.args.grid.streams c.args.event c.spots.number c.spots.invariant.1,
-      c.next-spot.ensures.within,
+      λ steps on sources sinks. c.hear_position.ensures steps c.args.grid.streams c.args.grid.subevents c.positions.number (omega (arith, count)) c.positions.invariant.1 on sources
+          (c.positions.invariant.0 steps on sources sinks),
+      c.next-position.ensures.next c.args.grid.streams c.args.event c.positions.number c.positions.invariant.1,
+      c.next-position.ensures.within,
     )
 
 pub returns : goal.returns
 returns c steps on sources sinks =
-    let P : ℕ → Type 0 = λ n. SinksStand (past_on_air steps c.args.sink c.args.lose n) c.spots.sinks in
-    let all : c.spots.number ≡ c.from.result * c.from-2.result = omega arith in
+    let P : ℕ → Type 0 = λ n. SinksStand (histories_on_air steps c.args.sink c.args.lose n) c.positions.sinks in
+    let all : c.positions.number ≡ c.from.result * c.from-2.result = omega arith in
     let count : c.from.result * c.from-2.result ≡ c.args.grid.streams * c.args.grid.subevents = cc in
     let told : c.args.grid.streams * c.args.grid.subevents ≡ (setup_of (chosen_steps steps)).info.num_bis * (setup_of (chosen_steps steps)).info.nse =
     ap (λ s. s * c.args.grid.subevents) on.streams_are ∙ ap (λ s. (setup_of (chosen_steps steps)).info.num_bis * s) on.subevents_are in
-    air_ends steps c.args.sink c.args.lose c.spots.sinks (subst P (all ∙ count ∙ told) (c.spots.invariant.0 steps on sources sinks))
+    air_ends steps c.args.sink c.args.lose c.positions.sinks (subst P (all ∙ count ∙ told) (c.positions.invariant.0 steps on sources sinks))

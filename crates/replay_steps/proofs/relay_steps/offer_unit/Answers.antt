@@ -1,9 +1,9 @@
 use Rattle.std.proofs.Common.{◌≡◌, ◌∙◌, Err, ap, subst, sym}
 use Rattle.scenario_sinks.specs.declared.route.Route.{Route}
 use Rattle.transcript_text.specs.declared.stop.Stop.{Stop}
-use Rattle.replay_steps.specs.Machines.{relays_past}
+use Rattle.replay_steps.specs.Machines.{relay_histories}
 use Rattle.replay_steps.specs.Relaying.{GivesSecond}
-use Rattle.replay_steps.proofs.Offering.{gifted_relays, offer_of, offers_dropped, offers_lost, offers_other, offers_taken}
+use Rattle.replay_steps.proofs.Offering.{routes_after_relays, offer_of, offers_dropped, offers_lost, offers_other, offers_taken}
 use Rattle.replay_steps.proofs.relay_steps.offer_unit.Goals as goal
 
 pub returns-in_default : goal.returns-in_default
@@ -24,7 +24,7 @@ returns-in-Ok c steps own route s r =
     offers_taken steps c.args.sink own c.args.unit.now c.in-Some.octets c.give_second.new.sources c.give.new.self c.args.text.now c.in-Some.is
     (sym c.get.ensures.same ∙ c.if-get.false ∙ c.get-2.ensures.same ∙ stream)
     (c.in-Ok.ensures steps offer to (ap (λ octets. record { time = c.args.unit.now.time; octets = octets }) (sym c.as_slice.ensures)) s)
-    (gifted_relays offer c.args.route.now.to steps c.give.new.self to (c.give.ensures (relays_past steps) r))
+    (routes_after_relays offer c.args.route.now.to steps c.give.new.self to (c.give.ensures (relay_histories steps) r))
 
 pub returns-in-Err-Refused : goal.returns-in-Err-Refused
 returns-in-Err-Refused c steps own route s r =

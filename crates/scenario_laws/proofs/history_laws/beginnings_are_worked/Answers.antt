@@ -4,7 +4,7 @@ use Rattle.std.specs.Prelude.{slice_get, slice_index_or}
 use Rattle.std.proofs.lemmas.Bool.{cases_eq, ne_eqb}
 use Rattle.std.proofs.lemmas.Option.{none-some, same_Some}
 use Rattle.iso_pdu.specs.Layout.{framed}
-use Rattle.iso_pdu.specs.Spelling.{pdu}
+use Rattle.iso_pdu.specs.Encoding.{pdu}
 use Rattle.isoal_framed.specs.Sends.{Sends}
 use Rattle.isoal_framed.specs.Struck.{Sent, carried, parts_at}
 use Rattle.source_machine.specs.Calls.{framed_calls}

@@ -1,6 +1,6 @@
 use Rattle.std.proofs.Common.{◌∙◌, ◌-◌, ◌<◌, arith}
 use Rattle.scenario_sinks.proofs.Closings.{between_next_at, between_ends, between_over, entries_next, entry_here, one_ends, one_next, one_over}
-use Rattle.scenario_sinks.proofs.Untaken.{untaken_more}
+use Rattle.scenario_sinks.proofs.Unassigned.{unassigned_more}
 use Rattle.scenario_sinks.proofs.close.close_sinks.Goals as goal
 
 pub sinks-preserved : goal.sinks-preserved
@@ -26,7 +26,7 @@ sinks-preserved g c =
           (entry_here past c.sinks.number c.from.result c.sinks.sinks c.index-sinks-from.result c.from.ensures eight within (c.sinks.invariant.left past are))
           none kept);
       others = λ past are.
-          untaken_more past c.sinks.number c.args.outlets.now.items c.sinks.outlets.items c.close_sink.new.outlets.items (c.sinks.invariant.others past are)
+          unassigned_more past c.sinks.number c.args.outlets.now.items c.sinks.outlets.items c.close_sink.new.outlets.items (c.sinks.invariant.others past are)
           (c.close_sink.ensures.others (past.boxes c.sinks.number) (past.mades c.sinks.number) (past.sources c.sinks.number) (past.lives c.sinks.number) (past.received c.sinks.number)
           (entry_here past c.sinks.number c.from.result c.sinks.sinks c.index-sinks-from.result c.from.ensures eight within (c.sinks.invariant.left past are)));
     }
@@ -62,7 +62,7 @@ returns-in-Err-clause-others g c past are =
     let less = c.sinks-test.true in
     let most = c.requires.end in
     let within : c.sinks.number < 8 = omega (arith, less, most) in
-    untaken_more past c.sinks.number c.args.outlets.now.items c.sinks.outlets.items c.close_sink.new.outlets.items (c.sinks.invariant.others past are)
+    unassigned_more past c.sinks.number c.args.outlets.now.items c.sinks.outlets.items c.close_sink.new.outlets.items (c.sinks.invariant.others past are)
     (c.close_sink.ensures.others (past.boxes c.sinks.number) (past.mades c.sinks.number) (past.sources c.sinks.number) (past.lives c.sinks.number) (past.received c.sinks.number)
     (entry_here past c.sinks.number c.from.result c.sinks.sinks c.index-sinks-from.result c.from.ensures eight within (c.sinks.invariant.left past are)))
 

@@ -1,20 +1,20 @@
 use Rattle.std.proofs.Common.{◌≡◌, ◌+◌, [], map, true, false}
-use Rattle.scenario_sinks.specs.Pasts.{Past}
+use Rattle.scenario_sinks.specs.Histories.{Histories}
 use Rattle.scenario_sinks.specs.State.Standing.{EntriesAre}
 use Rattle.scenario_sinks.specs.State.Between.{Between, EntriesFrom, OneBetween}
-use Rattle.scenario_sinks.specs.Untaken.{UntakenSame}
+use Rattle.scenario_sinks.specs.Unassigned.{UnassignedSame}
 use Rattle.scenario_sinks.proofs.close.close_sinks.Given as goal
 
 abbrev pub invariant-sinks : goal.invariant-sinks
 invariant-sinks g l = record {
-  left : (past : Past) → EntriesAre past l.initial.sinks → EntriesFrom past l.number l.sinks;
-  between : (past : Past) → EntriesAre past l.initial.sinks → l.initial.gathered.units.items ≡ [] → l.first ≡ 0 → l.end ≡ 8 → l.keeps ≡ false
+  left : (past : Histories) → EntriesAre past l.initial.sinks → EntriesFrom past l.number l.sinks;
+  between : (past : Histories) → EntriesAre past l.initial.sinks → l.initial.gathered.units.items ≡ [] → l.first ≡ 0 → l.end ≡ 8 → l.keeps ≡ false
       → Between past l.source l.event l.number l.sinks l.gathered l.initial.text l.text
       (map (λ b. (goal.Outlet-dyn g (b.vtable, b.value)).account b.value) l.initial.outlets.items)
       (map (λ b. (goal.Outlet-dyn g (b.vtable, b.value)).account b.value) l.outlets.items);
-  one : (past : Past) → EntriesAre past l.initial.sinks → l.initial.gathered.units.items ≡ [] → l.end ≡ l.first + 1 → l.keeps ≡ true
+  one : (past : Histories) → EntriesAre past l.initial.sinks → l.initial.gathered.units.items ≡ [] → l.end ≡ l.first + 1 → l.keeps ≡ true
       → OneBetween past l.first l.source l.event l.number l.initial.sinks l.sinks l.gathered l.initial.text l.text
       (map (λ b. (goal.Outlet-dyn g (b.vtable, b.value)).account b.value) l.initial.outlets.items)
       (map (λ b. (goal.Outlet-dyn g (b.vtable, b.value)).account b.value) l.outlets.items);
-  others : (past : Past) → EntriesAre past l.initial.sinks → UntakenSame past l.initial.outlets.items l.outlets.items;
+  others : (past : Histories) → EntriesAre past l.initial.sinks → UnassignedSame past l.initial.outlets.items l.outlets.items;
 }

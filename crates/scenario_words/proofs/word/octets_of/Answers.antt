@@ -1,6 +1,6 @@
 use Rattle.std.proofs.Common.{arith, ◌≡◌, ◌++◌, take, drop, length, false, true, ◌∷◌, [], sym, ◌∙◌, eqb-true}
 use Rattle.std.proofs.lemmas.Bool.{eqb-false}
-use Rattle.scenario_words.proofs.OneWord.{dash, empty_word, no_digits, too_long, pairs, same_text, spells_some, whole_front}
+use Rattle.scenario_words.proofs.OneWord.{dash, empty_word, no_digits, too_long, pairs, same_text, spells_some, whole_prefix}
 use Rattle.scenario_words.proofs.word.octets_of.Goals as goal
 
 pub returns-then-is_word-clause-gives : goal.returns-then-is_word-clause-gives
@@ -26,7 +26,7 @@ returns-in_err-octets-clause-memory c = λ err. spells_some c.args.most c.args.w
 pub returns-clause-gives : goal.returns-clause-gives
 returns-clause-gives c =
     let whole : take c.in_ok-octets.octets.len (c.decode.new.octets ++ drop (length c.decode.new.octets) c.in_ok-octets.octets.items) ≡ c.decode.new.octets =
-    whole_front c.in_ok-octets.octets.len c.decode.new.octets _ (omega (arith, c.as_mut_slice.ensures.len, c.in_ok-octets.ensures.len)) in
+    whole_prefix c.in_ok-octets.octets.len c.decode.new.octets _ (omega (arith, c.as_mut_slice.ensures.len, c.in_ok-octets.ensures.len)) in
     rw (c.of.ensures, whole) (sym (pairs c.args.most c.args.word.now c.decode.new.octets (eqb-false _ _ (sym c.is_empty.ensures ∙ c.if-is_empty.false))
     (sym c.is_word.ensures ∙ c.if-is_word.false) c.decode.ensures
     c.if-count-most.false))

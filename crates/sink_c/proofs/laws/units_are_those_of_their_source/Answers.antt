@@ -8,6 +8,6 @@ pub returns-clause-ends : goal.returns-clause-ends
 returns-clause-ends c = λ setup calls. ends_with setup calls
 
 pub returns-clause-framed : goal.returns-clause-framed
-returns-clause-framed c = λ setup calls joining bis units laid at takes framed bn order closed fit source.
-    c.each_stream_hands_its_units.ensures.framed joining (group_calls setup calls) bis framed at takes
-    ∙ c.framed_units_are_struck.ensures (stay_on joining bis) units laid (stream_calls (stay_on joining bis) (group_calls setup calls)) bn order closed fit source
+returns-clause-framed c = λ setup calls big_sync bis units laid at takes framed bn order closed fit source.
+    c.each_stream_hands_its_units.ensures.framed big_sync (group_calls setup calls) bis framed at takes
+    ∙ c.framed_units_are_struck.ensures (stay_on big_sync bis) units laid (stream_calls (stay_on big_sync bis) (group_calls setup calls)) bn order closed fit source

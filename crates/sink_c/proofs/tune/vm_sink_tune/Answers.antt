@@ -1,10 +1,10 @@
 use Rattle.std.proofs.Common.{ℕ, ◌≡◌, ◌∷◌, ◌∙◌, subst}
 use Rattle.big_info.specs.declared.info.BigInfo.{BigInfo}
 use Rattle.c_values.specs.Infos.{big_info}
-use Rattle.delegator_history.specs.States.{put_on}
+use Rattle.delegator_history.specs.States.{sync_to_group}
 use Rattle.delegator_machine.specs.Calls.{control}
 use Rattle.delegator_machine.specs.State.Halves.{StandsFor}
-use Rattle.sync_reference.specs.Joining.{Joining}
+use Rattle.sync_reference.specs.BigSync.{BigSync}
 use Rattle.sink_c.specs.Sinks.{KeptStands}
 use Rattle.sink_c.proofs.tune.vm_sink_tune.Goals as goal
 
@@ -13,7 +13,7 @@ pub returns-in-Ok-tune-clause-stands : goal.returns-in-Ok-tune-clause-stands
 returns-in-Ok-tune-clause-stands c = λ setup calls stands _.
     let info : c.in-Ok.checked.info ≡ big_info c.args.info.now = c.in-Ok.ensures.ok.0 ∙ c.info_in-read.ensures in
     let which : c.in-Some.which ≡ c.args.streams = c.in-Some.ensures.1 in
-    let joining : (n : ℕ) → BigInfo → Joining = λ n it.
+    let big_sync : (n : ℕ) → BigInfo → BigSync = λ n it.
     record { info = it; which = n; first = c.args.first_event; anchor = c.args.anchor; delay = c.args.delay } in
-    subst (λ (it : Joining). StandsFor setup (control (put_on it) ∷ calls) c.tune.new.self) (λ i. joining (which i) (info i))
+    subst (λ (it : BigSync). StandsFor setup (control (sync_to_group it) ∷ calls) c.tune.new.self) (λ i. big_sync (which i) (info i))
     (c.in-Ok-tune.ensures.stands setup calls (subst (KeptStands setup calls) c.lend.ensures.value stands))

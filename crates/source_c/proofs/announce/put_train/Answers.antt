@@ -15,7 +15,7 @@ returns-clause-some c =
     ∙ ap (λ (octets : List ℕ). record { time = c.args.train.now.time; ext = c.args.train.now.ext; adv = c.args.train.now.adv; acad = octets }) c.as_slice-acad.ensures in
     let one : take (length ext) c.put_behind.new.room ≡ ext =
     subst (λ n. take n c.put_behind.new.room ≡ ext) (omega arith) c.put_behind.ensures.octets in
-    let two : take (length ext + length adv) c.put_behind-2.new.room ≡ ext ++ adv = c.put_behind-2.ensures.octets ∙ ap (λ (front : List ℕ). front ++ adv) one in
+    let two : take (length ext + length adv) c.put_behind-2.new.room ≡ ext ++ adv = c.put_behind-2.ensures.octets ∙ ap (λ (prefix : List ℕ). prefix ++ adv) one in
     let all : take (length ext + length adv + length acad) c.put_behind-3.new.room ≡ (ext ++ adv) ++ acad =
-    c.put_behind-3.ensures.octets ∙ ap (λ (front : List ℕ). front ++ acad) two in
+    c.put_behind-3.ensures.octets ∙ ap (λ (prefix : List ℕ). prefix ++ acad) two in
     three_parts train c.put_behind-3.new.room (length ext + length adv + length acad) refl all ∙ is

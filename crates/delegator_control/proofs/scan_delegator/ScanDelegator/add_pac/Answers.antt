@@ -8,9 +8,9 @@ use Rattle.delegator_control.proofs.Standing.{moved_setting, stands_done}
 use Rattle.delegator_control.proofs.scan_delegator.ScanDelegator.add_pac.Goals as goal
 
 with_records : Machine → List PacRecord → Machine
-with_records m entries = record m { sight = record m.sight { capability = record m.sight.capability { entries = entries } } }
+with_records m entries = record m { snapshot = record m.snapshot { capability = record m.snapshot.capability { entries = entries } } }
 
-recorded_so : (m : Machine) (entry : PacRecord) (entries : List PacRecord) → entries ≡ m.sight.capability.entries ++ entry ∷ [] → with_records m entries ≡ moved (recorded entry) m
+recorded_so : (m : Machine) (entry : PacRecord) (entries : List PacRecord) → entries ≡ m.snapshot.capability.entries ++ entry ∷ [] → with_records m entries ≡ moved (recorded entry) m
 unfolding with_records
 recorded_so m entry entries is = (λ i. with_records m (is i)) ∙ moved_setting m (recorded entry) (λ i. refl)
 

@@ -18,7 +18,7 @@ pub returns : goal.returns
 returns c =
     let info : BigInfo = c.args.group.now.info in
     let streams : List (List ℕ) = first_candidates c.args.self.now.capability c.args.base.now info.num_bis c.args.self.now.streams c.args.wishes.now c.args.base.now.subgroups in
-    ap (taken c.args.slot c.in_ok-bits.field-0.bits c.args.encrypted) c.joining_at.ensures
+    ap (taken c.args.slot c.in_ok-bits.field-0.bits c.args.encrypted) c.big_sync_at.ensures
     ∙ (λ i. taken c.args.slot (c.in_ok-bits.ensures.bits i) c.args.encrypted (record {
       info = info;
       which = c.in_ok-bits.ensures.which i;

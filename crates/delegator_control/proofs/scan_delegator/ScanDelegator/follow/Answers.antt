@@ -1,15 +1,15 @@
 use Rattle.std.proofs.Common.{◌∙◌, ap, refl}
 use Rattle.std.proofs.lemmas.Result.{on_ok_weaker}
 use Rattle.delegator_history.specs.States.{train_heard}
-use Rattle.delegator_history.specs.Trains.{done_brought}
+use Rattle.delegator_history.specs.Trains.{done_by_outcome}
 use Rattle.delegator_control.specs.State.Machines.{machine, moved}
 use Rattle.delegator_control.proofs.Standing.{stands_done}
 use Rattle.delegator_control.proofs.scan_delegator.ScanDelegator.follow.Goals as goal
 
 pub returns-clause-stands : goal.returns-clause-stands
 returns-clause-stands c =
-    on_ok_weaker c.follow_brought.result
+    on_ok_weaker c.follow_outcome.result
     (λ is steps train same stands.
-    stands_done (train_heard train) steps (machine c.args.self.now) (machine c.follow_brought.new.self) refl refl
-    (is ∙ ap (λ b. moved (done_brought b) (machine c.args.self.now)) same) stands)
-    c.follow_brought.ensures.step
+    stands_done (train_heard train) steps (machine c.args.self.now) (machine c.follow_outcome.new.self) refl refl
+    (is ∙ ap (λ b. moved (done_by_outcome b) (machine c.args.self.now)) same) stands)
+    c.follow_outcome.ensures.step

@@ -1,5 +1,5 @@
 use Rattle.std.proofs.Common.{◌∙◌, ap, sym, None}
-use Rattle.delegator_history.specs.Sights.{Sight, slot_of}
+use Rattle.delegator_history.specs.Snapshots.{Snapshot, slot_of}
 use Rattle.delegator_history.specs.Steps.{placed}
 use Rattle.delegator_control.specs.State.Machines.{Machine, machine}
 use Rattle.delegator_control.specs.State.Places.{place_by}
@@ -9,10 +9,10 @@ use Rattle.delegator_control.proofs.scan_delegator.ScanDelegator.go.Goals as goa
 pub returns-clause-step : goal.returns-clause-step
 returns-clause-step c =
     let mid : Machine = machine c.note_move.new.self in
-    ap (λ (s : Sight). record mid { sight = s }) (c.make_move.ensures mid.sight)
-    ∙ ap (λ (a : Machine). record a { sight = placed (place_by a.sight.place c.args.moves) None None a.sight }) c.in_ok-note_move.ensures.ok
+    ap (λ (s : Snapshot). record mid { snapshot = s }) (c.make_move.ensures mid.snapshot)
+    ∙ ap (λ (a : Machine). record a { snapshot = placed (place_by a.snapshot.place c.args.moves) None None a.snapshot }) c.in_ok-note_move.ensures.ok
 
 pub invariant_of-self-clause-within : goal.invariant_of-self-clause-within
 invariant_of-self-clause-within c slot is =
     let mid : Machine = machine c.note_move.new.self in
-    moves_below mid.sight c.args.moves mid.setup.slots c.note_move.new.self.within slot (sym (ap (λ (s : Sight). slot_of s.place) (c.make_move.ensures mid.sight)) ∙ is)
+    moves_below mid.snapshot c.args.moves mid.setup.slots c.note_move.new.self.within slot (sym (ap (λ (s : Snapshot). slot_of s.place) (c.make_move.ensures mid.snapshot)) ∙ is)

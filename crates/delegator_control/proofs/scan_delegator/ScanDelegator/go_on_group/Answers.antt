@@ -1,6 +1,6 @@
 use Rattle.std.proofs.Common.{◌≡◌, ◌<◌, ◌∙◌, ap, sym, subst, refl, true, Some}
 use Rattle.std.proofs.lemmas.Option.{same_Some}
-use Rattle.delegator_history.specs.Sights.{Sight, on_group, slot_of}
+use Rattle.delegator_history.specs.Snapshots.{Snapshot, on_group, slot_of}
 use Rattle.delegator_history.specs.Steps.{joined}
 use Rattle.delegator_control.specs.State.Machines.{Machine, machine}
 use Rattle.delegator_control.proofs.Followed.{group_status, near_itself, went_to}
@@ -14,12 +14,12 @@ returns-clause-step c =
     (record { is_synced = true; is_encrypted = c.args.encrypted; bits = c.as_slice.result.now })
     c.requires.within c.requires.near (near_itself c.args.slot)
     c.in_ok-note_status.ensures.ok
-    (ap (λ (s : Sight). record mid { sight = s }) (c.join_group.ensures mid.sight))
+    (ap (λ (s : Snapshot). record mid { snapshot = s }) (c.join_group.ensures mid.snapshot))
     refl
     ((λ i. record { is_synced = true; is_encrypted = c.args.encrypted; bits = c.as_slice.ensures.same i }) ∙ group_status c.args.slot c.args.encrypted c.args.taken)
 
 pub invariant_of-self-clause-within : goal.invariant_of-self-clause-within
 invariant_of-self-clause-within c slot is =
     let mid : Machine = machine c.note_status.new.self in
-    let here : c.args.slot ≡ slot = same_Some c.args.slot slot (sym (ap (λ (s : Sight). slot_of s.place) (c.join_group.ensures mid.sight)) ∙ is) in
+    let here : c.args.slot ≡ slot = same_Some c.args.slot slot (sym (ap (λ (s : Snapshot). slot_of s.place) (c.join_group.ensures mid.snapshot)) ∙ is) in
     subst (λ k. k < mid.setup.slots) here (subst (λ (a : Machine). c.args.slot < a.setup.slots) (sym c.in_ok-note_status.ensures.ok) c.requires.within)

@@ -10,7 +10,7 @@ pub returns-in_default : goal.returns-in_default
 returns-in_default c =
     let m : Machine = machine c.args.self.now in
     refused (Modify c.args.modify) m causes.SourceUnknown c.refused.result
-    (modify_unknown m.sight c.args.modify (sym c.find_slot-found.ensures.first ∙ c.in_default.is)) c.refused.ensures
+    (modify_unknown m.snapshot c.args.modify (sym c.find_slot-found.ensures.first ∙ c.in_default.is)) c.refused.ensures
 
 pub modify_held-requires-clause-found : goal.modify_held-requires-clause-found
 modify_held-requires-clause-found c = sym c.find_slot-found.ensures.first ∙ c.in-Some.is

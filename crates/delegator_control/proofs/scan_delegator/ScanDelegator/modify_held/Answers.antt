@@ -1,6 +1,6 @@
 use Rattle.std.proofs.Common.{◌≡◌, ◌<◌, ◌∙◌, length, get_or, ap, sym, subst, Some, None}
 use Rattle.std.proofs.lemmas.List.{get_or_read_under}
-use Rattle.delegator_history.specs.Sights.{Sight, entry_at, slot_of}
+use Rattle.delegator_history.specs.Snapshots.{Snapshot, entry_at, slot_of}
 use Rattle.delegator_history.specs.Steps.{modified, place_given, placed}
 use Rattle.delegator_history.specs.Values.{value_at}
 use Rattle.delegator_choices.specs.State.Slots.{entry}
@@ -15,28 +15,28 @@ use Rattle.delegator_control.proofs.scan_delegator.ScanDelegator.modify_held.Goa
 pub unreachable-requires : goal.unreachable-requires
 unreachable-requires c =
     let m : Machine = machine c.args.self.now in
-    let there : c.args.slot < length m.sight.slots = subst (λ n. c.args.slot < n) c.args.self.now.slots.ok.0 c.requires.within in
+    let there : c.args.slot < length m.snapshot.slots = subst (λ n. c.args.slot < n) c.args.self.now.slots.ok.0 c.requires.within in
     let below : c.from.result < m.setup.slots = subst (λ k. k < m.setup.slots) (sym c.from.ensures) c.requires.within in
-    let read : c.index.result.now ≡ get_or m.sight.slots c.args.slot None =
-    get_or_read_under m.sight.slots c.from.result m.setup.slots c.index.result.now None c.index.ensures below c.args.self.now.slots.ok.0
-    ∙ ap (λ k. get_or m.sight.slots k None) c.from.ensures in
-    let held = held_slot c.args.modify.source_id m.sight.slots c.args.slot c.requires.found in
+    let read : c.index.result.now ≡ get_or m.snapshot.slots c.args.slot None =
+    get_or_read_under m.snapshot.slots c.from.result m.setup.slots c.index.result.now None c.index.ensures below c.args.self.now.slots.ok.0
+    ∙ ap (λ k. get_or m.snapshot.slots k None) c.from.ensures in
+    let held = held_slot c.args.modify.source_id m.snapshot.slots c.args.slot c.requires.found in
     none_some held.0 (sym c.in_default.is ∙ read ∙ held.1)
 
 pub returns-then-not-fits : goal.returns-then-not-fits
 returns-then-not-fits c =
     let m : Machine = machine c.args.self.now in
-    let there : c.args.slot < length m.sight.slots = subst (λ n. c.args.slot < n) c.args.self.now.slots.ok.0 c.requires.within in
+    let there : c.args.slot < length m.snapshot.slots = subst (λ n. c.args.slot < n) c.args.self.now.slots.ok.0 c.requires.within in
     let below : c.from.result < m.setup.slots = subst (λ k. k < m.setup.slots) (sym c.from.ensures) c.requires.within in
-    let read : c.index.result.now ≡ get_or m.sight.slots c.args.slot None =
-    get_or_read_under m.sight.slots c.from.result m.setup.slots c.index.result.now None c.index.ensures below c.args.self.now.slots.ok.0
-    ∙ ap (λ k. get_or m.sight.slots k None) c.from.ensures in
-    let held : entry_at m.sight.slots c.args.slot ≡ Some c.in-Some.held = sym read ∙ c.in-Some.is in
+    let read : c.index.result.now ≡ get_or m.snapshot.slots c.args.slot None =
+    get_or_read_under m.snapshot.slots c.from.result m.setup.slots c.index.result.now None c.index.ensures below c.args.self.now.slots.ok.0
+    ∙ ap (λ k. get_or m.snapshot.slots k None) c.from.ensures in
+    let held : entry_at m.snapshot.slots c.args.slot ≡ Some c.in-Some.held = sym read ∙ c.in-Some.is in
     let filled : c.new-filled.result ≡ record c.in-Some.held { wanted = wanted_by c.args.modify } =
     c.new-filled.ensures ∙ ap (λ source. entry source c.args.modify.pa_sync c.args.modify.wishes) c.source.ensures.same in
-    let same : place_by m.sight.place c.move_wanted-moves.result ≡ place_given m.sight (modified c.args.slot (wanted_by c.args.modify)) = c.move_wanted-moves.ensures m.sight held in
-    let puts = puts_no (written_value c.args.slot c.new-filled.result c.move_wanted-moves.result c.args.self.now) c.args.slot c.new-filled.result (value_at m.sight c.args.slot)
-    m.sight.slots c.put.new.self.slots.items m.waiting c.put.new.self.waiting.items c.in_ok-fits.fits c.if-not-fits.true c.in_ok-fits.ensures.puts in
+    let same : place_by m.snapshot.place c.move_wanted-moves.result ≡ place_given m.snapshot (modified c.args.slot (wanted_by c.args.modify)) = c.move_wanted-moves.ensures m.snapshot held in
+    let puts = puts_no (written_value c.args.slot c.new-filled.result c.move_wanted-moves.result c.args.self.now) c.args.slot c.new-filled.result (value_at m.snapshot c.args.slot)
+    m.snapshot.slots c.put.new.self.slots.items m.waiting c.put.new.self.waiting.items c.in_ok-fits.fits c.if-not-fits.true c.in_ok-fits.ensures.puts in
     modify_refused m (machine c.put.new.self) c.args.modify c.args.slot c.in-Some.held c.move_wanted-moves.result c.new-filled.result c.refused.result
     c.requires.found there held same filled puts.0
     (same_rest m (machine c.put.new.self) c.put.new.self.slots.items c.put.new.self.waiting.items c.in_ok-fits.ensures.rest puts.1 puts.2) c.refused.ensures
@@ -44,22 +44,22 @@ returns-then-not-fits c =
 pub returns : goal.returns
 returns c =
     let m : Machine = machine c.args.self.now in
-    let there : c.args.slot < length m.sight.slots = subst (λ n. c.args.slot < n) c.args.self.now.slots.ok.0 c.requires.within in
+    let there : c.args.slot < length m.snapshot.slots = subst (λ n. c.args.slot < n) c.args.self.now.slots.ok.0 c.requires.within in
     let below : c.from.result < m.setup.slots = subst (λ k. k < m.setup.slots) (sym c.from.ensures) c.requires.within in
-    let read : c.index.result.now ≡ get_or m.sight.slots c.args.slot None =
-    get_or_read_under m.sight.slots c.from.result m.setup.slots c.index.result.now None c.index.ensures below c.args.self.now.slots.ok.0
-    ∙ ap (λ k. get_or m.sight.slots k None) c.from.ensures in
-    let held : entry_at m.sight.slots c.args.slot ≡ Some c.in-Some.held = sym read ∙ c.in-Some.is in
+    let read : c.index.result.now ≡ get_or m.snapshot.slots c.args.slot None =
+    get_or_read_under m.snapshot.slots c.from.result m.setup.slots c.index.result.now None c.index.ensures below c.args.self.now.slots.ok.0
+    ∙ ap (λ k. get_or m.snapshot.slots k None) c.from.ensures in
+    let held : entry_at m.snapshot.slots c.args.slot ≡ Some c.in-Some.held = sym read ∙ c.in-Some.is in
     let filled : c.new-filled.result ≡ record c.in-Some.held { wanted = wanted_by c.args.modify } =
     c.new-filled.ensures ∙ ap (λ source. entry source c.args.modify.pa_sync c.args.modify.wishes) c.source.ensures.same in
-    let same : place_by m.sight.place c.move_wanted-moves.result ≡ place_given m.sight (modified c.args.slot (wanted_by c.args.modify)) = c.move_wanted-moves.ensures m.sight held in
-    let puts = puts_yes (written_value c.args.slot c.new-filled.result c.move_wanted-moves.result c.args.self.now) c.args.slot c.new-filled.result (value_at m.sight c.args.slot)
-    m.sight.slots c.put.new.self.slots.items m.waiting c.put.new.self.waiting.items c.in_ok-fits.fits c.if-not-fits.false c.in_ok-fits.ensures.puts in
+    let same : place_by m.snapshot.place c.move_wanted-moves.result ≡ place_given m.snapshot (modified c.args.slot (wanted_by c.args.modify)) = c.move_wanted-moves.ensures m.snapshot held in
+    let puts = puts_yes (written_value c.args.slot c.new-filled.result c.move_wanted-moves.result c.args.self.now) c.args.slot c.new-filled.result (value_at m.snapshot c.args.slot)
+    m.snapshot.slots c.put.new.self.slots.items m.waiting c.put.new.self.waiting.items c.in_ok-fits.fits c.if-not-fits.false c.in_ok-fits.ensures.puts in
     let mid : Machine = machine c.put.new.self in
     modify_accepted m _ c.args.modify c.args.slot c.in-Some.held c.move_wanted-moves.result c.new-filled.result c.put.new.self.slots.items c.put.new.self.waiting.items
     c.requires.found c.requires.within there held same filled puts.0
-    (ap (λ (s : Sight). record mid { sight = s }) (c.make_move.ensures mid.sight)
-    ∙ ap (λ (a : Machine). record a { sight = placed (place_by a.sight.place c.move_wanted-moves.result) None None a.sight }) c.in_ok-fits.ensures.rest)
+    (ap (λ (s : Snapshot). record mid { snapshot = s }) (c.make_move.ensures mid.snapshot)
+    ∙ ap (λ (a : Machine). record a { snapshot = placed (place_by a.snapshot.place c.move_wanted-moves.result) None None a.snapshot }) c.in_ok-fits.ensures.rest)
     puts.1 puts.2
 
 pub invariant_of-self-2 : goal.invariant_of-self-2
@@ -68,5 +68,5 @@ invariant_of-self-2 c =
     record {
       reach = c.put.new.self.reach;
       few = c.put.new.self.few;
-      within = λ slot is. moves_below mid.sight c.move_wanted-moves.result mid.setup.slots c.put.new.self.within slot (sym (ap (λ (s : Sight). slot_of s.place) (c.make_move.ensures mid.sight)) ∙ is);
+      within = λ slot is. moves_below mid.snapshot c.move_wanted-moves.result mid.setup.slots c.put.new.self.within slot (sym (ap (λ (s : Snapshot). slot_of s.place) (c.make_move.ensures mid.snapshot)) ∙ is);
     }

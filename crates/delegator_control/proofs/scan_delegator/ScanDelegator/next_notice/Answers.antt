@@ -1,8 +1,8 @@
 use Rattle.std.proofs.Common.{◌∷◌, sym, subst}
-use Rattle.delegator_history.specs.States.{told}
+use Rattle.delegator_history.specs.States.{notified}
 use Rattle.delegator_control.specs.State.Machines.{machine, StandsFor}
 use Rattle.delegator_control.proofs.Standing.{stands_told}
 use Rattle.delegator_control.proofs.scan_delegator.ScanDelegator.next_notice.Goals as goal
 
 pub returns-clause-stands : goal.returns-clause-stands
-returns-clause-stands c steps stands = subst (StandsFor (told ∷ steps)) (sym c.take_notice.ensures.step) (stands_told steps (machine c.args.self.now) stands)
+returns-clause-stands c steps stands = subst (StandsFor (notified ∷ steps)) (sym c.take_notice.ensures.step) (stands_told steps (machine c.args.self.now) stands)

@@ -1,7 +1,7 @@
 use Rattle.std.proofs.Common.{◌≡◌, ◌<◌, ◌++◌, ◌∙◌, ap, sym, subst, None, Some}
 use Rattle.std.proofs.lemmas.Result.{on_ok_weaker}
 use Rattle.std.proofs.lemmas.List.{append-nil}
-use Rattle.delegator_history.specs.Sights.{slot_of}
+use Rattle.delegator_history.specs.Snapshots.{slot_of}
 use Rattle.delegator_control.specs.State.Machines.{Machine, machine}
 use Rattle.delegator_control.proofs.Changes.{moved_none, note_done}
 use Rattle.delegator_control.specs.State.Statuses.{status_seen}
@@ -10,19 +10,19 @@ use Rattle.delegator_control.proofs.scan_delegator.ScanDelegator.note_move.Goals
 pub returns-in_default-clause-ok : goal.returns-in_default-clause-ok
 returns-in_default-clause-ok c =
     let m : Machine = machine c.args.self.now in
-    let none : slot_of m.sight.place ≡ None = sym c.slot.ensures ∙ c.in_default.is in
-    λ i. record m { waiting = (sym (append-nil m.waiting) ∙ ap (λ more. m.waiting ++ more) (sym (moved_none m.setup.slots m.sight c.args.moves none))) i }
+    let none : slot_of m.snapshot.place ≡ None = sym c.slot.ensures ∙ c.in_default.is in
+    λ i. record m { waiting = (sym (append-nil m.waiting) ∙ ap (λ more. m.waiting ++ more) (sym (moved_none m.setup.slots m.snapshot c.args.moves none))) i }
 
 pub returns-clause-ok : goal.returns-clause-ok
 returns-clause-ok c =
     let m : Machine = machine c.args.self.now in
-    let is : slot_of m.sight.place ≡ Some c.in-Some.slot = sym c.slot.ensures ∙ c.in-Some.is in
+    let is : slot_of m.snapshot.place ≡ Some c.in-Some.slot = sym c.slot.ensures ∙ c.in-Some.is in
     let within : c.in-Some.slot < m.setup.slots = c.args.self.now.within c.in-Some.slot is in
     on_ok_weaker c.note_standing.result
     (λ put. λ i. record m {
-      waiting = (put ∙ note_done m.setup.slots c.in-Some.slot c.from.result m.sight m.waiting c.args.moves c.index-held.result.now
+      waiting = (put ∙ note_done m.setup.slots c.in-Some.slot c.from.result m.snapshot m.waiting c.args.moves c.index-held.result.now
           (status_seen c.status_after-before.result) (status_seen c.status_after-after.result)
           is within (subst (λ n. c.in-Some.slot < n) c.args.self.now.slots.ok.0 within) c.from.ensures c.index-held.ensures
-          (c.status_after-before.ensures.same m.sight) (c.status_after-after.ensures.same m.sight)) i;
+          (c.status_after-before.ensures.same m.snapshot) (c.status_after-after.ensures.same m.snapshot)) i;
     })
     c.note_standing.ensures.ok

@@ -1,7 +1,7 @@
 use Rattle.std.proofs.Common.{◌≡◌, ◌<◌, ◌++◌, ◌∙◌, length, set, get_or, ap, sym, subst, refl, Some, None}
 use Rattle.std.specs.Prelude.{nat_lt, option_map}
 use Rattle.std.proofs.lemmas.List.{get_or_read_under}
-use Rattle.receive_state.specs.Layout.{spelling}
+use Rattle.receive_state.specs.Layout.{encoding}
 use Rattle.delegator_history.specs.Notices.{change}
 use Rattle.delegator_history.specs.Values.{received, value}
 use Rattle.delegator_control.specs.State.Machines.{Machine, machine}
@@ -10,18 +10,18 @@ use Rattle.delegator_control.proofs.scan_delegator.ScanDelegator.put.Goals as go
 pub returns-then-is_too_long-clause-puts : goal.returns-then-is_too_long-clause-puts
 returns-then-is_too_long-clause-puts c =
     let m : Machine = machine c.args.self.now in
-    let value = c.in_ok-after.ensures ∙ ap (λ status. spelling (received status c.args.filled)) (c.status_after-status.ensures.same m.sight) in
+    let value = c.in_ok-after.ensures ∙ ap (λ status. encoding (received status c.args.filled)) (c.status_after-status.ensures.same m.snapshot) in
     (sym (ap (λ v. nat_lt 512 (length v)) value) ∙ sym c.is_too_long.ensures ∙ c.if-is_too_long.true, refl, refl)
 
 pub returns-clause-puts : goal.returns-clause-puts
 returns-clause-puts c =
     let m : Machine = machine c.args.self.now in
-    let now = c.in_ok-after.ensures ∙ ap (λ status. spelling (received status c.args.filled)) (c.status_after-status.ensures.same m.sight) in
-    let was = c.status_after-before.ensures.same m.sight in
+    let now = c.in_ok-after.ensures ∙ ap (λ status. encoding (received status c.args.filled)) (c.status_after-status.ensures.same m.snapshot) in
+    let was = c.status_after-before.ensures.same m.snapshot in
     let below : c.from.result < m.setup.slots = subst (λ k. k < m.setup.slots) (sym c.from.ensures) c.requires in
-    let entry : c.index-held.result.now ≡ get_or m.sight.slots c.args.slot None =
-    get_or_read_under m.sight.slots c.from.result m.setup.slots c.index-held.result.now None c.index-held.ensures below c.args.self.now.slots.ok.0
-    ∙ ap (λ k. get_or m.sight.slots k None) c.from.ensures in (
+    let entry : c.index-held.result.now ≡ get_or m.snapshot.slots c.args.slot None =
+    get_or_read_under m.snapshot.slots c.from.result m.setup.slots c.index-held.result.now None c.index-held.ensures below c.args.self.now.slots.ok.0
+    ∙ ap (λ k. get_or m.snapshot.slots k None) c.from.ensures in (
       sym (ap (λ v. nat_lt 512 (length v)) now) ∙ sym c.is_too_long.ensures ∙ c.if-is_too_long.false,
       ap (λ k. set c.args.self.now.slots.items k (Some c.args.filled)) c.from-2.ensures,
       c.in_ok-note_value.ensures.ok ∙ (λ i. m.waiting ++ change c.args.slot (value (option_map (received (was i)) (entry i))) (now i)),

@@ -15,33 +15,33 @@ pub returns-in_default : goal.returns-in_default
 returns-in_default c =
     let m : Machine = machine c.args.self.now in
     refused (Remove c.args.source_id) m causes.SourceUnknown c.refused.result
-    (remove_unknown m.sight c.args.source_id (sym c.find_slot-found.ensures.first ∙ c.in_default.is)) c.refused.ensures
+    (remove_unknown m.snapshot c.args.source_id (sym c.find_slot-found.ensures.first ∙ c.in_default.is)) c.refused.ensures
 
 pub returns-then-is_on : goal.returns-then-is_on
 returns-then-is_on c =
     let m : Machine = machine c.args.self.now in
-    let found : slot_with c.args.source_id m.sight.slots ≡ Some c.in-Some.slot = sym c.find_slot-found.ensures.first ∙ c.in-Some.is in
-    let held = held_slot c.args.source_id m.sight.slots c.in-Some.slot found in
+    let found : slot_with c.args.source_id m.snapshot.slots ≡ Some c.in-Some.slot = sym c.find_slot-found.ensures.first ∙ c.in-Some.is in
+    let held = held_slot c.args.source_id m.snapshot.slots c.in-Some.slot found in
     refused (Remove c.args.source_id) m causes.StillSynced c.refused-then-is_on.result
-    (remove_synced m.sight c.args.source_id c.in-Some.slot held.0 true found held.1 (sym c.is_on.ensures ∙ c.if-is_on.true)) c.refused-then-is_on.ensures
+    (remove_synced m.snapshot c.args.source_id c.in-Some.slot held.0 true found held.1 (sym c.is_on.ensures ∙ c.if-is_on.true)) c.refused-then-is_on.ensures
 
 pub returns : goal.returns
 returns c =
     let m : Machine = machine c.args.self.now in
-    let found : slot_with c.args.source_id m.sight.slots ≡ Some c.in-Some.slot = sym c.find_slot-found.ensures.first ∙ c.in-Some.is in
-    let held = held_slot c.args.source_id m.sight.slots c.in-Some.slot found in
+    let found : slot_with c.args.source_id m.snapshot.slots ≡ Some c.in-Some.slot = sym c.find_slot-found.ensures.first ∙ c.in-Some.is in
+    let held = held_slot c.args.source_id m.snapshot.slots c.in-Some.slot found in
     let within : c.in-Some.slot < m.setup.slots = subst (λ (o : Option ℕ). IfSome o (λ s. s < m.setup.slots)) c.in-Some.is c.find_slot-found.ensures.within in
     remove_accepted m _ c.args.source_id c.in-Some.slot held.0 _ _ found held.1 (sym c.is_on.ensures ∙ c.if-is_on.false) within
     (subst (λ n. c.in-Some.slot < n) c.args.self.now.slots.ok.0 within) refl
-    (ap (λ k. set m.sight.slots k None) c.from.ensures)
+    (ap (λ k. set m.snapshot.slots k None) c.from.ensures)
     (c.in_ok-put_notice.ensures.ok ∙ ap (λ notices. m.waiting ++ notices)
-    (ap (one c.in-Some.slot) c.new.ensures ∙ sym (emptied c.in-Some.slot (status_at c.in-Some.slot m.sight) _ held.0 held.1)))
+    (ap (one c.in-Some.slot) c.new.ensures ∙ sym (emptied c.in-Some.slot (status_at c.in-Some.slot m.snapshot) _ held.0 held.1)))
 
 pub returns-in_err-put_notice : goal.returns-in_err-put_notice
 returns-in_err-put_notice c =
     let m : Machine = machine c.args.self.now in
-    let found : slot_with c.args.source_id m.sight.slots ≡ Some c.in-Some.slot = sym c.find_slot-found.ensures.first ∙ c.in-Some.is in
-    let held = held_slot c.args.source_id m.sight.slots c.in-Some.slot found in
+    let found : slot_with c.args.source_id m.snapshot.slots ≡ Some c.in-Some.slot = sym c.find_slot-found.ensures.first ∙ c.in-Some.is in
+    let held = held_slot c.args.source_id m.snapshot.slots c.in-Some.slot found in
     let p = err_from_is_err_and c.from_residual.result c.from_residual.ensures.1 in
-    let none = remove_synced m.sight c.args.source_id c.in-Some.slot held.0 false found held.1 (sym c.is_on.ensures ∙ c.if-is_on.false) in
+    let none = remove_synced m.snapshot c.args.source_id c.in-Some.slot held.0 false found held.1 (sym c.is_on.ensures ∙ c.if-is_on.false) in
     rw p.1 (ap (λ waiting. record m { waiting = waiting }) c.in_err-put_notice.ensures.err, ap is_none none)

@@ -14,5 +14,5 @@ returns-in-Ok-clause-memory c =
 
 pub returns-in-None-clause-memory : goal.returns-in-None-clause-memory
 returns-in-None-clause-memory c =
-    fault_wants c.in-Err.fault c.args.write.now (machine c.args.self.now).sight (sym c.cause_of.ensures ∙ c.in-None.is) c.in-Err.ensures.fault
+    fault_wants c.in-Err.fault c.args.write.now (machine c.args.self.now).snapshot (sym c.cause_of.ensures ∙ c.in-None.is) c.in-Err.ensures.fault
     (λ op laid. (c.read_is_operation.ensures op c.args.write.now (λ i. omega (arith, c.type_inv.write i))).1 laid)

@@ -1,13 +1,13 @@
 use Rattle.std.proofs.Common.{refl, sym, ◌∙◌, ap, subst}
 use Rattle.std.specs.Prelude.{IsSome}
 use Rattle.delegator_history.specs.Controls.{control_heard as answer_to}
-use Rattle.delegator_history.specs.Sights.{Sight, slot_of}
+use Rattle.delegator_history.specs.Snapshots.{Snapshot, slot_of}
 use Rattle.delegator_history.specs.States.{control_heard}
 use Rattle.delegator_control.proofs.Wanting.{on_any_err}
 use Rattle.delegator_control.specs.State.Machines.{Machine, machine}
 use Rattle.delegator_machine.specs.Calls.{steps_of}
 use Rattle.delegator_machine.specs.State.Halves.{Halves, StandsFor}
-use Rattle.delegator_machine.proofs.Standing.{sight_is, stands_settled}
+use Rattle.delegator_machine.proofs.Standing.{snapshot_is, stands_settled}
 use Rattle.delegator_machine.proofs.delegator.Delegator.control.Goals as goal
 
 pub returns-clause-stands : goal.returns-clause-stands
@@ -23,11 +23,11 @@ returns-in_err-heard-clause-memory c setup calls stands =
     let old : Halves = record { scan = machine c.self.inside.scan; sink = c.self.inside.sink } in
     let before : StandsFor setup calls old = subst (StandsFor setup calls) (sym c.self.view_is) stands in
     on_any_err c.from_residual.result
-    (ap (λ (s : Sight). answer_to s.place c.args.pdu.now) (sym (sight_is setup calls old before)) ∙ c.in_err-heard.ensures.memory)
+    (ap (λ (s : Snapshot). answer_to s.place c.args.pdu.now) (sym (snapshot_is setup calls old before)) ∙ c.in_err-heard.ensures.memory)
 
 pub returns-in_err-heard-clause-slot : goal.returns-in_err-heard-clause-slot
 returns-in_err-heard-clause-slot c setup calls stands =
     let old : Halves = record { scan = machine c.self.inside.scan; sink = c.self.inside.sink } in
     let before : StandsFor setup calls old = subst (StandsFor setup calls) (sym c.self.view_is) stands in
     on_any_err c.from_residual.result
-    (subst (λ (s : Sight). IsSome (slot_of s.place)) (sight_is setup calls old before) c.in_err-heard.ensures.slot)
+    (subst (λ (s : Snapshot). IsSome (slot_of s.place)) (snapshot_is setup calls old before) c.in_err-heard.ensures.slot)

@@ -1,12 +1,12 @@
 use Rattle.std.proofs.Common.{refl, sym, ap, subst}
 use Rattle.std.specs.Prelude.{IsSome}
-use Rattle.delegator_history.specs.Sights.{Sight, slot_of}
+use Rattle.delegator_history.specs.Snapshots.{Snapshot, slot_of}
 use Rattle.delegator_history.specs.States.{train_lost}
 use Rattle.delegator_control.proofs.Wanting.{on_any_err}
 use Rattle.delegator_control.specs.State.Machines.{Machine, machine}
 use Rattle.delegator_machine.specs.Calls.{steps_of}
 use Rattle.delegator_machine.specs.State.Halves.{Halves, StandsFor}
-use Rattle.delegator_machine.proofs.Standing.{sight_is, stands_settled}
+use Rattle.delegator_machine.proofs.Standing.{snapshot_is, stands_settled}
 use Rattle.delegator_machine.proofs.delegator.Delegator.lost.Goals as goal
 
 pub returns-clause-stands : goal.returns-clause-stands
@@ -22,4 +22,4 @@ returns-in_err-lost-clause-memory c setup calls stands =
     let old : Halves = record { scan = machine c.self.inside.scan; sink = c.self.inside.sink } in
     let before : StandsFor setup calls old = subst (StandsFor setup calls) (sym c.self.view_is) stands in
     on_any_err c.from_residual.result
-    (subst (λ (s : Sight). IsSome (slot_of s.place)) (sight_is setup calls old before) c.in_err-lost.ensures.memory)
+    (subst (λ (s : Snapshot). IsSome (slot_of s.place)) (snapshot_is setup calls old before) c.in_err-lost.ensures.memory)

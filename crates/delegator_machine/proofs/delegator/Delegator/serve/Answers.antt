@@ -3,14 +3,14 @@ use Rattle.std.specs.Prelude.{IsOk}
 use Rattle.bass_operations.specs.declared.fault.OpFault.{OpFault}
 use Rattle.bass_operations.specs.declared.operation.Operation.{Operation}
 use Rattle.bass_operations.specs.Reading.{op_of}
-use Rattle.delegator_history.specs.Sights.{Sight}
+use Rattle.delegator_history.specs.Snapshots.{Snapshot}
 use Rattle.delegator_history.specs.States.{written}
 use Rattle.delegator_control.specs.Serving.{wants_memory}
 use Rattle.delegator_control.specs.State.Machines.{Machine, machine}
 use Rattle.delegator_control.proofs.Wanting.{on_any_err}
 use Rattle.delegator_machine.specs.Calls.{steps_of}
 use Rattle.delegator_machine.specs.State.Halves.{Halves, StandsFor}
-use Rattle.delegator_machine.proofs.Standing.{sight_is, stands_settled}
+use Rattle.delegator_machine.proofs.Standing.{snapshot_is, stands_settled}
 use Rattle.delegator_machine.proofs.delegator.Delegator.serve.Goals as goal
 
 pub returns-clause-stands : goal.returns-clause-stands
@@ -26,12 +26,12 @@ returns-in_err-reply-clause-memory c setup calls stands =
     let old : Halves = record { scan = machine c.self.inside.scan; sink = c.self.inside.sink } in
     let before : StandsFor setup calls old = subst (StandsFor setup calls) (sym c.self.view_is) stands in
     on_any_err c.from_residual.result
-    (ap (λ sight. wants_memory sight (op_of c.args.write.now)) (sym (sight_is setup calls old before)) ∙ c.in_err-reply.ensures.memory)
+    (ap (λ snapshot. wants_memory snapshot (op_of c.args.write.now)) (sym (snapshot_is setup calls old before)) ∙ c.in_err-reply.ensures.memory)
 
-wanted_is_read : (sight : Sight) (read : Result Operation OpFault) → wants_memory sight read ≡ true → IsOk read
-wanted_is_read sight (Err fault) wanted = absurd cc
-wanted_is_read sight (Ok op) wanted = refl
+wanted_is_read : (snapshot : Snapshot) (read : Result Operation OpFault) → wants_memory snapshot read ≡ true → IsOk read
+wanted_is_read snapshot (Err fault) wanted = absurd cc
+wanted_is_read snapshot (Ok op) wanted = refl
 
 pub returns-in_err-reply-clause-operation : goal.returns-in_err-reply-clause-operation
 returns-in_err-reply-clause-operation c =
-    on_any_err c.from_residual.result (wanted_is_read (machine c.self.inside.scan).sight (op_of c.args.write.now) c.in_err-reply.ensures.memory)
+    on_any_err c.from_residual.result (wanted_is_read (machine c.self.inside.scan).snapshot (op_of c.args.write.now) c.in_err-reply.ensures.memory)

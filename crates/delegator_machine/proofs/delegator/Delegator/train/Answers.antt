@@ -1,6 +1,6 @@
 use Rattle.std.proofs.Common.{◌≡◌, ◌∙◌, option_copied, sym, ap, subst}
-use Rattle.delegator_history.specs.Trains.{Train, brought_by, done_brought, joining_in}
-use Rattle.delegator_choices.specs.State.Brings.{brought_of}
+use Rattle.delegator_history.specs.Trains.{Train, outcome_by, done_by_outcome, big_sync_in}
+use Rattle.delegator_choices.specs.State.Brings.{outcome_of}
 use Rattle.delegator_control.specs.Following.{is_followed}
 use Rattle.delegator_control.proofs.Wanting.{on_any_err}
 use Rattle.delegator_control.specs.State.Machines.{machine, moved}
@@ -14,22 +14,22 @@ returns-clause-stands c setup calls stands =
     let old : Halves = record { scan = machine c.self.inside.scan; sink = c.self.inside.sink } in
     let before : StandsFor setup calls old = subst (StandsFor setup calls) (sym c.self.view_is) stands in
     let train : Train = record { address_type = c.args.address_type; sid = c.args.sid; ext = c.args.ext.now; adv = c.args.adv.now; acad = c.args.acad.now; now = c.args.now } in
-    let heard : brought_of c.in_ok-brought.brought ≡ brought_by old.scan.setup old.scan.sight train = c.in_ok-brought.ensures.brought in
+    let heard : outcome_of c.in_ok-outcome.outcome ≡ outcome_by old.scan.setup old.scan.snapshot train = c.in_ok-outcome.ensures.outcome in
     stands_trained setup train calls old (record { scan = machine c.follow.new.self; sink = c.join.new.sink })
-    (option_copied c.joining.result) c.in_ok-made.made
-    (c.joining.ensures ∙ ap joining_in heard) c.in_ok-made.ensures.made
+    (option_copied c.big_sync.result) c.in_ok-made.made
+    (c.big_sync.ensures ∙ ap big_sync_in heard) c.in_ok-made.ensures.made
     c.join.ensures.none c.join.ensures.some
-    (c.in_ok-heard.ensures.step ∙ ap (λ brought. moved (done_brought brought) old.scan) heard)
+    (c.in_ok-heard.ensures.step ∙ ap (λ outcome. moved (done_by_outcome outcome) old.scan) heard)
     (c.in_ok-heard.ensures.stands (steps_of calls) train heard before.steps)
     before
 
-pub returns-in_err-brought-clause-memory : goal.returns-in_err-brought-clause-memory
-returns-in_err-brought-clause-memory c setup calls stands =
+pub returns-in_err-outcome-clause-memory : goal.returns-in_err-outcome-clause-memory
+returns-in_err-outcome-clause-memory c setup calls stands =
     let old : Halves = record { scan = machine c.self.inside.scan; sink = c.self.inside.sink } in
     let before : StandsFor setup calls old = subst (StandsFor setup calls) (sym c.self.view_is) stands in
     let train : Train = record { address_type = c.args.address_type; sid = c.args.sid; ext = c.args.ext.now; adv = c.args.adv.now; acad = c.args.acad.now; now = c.args.now } in
     on_any_err c.from_residual.result
-    (followed_so setup calls old train before (base_followed (brought_by old.scan.setup old.scan.sight train) c.in_err-brought.ensures.memory))
+    (followed_so setup calls old train before (base_followed (outcome_by old.scan.setup old.scan.snapshot train) c.in_err-outcome.ensures.memory))
 
 pub returns-in_err-made-clause-memory : goal.returns-in_err-made-clause-memory
 returns-in_err-made-clause-memory c setup calls stands =
@@ -38,7 +38,7 @@ returns-in_err-made-clause-memory c setup calls stands =
     let train : Train = record { address_type = c.args.address_type; sid = c.args.sid; ext = c.args.ext.now; adv = c.args.adv.now; acad = c.args.acad.now; now = c.args.now } in
     on_any_err c.from_residual-in_err-made.result
     (followed_so setup calls old train before
-    (joined_followed (option_copied c.joining.result) (brought_by old.scan.setup old.scan.sight train) (c.joining.ensures ∙ ap joining_in c.in_ok-brought.ensures.brought)
+    (joined_followed (option_copied c.big_sync.result) (outcome_by old.scan.setup old.scan.snapshot train) (c.big_sync.ensures ∙ ap big_sync_in c.in_ok-outcome.ensures.outcome)
     c.in_err-made.ensures.memory))
 
 pub returns-in_err-heard-clause-memory : goal.returns-in_err-heard-clause-memory
@@ -47,4 +47,4 @@ returns-in_err-heard-clause-memory c setup calls stands =
     let before : StandsFor setup calls old = subst (StandsFor setup calls) (sym c.self.view_is) stands in
     let train : Train = record { address_type = c.args.address_type; sid = c.args.sid; ext = c.args.ext.now; adv = c.args.adv.now; acad = c.args.acad.now; now = c.args.now } in
     on_any_err c.from_residual-in_err-heard.result
-    (followed_so setup calls old train before (ap is_followed (sym c.in_ok-brought.ensures.brought) ∙ c.in_err-heard.ensures.memory))
+    (followed_so setup calls old train before (ap is_followed (sym c.in_ok-outcome.ensures.outcome) ∙ c.in_err-heard.ensures.memory))

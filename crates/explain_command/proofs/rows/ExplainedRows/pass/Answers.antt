@@ -26,7 +26,7 @@ loop-done-preserved g c =
       silent = on.left;
       kept = keeps_then (told_at initial first) (told_at place kept) (told_at now kept') c.loop-done.invariant.kept
           (subst (λ p. Keeps (told_at place kept) (told_at p kept')) (sym c.after-self-inside.ensures)
-          (silent place kept kept' (take count rest) on.front c.in_ok-count.ensures.bytes));
+          (silent place kept kept' (take count rest) on.prefix c.in_ok-count.ensures.bytes));
       lines = lines_on initial place octets done c.loop-done.invariant.place first kept c.loop-done.invariant.lines now kept' rest count is
           c.after-self-inside.ensures c.in_ok-count.ensures.bytes;
       none_failed = c.in_ok-count.ensures.ok ∙ c.loop-done.invariant.none_failed;

@@ -1,6 +1,6 @@
 use Rattle.std.proofs.Common.{◌≡◌, ◌∷◌, [], length, take, drop, set, arith, refl}
 use Rattle.iso_pdu.specs.Reading.{parts_from, parts_in}
-use Rattle.iso_pdu.specs.Spelling.{segments}
+use Rattle.iso_pdu.specs.Encoding.{segments}
 use Rattle.iso_pdu.proofs.Packs.{header_alone}
 use Rattle.iso_pdu.proofs.framed_pdu.FramedPdu.restart.Goals as goal
 
@@ -8,12 +8,12 @@ pub invariant_of-self : goal.invariant_of-self
 unfolding parts_from
 invariant_of-self c =
     let parts = segments (parts_in (drop 2 (take c.self.inside.end c.self.inside.octets))) in
-    let head : take 2 (set c.self.inside.octets 1 0) ≡ 2 ∷ 0 ∷ [] = header_alone c.self.inside.octets c.self.inside.end 2 (length parts) parts c.self.invariant.spelled in
-    record { greatest = c.requires; within = omega arith; spelled = rw head refl }
+    let head : take 2 (set c.self.inside.octets 1 0) ≡ 2 ∷ 0 ∷ [] = header_alone c.self.inside.octets c.self.inside.end 2 (length parts) parts c.self.invariant.encoded in
+    record { greatest = c.requires; within = omega arith; encoded = rw head refl }
 
 pub returns : goal.returns
 unfolding parts_from
 returns c =
     let parts = segments (parts_in (drop 2 (take c.self.inside.end c.self.inside.octets))) in
-    let head : take 2 (set c.self.inside.octets 1 0) ≡ 2 ∷ 0 ∷ [] = header_alone c.self.inside.octets c.self.inside.end 2 (length parts) parts c.self.invariant.spelled in
+    let head : take 2 (set c.self.inside.octets 1 0) ≡ 2 ∷ 0 ∷ [] = header_alone c.self.inside.octets c.self.inside.end 2 (length parts) parts c.self.invariant.encoded in
     rw head refl

@@ -3,7 +3,7 @@ use Rattle.std.specs.Vec.{with_items}
 use Rattle.std.proofs.lemmas.List.{length-drop, length-take-le}
 use Rattle.std.proofs.lemmas.Nat.{mul-le}
 use Rattle.std.proofs.Math.Nat.{add-mul}
-use Rattle.isoal_unframed.proofs.Kept.{slot_front, slot_behind, slot_octets, slot-kept, option_same}
+use Rattle.isoal_unframed.proofs.Kept.{slot_prefix, slot_behind, slot_octets, slot-kept, option_same}
 use Rattle.isoal_unframed.proofs.Vecs.{mid_is}
 use Rattle.isoal_unframed.proofs.ring.Ring.gather.Goals as goal
 
@@ -44,8 +44,8 @@ block_is : (c : goal.After-self-2-1)
     ++ (c.gather.new.block ++ drop (c.args.first * c.args.self.now.max_pdu + c.args.places * c.args.self.now.max_pdu) c.args.self.now.block.items)
 block_is c = grind (arith, mid_is, count_is, many_is, room_is)
 
-pub returns-clause-front : goal.returns-clause-front
-returns-clause-front c = grind (arith, slot_front, within_is, size_is, block_is)
+pub returns-clause-prefix : goal.returns-clause-prefix
+returns-clause-prefix c = grind (arith, slot_prefix, within_is, size_is, block_is)
 
 pub returns-clause-behind : goal.returns-clause-behind
 returns-clause-behind c =

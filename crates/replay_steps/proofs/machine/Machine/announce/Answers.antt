@@ -1,6 +1,6 @@
 use Rattle.std.proofs.Common.{length, refl, sym, ◌∙◌}
 use Rattle.scenario_history.specs.Worlds.{source_at}
-use Rattle.replay_steps.specs.Machines.{past_of}
+use Rattle.replay_steps.specs.Machines.{histories_of}
 use Rattle.replay_steps.proofs.SinkLines.{announce_early, announce_fails, announce_meets, announce_nowhere}
 use Rattle.replay_steps.proofs.machine.Machine.announce.Goals as goal
 
@@ -11,7 +11,7 @@ returns-then-not-is_sending c starts version steps stands e =
 pub returns-then-not-lives : goal.returns-then-not-lives
 returns-then-not-lives c starts version steps stands e = (
   announce_nowhere (length starts) version c.args.sink steps e (sym (c.is_sending.ensures steps stands.sources) ∙ c.if-not-is_sending.false)
-      (sym (c.lives.ensures (past_of steps) stands.sinks) ∙ c.if-not-lives.true),
+      (sym (c.lives.ensures (histories_of steps) stands.sinks) ∙ c.if-not-lives.true),
   stands,
   refl,
 )
@@ -20,10 +20,10 @@ pub returns-in-Err : goal.returns-in-Err
 returns-in-Err c starts version steps stands e =
     announce_fails starts version c.args.sink steps c.args.self.now c.args.text.now c.in-Err.stop stands e
     (sym (c.is_sending.ensures steps stands.sources) ∙ c.if-not-is_sending.false)
-    (sym (c.lives.ensures (past_of steps) stands.sinks) ∙ c.if-not-lives.false) (c.in-Err.ensures.announces steps stands.sources)
+    (sym (c.lives.ensures (histories_of steps) stands.sinks) ∙ c.if-not-lives.false) (c.in-Err.ensures.announces steps stands.sources)
 
 pub returns : goal.returns
 returns c starts version steps stands e =
     let train = c.in-Ok.ensures.announces steps stands.sources in
     announce_meets starts version c.args.sink steps c.in-Ok.train c.args.self.now _ c.args.text.now c.announce-2.new.text c.announce-2.result stands e train refl refl refl
-    (c.announce-2.ensures (past_of steps) (source_at steps) (c.origin-origin.ensures steps stands) (sym train.2) stands.sinks)
+    (c.announce-2.ensures (histories_of steps) (source_at steps) (c.origin-origin.ensures steps stands) (sym train.2) stands.sinks)

@@ -1,42 +1,42 @@
 use Rattle.std.proofs.Common.{Err, Ok, map}
 use Rattle.scenario_history.specs.Relays.{relay_of}
 use Rattle.scenario_sinks.specs.Closing.{closing_of, handed_all}
-use Rattle.scenario_sinks.specs.Pasts.{with_close_at}
+use Rattle.scenario_sinks.specs.Histories.{with_close_at}
 use Rattle.scenario_sinks.specs.State.Gathering.{handed_of}
-use Rattle.replay_steps.specs.Machines.{relays_past}
+use Rattle.replay_steps.specs.Machines.{relay_histories}
 use Rattle.replay_steps.proofs.Relaying.{offers_lent, offers_stop, sink_relays, sink_stops}
 use Rattle.replay_steps.proofs.machine.Machine.close_sink.Goals as goal
 
 pub returns-in-Err-clause-closes : goal.returns-in-Err-clause-closes
-returns-in-Err-clause-closes g c steps past rooms =
+returns-in-Err-clause-closes g c steps past components =
     sink_stops steps past c.args.sink c.args.event c.close_at.new.self c.args.self.now c.args.text.now c.close_at.new.text _ _ c.in-Err.stop
-    (c.in-Err.ensures.closes past rooms.sinks)
+    (c.in-Err.ensures.closes past components.sinks)
 
 pub returns-in-Err-offer_all-clause-closes : goal.returns-in-Err-offer_all-clause-closes
-returns-in-Err-offer_all-clause-closes g c steps past rooms =
-    let closed = c.in-Ok.ensures.closes past rooms.sinks in
+returns-in-Err-offer_all-clause-closes g c steps past components =
+    let closed = c.in-Ok.ensures.closes past components.sinks in
     let lent = c.lent-units.ensures (with_close_at c.args.sink 0 c.args.event past) (handed_all (closing_of c.args.sink 0 c.args.event past)) closed.lends in
-    let offered = c.in-Err-offer_all.ensures steps (relay_of c.args.sink steps) (c.route-route.ensures (relays_past steps) rooms.relays) rooms.sources rooms.relays in
+    let offered = c.in-Err-offer_all.ensures steps (relay_of c.args.sink steps) (c.route-route.ensures (relay_histories steps) components.relays) components.sources components.relays in
     offers_stop steps past c.args.sink c.args.event c.close_at.new.self c.args.self.now c.offer_all.new.sources c.offer_all.new.relays c.args.text.now c.close_at.new.text
     c.offer_all.new.text _ _ c.in-Err-offer_all.stop closed
     (offers_lent steps past c.args.sink c.args.event (map handed_of c.lent-units.result.now) c.offer_all.new.sources c.offer_all.new.relays c.close_at.new.text c.offer_all.new.text
     (Err c.in-Err-offer_all.stop) lent offered)
 
 pub returns-clause-closes : goal.returns-clause-closes
-returns-clause-closes g c steps past rooms =
-    let closed = c.in-Ok.ensures.closes past rooms.sinks in
+returns-clause-closes g c steps past components =
+    let closed = c.in-Ok.ensures.closes past components.sinks in
     let lent = c.lent-units.ensures (with_close_at c.args.sink 0 c.args.event past) (handed_all (closing_of c.args.sink 0 c.args.event past)) closed.lends in
-    let offered = c.in-Ok-offer_all.ensures steps (relay_of c.args.sink steps) (c.route-route.ensures (relays_past steps) rooms.relays) rooms.sources rooms.relays in
+    let offered = c.in-Ok-offer_all.ensures steps (relay_of c.args.sink steps) (c.route-route.ensures (relay_histories steps) components.relays) components.sources components.relays in
     sink_relays steps past c.args.sink c.args.event c.close_at.new.self _ c.args.text.now c.close_at.new.text c.offer_all.new.text _ _ closed
     (offers_lent steps past c.args.sink c.args.event (map handed_of c.lent-units.result.now) c.offer_all.new.sources c.offer_all.new.relays c.close_at.new.text c.offer_all.new.text
     (Ok tt) lent offered)
     (c.forget.ensures (with_close_at c.args.sink 0 c.args.event past) (handed_all (closing_of c.args.sink 0 c.args.event past)) closed.lends)
 
 pub returns-in-Err-clause-others : goal.returns-in-Err-clause-others
-returns-in-Err-clause-others g c steps past rooms = c.close_at.ensures.others past rooms.sinks
+returns-in-Err-clause-others g c steps past components = c.close_at.ensures.others past components.sinks
 
 pub returns-in-Err-offer_all-clause-others : goal.returns-in-Err-offer_all-clause-others
-returns-in-Err-offer_all-clause-others g c steps past rooms = c.close_at.ensures.others past rooms.sinks
+returns-in-Err-offer_all-clause-others g c steps past components = c.close_at.ensures.others past components.sinks
 
 pub returns-clause-others : goal.returns-clause-others
-returns-clause-others g c steps past rooms = c.close_at.ensures.others past rooms.sinks
+returns-clause-others g c steps past components = c.close_at.ensures.others past components.sinks

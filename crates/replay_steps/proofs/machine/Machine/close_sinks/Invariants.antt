@@ -1,17 +1,17 @@
 use Rattle.std.proofs.Common.{◌≡◌, List, map}
 use Rattle.scenario_text.specs.declared.step.Step.{Step}
-use Rattle.scenario_sinks.specs.Pasts.{Past}
-use Rattle.scenario_sinks.specs.Untaken.{UntakenSame}
+use Rattle.scenario_sinks.specs.Histories.{Histories}
+use Rattle.scenario_sinks.specs.Unassigned.{UnassignedSame}
 use Rattle.replay_steps.specs.Between.{FirstBetween}
-use Rattle.replay_steps.specs.Relaying.{RoomsStand}
+use Rattle.replay_steps.specs.Relaying.{ComponentsStand}
 use Rattle.replay_steps.proofs.machine.Machine.close_sinks.Given as goal
 
 abbrev pub invariant-sinks : goal.invariant-sinks
 invariant-sinks g l = record {
-  between : (steps : List Step) (past : Past) → RoomsStand steps past l.initial.self
+  between : (steps : List Step) (past : Histories) → ComponentsStand steps past l.initial.self
       → FirstBetween steps past l.event l.sink l.self l.initial.text l.text
       (map (λ b. (goal.Outlet-dyn g (b.vtable, b.value)).account b.value) l.initial.outlets.items)
       (map (λ b. (goal.Outlet-dyn g (b.vtable, b.value)).account b.value) l.outlets.items);
-  others : (steps : List Step) (past : Past) → RoomsStand steps past l.initial.self → UntakenSame past l.initial.outlets.items l.outlets.items;
+  others : (steps : List Step) (past : Histories) → ComponentsStand steps past l.initial.self → UnassignedSame past l.initial.outlets.items l.outlets.items;
   stage : l.self.stage ≡ l.initial.self.stage;
 }

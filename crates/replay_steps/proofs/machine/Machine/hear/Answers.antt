@@ -1,6 +1,6 @@
 use Rattle.std.proofs.Common.{refl}
 use Rattle.scenario_text.specs.declared.step.Step.TheVariants.{Hear as HearStep}
-use Rattle.replay_steps.specs.Machines.{past_of}
+use Rattle.replay_steps.specs.Machines.{histories_of}
 use Rattle.replay_steps.proofs.Airing.{hear_brings, hear_meets, place_fails, reach_fails}
 use Rattle.replay_steps.proofs.machine.Machine.hear.Goals as goal
 
@@ -15,7 +15,7 @@ returns-in-Ok-heard_at c boxes version steps stands e =
     hear_meets boxes version c.args.sink c.chosen-source.result c.event_back-event.result c.args.place.back c.args.place.bis c.args.place.subevent c.in-Ok-heard_at.pdu.now steps
     c.args.self.now _ c.hear.result
     c.in-Ok.field-0 stands e reach (c.in-Ok-heard_at.ensures.ok steps stands.sources) (c.chosen-source.ensures.source steps stands.sources)
-    (c.event_back-event.ensures.event steps stands.sources reach.0) refl refl refl (c.hear.ensures (past_of steps) stands.sinks)
+    (c.event_back-event.ensures.event steps stands.sources reach.0) refl refl refl (c.hear.ensures (histories_of steps) stands.sinks)
 
 pub returns-in-Err-heard_at : goal.returns-in-Err-heard_at
 returns-in-Err-heard_at c boxes version steps stands e =

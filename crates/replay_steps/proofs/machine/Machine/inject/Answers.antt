@@ -1,6 +1,6 @@
 use Rattle.std.proofs.Common.{refl, length}
 use Rattle.scenario_text.specs.declared.step.Step.TheVariants.{Inject as InjectStep}
-use Rattle.replay_steps.specs.Machines.{past_of}
+use Rattle.replay_steps.specs.Machines.{histories_of}
 use Rattle.replay_steps.proofs.Airing.{inject_brings, inject_fails, inject_meets, place_fails, quiet_tells, reach_fails}
 use Rattle.replay_steps.proofs.machine.Machine.inject.Goals as goal
 
@@ -22,7 +22,7 @@ pub returns-in_default : goal.returns-in_default
 returns-in_default c starts version steps stands e =
     absurd (inject_fails starts version c.args.sink c.chosen-source.result c.event_back-event.result c.args.place.bis c.args.place.subevent c.args.octets.now steps c.hear.new.self
     c.in-Ok.field-0 (c.in-Ok.ensures steps stands)
-    (c.in_default.ensures (past_of steps) stands.sinks))
+    (c.in_default.ensures (histories_of steps) stands.sinks))
 
 pub returns-in-Ok-put_heard : goal.returns-in-Ok-put_heard
 returns-in-Ok-put_heard c starts version steps stands e =
@@ -30,4 +30,4 @@ returns-in-Ok-put_heard c starts version steps stands e =
     inject_meets starts version c.args.sink c.chosen-source.result c.event_back-event.result c.args.place.back c.args.place.bis c.args.place.subevent c.args.octets.now steps
     c.args.self.now _ c.in-Some.hearing c.in-Ok.field-0
     c.args.text.now c.put_heard.new.text stands e reach (c.in-Ok-heard_at.ensures.ok steps stands.sources).0 (c.chosen-source.ensures.source steps stands.sources)
-    (c.event_back-event.ensures.event steps stands.sources reach.0) refl refl refl (c.in-Some.ensures (past_of steps) stands.sinks) c.in-Ok-put_heard.ensures.ok
+    (c.event_back-event.ensures.event steps stands.sources reach.0) refl refl refl (c.in-Some.ensures (histories_of steps) stands.sinks) c.in-Ok-put_heard.ensures.ok

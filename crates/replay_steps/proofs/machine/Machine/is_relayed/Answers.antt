@@ -1,4 +1,4 @@
-use Rattle.replay_steps.specs.Machines.{relays_past}
+use Rattle.replay_steps.specs.Machines.{relay_histories}
 use Rattle.replay_steps.proofs.RelayLaws.{first_free, is_first, is_second, second_had}
 use Rattle.replay_steps.proofs.machine.Machine.is_relayed.Goals as goal
 
@@ -9,4 +9,4 @@ returns-then-chosen-ne1 c steps stands =
 pub returns : goal.returns
 returns c steps stands =
     second_had steps c.args.bis c.had_relay.result (is_second steps c.chosen.result (c.chosen.ensures.source steps stands.sources) c.if-chosen-ne1.false)
-    (c.had_relay.ensures (relays_past steps) stands.relays)
+    (c.had_relay.ensures (relay_histories steps) stands.relays)

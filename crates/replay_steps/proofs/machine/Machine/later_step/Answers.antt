@@ -2,7 +2,7 @@ use Rattle.std.proofs.Common.{◌≡◌, Some, refl, sym, ◌∙◌, ap, subst, 
 use Rattle.std.proofs.lemmas.Grind.{common_steps}
 use Rattle.scenario_text.specs.declared.step.Step.{Step}
 use Rattle.scenario_text.specs.declared.step.Step.TheVariants.{Unit as UnitStep}
-use Rattle.sink_history.specs.Lives.{named_by}
+use Rattle.sink_history.specs.History.{named_by}
 use Rattle.scenario_sink.specs.SinkLines.{IsSinkLine}
 use Rattle.replay_steps.specs.declared.machine.Machine.{Machine}
 use Rattle.replay_steps.specs.Versions.{number_of}

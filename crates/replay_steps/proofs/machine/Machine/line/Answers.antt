@@ -60,8 +60,8 @@ returns-in-Ok-Some-clause-meets g c starts lines stand =
     (c.in-Ok-Some.ensures.reads ∙ ap (λ o. Ok o) c.in-Ok-Some.field-0-is) (c.step.ensures.meets starts (steps_of airs_of lines)
     (stands_beside (steps_of airs_of lines) now kept refl refl refl refl stand.stands) stand.boxes)
 
-pub returns-in-Ok-Some-clause-untaken : goal.returns-in-Ok-Some-clause-untaken
-returns-in-Ok-Some-clause-untaken g c starts lines accounts stand =
+pub returns-in-Ok-Some-clause-unassigned : goal.returns-in-Ok-Some-clause-unassigned
+returns-in-Ok-Some-clause-unassigned g c starts lines accounts stand =
     let now = c.args.self.now in
     let kept : Machine = record {
       alloc = now.alloc;
@@ -71,5 +71,5 @@ returns-in-Ok-Some-clause-untaken g c starts lines accounts stand =
       relays = now.relays;
       spare = c.read_line_over.new.spare;
     } in
-    c.step.ensures.untaken (steps_of airs_of lines)
+    c.step.ensures.unassigned (steps_of airs_of lines)
     (stands_beside (steps_of airs_of lines) now kept refl refl refl refl stand.stands)

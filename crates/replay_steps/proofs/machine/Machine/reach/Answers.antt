@@ -1,14 +1,14 @@
 use Rattle.std.proofs.Common.{sym, ◌∙◌, ap}
 use Rattle.big_info.specs.declared.info.BigInfo.{BigInfo}
-use Rattle.replay_steps.specs.Machines.{past_of}
+use Rattle.replay_steps.specs.Machines.{histories_of}
 use Rattle.replay_steps.proofs.Airing.{no_sink_there}
 use Rattle.replay_steps.proofs.machine.Machine.reach.Goals as goal
 
 pub returns-then-not-lives : goal.returns-then-not-lives
 returns-then-not-lives c steps stands =
-    no_sink_there steps c.args.sink (c.in-Some.ensures steps stands.sources).0 (sym (c.lives.ensures (past_of steps) stands.sinks) ∙ c.if-not-lives.true)
+    no_sink_there steps c.args.sink (c.in-Some.ensures steps stands.sources).0 (sym (c.lives.ensures (histories_of steps) stands.sinks) ∙ c.if-not-lives.true)
 
 pub returns : goal.returns
 returns c steps stands =
     let group = c.in-Some.ensures steps stands.sources in
-    (group.0, (ap (λ (i : BigInfo). i.num_bis) group.1, ap (λ (i : BigInfo). i.nse) group.1), sym (c.lives.ensures (past_of steps) stands.sinks) ∙ c.if-not-lives.false)
+    (group.0, (ap (λ (i : BigInfo). i.num_bis) group.1, ap (λ (i : BigInfo). i.nse) group.1), sym (c.lives.ensures (histories_of steps) stands.sinks) ∙ c.if-not-lives.false)

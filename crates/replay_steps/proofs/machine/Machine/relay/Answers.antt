@@ -1,5 +1,5 @@
 use Rattle.std.proofs.Common.{refl, sym, ◌∙◌, true, false}
-use Rattle.replay_steps.specs.Machines.{past_of, relays_past}
+use Rattle.replay_steps.specs.Machines.{histories_of, relay_histories}
 use Rattle.replay_steps.proofs.RelayLaws.{beyond_by, may_framed, may_not_first, may_not_second, may_not_unframed, relay_beyond, relay_by, relay_early, relay_fails, relay_meets, relay_nowhere, taken_is}
 use Rattle.transcript_text.specs.declared.refusal.Refusal.TheVariants.{NoSuchBis, NoSuchSink, Order, RelayTaken}
 use Rattle.replay_steps.proofs.machine.Machine.relay.Goals as goal
@@ -28,7 +28,7 @@ returns-then-not-lives c boxes version steps stands e =
     let second = c.in-Some-taking.ensures steps stands.sources in
     relay_fails boxes version c.args.sink c.args.bis c.args.to steps c.args.self.now NoSuchSink stands e
     (relay_nowhere steps c.args.sink c.args.bis c.args.to (may_framed steps c.in-Some-taking.second.info first.0 second.0 second.1 c.if-second-ne1.false)
-    (sym (c.lives.ensures (past_of steps) stands.sinks) ∙ c.if-not-lives.true))
+    (sym (c.lives.ensures (histories_of steps) stands.sinks) ∙ c.if-not-lives.true))
 
 pub returns-then-is_beyond : goal.returns-then-is_beyond
 returns-then-is_beyond c boxes version steps stands e =
@@ -36,7 +36,7 @@ returns-then-is_beyond c boxes version steps stands e =
     let second = c.in-Some-taking.ensures steps stands.sources in
     relay_fails boxes version c.args.sink c.args.bis c.args.to steps c.args.self.now NoSuchBis stands e
     (relay_beyond steps c.args.sink c.args.bis c.args.to (may_framed steps c.in-Some-taking.second.info first.0 second.0 second.1 c.if-second-ne1.false)
-    (sym (c.lives.ensures (past_of steps) stands.sinks) ∙ c.if-not-lives.false)
+    (sym (c.lives.ensures (histories_of steps) stands.sinks) ∙ c.if-not-lives.false)
     (beyond_by steps c.args.bis c.args.to c.in-Some.first.info c.in-Some-taking.second.info first.1 second.1 ∙ sym c.is_beyond.ensures ∙ c.if-is_beyond.true))
 
 pub returns-then-is_taken : goal.returns-then-is_taken
@@ -45,9 +45,9 @@ returns-then-is_taken c boxes version steps stands e =
     let second = c.in-Some-taking.ensures steps stands.sources in
     relay_fails boxes version c.args.sink c.args.bis c.args.to steps c.args.self.now RelayTaken stands e
     (relay_by steps c.args.sink c.args.bis c.args.to false true (may_framed steps c.in-Some-taking.second.info first.0 second.0 second.1 c.if-second-ne1.false)
-    (sym (c.lives.ensures (past_of steps) stands.sinks) ∙ c.if-not-lives.false)
+    (sym (c.lives.ensures (histories_of steps) stands.sinks) ∙ c.if-not-lives.false)
     (beyond_by steps c.args.bis c.args.to c.in-Some.first.info c.in-Some-taking.second.info first.1 second.1 ∙ sym c.is_beyond.ensures ∙ c.if-is_beyond.false)
-    (taken_is steps c.args.sink c.args.to true (sym c.if-is_taken.true ∙ c.is_taken.ensures (relays_past steps) stands.relays)))
+    (taken_is steps c.args.sink c.args.to true (sym c.if-is_taken.true ∙ c.is_taken.ensures (relay_histories steps) stands.relays)))
 
 pub returns : goal.returns
 returns c boxes version steps stands e =
@@ -55,7 +55,7 @@ returns c boxes version steps stands e =
     let second = c.in-Some-taking.ensures steps stands.sources in
     relay_meets boxes version c.args.sink c.args.bis c.args.to steps c.args.self.now _ stands e
     (relay_by steps c.args.sink c.args.bis c.args.to false false (may_framed steps c.in-Some-taking.second.info first.0 second.0 second.1 c.if-second-ne1.false)
-    (sym (c.lives.ensures (past_of steps) stands.sinks) ∙ c.if-not-lives.false)
+    (sym (c.lives.ensures (histories_of steps) stands.sinks) ∙ c.if-not-lives.false)
     (beyond_by steps c.args.bis c.args.to c.in-Some.first.info c.in-Some-taking.second.info first.1 second.1 ∙ sym c.is_beyond.ensures ∙ c.if-is_beyond.false)
-    (taken_is steps c.args.sink c.args.to false (sym c.if-is_taken.false ∙ c.is_taken.ensures (relays_past steps) stands.relays)))
-    refl refl refl (c.relay.ensures (relays_past steps) stands.relays)
+    (taken_is steps c.args.sink c.args.to false (sym c.if-is_taken.false ∙ c.is_taken.ensures (relay_histories steps) stands.relays)))
+    refl refl refl (c.relay.ensures (relay_histories steps) stands.relays)

@@ -11,5 +11,5 @@ returns-clause-meets g c starts lines line stand is =
     line_meets starts lines line version c.args.step c.step.new.self c.args.text.now c.step.new.text _ _ c.step.result stand.boxes refl
     ((c.a_line_says_one_step.ensures.says version line c.args.step).0 (is version)) (c.step.ensures.meets starts (steps_of airs_of lines) stand.stands stand.boxes)
 
-pub returns-clause-untaken : goal.returns-clause-untaken
-returns-clause-untaken g c starts lines accounts stand = c.step.ensures.untaken (steps_of airs_of lines) stand.stands
+pub returns-clause-unassigned : goal.returns-clause-unassigned
+returns-clause-unassigned g c starts lines accounts stand = c.step.ensures.unassigned (steps_of airs_of lines) stand.stands

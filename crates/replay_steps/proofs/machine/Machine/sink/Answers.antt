@@ -1,5 +1,5 @@
 use Rattle.std.proofs.Common.{refl}
-use Rattle.replay_steps.specs.Machines.{past_of}
+use Rattle.replay_steps.specs.Machines.{histories_of}
 use Rattle.replay_steps.specs.Versions.{number_of}
 use Rattle.replay_steps.proofs.Stepping.{make_meets}
 use Rattle.replay_steps.proofs.machine.Machine.sink.Goals as goal
@@ -7,4 +7,4 @@ use Rattle.replay_steps.proofs.machine.Machine.sink.Goals as goal
 pub returns : goal.returns
 returns c steps stands e =
     make_meets c.args.boxes (number_of c.args.version) c.args.sink c.args.streams c.args.slots _ c.args.mtu steps c.args.self.now _ c.make.result stands e
-    c.limits-horizon.ensures.horizon refl refl refl (c.make.ensures (past_of steps) stands.sinks)
+    c.limits-horizon.ensures.horizon refl refl refl (c.make.ensures (histories_of steps) stands.sinks)

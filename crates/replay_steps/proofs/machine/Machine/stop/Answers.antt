@@ -1,9 +1,9 @@
 use Rattle.std.proofs.Common.{[], ◌∷◌, refl}
 use Rattle.scenario_text.specs.declared.step.Step.TheVariants.{Stop as StopStep}
 use Rattle.scenario_history.specs.Steps.{chosen_of}
-use Rattle.replay_steps.specs.Machines.{past_of}
-use Rattle.replay_steps.proofs.Closing.{closes_meet, not_over, rooms_then, stop_closes, stop_refused}
-use Rattle.replay_steps.proofs.Untaken.{untaken_in}
+use Rattle.replay_steps.specs.Machines.{histories_of}
+use Rattle.replay_steps.proofs.Closing.{closes_meet, not_over, components_then, stop_closes, stop_refused}
+use Rattle.replay_steps.proofs.Unassigned.{unassigned_in}
 use Rattle.replay_steps.proofs.machine.Machine.stop.Goals as goal
 
 pub returns-in-Err-clause-meets : goal.returns-in-Err-clause-meets
@@ -14,13 +14,13 @@ returns-in-Err-clause-meets g c starts version steps stands e =
 pub returns-clause-meets : goal.returns-clause-meets
 returns-clause-meets g c starts version steps stands e =
     let stopped = c.in-Ok.ensures.closes version steps stands.sources in
-    let rooms = rooms_then StopStep (λ own. []) steps c.args.self.now (record c.args.self.now { sources = c.stop.new.self }) stop_closes stands stopped.1 refl refl in
+    let components = components_then StopStep (λ own. []) steps c.args.self.now (record c.args.self.now { sources = c.stop.new.self }) stop_closes stands stopped.1 refl refl in
     closes_meet StopStep starts version c.chosen-chosen.result steps c.in-Ok.closed c.args.self.now c.close.new.self c.args.text.now c.close.new.text _ _ c.close.result
     stop_closes stands e stopped.0 (stopped.2 (not_over (chosen_of steps) version steps e)) (c.chosen-chosen.ensures.source (StopStep ∷ steps) stopped.1) c.chosen-chosen.ensures.within c.close.ensures.stage
-    (c.close.ensures.closes (StopStep ∷ steps) (past_of steps) rooms)
+    (c.close.ensures.closes (StopStep ∷ steps) (histories_of steps) components)
 
-pub returns-clause-untaken : goal.returns-clause-untaken
-returns-clause-untaken g c steps stands =
+pub returns-clause-unassigned : goal.returns-clause-unassigned
+returns-clause-unassigned g c steps stands =
     let stopped = c.in-Ok.ensures.closes 0 steps stands.sources in
-    let rooms = rooms_then StopStep (λ own. []) steps c.args.self.now (record c.args.self.now { sources = c.stop.new.self }) stop_closes stands stopped.1 refl refl in
-    untaken_in steps _ _ (c.close.ensures.others (StopStep ∷ steps) (past_of steps) rooms)
+    let components = components_then StopStep (λ own. []) steps c.args.self.now (record c.args.self.now { sources = c.stop.new.self }) stop_closes stands stopped.1 refl refl in
+    unassigned_in steps _ _ (c.close.ensures.others (StopStep ∷ steps) (histories_of steps) components)

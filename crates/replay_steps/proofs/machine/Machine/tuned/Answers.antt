@@ -1,5 +1,5 @@
 use Rattle.std.proofs.Common.{refl}
-use Rattle.replay_steps.specs.Machines.{past_of}
+use Rattle.replay_steps.specs.Machines.{histories_of}
 use Rattle.replay_steps.proofs.Stepping.{tuned_early, tuned_meets}
 use Rattle.replay_steps.proofs.machine.Machine.tuned.Goals as goal
 
@@ -10,4 +10,4 @@ pub returns : goal.returns
 returns c boxes version steps stands e =
     let at = c.in-Some.ensures steps stands.sources in
     tuned_meets boxes version c.args.sink c.chosen.result c.args.which steps _ c.args.self.now _ c.tune.result stands e at.0 (c.chosen.ensures.source steps stands.sources) at.1
-    refl refl refl (c.tune.ensures (past_of steps) stands.sinks)
+    refl refl refl (c.tune.ensures (histories_of steps) stands.sinks)

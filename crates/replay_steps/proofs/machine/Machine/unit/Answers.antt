@@ -1,5 +1,5 @@
 use Rattle.std.proofs.Common.{refl, sym, ◌∙◌}
-use Rattle.replay_steps.specs.Machines.{relays_past}
+use Rattle.replay_steps.specs.Machines.{relay_histories}
 use Rattle.replay_steps.proofs.RelayLaws.{beside_relays, given_relays, is_first, is_second, unit_given, unit_refused, unit_relayed}
 use Rattle.replay_steps.proofs.machine.Machine.unit.Goals as goal
 
@@ -25,4 +25,4 @@ returns c boxes version steps stands e =
     unit_given boxes version c.args.bis c.args.time c.args.octets.now steps c.args.self.now _ stands e
     (sym (c.is_relayed.ensures steps stands) ∙ c.if-is_relayed.false) refl refl (c.in-Ok.ensures version steps stands.sources)
     (given_relays c.args.bis c.args.time c.args.octets.now steps c.give-2.new.self
-    (is_second steps c.chosen-chosen.result (c.chosen-chosen.ensures.source steps stands.sources) c.if-chosen-ne1.false) (c.give-2.ensures (relays_past steps) stands.relays))
+    (is_second steps c.chosen-chosen.result (c.chosen-chosen.ensures.source steps stands.sources) c.if-chosen-ne1.false) (c.give-2.ensures (relay_histories steps) stands.relays))

@@ -1,7 +1,7 @@
 use Rattle.scenario_history.specs.Lines.{steps_of}
 use Rattle.source_machine.specs.Airs.{airs_of}
-use Rattle.replay_steps.specs.Machines.{past_of}
+use Rattle.replay_steps.specs.Machines.{histories_of}
 use Rattle.replay_steps.proofs.machine.Machine.would_answer.Goals as goal
 
 pub returns : goal.returns
-returns c starts lines accounts stand = c.would_answer.ensures (past_of (steps_of airs_of lines)) stand.stands.sinks
+returns c starts lines accounts stand = c.would_answer.ensures (histories_of (steps_of airs_of lines)) stand.stands.sinks

@@ -1,5 +1,5 @@
 use Rattle.std.proofs.Common.{None}
-use Rattle.scenario_sinks.specs.RelayPasts.{without}
+use Rattle.scenario_sinks.specs.RelayHistories.{without}
 use Rattle.scenario_sinks.proofs.Routes.{route_set}
 use Rattle.scenario_sinks.proofs.relays.Relays.end.Goals as goal
 

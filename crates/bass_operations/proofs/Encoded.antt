@@ -1,0 +1,86 @@
+-- Wishes that are read are encoded so, and those that are encoded so are read.
+use Rattle.std.proofs.Common.{◌≡◌, ℕ, suc, List, [], ◌∷◌, ◌++◌, length, map, Option, Some, None, refl, sym, ap, subst, ◌∙◌, arith}
+use Rattle.std.proofs.lemmas.Grind.{flat_map-append}
+use Rattle.std.proofs.lemmas.List.{append-nil}
+use Rattle.std.specs.List.{flat_map, AllByRecursion}
+use Rattle.bcast_base.specs.Layout.{Field, laid}
+use Rattle.bcast_base.specs.Encoding.{IsOctets}
+use Rattle.bcast_base.specs.Steps.{◌>>=◌, whole}
+use Rattle.bcast_base.specs.Subgroups.{Subgroup, Fits, subgroup, subgroup_fields, subgroups_in}
+use Rattle.bcast_base.proofs.Citable.{bind_some, some_is, subgroup_laid, subgroups_take, subgroups_again}
+use Rattle.bass_operations.specs.declared.wishes.Wish.{Wish}
+use Rattle.bass_operations.specs.Layout.{group_of, WishFits}
+use Rattle.bass_operations.specs.Reading.{wish_of, wishes_in}
+
+abbrev pub wish_fields : Wish → List Field
+wish_fields wish = subgroup_fields (group_of wish)
+
+pub wishes_laid : (wishes : List Wish) → laid (flat_map wish_fields wishes) ≡ flat_map subgroup (map group_of wishes)
+wishes_laid [] = refl
+wishes_laid (wish ∷ wishes) =
+    flat_map-append (λ (field : Field). field.octets) (wish_fields wish) (flat_map wish_fields wishes)
+    ∙ (ap (λ (x : List ℕ). x ++ laid (flat_map wish_fields wishes)) (subgroup_laid (group_of wish)) ∙ ap (λ (x : List ℕ). subgroup (group_of wish) ++ x) (wishes_laid wishes))
+
+pub fields_same : (groups : List Subgroup) → flat_map wish_fields (map wish_of groups) ≡ flat_map subgroup_fields groups
+fields_same [] = refl
+fields_same (group ∷ groups) = ap (λ (x : List Field). subgroup_fields group ++ x) (fields_same groups)
+
+pub groups_back : (groups : List Subgroup) → map group_of (map wish_of groups) ≡ groups
+groups_back [] = refl
+groups_back (group ∷ groups) = ap (λ (x : List Subgroup). group ∷ x) (groups_back groups)
+
+pub wishes_back : (wishes : List Wish) → map wish_of (map group_of wishes) ≡ wishes
+wishes_back [] = refl
+wishes_back (wish ∷ wishes) = ap (λ (x : List Wish). wish ∷ x) (wishes_back wishes)
+
+groups_fit : (wishes : List Wish) → AllByRecursion WishFits wishes → AllByRecursion Fits (map group_of wishes)
+groups_fit [] h = tt
+groups_fit (wish ∷ wishes) h = (record { bits = h.0.bis_sync; metadata = omega (arith, h.0.metadata) }, groups_fit wishes h.1)
+
+wishes_fit : (groups : List Subgroup) → AllByRecursion Fits groups → AllByRecursion WishFits (map wish_of groups)
+wishes_fit [] h = tt
+wishes_fit (group ∷ groups) h = (record { bis_sync = h.0.bits; metadata = omega (arith, h.0.metadata) }, wishes_fit groups h.1)
+
+length-groups : (wishes : List Wish) → length (map group_of wishes) ≡ length wishes
+length-groups [] = refl
+length-groups (wish ∷ wishes) = ap (λ n. suc n) (length-groups wishes)
+
+length-wishes : (groups : List Subgroup) → length (map wish_of groups) ≡ length groups
+length-wishes [] = refl
+length-wishes (group ∷ groups) = ap (λ n. suc n) (length-wishes groups)
+
+whole_some : {A B : Type 0} (read : Option (A × List B)) (x : A) → whole read ≡ Some x → read ≡ Some (x, [])
+whole_some None x e = absurd cc
+whole_some (Some (y, [])) x e = let same : y ≡ x = cc in ap (λ z. Some (z, [])) same
+whole_some (Some (y, octet ∷ rest)) x e = absurd cc
+
+-- the subgroups that wishes were read of
+pub groups_of_wishes : (count : ℕ) (from : List ℕ) (wishes : List Wish) → wishes_in count from ≡ Some wishes → (groups : List Subgroup) × (subgroups_in count from ≡ Some (groups, []))
+    × (map wish_of groups ≡ wishes)
+unfolding wishes_in
+groups_of_wishes count from wishes e =
+    let a = bind_some (whole (subgroups_in count from)) (λ groups. Some (map wish_of groups)) wishes e in
+    (a.0, whole_some (subgroups_in count from) a.0 a.1, some_is (map wish_of a.0) wishes a.2)
+
+pub record AreEncoded (count : ℕ) (from : List ℕ) (wishes : List Wish) : Type 0 where
+  pub encoded : from ≡ laid (flat_map wish_fields wishes)
+  pub fit : AllByRecursion WishFits wishes
+  pub counted : length wishes ≡ count
+
+pub wishes_take : (count : ℕ) (from : List ℕ) (wishes : List Wish) → IsOctets from → wishes_in count from ≡ Some wishes → AreEncoded count from wishes
+wishes_take count from wishes h e =
+    let g = groups_of_wishes count from wishes e in
+    let t = subgroups_take count from (g.0, []) h g.1 in
+    let encoded : from ≡ laid (flat_map wish_fields (map wish_of g.0)) =
+    t.0.parts ∙ (append-nil (flat_map subgroup g.0) ∙ (ap (flat_map subgroup) (sym (groups_back g.0)) ∙ sym (wishes_laid (map wish_of g.0)))) in
+    subst (AreEncoded count from) g.2 (record { encoded = encoded; fit = wishes_fit g.0 t.1; counted = length-wishes g.0 ∙ t.2 })
+
+pub wishes_again : (wishes : List Wish) → AllByRecursion WishFits wishes → wishes_in (length wishes) (laid (flat_map wish_fields wishes)) ≡ Some wishes
+unfolding wishes_in
+wishes_again wishes h =
+    let read : subgroups_in (length (map group_of wishes)) (flat_map subgroup (map group_of wishes) ++ []) ≡ Some (map group_of wishes, []) =
+    subgroups_again (map group_of wishes) [] (groups_fit wishes h) in
+    let octets : flat_map subgroup (map group_of wishes) ++ [] ≡ laid (flat_map wish_fields wishes) = append-nil (flat_map subgroup (map group_of wishes)) ∙ sym (wishes_laid wishes) in
+    let there : subgroups_in (length wishes) (laid (flat_map wish_fields wishes)) ≡ Some (map group_of wishes, []) =
+    ap (λ (n : ℕ). subgroups_in n (laid (flat_map wish_fields wishes))) (sym (length-groups wishes)) ∙ (ap (subgroups_in (length (map group_of wishes))) (sym octets) ∙ read) in
+    ap (λ (r : Option (List Subgroup × List ℕ)). whole r >>= λ groups. Some (map wish_of groups)) there ∙ ap (λ (ws : List Wish). Some ws) (wishes_back wishes)

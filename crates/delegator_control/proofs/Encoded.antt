@@ -1,0 +1,108 @@
+-- The octets of the state of a slot.
+use Rattle.std.proofs.Common.{ℕ, zero, suc, ◌≡◌, ◌+◌, ◌<◌, ◌≤◌, Bool, true, false, List, [], ◌∷◌, ◌++◌, length, map, drop, slice_get, get_or, Some, append_assoc, refl, sym, ap, ◌∙◌, subst, arith}
+use Rattle.std.specs.Prelude.{nat_lt, ◌&&◌, if◌then◌else◌}
+use Rattle.std.specs.List.{flat_map, list_any, AllByRecursion}
+use Rattle.std.proofs.lemmas.Grind.{flat_map-append}
+use Rattle.std.proofs.lemmas.List.{append-nil}
+use Rattle.bass_operations.specs.declared.wishes.Wish.{Wish}
+use Rattle.bcast_base.proofs.Citable.{subgroup_laid}
+use Rattle.bcast_base.specs.Layout.{Field, laid}
+use Rattle.bcast_base.specs.Encoding.{number}
+use Rattle.bcast_base.specs.Subgroups.{Subgroup, subgroup, subgroup_fields}
+use Rattle.receive_state.specs.Layout.{fields_of, prefix_fields, group_of, encoding}
+use Rattle.delegator_history.specs.Snapshots.{Entry, Place, idle, on_train, on_group, is_on, is_on_group}
+use Rattle.delegator_history.specs.Values.{Status, groups_from, received, status_of}
+use Rattle.delegator_history.specs.Writes.{is_synced}
+use Rattle.delegator_choices.proofs.Citable.{drop_get}
+use Rattle.delegator_control.specs.State.Statuses.{groups_laid}
+
+length-groups : (place : ℕ) (bits : List ℕ) (wishes : List Wish) → length (map group_of (groups_from place bits wishes)) ≡ length wishes
+length-groups place bits [] = refl
+length-groups place bits (wish ∷ wishes) = ap (λ n. suc n) (length-groups (place + 1) bits wishes)
+
+-- the octets of a state: those before its subgroups, and those of the subgroups
+pub in_two : (status : Status) (entry : Entry) → laid (prefix_fields (fields_of (received status entry)) (length entry.wanted.wishes)) ++ groups_laid 0 status.bits entry.wanted.wishes
+    ≡ encoding (received status entry)
+in_two status entry =
+    let state = received status entry in
+    let groups : List Subgroup = map group_of state.groups in
+    sym (flat_map-append (λ (field : Field). field.octets) (prefix_fields (fields_of state) (length entry.wanted.wishes)) (flat_map subgroup_fields groups))
+    ∙ ap (λ n. laid (prefix_fields (fields_of state) n ++ flat_map subgroup_fields groups)) (sym (length-groups 0 status.bits entry.wanted.wishes))
+
+-- the octets of the first subgroup, and those behind it
+first_laid : (place : ℕ) (bits : List ℕ) (wish : Wish) (rest : List Wish)
+    → groups_laid place bits (wish ∷ rest) ≡ subgroup (record { bits = get_or bits place 0; metadata = wish.metadata }) ++ groups_laid (place + 1) bits rest
+first_laid place bits wish rest =
+    let group : Subgroup = record { bits = get_or bits place 0; metadata = wish.metadata } in
+    flat_map-append (λ (field : Field). field.octets) (subgroup_fields group) (flat_map subgroup_fields (map group_of (groups_from (place + 1) bits rest)))
+    ∙ ap (λ (octets : List ℕ). octets ++ groups_laid (place + 1) bits rest) (subgroup_laid group)
+
+-- the octets of the subgroup at this place, and those behind it
+pub one_laid : (place : ℕ) (bits : List ℕ) (wishes : List Wish) (wish : Wish) → slice_get wishes place ≡ Some wish
+    → groups_laid place bits (drop place wishes)
+    ≡ subgroup (record { bits = get_or bits place 0; metadata = wish.metadata }) ++ groups_laid (place + 1) bits (drop (place + 1) wishes)
+one_laid place bits wishes wish is = ap (groups_laid place bits) (drop_get wishes place wish is) ∙ first_laid place bits wish (drop (place + 1) wishes)
+
+-- they end with the metadata of the last
+last_laid : (place : ℕ) (bits : List ℕ) (wishes : List Wish) (n : ℕ) (wish : Wish) → suc n ≡ length wishes → slice_get wishes n ≡ Some wish
+    → (prefix : List ℕ) × (groups_laid place bits wishes ≡ prefix ++ wish.metadata)
+last_laid place bits [] n wish many is = absurd cc
+last_laid place bits (first ∷ []) zero wish many is =
+    let same : first ≡ wish = cc in
+    let prefix : List ℕ = number 4 (get_or bits place 0) ++ length wish.metadata ∷ [] in (
+      prefix,
+      ap (λ (w : Wish). groups_laid place bits (w ∷ [])) same
+          ∙ first_laid place bits wish [] ∙ append-nil (subgroup (record { bits = get_or bits place 0; metadata = wish.metadata }))
+          ∙ sym (append_assoc (number 4 (get_or bits place 0)) (length wish.metadata ∷ []) wish.metadata),
+    )
+last_laid place bits (first ∷ []) (suc n) wish many is = absurd cc
+last_laid place bits (first ∷ second ∷ wishes) zero wish many is = absurd cc
+last_laid place bits (first ∷ second ∷ wishes) (suc n) wish many is =
+    let fewer : suc n ≡ length (second ∷ wishes) = cc in
+    let others = last_laid (place + 1) bits (second ∷ wishes) n wish fewer is in
+    let group : List ℕ = subgroup (record { bits = get_or bits place 0; metadata = first.metadata }) in (
+      group ++ others.0,
+      first_laid place bits first (second ∷ wishes) ∙ ap (λ octets. group ++ octets) others.1 ∙ sym (append_assoc group others.0 wish.metadata),
+    )
+
+pub ends_so : (status : Status) (entry : Entry) (n : ℕ) (wish : Wish) → suc n ≡ length entry.wanted.wishes → slice_get entry.wanted.wishes n ≡ Some wish
+    → (prefix : List ℕ) × (encoding (received status entry) ≡ prefix ++ wish.metadata)
+ends_so status entry n wish many is =
+    let prefix : List ℕ = laid (prefix_fields (fields_of (received status entry)) (length entry.wanted.wishes)) in
+    let groups = last_laid 0 status.bits entry.wanted.wishes n wish many is in
+    (prefix ++ groups.0, sym (in_two status entry) ∙ ap (λ octets. prefix ++ octets) groups.1 ∙ sym (append_assoc prefix groups.0 wish.metadata))
+
+pub metadata_at : (wishes : List Wish) (place : ℕ) (wish : Wish) → AllByRecursion (λ wish. length wish.metadata ≤ 255) wishes → slice_get wishes place ≡ Some wish
+    → length wish.metadata < 256
+metadata_at [] place wish all is = absurd cc
+metadata_at (first ∷ wishes) zero wish all is =
+    let same : first ≡ wish = cc in
+    subst (λ (w : Wish). length w.metadata < 256) same (omega (arith, all.0))
+metadata_at (first ∷ wishes) (suc place) wish all is = metadata_at wishes place wish all.1 is
+
+-- ---- synchronised to, as a test of the state, is to be on the train or the group
+
+no_bit : (place : ℕ) (wishes : List Wish) → list_any (λ group. nat_lt 0 group.bis_sync_state) (groups_from place [] wishes) ≡ false
+no_bit place [] = refl
+no_bit place (wish ∷ wishes) = no_bit (place + 1) wishes
+
+pub off_group : (place : Place) (slot : ℕ) → is_on place slot ≡ false → is_on_group place slot ≡ false
+off_group idle slot off = refl
+off_group (on_train other) slot off = refl
+off_group (on_group other) slot off = off
+
+synced_so : (b : Bool) (encrypted : Bool) (bits : List ℕ) (entry : Entry) → (b ≡ false → bits ≡ [])
+    → is_synced (Some (received (record { is_synced = b; is_encrypted = encrypted; bits = bits }) entry)) ≡ b
+synced_so true encrypted bits entry none = refl
+synced_so false encrypted bits entry none =
+    ap (λ sets. list_any (λ group. nat_lt 0 group.bis_sync_state) (groups_from 0 sets entry.wanted.wishes)) (none refl) ∙ no_bit 0 entry.wanted.wishes
+
+no_taken : (b : Bool) (taken : List ℕ) → b ≡ false → (if b then taken else []) ≡ []
+no_taken true taken e = absurd cc
+no_taken false taken e = refl
+
+pub synced_is_on : (place : Place) (encrypted : Bool) (taken : List ℕ) (slot : ℕ) (entry : Entry)
+    → is_synced (Some (received (status_of place encrypted taken slot) entry)) ≡ is_on place slot
+synced_is_on place encrypted taken slot entry =
+    synced_so (is_on place slot) (is_on place slot && encrypted) (if is_on_group place slot then taken else []) entry
+    (λ off. no_taken (is_on_group place slot) taken (off_group place slot off))

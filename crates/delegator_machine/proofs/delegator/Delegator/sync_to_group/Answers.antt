@@ -1,0 +1,35 @@
+use Rattle.std.proofs.Common.{◌<◌, ◌∙◌, refl, sym, ap, subst, inl, inr}
+use Rattle.std.specs.Prelude.{IsSome}
+use Rattle.delegator_history.specs.Snapshots.{Snapshot, slot_of}
+use Rattle.delegator_history.specs.States.{sync_to_group}
+use Rattle.sync_reference.specs.BigSync.{BigSync}
+use Rattle.group_sink.specs.State.Steps.{fresh_on}
+use Rattle.delegator_control.proofs.Wanting.{on_any_err}
+use Rattle.delegator_control.specs.State.Machines.{Machine, machine}
+use Rattle.delegator_machine.specs.Calls.{steps_of}
+use Rattle.delegator_machine.specs.Groups.{by_numbers, group_calls}
+use Rattle.delegator_machine.specs.State.Halves.{Halves, StandsFor}
+use Rattle.delegator_machine.proofs.Standing.{snapshot_is, stands_joined}
+use Rattle.delegator_machine.proofs.delegator.Delegator.sync_to_group.Goals as goal
+
+pub returns-clause-stands : goal.returns-clause-stands
+returns-clause-stands c setup calls stands =
+    let old : Halves = record { scan = machine c.self.inside.scan; sink = c.self.inside.sink } in
+    let before : StandsFor setup calls old = subst (StandsFor setup calls) (sym c.self.view_is) stands in
+    let big_sync : BigSync = c.args.big_sync.now in
+    stands_joined setup (sync_to_group big_sync) calls old (record { scan = machine c.tune.new.self; sink = c.sync_to_group.new.self }) big_sync
+    refl (ap (λ (m : Machine). m.setup) c.in_ok-tune.ensures.step) (c.in_ok-tune.ensures.stands (steps_of calls) big_sync before.steps)
+    (c.sync_to_group.ensures (by_numbers big_sync) (group_calls setup calls) (c.in_ok-receivers.ensures ∙ ap fresh_on c.by_numbers.ensures))
+    before
+
+pub returns-in_err-receivers-clause-memory : goal.returns-in_err-receivers-clause-memory
+returns-in_err-receivers-clause-memory c setup calls stands =
+    on_any_err c.from_residual.result
+    (inl (subst (λ (big_sync : BigSync). 0 < big_sync.which) c.by_numbers.ensures c.in_err-receivers.ensures))
+
+pub returns-in_err-tune-clause-memory : goal.returns-in_err-tune-clause-memory
+returns-in_err-tune-clause-memory c setup calls stands =
+    let old : Halves = record { scan = machine c.self.inside.scan; sink = c.self.inside.sink } in
+    let before : StandsFor setup calls old = subst (StandsFor setup calls) (sym c.self.view_is) stands in
+    on_any_err c.from_residual-in_err-tune.result
+    (inr (subst (λ (s : Snapshot). IsSome (slot_of s.place)) (snapshot_is setup calls old before) c.in_err-tune.ensures.memory))

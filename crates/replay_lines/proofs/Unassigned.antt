@@ -1,0 +1,43 @@
+-- The boxes that no line of a text took, where its source tells it.
+use Rattle.std.proofs.Common.{◌≡◌, ℕ, true, List, ◌++◌, reverse, refl, ap, subst, ◌∙◌, append_assoc, Option, Some}
+use Rattle.std.specs.Io.KnownBytes.{IsAtEnd}
+use Rattle.bcast_io.specs.State.Reading.{MayFollow, Reading, lines_after}
+use Rattle.bcast_io.specs.TextLines.{TextLine, lines_of}
+use Rattle.unit_outlets.specs.Account.{Account}
+use Rattle.scenario_history.specs.Lines.{steps_of}
+use Rattle.source_machine.specs.Airs.{airs_of}
+use Rattle.replay_steps.specs.LineMeets.{LinesStand}
+use Rattle.replay_steps.specs.Unassigned.{UnassignedSame}
+use Rattle.replay_steps.specs.declared.machine.Machine.{Machine}
+use Rattle.replay_steps.specs.Unassigned.{UnassignedRun}
+use Rattle.replay_lines.specs.State.Between.{ReadTo}
+use Rattle.replay_lines.proofs.Completing.{told}
+use Rattle.replay_lines.proofs.LineSteps.{Running}
+
+-- the lines of a text are those that were read and then others
+lines_told : (text : List ℕ) (left left' : Option (List ℕ)) (lines : List TextLine) (reader : Reading) → left ≡ Some text → ReadTo left left' lines reader
+    → (later : List TextLine) × (lines_of true text ≡ reverse lines ++ later)
+lines_told text left left' lines reader is read =
+    let P : Option (List ℕ) → Type 0 = λ l. ReadTo l left' lines reader in
+    let r = subst P is read in
+    let t = told text left' (r.passed ++ reader.ahead) r.consumed in
+    let more : List ℕ = reader.ahead ++ t.0 in
+    let all : text ≡ r.passed ++ more = t.2 ∙ append_assoc r.passed reader.ahead t.0 in
+    let follows : MayFollow reader.over true more =
+    λ over. (refl, ap (λ prefix. prefix ++ t.0) (r.sound.ended over).0 ∙ subst IsAtEnd t.1 (r.at_end over)) in
+    (lines_after true reader more, ap (lines_of true) all ∙ r.begins true more follows)
+
+-- the last line was run
+pub unassigned_at : {A : Type 0} (olds mids news : List A) (starts accounts : List Account) (left mid kept kept' : Option (List ℕ)) (number : ℕ) (reader : Reading) (machine : Machine)
+    → Running olds mids starts accounts left mid kept kept' number reader machine
+    → ((lines : List TextLine) → LinesStand starts lines machine accounts → UnassignedSame (steps_of airs_of lines) mids news)
+    → (text : List ℕ) → left ≡ Some text → UnassignedRun starts (lines_of true text) olds news
+unassigned_at olds mids news starts accounts left mid kept kept' number reader machine r same text is =
+    let at = lines_told text left mid r.lines reader is r.read in
+    record {
+      earlier = r.lines;
+      later = at.0;
+      split = at.1;
+      accepted = r.run.accepted;
+      same = λ box least. same r.lines r.run.stands box least ∙ r.unassigned box least;
+    }

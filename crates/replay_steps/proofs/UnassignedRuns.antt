@@ -1,0 +1,72 @@
+-- The boxes that no `sink` line of a text takes, by the lines that were run.
+use Rattle.std.proofs.Common.{◌≡◌, ◌≤◌, List, [], ◌∷◌, ◌++◌, reverse, ap, ◌∙◌, arith, refl, Option, None, Some}
+use Rattle.bcast_io.specs.TextLines.{TextLine}
+use Rattle.unit_outlets.specs.Account.{Account}
+use Rattle.source_machine.specs.Airs.{airs_of, Airs}
+use Rattle.transcript_text.specs.declared.refusal.Refusal.{Refusal}
+use Rattle.scenario_history.specs.Runs.{Accepted, accepted_of, accepted_unless}
+use Rattle.scenario_history.proofs.Citable.{accepted_accepted}
+use Rattle.scenario_text.specs.declared.step.Step.{Step}
+use Rattle.scenario_text.specs.declared.step.Step.TheVariants.{Sink}
+use Rattle.scenario_history.specs.Lines.{Said, a_step, nothing, unsaid, rules_of, said_after, said_of, steps_of, with_said}
+use Rattle.scenario_laws.proofs.RelayedUnits.Citable.{sinks_happened}
+use Rattle.scenario_history.specs.Steps.{sinks_made}
+use Rattle.replay_steps.specs.Unassigned.{UnassignedBy, UnassignedRun, UnassignedSame}
+
+-- ---- a line more takes no box back
+
+made_step : (step : Step) (steps : List Step) → sinks_made steps ≤ sinks_made (step ∷ steps)
+made_step (Sink sink streams slots mtu) steps = omega arith
+made_step other steps = omega arith
+
+made_said : (said : Said) (steps : List Step) → sinks_made steps ≤ sinks_made (with_said said steps)
+made_said (a_step step) steps = made_step step steps
+made_said nothing steps = omega arith
+made_said (unsaid reason) steps = omega arith
+
+pub made_line : (airs : Airs) (line : TextLine) (history : List TextLine)
+    → sinks_made (steps_of airs history) ≤ sinks_made (steps_of airs (line ∷ history))
+made_line airs line history =
+    let more = made_said (said_after history line) (said_of history) in
+    omega (arith, more, sinks_happened airs (said_of history), sinks_happened airs (said_of (line ∷ history)))
+
+module _ (airs : Airs) (starts : List Account) where
+  by_refusal : (line : TextLine) (history later : List TextLine) → sinks_made (steps_of airs (line ∷ history)) ≤ sinks_made (steps_of airs later)
+      → (why : Option Refusal) → sinks_made (steps_of airs history) ≤ sinks_made (steps_of airs (accepted_unless history why later))
+  by_refusal line history later more (Some reason) = omega arith
+  by_refusal line history later more None = let here = made_line airs line history in omega (arith, here, more)
+
+  made_more : (history lines : List TextLine) → sinks_made (steps_of airs history) ≤ sinks_made (steps_of airs (accepted_of (rules_of airs starts) history lines))
+  made_more history [] = omega arith
+  made_more history (line ∷ lines) =
+      by_refusal line history (accepted_of (rules_of airs starts) (line ∷ history) lines) (made_more (line ∷ history) lines) ((rules_of airs starts).refusal history line)
+
+  -- what the lines that were run took is no more than what all accepted lines take
+  pub unassigned_by : {A : Type 0} (lines earlier later : List TextLine) (old new : List A) → lines ≡ reverse earlier ++ later → Accepted (rules_of airs starts) earlier
+      → UnassignedSame (steps_of airs earlier) old new → UnassignedBy airs starts lines old new
+  unassigned_by lines earlier later old new split accepted same box least =
+      let all : accepted_of (rules_of airs starts) [] lines ≡ accepted_of (rules_of airs starts) earlier later =
+      ap (accepted_of (rules_of airs starts) []) split ∙ accepted_accepted (rules_of airs starts) earlier later accepted in
+      let more = made_more earlier later in
+      same box (omega (arith, more, ap (λ ls. sinks_made (steps_of airs ls)) all, least))
+
+-- the same over any airs that accept what these do
+pub unassigned_run : {A : Type 0} (airs : Airs) (starts : List Account) (lines : List TextLine) (old new : List A)
+    → ((history : List TextLine) → Accepted (rules_of airs_of starts) history → Accepted (rules_of airs starts) history)
+    → UnassignedRun starts lines old new → UnassignedBy airs starts lines old new
+unassigned_run airs starts lines old new accepted run =
+    unassigned_by airs starts lines run.earlier run.later old new run.split (accepted run.earlier run.accepted)
+    (λ box least.
+    run.same box (omega (arith, least, sinks_happened airs (said_of run.earlier), sinks_happened airs_of (said_of run.earlier))))
+
+-- the line after these was run, and only sinks of theirs have boxes
+pub unassigned_line : {A : Type 0} (line : TextLine) (history : List TextLine) (old mid new : List A) → UnassignedSame (steps_of airs_of history) old mid
+    → UnassignedSame (steps_of airs_of history) mid new → UnassignedSame (steps_of airs_of (line ∷ history)) old new
+unassigned_line line history old mid new before here box least =
+    let more = made_line airs_of line history in
+    let within : sinks_made (steps_of airs_of history) ≤ box = omega (arith, more, least) in
+    here box within ∙ before box within
+
+-- no line was run
+pub none_run : {A : Type 0} (starts : List Account) (lines : List TextLine) (boxes : List A) → UnassignedRun starts lines boxes boxes
+none_run starts lines boxes = record { earlier = []; later = lines; split = refl; accepted = tt; same = λ box least. refl }

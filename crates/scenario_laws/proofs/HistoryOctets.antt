@@ -1,0 +1,89 @@
+-- The history of a sink of any lines: what its links write is octets, and it has at most eight slots.
+use Rattle.std.proofs.Common.{ℕ, zero, suc, ◌≡◌, ◌<◌, ◌==◌, cond, Bool, true, false, List, [], ◌∷◌, ◌++◌, Option, None, Some, sym, ◌∙◌, subst, arith}
+use Rattle.std.specs.List.{AllByRecursion}
+use Rattle.std.proofs.lemmas.List.{append-nil}
+use Rattle.std.proofs.lemmas.Option.{none-some}
+use Rattle.bcast_base.specs.Encoding.{IsOctets}
+use Rattle.bcast_io.specs.TextLines.{TextLine}
+use Rattle.bass_operations.specs.Layout.{encoding}
+use Rattle.bass_operations.specs.declared.operation.Operation.TheVariants as operations
+use Rattle.sink_history.specs.Calls.{Call, born}
+use Rattle.sink_history.specs.Drains.{repeated}
+use Rattle.sink_history.specs.Octets.{AreOctets, IsAsked}
+use Rattle.scenario_text.specs.declared.step.Step.{Step}
+use Rattle.scenario_text.specs.declared.step.Step.TheVariants as steps
+use Rattle.scenario_text.specs.Ranges.{IsInRange}
+use Rattle.scenario_text.proofs.Citable.{nil_octets, cons_octets}
+use Rattle.delegator_history.specs.Trains.{Settings}
+use Rattle.sink_history.specs.History.{Source, World, history_of, calls_after, calls_at, calls_by, made_by, made_of, named_by}
+use Rattle.scenario_history.specs.Lines.{Said, a_step, nothing, unsaid, said_of, with_said}
+use Rattle.scenario_laws.proofs.Legals.{InRange, LinesInRange, in_range}
+
+-- ---- steps of lines
+
+abbrev pub Ranged : List Step → Type 0
+Ranged steps = AllByRecursion IsInRange steps
+
+ranged_said : (earlier : List Step) (said : Said) → Ranged earlier → InRange said → Ranged (with_said said earlier)
+ranged_said earlier (a_step this) before ranged = (ranged, before)
+ranged_said earlier nothing before ranged = before
+ranged_said earlier (unsaid reason) before ranged = before
+
+pub ranged_lines : LinesInRange → (lines : List TextLine) → Ranged (said_of lines)
+ranged_lines ranged [] = tt
+ranged_lines ranged (line ∷ earlier) = search (ranged_said, in_range, ranged_lines ranged earlier)
+
+-- ---- its slots
+
+few_if : (is_its : Bool) (here there made : Option Settings) → ((sink : Settings) → here ≡ Some sink → sink.setup.slots < 256)
+    → ((sink : Settings) → there ≡ Some sink → sink.setup.slots < 256) → made ≡ cond is_its here there
+    → (sink : Settings) → made ≡ Some sink → sink.setup.slots < 256
+few_if true here there made first second is sink its = first sink (sym is ∙ its)
+few_if false here there made first second is sink its = second sink (sym is ∙ its)
+
+few_by : (n : ℕ) (step : Step) (earlier : List Step) (before : Option Settings) → IsInRange step
+    → ((made : Settings) → before ≡ Some made → made.setup.slots < 256)
+    → (made : Settings) → made_by n step earlier before ≡ Some made → made.setup.slots < 256
+few_by n step earlier before ranged few = grind (arith, few_if, none-some)
+
+pub few_slots : (n : ℕ) (steps : List Step) → Ranged steps → (made : Settings) → made_of n steps ≡ Some made → made.setup.slots < 256
+few_slots n [] ranged = λ made is. absurd (none-some made is)
+few_slots n (step ∷ earlier) ranged = few_by n step earlier (made_of n earlier) ranged.0 (few_slots n earlier ranged.1)
+
+-- ---- what is written
+
+octets_if : (is_its : Bool) (here there : List Call) → AreOctets here → AreOctets there → AreOctets (cond is_its here there)
+octets_if true here there first second = first
+octets_if false here there first second = second
+
+octets_born : (mtu : Option ℕ) → AreOctets (born mtu)
+octets_born None = tt
+octets_born (Some mtu) = (tt, tt)
+
+repeats : (count : ℕ) (call : Call) (calls : List Call) → IsAsked call → AreOctets calls → AreOctets (repeated count call calls)
+repeats zero call calls is before = before
+repeats (suc count) call calls is before = (is, repeats count call calls is before)
+
+remove_octets : (source_id : ℕ) → source_id < 256 → IsOctets (encoding (operations.Remove source_id))
+remove_octets source_id small = cons_octets 5 (source_id ∷ []) (omega arith) (cons_octets source_id [] small nil_octets)
+
+code_octets : (source_id : ℕ) (code : List ℕ) → source_id < 256 → IsOctets code → IsOctets (encoding (operations.Code source_id code))
+code_octets source_id code small octets =
+    cons_octets 4 (source_id ∷ (code ++ [])) (omega arith) (cons_octets source_id (code ++ []) small (subst IsOctets (sym (append-nil code)) octets))
+
+octets_by : (source : Source) (step : Step) (made : Option Settings) (calls : List Call) → IsInRange step → AreOctets calls
+    → AreOctets (calls_by source step made calls)
+octets_by source step made calls ranged before = grind (arith, remove_octets, code_octets, repeats)
+
+octets_at : (world : World) (n : ℕ) (named : Option ℕ) (step : Step) (earlier : List Step) (made : Option Settings) (calls : List Call)
+    → IsInRange step → AreOctets calls → AreOctets (calls_at world n named step earlier made calls)
+octets_at world n named step earlier made calls ranged before = grind (arith, octets_if, octets_by)
+
+octets_called : (world : World) (n : ℕ) (step : Step) (earlier : List Step) (made : Option Settings) (calls : List Call) → IsInRange step
+    → AreOctets calls → AreOctets (calls_after world n step earlier made calls)
+octets_called world n (steps.Sink sink streams slots mtu) earlier made calls ranged before = octets_if (sink == n) (born mtu) calls (octets_born mtu) before
+octets_called world n step earlier made calls ranged before = octets_at world n (named_by step) step earlier made calls ranged before
+
+pub history_octets : (world : World) (n : ℕ) (steps : List Step) → Ranged steps → AreOctets (history_of world n steps)
+history_octets world n [] ranged = tt
+history_octets world n (step ∷ earlier) ranged = octets_called world n step earlier (made_of n earlier) (history_of world n earlier) ranged.0 (history_octets world n earlier ranged.1)

@@ -1,0 +1,147 @@
+-- Two histories of one sink of which one has trains more that it ignored: they come to the same, and each call keeps that.
+use Rattle.std.proofs.Common.{ℕ, zero, suc, ◌≡◌, ◌+◌, ◌==◌, ◌∙◌, min, cond, false, List, [], ◌∷◌, ◌++◌, length, Option, None, Some, arith}
+use Rattle.std.proofs.Common.{refl, sym, ap, subst}
+use Rattle.std.specs.Prelude.{unwrap_or}
+use Rattle.std.specs.Option.{option_or}
+use Rattle.std.proofs.lemmas.Bool.{false≢true}
+use Rattle.delegator_history.proofs.Citable.{none_change, snapshot_goes_on}
+use Rattle.delegator_history.specs.LastGiven.{last_given}
+use Rattle.delegator_history.specs.Notices.{changes}
+use Rattle.delegator_history.specs.Snapshots.{Snapshot}
+use Rattle.delegator_history.specs.States.{Step, snapshot_of, train_heard, written}
+use Rattle.delegator_history.specs.Steps.{after, nothing}
+use Rattle.delegator_history.specs.Trains.{TrainOutcome, Setup, Train, outcome_by, done_by_outcome}
+use Rattle.delegator_history.specs.Values.{value_at}
+use Rattle.sink_history.specs.Calls as links
+use Rattle.sink_history.specs.Calls.{Call, is_joined, joining_by, served_of, step_by, steps_of, with_step, writes, writes_waiting}
+use Rattle.sink_history.specs.Drains.{drained, read_out, repeated, served_out, notified_out}
+use Rattle.sink_history.specs.Links.{Acts, acts_of, made_all, notices_waiting, reads_waiting}
+use Rattle.assistant_machine.specs.Links.{waiting_of}
+use Rattle.sink_history.specs.Moves.{follows}
+
+-- ---- what two histories have alike
+
+pub record Alike (setup : Setup) (mtu : Option ℕ) (a b : List Call) : Type 0 where
+  pub snapshot : snapshot_of setup (steps_of a) ≡ snapshot_of setup (steps_of b)
+  pub joined : (link : ℕ) → is_joined link a ≡ is_joined link b
+  pub written : (link : ℕ) → writes link a ≡ writes link b
+  pub served : (link : ℕ) → served_of link a ≡ served_of link b
+  pub acts : (link : ℕ) → acts_of setup mtu link a ≡ acts_of setup mtu link b
+
+pub alike_itself : (setup : Setup) (mtu : Option ℕ) (a : List Call) → Alike setup mtu a a
+alike_itself setup mtu a = search arith
+
+pub alike_then : (setup : Setup) (mtu : Option ℕ) (a b c : List Call) → Alike setup mtu a b → Alike setup mtu b c → Alike setup mtu a c
+alike_then setup mtu a b c first second = search arith
+
+pub waiting_same : (setup : Setup) (mtu : Option ℕ) (link : ℕ) (a b : List Call) → Alike setup mtu a b
+    → writes_waiting link a ≡ writes_waiting link b
+waiting_same setup mtu link a b same = cc (same.served link, same.written link)
+
+-- ---- a call more
+
+or_same : {A : Type 0} (given : Option A) (x y : Option A) (none : A) → unwrap_or x none ≡ unwrap_or y none
+    → unwrap_or (option_or given x) none ≡ unwrap_or (option_or given y) none
+or_same None x y none same = same
+or_same (Some a) x y none same = refl
+
+snapshot_with : (setup : Setup) (more : Option Step) (xs ys : List Step) → snapshot_of setup xs ≡ snapshot_of setup ys
+    → snapshot_of setup (with_step more xs) ≡ snapshot_of setup (with_step more ys)
+snapshot_with setup more xs ys same = grind (arith, snapshot_goes_on)
+
+step_same : (setup : Setup) (mtu : Option ℕ) (call : Call) (a b : List Call) → Alike setup mtu a b → step_by call a ≡ step_by call b
+step_same setup mtu call a b same = grind (arith, waiting_same)
+
+snapshot_grows : (setup : Setup) (mtu : Option ℕ) (call : Call) (a b : List Call) → Alike setup mtu a b
+    → snapshot_of setup (steps_of (call ∷ a)) ≡ snapshot_of setup (steps_of (call ∷ b))
+snapshot_grows setup mtu call a b same = cc (step_same setup mtu call a b same, snapshot_with setup (step_by call b) (steps_of a) (steps_of b) same.snapshot)
+
+written_grows : (link : ℕ) (call : Call) (a b : List Call) → writes link a ≡ writes link b → writes link (call ∷ a) ≡ writes link (call ∷ b)
+written_grows link (links.joined at) a b same = ap (λ ws. cond (at == link) [] ws) same
+written_grows link (links.asked at octets) a b same = ap (λ ws. cond (at == link) (ws ++ octets ∷ []) ws) same
+written_grows link _ a b same = same
+
+served_grows : (link : ℕ) (call : Call) (a b : List Call) → served_of link a ≡ served_of link b → writes link a ≡ writes link b
+    → served_of link (call ∷ a) ≡ served_of link (call ∷ b)
+served_grows link call a b same writes_same = grind (arith, min)
+
+changed_same : (setup : Setup) (before now before' now' : Snapshot) (acts acts' : Acts) → before ≡ before' → now ≡ now' → acts ≡ acts'
+    → made_all now (changes setup.slots before now) acts ≡ made_all now' (changes setup.slots before' now') acts'
+changed_same setup before now before' now' acts acts' p q r = cc (p, q, r)
+
+acts_grow : (setup : Setup) (mtu : Option ℕ) (link : ℕ) (call : Call) (a b : List Call) → Alike setup mtu a b
+    → snapshot_of setup (steps_of (call ∷ a)) ≡ snapshot_of setup (steps_of (call ∷ b))
+    → acts_of setup mtu link (call ∷ a) ≡ acts_of setup mtu link (call ∷ b)
+acts_grow setup mtu link call a b same now = grind (arith, changed_same)
+
+pub grows : (setup : Setup) (mtu : Option ℕ) (call : Call) (a b : List Call) → Alike setup mtu a b → Alike setup mtu (call ∷ a) (call ∷ b)
+grows setup mtu call a b same = record {
+  snapshot = snapshot_grows setup mtu call a b same;
+  joined = λ link. or_same (joining_by link call) (last_given (joining_by link) a) (last_given (joining_by link) b) (link == 0)
+      (same.joined link);
+  written = λ link. written_grows link call a b (same.written link);
+  served = λ link. served_grows link call a b (same.served link) (same.written link);
+  acts = λ link. acts_grow setup mtu link call a b same (snapshot_grows setup mtu call a b same);
+}
+
+-- ---- a drain
+
+repeated_grow : (setup : Setup) (mtu : Option ℕ) (count : ℕ) (call : Call) (a b : List Call) → Alike setup mtu a b
+    → Alike setup mtu (repeated count call a) (repeated count call b)
+repeated_grow setup mtu zero call a b same = same
+repeated_grow setup mtu (suc count) call a b same = search (grows, repeated_grow setup mtu count call a b same)
+
+pub repeats : (setup : Setup) (mtu : Option ℕ) (m n : ℕ) (call : Call) (a b : List Call) → m ≡ n → Alike setup mtu a b
+    → Alike setup mtu (repeated m call a) (repeated n call b)
+repeats setup mtu m n call a b many same =
+    subst (λ k. Alike setup mtu (repeated m call a) (repeated k call b)) many (repeated_grow setup mtu m call a b same)
+
+pub notices_same : (setup : Setup) (mtu : Option ℕ) (link : ℕ) (a b : List Call) → Alike setup mtu a b
+    → notices_waiting setup mtu link a ≡ notices_waiting setup mtu link b
+notices_same setup mtu link a b same = ap waiting_of (same.acts link)
+
+pub reads_same : (setup : Setup) (mtu : Option ℕ) (link : ℕ) (a b : List Call) → Alike setup mtu a b
+    → reads_waiting setup mtu link a ≡ reads_waiting setup mtu link b
+reads_same setup mtu link a b same = cc (same.acts link)
+
+pub served_grow : (setup : Setup) (mtu : Option ℕ) (link : ℕ) (a b : List Call) → Alike setup mtu a b
+    → Alike setup mtu (served_out link a) (served_out link b)
+served_grow setup mtu link a b same =
+    repeats setup mtu (length (writes_waiting link a)) (length (writes_waiting link b)) (links.served link) a b
+    (ap length (waiting_same setup mtu link a b same)) same
+
+pub told_grow : (setup : Setup) (mtu : Option ℕ) (link : ℕ) (a b : List Call) → Alike setup mtu a b
+    → Alike setup mtu (notified_out setup mtu link a) (notified_out setup mtu link b)
+told_grow setup mtu link a b same =
+    repeats setup mtu (length (notices_waiting setup mtu link a)) (length (notices_waiting setup mtu link b)) (links.notified link) a b
+    (ap length (notices_same setup mtu link a b same)) same
+
+read_grow : (setup : Setup) (mtu : Option ℕ) (link : ℕ) (a b : List Call) → Alike setup mtu a b
+    → Alike setup mtu (read_out setup mtu link a) (read_out setup mtu link b)
+read_grow setup mtu link a b same =
+    repeats setup mtu (length (reads_waiting setup mtu link a)) (length (reads_waiting setup mtu link b)) (links.read link) a b
+    (ap length (reads_same setup mtu link a b same)) same
+
+pub drains : (setup : Setup) (mtu : Option ℕ) (link : ℕ) (a b : List Call) → Alike setup mtu a b
+    → Alike setup mtu (drained setup mtu link a) (drained setup mtu link b)
+drains setup mtu link a b same = search (read_grow, told_grow, served_grow)
+
+-- ---- a train that is ignored
+
+pub done_nothing : (brought : TrainOutcome) → follows brought ≡ false → done_by_outcome brought ≡ nothing
+done_nothing brought not = grind (arith, false≢true)
+
+pub ignores : (setup : Setup) (mtu : Option ℕ) (train : Train) (a : List Call)
+    → follows (outcome_by setup (snapshot_of setup (steps_of a)) train) ≡ false → Alike setup mtu (links.stepped (train_heard train) ∷ a) a
+ignores setup mtu train a not =
+    let snapshot : Snapshot = snapshot_of setup (steps_of a) in
+    let more : List Call = links.stepped (train_heard train) ∷ a in
+    let now : snapshot_of setup (steps_of more) ≡ snapshot = snapshot_goes_on setup (train_heard train) (steps_of a)
+    ∙ ap (λ done. after done snapshot) (done_nothing (outcome_by setup snapshot train) not) in record {
+      snapshot = now;
+      joined = λ link. refl;
+      written = λ link. refl;
+      served = λ link. refl;
+      acts = λ link. ap (λ notices. made_all (snapshot_of setup (steps_of more)) notices (acts_of setup mtu link a))
+          (none_change setup.slots snapshot (snapshot_of setup (steps_of more)) (λ i. ap (λ s. value_at s i) (sym now)));
+    }

@@ -1,0 +1,200 @@
+-- What happens by steps of lines makes of each sink, its links and its assistants what the lines say: relayed units are no part of what a
+-- source announces and of where it stands.
+use Rattle.std.proofs.Common.{ℕ, suc, ◌≡◌, ◌+◌, ◌==◌, ◌||◌, ◌&&◌, ◌∙◌, cond, Bool, true, false, List, [], ◌∷◌, Option, None, Some, refl, ap, ap₂, arith}
+use Rattle.std.specs.Prelude.{unwrap_or}
+use Rattle.std.specs.Option.{option_or}
+use Rattle.delegator_history.specs.Octets.{train_of}
+use Rattle.delegator_history.specs.Trains.{Settings}
+use Rattle.big_info.specs.Time.{iso_us_of}
+use Rattle.big_info.specs.declared.info.Cipher.{Cipher}
+use Rattle.sink_history.specs.Calls.{Call}
+use Rattle.announcement_train.specs.BaseLines.{BaseLine, subgroups_in}
+use Rattle.scenario_text.specs.declared.step.Step.{Step}
+use Rattle.scenario_text.specs.declared.step.Step.TheVariants as steps
+use Rattle.sink_history.specs.History.{Source, horizon_of, calls_after, calls_at, calls_by, made_by, made_of, named_by}
+use Rattle.source_machine.specs.Calls.{events}
+use Rattle.sync_reference.specs.Reference.{anchor_of}
+use Rattle.source_machine.specs.Ciphers.{with_cipher}
+use Rattle.source_machine.specs.declared.setup.Identity.{Identity}
+use Rattle.transcript_text.specs.declared.refusal.Refusal.{Refusal}
+use Rattle.scenario_history.specs.Bases.{base_from, base_lines, with_base_line}
+use Rattle.scenario_history.specs.RelayedUnits.{Offer, after_offer, after_offers, happened, offers_before, with_relayed_unit_unless, with_relayed_units}
+use Rattle.scenario_history.specs.Source.{GroupLine, cipher_given, cipher_of, group_given, group_of, ident_of, identity_given, no_group}
+use Rattle.source_machine.specs.Airs.{Airs}
+use Rattle.scenario_history.specs.Source.{no_identity, source_calls, start_given, start_of}
+use Rattle.scenario_history.specs.Steps.{chosen_given, chosen_of, is_common, is_of_source, is_source_line, last_given}
+use Rattle.scenario_history.specs.Steps.{steps_of_source}
+use Rattle.scenario_history.specs.Worlds.{calls_made, source_at, the_world}
+use Rattle.scenario_laws.proofs.RelayedUnits.Left.{left_by_relayed_units}
+
+-- ---- what is said of a source, but for its units
+
+record Told : Type 0 where
+  group : Option GroupLine
+  start : Option ℕ
+  ident : Option Identity
+  cipher : Option Cipher
+  lines : List BaseLine
+  performed : ℕ
+
+abbrev told_of : List Step → Told
+told_of own = record {
+  group = group_of own;
+  start = start_of own;
+  ident = ident_of own;
+  cipher = cipher_of own;
+  lines = base_lines own;
+  performed = events (source_calls own);
+}
+
+abbrev performed_after : Step → ℕ → ℕ
+performed_after steps.Event count = suc count
+performed_after _ count = count
+
+abbrev told_after : Step → Told → Told
+told_after step told = record {
+  group = option_or (group_given step) told.group;
+  start = option_or (start_given step) told.start;
+  ident = option_or (identity_given step) told.ident;
+  cipher = option_or (cipher_given step) told.cipher;
+  lines = with_base_line step told.lines;
+  performed = performed_after step told.performed;
+}
+
+told_next : (step : Step) (own : List Step) → told_of (step ∷ own) ≡ told_after step (told_of own)
+told_next (steps.Unit bis time octets) own = refl
+told_next steps.Event own = refl
+told_next this own = refl
+
+abbrev first_in : Told → ℕ
+first_in told = unwrap_or told.start 0
+
+abbrev next_in : Told → ℕ
+next_in told = first_in told + told.performed
+
+abbrev anchor_in : Told → ℕ
+anchor_in told =
+    anchor_of (unwrap_or told.group no_group).origin (first_in told) (next_in told) (iso_us_of (unwrap_or told.group no_group).info)
+
+-- the source that a line means, of its number and of this
+abbrev source_in : ℕ → Told → Source
+source_in number told = record {
+  number = number;
+  address_type = (unwrap_or told.ident no_identity).address_type;
+  sid = (unwrap_or told.ident no_identity).sid;
+  announced = train_of (unwrap_or told.ident no_identity).broadcast_id (base_from (unwrap_or told.group no_group) (subgroups_in told.lines))
+      (with_cipher (unwrap_or told.group no_group).info told.cipher) (next_in told) (anchor_in told);
+  big_sync = λ which. record {
+    info = (unwrap_or told.group no_group).info;
+    which = which;
+    first = next_in told;
+    anchor = anchor_in told;
+    delay = (unwrap_or told.group no_group).delay;
+  };
+}
+
+-- ---- relayed units
+
+relayed_unit_told : (mine : Bool) (bis : ℕ) (time : Option ℕ) (octets : List ℕ) (own : List Step)
+    → told_of (cond mine (steps.Unit bis time octets ∷ own) own) ≡ told_of own
+relayed_unit_told true bis time octets own = refl
+relayed_unit_told false bis time octets own = refl
+
+unless_told : (s : ℕ) (reason : Option Refusal) (offer : Offer) (made : List Step)
+    → told_of (steps_of_source s (with_relayed_unit_unless reason offer made)) ≡ told_of (steps_of_source s made)
+unless_told s reason offer made = grind (arith, relayed_unit_told)
+
+offers_told : (s : ℕ) (airs : Airs) (offers : List Offer) (made : List Step)
+    → told_of (steps_of_source s (after_offers airs offers made)) ≡ told_of (steps_of_source s made)
+offers_told s airs [] made = refl
+offers_told s airs (offer ∷ offers) made = search (unless_told, offers_told s airs offers (after_offer airs offer made))
+
+unless_horizon : (reason : Option Refusal) (offer : Offer) (made : List Step)
+    → horizon_of (with_relayed_unit_unless reason offer made) ≡ horizon_of made
+unless_horizon None offer made = refl
+unless_horizon (Some reason) offer made = refl
+
+offers_horizon : (airs : Airs) (offers : List Offer) (made : List Step) → horizon_of (after_offers airs offers made) ≡ horizon_of made
+offers_horizon airs [] made = refl
+offers_horizon airs (offer ∷ offers) made = search (unless_horizon, offers_horizon airs offers (after_offer airs offer made))
+
+-- ---- the source that a line means
+
+chosen_next : (chosen before others : Option ℕ) → unwrap_or before 0 ≡ unwrap_or others 0
+    → unwrap_or (option_or chosen before) 0 ≡ unwrap_or (option_or chosen others) 0
+chosen_next None before others same = same
+chosen_next (Some source) before others same = refl
+
+pub chosen_happened : (airs : Airs) (said : List Step) → chosen_of (happened airs said) ≡ chosen_of said
+chosen_happened airs [] = refl
+chosen_happened airs (step ∷ earlier) =
+    chosen_next (chosen_given step) (last_given chosen_given (with_relayed_units airs (happened airs earlier) step)) (last_given chosen_given earlier)
+    ((left_by_relayed_units airs (happened airs earlier) step).chosen ∙ chosen_happened airs earlier)
+
+told_if : (mine : Bool) (step : Step) (own others : List Step) → told_of own ≡ told_of others
+    → told_of (cond mine (step ∷ own) own) ≡ told_of (cond mine (step ∷ others) others)
+told_if mine step own others same = grind (arith, told_next)
+
+told_happened : (s : ℕ) (airs : Airs) (said : List Step) → told_of (steps_of_source s (happened airs said)) ≡ told_of (steps_of_source s said)
+told_happened s airs [] = refl
+told_happened s airs (step ∷ earlier) =
+    let made = happened airs earlier in
+    let after_relays = with_relayed_units airs made step in
+    ap (λ c. told_of (cond (is_common step || (is_source_line step && (c == s))) (step ∷ steps_of_source s after_relays) (steps_of_source s after_relays)))
+    ((left_by_relayed_units airs made step).chosen ∙ chosen_happened airs earlier)
+    ∙ told_if (is_of_source s earlier step) step (steps_of_source s after_relays) (steps_of_source s earlier)
+    (offers_told s airs (offers_before airs made step) made ∙ told_happened s airs earlier)
+
+-- behind the relayed units of a step, too
+source_after_relays : (airs : Airs) (step : Step) (earlier : List Step)
+    → source_at (with_relayed_units airs (happened airs earlier) step) ≡ source_at earlier
+source_after_relays airs step earlier =
+    let made = happened airs earlier in
+    let after_relays = with_relayed_units airs made step in
+    ap (λ c. source_in c (told_of (steps_of_source c after_relays))) ((left_by_relayed_units airs made step).chosen ∙ chosen_happened airs earlier)
+    ∙ ap (source_in (chosen_of earlier))
+    (offers_told (chosen_of earlier) airs (offers_before airs made step) made ∙ told_happened (chosen_of earlier) airs earlier)
+
+-- ---- a sink
+
+horizon_next : (step : Step) (before others : List Step) → horizon_of before ≡ horizon_of others → horizon_of (step ∷ before) ≡ horizon_of (step ∷ others)
+horizon_next (steps.Scenario version) before others same = refl
+horizon_next this before others same = same
+
+horizon_happened : (airs : Airs) (said : List Step) → horizon_of (happened airs said) ≡ horizon_of said
+horizon_happened airs [] = refl
+horizon_happened airs (step ∷ earlier) = search (horizon_next, offers_horizon, horizon_happened airs earlier)
+
+made_next : (n : ℕ) (step : Step) (before others : List Step) (made : Option Settings) → horizon_of before ≡ horizon_of others
+    → made_by n step before made ≡ made_by n step others made
+made_next n (steps.Sink sink streams slots mtu) before others made same = cc (same)
+made_next n this before others made same = refl
+
+pub made_happened : (airs : Airs) (n : ℕ) (said : List Step) → made_of n (happened airs said) ≡ made_of n said
+made_happened airs n [] = refl
+made_happened airs n (step ∷ earlier) =
+    let before = happened airs earlier in
+    let after_relays = with_relayed_units airs before step in
+    ap (made_by n step after_relays) ((left_by_relayed_units airs before step).made n ∙ made_happened airs n earlier)
+    ∙ made_next n step after_relays earlier (made_of n earlier)
+    (offers_horizon airs (offers_before airs before step) before ∙ horizon_happened airs earlier)
+
+named_next : (n : ℕ) (named : Option ℕ) (step : Step) (before others : List Step) (made : Option Settings) (calls : List Call)
+    → source_at before ≡ source_at others
+    → calls_at the_world n named step before made calls ≡ calls_at the_world n named step others made calls
+named_next n None this before others made calls same = refl
+named_next n (Some sink) this before others made calls same = ap (λ source. cond (sink == n) (calls_by source this made calls) calls) same
+
+called_next : (n : ℕ) (step : Step) (before others : List Step) (made : Option Settings) (calls : List Call)
+    → source_at before ≡ source_at others → calls_after the_world n step before made calls ≡ calls_after the_world n step others made calls
+called_next n (steps.Sink sink streams slots mtu) before others made calls same = refl
+called_next n step before others made calls same = named_next n (named_by step) step before others made calls same
+
+pub history_happened : (airs : Airs) (n : ℕ) (said : List Step) → calls_made n (happened airs said) ≡ calls_made n said
+history_happened airs n [] = refl
+history_happened airs n (step ∷ earlier) =
+    let before = happened airs earlier in
+    let after_relays = with_relayed_units airs before step in
+    let left = left_by_relayed_units airs before step in
+    ap₂ (calls_after the_world n step after_relays) (left.made n ∙ made_happened airs n earlier) (left.lives n ∙ history_happened airs n earlier)
+    ∙ called_next n step after_relays earlier (made_of n earlier) (calls_made n earlier) (source_after_relays airs step earlier)

@@ -1,0 +1,171 @@
+-- Lines of which none was refused give steps of which none is: relayed units are steps that source 1 takes, and what closes an event of
+-- source 0 is permitted behind them as before.
+use Rattle.std.proofs.Common.{ℕ, ◌≡◌, ◌≤◌, ◌||◌, ◌∙◌, not, cond, Bool, true, false, List, [], ◌∷◌, length, leb, ltb, Option}
+use Rattle.std.proofs.Common.{None, Some, refl, sym, ap, arith}
+use Rattle.std.specs.Option.{option_map, option_or}
+use Rattle.std.proofs.lemmas.Bool.{eqb-true, false≢true, ltb-false}
+use Rattle.std.proofs.lemmas.Option.{none-some}
+use Rattle.scenario_text.specs.Ranges.{IsInRange}
+use Rattle.scenario_text.specs.declared.step.Step.{Step}
+use Rattle.scenario_text.specs.declared.step.Step.TheVariants as steps
+use Rattle.source_machine.specs.Airs.{waiting_of, Airs}
+use Rattle.source_machine.specs.Faults.{give_fault, has_its_time}
+use Rattle.source_machine.specs.UnitFaults.{UnitFault}
+use Rattle.source_machine.specs.UnitFaults as give_faults
+use Rattle.transcript_text.specs.declared.refusal.Refusal.{Refusal}
+use Rattle.transcript_text.specs.declared.refusal.Refusal.TheVariants as refusals
+use Rattle.scenario_history.proofs.Citable.{fails_not, maps_none, neither, permitted}
+use Rattle.scenario_history.specs.Refusals.{give_refusal, is_misplaced, is_out_of_phase, refusal_of}
+use Rattle.sink_history.specs.Refusals.{refuse_if}
+use Rattle.scenario_history.specs.Refusals.{source_refusal}
+use Rattle.scenario_history.specs.Source.{setup_of, source_calls, takes_units}
+use Rattle.scenario_history.specs.Steps.{Stage, chosen_of, chosen_steps, is_over, is_over_at, is_unbegun, is_unbegun_at}
+use Rattle.scenario_history.specs.Steps.{stage_of, steps_of_source, version_at}
+use Rattle.scenario_history.specs.RelayedUnits.{Offer, after_offer, after_offers, closes_first, dropped_for, happened, offers_at, with_relayed_unit}
+use Rattle.scenario_history.specs.RelayedUnits.{with_relayed_unit_unless, with_relayed_units}
+use Rattle.scenario_laws.specs.RelayedUnits.Legal.{AreLegal, AreSaidLegally}
+use Rattle.scenario_laws.proofs.RelayedUnits.Left.{left_by_offers}
+use Rattle.scenario_laws.proofs.RelayedUnits.Refused.{line_passes}
+
+-- ---- the scenario is under way
+
+pub record Runs (made : List Step) : Type 0 where
+  pub goes_on : is_over made ≡ false
+  pub begun : is_unbegun made ≡ false
+
+runs_by : (airs : Airs) (boxes : ℕ) (made : List Step) (step : Step) → is_misplaced (stage_of made) step ≡ is_unbegun made
+    → refusal_of airs boxes made step ≡ None → Runs made
+runs_by airs boxes made step same none =
+    let its = permitted airs boxes made step none in
+    record { goes_on = its.goes_on; begun = sym same ∙ its.in_place }
+
+pub runs_at : (airs : Airs) (boxes : ℕ) (made : List Step) (step : Step) → refusal_of airs boxes made step ≡ None
+    → closes_first made step ≡ true → Runs made
+runs_at airs boxes made this none closes = grind (arith, runs_by, false≢true)
+
+pub runs_still : (made others : List Step) → stage_of others ≡ stage_of made → Runs made → Runs others
+runs_still made others same runs = record { goes_on = ap is_over_at same ∙ runs.goes_on; begun = ap is_unbegun_at same ∙ runs.begun }
+
+-- ---- a relayed unit
+
+abbrev most_of : List Step → ℕ
+most_of own = (setup_of own).info.max_sdu
+
+bounded_by : (step : Step) (own : List Step) → IsInRange step → most_of own ≤ 4095 → most_of (step ∷ own) ≤ 4095
+bounded_by (steps.Group framing origin delay iso sdu max_sdu max_pdu num_bis bn nse irc pto sub spacing phy) own ranged before =
+    let most = ranged.max_sdu_is in omega (arith, most)
+bounded_by this own ranged before = before
+
+bounded_if : (mine : Bool) (step : Step) (own : List Step) → IsInRange step → most_of own ≤ 4095
+    → most_of (cond mine (step ∷ own) own) ≤ 4095
+bounded_if mine step own ranged before = grind (arith, bounded_by)
+
+-- a unit of source 1 has at most 4,095 octets
+bounded : (airs : Airs) (boxes : ℕ) (made : List Step) → AreLegal airs boxes made → most_of (steps_of_source 1 made) ≤ 4095
+bounded airs boxes [] legal = omega arith
+bounded airs boxes (step ∷ earlier) legal = search (bounded_if, bounded airs boxes earlier legal.0)
+
+chosen_below : (airs : Airs) (boxes : ℕ) (made : List Step) → AreLegal airs boxes made → chosen_of made ≤ 1
+chosen_below airs boxes [] legal = omega arith
+chosen_below airs boxes (steps.Source source ∷ earlier) legal = legal.2
+chosen_below airs boxes (this ∷ earlier) legal = chosen_below airs boxes earlier legal.0
+
+none_of_four : (over misplaced out : Bool) (source : Option Refusal) → over ≡ false → misplaced ≡ false → out ≡ false → source ≡ None
+    → option_or (refuse_if over refusals.AfterEnd) (option_or (refuse_if (misplaced || out) refusals.Order) (option_or source None)) ≡ None
+none_of_four over misplaced out source p q r s = rw (p, q, r, s) refl
+
+choosing : (airs : Airs) (boxes source : ℕ) (made : List Step) → Runs made → refusal_of airs boxes made (steps.Source source) ≡ None
+choosing airs boxes source made runs = none_of_four (is_over made) (is_unbegun made) false None runs.goes_on runs.begun refl refl
+
+giving : (airs : Airs) (boxes : ℕ) (offer : Offer) (made : List Step) → Runs made → dropped_for airs offer made ≡ None
+    → refusal_of airs boxes (steps.Source 1 ∷ made) (steps.Unit offer.route.to (Some offer.unit.time) offer.unit.octets) ≡ None
+giving airs boxes offer made runs none =
+    let own = steps_of_source 1 made in
+    let parts = neither (refuse_if (not (takes_units own)) refusals.Order)
+    (source_refusal airs (version_at (stage_of made)) own (steps.Unit offer.route.to (Some offer.unit.time) offer.unit.octets)) none in
+    none_of_four (is_over made) (is_unbegun made) (not (takes_units own))
+    (source_refusal airs (version_at (stage_of made)) own (steps.Unit offer.route.to (Some offer.unit.time) offer.unit.octets))
+    runs.goes_on runs.begun (fails_not (not (takes_units own)) _ parts.0) parts.1
+
+pub second_false : (a b : Bool) (x y : UnitFault) (z : Option UnitFault) → cond a (Some x) (cond b (Some y) z) ≡ None → b ≡ false
+second_false a b x y z none = grind (arith, none-some)
+
+-- what passes has at most so many octets as a unit of a line
+short : (airs : Airs) (boxes : ℕ) (offer : Offer) (made : List Step) → AreLegal airs boxes made → dropped_for airs offer made ≡ None
+    → length offer.unit.octets ≤ 4095
+short airs boxes offer made legal none =
+    let own = steps_of_source 1 made in
+    let setup = setup_of own in
+    let fault = give_fault setup (source_calls own) (airs setup (source_calls own)) offer.route.to
+    (Some offer.unit.time) offer.unit.octets in
+    let parts = neither (refuse_if (not (takes_units own)) refusals.Order) (option_map give_refusal fault) none in
+    let within : length offer.unit.octets ≤ most_of own = ltb-false (most_of own) (length offer.unit.octets)
+    (second_false (ltb setup.info.num_bis offer.route.to)
+    (ltb (most_of own) (length offer.unit.octets)) give_faults.NoSuchBis give_faults.UnitTooLong
+    (cond (not (has_its_time setup (source_calls own) offer.route.to (Some offer.unit.time))) (Some give_faults.TimeOrder)
+    (cond (leb 16 (waiting_of (source_calls own) (airs setup (source_calls own)) offer.route.to)) (Some give_faults.Backlog) None))
+    (maps_none give_refusal fault parts.1)) in
+    let most = bounded airs boxes made legal in
+    omega (arith, within, most)
+
+relayed_unit_legal : (airs : Airs) (boxes : ℕ) (offer : Offer) (made : List Step) → AreLegal airs boxes made → Runs made
+    → dropped_for airs offer made ≡ None → AreLegal airs boxes (with_relayed_unit offer made)
+relayed_unit_legal airs boxes offer made legal runs none =
+    let given : Step = steps.Unit offer.route.to (Some offer.unit.time) offer.unit.octets in
+    let again : Runs (given ∷ steps.Source 1 ∷ made) = record { goes_on = runs.goes_on; begun = runs.begun } in
+    let first : AreLegal airs boxes (steps.Source 1 ∷ made) = (legal, choosing airs boxes 1 made runs, omega arith) in
+    let second : AreLegal airs boxes (given ∷ steps.Source 1 ∷ made) =
+    (first, giving airs boxes offer made runs none, short airs boxes offer made legal none) in
+    (second, choosing airs boxes (chosen_of made) (given ∷ steps.Source 1 ∷ made) again, chosen_below airs boxes made legal)
+
+-- ---- relayed units
+
+pub unless_legal : (airs : Airs) (boxes : ℕ) (reason : Option Refusal) (offer : Offer) (made : List Step) → AreLegal airs boxes made
+    → Runs made → dropped_for airs offer made ≡ reason → AreLegal airs boxes (with_relayed_unit_unless reason offer made)
+unless_legal airs boxes reason offer made legal runs is = grind (arith, relayed_unit_legal)
+
+all_legal : (airs : Airs) (boxes : ℕ) (offers : List Offer) (made : List Step) → AreLegal airs boxes made → Runs made
+    → AreLegal airs boxes (after_offers airs offers made)
+all_legal airs boxes [] made legal runs = legal
+all_legal airs boxes (offer ∷ offers) made legal runs =
+    let next = after_offer airs offer made in
+    all_legal airs boxes offers next (unless_legal airs boxes (dropped_for airs offer made) offer made legal runs refl)
+    (runs_still made next (left_by_offers airs (offer ∷ []) made).stage runs)
+
+legal_if : (closes : Bool) (airs : Airs) (boxes : ℕ) (made : List Step) → AreLegal airs boxes made → (closes ≡ true → Runs made)
+    → AreLegal airs boxes (after_offers airs (cond closes (offers_at airs made) []) made)
+legal_if closes airs boxes made legal runs = grind (arith, all_legal)
+
+-- ---- the step behind them
+
+-- why a step that closes an event is refused, of the stage of the scenario and of the steps of the source
+abbrev close_refusal : Airs → Step → Stage → List Step → Option Refusal
+close_refusal airs step stage own =
+    option_or (refuse_if (is_over_at stage) refusals.AfterEnd)
+    (option_or (refuse_if (is_misplaced stage step || is_out_of_phase own step) refusals.Order)
+    (option_or (source_refusal airs (version_at stage) own step) None))
+
+chosen_alike : (made others : List Step) → chosen_of others ≡ chosen_of made → steps_of_source 0 others ≡ steps_of_source 0 made
+    → chosen_of made ≡ 0 → chosen_steps others ≡ chosen_steps made
+chosen_alike made others chosen first is = cc (chosen, is, first, is)
+
+close_if : (closes : Bool) (airs : Airs) (step : Step) (made : List Step) → (closes ≡ true → chosen_of made ≡ 0)
+    → (let after = after_offers airs (cond closes (offers_at airs made) []) made in
+    close_refusal airs step (stage_of after) (chosen_steps after) ≡ close_refusal airs step (stage_of made) (chosen_steps made))
+close_if closes airs this made is = grind (arith, left_by_offers, chosen_alike)
+
+step_legal : (airs : Airs) (boxes : ℕ) (made : List Step) (step : Step) → refusal_of airs boxes made step ≡ None
+    → refusal_of airs boxes (with_relayed_units airs made step) step ≡ None
+step_legal airs boxes made this none = grind (arith, close_if, eqb-true, left_by_offers)
+
+pub happens_legally : (airs : Airs) (boxes : ℕ) (said : List Step) → AreSaidLegally airs boxes said
+    → AreLegal airs boxes (happened airs said)
+happens_legally airs boxes [] legal = tt
+happens_legally airs boxes (step ∷ earlier) legal =
+    let made = happened airs earlier in
+    let before = happens_legally airs boxes earlier legal.0 in
+    let none = line_passes airs boxes made step legal.1 in (
+      legal_if (closes_first made step) airs boxes made before (runs_at airs boxes made step none),
+      step_legal airs boxes made step none,
+      legal.2,
+    )

@@ -1,0 +1,240 @@
+-- What is offered to a stream of source 1 is what one sink handed up of one of its streams.
+use Rattle.std.proofs.Common.{ℕ, zero, suc, ◌≡◌, ◌≢◌, ◌<◌, ◌≤◌, ◌+◌, ◌==◌, ◌&&◌, ◌∙◌, Bool, true, false, cond, List, [], ◌∷◌, ◌++◌}
+use Rattle.std.proofs.Common.{map, Option, None, Some, refl, sym, ap, subst, arith, inl, inr}
+use Rattle.std.specs.List.{Contains, filter, flat_map, range_with_len}
+use Rattle.std.proofs.lemmas.Bool.{cases_Bool, cases_eq, and_right, eq-eqb, eqb-true, false_from_ne_true, false≢true, or_parts}
+use Rattle.std.proofs.lemmas.List.{append-nil, map-append}
+use Rattle.std.proofs.lemmas.List.Elements.{filter-append}
+use Rattle.bcast_base.specs.declared.unit.Unit.{Unit as AudioUnit}
+use Rattle.scenario_text.specs.Ranges.{IsInRange}
+use Rattle.scenario_text.specs.declared.step.Step.{Step}
+use Rattle.scenario_text.specs.declared.step.Step.TheVariants as steps
+use Rattle.unit_outlets.specs.Handed.{Handed}
+use Rattle.scenario_history.specs.Boxes.{SinkUnit, closing, closing_at, handed_by, sink_numbers}
+use Rattle.scenario_history.specs.Source.{open_event}
+use Rattle.source_machine.specs.Airs.{Airs}
+use Rattle.scenario_history.specs.Steps.{chosen_of, steps_of_source}
+use Rattle.scenario_history.specs.RelayedUnits.{Answered, Offer, after_offer, all_answered, answered, answered_by, closes_first}
+use Rattle.scenario_history.specs.RelayedUnits.{dropped_for, handed_of, happened, offered_of, offered_to, offers_at, units_on}
+use Rattle.scenario_history.specs.RelayedUnits.{with_relayed_units}
+use Rattle.scenario_laws.specs.RelayedUnits.Laws.{handed_on, is_route, offered}
+use Rattle.scenario_laws.specs.RelayedUnits.Legal.{AreSaidLegally}
+use Rattle.scenario_history.specs.Relays.{Route, had_relay, relay_of, relays_to}
+use Rattle.scenario_laws.proofs.RelayedUnits.Left.{left_by_relayed_units}
+use Rattle.scenario_laws.proofs.RelayedUnits.One.{OneStands, contains_cases, first_free, one_stands}
+use Rattle.scenario_laws.proofs.RelayedUnits.Routes.{had_happened, none_now, none_offered, route_had}
+
+-- ---- lists
+
+-- of a range only one number gives something
+flat_past : {B : Type 0} (f : ℕ → List B) (n start count : ℕ) → n < start → ((m : ℕ) → m ≢ n → f m ≡ [])
+    → flat_map f (range_with_len start count) ≡ []
+flat_past f n start zero past others = refl
+flat_past f n start (suc count) past others =
+    cc (others start (λ same. omega (arith, same, past)), flat_past f n (start + 1) count (omega (arith, past)) others)
+
+pub flat_one : {B : Type 0} (f : ℕ → List B) (n start count : ℕ) → start ≤ n → n < start + count → ((m : ℕ) → m ≢ n → f m ≡ [])
+    → flat_map f (range_with_len start count) ≡ f n
+flat_one f n start zero least below others = absurd (omega (arith, least, below))
+flat_one f n start (suc count) least below others = elim (cases_eq start n) [
+  | inl same ↦ ap (λ l. f start ++ l) (flat_past f n (start + 1) count (omega (arith, same)) others) ∙ append-nil (f start) ∙ ap f same
+  | inr other ↦
+      ap (λ l. l ++ flat_map f (range_with_len (start + 1) count)) (others start other)
+      ∙ flat_one f n (start + 1) count (omega (arith, least, other)) (omega (arith, below)) others
+]
+
+-- ---- the units offered to a stream
+
+abbrev units_to : ℕ → List Offer → List AudioUnit
+units_to to offers = map (λ (offer : Offer). offer.unit) (filter (λ (offer : Offer). offer.route.to == to) offers)
+
+units_to_append : (to : ℕ) (one other : List Offer) → units_to to (one ++ other) ≡ units_to to one ++ units_to to other
+units_to_append to one other = search (filter-append, map-append)
+
+units_to_flat : (to : ℕ) (f : ℕ → List Offer) (ms : List ℕ) → units_to to (flat_map f ms) ≡ flat_map (λ m. units_to to (f m)) ms
+units_to_flat to f [] = refl
+units_to_flat to f (m ∷ ms) = units_to_append to (f m) (flat_map f ms) ∙ ap (λ l. units_to to (f m) ++ l) (units_to_flat to f ms)
+
+answer_if : (hit : Bool) (answer : Answered) (answers : List Answered) (offers : List Offer)
+    → map (λ (a : Answered). a.offer.unit) answers ≡ map (λ (offer : Offer). offer.unit) offers
+    → map (λ (a : Answered). a.offer.unit) (cond hit (answer ∷ answers) answers)
+    ≡ map (λ (offer : Offer). offer.unit) (cond hit (answer.offer ∷ offers) offers)
+answer_if true answer answers offers same = ap (λ l. answer.offer.unit ∷ l) same
+answer_if false answer answers offers same = same
+
+-- each unit that is offered is answered
+answered_units : (airs : Airs) (to : ℕ) (offers : List Offer) (made : List Step)
+    → map (λ (a : Answered). a.offer.unit) (offered_to to (answered airs offers made)) ≡ units_to to offers
+answered_units airs to [] made = refl
+answered_units airs to (offer ∷ offers) made =
+    let next = after_offer airs offer made in
+    answer_if (offer.route.to == to) (record { offer = offer; reason = dropped_for airs offer made })
+    (offered_to to (answered airs offers next)) (filter (λ (o : Offer). o.route.to == to) offers) (answered_units airs to offers next)
+
+same_nil : (hit : Bool) → (let none : List AudioUnit = [] in none ≡ cond hit none none)
+same_nil true = refl
+same_nil false = refl
+
+one_more : (hit : Bool) (n : ℕ) (route : Route) (unit : AudioUnit) (units : List AudioUnit) (offers : List Offer)
+    → map (λ (offer : Offer). offer.unit) offers ≡ cond hit units []
+    → map (λ (offer : Offer). offer.unit) (cond hit (record { sink = n; route = route; unit = unit } ∷ offers) offers)
+    ≡ cond hit (unit ∷ units) []
+one_more true n route unit units offers same = ap (λ l. unit ∷ l) same
+one_more false n route unit units offers same = same
+
+route_units : (to n : ℕ) (route : Route) (units : List AudioUnit)
+    → units_to to (map (λ unit. record { sink = n; route = route; unit = unit }) units) ≡ cond (route.to == to) units []
+route_units to n route [] = same_nil (route.to == to)
+route_units to n route (unit ∷ units) = search (one_more, route_units to n route units)
+
+-- what one sink offers to the stream
+own_units : (n bis to : ℕ) (made : List Step) (relay : Option Route) (units : List Handed) → OneStands n bis to made
+    → relay_of n made ≡ relay → units_to to (offered_of n relay units) ≡ cond (is_route bis to relay) (units_on bis units) []
+own_units n bis to made None units stands is = refl
+own_units n bis to made (Some route) units stands is = route_units to n route (units_on route.bis units)
+    ∙ elim (cases_Bool (route.to == to)) [
+      | inl goes ↦
+          let same : route.bis ≡ bis = (stands n route is (eqb-true route.to to goes)).1 in
+          rw (goes, eq-eqb route.bis bis same) (ap (λ b. units_on b units) same)
+      | inr not ↦ rw (and_right (route.bis == bis) (route.to == to) not, not) refl
+    ]
+
+other_units : (n bis to m : ℕ) (made : List Step) (relay : Option Route) (units : List Handed) → OneStands n bis to made
+    → relay_of m made ≡ relay → m ≢ n → units_to to (offered_of m relay units) ≡ []
+other_units n bis to m made None units stands is other = refl
+other_units n bis to m made (Some route) units stands is other =
+    let not : (route.to == to) ≡ false = false_from_ne_true (route.to == to)
+    (λ goes. other (stands m route is (eqb-true route.to to goes)).0) in
+    route_units to m route (units_on route.bis units) ∙ ap (λ hit. cond hit (units_on route.bis units) []) not
+
+offers_units : (airs : Airs) (n bis to : ℕ) (made : List Step) → n ≤ 7 → OneStands n bis to made
+    → units_to to (offers_at airs made) ≡ cond (is_route bis to (relay_of n made)) (units_on bis (handed_of 0 n (closing airs 0 made))) []
+unfolding sink_numbers
+offers_units airs n bis to made below stands =
+    let all = closing airs 0 made in
+    let f = λ (m : ℕ). offered_of m (relay_of m made) (handed_of 0 m all) in
+    units_to_flat to f (range_with_len 0 8) ∙ flat_one (λ m. units_to to (f m)) n 0 8 (omega arith) (omega (arith, below))
+    (λ m other. other_units n bis to m made (relay_of m made) (handed_of 0 m all) stands refl other)
+    ∙ own_units n bis to made (relay_of n made) (handed_of 0 n all) stands refl
+
+-- ---- what the sink hands up of source 0
+
+abbrev mine : ℕ → ℕ → SinkUnit → Bool
+mine s n unit = (unit.source == s) && (unit.sink == n)
+
+pub handed_append : (s n : ℕ) (one other : List SinkUnit) → handed_of s n (one ++ other) ≡ handed_of s n one ++ handed_of s n other
+handed_append s n one other = search (filter-append, map-append)
+
+not_of_map : (n t m box : ℕ) (units : List Handed) → (t == 0) ≡ false
+    → handed_of 0 n (map (λ unit. record { source = t; sink = m; box = box; unit = unit }) units) ≡ []
+not_of_map n t m box [] other = refl
+not_of_map n t m box (unit ∷ units) other = rw other (not_of_map n t m box units other)
+
+not_flat : (n : ℕ) (f : ℕ → List SinkUnit) (ms : List ℕ) → ((m : ℕ) → handed_of 0 n (f m) ≡ []) → handed_of 0 n (flat_map f ms) ≡ []
+not_flat n f [] each = refl
+not_flat n f (m ∷ ms) each = cc (handed_append 0 n (f m) (flat_map f ms), each m, not_flat n f ms each)
+
+not_at : (airs : Airs) (n t : ℕ) (made : List Step) (last_open : Option ℕ) → (t == 0) ≡ false
+    → handed_of 0 n (closing_at airs t made last_open) ≡ []
+not_at airs n t made last_open other = grind (arith, not_flat, not_of_map)
+
+-- another source closes nothing of source 0
+not_first : (airs : Airs) (n t : ℕ) (made : List Step) → (t == 0) ≡ false → handed_of 0 n (closing airs t made) ≡ []
+not_first airs n t made other = not_at airs n t made (open_event (steps_of_source t made)) other
+
+-- a close of the chosen source
+by_chosen : (airs : Airs) (n : ℕ) (made after_relays : List Step) (hit : Bool) → (chosen_of made == 0) ≡ hit → chosen_of after_relays ≡ chosen_of made
+    → closing airs 0 after_relays ≡ closing airs 0 made
+    → handed_of 0 n (closing airs (chosen_of after_relays) after_relays) ≡ cond hit (handed_of 0 n (closing airs 0 made)) []
+by_chosen airs n made after_relays hit is same closes = grind (arith, eqb-true, not_first)
+
+-- what the sink hands up of source 0 by a step, behind the relayed units
+pub first_handed : (airs : Airs) (n : ℕ) (made : List Step) (step : Step) → handed_of 0 n (handed_by airs (with_relayed_units airs made step) step)
+    ≡ cond (closes_first made step) (handed_of 0 n (closing airs 0 made)) []
+first_handed airs n made steps.Event =
+    let left = left_by_relayed_units airs made steps.Event in
+    by_chosen airs n made (with_relayed_units airs made steps.Event) (chosen_of made == 0) refl left.chosen left.closing_first
+first_handed airs n made steps.Stop =
+    let left = left_by_relayed_units airs made steps.Stop in
+    by_chosen airs n made (with_relayed_units airs made steps.Stop) (chosen_of made == 0) refl left.chosen left.closing_first
+first_handed airs n made (steps.Terminate reason) =
+    let left = left_by_relayed_units airs made (steps.Terminate reason) in
+    by_chosen airs n made (with_relayed_units airs made (steps.Terminate reason)) (chosen_of made == 0) refl left.chosen left.closing_first
+first_handed airs n made steps.End =
+    let after_relays = with_relayed_units airs made steps.End in
+    handed_append 0 n (closing airs 0 after_relays) (closing airs 1 after_relays)
+    ∙ ap (λ l. handed_of 0 n (closing airs 0 after_relays) ++ l) (not_first airs n 1 after_relays refl)
+    ∙ append-nil (handed_of 0 n (closing airs 0 after_relays)) ∙ ap (handed_of 0 n) (left_by_relayed_units airs made steps.End).closing_first
+first_handed airs n made _ = refl
+
+-- ---- one step, and all steps
+
+offers_if : (closes : Bool) (airs : Airs) (n bis to : ℕ) (made : List Step) → n ≤ 7 → OneStands n bis to made
+    → units_to to (cond closes (offers_at airs made) [])
+    ≡ cond (is_route bis to (relay_of n made)) (units_on bis (cond closes (handed_of 0 n (closing airs 0 made)) [])) []
+offers_if true airs n bis to made below stands = offers_units airs n bis to made below stands
+offers_if false airs n bis to made below stands = same_nil (is_route bis to (relay_of n made))
+
+offered_now : (airs : Airs) (n bis to : ℕ) (made : List Step) (step : Step) → n ≤ 7 → OneStands n bis to made
+    → map (λ (a : Answered). a.offer.unit) (offered_to to (answered_by airs made step))
+    ≡ cond (is_route bis to (relay_of n made)) (handed_on airs n bis made step) []
+offered_now airs n bis to made step below stands = search (answered_units, offers_if, first_handed)
+
+no_way : (n bis to : ℕ) (made : List Step) (relay : Option Route) → relay_of n made ≡ relay → had_relay to made ≡ false
+    → is_route bis to relay ≡ false
+no_way n bis to made None is none = refl
+no_way n bis to made (Some route) is none =
+    and_right (route.bis == bis) (route.to == to) (false_from_ne_true (route.to == to) (λ goes.
+    false≢true (sym none ∙ ap (λ b. had_relay b made) (sym (eqb-true route.to to goes)) ∙ route_had n made route is)))
+
+not_offered : (airs : Airs) (n bis to : ℕ) (said : List Step) → had_relay to said ≡ false → offered airs n bis to said ≡ []
+not_offered airs n bis to [] none = refl
+not_offered airs n bis to (step ∷ earlier) none =
+    let made = happened airs earlier in
+    let parts = or_parts (relays_to to step) (had_relay to earlier) none in
+    ap (λ l. l ++ cond (is_route bis to (relay_of n made)) (handed_on airs n bis made step) []) (not_offered airs n bis to earlier parts.1)
+    ∙ ap (λ hit. cond hit (handed_on airs n bis made step) [])
+    (no_way n bis to made (relay_of n made) refl (had_happened airs to earlier ∙ parts.1))
+
+-- nor by the step that makes the relay
+pub not_yet : (airs : Airs) (n bis to : ℕ) (step : Step) (earlier : List Step) → had_relay to earlier ≡ false
+    → offered airs n bis to (step ∷ earlier) ≡ []
+not_yet airs n bis to step earlier none =
+    let made = happened airs earlier in
+    let now = handed_on airs n bis made step in
+    ap (λ l. l ++ cond (is_route bis to (relay_of n made)) now []) (not_offered airs n bis to earlier none)
+    ∙ ap (λ hit. cond hit now []) (no_way n bis to made (relay_of n made) refl (had_happened airs to earlier ∙ none))
+
+pub in_range : (airs : Airs) (boxes n bis to : ℕ) (said : List Step) → AreSaidLegally airs boxes said → Contains said (steps.Relay n bis to)
+    → n ≤ 7
+in_range airs boxes n bis to [] legal within = absurd (omega (arith, within.1))
+in_range airs boxes n bis to (step ∷ earlier) legal within = elim (contains_cases step earlier (steps.Relay n bis to) within) [
+  | inl is ↦ subst IsInRange is legal.2
+  | inr before ↦ in_range airs boxes n bis to earlier legal.0 before
+]
+
+units_append : (to : ℕ) (one other : List Answered) → map (λ (a : Answered). a.offer.unit) (offered_to to (one ++ other))
+    ≡ map (λ (a : Answered). a.offer.unit) (offered_to to one) ++ map (λ (a : Answered). a.offer.unit) (offered_to to other)
+units_append to one other = search (filter-append, map-append)
+
+pub all_offered : (airs : Airs) (boxes n bis to : ℕ) (said : List Step) → AreSaidLegally airs boxes said
+    → Contains said (steps.Relay n bis to)
+    → map (λ (a : Answered). a.offer.unit) (offered_to to (all_answered airs said)) ≡ offered airs n bis to said
+all_offered airs boxes n bis to [] legal within = absurd (omega (arith, within.1))
+all_offered airs boxes n bis to (step ∷ earlier) legal within =
+    let made = happened airs earlier in
+    let now = answered_by airs made step in
+    let units = λ (answers : List Answered). map (λ (a : Answered). a.offer.unit) (offered_to to answers) in
+    let parts = units_append to (all_answered airs earlier) now in
+    elim (contains_cases step earlier (steps.Relay n bis to) within) [
+      | inl is ↦
+          let none = first_free airs boxes n bis to step made is legal.1 in
+          let before = sym (had_happened airs to earlier) ∙ none in
+          parts ∙ ap (λ l. map (λ (a : Answered). a.offer.unit) l ++ units now) (none_offered airs to earlier before)
+          ∙ ap (map (λ (a : Answered). a.offer.unit)) (none_now airs to made step none) ∙ sym (not_yet airs n bis to step earlier before)
+      | inr before ↦
+          parts ∙ ap (λ l. l ++ units now) (all_offered airs boxes n bis to earlier legal.0 before)
+          ∙ ap (λ l. offered airs n bis to earlier ++ l)
+          (offered_now airs n bis to made step (in_range airs boxes n bis to earlier legal.0 before)
+          (one_stands airs boxes n bis to earlier legal.0 before))
+    ]

@@ -1,0 +1,130 @@
+-- Without relays a close prints the units of its sinks in order, and nothing else.
+use Rattle.std.proofs.Common.{ℕ, zero, suc, ◌≡◌, ◌<◌, ◌≤◌, ◌+◌, ◌==◌, ◌∙◌, Bool, true, false, cond, List, [], ◌∷◌, ◌++◌, map}
+use Rattle.std.proofs.Common.{Option, None, Some, refl, ap, arith}
+use Rattle.std.proofs.Common.{append_assoc}
+use Rattle.std.specs.List.{flat_map, range_with_len}
+use Rattle.std.proofs.lemmas.Bool.{eq-eqb, eqb-true, ne_eqb}
+use Rattle.std.proofs.lemmas.List.{append-nil}
+use Rattle.std.proofs.lemmas.List.Concat.{flat_map-append}
+use Rattle.group_sink.specs.Calls.{Call}
+use Rattle.group_sink.specs.Handing.{handed_at}
+use Rattle.scenario_text.specs.declared.step.Step.{Step}
+use Rattle.scenario_text.specs.declared.step.Step.TheVariants as steps
+use Rattle.transcript_text.specs.Lines.{handed_line}
+use Rattle.unit_outlets.specs.Handed.{Handed}
+use Rattle.unit_outlets.specs.Account.{Account}
+use Rattle.scenario_history.specs.Boxes.{SinkUnit, box_of, closing, closing_at, closing_both, closing_by, closing_in, handed_up}
+use Rattle.scenario_history.specs.Boxes.{sink_numbers}
+use Rattle.scenario_history.specs.RelayedUnits.{answered, answered_by, closes_first, handed_of, offers_at}
+use Rattle.scenario_history.specs.Output.{close_lines, first_lines, output_of, sums_of, unit_lines}
+use Rattle.scenario_history.specs.Sinks.{is_of, sink_calls, source_of}
+use Rattle.scenario_history.specs.Source.{open_event}
+use Rattle.source_machine.specs.Airs.{Airs}
+use Rattle.scenario_history.specs.Steps.{chosen_of, steps_of_source}
+use Rattle.scenario_laws.specs.RelayedUnits.Laws.{PrintsUnits}
+use Rattle.scenario_history.specs.Relays.{has_relay}
+use Rattle.scenario_laws.proofs.RelayedUnits.Offered.{flat_one, handed_append}
+use Rattle.scenario_laws.proofs.RelayedUnits.Routes.{no_offers}
+
+-- ---- lists
+
+flat_flat : {A B C : Type 0} (g : B → List C) (f : A → List B) (xs : List A)
+    → flat_map g (flat_map f xs) ≡ flat_map (λ x. flat_map g (f x)) xs
+flat_flat g f [] = refl
+flat_flat g f (x ∷ xs) = flat_map-append g (f x) (flat_map f xs) ∙ ap (λ l. flat_map g (f x) ++ l) (flat_flat g f xs)
+
+pub flat_same : {A : Type 0} (f g : ℕ → List A) (xs : List ℕ) → ((n : ℕ) → f n ≡ g n) → flat_map f xs ≡ flat_map g xs
+flat_same f g [] same = refl
+flat_same f g (x ∷ xs) same = ap (λ prefix. prefix ++ flat_map f xs) (same x) ∙ ap (λ rest. g x ++ rest) (flat_same f g xs same)
+
+pub flat_within : {B : Type 0} (f g : ℕ → List B) (start count : ℕ) → ((m : ℕ) → start ≤ m → m < start + count → f m ≡ g m)
+    → flat_map f (range_with_len start count) ≡ flat_map g (range_with_len start count)
+flat_within f g start zero same = refl
+flat_within f g start (suc count) same =
+    ap (λ l. l ++ flat_map f (range_with_len (start + 1) count)) (same start (omega arith) (omega arith))
+    ∙ ap (λ l. g start ++ l) (flat_within f g (start + 1) count (λ m least below. same m (omega (arith, least)) (omega (arith, below))))
+
+-- ---- the units of one sink
+
+pub own_handed : (n box : ℕ) (units : List Handed)
+    → handed_of 0 n (map (λ unit. record { source = 0; sink = n; box = box; unit = unit }) units) ≡ units
+own_handed n box [] = refl
+own_handed n box (unit ∷ units) = rw (eq-eqb n n refl) (ap (λ l. unit ∷ l) (own_handed n box units))
+
+other_handed : (n m box : ℕ) (units : List Handed) → (m == n) ≡ false
+    → handed_of 0 n (map (λ unit. record { source = 0; sink = m; box = box; unit = unit }) units) ≡ []
+other_handed n m box [] other = refl
+other_handed n m box (unit ∷ units) other = rw other (other_handed n m box units other)
+
+pub other_in : (its : Bool) (event n m : ℕ) (calls : List Call) (box : Option ℕ) → (m == n) ≡ false
+    → handed_of 0 n (cond its (closing_in 0 event m calls box) []) ≡ []
+other_in true event n m calls None other = refl
+other_in true event n m calls (Some box) other = other_handed n m box (handed_at calls event) other
+other_in false event n m calls box other = refl
+
+pub lines_map : (n box : ℕ) (units : List Handed)
+    → flat_map (handed_line n) units ≡ unit_lines (map (λ unit. record { source = 0; sink = n; box = box; unit = unit }) units)
+lines_map n box [] = refl
+lines_map n box (unit ∷ units) = ap (λ l. handed_line n unit ++ l) (lines_map n box units)
+
+lines_in : (its : Bool) (event n : ℕ) (calls : List Call) (box : Option ℕ)
+    → flat_map (handed_line n) (handed_of 0 n (cond its (closing_in 0 event n calls box) []))
+    ≡ unit_lines (cond its (closing_in 0 event n calls box) [])
+lines_in true event n calls None = refl
+lines_in true event n calls (Some box) = cc (own_handed n box (handed_at calls event), lines_map n box (handed_at calls event))
+lines_in false event n calls box = refl
+
+-- ---- a close of source 0
+
+abbrev closes : Airs → List Step → ℕ → ℕ → List SinkUnit
+closes airs made event m = closing_by 0 event m (sink_calls airs m made) (source_of m made) (box_of m made)
+
+pub handed_flat : (n : ℕ) (f : ℕ → List SinkUnit) (ms : List ℕ) → handed_of 0 n (flat_map f ms) ≡ flat_map (λ m. handed_of 0 n (f m)) ms
+handed_flat n f [] = refl
+handed_flat n f (m ∷ ms) = handed_append 0 n (f m) (flat_map f ms) ∙ ap (λ l. handed_of 0 n (f m) ++ l) (handed_flat n f ms)
+
+one_printed : (airs : Airs) (made : List Step) (event n : ℕ) → n < 8
+    → flat_map (handed_line n) (handed_of 0 n (flat_map (closes airs made event) (range_with_len 0 8))) ++ []
+    ≡ unit_lines (closes airs made event n)
+one_printed airs made event n below =
+    append-nil (flat_map (handed_line n) (handed_of 0 n (flat_map (closes airs made event) (range_with_len 0 8))))
+    ∙ ap (flat_map (handed_line n)) (handed_flat n (closes airs made event) (range_with_len 0 8)
+    ∙ flat_one (λ m. handed_of 0 n (closes airs made event m)) n 0 8 (omega arith) (omega (arith, below))
+    (λ m other. other_in (is_of 0 (source_of m made)) event n m (sink_calls airs m made) (box_of m made) (ne_eqb m n other)))
+    ∙ lines_in (is_of 0 (source_of n made)) event n (sink_calls airs n made) (box_of n made)
+
+at_event : (airs : Airs) (made : List Step) (last_open : Option ℕ)
+    → first_lines (closing_at airs 0 made last_open) [] ≡ unit_lines (closing_at airs 0 made last_open)
+unfolding sink_numbers
+at_event airs made None = refl
+at_event airs made (Some event) = search (flat_within, one_printed, flat_flat)
+
+first_printed : (airs : Airs) (made : List Step) → first_lines (closing airs 0 made) [] ≡ unit_lines (closing airs 0 made)
+first_printed airs made = at_event airs made (open_event (steps_of_source 0 made))
+
+-- no relay offers anything
+none_answered : (closes : Bool) (airs : Airs) (made : List Step) → has_relay made ≡ false
+    → answered airs (cond closes (offers_at airs made) []) made ≡ []
+none_answered closes airs made none = grind (arith, no_offers)
+
+pub prints_units : PrintsUnits
+prints_units airs made step none = cc (none_answered (closes_first made step) airs made none, first_printed airs made)
+
+closed_if : (hit : Bool) (airs : Airs) (made : List Step) (step : Step) → (chosen_of made == 0) ≡ hit → has_relay made ≡ false
+    → cond hit (first_lines (closing airs 0 made) (answered_by airs made step)) (unit_lines (closing airs (chosen_of made) made))
+    ≡ unit_lines (closing airs (chosen_of made) made)
+closed_if true airs made this is none = cc (prints_units airs made this none, eqb-true (chosen_of made) 0 is)
+closed_if false airs made this is none = refl
+
+-- a close of the chosen source prints the units of its sinks
+pub plain_close : (airs : Airs) (made : List Step) (step : Step) → has_relay made ≡ false
+    → close_lines airs made step ≡ unit_lines (closing airs (chosen_of made) made)
+plain_close airs made step none = closed_if (chosen_of made == 0) airs made step refl none
+
+flat_both : (one other : List SinkUnit) → unit_lines (one ++ other) ≡ unit_lines one ++ unit_lines other
+flat_both one other = flat_map-append (λ (unit : SinkUnit). handed_line unit.sink unit.unit) one other
+
+-- and `end` those of both sources, and the sums
+pub plain_end : (airs : Airs) (starts : List Account) (made : List Step) → has_relay made ≡ false → output_of airs starts made steps.End
+    ≡ unit_lines (closing_both airs made) ++ sums_of starts (handed_up airs made ++ closing_both airs made) made
+plain_end airs starts made none = search (prints_units, append_assoc, flat_both)

@@ -1,0 +1,80 @@
+-- What the lines say of which none was refused: a `relay` line is of a stream that had neither a relay nor a unit, and no `unit`
+-- line of source 1 names a stream that has had a relay.
+use Rattle.std.proofs.Common.{ℕ, ◌≡◌, ◌==◌, ◌&&◌, ◌∙◌, not, Bool, true, false, List, Option, None, Some, is_some, sym, arith}
+use Rattle.std.proofs.Common.{ap, inl, inr}
+use Rattle.std.specs.List.{list_any}
+use Rattle.std.proofs.lemmas.Bool.{and_cases, and_left, and_right, eqb-true, false_from_ne_true, false≢true, or_parts, not-false}
+use Rattle.std.proofs.lemmas.Option.{none-some}
+use Rattle.scenario_text.specs.declared.step.Step.{Step}
+use Rattle.scenario_text.specs.declared.step.Step.TheVariants as steps
+use Rattle.transcript_text.specs.declared.refusal.Refusal.{Refusal}
+use Rattle.transcript_text.specs.declared.refusal.Refusal.TheVariants as refusals
+use Rattle.scenario_history.proofs.Citable.{fails_not, neither, permitted}
+use Rattle.scenario_history.specs.Boxes.{box_of}
+use Rattle.scenario_history.specs.Refusals.{gives_on, is_relay_beyond, is_relay_taken, is_relayed, line_refusal, may_relay, no_sink}
+use Rattle.scenario_history.specs.Refusals.{refusal_of, relay_refusal, relayed_or}
+use Rattle.sink_history.specs.Refusals.{refuse_if}
+use Rattle.scenario_history.specs.Relays.{had_relay, relay_of}
+use Rattle.source_machine.specs.Airs.{Airs}
+use Rattle.scenario_history.specs.Steps.{steps_of_source}
+use Rattle.scenario_laws.proofs.RelayedUnits.Passing.{gives_to}
+
+-- ---- the step of a line
+
+pub relayed_of : (reason : Refusal) → relayed_or true (Some reason) ≡ None → ⊥
+relayed_of reason none = grind (arith, none-some)
+
+unrelayed : (test : Bool) (refusal : Option Refusal) → relayed_or test refusal ≡ None → test ≡ false
+unrelayed test refusal none = grind (arith, none-some, relayed_of)
+
+pub passes_both : (test : Bool) (refusal : Option Refusal) → relayed_or test refusal ≡ None → refusal ≡ None
+passes_both test refusal none = grind (arith, false≢true, unrelayed)
+
+-- a line that isn't refused is a step that isn't
+pub line_passes : (airs : Airs) (boxes : ℕ) (made : List Step) (step : Step) → line_refusal airs boxes made step ≡ None
+    → refusal_of airs boxes made step ≡ None
+line_passes airs boxes made step none = passes_both (is_relayed made step) (refusal_of airs boxes made step) none
+
+-- ---- a `relay` line
+
+-- the sources of a `relay` line allow it and have its streams, its sink lives and had no relay, and its stream of source 1 had neither
+-- a relay nor a unit
+pub record IsFree (made : List Step) (sink bis to : ℕ) : Type 0 where
+  pub may : may_relay made ≡ true
+  pub streams : is_relay_beyond made bis to ≡ false
+  pub living : is_some (box_of sink made) ≡ true
+  pub relay : is_some (relay_of sink made) ≡ false
+  pub had : had_relay to made ≡ false
+  pub given : list_any (gives_on to) (steps_of_source 1 made) ≡ false
+
+free_by : (made : List Step) (sink bis to : ℕ) → relay_refusal made sink bis to ≡ None → IsFree made sink bis to
+free_by made sink bis to none =
+    let order = neither (refuse_if (not (may_relay made)) refusals.Order) _ none in
+    let sinks = neither (no_sink sink made) _ order.1 in
+    let streams = neither (refuse_if (is_relay_beyond made bis to) refusals.NoSuchBis) _ sinks.1 in
+    let parts = or_parts (is_some (relay_of sink made)) _ (fails_not (is_relay_taken made sink to) refusals.RelayTaken streams.1) in
+    let others = or_parts (had_relay to made) (list_any (gives_on to) (steps_of_source 1 made)) parts.1 in
+    assumption (
+      not-false (may_relay made) (fails_not (not (may_relay made)) refusals.Order order.0),
+      fails_not (is_relay_beyond made bis to) refusals.NoSuchBis streams.0,
+      not-false (is_some (box_of sink made)) (fails_not (not (is_some (box_of sink made))) refusals.NoSuchSink sinks.0),
+    )
+
+pub is_free : (airs : Airs) (boxes : ℕ) (made : List Step) (sink bis to : ℕ) → refusal_of airs boxes made (steps.Relay sink bis to) ≡ None
+    → IsFree made sink bis to
+is_free airs boxes made sink bis to none = free_by made sink bis to (permitted airs boxes made (steps.Relay sink bis to) none).by_twin
+
+-- ---- a `unit` line
+
+-- the stream that it names is none that had a relay
+not_this : (chosen : Bool) (stream bis : ℕ) (made : List Step) → (chosen && had_relay stream made) ≡ false → had_relay bis made ≡ true
+    → (chosen && (stream == bis)) ≡ false
+not_this chosen stream bis made not had = elim (and_cases chosen (had_relay stream made) not) [
+  | inl other ↦ and_left chosen (stream == bis) other
+  | inr none ↦ and_right chosen (stream == bis)
+      (false_from_ne_true (stream == bis) (λ its. false≢true (sym none ∙ ap (λ b. had_relay b made) (eqb-true stream bis its) ∙ had)))
+]
+
+pub gives_none : (airs : Airs) (boxes bis : ℕ) (made : List Step) (step : Step) → line_refusal airs boxes made step ≡ None
+    → had_relay bis made ≡ true → gives_to bis made step ≡ false
+gives_none airs boxes bis made this none had = grind (arith, not_this, unrelayed, and_right)

@@ -1,0 +1,158 @@
+-- Relays looked back for: whatever is offered is offered by a relay that stands, to a stream that has had a relay.
+use Rattle.std.proofs.Common.{ℕ, ◌≡◌, ◌==◌, ◌||◌, ◌∙◌, cond, Bool, true, false, List, [], ◌∷◌, ◌++◌, map, Option, None, arith}
+use Rattle.std.proofs.Common.{Some, refl, sym, ap}
+use Rattle.std.specs.Prelude.{unwrap_or}
+use Rattle.std.specs.List.{All, filter, flat_map}
+use Rattle.std.specs.Option.{option_or}
+use Rattle.std.proofs.lemmas.Bool.{and_right, eq-eqb, eqb-true, false_from_ne_true, false≢true, or_left, or_parts, or_right}
+use Rattle.std.proofs.lemmas.List.Elements.{All-append, All-cons, All-head, All-nil, All-tail, filter-append}
+use Rattle.std.proofs.lemmas.Option.{none-some, same_Some}
+use Rattle.bcast_base.specs.declared.unit.Unit.{Unit as AudioUnit}
+use Rattle.scenario_text.specs.declared.step.Step.{Step}
+use Rattle.scenario_text.specs.declared.step.Step.TheVariants as steps
+use Rattle.unit_outlets.specs.Handed.{Handed}
+use Rattle.source_machine.specs.Airs.{Airs}
+use Rattle.scenario_history.specs.Steps.{chosen_of, last_given}
+use Rattle.scenario_history.specs.RelayedUnits.{Answered, Offer, after_offer, after_offers, all_answered, answered, answered_by, closes_first}
+use Rattle.scenario_history.specs.RelayedUnits.{dropped_for, happened, offered_of, offered_to, offers_at, offers_before, units_on}
+use Rattle.scenario_history.specs.RelayedUnits.{with_relayed_units}
+use Rattle.scenario_laws.specs.RelayedUnits.Laws.{NoneRelayed}
+use Rattle.scenario_history.specs.Refusals.{is_relayed}
+use Rattle.scenario_history.specs.Relays.{Route, had_relay, has_relay, makes_relay, relay_given, relay_of, relays_to}
+use Rattle.scenario_laws.proofs.RelayedUnits.Left.{left_by_relayed_units}
+
+-- ---- a relay that stands
+
+made_had : (hit : Bool) (made route : Route) (later : Option (Option Route)) (had : Bool) → (unwrap_or later None ≡ Some route → had ≡ true)
+    → unwrap_or (option_or (cond hit (Some (Some made)) None) later) None ≡ Some route → ((made.to == route.to) || had) ≡ true
+made_had hit made route later had before is = grind (arith, or_left, eq-eqb, same_Some, or_right)
+
+dropped_had : (hit : Bool) (route : Route) (later : Option (Option Route)) (had : Bool) → (unwrap_or later None ≡ Some route → had ≡ true)
+    → unwrap_or (option_or (cond hit (Some None) None) later) None ≡ Some route → had ≡ true
+dropped_had hit route later had before is = grind (arith, none-some)
+
+-- the stream that a relay goes to has had one
+pub route_had : (n : ℕ) (made : List Step) (route : Route) → relay_of n made ≡ Some route → had_relay route.to made ≡ true
+route_had n [] route is = absurd (none-some route is)
+route_had n (steps.Relay sink bis to ∷ earlier) route is =
+    made_had (sink == n) (record { bis = bis; to = to }) route (last_given (relay_given n) earlier) (had_relay route.to earlier)
+    (route_had n earlier route) is
+route_had n (steps.Drop sink ∷ earlier) route is = search (dropped_had, route_had n earlier route)
+route_had n (this ∷ earlier) route is = route_had n earlier route is
+
+-- ---- what is offered
+
+flat_all : {A B : Type 0} (P : B → Type 0) (f : A → List B) (xs : List A) → ((x : A) → All P (f x)) → All P (flat_map f xs)
+flat_all P f [] each = All-nil P
+flat_all P f (x ∷ xs) each = All-append P (f x) (flat_map f xs) (each x) (flat_all P f xs each)
+
+-- the relay of the sink stands as the unit is offered
+abbrev pub Stands : List Step → Offer → Type 0
+Stands made offer = relay_of offer.sink made ≡ Some offer.route
+
+of_route : (made : List Step) (n : ℕ) (route : Route) (units : List AudioUnit) → relay_of n made ≡ Some route
+    → All (Stands made) (map (λ unit. record { sink = n; route = route; unit = unit }) units)
+of_route made n route [] is = All-nil (Stands made)
+of_route made n route (unit ∷ units) is =
+    All-cons (Stands made) (record { sink = n; route = route; unit = unit })
+    (map (λ u. record { sink = n; route = route; unit = u }) units) is (of_route made n route units is)
+
+of_relay : (made : List Step) (n : ℕ) (relay : Option Route) (units : List Handed) → relay_of n made ≡ relay
+    → All (Stands made) (offered_of n relay units)
+of_relay made n None units is = All-nil (Stands made)
+of_relay made n (Some route) units is = of_route made n route (units_on route.bis units) is
+
+pub offers_stand : (airs : Airs) (made : List Step) → All (Stands made) (offers_at airs made)
+offers_stand airs made = search (flat_all, of_relay)
+
+stand_if : (closes : Bool) (made : List Step) (offers : List Offer) → All (Stands made) offers → All (Stands made) (cond closes offers [])
+stand_if true made offers all = all
+stand_if false made offers all = All-nil (Stands made)
+
+before_stand : (airs : Airs) (made : List Step) (step : Step) → All (Stands made) (offers_before airs made step)
+before_stand airs made step = stand_if (closes_first made step) made (offers_at airs made) (offers_stand airs made)
+
+answers_of : (airs : Airs) (P : Offer → Type 0) (offers : List Offer) (made : List Step) → All P offers
+    → All (λ (answer : Answered). P answer.offer) (answered airs offers made)
+answers_of airs P [] made all = All-nil (λ (answer : Answered). P answer.offer)
+answers_of airs P (offer ∷ offers) made all =
+    All-cons (λ (answer : Answered). P answer.offer) (record { offer = offer; reason = dropped_for airs offer made })
+    (answered airs offers (after_offer airs offer made)) (All-head P offer offers all)
+    (answers_of airs P offers (after_offer airs offer made) (All-tail P offer offers all))
+
+pub answers_stand : (airs : Airs) (made : List Step) (step : Step)
+    → All (λ (answer : Answered). Stands made answer.offer) (answered_by airs made step)
+answers_stand airs made step = answers_of airs (Stands made) (offers_before airs made step) made (before_stand airs made step)
+
+-- ---- a stream that has had no relay
+
+filter_none : {A : Type 0} (test : A → Bool) (xs : List A) → All (λ x. test x ≡ false) xs → filter test xs ≡ []
+filter_none test [] none = refl
+filter_none test (x ∷ xs) none =
+    rw (All-head (λ x. test x ≡ false) x xs none) (filter_none test xs (All-tail (λ x. test x ≡ false) x xs none))
+
+-- nothing is offered to it
+pub none_now : (airs : Airs) (to : ℕ) (made : List Step) (step : Step) → had_relay to made ≡ false
+    → offered_to to (answered_by airs made step) ≡ []
+none_now airs to made step none =
+    filter_none (λ (answer : Answered). answer.offer.route.to == to) (answered_by airs made step)
+    (λ k d within. false_from_ne_true _ (λ its.
+    let had = route_had _ made _ (answers_stand airs made step k d within) in
+    false≢true (sym none ∙ ap (λ bis. had_relay bis made) (sym (eqb-true _ to its)) ∙ had)))
+
+-- relayed units make no relay
+pub had_happened : (airs : Airs) (to : ℕ) (said : List Step) → had_relay to (happened airs said) ≡ had_relay to said
+had_happened airs to [] = refl
+had_happened airs to (step ∷ earlier) = cc ((left_by_relayed_units airs (happened airs earlier) step).had to, had_happened airs to earlier)
+
+pub none_offered : (airs : Airs) (to : ℕ) (said : List Step) → had_relay to said ≡ false → offered_to to (all_answered airs said) ≡ []
+none_offered airs to [] none = refl
+none_offered airs to (step ∷ earlier) none =
+    let parts = or_parts (relays_to to step) (had_relay to earlier) none in
+    let made = happened airs earlier in
+    filter-append (λ (answer : Answered). answer.offer.route.to == to) (all_answered airs earlier) (answered_by airs made step)
+    ∙ ap (λ l. l ++ offered_to to (answered_by airs made step)) (none_offered airs to earlier parts.1)
+    ∙ none_now airs to made step (had_happened airs to earlier ∙ parts.1)
+
+-- ---- a scenario without relays
+
+flat_none : {A B : Type 0} (f : A → List B) (xs : List A) → ((x : A) → f x ≡ []) → flat_map f xs ≡ []
+flat_none f [] each = refl
+flat_none f (x ∷ xs) each = ap (λ l. l ++ flat_map f xs) (each x) ∙ flat_none f xs each
+
+dropped_none : (hit : Bool) (later : Option (Option Route)) → unwrap_or later None ≡ None
+    → unwrap_or (option_or (cond hit (Some None) None) later) None ≡ None
+dropped_none true later none = refl
+dropped_none false later none = none
+
+no_route : (n : ℕ) (made : List Step) → has_relay made ≡ false → relay_of n made ≡ None
+no_route n [] none = refl
+no_route n (steps.Relay sink bis to ∷ earlier) none = absurd (false≢true (sym none))
+no_route n (steps.Drop sink ∷ earlier) none = dropped_none (sink == n) (last_given (relay_given n) earlier) (no_route n earlier none)
+no_route n (this ∷ earlier) none = no_route n earlier none
+
+pub no_offers : (airs : Airs) (made : List Step) → has_relay made ≡ false → offers_at airs made ≡ []
+no_offers airs made none = search (flat_none, no_route)
+
+no_relayed_units : (closes : Bool) (airs : Airs) (made : List Step) → has_relay made ≡ false
+    → after_offers airs (cond closes (offers_at airs made) []) made ≡ made
+no_relayed_units closes airs made none = grind (arith, no_offers)
+
+pub nothing_else : (airs : Airs) (said : List Step) → has_relay said ≡ false → happened airs said ≡ said
+nothing_else airs [] none = refl
+nothing_else airs (step ∷ earlier) none =
+    let before = (or_parts (makes_relay step) (has_relay earlier) none).1 in
+    ap (λ made. step ∷ with_relayed_units airs made step) (nothing_else airs earlier before)
+    ∙ ap (λ made. step ∷ made) (no_relayed_units (closes_first earlier step) airs earlier before)
+
+none_had : (bis : ℕ) (made : List Step) → has_relay made ≡ false → had_relay bis made ≡ false
+none_had bis [] none = refl
+none_had bis (steps.Relay sink from to ∷ earlier) none = absurd (false≢true (sym none))
+none_had bis (this ∷ earlier) none = none_had bis earlier none
+
+not_relayed : (made : List Step) (step : Step) → has_relay made ≡ false → is_relayed made step ≡ false
+not_relayed made (steps.Unit bis time octets) none = and_right (chosen_of made == 1) (had_relay bis made) (none_had bis made none)
+not_relayed made this none = refl
+
+pub none_relayed : (boxes : ℕ) → NoneRelayed boxes
+none_relayed boxes airs made step none = cc (not_relayed made step none)

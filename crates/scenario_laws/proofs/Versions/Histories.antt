@@ -1,0 +1,122 @@
+-- The history of a sink whose groups may have a greater horizon: what it has, what its links bring and what it prints are the
+-- same, where no train was answered `BadGroup 11` (Basic Audio Profile 1.0, section 6.5; Broadcast Audio Scan Service 1.0,
+-- section 3). Lists of steps and of calls have the newest first.
+use Rattle.std.proofs.Common.{ℕ, zero, suc, ◌≡◌, ◌≤◌, List, [], ◌∷◌, length, Option, None, Some, refl, ◌∙◌, ap, arith}
+use Rattle.std.specs.Prelude.{option_map, slice_get}
+use Rattle.delegator_history.specs.Snapshots.{Snapshot}
+use Rattle.delegator_history.specs.States.{Answered, Step, answered, done_by, snapshot_in, snapshot_of, train_heard, written}
+use Rattle.delegator_history.specs.Steps.{Done}
+use Rattle.delegator_history.specs.Trains.{Setup, outcome_by}
+use Rattle.sink_history.specs.Calls as links
+use Rattle.sink_history.specs.Calls.{Call, step_by, steps_of, with_step, writes_waiting}
+use Rattle.sink_history.specs.Drains.{drained, repeated, notified_and_read, notified_out}
+use Rattle.sink_history.specs.Links.{Acts, acts_by, acts_of, notices_waiting, reads_waiting}
+use Rattle.assistant_machine.specs.Links.{waiting_of}
+use Rattle.scenario_laws.proofs.Versions.Trains.{BringsNear, brought_same, with_horizon}
+
+-- ---- what it has
+
+-- the step is no train that was answered `BadGroup 11`
+abbrev pub IsQuiet : Setup → List Step → Step → Type 0
+IsQuiet setup earlier (train_heard train) = BringsNear (outcome_by setup (snapshot_of setup earlier) train)
+IsQuiet setup earlier _ = Unit {0}
+
+abbrev pub AreQuiet : Setup → List Step → Type 0
+AreQuiet setup [] = Unit {0}
+AreQuiet setup (step ∷ earlier) = AreQuiet setup earlier × IsQuiet setup earlier step
+
+done_same : (wider : ℕ) (setup : Setup) (earlier : List Step) (step : Step) → setup.horizon ≤ wider → IsQuiet setup earlier step
+    → done_by (with_horizon wider setup) (snapshot_of setup earlier) step ≡ done_by setup (snapshot_of setup earlier) step
+done_same wider setup earlier step within quiet = grind (arith, brought_same)
+
+answer_with : Snapshot → Done → List Answered → List Answered
+answer_with before done earlier = record { before = before; done = done } ∷ earlier
+
+answered_same : (wider : ℕ) (setup : Setup) (steps : List Step) → setup.horizon ≤ wider → AreQuiet setup steps
+    → answered (with_horizon wider setup) steps ≡ answered setup steps
+unfolding answered answer_with
+answered_same wider setup [] within quiet = refl
+answered_same wider setup (step ∷ earlier) within quiet =
+    cc (answered_same wider setup earlier within quiet.0, done_same wider setup earlier step within quiet.1)
+
+pub snapshot_same : (wider : ℕ) (setup : Setup) (steps : List Step) → setup.horizon ≤ wider → AreQuiet setup steps
+    → snapshot_of (with_horizon wider setup) steps ≡ snapshot_of setup steps
+snapshot_same wider setup steps within quiet = ap (snapshot_in setup.slots) (answered_same wider setup steps within quiet)
+
+-- ---- what its links bring
+
+abbrev pub AreQuietCalls : Setup → List Call → Type 0
+AreQuietCalls setup calls = AreQuiet setup (steps_of calls)
+
+quiet_before : (setup : Setup) (step : Option Step) (steps : List Step) → AreQuiet setup (with_step step steps) → AreQuiet setup steps
+quiet_before setup None steps quiet = quiet
+quiet_before setup (Some step) steps quiet = quiet.0
+
+by_same : (wider : ℕ) (setup : Setup) (mtu : Option ℕ) (link : ℕ) (call : Call) (before now : List Step) (acts : Acts)
+    → snapshot_of (with_horizon wider setup) before ≡ snapshot_of setup before → snapshot_of (with_horizon wider setup) now ≡ snapshot_of setup now
+    → acts_by (with_horizon wider setup) mtu link call before now acts ≡ acts_by setup mtu link call before now acts
+by_same wider setup mtu link call before now acts same same_now = grind (arith, same_now, same)
+
+pub acts_same : (wider : ℕ) (setup : Setup) (mtu : Option ℕ) (link : ℕ) (calls : List Call) → setup.horizon ≤ wider → AreQuietCalls setup calls
+    → acts_of (with_horizon wider setup) mtu link calls ≡ acts_of setup mtu link calls
+acts_same wider setup mtu link [] within quiet = refl
+acts_same wider setup mtu link (call ∷ earlier) within quiet =
+    let quiet_earlier : AreQuietCalls setup earlier = quiet_before setup (step_by call earlier) (steps_of earlier) quiet in
+    ap (acts_by (with_horizon wider setup) mtu link call (steps_of earlier) (steps_of (call ∷ earlier)))
+    (acts_same wider setup mtu link earlier within quiet_earlier)
+    ∙ by_same wider setup mtu link call (steps_of earlier) (steps_of (call ∷ earlier)) (acts_of setup mtu link earlier)
+    (snapshot_same wider setup (steps_of earlier) within quiet_earlier) (snapshot_same wider setup (steps_of (call ∷ earlier)) within quiet)
+
+pub notices_same : (wider : ℕ) (setup : Setup) (mtu : Option ℕ) (link : ℕ) (calls : List Call) → setup.horizon ≤ wider
+    → AreQuietCalls setup calls → notices_waiting (with_horizon wider setup) mtu link calls ≡ notices_waiting setup mtu link calls
+notices_same wider setup mtu link calls within quiet = ap waiting_of (acts_same wider setup mtu link calls within quiet)
+
+pub reads_same : (wider : ℕ) (setup : Setup) (mtu : Option ℕ) (link : ℕ) (calls : List Call) → setup.horizon ≤ wider → AreQuietCalls setup calls
+    → reads_waiting (with_horizon wider setup) mtu link calls ≡ reads_waiting setup mtu link calls
+reads_same wider setup mtu link calls within quiet = cc (acts_same wider setup mtu link calls within quiet)
+
+-- ---- drains
+
+quiet_written : (setup : Setup) (octets : Option (List ℕ)) (steps : List Step) → AreQuiet setup steps
+    → AreQuiet setup (with_step (option_map written octets) steps)
+quiet_written setup None steps quiet = quiet
+quiet_written setup (Some octets) steps quiet = (quiet, tt)
+
+pub quiet_served : (setup : Setup) (link : ℕ) (calls : List Call) → AreQuietCalls setup calls
+    → AreQuietCalls setup (links.served link ∷ calls)
+quiet_served setup link calls quiet = quiet_written setup (slice_get (writes_waiting link calls) 0) (steps_of calls) quiet
+
+pub quiet_serves : (setup : Setup) (link count : ℕ) (calls : List Call) → AreQuietCalls setup calls
+    → AreQuietCalls setup (repeated count (links.served link) calls)
+quiet_serves setup link zero calls quiet = quiet
+quiet_serves setup link (suc count) calls quiet = search (quiet_served, quiet_serves setup link count calls quiet)
+
+pub quiet_tells : (setup : Setup) (link count : ℕ) (calls : List Call) → AreQuietCalls setup calls
+    → AreQuietCalls setup (repeated count (links.notified link) calls)
+quiet_tells setup link zero calls quiet = quiet
+quiet_tells setup link (suc count) calls quiet = quiet_tells setup link count calls quiet
+
+pub quiet_reads : (setup : Setup) (link count : ℕ) (calls : List Call) → AreQuietCalls setup calls
+    → AreQuietCalls setup (repeated count (links.read link) calls)
+quiet_reads setup link zero calls quiet = quiet
+quiet_reads setup link (suc count) calls quiet = quiet_reads setup link count calls quiet
+
+pub quiet_drained : (setup : Setup) (mtu : Option ℕ) (link : ℕ) (calls : List Call) → AreQuietCalls setup calls
+    → AreQuietCalls setup (drained setup mtu link calls)
+quiet_drained setup mtu link calls quiet = search (quiet_reads, quiet_tells, quiet_serves)
+
+pub told_same : (wider : ℕ) (setup : Setup) (mtu : Option ℕ) (link : ℕ) (calls : List Call) → setup.horizon ≤ wider → AreQuietCalls setup calls
+    → notified_out (with_horizon wider setup) mtu link calls ≡ notified_out setup mtu link calls
+told_same wider setup mtu link calls within quiet = cc (notices_same wider setup mtu link calls within quiet)
+
+told_and_read_same : (wider : ℕ) (setup : Setup) (mtu : Option ℕ) (link : ℕ) (calls : List Call) → setup.horizon ≤ wider
+    → AreQuietCalls setup calls → notified_and_read (with_horizon wider setup) mtu link calls ≡ notified_and_read setup mtu link calls
+told_and_read_same wider setup mtu link calls within quiet =
+    let notified : List Call = notified_out setup mtu link calls in
+    ap (λ all. repeated (length (reads_waiting (with_horizon wider setup) mtu link all)) (links.read link) all)
+    (told_same wider setup mtu link calls within quiet) ∙ ap (λ (reads : List ℕ). repeated (length reads) (links.read link) notified)
+    (reads_same wider setup mtu link notified within (quiet_tells setup link (length (notices_waiting setup mtu link calls)) calls quiet))
+
+pub drained_same : (wider : ℕ) (setup : Setup) (mtu : Option ℕ) (link : ℕ) (calls : List Call) → setup.horizon ≤ wider
+    → AreQuietCalls setup calls → drained (with_horizon wider setup) mtu link calls ≡ drained setup mtu link calls
+drained_same wider setup mtu link calls within quiet = search (told_and_read_same, quiet_serves)

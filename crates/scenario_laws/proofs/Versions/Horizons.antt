@@ -1,0 +1,203 @@
+-- A train that a source announces isn't answered `BadGroup 11`: its group passed the group check of the version that its sinks
+-- are of too (Basic Audio Profile 1.0, section 6.5; Core 5.2, volume 6 part B, section 4.4.6). Lists of steps have the newest
+-- first; where a list is called `own` its steps are those of one source.
+use Rattle.std.proofs.Common.{ℕ, ◌≡◌, ◌≤◌, ◌-◌, ◌*◌, ◌/◌, ◌==◌, not, cond, Bool, true, false, List, [], ◌∷◌, Option, None, Some, Ok, refl}
+use Rattle.std.proofs.Common.{sym, ◌∙◌, ap, ap₂, subst}
+use Rattle.std.specs.Prelude.{unwrap_or}
+use Rattle.std.proofs.lemmas.Bool.{eqb-true, false≢true, ltb-false, not-false}
+use Rattle.std.proofs.lemmas.Option.{same_Some}
+use Rattle.delegator_history.specs.Octets.{MayAnnounce, train_of}
+use Rattle.big_info.proofs.Citable.{info_read}
+use Rattle.announcement_train.specs.declared.train.Train.{Train}
+use Rattle.announcement_train.specs.Layout.{IsTrain}
+use Rattle.announcement_train.specs.Told.{Tells, TellsInfo, numbers_of}
+use Rattle.base_grammar.specs.Layout.{Endpoint}
+use Rattle.big_info.specs.declared.fault.GroupFault.TheVariants.{Horizon}
+use Rattle.big_info.specs.declared.info.BigInfo.{BigInfo}
+use Rattle.big_info.specs.Reading.{info_of}
+use Rattle.big_info.specs.Rows.{NoFault, first_fault}
+use Rattle.big_info.specs.Schedule.{horizon_of as group_horizon}
+use Rattle.delegator_history.specs.Trains.{Settings, Setup, Train as Heard, big_info_in, found_in}
+use Rattle.ltv_codec.specs.Values.{first_of}
+use Rattle.source_machine.specs.Ciphers.{without_cipher}
+use Rattle.source_machine.specs.Calls.{next_anchor_of, next_of}
+use Rattle.scenario_text.specs.declared.step.Step.{Step}
+use Rattle.scenario_text.specs.declared.step.Step.TheVariants as steps
+use Rattle.transcript_text.specs.declared.refusal.Refusal.TheVariants.{BaseTooLong}
+use Rattle.sink_history.specs.History.{made_of, own_train, horizon_in}
+use Rattle.scenario_history.specs.Bases.{base_of, is_base_too_long}
+use Rattle.scenario_history.specs.Refusals.{group_refusal, refusal_of, source_refusal}
+use Rattle.sink_history.specs.Refusals.{refuse_if}
+use Rattle.scenario_history.specs.Source.{checked_info, cipher_of, group_of, identity_of, is_sending, is_started, no_group, setup_of}
+use Rattle.source_machine.specs.Airs.{Airs}
+use Rattle.scenario_history.specs.Source.{source_calls}
+use Rattle.scenario_history.specs.Steps.{chosen_of, chosen_steps, is_of_source, is_unbegun_at, stage_of, steps_of_source, version_of}
+use Rattle.scenario_history.specs.Worlds.{announced_of, calls_made, source_at}
+use Rattle.sink_history.specs.Output.{snapshot_in}
+use Rattle.scenario_laws.proofs.Citable.{Lawful, Legal, Permitted, bounds_in, lawful, may_announce, may_be_sent, neither, permitted, sends}
+use Rattle.scenario_laws.proofs.Citable.{settled}
+use Rattle.scenario_laws.proofs.Versions.Groups.{within_near}
+use Rattle.scenario_laws.proofs.Versions.Lived.{IsCalm}
+use Rattle.scenario_laws.proofs.Versions.Seconds.{sink_horizon}
+use Rattle.scenario_laws.proofs.Versions.Trains.{ReadsNear, outcome_near}
+
+-- ---- `scenario` comes first
+
+unbegun_empty : (airs : Airs) (boxes : ℕ) (made : List Step) → Legal airs boxes made → is_unbegun_at (stage_of made) ≡ true → made ≡ []
+unbegun_empty airs boxes [] legal unbegun = refl
+unbegun_empty airs boxes (steps.Scenario version ∷ earlier) legal unbegun = absurd (false≢true unbegun)
+unbegun_empty airs boxes (steps.End ∷ earlier) legal unbegun = absurd (false≢true unbegun)
+unbegun_empty airs boxes (this ∷ earlier) legal unbegun = absurd (false≢true (sym (permitted airs boxes earlier this legal.1).in_place
+    ∙ unbegun))
+
+first_alone : (airs : Airs) (boxes version : ℕ) (earlier : List Step) → Legal airs boxes (steps.Scenario version ∷ earlier) → earlier ≡ []
+first_alone airs boxes version earlier legal =
+    unbegun_empty airs boxes earlier legal.0
+    (not-false (is_unbegun_at (stage_of earlier)) (permitted airs boxes earlier (steps.Scenario version) legal.1).in_place)
+
+-- ---- the greatest horizon of a group for a sink
+
+-- a sink that lives has this horizon
+abbrev HasHorizon : Option Settings → ℕ → Type 0
+HasHorizon None horizon = Unit {0}
+HasHorizon (Some made) horizon = made.setup.horizon ≡ horizon
+
+horizon_if : (b : Bool) (one made : Option Settings) (horizon : ℕ) → HasHorizon one horizon → HasHorizon made horizon
+    → HasHorizon (cond b one made) horizon
+horizon_if true one made horizon is has = is
+horizon_if false one made horizon is has = has
+
+horizon_made : (airs : Airs) (boxes n : ℕ) (made : List Step) → Legal airs boxes made
+    → HasHorizon (made_of n made) (horizon_in (version_of made))
+horizon_made airs boxes n [] legal = tt
+horizon_made airs boxes n (steps.Scenario version ∷ earlier) legal =
+    subst (λ before. HasHorizon (made_of n before) (horizon_in version)) (sym (first_alone airs boxes version earlier legal)) tt
+horizon_made airs boxes n (steps.Sink sink streams slots mtu ∷ earlier) legal =
+    search (horizon_if, sink_horizon, horizon_made airs boxes n earlier legal.0)
+horizon_made airs boxes n (steps.Drop sink ∷ earlier) legal = search (horizon_if, horizon_made airs boxes n earlier legal.0)
+horizon_made airs boxes n (this ∷ earlier) legal = horizon_made airs boxes n earlier legal.0
+
+-- ---- the horizon of the group of a source
+
+-- the group of the source, where it was started, has at most this horizon
+abbrev IsWithin : List Step → ℕ → Type 0
+IsWithin own horizon = is_started own ≡ true → group_horizon (unwrap_or (group_of own) no_group).info ≤ horizon
+
+within_if : (b : Bool) (own : List Step) (step : Step) (horizon : ℕ) → (b ≡ true → IsWithin (step ∷ own) horizon) → IsWithin own horizon
+    → IsWithin (cond b (step ∷ own) own) horizon
+within_if true own this horizon here before = here refl
+within_if false own this horizon here before = before
+
+-- the group check found that its horizon is no greater
+started_within : (version first : ℕ) (own : List Step) → source_refusal (λ setup calls. []) version own (steps.Start first) ≡ None
+    → group_horizon (unwrap_or (group_of own) no_group).info ≤ horizon_in version
+started_within version first own none =
+    let sound : NoFault (horizon_in version) (without_cipher (unwrap_or (group_of own) no_group).info) =
+    may_be_sent (horizon_in version) (unwrap_or (group_of own) no_group).info (cipher_of own)
+    (first_fault (horizon_in version) (checked_info own)) refl
+    (neither (group_refusal (first_fault (horizon_in version) (checked_info own))) (refuse_if (is_base_too_long own) BaseTooLong) none).0 in
+    ltb-false (horizon_in version) (group_horizon (unwrap_or (group_of own) no_group).info) (sound Horizon)
+
+starts_in : (airs : Airs) (boxes s first : ℕ) (earlier : List Step) → Permitted airs boxes earlier (steps.Start first)
+    → is_of_source s earlier (steps.Start first) ≡ true
+    → IsWithin (steps.Start first ∷ steps_of_source s earlier) (horizon_in (version_of earlier))
+starts_in airs boxes s first earlier permits is =
+    subst (λ t. IsWithin (steps.Start first ∷ steps_of_source t earlier) (horizon_in (version_of earlier)))
+    (eqb-true (chosen_of earlier) s is) (λ started. started_within (version_of earlier) first (chosen_steps earlier) permits.by_source)
+
+-- where the source was sending before the step
+stops_in : (s : ℕ) (earlier : List Step) → not (is_sending (chosen_steps earlier)) ≡ false → (chosen_of earlier == s) ≡ true
+    → IsWithin (steps_of_source s earlier) (horizon_in (version_of earlier))
+    → group_horizon (unwrap_or (group_of (steps_of_source s earlier)) no_group).info ≤ horizon_in (version_of earlier)
+stops_in s earlier sending is before =
+    before (sends (steps_of_source s earlier) (subst (λ t. not (is_sending (steps_of_source t earlier)) ≡ false)
+    (eqb-true (chosen_of earlier) s is) sending))
+
+group_within : (airs : Airs) (boxes s : ℕ) (made : List Step) → Legal airs boxes made
+    → IsWithin (steps_of_source s made) (horizon_in (version_of made))
+group_within airs boxes s [] legal = λ started. absurd (false≢true started)
+group_within airs boxes s (steps.Scenario version ∷ earlier) legal =
+    subst (λ before. IsWithin (steps.Scenario version ∷ steps_of_source s before) (horizon_in version))
+    (sym (first_alone airs boxes version earlier legal)) (λ started. absurd (false≢true started))
+group_within airs boxes s (steps.Group framing origin delay iso sdu max_sdu max_pdu num_bis bn nse irc pto sub spacing phy ∷ earlier) legal =
+    let this : Step = steps.Group framing origin delay iso sdu max_sdu max_pdu num_bis bn nse irc pto sub spacing phy in
+    within_if (is_of_source s earlier this) (steps_of_source s earlier) this (horizon_in (version_of earlier))
+    (λ is started. absurd (false≢true started)) (group_within airs boxes s earlier legal.0)
+group_within airs boxes s (steps.Start first ∷ earlier) legal =
+    within_if (is_of_source s earlier (steps.Start first)) (steps_of_source s earlier) (steps.Start first) (horizon_in (version_of earlier))
+    (starts_in airs boxes s first earlier (permitted airs boxes earlier (steps.Start first) legal.1))
+    (group_within airs boxes s earlier legal.0)
+group_within airs boxes s (steps.Stop ∷ earlier) legal =
+    let before : IsWithin (steps_of_source s earlier) (horizon_in (version_of earlier)) = group_within airs boxes s earlier legal.0 in
+    within_if (is_of_source s earlier steps.Stop) (steps_of_source s earlier) steps.Stop (horizon_in (version_of earlier))
+    (λ is started. stops_in s earlier (permitted airs boxes earlier steps.Stop legal.1).in_phase is before) before
+group_within airs boxes s (steps.Terminate reason ∷ earlier) legal =
+    let before : IsWithin (steps_of_source s earlier) (horizon_in (version_of earlier)) = group_within airs boxes s earlier legal.0 in
+    within_if (is_of_source s earlier (steps.Terminate reason)) (steps_of_source s earlier) (steps.Terminate reason)
+    (horizon_in (version_of earlier))
+    (λ is started. stops_in s earlier (permitted airs boxes earlier (steps.Terminate reason) legal.1).in_phase is before) before
+group_within airs boxes s (this ∷ earlier) legal = search (within_if, group_within airs boxes s earlier legal.0)
+
+-- ---- what a sink reads of an announced train
+
+-- the laws of announcements
+pub record Announcing : Type 0 where
+  -- a source has a train for each event that it can announce
+  pub is_train : (broadcast_id : List ℕ) (base : Endpoint) (info : BigInfo) (event anchor : ℕ)
+      → MayAnnounce broadcast_id base info event anchor
+      → IsTrain broadcast_id base info event anchor (train_of broadcast_id base info event anchor)
+  -- a train is read as what it tells
+  pub is_read : (train : Train) (broadcast_id : List ℕ) (base : Endpoint) (info : BigInfo) (event anchor : ℕ) → 1 ≤ info.bn
+      → IsTrain broadcast_id base info event anchor train → Tells train broadcast_id base info event anchor
+
+horizon_by : (nse bn pto irc : ℕ) → ℕ
+horizon_by nse bn pto irc = pto * (nse / bn - irc)
+
+-- groups with the same numbers have one horizon
+same_group_horizon : (one other : BigInfo) → numbers_of one ≡ numbers_of other → group_horizon one ≡ group_horizon other
+unfolding horizon_by
+same_group_horizon one other same = search (ap₂, horizon_by)
+
+read_as : (octets found : List ℕ) (info read : BigInfo) → Some found ≡ Some octets → info_of octets ≡ Ok info → info_of found ≡ Ok read
+    → info ≡ read
+read_as octets found info read same is reads = search (same_Some)
+
+reads_near : (setup : Setup) (train : Train) (heard : Heard) (broadcast_id : List ℕ) (base : Endpoint) (info : BigInfo) (event anchor : ℕ)
+    → heard.acad ≡ train.acad → Tells train broadcast_id base info event anchor → group_horizon info ≤ setup.horizon → ReadsNear setup heard
+reads_near setup train heard broadcast_id base info event anchor same tells within octets its found is =
+    let told : TellsInfo train.acad tells.read = tells.info_is in
+    let list : Some told.octets ≡ big_info_in heard.acad =
+    sym (ap big_info_in same ∙ ap (found_in (first_of 0x2C)) told.list ∙ told.found) in
+    let read : its ≡ tells.read = read_as octets told.octets its tells.read (list
+    ∙ found) is (info_read told.octets tells.read told.is.0 told.is.1) in
+    within_near setup.horizon its (subst (λ (group : BigInfo). group_horizon group ≤ setup.horizon) (sym read)
+    (subst (λ reach. reach ≤ setup.horizon) (sym (same_group_horizon tells.read info tells.numbers)) within))
+
+-- ---- an announced train
+
+its_horizon : (made : Option Settings) (sink : Settings) (horizon : ℕ) → HasHorizon made horizon → made ≡ Some sink
+    → sink.setup.horizon ≡ horizon
+its_horizon made sink horizon has is = subst (λ one. HasHorizon one horizon) is has
+
+pub announced_calm : Announcing → (airs : Airs) (boxes n : ℕ) (earlier : List Step) → Legal airs boxes earlier
+    → refusal_of airs boxes earlier (steps.Announce n) ≡ None → IsCalm earlier (steps.Announce n)
+announced_calm laws airs boxes n earlier legal none m made names is =
+    let own : List Step = chosen_steps earlier in
+    let permits : Permitted airs boxes earlier (steps.Announce n) = permitted airs boxes earlier (steps.Announce n) none in
+    let lawful_own : Lawful airs own = lawful airs boxes (chosen_of earlier) earlier legal in
+    let started : is_started own ≡ true = sends own permits.in_phase in
+    let event : ℕ = next_of (setup_of own) (source_calls own) in
+    let anchor : ℕ = next_anchor_of (setup_of own) (source_calls own) in
+    let may : MayAnnounce (identity_of own).broadcast_id (base_of own) (checked_info own) event anchor =
+    may_announce airs own lawful_own permits.in_phase permits.by_source in
+    let tells : Tells (announced_of own) (identity_of own).broadcast_id (base_of own) (checked_info own) event anchor =
+    laws.is_read (announced_of own) (identity_of own).broadcast_id (base_of own) (checked_info own) event anchor
+    (bounds_in own (settled airs own lawful_own) started).bn
+    (laws.is_train (identity_of own).broadcast_id (base_of own) (checked_info own) event anchor may) in
+    let reach : group_horizon (checked_info own) ≤ horizon_in (version_of earlier) =
+    group_within airs boxes (chosen_of earlier) earlier legal started in
+    let horizon : made.setup.horizon ≡ horizon_in (version_of earlier) = its_horizon (made_of m earlier) made
+    (horizon_in (version_of earlier)) (horizon_made airs boxes m earlier legal) is in
+    outcome_near made.setup (snapshot_in made (calls_made m earlier)) (own_train (source_at earlier))
+    (reads_near made.setup (announced_of own) (own_train (source_at earlier)) (identity_of own).broadcast_id (base_of own)
+    (checked_info own) event anchor refl tells (subst (λ most. group_horizon (checked_info own) ≤ most) (sym horizon) reach))

@@ -1,5 +1,0 @@
-use Rattle.scenario_laws.proofs.Gifts.Passing.{passes_at_once}
-use Rattle.scenario_laws.proofs.gift_laws.what_is_not_dropped_is_accepted.Goals as goal
-
-pub returns : goal.returns
-returns c = passes_at_once

@@ -1,4 +1,0 @@
--- What the gifts of relays leave, and what is dropped of them.
-pub mod Dropped
-pub mod Laws
-pub mod Legal

@@ -1,0 +1,24 @@
+use Rattle.std.proofs.Common.{◌∷◌, refl, subst}
+use Rattle.std.proofs.lemmas.Result.{err_from_is_err_and}
+use Rattle.sink_history.specs.Calls.{asked}
+use Rattle.scenario_sink.specs.Making.{stayed}
+use Rattle.scenario_sink.specs.State.Stands.{IsSink}
+use Rattle.scenario_sink.proofs.Histories.{first_joined}
+use Rattle.scenario_sink.proofs.sink.LinkedSink.operate.Goals as goal
+
+pub returns : goal.returns
+returns c history lives = (
+  refl,
+  subst (λ octets. IsSink (stayed (asked 0 octets ∷ history.calls_made) history) c.put_write.new.self) c.in_ok-octets.ensures.encoded
+      (c.in_ok-put_write.ensures history lives (first_joined history c.args.self.now lives)),
+)
+
+pub returns-in_err-octets : goal.returns-in_err-octets
+returns-in_err-octets c history lives =
+    let p = err_from_is_err_and c.from_residual.result c.from_residual.ensures.1 in
+    rw (p.1, p.2) (refl, tt)
+
+pub returns-in_err-put_write : goal.returns-in_err-put_write
+returns-in_err-put_write c history lives =
+    let p = err_from_is_err_and c.from_residual-in_err-put_write.result c.from_residual-in_err-put_write.ensures.1 in
+    rw (p.1, p.2) (refl, tt)

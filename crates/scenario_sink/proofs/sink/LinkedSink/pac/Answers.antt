@@ -1,0 +1,59 @@
+use Rattle.std.proofs.Common.{◌≤◌, ◌∷◌, ◌++◌, [], length, refl, sym, subst}
+use Rattle.bcast_base.specs.Encoding.{IsOctets}
+use Rattle.ltv_codec.proofs.Citable.{are_read}
+use Rattle.delegator_history.specs.Snapshots.{Snapshot}
+use Rattle.delegator_history.specs.States.{record_added, snapshot_of}
+use Rattle.delegator_machine.specs.Calls.{steps_of}
+use Rattle.delegator_machine.specs.State.Halves.{Halves}
+use Rattle.pacs_records.specs.Layout.{greatest_value, value}
+use Rattle.pacs_records.specs.Pushes.{RefusesPush}
+use Rattle.pacs_records.specs.declared.fault.PushFault.TheVariants.{Memory, TooLong}
+use Rattle.sink_history.specs.History.{record_of}
+use Rattle.sink_history.specs.Output.{snapshot_in}
+use Rattle.scenario_sink.specs.State.Stands.{Stands}
+use Rattle.scenario_sink.proofs.Recorded.{has_room, no_room}
+use Rattle.scenario_sink.proofs.Stands.{sets}
+use Rattle.scenario_sink.proofs.Untold.{its_snapshot}
+use Rattle.scenario_sink.proofs.sink.LinkedSink.pac.Goals as goal
+
+pub add_pac-requires-clause-caps : goal.add_pac-requires-clause-caps
+add_pac-requires-clause-caps c = λ _. are_read c.args.caps (subst IsOctets c.as_slice.ensures c.are_octets.ensures) c.requires.caps
+
+pub add_pac-requires-clause-metadata : goal.add_pac-requires-clause-metadata
+add_pac-requires-clause-metadata c = are_read c.args.metadata (subst IsOctets c.as_slice-2.ensures c.are_octets-2.ensures) c.requires.metadata
+
+pub returns-in-Ok : goal.returns-in-Ok
+returns-in-Ok c source sink history lives =
+    let took = lives.stands.took in
+    let entry = record_of c.args.codec c.args.caps c.args.metadata in (
+      has_room (length (value ((snapshot_in history.made history.calls_made).capability.entries ++ entry ∷ [])))
+          (subst (λ (s : Snapshot). length (value (s.capability.entries ++ entry ∷ [])) ≤ greatest_value) (its_snapshot history _ _ took)
+          (c.in-Ok.ensures.fits history.made.setup took.taken took.stands)),
+      record {
+        stands = sets c.a_step_notifies_each_link.ensures (record_added entry) history c.args.self.now.delegator _ _ refl tt (λ snapshot i. refl) lives.stands
+            (c.in-Ok.ensures.stands history.made.setup took.taken took.stands) c.add_pac.ensures.settings;
+        source_is = lives.source_is;
+      },
+    )
+
+pub returns-in-Err-TooLong : goal.returns-in-Err-TooLong
+returns-in-Err-TooLong c source sink history lives =
+    let took = lives.stands.took in
+    let entry = record_of c.args.codec c.args.caps c.args.metadata in (
+      no_room (length (value ((snapshot_in history.made history.calls_made).capability.entries ++ entry ∷ [])))
+          (subst (λ (s : Snapshot). RefusesPush TooLong s.capability.entries entry) (its_snapshot history _ _ took)
+          (subst (λ fault. RefusesPush fault (snapshot_of history.made.setup (steps_of took.taken)).capability.entries entry) c.in-Err-TooLong.field-0-is
+          (c.in-Err-TooLong.ensures.refused history.made.setup took.taken took.stands))),
+      record { stands = subst (λ (d : Halves). Stands history d c.args.self.now.links) (sym c.in-Err-TooLong.ensures.err) lives.stands; source_is = lives.source_is },
+    )
+
+pub returns-in-Err-Memory : goal.returns-in-Err-Memory
+returns-in-Err-Memory c source sink history lives =
+    let took = lives.stands.took in
+    let entry = record_of c.args.codec c.args.caps c.args.metadata in (
+      has_room (length (value ((snapshot_in history.made history.calls_made).capability.entries ++ entry ∷ [])))
+          (subst (λ (s : Snapshot). RefusesPush Memory s.capability.entries entry) (its_snapshot history _ _ took)
+          (subst (λ fault. RefusesPush fault (snapshot_of history.made.setup (steps_of took.taken)).capability.entries entry) c.in-Err-Memory.field-0-is
+          (c.in-Err-Memory.ensures.refused history.made.setup took.taken took.stands))),
+      tt,
+    )

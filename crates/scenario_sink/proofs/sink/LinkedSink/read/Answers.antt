@@ -1,0 +1,30 @@
+use Rattle.std.proofs.Common.{◌∷◌, slice_get, refl, sym, ◌∙◌}
+use Rattle.std.specs.Prelude.{is_none}
+use Rattle.std.proofs.lemmas.Result.{err_from_is_err_and}
+use Rattle.sink_history.specs.Calls as calls
+use Rattle.sink_history.specs.Calls.{is_joined}
+use Rattle.sink_history.specs.Links.{reads_waiting}
+use Rattle.sink_history.specs.Output.{read_line}
+use Rattle.transcript_text.specs.Labels.{label_of}
+use Rattle.scenario_sink.proofs.Turning.{idle_refusal, no_link, some_wait, turned}
+use Rattle.scenario_sink.proofs.sink.LinkedSink.read.Goals as goal
+
+pub returns-then-not-is_joined : goal.returns-then-not-is_joined
+returns-then-not-is_joined c history lives = (
+  no_link (is_joined c.args.link history.calls_made) (idle_refusal (is_none (slice_get (reads_waiting history.made.setup history.made.mtu c.args.link history.calls_made) 0)))
+      (sym (lives.stands.each c.args.link).joined_is ∙ sym c.is_joined.ensures ∙ c.if-not-is_joined.true),
+  lives,
+  refl,
+)
+
+pub returns : goal.returns
+returns c history lives =
+    let on = sym (lives.stands.each c.args.link).joined_is ∙ sym c.is_joined.ensures ∙ c.if-not-is_joined.false in
+    turned c.args.link history (calls.read c.args.link ∷ history.calls_made) (slice_get (reads_waiting history.made.setup history.made.mtu c.args.link history.calls_made) 0) (read_line (label_of c.args.label) history.made c.args.link history.calls_made) c.args.text.now
+    c.read_next.new.text c.read_next.new.self c.in_ok-waited.waited c.refuse_unless.result on c.refuse_unless.ensures (c.in_ok-waited.ensures history lives on)
+
+pub returns-in_err-waited : goal.returns-in_err-waited
+returns-in_err-waited c history lives =
+    let on = sym (lives.stands.each c.args.link).joined_is ∙ sym c.is_joined.ensures ∙ c.if-not-is_joined.false in
+    let p = err_from_is_err_and c.from_residual.result c.from_residual.ensures.1 in
+    rw (p.1, p.2) (some_wait (is_joined c.args.link history.calls_made) (is_none (slice_get (reads_waiting history.made.setup history.made.mtu c.args.link history.calls_made) 0)) on (c.in_err-waited.ensures history lives on), tt)

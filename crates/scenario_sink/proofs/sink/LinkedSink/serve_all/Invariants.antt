@@ -1,0 +1,11 @@
+use Rattle.std.proofs.Common.{◌≡◌, true}
+use Rattle.sink_history.specs.Calls.{is_joined}
+use Rattle.transcript_text.specs.Labels.{label_of}
+use Rattle.scenario_sink.specs.SinkHistory.{SinkHistory}
+use Rattle.scenario_sink.specs.State.Stands.{IsSink}
+use Rattle.scenario_sink.proofs.Draining.{Repeats, serving}
+use Rattle.scenario_sink.proofs.sink.LinkedSink.serve_all.Given as goal
+
+abbrev pub invariant-writes : goal.invariant-writes
+invariant-writes l = (history : SinkHistory) → IsSink history l.fn.self → is_joined l.link history.calls_made ≡ true
+    → Repeats history l.link (serving (label_of l.label) history.made l.link) l.counter l.fn.text l.text l.self

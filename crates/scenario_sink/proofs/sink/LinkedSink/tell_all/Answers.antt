@@ -1,0 +1,31 @@
+use Rattle.std.proofs.Common.{arith}
+use Rattle.std.proofs.lemmas.Result.{err_from_is_err_and}
+use Rattle.transcript_text.specs.Labels.{label_of}
+use Rattle.scenario_sink.specs.Making.{stayed}
+use Rattle.scenario_sink.proofs.Draining.{all_done, none_yet, one_again, telling, some_waits}
+use Rattle.scenario_sink.proofs.sink.LinkedSink.tell_all.Goals as goal
+
+pub notices-init : goal.notices-init
+notices-init c history lives on = none_yet history c.args.link (telling (label_of c.args.label) history.made c.args.link) c.args.text.now c.args.self.now lives
+
+pub notices-preserved : goal.notices-preserved
+notices-preserved c history lives on =
+    one_again history c.args.link (telling (label_of c.args.label) history.made c.args.link) c.notices.counter c.args.text.now c.notices.text c.tell_next.new.text c.notices.self c.tell_next.new.self
+    c.in_ok-waited.waited on (c.notices.invariant history lives on) c.if-not-waited.false (λ calls_made. c.in_ok-waited.ensures (stayed calls_made history))
+
+pub returns-then-not-waited-clause-goes : goal.returns-then-not-waited-clause-goes
+returns-then-not-waited-clause-goes c history lives on =
+    all_done history c.args.link (telling (label_of c.args.label) history.made c.args.link) c.notices.counter c.args.text.now c.notices.text c.tell_next.new.text c.notices.self c.tell_next.new.self
+    c.in_ok-waited.waited on (c.notices.invariant history lives on) c.if-not-waited.true (λ calls_made. c.in_ok-waited.ensures (stayed calls_made history))
+
+pub returns-in_err-waited-clause-memory : goal.returns-in_err-waited-clause-memory
+returns-in_err-waited-clause-memory c history lives on =
+    let p = err_from_is_err_and c.from_residual.result c.from_residual.ensures.1 in
+    rw p.1
+    (some_waits history c.args.link (telling (label_of c.args.label) history.made c.args.link) c.notices.counter c.args.text.now c.notices.text c.notices.self on (c.notices.invariant history lives on)
+    (λ calls_made. c.in_err-waited.ensures (stayed calls_made history)))
+
+pub returns-clause-memory : goal.returns-clause-memory
+returns-clause-memory c history lives on =
+    let r = c.notices.invariant history lives on in
+    omega (arith, r.turned, r.within, c.notices-test.false)
