@@ -1,15 +1,8 @@
 -- What is read as an AD list is one, and what is one is read so.
-use Rattle.std.proofs.Common.{◌≡◌, ℕ, List, [], ◌∷◌, ◌++◌, length, take, Result, Ok, Err, refl, sym, ap, ◌∙◌}
+use Rattle.base_grammar.proofs.Prelude.{◌≡◌, ℕ, List, [], ◌∷◌, ◌++◌, length, take, Result, Ok, Err, refl, sym, ap, ◌∙◌, take_at, append-nil, IsOctets, LtvBad, Ltv, IsBad, StandsZero, IsLtvList, AreLtvs, ltvs_of, ltvs_in, list_read, read_list}
 use Rattle.std.specs.Result.{result_unwrap_or}
-use Rattle.std.proofs.lemmas.List.{take_at, append-nil}
-use Rattle.bcast_base.specs.Encoding.{IsOctets}
-use Rattle.ltv_codec.specs.declared.fault.LtvBad.{LtvBad}
 use Rattle.ltv_codec.specs.declared.fault.LtvBad.TheVariants.{ZeroLength, Short}
-use Rattle.ltv_codec.specs.declared.ltvs.Ltv.{Ltv}
-use Rattle.ltv_codec.specs.Faults.{IsBad, StandsZero}
-use Rattle.ltv_codec.specs.Layout.{IsLtvList, AreLtvs}
-use Rattle.ltv_codec.specs.Reading.{ltvs_of, ltvs_in}
-use Rattle.ltv_codec.proofs.Citable.{list_read, read_list, read_bad, bad_read}
+use Rattle.ltv_codec.proofs.Citable.{read_bad, bad_read}
 use Rattle.base_grammar.specs.Ad.{IsEnd, IsAdList, IsAdShort}
 use Rattle.base_grammar.specs.AdReading.{ads_read, ads_of, ads_in}
 

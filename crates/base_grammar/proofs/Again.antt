@@ -1,20 +1,6 @@
 -- What is encoded as a BASE is read.
-use Rattle.std.proofs.Common.{◌≡◌, ℕ, suc, ◌≤◌, Bool, true, false, cond, ltb, List, [], ◌∷◌, ◌++◌, length, map, Some, Result, Ok, Err, refl, sym, ap, subst, ◌∙◌, append_assoc, arith}
-use Rattle.std.specs.Prelude.{IfOk}
-use Rattle.std.specs.List.{flat_map, AllByRecursion}
-use Rattle.std.proofs.lemmas.Bool.{ltb-false, le-ltb}
-use Rattle.std.proofs.lemmas.List.{append-nil}
-use Rattle.std.proofs.lemmas.List.Concat.{flat_map-cons}
-use Rattle.bcast_base.specs.Reading.{octets_in, number_in, place_in}
-use Rattle.bcast_base.specs.Encoding.{IsOctets, counted}
-use Rattle.bcast_base.proofs.Citable.{octets_again, number_again}
-use Rattle.base_grammar.specs.declared.fault.BaseFault.{BaseFault}
-use Rattle.base_grammar.specs.declared.fault.BaseFault.TheVariants.{TooLong}
-use Rattle.base_grammar.specs.declared.subgroup.BaseEntry.{BaseEntry}
-use Rattle.base_grammar.specs.declared.subgroup.Subgroup.{Subgroup}
-use Rattle.base_grammar.specs.Layout.{Endpoint, is_lc3, entry, subgroup, encoding, bis_of, indices, stands_in, AreNew, IsConfig, EntryFits, SubgroupFits, HasEntry, IsBase, BaseIs}
-use Rattle.base_grammar.specs.Reading.{run_at, index_at, entry_at, entries_at, streams_at, subgroup_at, subgroups_at, count_at, fields_of, base_of, told}
-use Rattle.bcast_base.specs.Tries.{Answers}
+use Rattle.base_grammar.proofs.Prelude.{◌≡◌, ℕ, suc, ◌≤◌, Bool, true, false, cond, ltb, List, [], ◌∷◌, ◌++◌, length, map, Some, Result, Ok, Err, refl, sym, ap, subst, ◌∙◌, append_assoc, arith, IfOk, flat_map, AllByRecursion, ltb-false, le-ltb, append-nil, flat_map-cons, octets_in, number_in, place_in, IsOctets, counted, octets_again, number_again, BaseFault, TooLong, BaseEntry, Subgroup, Endpoint, is_lc3, entry, subgroup, encoding, bis_of, indices, stands_in, AreNew, IsConfig, EntryFits, SubgroupFits, HasEntry, IsBase, BaseIs, told, Answers}
+use Rattle.base_grammar.specs.Reading.{run_at, index_at, entry_at, entries_at, streams_at, subgroup_at, subgroups_at, count_at, fields_of, base_of}
 use Rattle.base_grammar.proofs.Steps.{none_run, none_index, none_streams, none_subgroups}
 use Rattle.base_grammar.proofs.Taken.{fields_take}
 

@@ -1,22 +1,10 @@
 -- Looking through a BASE with a set of the indices that were met finds what reading finds.
-use Rattle.std.proofs.Common.{◌≡◌, ◌≢◌, ◌==◌, ℕ, ◌+◌, ◌<◌, ◌≤◌, ◌↔◌, ◌||◌, Bool, true, false, eqb, List, [], ◌∷◌, ◌++◌, length, map}
-use Rattle.std.proofs.Common.{Option, Some, None, Result, Ok, Err, refl, sym, ap, subst, ◌∙◌, append_assoc, arith, inl, inr}
-use Rattle.std.specs.Prelude.{IsTrue}
+use Rattle.base_grammar.proofs.Prelude.{◌≡◌, ◌≢◌, ◌==◌, ℕ, ◌+◌, ◌<◌, ◌≤◌, ◌↔◌, ◌||◌, Bool, true, false, eqb, List, [], ◌∷◌, ◌++◌, length, map, Option, Some, None, Result, Ok, Err, refl, sym, ap, subst, ◌∙◌, append_assoc, arith, inl, inr, IsTrue, cases_lt, lt-ltb, le-ltb, eqb-true, eqb-false, false_from_ne_true, map_push, list_any-append, octet_in, octets_in, place_in, BaseFault, BaseEntry, Subgroup, Endpoint, is_lc3, bis_of, indices, stands_in, index_fault, Finds, field_at, unless, rest_of, told}
 use Rattle.std.specs.Result.{result_err}
-use Rattle.std.proofs.lemmas.Bool.{cases_lt, lt-ltb, le-ltb, eqb-true, eqb-false, false_from_ne_true}
-use Rattle.std.proofs.lemmas.List.{map_push}
-use Rattle.std.proofs.lemmas.List.Folds.{list_any-append}
 use Rattle.bcast_base.specs.Bis.{Has}
-use Rattle.bcast_base.specs.Reading.{octet_in, octets_in, place_in}
-use Rattle.base_grammar.specs.declared.fault.BaseFault.{BaseFault}
 use Rattle.base_grammar.specs.declared.fault.BaseFault.TheVariants as faults
-use Rattle.base_grammar.specs.declared.subgroup.BaseEntry.{BaseEntry}
-use Rattle.base_grammar.specs.declared.subgroup.Subgroup.{Subgroup}
 use Rattle.base_grammar.specs.Checking.{Seen, Passed, Passes, same_bis, entry_bis, entries_bis, subgroup_bis}
-use Rattle.base_grammar.specs.Layout.{Endpoint, is_lc3, bis_of, indices, stands_in}
-use Rattle.base_grammar.specs.Rows.{index_fault}
-use Rattle.bcast_base.specs.Tries.{Finds}
-use Rattle.base_grammar.specs.Reading.{field_at, unless, run_at, index_at, entry_at, entries_at, streams_at, subgroup_at, subgroups_at, rest_of, base_of, told}
+use Rattle.base_grammar.specs.Reading.{run_at, index_at, entry_at, entries_at, streams_at, subgroup_at, subgroups_at, base_of}
 use Rattle.base_grammar.proofs.Firsts.{read_bad}
 use Rattle.base_grammar.proofs.Loops.{Entering, entering_next, entering_err, entering_done, Grouping, grouping_next, grouping_err, grouping_done, indices-push}
 use Rattle.base_grammar.proofs.Steps.{none_index}

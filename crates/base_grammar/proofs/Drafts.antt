@@ -1,20 +1,8 @@
 -- The steps of a draft: its last subgroup, and what the draft keeps.
-use Rattle.std.proofs.Common.{◌≡◌, ℕ, suc, ◌+◌, ◌-◌, ◌≤◌, Bool, true, false, cond, ltb, eqb, List, [], ◌∷◌, ◌++◌, length, get_or, map, Some, None, Result, Ok, Err, refl, sym, ap}
-use Rattle.std.proofs.Common.{◌∙◌, append_assoc, arith}
-use Rattle.std.specs.Prelude.{OnOk, OnErr}
-use Rattle.std.specs.List.{flat_map, AllByRecursion}
-use Rattle.std.specs.Option.{ForSome}
+use Rattle.base_grammar.proofs.Prelude.{◌≡◌, ℕ, suc, ◌+◌, ◌-◌, ◌≤◌, Bool, true, false, cond, ltb, eqb, List, [], ◌∷◌, ◌++◌, length, get_or, map, Some, None, Result, Ok, Err, refl, sym, ap, ◌∙◌, append_assoc, arith, OnOk, OnErr, flat_map, AllByRecursion, ForSome, ltb-false, append-nil, map_push, flat_map-cons, AreLtvs, BaseEntry, Subgroup, last_of, closed, with_last, IsDraft, opened, is_empty_last, subgroup_fault, metadata_fault, entry_fault, size_fault, draft_fault, finish_fault, Refuses, Endpoint, endpoint, is_lc3, subgroup, bis_of, indices, stands_in, AreNew, IsConfig, EntryFits, SubgroupFits, HasEntry, IsBase}
 use Rattle.std.proofs.Math.ListN.{set}
-use Rattle.std.proofs.lemmas.Bool.{ltb-false}
-use Rattle.std.proofs.lemmas.List.{append-nil, map_push}
-use Rattle.std.proofs.lemmas.List.Concat.{flat_map-cons}
-use Rattle.ltv_codec.specs.Layout.{AreLtvs}
 use Rattle.base_grammar.specs.declared.fault.DraftFault.{DraftFault}
 use Rattle.base_grammar.specs.declared.fault.DraftFault.TheVariants as faults
-use Rattle.base_grammar.specs.declared.subgroup.BaseEntry.{BaseEntry}
-use Rattle.base_grammar.specs.declared.subgroup.Subgroup.{Subgroup}
-use Rattle.base_grammar.specs.Draft.{last_of, closed, with_last, IsDraft, opened, is_empty_last, subgroup_fault, metadata_fault, entry_fault, size_fault, draft_fault, finish_fault, Refuses}
-use Rattle.base_grammar.specs.Layout.{Endpoint, endpoint, is_lc3, subgroup, bis_of, indices, stands_in, AreNew, IsConfig, EntryFits, SubgroupFits, HasEntry, IsBase}
 use Rattle.base_grammar.proofs.Loops.{indices-push}
 use Rattle.base_grammar.proofs.Sizes.{length-encoding}
 use Rattle.base_grammar.proofs.Steps.{positive}

@@ -1,24 +1,9 @@
 -- There is one cut, so octets that are refused have one fault, and reading finds it.
-use Rattle.std.proofs.Common.{◌≡◌, ℕ, ◌+◌, ◌<◌, ◌≤◌, Bool, true, false, cond, ltb, List, [], ◌∷◌, ◌++◌, length, take, Option, Some, None, Result, Ok, Err, refl, sym, ap, subst}
-use Rattle.std.proofs.Common.{◌∙◌, append_assoc, arith, add-zero, zero-add}
-use Rattle.std.specs.Prelude.{IfErr, IsOk}
-use Rattle.std.specs.List.{concat}
-use Rattle.std.specs.Option.{option_map}
-use Rattle.std.proofs.lemmas.Bool.{lt-ltb, ltb-true, ltb-false, le-ltb}
-use Rattle.std.proofs.lemmas.List.{length-append, take_at, append_cancel_left}
-use Rattle.std.proofs.lemmas.Option.{same_Some}
-use Rattle.ltv_codec.specs.Reading.{bad_of}
-use Rattle.ltv_codec.specs.declared.fault.LtvBad.{LtvBad}
-use Rattle.base_grammar.specs.declared.fault.BaseFault.{BaseFault}
+use Rattle.base_grammar.proofs.Prelude.{◌≡◌, ℕ, ◌+◌, ◌<◌, ◌≤◌, Bool, true, false, cond, ltb, List, [], ◌∷◌, ◌++◌, length, take, Option, Some, None, Result, Ok, Err, refl, sym, ap, subst, ◌∙◌, append_assoc, arith, add-zero, zero-add, IfErr, IsOk, concat, option_map, lt-ltb, ltb-true, ltb-false, le-ltb, length-append, take_at, append_cancel_left, same_Some, bad_of, LtvBad, BaseFault, IsOctets, Endpoint, stands_in, BaseIs, run_fault, Answers, told, Row, presentation_delay, num_subgroups, num_bis, codec_id, config_length, config, metadata_length, metadata, bis_index, bis_config_length, bis_config, nothing, Due, first_due, width, number_of, row_fault, next_due, IsDue, Meets, field_fault, ending_fault, cut_fault, AtCut, IsFault}
 use Rattle.base_grammar.specs.declared.fault.BaseFault.TheVariants as faults
-use Rattle.bcast_base.specs.Encoding.{IsOctets}
-use Rattle.base_grammar.specs.Layout.{Endpoint, stands_in, BaseIs}
-use Rattle.base_grammar.specs.Rows.{run_fault}
-use Rattle.bcast_base.specs.Tries.{Answers}
-use Rattle.base_grammar.specs.Reading.{told, fields_of, base_of}
-use Rattle.base_grammar.specs.Faults.{Row, presentation_delay, num_subgroups, num_bis, codec_id, config_length, config, metadata_length, metadata, bis_index, bis_config_length}
-use Rattle.base_grammar.specs.Faults.{bis_config, nothing, Due, first_due, width, number_of, row_fault, next_due, IsDue, due_behind, Meets, AllMeet, field_fault, ending_fault}
-use Rattle.base_grammar.specs.Faults.{cut_fault, AtCut, IsBad, IsFault}
+use Rattle.base_grammar.specs.Reading.{fields_of, base_of}
+use Rattle.base_grammar.specs.Faults.{due_behind, AllMeet}
+use Rattle.base_grammar.specs.Faults.{IsBad}
 use Rattle.base_grammar.proofs.Again.{base_takes}
 use Rattle.base_grammar.proofs.Walk.{At, due_cut}
 use Rattle.base_grammar.proofs.Cuts.{Ends, fields_end}

@@ -1,11 +1,5 @@
 -- Which indices stand before, as the code asks for them and as reading does.
-use Rattle.std.proofs.Common.{◌≡◌, ◌==◌, ℕ, Bool, ◌||◌, List, [], ◌∷◌, ◌++◌, map, refl, sym, ap, ◌∙◌}
-use Rattle.std.specs.List.{list_any}
-use Rattle.std.proofs.lemmas.List.Folds.{list_any-append}
-use Rattle.std.proofs.lemmas.List.Concat.{flat_map-cons}
-use Rattle.base_grammar.specs.declared.subgroup.BaseEntry.{BaseEntry}
-use Rattle.base_grammar.specs.declared.subgroup.Subgroup.{Subgroup}
-use Rattle.base_grammar.specs.Layout.{bis_of, indices, stands_in}
+use Rattle.base_grammar.proofs.Prelude.{◌≡◌, ◌==◌, ℕ, Bool, ◌||◌, List, [], ◌∷◌, ◌++◌, map, refl, sym, ap, ◌∙◌, list_any, list_any-append, flat_map-cons, BaseEntry, Subgroup, bis_of, indices, stands_in}
 
 -- one of the entries has the index
 abbrev pub in_entries : ℕ → List BaseEntry → Bool

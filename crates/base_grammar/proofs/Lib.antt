@@ -12,3 +12,4 @@ pub mod Sizes
 pub mod Steps
 pub mod Taken
 pub mod Walk
+mod Prelude

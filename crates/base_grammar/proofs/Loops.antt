@@ -1,14 +1,7 @@
 -- Reading entries and subgroups one after the other, as a loop does.
-use Rattle.std.proofs.Common.{◌≡◌, ℕ, suc, ◌-◌, ◌+◌, ◌≤◌, ◌<◌, Bool, List, [], ◌∷◌, ◌++◌, length, map, Option, Some, None, Result, Ok, Err, refl, sym, ap, ◌∙◌, append_assoc, arith}
-use Rattle.std.proofs.lemmas.List.{append-nil, map_push}
+use Rattle.base_grammar.proofs.Prelude.{◌≡◌, ℕ, suc, ◌-◌, ◌+◌, ◌≤◌, ◌<◌, Bool, List, [], ◌∷◌, ◌++◌, length, map, Option, Some, None, Result, Ok, Err, refl, sym, ap, ◌∙◌, append_assoc, arith, append-nil, map_push, flat_map-cons, BaseFault, BaseEntry, Subgroup, bis_of, indices, ◌>>=◌, FindsOrWants, told}
 use Rattle.std.proofs.lemmas.Grind.{flat_map-append}
-use Rattle.std.proofs.lemmas.List.Concat.{flat_map-cons}
-use Rattle.base_grammar.specs.declared.fault.BaseFault.{BaseFault}
-use Rattle.base_grammar.specs.declared.subgroup.BaseEntry.{BaseEntry}
-use Rattle.base_grammar.specs.declared.subgroup.Subgroup.{Subgroup}
-use Rattle.base_grammar.specs.Layout.{bis_of, indices}
-use Rattle.bcast_base.specs.Tries.{◌>>=◌, FindsOrWants}
-use Rattle.base_grammar.specs.Reading.{told, entry_at, entries_at, subgroup_at, subgroups_at}
+use Rattle.base_grammar.specs.Reading.{entry_at, entries_at, subgroup_at, subgroups_at}
 
 -- what was read before, and what is still read
 abbrev pub with_prefix : {A : Type 0} → List A → Result (List A × List ℕ) BaseFault → Result (List A × List ℕ) BaseFault

@@ -1,17 +1,6 @@
 -- What holds for an index, as a loop over the subgroups finds it.
-use Rattle.std.proofs.Common.{◌≡◌, ℕ, zero, suc, ◌+◌, ◌<◌, ◌==◌, ◌⊎◌, inl, inr, Bool, true, false, cond, eqb, List, [], ◌∷◌, ◌++◌, length, get_or}
-use Rattle.std.proofs.Common.{add-zero, ◌||◌, map, Option, Some, None, refl, sym, ap, subst, ◌∙◌, arith}
-use Rattle.std.specs.Prelude.{slice_get, is_some, IfSome}
-use Rattle.std.specs.List.{find, AllByRecursion}
-use Rattle.std.proofs.lemmas.Bool.{eqb-true, eq-eqb}
-use Rattle.std.proofs.lemmas.List.Folds.{list_any-append}
-use Rattle.std.proofs.lemmas.List.Concat.{flat_map-cons}
-use Rattle.std.proofs.lemmas.Option.{same_Some}
+use Rattle.base_grammar.proofs.Prelude.{◌≡◌, ℕ, zero, suc, ◌+◌, ◌<◌, ◌==◌, ◌⊎◌, inl, inr, Bool, true, false, cond, eqb, List, [], ◌∷◌, ◌++◌, length, get_or, add-zero, ◌||◌, map, Option, Some, None, refl, sym, ap, subst, ◌∙◌, arith, slice_get, is_some, IfSome, find, AllByRecursion, eqb-true, eq-eqb, list_any-append, flat_map-cons, same_Some, BaseEntry, Subgroup, values_of, entry_of, or_behind, effective_from, effective_of, IsEffective, Endpoint, bis_of, indices, stands_in, AreNew, IsBase}
 use Rattle.base_grammar.specs.declared.effective.Effective.{Effective}
-use Rattle.base_grammar.specs.declared.subgroup.BaseEntry.{BaseEntry}
-use Rattle.base_grammar.specs.declared.subgroup.Subgroup.{Subgroup}
-use Rattle.base_grammar.specs.Effective.{values_of, entry_of, or_behind, effective_from, effective_of, IsEffective}
-use Rattle.base_grammar.specs.Layout.{Endpoint, bis_of, indices, stands_in, AreNew, IsBase}
 use Rattle.base_grammar.proofs.Again.{AreNew-first, AreNew-second}
 use Rattle.base_grammar.proofs.Indices.{in_entries, in_subgroups, in_entries-is, in_subgroups-is}
 

@@ -1,15 +1,6 @@
 -- Looking for Service Data, structure by structure.
-use Rattle.std.proofs.Common.{◌≡◌, ℕ, ◌+◌, List, [], ◌∷◌, ◌++◌, length, Option, Some, None, refl, sym, ap, ◌∙◌, arith}
-use Rattle.std.specs.Option.{option_or}
-use Rattle.std.proofs.lemmas.Option.{same_Some}
-use Rattle.std.proofs.lemmas.List.Concat.{flat_map-cons}
-use Rattle.bcast_base.specs.Encoding.{IsOctets}
-use Rattle.bcast_base.specs.Reading.{counted_in}
-use Rattle.bcast_base.proofs.Citable.{counted_again}
-use Rattle.ltv_codec.specs.declared.ltvs.Ltv.{Ltv}
-use Rattle.ltv_codec.specs.Layout.{structure, encoding, IsLtvList, AreLtvs}
-use Rattle.ltv_codec.specs.Reading.{ltvs_in}
-use Rattle.ltv_codec.proofs.Citable.{list_in, reads}
+use Rattle.base_grammar.proofs.Prelude.{◌≡◌, ℕ, ◌+◌, List, [], ◌∷◌, ◌++◌, length, Option, Some, None, refl, sym, ap, ◌∙◌, arith, option_or, same_Some, flat_map-cons, IsOctets, counted_in, counted_again, Ltv, structure, IsLtvList, AreLtvs, ltvs_in, list_in, reads}
+use Rattle.ltv_codec.specs.Layout.{encoding}
 use Rattle.base_grammar.specs.Ad.{service_in, first_service}
 use Rattle.base_grammar.specs.AdReading.{service_of}
 

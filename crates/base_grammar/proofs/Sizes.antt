@@ -1,15 +1,5 @@
 -- Spellings of the items of a list, one after the other, as a loop goes over them.
-use Rattle.std.proofs.Common.{◌≡◌, ℕ, ◌+◌, ◌<◌, ◌≤◌, List, [], ◌∷◌, ◌++◌, length, get_or, take, Option, Some, None, sym, ap, subst, arith}
-use Rattle.std.specs.List.{flat_map}
-use Rattle.std.specs.Option.{SomeIff}
-use Rattle.std.proofs.lemmas.List.{length-append}
-use Rattle.std.proofs.lemmas.List.Concat.{flat_map-cons}
-use Rattle.std.proofs.lemmas.List.Folds.{length-flat_map-take}
-use Rattle.bcast_base.specs.Encoding.{number}
-use Rattle.bcast_base.proofs.Citable.{number-length}
-use Rattle.base_grammar.specs.declared.subgroup.BaseEntry.{BaseEntry}
-use Rattle.base_grammar.specs.declared.subgroup.Subgroup.{Subgroup}
-use Rattle.base_grammar.specs.Layout.{Endpoint, entry, subgroup, encoding}
+use Rattle.base_grammar.proofs.Prelude.{◌≡◌, ℕ, ◌+◌, ◌<◌, ◌≤◌, List, [], ◌∷◌, ◌++◌, length, get_or, take, Option, Some, None, sym, ap, subst, arith, flat_map, SomeIff, length-append, flat_map-cons, length-flat_map-take, number, number-length, BaseEntry, Subgroup, Endpoint, entry, subgroup, encoding}
 
 -- an item is no longer than all of them
 pub item_small : {X : Type 0} (f : X → List ℕ) (xs : List X) (i n : ℕ) (x : X) → i < length xs → x ≡ get_or xs i x → length (flat_map f xs) ≤ n → length (f x) ≤ n

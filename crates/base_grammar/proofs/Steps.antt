@@ -1,18 +1,6 @@
 -- The parts of reading: a step that did not fail, a field that is whole, a rule that is kept.
-use Rattle.std.proofs.Common.{◌≡◌, ℕ, zero, suc, ◌≤◌, Bool, true, false, cond, ltb, eqb, List, Option, Some, None, Ok, refl, ap, arith}
-use Rattle.std.specs.Option.{option_map}
-use Rattle.std.proofs.lemmas.Bool.{ltb-false, le-ltb, ne_eqb}
-use Rattle.bcast_base.specs.Encoding.{IsOctets}
-use Rattle.ltv_codec.specs.Reading.{bad_of}
-use Rattle.ltv_codec.proofs.Citable.{are_read, reads}
-use Rattle.ltv_codec.specs.declared.fault.LtvBad.{LtvBad}
-use Rattle.base_grammar.specs.declared.fault.BaseFault.{BaseFault}
-use Rattle.base_grammar.specs.declared.fault.BaseFault.TheVariants.{Short, NoSubgroup, NoBis, BadIndex, IndexTwice, Ltv}
-use Rattle.bcast_base.specs.Reading.{place_in}
-use Rattle.base_grammar.specs.Layout.{IsConfig, stands_in}
-use Rattle.base_grammar.specs.Rows.{subgroups_fault, streams_fault, index_fault, run_fault}
-use Rattle.bcast_base.proofs.Citable.{needed_ok, ok_is}
-use Rattle.base_grammar.specs.Reading.{field_at, unless}
+use Rattle.base_grammar.proofs.Prelude.{◌≡◌, ℕ, zero, suc, ◌≤◌, Bool, true, false, cond, ltb, eqb, List, Option, Some, None, Ok, refl, ap, arith, option_map, ltb-false, le-ltb, ne_eqb, IsOctets, bad_of, are_read, reads, LtvBad, BaseFault, Short, NoSubgroup, NoBis, BadIndex, IndexTwice, place_in, IsConfig, stands_in, subgroups_fault, streams_fault, index_fault, run_fault, needed_ok, ok_is, field_at, unless}
+use Rattle.base_grammar.specs.declared.fault.BaseFault.TheVariants.{Ltv}
 
 -- a field that is whole
 pub field_ok : {A : Type 0} (whole rest : List ℕ) (o : Option A) (x : A) → field_at whole rest o ≡ Ok x → o ≡ Some x

@@ -1,17 +1,6 @@
 -- What is read of a BASE is encoded so.
-use Rattle.std.proofs.Common.{◌≡◌, ℕ, zero, suc, ◌<◌, ◌≤◌, ◌^◌, Bool, true, false, List, [], ◌∷◌, ◌++◌, length, map, Ok, refl, sym, ap, subst, ◌∙◌, append_assoc, arith}
-use Rattle.std.specs.List.{flat_map, AllByRecursion}
-use Rattle.std.proofs.lemmas.List.{append-nil}
-use Rattle.std.proofs.lemmas.List.Concat.{flat_map-cons}
-use Rattle.bcast_base.specs.Reading.{octet_in, octets_in, number_in, place_in, Takes}
-use Rattle.bcast_base.specs.Encoding.{IsOctets, octet, number, counted}
-use Rattle.bcast_base.proofs.Citable.{IsOctets-prefix, Takes-then, octet_takes, octets_take, number_takes, bind_ok, ok_is}
-use Rattle.base_grammar.specs.declared.subgroup.BaseEntry.{BaseEntry}
-use Rattle.base_grammar.specs.declared.subgroup.Subgroup.{Subgroup}
-use Rattle.base_grammar.specs.Layout.{Endpoint, endpoint, is_lc3, entry, subgroup, encoding, bis_of, indices, stands_in, AreNew, IsConfig, EntryFits, SubgroupFits, HasEntry}
-use Rattle.base_grammar.specs.Rows.{subgroups_fault, streams_fault, index_fault, run_fault}
-use Rattle.bcast_base.specs.Tries.{◌>>=◌}
-use Rattle.base_grammar.specs.Reading.{field_at, unless, run_at, index_at, entry_at, entries_at, streams_at, subgroup_at, subgroups_at, count_at, ended, fields_of}
+use Rattle.base_grammar.proofs.Prelude.{◌≡◌, ℕ, zero, suc, ◌<◌, ◌≤◌, ◌^◌, Bool, true, false, List, [], ◌∷◌, ◌++◌, length, map, Ok, refl, sym, ap, subst, ◌∙◌, append_assoc, arith, flat_map, AllByRecursion, append-nil, flat_map-cons, octet_in, octets_in, number_in, place_in, Takes, IsOctets, octet, number, counted, IsOctets-prefix, Takes-then, octet_takes, octets_take, number_takes, bind_ok, ok_is, BaseEntry, Subgroup, Endpoint, endpoint, is_lc3, entry, subgroup, encoding, bis_of, indices, stands_in, AreNew, IsConfig, EntryFits, SubgroupFits, HasEntry, subgroups_fault, streams_fault, index_fault, run_fault, ◌>>=◌, field_at, unless, ended}
+use Rattle.base_grammar.specs.Reading.{run_at, index_at, entry_at, entries_at, streams_at, subgroup_at, subgroups_at, count_at, fields_of}
 use Rattle.base_grammar.proofs.Steps.{field_ok, unless_ok, subgroups_none, streams_none, run_none, index_none}
 
 -- ---- fields

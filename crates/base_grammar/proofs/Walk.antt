@@ -1,19 +1,8 @@
 -- Fields that were taken, and what reading the next ones comes to.
-use Rattle.std.proofs.Common.{◌≡◌, ℕ, ◌+◌, ◌<◌, ◌⊎◌, Bool, false, ltb, List, [], ◌∷◌, ◌++◌, length, take, drop, Option, Some, None, Result, Ok, Err, refl, sym, ap, subst, ◌∙◌}
-use Rattle.std.proofs.Common.{append_assoc, arith, inl, inr, add-zero, zero-add}
-use Rattle.std.specs.List.{concat}
-use Rattle.std.proofs.lemmas.Bool.{cases_lt, lt-ltb, le-ltb}
-use Rattle.std.proofs.lemmas.List.{append-nil, length-append, length-take, take-append-drop, take_at}
-use Rattle.std.proofs.lemmas.List.Folds.{concat-append}
+use Rattle.base_grammar.proofs.Prelude.{◌≡◌, ℕ, ◌+◌, ◌<◌, ◌⊎◌, Bool, false, ltb, List, [], ◌∷◌, ◌++◌, length, take, drop, Option, Some, None, Result, Ok, Err, refl, sym, ap, subst, ◌∙◌, append_assoc, arith, inl, inr, add-zero, zero-add, concat, cases_lt, lt-ltb, le-ltb, append-nil, length-append, length-take, take-append-drop, take_at, concat-append, octet_in, octets_in, number_in, place_in, BaseFault, Short, Row, presentation_delay, num_subgroups, num_bis, codec_id, config_length, config, metadata_length, metadata, bis_index, bis_config_length, bis_config, nothing, Due, first_due, width, row_fault, next_due, IsDue, Meets, field_fault, cut_fault, AtCut, run_fault, ◌>>=◌, field_at, unless}
 use Rattle.bcast_base.specs.Numbers.{sum_from}
-use Rattle.bcast_base.specs.Reading.{octet_in, octets_in, number_in, place_in}
-use Rattle.base_grammar.specs.declared.fault.BaseFault.{BaseFault}
-use Rattle.base_grammar.specs.declared.fault.BaseFault.TheVariants.{Short}
-use Rattle.base_grammar.specs.Faults.{Row, presentation_delay, num_subgroups, num_bis, codec_id, config_length, config, metadata_length, metadata, bis_index, bis_config_length}
-use Rattle.base_grammar.specs.Faults.{bis_config, nothing, Due, first_due, width, row_fault, next_due, IsDue, due_behind, Meets, AllMeet, field_fault, cut_fault, AtCut}
-use Rattle.base_grammar.specs.Rows.{run_fault}
-use Rattle.bcast_base.specs.Tries.{◌>>=◌}
-use Rattle.base_grammar.specs.Reading.{field_at, unless, run_at}
+use Rattle.base_grammar.specs.Faults.{due_behind, AllMeet}
+use Rattle.base_grammar.specs.Reading.{run_at}
 
 -- ---- one field more
 

@@ -1,21 +1,7 @@
 -- What is wrong with octets, as it is found and as it is told.
-use Rattle.std.proofs.Common.{◌≡◌, ℕ, ◌<◌, ◌≤◌, Bool, true, false, cond, ltb, List, [], ◌∷◌, length, Option, Some, None, Result, Ok, Err, refl, ap, subst, ◌∙◌}
-use Rattle.std.specs.Prelude.{IsOk, IfOk, IfErr}
-use Rattle.std.proofs.lemmas.Bool.{ltb-false, ltb-true, lt-ltb, le-ltb}
-use Rattle.bcast_base.specs.Layout.{reserved_from}
-use Rattle.bcast_base.specs.Encoding.{IsOctets}
-use Rattle.bcast_base.proofs.Citable.{IsOctets-rest, reserved_first, first_reserved, reserved_none, none_reserved}
-use Rattle.bass_operations.specs.declared.fault.OpFault.{OpFault}
-use Rattle.bass_operations.specs.declared.fault.OpFault.TheVariants.{Empty, Opcode, Length, Rfu, BisTwice, Memory}
-use Rattle.bass_operations.specs.declared.operation.Operation.{Operation}
-use Rattle.bass_operations.specs.declared.operation.Operation.TheVariants.{ScanStopped, ScanStarted, Add, Modify, Code, Remove}
-use Rattle.bass_operations.specs.declared.wishes.Wish.{Wish}
-use Rattle.std.specs.List.{AllByRecursion}
+use Rattle.bass_operations.proofs.Prelude.{◌≡◌, ℕ, ◌<◌, ◌≤◌, Bool, true, false, cond, ltb, List, [], ◌∷◌, length, Option, Some, None, Result, Ok, Err, refl, ap, subst, ◌∙◌, IsOk, IfOk, IfErr, ltb-false, ltb-true, lt-ltb, le-ltb, reserved_from, IsOctets, IsOctets-rest, reserved_first, first_reserved, reserved_none, none_reserved, OpFault, Empty, Opcode, Length, Rfu, BisTwice, Memory, Operation, ScanStopped, ScanStarted, Add, Modify, Code, Remove, Wish, AllByRecursion, fields, wishes_of, IsLaid, OpIs, FitsWidths, MetadataFits, WishFits, WantsFor, op_of, judged, fault_of, first_fault, told, Answers, Finds, twice_of}
 use Rattle.bass_operations.specs.Faults.{IsFault}
-use Rattle.bass_operations.specs.Layout.{fields, wishes_of, IsLaid, OpIs, FitsWidths, MetadataFits, WishFits}
-use Rattle.bass_operations.specs.Reading.{WantsFor, op_in, op_of, judged, fault_of, first_fault, told}
-use Rattle.bcast_base.specs.Tries.{Answers, Finds}
-use Rattle.bass_operations.specs.Twice.{twice_of}
+use Rattle.bass_operations.specs.Reading.{op_in}
 use Rattle.bass_operations.proofs.Judged.{op_laid, laid_read, answered_err, laid_is_judged, read_is}
 use Rattle.bass_operations.proofs.Twice.{lowest_found, lowest_told}
 

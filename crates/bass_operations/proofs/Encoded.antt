@@ -1,16 +1,8 @@
 -- Wishes that are read are encoded so, and those that are encoded so are read.
-use Rattle.std.proofs.Common.{◌≡◌, ℕ, suc, List, [], ◌∷◌, ◌++◌, length, map, Option, Some, None, refl, sym, ap, subst, ◌∙◌, arith}
+use Rattle.bass_operations.proofs.Prelude.{◌≡◌, ℕ, suc, List, [], ◌∷◌, ◌++◌, length, map, Option, Some, None, refl, sym, ap, subst, ◌∙◌, arith, append-nil, flat_map, AllByRecursion, Field, laid, IsOctets, ◌>>=◌, whole, Subgroup, Fits, subgroup, subgroup_fields, bind_some, some_is, subgroup_laid, subgroups_take, subgroups_again, Wish, group_of, WishFits, wish_of}
 use Rattle.std.proofs.lemmas.Grind.{flat_map-append}
-use Rattle.std.proofs.lemmas.List.{append-nil}
-use Rattle.std.specs.List.{flat_map, AllByRecursion}
-use Rattle.bcast_base.specs.Layout.{Field, laid}
-use Rattle.bcast_base.specs.Encoding.{IsOctets}
-use Rattle.bcast_base.specs.Steps.{◌>>=◌, whole}
-use Rattle.bcast_base.specs.Subgroups.{Subgroup, Fits, subgroup, subgroup_fields, subgroups_in}
-use Rattle.bcast_base.proofs.Citable.{bind_some, some_is, subgroup_laid, subgroups_take, subgroups_again}
-use Rattle.bass_operations.specs.declared.wishes.Wish.{Wish}
-use Rattle.bass_operations.specs.Layout.{group_of, WishFits}
-use Rattle.bass_operations.specs.Reading.{wish_of, wishes_in}
+use Rattle.bcast_base.specs.Subgroups.{subgroups_in}
+use Rattle.bass_operations.specs.Reading.{wishes_in}
 
 abbrev pub wish_fields : Wish → List Field
 wish_fields wish = subgroup_fields (group_of wish)

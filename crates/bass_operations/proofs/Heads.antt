@@ -1,12 +1,5 @@
 -- The fields before the subgroups: what is read of them is encoded so, and what is encoded so is read.
-use Rattle.std.proofs.Common.{◌≡◌, ℕ, ◌+◌, ◌^◌, ◌<◌, List, [], ◌++◌, length, Some, refl, ap, subst, ◌∙◌, arith}
-use Rattle.std.proofs.lemmas.List.{length-append}
-use Rattle.bcast_base.specs.Reading.{octet_in, octets_in, number_in}
-use Rattle.bcast_base.specs.Encoding.{IsOctets, octet, number}
-use Rattle.bcast_base.specs.Steps.{◌>>=◌}
-use Rattle.bcast_base.proofs.Citable.{octet_takes, octets_take, octets_again, number_takes, number_again, number-length, bind_some, some_is}
-use Rattle.bass_operations.specs.declared.operation.AddSource.{AddSource}
-use Rattle.bass_operations.specs.declared.operation.ModifySource.{ModifySource}
+use Rattle.bass_operations.proofs.Prelude.{◌≡◌, ℕ, ◌+◌, ◌^◌, ◌<◌, List, [], ◌++◌, length, Some, refl, ap, subst, ◌∙◌, arith, length-append, octet_in, octets_in, number_in, IsOctets, octet, number, ◌>>=◌, octet_takes, octets_take, octets_again, number_takes, number_again, number-length, bind_some, some_is, AddSource, ModifySource}
 use Rattle.bass_operations.specs.Reading.{add_head_in, modify_head_in}
 
 pub octets_again_at : (k : ℕ) (value rest : List ℕ) → length value ≡ k → octets_in k (value ++ rest) ≡ Some (value, rest)

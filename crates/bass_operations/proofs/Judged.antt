@@ -1,19 +1,6 @@
 -- Operations that are read are laid so, and their first fault is the one that is told.
-use Rattle.std.proofs.Common.{◌≡◌, ℕ, zero, suc, ◌<◌, ◌≤◌, Bool, true, false, cond, ltb, List, [], ◌∷◌, ◌++◌, length, Option, Some, None, Result, Ok, Err, refl, sym, ap, subst, ◌∙◌, arith}
-use Rattle.std.proofs.lemmas.Bool.{le-ltb}
-use Rattle.std.specs.List.{flat_map}
-use Rattle.bcast_base.specs.Layout.{laid, reserved_from}
-use Rattle.bcast_base.specs.Reading.{octet_in, octets_in}
-use Rattle.bcast_base.specs.Encoding.{IsOctets, octet}
-use Rattle.bcast_base.specs.Steps.{◌>>=◌, whole}
-use Rattle.bcast_base.proofs.Citable.{IsOctets-rest, octet_takes, octets_take, bind_some, some_is, reserved_none, none_reserved}
-use Rattle.bass_operations.specs.declared.fault.OpFault.{OpFault}
-use Rattle.bass_operations.specs.declared.fault.OpFault.TheVariants.{Opcode}
-use Rattle.bass_operations.specs.declared.operation.Operation.{Operation}
-use Rattle.bass_operations.specs.declared.operation.Operation.TheVariants.{ScanStopped, ScanStarted, Add, Modify, Code, Remove}
-use Rattle.bass_operations.specs.Layout.{fields, encoding, wishes_of, IsLaid, OpIs, FitsWidths}
-use Rattle.bass_operations.specs.Reading.{wishes_in, add_head_in, modify_head_in, add_in, modify_in, code_in, remove_in, alone, op_in, op_of, judged, answered, fault_of, first_fault}
-use Rattle.bass_operations.specs.Twice.{twice_of}
+use Rattle.bass_operations.proofs.Prelude.{◌≡◌, ℕ, zero, suc, ◌<◌, ◌≤◌, Bool, true, false, cond, ltb, List, [], ◌∷◌, ◌++◌, length, Option, Some, None, Result, Ok, Err, refl, sym, ap, subst, ◌∙◌, arith, le-ltb, flat_map, laid, reserved_from, octet_in, octets_in, IsOctets, octet, ◌>>=◌, whole, IsOctets-rest, octet_takes, octets_take, bind_some, some_is, reserved_none, none_reserved, OpFault, Opcode, Operation, ScanStopped, ScanStarted, Add, Modify, Code, Remove, fields, encoding, wishes_of, IsLaid, OpIs, FitsWidths, alone, op_of, judged, answered, fault_of, first_fault, twice_of}
+use Rattle.bass_operations.specs.Reading.{wishes_in, add_head_in, modify_head_in, add_in, modify_in, code_in, remove_in, op_in}
 use Rattle.bass_operations.proofs.Heads.{add_before, add_head_takes, add_head_again, modify_before, modify_head_takes, modify_head_again, octets_again_at}
 use Rattle.bass_operations.proofs.Encoded.{wish_fields, wishes_take, wishes_again}
 use Rattle.bass_operations.proofs.Twice.{none_twice, twice_none}

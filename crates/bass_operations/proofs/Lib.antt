@@ -6,3 +6,4 @@ pub mod Opcodes
 pub mod Read
 pub mod Encoded
 pub mod Twice
+mod Prelude

@@ -1,17 +1,11 @@
 -- Subgroups looked through one after the other, as a loop does.
-use Rattle.std.proofs.Common.{◌≡◌, ℕ, zero, suc, ◌+◌, ◌-◌, ◌<◌, ◌≤◌, Bool, true, false, cond, eqb, ltb, List, [], ◌∷◌, ◌++◌, length, map, Option, Some, None, is_some, refl, sym}
-use Rattle.std.proofs.Common.{ap, subst, ◌∙◌, append_assoc, arith}
-use Rattle.std.proofs.lemmas.Bool.{lt-ltb, le-ltb}
-use Rattle.std.proofs.lemmas.List.{append-nil}
+use Rattle.bass_operations.proofs.Prelude.{◌≡◌, ℕ, zero, suc, ◌+◌, ◌-◌, ◌<◌, ◌≤◌, Bool, true, false, cond, eqb, ltb, List, [], ◌∷◌, ◌++◌, length, map, Option, Some, None, is_some, refl, sym, ap, subst, ◌∙◌, append_assoc, arith, lt-ltb, le-ltb, append-nil, ◌>>=◌, whole, Subgroup, subgroup_in, bind_some, some_is, Wish, wish_of, has_bit, times_named}
 use Rattle.std.proofs.Math.Dec.{eqb-suc-zero}
 use Rattle.std.proofs.lemmas.List.Sums.{sum_by-cons}
-use Rattle.bcast_base.specs.Steps.{◌>>=◌, whole}
-use Rattle.bcast_base.specs.Subgroups.{Subgroup, subgroup_in, subgroups_in}
-use Rattle.bcast_base.proofs.Citable.{bind_some, some_is}
-use Rattle.bass_operations.specs.declared.wishes.Wish.{Wish}
-use Rattle.bass_operations.specs.Reading.{wish_of, wishes_in}
+use Rattle.bcast_base.specs.Subgroups.{subgroups_in}
+use Rattle.bass_operations.specs.Reading.{wishes_in}
 use Rattle.bass_operations.specs.Scanning.{named_in, twice_in}
-use Rattle.bass_operations.specs.Twice.{has_bit, times_named, twice_from}
+use Rattle.bass_operations.specs.Twice.{twice_from}
 
 -- ---- wishes
 

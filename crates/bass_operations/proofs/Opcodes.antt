@@ -1,17 +1,7 @@
 -- Operations whose fields have no reserved value and no wish.
-use Rattle.std.proofs.Common.{◌≡◌, ℕ, ◌-◌, ◌≤◌, true, eqb, List, [], ◌∷◌, length, get_or, take, drop, Option, Some, None, Result, Ok, refl, sym, ap, subst, ◌∙◌, arith}
+use Rattle.bass_operations.proofs.Prelude.{◌≡◌, ℕ, ◌-◌, ◌≤◌, true, eqb, List, [], ◌∷◌, length, get_or, take, drop, Option, Some, None, Result, Ok, refl, sym, ap, subst, ◌∙◌, arith, eqb-true, take_all, nil_from_length, octet_in, octets_in, ◌>>=◌, whole, bind_some, some_is, OpFault, Length, Operation, ScanStopped, ScanStarted, Code, Remove, op_of, judged, answered, fault_of, told, Answers}
 use Rattle.std.specs.Option.{ok_or}
-use Rattle.std.proofs.lemmas.Bool.{eqb-true}
-use Rattle.std.proofs.lemmas.List.{take_all, nil_from_length}
-use Rattle.bcast_base.specs.Reading.{octet_in, octets_in}
-use Rattle.bcast_base.specs.Steps.{◌>>=◌, whole}
-use Rattle.bcast_base.proofs.Citable.{bind_some, some_is}
-use Rattle.bass_operations.specs.declared.fault.OpFault.{OpFault}
-use Rattle.bass_operations.specs.declared.fault.OpFault.TheVariants.{Length}
-use Rattle.bass_operations.specs.declared.operation.Operation.{Operation}
-use Rattle.bass_operations.specs.declared.operation.Operation.TheVariants.{ScanStopped, ScanStarted, Code, Remove}
-use Rattle.bass_operations.specs.Reading.{op_in, op_of, judged, answered, fault_of, code_in, remove_in, told}
-use Rattle.bcast_base.specs.Tries.{Answers}
+use Rattle.bass_operations.specs.Reading.{op_in, code_in, remove_in}
 use Rattle.bass_operations.specs.Twice.{twice_from}
 
 abbrev pub behind : List ℕ → List ℕ

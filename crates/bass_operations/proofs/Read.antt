@@ -1,25 +1,8 @@
 -- What an Add Source and a Modify Source are judged as, by the steps of reading.
-use Rattle.std.proofs.Common.{◌≡◌, ℕ, ◌+◌, ◌<◌, ◌≤◌, Bool, true, false, cond, ltb, List, [], ◌∷◌, length, Option, Some, None, is_some, Result, Ok, Err, refl, sym, ap, subst, ◌∙◌, arith}
-use Rattle.std.proofs.lemmas.Bool.{lt-ltb, le-ltb}
-use Rattle.std.specs.Prelude.{IfOk, IsOk}
-use Rattle.std.specs.List.{flat_map}
-use Rattle.bcast_base.specs.Layout.{reserved_from}
-use Rattle.bcast_base.specs.Reading.{place_in}
-use Rattle.bcast_base.specs.Encoding.{IsOctets}
-use Rattle.bcast_base.specs.Subgroups.{subgroup_fields, reserved_in}
-use Rattle.bcast_base.proofs.Citable.{IsOctets-rest, number-length, reserved_found}
-use Rattle.bass_operations.specs.declared.fault.OpFault.{OpFault}
-use Rattle.bass_operations.specs.declared.fault.OpFault.TheVariants.{Length, Rfu, BisTwice}
-use Rattle.bass_operations.specs.declared.operation.AddSource.{AddSource}
-use Rattle.bass_operations.specs.declared.operation.ModifySource.{ModifySource}
-use Rattle.bass_operations.specs.declared.operation.Operation.{Operation}
-use Rattle.bass_operations.specs.declared.operation.Operation.TheVariants.{Add, Modify}
-use Rattle.bass_operations.specs.declared.wishes.Wish.{Wish}
-use Rattle.bass_operations.specs.Layout.{fields, wishes_of}
-use Rattle.bass_operations.specs.Reading.{wishes_in, add_head_in, modify_head_in, add_in, modify_in, judged, answered, first_fault, add_reserved, told}
-use Rattle.bcast_base.specs.Tries.{Finds}
+use Rattle.bass_operations.proofs.Prelude.{◌≡◌, ℕ, ◌+◌, ◌<◌, ◌≤◌, Bool, true, false, cond, ltb, List, [], ◌∷◌, length, Option, Some, None, is_some, Result, Ok, Err, refl, sym, ap, subst, ◌∙◌, arith, lt-ltb, le-ltb, IfOk, IsOk, flat_map, reserved_from, place_in, IsOctets, subgroup_fields, reserved_in, IsOctets-rest, number-length, reserved_found, OpFault, Length, Rfu, BisTwice, AddSource, ModifySource, Operation, Add, Modify, Wish, fields, wishes_of, judged, answered, first_fault, add_reserved, told, Finds, twice_of}
+use Rattle.bass_operations.specs.Reading.{wishes_in, add_head_in, modify_head_in, add_in, modify_in}
 use Rattle.bass_operations.specs.Scanning.{twice_in}
-use Rattle.bass_operations.specs.Twice.{twice_of, twice_from}
+use Rattle.bass_operations.specs.Twice.{twice_from}
 use Rattle.bass_operations.proofs.Heads.{add_head_takes, add_before-length, modify_head_takes, modify_before-length}
 use Rattle.bass_operations.proofs.Judged.{judged_by}
 use Rattle.bass_operations.proofs.Loops.{twice_found}

@@ -1,8 +1,6 @@
 -- The lowest stream that stands in two subgroups, as it is found and as it is told.
-use Rattle.std.proofs.Common.{◌≡◌, ℕ, zero, suc, ◌+◌, ◌<◌, ◌≤◌, Bool, true, false, cond, ltb, List, Some, None, refl, sym, ap, subst, ◌∙◌, arith, inl, inr}
-use Rattle.std.proofs.lemmas.Bool.{ltb-true, ltb-false, lt-ltb, le-ltb, cases_lt}
-use Rattle.bass_operations.specs.declared.wishes.Wish.{Wish}
-use Rattle.bass_operations.specs.Twice.{times_named, IsLowestTwice, NoneTwice, twice_from, twice_of}
+use Rattle.bass_operations.proofs.Prelude.{◌≡◌, ℕ, zero, suc, ◌+◌, ◌<◌, ◌≤◌, Bool, true, false, cond, ltb, List, Some, None, refl, sym, ap, subst, ◌∙◌, arith, inl, inr, ltb-true, ltb-false, lt-ltb, le-ltb, cases_lt, Wish, times_named, IsLowestTwice, NoneTwice, twice_of}
+use Rattle.bass_operations.specs.Twice.{twice_from}
 
 -- of the streams from one on none below another stands in two subgroups
 abbrev pub NoneFrom : ℕ → ℕ → List Wish → Type 0

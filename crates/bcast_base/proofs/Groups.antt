@@ -1,14 +1,8 @@
 -- A subgroup that is read is the one that is encoded, and so are many.
-use Rattle.std.proofs.Common.{◌≡◌, ℕ, zero, suc, ◌+◌, ◌-◌, ◌<◌, ◌≤◌, Bool, true, false, cond, ltb, List, [], ◌∷◌, ◌++◌, length, take, drop, Option, Some, None, refl, sym, ap}
-use Rattle.std.proofs.Common.{subst, ◌∙◌, append_assoc, arith}
-use Rattle.std.proofs.lemmas.List.{append-nil, length-append, length-drop}
+use Rattle.bcast_base.proofs.Prelude.{◌≡◌, ℕ, zero, suc, ◌+◌, ◌-◌, ◌<◌, ◌≤◌, Bool, true, false, cond, ltb, List, [], ◌∷◌, ◌++◌, length, take, drop, Option, Some, None, refl, sym, ap, subst, ◌∙◌, append_assoc, arith, append-nil, length-append, length-drop, sum_from, laid, reserved_from, number_in, counted_in, place_in, Takes, IsOctets, counted, ◌>>=◌, Subgroup, Fits, subgroup, subgroup_fields, is_reserved}
 use Rattle.std.specs.List.{flat_map, AllByRecursion}
-use Rattle.bcast_base.specs.Numbers.{sum_from}
-use Rattle.bcast_base.specs.Layout.{laid, reserved_from}
-use Rattle.bcast_base.specs.Reading.{number_in, counted_in, place_in, Takes}
-use Rattle.bcast_base.specs.Encoding.{IsOctets, number, counted}
-use Rattle.bcast_base.specs.Steps.{◌>>=◌}
-use Rattle.bcast_base.specs.Subgroups.{Subgroup, Fits, subgroup, subgroup_fields, subgroup_in, subgroups_in, reserved_in, is_reserved}
+use Rattle.bcast_base.specs.Encoding.{number}
+use Rattle.bcast_base.specs.Subgroups.{subgroup_in, subgroups_in, reserved_in}
 use Rattle.bcast_base.proofs.Fields.{guard_some, Takes-then, number_takes, number_again, number-length, counted_takes, counted_again}
 
 -- the value of a step that read something

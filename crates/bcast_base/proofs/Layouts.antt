@@ -1,7 +1,5 @@
 -- The first field with a reserved value, as a place that is counted and as one that is told.
-use Rattle.std.proofs.Common.{◌≡◌, ℕ, ◌+◌, Bool, true, false, cond, List, [], ◌∷◌, ◌++◌, length, Option, Some, None, refl, sym, ap, ◌∙◌, arith, add-zero, zero-add}
-use Rattle.std.proofs.lemmas.List.{length-append}
-use Rattle.bcast_base.specs.Layout.{Field, laid, NoneReserved, FirstReserved, reserved_from}
+use Rattle.bcast_base.proofs.Prelude.{◌≡◌, ℕ, ◌+◌, Bool, true, false, cond, List, [], ◌∷◌, ◌++◌, length, Option, Some, None, refl, sym, ap, ◌∙◌, arith, add-zero, zero-add, length-append, Field, laid, NoneReserved, FirstReserved, reserved_from}
 
 -- the same, where the fields begin at a place
 abbrev FirstFrom : ℕ → ℕ → List Field → Type 0

@@ -1,4 +1,5 @@
 pub mod Sets
+mod Prelude
 mod Places
 pub mod Citable
 mod Fields

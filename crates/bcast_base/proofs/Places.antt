@@ -1,11 +1,7 @@
 -- The sum of octets by their places, and by what comes last.
-use Rattle.std.proofs.Common.{◌≡◌, ◌≤◌, ◌<◌, ℕ, ◌+◌, ◌*◌, ◌/◌, ◌%◌, ◌^◌, List, [], ◌∷◌, ◌++◌, length, sym, ◌∙◌, ap, refl, arith, add-zero, zero-add, zero, suc, ◌-◌, get_or, drop}
-use Rattle.std.proofs.Common.{drop-cons, take, bit_and, subst, length-take-le}
-use Rattle.std.proofs.lemmas.Nat.{pow-add, pow_pos, mul-le, and_mask, div-add-mod', shr_below}
-use Rattle.std.proofs.lemmas.List.{take_more_set}
+use Rattle.bcast_base.proofs.Prelude.{◌≡◌, ◌≤◌, ◌<◌, ℕ, ◌+◌, ◌*◌, ◌/◌, ◌%◌, ◌^◌, List, [], ◌∷◌, ◌++◌, length, sym, ◌∙◌, ap, refl, arith, add-zero, zero-add, zero, suc, ◌-◌, get_or, drop, drop-cons, take, bit_and, subst, length-take-le, pow-add, pow_pos, mul-le, and_mask, div-add-mod', shr_below, take_more_set, sum_from}
 use Rattle.std.proofs.Math.Nat.{pow-suc, le_refl}
 use Rattle.std.proofs.Math.ListN.{set, length-set}
-use Rattle.bcast_base.specs.Numbers.{sum_from}
 
 -- octets after others stand at the places after theirs
 pub sum_from-append : (i : ℕ) (prefix back : List ℕ) → sum_from i (prefix ++ back) ≡ sum_from i prefix + sum_from (i + length prefix) back

@@ -1,10 +1,9 @@
 -- One bit of a number, as the code tests, sets and clears it.
-use Rattle.std.proofs.Common.{◌≡◌, ◌≢◌, ◌≤◌, ◌<◌, ◌↔◌, ℕ, ◌-◌, ◌*◌, ◌/◌, ◌%◌, ◌^◌, IsTrue, nat_eq, bit_and, bit_or, sym, ◌∙◌, ap, inl, inr, arith}
+use Rattle.bcast_base.proofs.Prelude.{◌≡◌, ◌≢◌, ◌≤◌, ◌<◌, ◌↔◌, ℕ, ◌-◌, ◌*◌, ◌/◌, ◌%◌, ◌^◌, IsTrue, nat_eq, bit_and, bit_or, sym, ◌∙◌, ap, inl, inr, arith, one_shl, or_lt, and_le_l, pow_below}
 use Rattle.std.specs.Int.{w32, bit_at}
 use Rattle.std.proofs.lemmas.Nat.Bits.{shr_and_one, bit_at_set_same, bit_at_set_other, bit_at_clear_same, bit_at_clear_other, bit_at_above}
 use Rattle.std.proofs.lemmas.Bool.{eqb-true, eq-eqb}
 use Rattle.std.proofs.lemmas.Bool.Decides.{leb_tells}
-use Rattle.std.proofs.lemmas.Nat.{one_shl, or_lt, and_le_l, pow_below}
 use Rattle.bcast_base.specs.Bis.{Has}
 
 pub has_test : (bits bis : ℕ) → IsTrue (nat_eq (bit_and (bits / 2 ^ (bis - 1)) 1) 1) ↔ Has bits bis

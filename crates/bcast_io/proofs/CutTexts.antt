@@ -1,12 +1,8 @@
 -- A text that is cut at the ends of its lines.
-use Rattle.std.proofs.Common.{◌≡◌, ◌≢◌, ℕ, ◌+◌, ◌<◌, ◌≤◌, Bool, cond, List, [], ◌∷◌, ◌++◌, length, take, drop, map, refl, sym, ap, ◌∙◌, arith}
-use Rattle.std.proofs.Common.{append_assoc, append-nil, length-append, length-drop, length-take-le, take-append-drop, inl, inr}
+use Rattle.bcast_io.proofs.Prelude.{◌≡◌, ◌≢◌, ℕ, ◌+◌, ◌<◌, ◌≤◌, Bool, cond, List, [], ◌∷◌, ◌++◌, length, take, drop, map, refl, sym, ap, ◌∙◌, arith, append_assoc, append-nil, length-append, length-drop, length-take-le, take-append-drop, inl, inr, lt-leb, le-leb, cases_lt, cases_eq, take_all, All-nil, All-cons, All-head, All-tail, AreLines, TextLine, NoNewline, last_line, line_behind, line_of, lines_of, newline, past, text_limit, with_end}
 use Rattle.std.specs.List.{concat}
 use Rattle.std.specs.Prelude.{All}
-use Rattle.std.proofs.lemmas.Bool.{lt-leb, le-leb, cases_lt, cases_eq}
-use Rattle.std.proofs.lemmas.List.{take_all}
-use Rattle.std.proofs.lemmas.List.Elements.{All-nil, All-cons, All-head, All-tail}
-use Rattle.bcast_io.specs.TextLines.{AreLines, TextLine, NoNewline, last_line, line_behind, line_of, lines_from, lines_of, newline, past, text_limit, with_end}
+use Rattle.bcast_io.specs.TextLines.{lines_from}
 use Rattle.bcast_io.proofs.LineLaws.{lines-newline, lines-past_all, lines-run}
 
 -- ---- each text is cut so

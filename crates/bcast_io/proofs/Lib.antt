@@ -1,4 +1,5 @@
 pub mod Citable
+mod Prelude
 mod CutTexts
 mod LineLaws
 pub mod ReadingLaws

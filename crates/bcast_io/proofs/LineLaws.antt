@@ -1,10 +1,6 @@
 -- How the lines of a text go on after an octet, after a run of octets and at an end.
-use Rattle.std.proofs.Common.{◌≡◌, ◌≢◌, ℕ, suc, ◌+◌, ◌<◌, ◌≤◌, Bool, true, false, cond, eqb, leb, List, [], ◌∷◌, ◌++◌, length, take, refl, sym, ap, ◌∙◌, arith, append_assoc}
-use Rattle.std.proofs.Common.{append-nil, length-take-le, length-append, inl, inr}
-use Rattle.std.proofs.lemmas.Bool.{lt-leb, le-leb, ne_eqb, cases_lt, cases_eq}
-use Rattle.std.proofs.lemmas.List.{take_all}
-use Rattle.std.proofs.lemmas.List.Elements.{All-head, All-tail}
-use Rattle.bcast_io.specs.TextLines.{newline, text_limit, line_limit, plain, too_long, past, line_of, last_line, lines_from, NoNewline}
+use Rattle.bcast_io.proofs.Prelude.{◌≡◌, ◌≢◌, ℕ, suc, ◌+◌, ◌<◌, ◌≤◌, Bool, true, false, cond, eqb, leb, List, [], ◌∷◌, ◌++◌, length, take, refl, sym, ap, ◌∙◌, arith, append_assoc, append-nil, length-take-le, length-append, inl, inr, lt-leb, le-leb, ne_eqb, cases_lt, cases_eq, take_all, All-head, All-tail, newline, text_limit, line_limit, plain, too_long, past, line_of, last_line, NoNewline}
+use Rattle.bcast_io.specs.TextLines.{lines_from}
 
 module _ (e : Bool) where
   -- an octet past the limit of the text

@@ -1,14 +1,8 @@
 -- What a reader of lines does, step by step, and what several steps come to.
-use Rattle.std.proofs.Common.{◌≡◌, ℕ, ◌+◌, ◌-◌, ◌<◌, ◌≤◌, Bool, true, false, List, [], ◌∷◌, ◌++◌, Option, Some, length, take, refl, sym, ap, subst, ◌∙◌, arith, append_assoc, append-nil}
-use Rattle.std.proofs.Common.{take-append-drop, length-take-le, le-leb, length-append, get_or, drop}
-use Rattle.std.proofs.lemmas.Bool.{false≢true}
-use Rattle.std.specs.Io.KnownBytes.{Consumes}
-use Rattle.bcast_io.specs.TextLines.{newline, text_limit, line_limit, TextLine, plain, too_long, past, line_of, lines_from, NoNewline}
+use Rattle.bcast_io.proofs.Prelude.{◌≡◌, ℕ, ◌+◌, ◌-◌, ◌<◌, ◌≤◌, Bool, true, false, List, [], ◌∷◌, ◌++◌, Option, Some, length, take, refl, sym, ap, subst, ◌∙◌, arith, append_assoc, append-nil, take-append-drop, length-take-le, le-leb, length-append, get_or, drop, false≢true, Consumes, newline, text_limit, line_limit, TextLine, plain, too_long, past, line_of, NoNewline, Names, Finds, Ends, GoesOn, Answers, drop_more, drop-drop, take_all, nil_from_length, Reading, lines_after, Reads, Took, IsPast, BreaksOff, lines_left}
+use Rattle.bcast_io.specs.TextLines.{lines_from}
 use Rattle.bcast_io.specs.declared.line_reader.LineRead.{LineRead}
 use Rattle.bcast_io.specs.declared.line_reader.LineRead.TheVariants.{Line, LineTooLong, TextTooLong, End}
-use Rattle.bcast_io.specs.State.Answering.{Names, Finds, Ends, GoesOn, Answers}
-use Rattle.std.proofs.lemmas.List.{drop_more, drop-drop, take_all, nil_from_length}
-use Rattle.bcast_io.specs.State.Reading.{Reading, lines_after, Reads, Took, IsPast, BreaksOff, lines_left}
 use Rattle.bcast_io.proofs.Transfers.{Consumes-nothing, Consumes-then}
 use Rattle.bcast_io.proofs.LineLaws.{lines-end, lines-nothing, lines-unended, lines-none, lines-past_all, lines-run, lines-newline, lines-kept, line_of-kept}
 

@@ -1,8 +1,6 @@
 -- What is read of a document, one piece after the other.
-use Rattle.std.proofs.Common.{◌≡◌, ℕ, ◌≤◌, List, [], ◌++◌, length, Option, Some, None, Result, Err, sym, subst, arith, append-nil, length-append}
-use Rattle.std.specs.Io.KnownBytes.{Consumes, Keeps}
+use Rattle.bcast_io.proofs.Prelude.{◌≡◌, ℕ, ◌≤◌, List, [], ◌++◌, length, Option, Some, None, Result, Err, sym, subst, arith, append-nil, length-append, Consumes, Keeps, ReadsDocument, document_limit}
 use Rattle.bcast_io.proofs.Citable.{Consumes-then}
-use Rattle.bcast_io.specs.Documents.{ReadsDocument, document_limit}
 use Rattle.bcast_io.specs.State.Pieces.{ReadsOn}
 use Rattle.bcast_io.specs.declared.piece.Piece.{Piece}
 use Rattle.bcast_io.specs.declared.piece.Unread.{Unread}

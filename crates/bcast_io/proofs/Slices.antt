@@ -1,6 +1,5 @@
 -- Parts of buffers.
-use Rattle.std.proofs.Common.{◌≡◌, ℕ, ◌+◌, ◌-◌, ◌≤◌, min, List, ◌++◌, length, take, drop, sym, ap, ◌∙◌, arith}
-use Rattle.std.proofs.lemmas.List.{drop-take, drop-drop, take_min}
+use Rattle.bcast_io.proofs.Prelude.{◌≡◌, ℕ, ◌+◌, ◌-◌, ◌≤◌, min, List, ◌++◌, length, take, drop, sym, ap, ◌∙◌, arith, drop-take, drop-drop, take_min}
 use Rattle.std.proofs.Math.Seq.{take-append-add}
 
 -- a part without its first n elements

@@ -1,7 +1,6 @@
 -- One call after another, on what a source has left and what a sink took.
-use Rattle.std.proofs.Common.{ℕ, ◌+◌, ◌<◌, List, [], ◌++◌, Option, None, Some, length, take, drop, refl, sym, ap, subst, ◌∙◌, append_assoc, append-nil, take-append-drop, length-drop, arith}
+use Rattle.bcast_io.proofs.Prelude.{ℕ, ◌+◌, ◌<◌, List, [], ◌++◌, Option, None, Some, length, take, drop, refl, sym, ap, subst, ◌∙◌, append_assoc, append-nil, take-append-drop, length-drop, arith, Appends, Consumes, Keeps}
 use Rattle.std.proofs.Math.Seq.{take-add}
-use Rattle.std.specs.Io.KnownBytes.{Appends, Consumes, Keeps}
 use Rattle.bcast_io.specs.Writing.{AppendsPrefix, AppendsShort}
 
 -- nothing was taken, and nothing written

@@ -1,11 +1,6 @@
 -- From "no fault holds" to the bounds of the numbers.
-use Rattle.std.proofs.Common.{◌≡◌, ℕ, ◌*◌, ◌/◌, ◌%◌, arith}
+use Rattle.big_info.proofs.Prelude.{◌≡◌, ℕ, ◌*◌, ◌/◌, ◌%◌, arith, nat_tests, BigInfo, RangeIso, RangeSdu, RangePdu, Bn, NseNotMultiple, Irc, PhyNotSupported, FramedPduSmall, UnframedMultiple, UnframedBn, Horizon, SubInterval, SyncDelay, Encrypted, NoFault}
 use Rattle.std.proofs.Math.Nat.{mod-add-div'}
-use Rattle.std.proofs.lemmas.Bool.Decides.{nat_tests}
-use Rattle.big_info.specs.declared.info.BigInfo.{BigInfo}
-use Rattle.big_info.specs.declared.fault.GroupFault.TheVariants.{RangeIso, RangeSdu, RangePdu, Bn, NseNotMultiple, Irc, PhyNotSupported, FramedPduSmall, UnframedMultiple}
-use Rattle.big_info.specs.declared.fault.GroupFault.TheVariants.{UnframedBn, Horizon, SubInterval, SyncDelay, Encrypted}
-use Rattle.big_info.specs.Rows.{NoFault}
 use Rattle.big_info.specs.Bounds.{Bounds}
 use Rattle.big_info.specs.Time.{iso_us_of}
 

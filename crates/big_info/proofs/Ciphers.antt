@@ -1,10 +1,5 @@
 -- What lies behind the fields.
-use Rattle.std.proofs.Common.{◌≡◌, ◌≤◌, ◌+◌, ◌-◌, ◌++◌, ℕ, List, [], length, take, drop, arith, ◌∙◌, sym, ap, append_assoc, length-append, length-take-le, Option, Some, None, refl}
-use Rattle.std.proofs.lemmas.List.{drop_all, drop_at, take_at, append-nil, drop-drop}
-use Rattle.std.proofs.lemmas.Slice.{take-put_mid, drop-put_mid}
-use Rattle.big_info.specs.declared.info.Cipher.{Cipher}
-use Rattle.big_info.specs.Layout.{CipherIs}
-use borrow.Rule.Slice.PartMut.{put_mid}
+use Rattle.big_info.proofs.Prelude.{◌≡◌, ◌≤◌, ◌+◌, ◌-◌, ◌++◌, ℕ, List, [], length, take, drop, arith, ◌∙◌, sym, ap, append_assoc, length-append, length-take-le, Option, Some, None, refl, drop_all, drop_at, take_at, append-nil, drop-drop, take-put_mid, drop-put_mid, Cipher, CipherIs, put_mid}
 
 -- what is the same behind n octets is the same behind more
 pub drop_later : (n m : ℕ) (one other : List ℕ) → n ≤ m → drop n one ≡ drop n other → drop m one ≡ drop m other

@@ -1,16 +1,9 @@
 -- The fields of an info are cut out of its number.
-use Rattle.std.proofs.Common.{◌≡◌, ◌≢◌, ◌<◌, ◌≤◌, ℕ, ◌+◌, ◌-◌, ◌*◌, ◌/◌, ◌%◌, ◌^◌, Bool, false, cond, eqb, List, [], ◌∷◌, ◌++◌, length, take, drop, refl, sym, ◌∙◌, ap}
-use Rattle.std.proofs.Common.{subst, arith, Option, Some, None, Result, Ok, Err}
+use Rattle.big_info.proofs.Prelude.{◌≡◌, ◌≢◌, ◌<◌, ◌≤◌, ℕ, ◌+◌, ◌-◌, ◌*◌, ◌/◌, ◌%◌, ◌^◌, Bool, false, cond, eqb, List, [], ◌∷◌, ◌++◌, length, take, drop, refl, sym, ◌∙◌, ap, subst, arith, Option, Some, None, Result, Ok, Err, length-append, length-drop, take_at, drop_at, mod-mul-add, div-mul-add, pow-add, sum_from, BigInfo, Cipher, BigIs, CipherIs, Encodes}
 use Rattle.std.specs.Prelude.{IfOk, OnErr}
 use Rattle.std.proofs.lemmas.Bool.{eq-eqb, ne_eqb}
-use Rattle.std.proofs.lemmas.List.{length-append, length-drop, take_at, drop_at}
-use Rattle.std.proofs.lemmas.Nat.{mod-mul-add, div-mul-add, pow-add}
-use Rattle.bcast_base.specs.Numbers.{sum_from}
 use Rattle.big_info.specs.declared.big_fault.BigFault.{BigFault}
 use Rattle.big_info.specs.declared.big_fault.BigFault.TheVariants.{Length}
-use Rattle.big_info.specs.declared.info.BigInfo.{BigInfo}
-use Rattle.big_info.specs.declared.info.Cipher.{Cipher}
-use Rattle.big_info.specs.Layout.{BigIs, CipherIs, Encodes}
 use Rattle.big_info.specs.Reading.{cut, info_from, cipher_from, info_of}
 use Rattle.big_info.proofs.Fields.{stacked, AllFit, widths, values, rebuilt, number-stacked, all_fit}
 

@@ -1,11 +1,5 @@
 -- The octets of an info are the same, but for the one of RFU.
-use Rattle.std.proofs.Common.{◌≡◌, ◌≤◌, ◌<◌, ℕ, suc, ◌+◌, ◌*◌, ◌^◌, List, [], ◌∷◌, ◌++◌, length, take, drop, get_or, refl, sym, ◌∙◌, ap, arith, subst, length-take, length-drop, take-append-drop}
-use Rattle.std.proofs.lemmas.List.{drop-drop, get_or-take, get_or-drop}
-use Rattle.bcast_base.specs.Numbers.{sum_from}
-use Rattle.bcast_base.proofs.Citable.{sum_from-cons}
-use Rattle.big_info.specs.declared.info.BigInfo.{BigInfo}
-use Rattle.big_info.specs.Layout.{Encodes, AreOctets, SameButRfu}
-use Rattle.big_info.specs.Widths.{FitsWidths}
+use Rattle.big_info.proofs.Prelude.{◌≡◌, ◌≤◌, ◌<◌, ℕ, suc, ◌+◌, ◌*◌, ◌^◌, List, [], ◌∷◌, ◌++◌, length, take, drop, get_or, refl, sym, ◌∙◌, ap, arith, subst, length-take, length-drop, take-append-drop, drop-drop, get_or-take, get_or-drop, sum_from, sum_from-cons, BigInfo, Encodes, AreOctets, SameButRfu, FitsWidths}
 use Rattle.big_info.proofs.Ciphers.{one_behind}
 use Rattle.big_info.proofs.Fields.{low_digit, above_digit}
 use Rattle.big_info.proofs.Sums.{sum_from-word, sum_from-more, sum_from-part}

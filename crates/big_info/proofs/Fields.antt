@@ -1,10 +1,5 @@
 -- A number is the sum of its fields in one way alone.
-use Rattle.std.proofs.Common.{◌≡◌, ◌<◌, ℕ, ◌+◌, ◌*◌, ◌/◌, ◌%◌, ◌^◌, List, [], ◌∷◌, drop, get_or, refl, sym, ◌∙◌, ap, arith, Option}
-use Rattle.std.proofs.lemmas.Nat.{mod-mul-add, div-mul-add}
-use Rattle.big_info.specs.declared.info.BigInfo.{BigInfo}
-use Rattle.big_info.specs.declared.info.Cipher.{Cipher}
-use Rattle.big_info.specs.Layout.{Encodes, number_of}
-use Rattle.big_info.specs.Widths.{FitsWidths}
+use Rattle.big_info.proofs.Prelude.{◌≡◌, ◌<◌, ℕ, ◌+◌, ◌*◌, ◌/◌, ◌%◌, ◌^◌, List, [], ◌∷◌, drop, get_or, refl, sym, ◌∙◌, ap, arith, Option, mod-mul-add, div-mul-add, BigInfo, Cipher, Encodes, number_of, FitsWidths}
 use Rattle.big_info.proofs.Ciphers.{one_cipher}
 
 -- the lowest digit, and what is above it

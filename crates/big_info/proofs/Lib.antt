@@ -1,3 +1,4 @@
+mod Prelude
 mod Order
 mod BoundsOf
 pub mod Sums

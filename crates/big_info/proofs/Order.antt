@@ -1,13 +1,9 @@
 -- Going through the faults in their order.
-use Rattle.std.proofs.Common.{◌≡◌, ℕ, ◌<◌, ◌≤◌, refl, arith, lit<, Bool, IsTrue, IsFalse, Some, None}
+use Rattle.big_info.proofs.Prelude.{◌≡◌, ℕ, ◌<◌, ◌≤◌, refl, arith, lit<, Bool, IsTrue, IsFalse, Some, None, nat_tests, BigInfo, RangeIso, RangeSdu, RangePdu, Bn, NseNotMultiple, Irc, PhyNotSupported, FramedPduSmall, UnframedMultiple, UnframedBn, Horizon, SubInterval, SyncDelay, Encrypted, faults, has_fault, NoFault, IsFirstFault}
 use Rattle.std.specs.List.{find}
-use Rattle.std.proofs.lemmas.Bool.Decides.{nat_tests}
-use Rattle.big_info.specs.declared.info.BigInfo.{BigInfo}
 use Rattle.big_info.specs.declared.fault.GroupFault.{GroupFault}
-use Rattle.big_info.specs.declared.fault.GroupFault.TheVariants.{RangeIso, RangeSdu, RangePdu, Bn, NseNotMultiple, Irc, PhyNotSupported, FramedPduSmall, UnframedMultiple}
-use Rattle.big_info.specs.declared.fault.GroupFault.TheVariants.{UnframedBn, Horizon, SubInterval, SyncDelay, Encrypted}
-use Rattle.big_info.specs.Faults.{faults, number_of}
-use Rattle.big_info.specs.Rows.{has_fault, first_fault, NoFault, IsFirstFault}
+use Rattle.big_info.specs.Faults.{number_of}
+use Rattle.big_info.specs.Rows.{first_fault}
 
 -- none of the first faults holds
 pub record NoneOfFirst (greatest : ℕ) (info : BigInfo) (count : ℕ) : Type 0 where

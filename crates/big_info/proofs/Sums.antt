@@ -1,11 +1,7 @@
 -- The number that octets encode, from the words that they are joined of.
-use Rattle.std.proofs.Common.{◌≡◌, ◌≤◌, ◌<◌, ℕ, zero, suc, ◌+◌, ◌*◌, ◌^◌, List, [], ◌∷◌, ◌++◌, length, take, drop, get_or, sym, ◌∙◌, ap, arith, zero-add, length-take-le}
-use Rattle.std.proofs.Common.{length-take, length-drop, subst}
+use Rattle.big_info.proofs.Prelude.{◌≡◌, ◌≤◌, ◌<◌, ℕ, zero, suc, ◌+◌, ◌*◌, ◌^◌, List, [], ◌∷◌, ◌++◌, length, take, drop, get_or, sym, ◌∙◌, ap, arith, zero-add, length-take-le, length-take, length-drop, subst, take_more, get_or-take, get_or-drop, sum_from, sum_from-append, sum_from-suc, sum_from-cons, small_read}
 use Rattle.std.proofs.Math.Seq.{take-add}
 use Rattle.std.proofs.Math.Nat.{pow-suc}
-use Rattle.std.proofs.lemmas.List.{take_more, get_or-take, get_or-drop}
-use Rattle.bcast_base.specs.Numbers.{sum_from}
-use Rattle.bcast_base.proofs.Citable.{sum_from-append, sum_from-suc, sum_from-cons, small_read}
 
 -- octets from place i on count 256 ^ i times as much
 pub sum_from-places : (i : ℕ) (octets : List ℕ) → sum_from i octets ≡ 256 ^ i * sum_from 0 octets

@@ -1,5 +1,5 @@
 -- A word is the sum of its fields, each times 2 to its first bit.
-use Rattle.std.proofs.Common.{◌≡◌, ◌<◌, ℕ, ◌+◌, ◌*◌, ◌/◌, ◌%◌, ◌^◌, arith}
+use Rattle.big_info.proofs.Prelude.{◌≡◌, ◌<◌, ℕ, ◌+◌, ◌*◌, ◌/◌, ◌%◌, ◌^◌, arith}
 
 pub counts : (w a b : ℕ) → w < 2 ^ 8 → a ≡ w / 2 ^ 0 % 2 ^ 5 → b ≡ w / 2 ^ 5 % 2 ^ 3 → w ≡ a + 2 ^ 5 * b
 counts w a b small x y = omega arith

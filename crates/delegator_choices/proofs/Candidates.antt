@@ -1,9 +1,5 @@
 -- The candidates of the subgroups that are wanted.
-use Rattle.std.proofs.Common.{ℕ, zero, suc, ◌≡◌, ◌+◌, ◌-◌, ◌<◌, ◌≤◌, ◌^◌, Bool, true, List, [], ◌∷◌, length, map, take, drop, Some, refl, sym, ap, ◌∙◌, subst, inl, inr, arith}
-use Rattle.std.specs.Prelude.{◌==◌, ◌||◌, ◌&&◌, nat_le, slice_get}
-use Rattle.std.specs.List.{filter, list_any, range_with_len}
-use Rattle.std.proofs.lemmas.Bool.{and_parts, cases_Bool, cond-false, le-leb, leb-true, or_left, or_right}
-use Rattle.std.proofs.lemmas.Nat.{pow_pos}
+use Rattle.delegator_choices.proofs.Prelude.{ℕ, zero, suc, ◌≡◌, ◌+◌, ◌-◌, ◌<◌, ◌≤◌, ◌^◌, Bool, true, List, [], ◌∷◌, length, map, take, drop, Some, refl, sym, ap, ◌∙◌, subst, inl, inr, arith, ◌==◌, ◌||◌, ◌&&◌, nat_le, slice_get, filter, list_any, range_with_len, and_parts, cases_Bool, cond-false, le-leb, leb-true, or_left, or_right, pow_pos, candidates, first_candidates, is_candidate, set_with, sets_with, is_chosen, left_of}
 use Rattle.std.proofs.lemmas.List.Folds.{list_any-append}
 use Rattle.std.proofs.lemmas.List.{drop_all}
 use Rattle.base_grammar.specs.declared.subgroup.BaseEntry.{BaseEntry}
@@ -11,9 +7,7 @@ use Rattle.base_grammar.specs.declared.subgroup.Subgroup.{Subgroup}
 use Rattle.base_grammar.specs.Layout.{Endpoint, bis_of, indices, stands_in}
 use Rattle.bass_operations.specs.declared.wishes.Wish.{Wish}
 use Rattle.pacs_records.specs.declared.capability.Capability.{Capability}
-use Rattle.delegator_history.specs.Trains.{candidates, first_candidates, is_candidate, set_with, sets_with}
 use Rattle.delegator_choices.specs.declared.choosing.Choice.{Choice}
-use Rattle.delegator_choices.specs.State.Choices.{is_chosen, left_of}
 use Rattle.delegator_choices.proofs.Taken.{below_all, below_each, chooses_last, Chooses, filter_below, first_below, first_of_all, sets_below}
 use Rattle.delegator_choices.proofs.Streams.{drop_get}
 

@@ -1,3 +1,4 @@
+mod Prelude
 mod Candidates
 mod Slots
 mod Streams

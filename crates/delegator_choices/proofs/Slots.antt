@@ -1,8 +1,7 @@
 -- Looking for slots.
-use Rattle.std.proofs.Common.{ℕ, suc, ◌≡◌, ◌+◌, ◌-◌, ◌<◌, ◌≤◌, Bool, true, false, List, [], ◌∷◌, length, get_or, Option, Some, None, refl, sym, ap, ◌∙◌, arith}
-use Rattle.std.specs.Prelude.{is_some, if◌then◌else◌}
+use Rattle.delegator_choices.proofs.Prelude.{ℕ, suc, ◌≡◌, ◌+◌, ◌-◌, ◌<◌, ◌≤◌, Bool, true, false, List, [], ◌∷◌, length, get_or, Option, Some, None, refl, sym, ap, ◌∙◌, arith, is_some, if◌then◌else◌, slot_where, has_id, slot_with}
 use Rattle.delegator_history.specs.Snapshots.{Entry, entry_at}
-use Rattle.delegator_history.specs.Writes.{slot_where, has_id, slot_with, unused_from}
+use Rattle.delegator_history.specs.Writes.{unused_from}
 
 -- a slot that is found stands among the slots, and is what is sought
 pub record Found (test : Option Entry → Bool) (start : ℕ) (slots : List (Option Entry)) (slot : ℕ) : Type 0 where

@@ -1,16 +1,9 @@
 -- The streams that are chosen, one by one.
-use Rattle.std.proofs.Common.{ℕ, zero, suc, ◌≡◌, ◌≢◌, ◌↔◌, ◌⊎◌, ◌+◌, ◌-◌, ◌<◌, ◌≤◌, ◌^◌, Bool, true, false, cond, List}
-use Rattle.std.proofs.Common.{[], ◌∷◌, ◌++◌, length, map, take, append_assoc, max, refl, sym, ap, ◌∙◌, subst, inl, inr, arith}
-use Rattle.std.specs.Prelude.{◌==◌, bit_or}
+use Rattle.delegator_choices.proofs.Prelude.{ℕ, zero, suc, ◌≡◌, ◌≢◌, ◌↔◌, ◌⊎◌, ◌+◌, ◌-◌, ◌<◌, ◌≤◌, ◌^◌, Bool, true, false, cond, List, [], ◌∷◌, ◌++◌, length, map, take, append_assoc, max, refl, sym, ap, ◌∙◌, subst, inl, inr, arith, ◌==◌, bit_or, filter, range_with_len, cases_eq, cond-true, cond-false, ne_eqb, or_lt, pow_below, set_with, sets_with, Leads, Takes, with_one}
 use Rattle.std.specs.Int.{bit_at}
-use Rattle.std.specs.List.{filter, range_with_len}
-use Rattle.std.proofs.lemmas.Bool.{cases_eq, cond-true, cond-false, ne_eqb}
-use Rattle.std.proofs.lemmas.Nat.{or_lt, pow_below}
 use Rattle.std.proofs.lemmas.Nat.Bits.{bit_at-lt, bit_at_or, bit_at-pow_same, bit_at-pow_other, same_from_bits}
 use Rattle.bcast_base.specs.Bis.{Has}
-use Rattle.delegator_history.specs.Trains.{set_with, sets_with}
 use Rattle.delegator_choices.specs.declared.choosing.Taking.{Taking}
-use Rattle.delegator_choices.specs.State.Choices.{Leads, Takes, with_one}
 
 -- ---- a set with a stream more
 

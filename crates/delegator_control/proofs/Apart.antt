@@ -1,15 +1,8 @@
 -- When two values of a slot are apart, so that a notice is put.
-use Rattle.std.proofs.Common.{ℕ, ◌≡◌, ◌≢◌, Bool, true, false, List, [], ◌∷◌, drop, get_or, Option, Some, refl, ap}
-use Rattle.std.specs.Prelude.{not, option_map, if◌then◌else◌}
+use Rattle.delegator_control.proofs.Prelude.{ℕ, ◌≡◌, ◌≢◌, Bool, true, false, List, [], ◌∷◌, drop, get_or, Option, Some, refl, ap, not, option_map, if◌then◌else◌, append_cancel_left, encoding, Notice, change, Entry, Status, received, value}
 use Rattle.std.specs.Str.{bytes_eq}
 use Rattle.std.proofs.Math.Bool.{beq}
-use Rattle.std.proofs.lemmas.List.{append_cancel_left}
 use Rattle.std.proofs.lemmas.Slice.Eq.{bytes_eq-Decides}
-use Rattle.receive_state.specs.Layout.{encoding}
-use Rattle.delegator_history.specs.declared.notice.Notice.{Notice}
-use Rattle.delegator_history.specs.Notices.{change}
-use Rattle.delegator_history.specs.Snapshots.{Entry}
-use Rattle.delegator_history.specs.Values.{Status, received, value}
 
 abbrev pub one : ℕ → List ℕ → List Notice
 one slot value = record { slot = slot; value = value } ∷ []

@@ -1,18 +1,5 @@
 -- Which values a step changes, and so its notices.
-use Rattle.std.proofs.Common.{ℕ, ◌≡◌, ◌≢◌, ◌<◌, Bool, true, false, List, [], ◌++◌, length, get_or, set, Option, Some, None, refl, sym, ap, ◌∙◌, subst}
-use Rattle.std.specs.Prelude.{◌&&◌, option_map, if◌then◌else◌}
-use Rattle.std.specs.List.{flat_map, range_with_len}
-use Rattle.std.proofs.lemmas.Bool.{eqb-true, ne_eqb}
-use Rattle.std.proofs.lemmas.List.{get_or-set_same, get_or-set_other, get_or_default}
-use Rattle.delegator_history.specs.declared.notice.Notice.{Notice}
-use Rattle.delegator_history.specs.Notices.{change, changes}
-use Rattle.delegator_history.specs.Snapshots.{Entry, Place, Snapshot, idle, on_train, on_group, slot_of, is_slot, is_on, entry_at}
-use Rattle.delegator_history.specs.Steps.{place_left, placed}
-use Rattle.delegator_history.specs.Values.{Status, received, status_of, value, value_at}
-use Rattle.delegator_history.proofs.Citable.{none_change, one_changes}
-use Rattle.delegator_control.specs.declared.place.Move.{Move}
-use Rattle.delegator_control.specs.declared.place.Move.TheVariants.{Stay, Off, OffGroup}
-use Rattle.delegator_control.specs.State.Places.{place_by}
+use Rattle.delegator_control.proofs.Prelude.{ℕ, ◌≡◌, ◌≢◌, ◌<◌, Bool, true, false, List, [], ◌++◌, length, get_or, set, Option, Some, None, refl, sym, ap, ◌∙◌, subst, ◌&&◌, option_map, if◌then◌else◌, flat_map, range_with_len, eqb-true, ne_eqb, get_or-set_same, get_or-set_other, get_or_default, Notice, change, changes, Entry, Place, Snapshot, idle, on_train, on_group, slot_of, is_slot, is_on, entry_at, place_left, placed, Status, received, status_of, value, value_at, none_change, one_changes, Move, Stay, Off, OffGroup, place_by}
 use Rattle.delegator_control.proofs.Encoded.{off_group}
 
 pub away : Status

@@ -1,20 +1,8 @@
 -- The octets of the state of a slot.
-use Rattle.std.proofs.Common.{ℕ, zero, suc, ◌≡◌, ◌+◌, ◌<◌, ◌≤◌, Bool, true, false, List, [], ◌∷◌, ◌++◌, length, map, drop, slice_get, get_or, Some, append_assoc, refl, sym, ap, ◌∙◌, subst, arith}
-use Rattle.std.specs.Prelude.{nat_lt, ◌&&◌, if◌then◌else◌}
-use Rattle.std.specs.List.{flat_map, list_any, AllByRecursion}
+use Rattle.delegator_control.proofs.Prelude.{ℕ, zero, suc, ◌≡◌, ◌+◌, ◌<◌, ◌≤◌, Bool, true, false, List, [], ◌∷◌, ◌++◌, length, map, drop, slice_get, get_or, Some, append_assoc, refl, sym, ap, ◌∙◌, subst, arith, nat_lt, ◌&&◌, if◌then◌else◌, flat_map, list_any, AllByRecursion, append-nil, Wish, Field, laid, Subgroup, subgroup, subgroup_fields, fields_of, prefix_fields, group_of, encoding, Entry, Place, idle, on_train, on_group, is_on, is_on_group, Status, groups_from, received, status_of, is_synced, drop_get, groups_laid}
 use Rattle.std.proofs.lemmas.Grind.{flat_map-append}
-use Rattle.std.proofs.lemmas.List.{append-nil}
-use Rattle.bass_operations.specs.declared.wishes.Wish.{Wish}
 use Rattle.bcast_base.proofs.Citable.{subgroup_laid}
-use Rattle.bcast_base.specs.Layout.{Field, laid}
 use Rattle.bcast_base.specs.Encoding.{number}
-use Rattle.bcast_base.specs.Subgroups.{Subgroup, subgroup, subgroup_fields}
-use Rattle.receive_state.specs.Layout.{fields_of, prefix_fields, group_of, encoding}
-use Rattle.delegator_history.specs.Snapshots.{Entry, Place, idle, on_train, on_group, is_on, is_on_group}
-use Rattle.delegator_history.specs.Values.{Status, groups_from, received, status_of}
-use Rattle.delegator_history.specs.Writes.{is_synced}
-use Rattle.delegator_choices.proofs.Citable.{drop_get}
-use Rattle.delegator_control.specs.State.Statuses.{groups_laid}
 
 length-groups : (place : ℕ) (bits : List ℕ) (wishes : List Wish) → length (map group_of (groups_from place bits wishes)) ≡ length wishes
 length-groups place bits [] = refl

@@ -1,29 +1,7 @@
 -- A train that is followed is of a slot of the sink, which is on no other train or group.
-use Rattle.std.proofs.Common.{ℕ, ◌≡◌, ◌≢◌, ◌-◌, ◌<◌, Bool, true, false, List, [], ◌++◌, length, get_or, map, Option, Some, None, Result, Ok, Err, refl, sym, ap, ◌∙◌, subst, arith}
-use Rattle.std.specs.Prelude.{◌==◌, ◌&&◌, not, option_map, is_some, if◌then◌else◌}
-use Rattle.std.proofs.lemmas.Bool.{cond-true, cond-false, eq-eqb, eqb-true, ne_eqb, not-false}
-use Rattle.base_grammar.specs.declared.fault.BaseFault.{BaseFault}
-use Rattle.base_grammar.specs.Layout.{Endpoint}
+use Rattle.delegator_control.proofs.Prelude.{ℕ, ◌≡◌, ◌≢◌, ◌-◌, ◌<◌, Bool, true, false, List, [], ◌++◌, length, get_or, map, Option, Some, None, Result, Ok, Err, refl, sym, ap, ◌∙◌, subst, arith, ◌==◌, ◌&&◌, not, option_map, is_some, if◌then◌else◌, cond-true, cond-false, eq-eqb, eqb-true, ne_eqb, not-false, BaseFault, Endpoint, base_of, Wish, BigFault, GroupFault, BigInfo, info_of, first_fault, Capability, change, changes, Entry, Place, idle, on_train, on_group, Snapshot, is_on, is_on_group, entry_at, Done, after, wishes_at, Setup, Train, TrainOutcome, ignored, heard, taken, base_in, big_info_in, first_candidates, is_elsewhere, is_wanted, big_sync_of, set_with, sets_with, are_none, by_base, by_big_info, by_broadcast_id, by_endpoint, by_group, by_info, by_slot, by_streams, outcome_by, Status, received, status_of, value, value_at, slot_where, one_changes, found, Machine, moved}
 use Rattle.base_grammar.specs.AdReading.{broadcast_id_of}
-use Rattle.base_grammar.specs.Reading.{base_of}
-use Rattle.bass_operations.specs.declared.wishes.Wish.{Wish}
-use Rattle.big_info.specs.declared.big_fault.BigFault.{BigFault}
-use Rattle.big_info.specs.declared.fault.GroupFault.{GroupFault}
-use Rattle.big_info.specs.declared.info.BigInfo.{BigInfo}
-use Rattle.big_info.specs.Reading.{info_of}
-use Rattle.big_info.specs.Rows.{first_fault}
-use Rattle.pacs_records.specs.declared.capability.Capability.{Capability}
 use Rattle.delegator_history.specs.declared.train_heard.TrainHeard.TheVariants as answers
-use Rattle.delegator_history.specs.Notices.{change, changes}
-use Rattle.delegator_history.specs.Snapshots.{Entry, Place, idle, on_train, on_group, Snapshot, is_on, is_on_group, entry_at}
-use Rattle.delegator_history.specs.Steps.{Done, after, wishes_at}
-use Rattle.delegator_history.specs.Trains.{Setup, Train, TrainOutcome, ignored, heard, taken, base_in, big_info_in, first_candidates, is_elsewhere, is_wanted, big_sync_of, set_with, sets_with}
-use Rattle.delegator_history.specs.Trains.{are_none, by_base, by_big_info, by_broadcast_id, by_endpoint, by_group, by_info, by_slot, by_streams, outcome_by}
-use Rattle.delegator_history.specs.Values.{Status, received, status_of, value, value_at}
-use Rattle.delegator_history.specs.Writes.{slot_where}
-use Rattle.delegator_history.proofs.Citable.{one_changes}
-use Rattle.delegator_choices.proofs.Citable.{found}
-use Rattle.delegator_control.specs.State.Machines.{Machine, moved}
 use Rattle.delegator_control.proofs.Changes.{elsewhere}
 
 -- ---- the slot of what a train brings

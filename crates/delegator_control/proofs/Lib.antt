@@ -7,3 +7,4 @@ pub mod Standing
 pub mod Streams
 pub mod Wanting
 pub mod Written
+mod Prelude

@@ -1,29 +1,10 @@
 -- The first cause that holds of an operation, and what is done where none does.
-use Rattle.std.proofs.Common.{ℕ, ◌≡◌, ◌<◌, Bool, true, false, List, [], ◌++◌, length, set, Option, Some, None, Ok, refl, sym, ap, ◌∙◌, subst}
-use Rattle.std.specs.Prelude.{is_some, is_none, unwrap_or, nat_lt, option_map, if◌then◌else◌}
+use Rattle.delegator_control.proofs.Prelude.{ℕ, ◌≡◌, ◌<◌, Bool, true, false, List, [], ◌++◌, length, set, Option, Some, None, Ok, refl, sym, ap, ◌∙◌, subst, is_some, is_none, unwrap_or, nat_lt, option_map, if◌then◌else◌, Operation, Add, Modify, Code, Remove, encoding, Notice, Cause, Reply, Accepted, change, changes, Wanted, Entry, Snapshot, is_on, entry_at, Done, nothing, added, modified, removed, after, placed, place_given, place_wanted, wanting, received, status_of, state_at, value, value_at, slot_where, has_source, slot_with, empty_slot, least_unused, entry_of, operated, value_written, is_synced, cause_read, reply_by, done_read, Move, Stay, Replies, Machine, moved, place_by, status_at}
 use Rattle.bass_operations.specs.declared.operation.AddSource.{AddSource}
 use Rattle.bass_operations.specs.declared.operation.ModifySource.{ModifySource}
-use Rattle.bass_operations.specs.declared.operation.Operation.{Operation}
-use Rattle.bass_operations.specs.declared.operation.Operation.TheVariants.{Add, Modify, Code, Remove}
-use Rattle.receive_state.specs.Layout.{encoding}
-use Rattle.delegator_history.specs.declared.notice.Notice.{Notice}
-use Rattle.delegator_history.specs.declared.replies.Cause.{Cause}
 use Rattle.delegator_history.specs.declared.replies.Cause.TheVariants as causes
-use Rattle.delegator_history.specs.declared.replies.Reply.{Reply}
-use Rattle.delegator_history.specs.declared.replies.Reply.TheVariants.{Accepted}
-use Rattle.delegator_history.specs.Notices.{change, changes}
 use Rattle.delegator_history.specs.Snapshots as snapshots
-use Rattle.delegator_history.specs.Snapshots.{Wanted, Entry, Snapshot, is_on, entry_at}
-use Rattle.delegator_history.specs.Steps.{Done, nothing, added, modified, removed, after, placed, place_given, place_wanted, wanting}
-use Rattle.delegator_history.specs.Values.{received, status_of, state_at, value, value_at}
-use Rattle.delegator_history.specs.Writes.{slot_where, has_source, slot_with, empty_slot, least_unused, entry_of, operated, value_written, is_synced, cause_read, reply_by, done_read}
-use Rattle.delegator_control.specs.declared.place.Move.{Move}
-use Rattle.delegator_control.specs.declared.place.Move.TheVariants.{Stay}
-use Rattle.delegator_control.specs.Serving.{Replies}
-use Rattle.delegator_control.specs.State.Machines.{Machine, moved}
-use Rattle.delegator_control.specs.State.Places.{place_by}
 use Rattle.delegator_control.specs.State.Puts.{Puts}
-use Rattle.delegator_control.specs.State.Statuses.{status_at}
 use Rattle.delegator_control.proofs.Changes.{filled_one, filled_value}
 use Rattle.delegator_control.proofs.Encoded.{synced_is_on}
 use Rattle.delegator_control.proofs.Standing.{moved_nothing}

@@ -1,22 +1,9 @@
 -- A machine stands for its steps.
-use Rattle.std.proofs.Common.{ℕ, zero, suc, ◌≡◌, ◌+◌, Bool, true, false, map, replicate, List, [], ◌∷◌, ◌++◌, drop, Option, None, refl, sym, ap, ◌∙◌, subst}
-use Rattle.std.specs.Prelude.{if◌then◌else◌}
-use Rattle.std.specs.List.{range_with_len}
-use Rattle.std.proofs.lemmas.List.{append-nil}
-use Rattle.pacs_records.specs.declared.record.PacRecord.{PacRecord}
+use Rattle.delegator_control.proofs.Prelude.{ℕ, zero, suc, ◌≡◌, ◌+◌, Bool, true, false, map, replicate, List, [], ◌∷◌, ◌++◌, drop, Option, None, refl, sym, ap, ◌∙◌, subst, if◌then◌else◌, range_with_len, append-nil, PacRecord, control_heard, done_heard, done_by_control, Setup, Notice, changes, is_told, mtu_by, mtu_in, waiting, Entry, idle, value_at, Step, notified, mtu_set, done_by, entry_in, snapshot_of, Done, nothing, left, after, snapshot_goes_on, waiting_goes_on, none_change, Machine, StandsFor, moved, step_on}
 use Rattle.delegator_history.specs.declared.train_heard.ControlHeard.{ControlHeard}
 use Rattle.delegator_history.specs.declared.train_heard.ControlHeard.TheVariants as controls
-use Rattle.delegator_history.specs.Controls.{control_heard, done_heard, done_by_control}
-use Rattle.delegator_history.specs.Trains.{Setup}
-use Rattle.delegator_history.specs.declared.notice.Notice.{Notice}
 use Rattle.std.specs.Option.{option_or}
-use Rattle.delegator_history.specs.Notices.{changes, is_told, mtu_by, mtu_in, waiting}
-use Rattle.delegator_history.specs.Snapshots.{Entry, idle}
-use Rattle.delegator_history.specs.Values.{value_at}
-use Rattle.delegator_history.specs.States.{Step, notified, mtu_set, answered, done_by, entry_in, snapshot_of}
-use Rattle.delegator_history.specs.Steps.{Done, nothing, left, after}
-use Rattle.delegator_history.proofs.Citable.{snapshot_goes_on, waiting_goes_on, none_change}
-use Rattle.delegator_control.specs.State.Machines.{Machine, StandsFor, moved, step_on}
+use Rattle.delegator_history.specs.States.{answered}
 
 pub moved_nothing : (m : Machine) → moved nothing m ≡ m
 moved_nothing m =

@@ -1,9 +1,5 @@
 -- Wishes one by one.
-use Rattle.std.proofs.Common.{ℕ, ◌≡◌, ◌+◌, List, drop, Some}
-use Rattle.std.specs.Prelude.{◌==◌, ◌&&◌, slice_get}
-use Rattle.bass_operations.specs.declared.wishes.Wish.{Wish}
-use Rattle.delegator_choices.proofs.Citable.{drop_get}
-use Rattle.delegator_history.specs.Steps.{same_streams}
+use Rattle.delegator_control.proofs.Prelude.{ℕ, ◌≡◌, ◌+◌, List, drop, Some, ◌==◌, ◌&&◌, slice_get, Wish, drop_get, same_streams}
 
 pub same_next : (wishes others : List Wish) (place : ℕ) (wish other : Wish) → slice_get wishes place ≡ Some wish → slice_get others place ≡ Some other
     → same_streams (drop place wishes) (drop place others) ≡ ((wish.bis_sync == other.bis_sync) && same_streams (drop (place + 1) wishes) (drop (place + 1) others))

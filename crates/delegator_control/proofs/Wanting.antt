@@ -1,34 +1,10 @@
 -- When memory may be wanted: for an operation that keeps something, or what a train announces as BASE is one.
-use Rattle.std.proofs.Common.{ℕ, ◌≡◌, ◌<◌, Bool, true, false, List, length, Option, Some, None, Result, Ok, Err, refl, ap, arith, ◌∙◌}
-use Rattle.std.specs.Prelude.{◌==◌, ◌||◌, nat_lt, is_none, if◌then◌else◌, IsOk, OnErr}
-use Rattle.std.proofs.lemmas.Bool.{lt-ltb}
-use Rattle.base_grammar.specs.declared.fault.BaseFault.{BaseFault}
-use Rattle.base_grammar.specs.Layout.{Endpoint}
-use Rattle.base_grammar.specs.Reading.{base_of}
-use Rattle.bass_operations.specs.declared.fault.OpFault.{OpFault}
+use Rattle.delegator_control.proofs.Prelude.{ℕ, ◌≡◌, ◌<◌, Bool, true, false, List, length, Option, Some, None, Result, Ok, Err, refl, ap, arith, ◌∙◌, ◌==◌, ◌||◌, nat_lt, is_none, if◌then◌else◌, IsOk, OnErr, lt-ltb, BaseFault, Endpoint, base_of, OpFault, Operation, ScanStopped, ScanStarted, Add, Modify, Code, Remove, Wish, op_of, BigFault, GroupFault, BigInfo, info_of, first_fault, Finds, Capability, Setup, Train, TrainOutcome, are_none, big_info_in, by_base, by_big_info, by_endpoint, by_group, by_info, first_candidates, Cause, Reply, Snapshot, cause_of_fault, cause_read, Serves, has_value, wants_for, wants_memory, Machine}
 use Rattle.bass_operations.specs.declared.fault.OpFault.TheVariants as faults
-use Rattle.bass_operations.specs.declared.operation.Operation.{Operation}
-use Rattle.bass_operations.specs.declared.operation.Operation.TheVariants.{ScanStopped, ScanStarted, Add, Modify, Code, Remove}
-use Rattle.bass_operations.specs.declared.wishes.Wish.{Wish}
 use Rattle.bass_operations.specs.Faults.{IsFault}
 use Rattle.bass_operations.specs.Layout.{OpIs, wishes_of}
-use Rattle.bass_operations.specs.Reading.{op_of}
-use Rattle.big_info.specs.declared.big_fault.BigFault.{BigFault}
-use Rattle.big_info.specs.declared.fault.GroupFault.{GroupFault}
-use Rattle.big_info.specs.declared.info.BigInfo.{BigInfo}
-use Rattle.big_info.specs.Reading.{info_of}
-use Rattle.big_info.specs.Rows.{first_fault}
 use Rattle.bcast_base.specs.declared.memory.Memory.{Memory}
-use Rattle.bcast_base.specs.Tries.{Finds}
-use Rattle.pacs_records.specs.declared.capability.Capability.{Capability}
-use Rattle.delegator_history.specs.Trains.{Setup, Train, TrainOutcome, are_none, big_info_in, by_base, by_big_info, by_endpoint, by_group, by_info, first_candidates}
-use Rattle.delegator_history.specs.declared.replies.Cause.{Cause}
-use Rattle.delegator_history.specs.declared.replies.Reply.{Reply}
-use Rattle.delegator_history.specs.Snapshots.{Snapshot}
-use Rattle.delegator_history.specs.Writes.{cause_of_fault, cause_read}
 use Rattle.delegator_control.specs.Following.{has_base}
-use Rattle.delegator_control.specs.Serving.{Serves, has_value, wants_for, wants_memory}
-use Rattle.delegator_control.specs.State.Machines.{Machine}
 
 pub on_any_err : {T E P : Type 0} (result : Result T E) → P → OnErr result P
 on_any_err (Ok x) p = tt

@@ -1,12 +1,7 @@
 -- A write is an operation that is served, or no operation.
-use Rattle.std.proofs.Common.{ℕ, ◌≡◌, List, Some, Err, sym, ap, ◌∙◌}
-use Rattle.bass_operations.specs.declared.fault.OpFault.{OpFault}
+use Rattle.delegator_control.proofs.Prelude.{ℕ, ◌≡◌, List, Some, Err, sym, ap, ◌∙◌, OpFault, Finds, op_of, Cause, cause_of_fault, cause_read, done_read, done_by_write, Machine, moved}
 use Rattle.bass_operations.specs.declared.fault.OpFault.TheVariants as faults
-use Rattle.bcast_base.specs.Tries.{Finds}
-use Rattle.bass_operations.specs.Reading.{told, op_of}
-use Rattle.delegator_history.specs.declared.replies.Cause.{Cause}
-use Rattle.delegator_history.specs.Writes.{cause_of_fault, cause_read, done_read, done_by_write}
-use Rattle.delegator_control.specs.State.Machines.{Machine, moved}
+use Rattle.bass_operations.specs.Reading.{told}
 use Rattle.delegator_control.proofs.Standing.{moved_nothing}
 
 -- ---- an operation

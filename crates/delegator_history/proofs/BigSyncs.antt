@@ -1,22 +1,10 @@
 -- A sink that an announced train puts on a group is where the group's source is.
-use Rattle.std.proofs.Common.{◌≡◌, ◌≤◌, ◌<◌, ◌+◌, ◌*◌, ◌/◌, ◌^◌, ℕ, zero, suc, Bool, true, false, cond, eqb, List, [], ◌∷◌, get_or, Option, Some, None, Result, Ok, refl, sym, ap, ◌∙◌, subst, arith}
-use Rattle.std.specs.Prelude.{is_some}
-use Rattle.std.specs.List.{AllByRecursion, find}
-use Rattle.std.proofs.lemmas.Option.{same_Some}
+use Rattle.delegator_history.proofs.Prelude.{◌≡◌, ◌≤◌, ◌<◌, ◌+◌, ◌*◌, ◌/◌, ◌^◌, ℕ, zero, suc, Bool, true, false, cond, eqb, List, [], ◌∷◌, get_or, Option, Some, None, Result, Ok, refl, sym, ap, ◌∙◌, subst, arith, is_some, AllByRecursion, find, same_Some, Endpoint, BaseIs, BigFault, BigInfo, Cipher, Encodes, Train, base_in, big_info_in, found_in, offset_of, BigSync, IsOnGroup, heard_as, numbers_alone}
 use Rattle.base_grammar.specs.Ad.{first_service}
-use Rattle.base_grammar.specs.Layout.{Endpoint, BaseIs}
 use Rattle.ltv_codec.specs.Values.{first_of}
-use Rattle.big_info.specs.declared.big_fault.BigFault.{BigFault}
-use Rattle.big_info.specs.declared.info.BigInfo.{BigInfo}
-use Rattle.big_info.specs.declared.info.Cipher.{Cipher}
 use Rattle.big_info.specs.Faults.{faults}
-use Rattle.big_info.specs.Layout.{Encodes}
 use Rattle.big_info.specs.Rows.{first_fault, has_fault}
-use Rattle.announcement_train.specs.declared.train.Train.{Train}
 use Rattle.announcement_train.specs.Told.{Tells, numbers_of}
-use Rattle.delegator_history.specs.Trains.{base_in, big_info_in, found_in, offset_of}
-use Rattle.sync_reference.specs.BigSync.{BigSync}
-use Rattle.delegator_history.specs.Announced.{IsOnGroup, heard_as, numbers_alone}
 use Rattle.delegator_history.proofs.TrainOutcome.{Carries}
 use Rattle.delegator_history.proofs.Delays.{delay_read}
 use Rattle.big_info.proofs.Citable.{info_read}

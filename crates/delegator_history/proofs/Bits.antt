@@ -1,12 +1,7 @@
 -- Where bits of streams stand.
-use Rattle.std.proofs.Common.{◌≡◌, ◌<◌, ◌+◌, ℕ, zero, suc, Bool, true, false, List, [], ◌∷◌, length, Option, Some, None, option_map, get_or, refl, sym, ap, subst, arith}
-use Rattle.std.specs.Prelude.{◌==◌, ◌&&◌, if◌then◌else◌}
-use Rattle.std.specs.List.{Any}
-use Rattle.std.proofs.lemmas.Bool.{eqb-true}
-use Rattle.bass_operations.specs.declared.wishes.Wish.{Wish}
+use Rattle.delegator_history.proofs.Prelude.{◌≡◌, ◌<◌, ◌+◌, ℕ, zero, suc, Bool, true, false, List, [], ◌∷◌, length, Option, Some, None, option_map, get_or, refl, sym, ap, subst, arith, ◌==◌, ◌&&◌, if◌then◌else◌, Any, eqb-true, Wish, Entry, Place, idle, on_train, on_group}
 use Rattle.receive_state.specs.declared.state.GroupState.{GroupState}
 use Rattle.receive_state.specs.declared.state.ReceiveState.{ReceiveState}
-use Rattle.delegator_history.specs.Snapshots.{Entry, Place, idle, on_train, on_group}
 use Rattle.delegator_history.specs.Values.{status_of, groups_from, received, HasBit}
 
 -- no bit is set where none is taken

@@ -1,13 +1,8 @@
 -- Whatever is read of octets that encode a BASE, it has the presentation delay of that BASE.
-use Rattle.std.proofs.Common.{◌≡◌, ℕ, ◌∷◌, Bool, true, false, cond, ltb, List, [], length, Some, Result, Ok, Err, sym, ap, ◌∙◌, subst}
-use Rattle.std.specs.List.{flat_map}
-use Rattle.std.proofs.lemmas.Option.{some_pair_parts}
+use Rattle.delegator_history.proofs.Prelude.{◌≡◌, ℕ, ◌∷◌, Bool, true, false, cond, ltb, List, [], length, Some, Result, Ok, Err, sym, ap, ◌∙◌, subst, flat_map, some_pair_parts, bind_ok, needed_ok, number_again, ok_is, BaseFault, Endpoint, BaseIs, endpoint, subgroup}
 use Rattle.bcast_base.specs.Reading.{number_in, place_in}
 use Rattle.bcast_base.specs.Tries.{◌>>=◌}
-use Rattle.bcast_base.proofs.Citable.{bind_ok, needed_ok, number_again, ok_is}
-use Rattle.base_grammar.specs.declared.fault.BaseFault.{BaseFault}
 use Rattle.base_grammar.specs.declared.fault.BaseFault.TheVariants.{Short, TooLong}
-use Rattle.base_grammar.specs.Layout.{Endpoint, BaseIs, endpoint, subgroup}
 use Rattle.base_grammar.specs.Reading.{base_of, count_at, ended, field_at, fields_of, subgroups_at}
 
 short_enough : {A : Type 0} (long : Bool) (read : Result A BaseFault) (x : A) → cond long (Err TooLong) read ≡ Ok x → read ≡ Ok x

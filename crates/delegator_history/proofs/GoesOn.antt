@@ -1,19 +1,7 @@
 -- What is looked back for goes on by what each step does.
-use Rattle.std.proofs.Common.{ℕ, ◌≡◌, ◌≢◌, ◌+◌, Bool, true, false, List, [], ◌∷◌, ◌++◌, map, Option, Some, None, refl, sym, ap, ◌∙◌, arith}
-use Rattle.std.specs.Prelude.{◌==◌, unwrap_or, if◌then◌else◌}
-use Rattle.std.specs.Option.{option_or}
-use Rattle.std.specs.List.{range_with_len}
-use Rattle.std.proofs.lemmas.Bool.{eqb-true, eq-eqb}
-use Rattle.std.proofs.lemmas.List.{append-nil}
-use Rattle.pacs_records.specs.declared.capability.Capability.{Capability}
+use Rattle.delegator_history.proofs.Prelude.{ℕ, ◌≡◌, ◌≢◌, ◌+◌, Bool, true, false, List, [], ◌∷◌, ◌++◌, map, Option, Some, None, refl, sym, ap, ◌∙◌, arith, ◌==◌, unwrap_or, if◌then◌else◌, option_or, range_with_len, eqb-true, eq-eqb, append-nil, Capability, last_given, Wanted, Entry, Place, Snapshot, slot_of, is_on, entry_at, Done, nothing, added, modified, removed, tuned, followed, joined, lost, left, recorded, located, opened, place_given, encryption_given, taken_given, wanting, slots_after, capability_after, placed, after, Setup, Answered, Step, done_by, snapshot_in, snapshot_of, place_in, encrypted_in, encrypted_where, taken_in, source_by, wanted_by, entry_from, unwanted, source_in, wanted_in, entry_in, records_in, capability_in}
 use Rattle.delegator_history.specs.declared.source.Source.{Source}
-use Rattle.delegator_history.specs.LastGiven.{last_given}
-use Rattle.delegator_history.specs.Snapshots.{Wanted, Entry, Place, Snapshot, slot_of, is_on, entry_at}
-use Rattle.delegator_history.specs.Steps.{Done, nothing, added, modified, removed, tuned, followed, joined, lost, left, recorded, located, opened}
-use Rattle.delegator_history.specs.Steps.{place_given, encryption_given, taken_given, wanting, slots_after, capability_after, placed, after}
-use Rattle.delegator_history.specs.Trains.{Setup}
-use Rattle.delegator_history.specs.States.{Answered, Step, answered, done_by, snapshot_in, snapshot_of, place_in, encrypted_in, encrypted_where, taken_in}
-use Rattle.delegator_history.specs.States.{source_by, wanted_by, entry_from, unwanted, source_in, wanted_in, entry_in, records_in, capability_in}
+use Rattle.delegator_history.specs.States.{answered}
 use Rattle.delegator_history.proofs.Lists.{map_changes_first, map_at}
 use Rattle.delegator_history.proofs.Places.{place_goes_on, encryption_goes_on, taken_goes_on, not_on}
 

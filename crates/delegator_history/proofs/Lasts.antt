@@ -1,8 +1,5 @@
 -- What looking back finds.
-use Rattle.std.proofs.Common.{◌≡◌, List, [], ◌∷◌, ◌++◌, Option, Some, None, refl, sym, ap, ◌∙◌, subst}
-use Rattle.std.specs.Option.{option_or}
-use Rattle.std.specs.List.{AllByRecursion}
-use Rattle.delegator_history.specs.LastGiven.{last_given, IsLastGiven}
+use Rattle.delegator_history.proofs.Prelude.{◌≡◌, List, [], ◌∷◌, ◌++◌, Option, Some, None, refl, sym, ap, ◌∙◌, subst, option_or, AllByRecursion, last_given, IsLastGiven}
 
 first_or : {S A : Type 0} (gives : S → Option A) (step : S) (earlier : List S) (given : A) (o : Option A) → gives step ≡ o
     → (last_given gives earlier ≡ Some given → IsLastGiven gives earlier given)

@@ -1,3 +1,4 @@
+mod Prelude
 mod Bits
 mod TrainOutcome
 pub mod Citable

@@ -1,8 +1,6 @@
 -- Lists made over the slots, of which one changes.
-use Rattle.std.proofs.Common.{ℕ, zero, suc, ◌≡◌, ◌≢◌, ◌+◌, ◌<◌, ◌≤◌, List, [], ◌∷◌, ◌++◌, map, set, get_or, eqb, true, false, ◌⊎◌, inl, inr, refl, sym, ap, ◌∙◌, subst, arith}
-use Rattle.std.specs.List.{flat_map, range_with_len}
+use Rattle.delegator_history.proofs.Prelude.{ℕ, zero, suc, ◌≡◌, ◌≢◌, ◌+◌, ◌<◌, ◌≤◌, List, [], ◌∷◌, ◌++◌, map, set, get_or, eqb, true, false, ◌⊎◌, inl, inr, refl, sym, ap, ◌∙◌, subst, arith, flat_map, range_with_len, append-nil}
 use Rattle.std.proofs.lemmas.Bool.Decides.{eqb_tells}
-use Rattle.std.proofs.lemmas.List.{append-nil}
 
 pub map_agrees : {A : Type 0} (f g : ℕ → A) (start n : ℕ) → ((i : ℕ) → start ≤ i → g i ≡ f i) → map g (range_with_len start n) ≡ map f (range_with_len start n)
 map_agrees f g start zero same = refl

@@ -1,18 +1,10 @@
 -- The octets of a train are those of its parts, and no others.
-use Rattle.std.proofs.Common.{◌≡◌, ◌<◌, ◌+◌, ◌-◌, ◌*◌, ◌^◌, ℕ, Bool, true, false, cond, ltb, List, ◌∷◌, ◌++◌, length, take, drop, Option, Some, None, refl, sym, ap, ◌∙◌, subst, arith}
-use Rattle.std.proofs.lemmas.List.{drop_at, length-append, length-take, take-append-drop}
-use Rattle.std.proofs.lemmas.Option.{none-some, same_Some}
+use Rattle.delegator_history.proofs.Prelude.{◌≡◌, ◌<◌, ◌+◌, ◌-◌, ◌*◌, ◌^◌, ℕ, Bool, true, false, cond, ltb, List, ◌∷◌, ◌++◌, length, take, drop, Option, Some, None, refl, sym, ap, ◌∙◌, subst, arith, drop_at, length-append, length-take, take-append-drop, none-some, same_Some, IsOctets-prefix, IsOctets-rest, number-length, number_again, number_once, Endpoint, encoding, BigInfo, Cipher, CipherIs, Encodes, number_of, Train}
 use Rattle.bcast_base.specs.Numbers.{sum_from}
 use Rattle.bcast_base.specs.Encoding.{IsOctets, number}
-use Rattle.bcast_base.proofs.Citable.{IsOctets-prefix, IsOctets-rest, number-length, number_again, number_once}
 use Rattle.ltv_codec.specs.Layout.{structure}
 use Rattle.base_grammar.specs.Ad.{broadcast_audio_announcement}
-use Rattle.base_grammar.specs.Layout.{Endpoint, encoding}
-use Rattle.big_info.specs.declared.info.BigInfo.{BigInfo}
-use Rattle.big_info.specs.declared.info.Cipher.{Cipher}
-use Rattle.big_info.specs.Layout.{CipherIs, Encodes, number_of}
 use Rattle.big_info.specs.Widths.{FitsWidths}
-use Rattle.announcement_train.specs.declared.train.Train.{Train}
 use Rattle.announcement_train.specs.Layout.{IsTrain, announced, basic_audio_announcement, info_ad, lead, service_ad}
 use Rattle.delegator_history.specs.Octets.{MayAnnounce, cipher_octets, info_octets, train_of}
 

@@ -1,14 +1,6 @@
 -- The place looked back for, and what goes with it, as one more step is answered.
-use Rattle.std.proofs.Common.{ℕ, ◌≡◌, Bool, true, false, List, [], ◌∷◌, Option, Some, None, refl, sym, ap, ◌∙◌}
-use Rattle.std.specs.Prelude.{◌==◌, ◌&&◌, not, unwrap_or, if◌then◌else◌}
-use Rattle.std.specs.Option.{option_or}
-use Rattle.std.proofs.lemmas.Bool.{eqb-true, eq-eqb}
-use Rattle.delegator_history.specs.LastGiven.{last_given}
-use Rattle.delegator_history.specs.Snapshots.{Place, Snapshot, idle, on_train, on_group, slot_of, is_slot, is_on, is_on_group, entry_at}
-use Rattle.delegator_history.specs.Steps.{Done, nothing, added, modified, removed, tuned, followed, joined, lost, left, recorded, located, opened}
-use Rattle.delegator_history.specs.Steps.{same_streams, wishes_at, place_left, place_given, place_after, encryption_given, encrypted_on, taken_given, taken_on, placed}
-use Rattle.delegator_history.specs.Trains.{Setup}
-use Rattle.delegator_history.specs.States.{Answered, Step, answered, done_by, snapshot_in, place_in, encryption_by, encrypted_in, encrypted_where, taken_in}
+use Rattle.delegator_history.proofs.Prelude.{ℕ, ◌≡◌, Bool, true, false, List, [], ◌∷◌, Option, Some, None, refl, sym, ap, ◌∙◌, ◌==◌, ◌&&◌, not, unwrap_or, if◌then◌else◌, option_or, eqb-true, eq-eqb, last_given, Place, Snapshot, idle, on_train, on_group, slot_of, is_slot, is_on, is_on_group, entry_at, Done, nothing, added, modified, removed, tuned, followed, joined, lost, left, recorded, located, opened, same_streams, wishes_at, place_left, place_given, place_after, encryption_given, encrypted_on, taken_given, taken_on, placed, Setup, Answered, Step, done_by, snapshot_in, place_in, encryption_by, encrypted_in, encrypted_where, taken_in}
+use Rattle.delegator_history.specs.States.{answered}
 
 -- ---- what is given with a place
 

@@ -1,10 +1,5 @@
 -- A set of streams is empty exactly where no stream was put into it.
-use Rattle.std.proofs.Common.{ℕ, ◌≡◌, ◌+◌, ◌-◌, ◌<◌, ◌≤◌, ◌^◌, suc, Bool, true, false, List, [], ◌∷◌, ◌++◌, length, refl, sym, ◌∙◌, arith}
-use Rattle.std.specs.Prelude.{◌==◌, bit_or}
-use Rattle.std.specs.List.{concat}
-use Rattle.std.proofs.lemmas.Bool.{ne_eqb}
-use Rattle.std.proofs.lemmas.Nat.{le_or_l, le_or_r, pow_pos}
-use Rattle.delegator_history.specs.Trains.{are_none, set_with, sets_with}
+use Rattle.delegator_history.proofs.Prelude.{ℕ, ◌≡◌, ◌+◌, ◌-◌, ◌<◌, ◌≤◌, ◌^◌, suc, Bool, true, false, List, [], ◌∷◌, ◌++◌, length, refl, sym, ◌∙◌, arith, ◌==◌, bit_or, concat, ne_eqb, le_or_l, le_or_r, pow_pos, are_none, set_with, sets_with}
 
 set_grows : (set : ℕ) (streams : List ℕ) → set ≤ set_with set streams
 set_grows set [] = omega arith

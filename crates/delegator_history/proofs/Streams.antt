@@ -1,16 +1,8 @@
 -- The streams that a sink takes of a group have indices from 1 to Num_BIS.
-use Rattle.std.proofs.Common.{◌≡◌, ◌≤◌, ◌<◌, ◌+◌, ◌-◌, ◌^◌, ℕ, zero, suc, Bool, true, false, cond, List, [], ◌∷◌, take, length, refl, arith}
-use Rattle.std.specs.Prelude.{◌&&◌, ◌==◌, nat_le, bit_or, is_none, map}
+use Rattle.delegator_history.proofs.Prelude.{◌≡◌, ◌≤◌, ◌<◌, ◌+◌, ◌-◌, ◌^◌, ℕ, zero, suc, Bool, true, false, cond, List, [], ◌∷◌, take, length, refl, arith, ◌&&◌, ◌==◌, nat_le, bit_or, is_none, map, AllByRecursion, filter, range_with_len, leb-true, or_lt, pow_below, pow_pos, Wish, Endpoint, bis_of, stands_in, Capability, candidates, first_candidates, is_candidate, set_with, sets_with}
 use Rattle.std.specs.Int.{bit_at}
-use Rattle.std.specs.List.{AllByRecursion, filter, range_with_len}
-use Rattle.std.proofs.lemmas.Bool.{leb-true}
-use Rattle.std.proofs.lemmas.Nat.{or_lt, pow_below, pow_pos}
-use Rattle.bass_operations.specs.declared.wishes.Wish.{Wish}
 use Rattle.base_grammar.specs.declared.subgroup.Subgroup.{Subgroup}
-use Rattle.base_grammar.specs.Layout.{Endpoint, bis_of, stands_in}
-use Rattle.pacs_records.specs.declared.capability.Capability.{Capability}
 use Rattle.pacs_records.specs.Reasons.{stream_not_taken}
-use Rattle.delegator_history.specs.Trains.{candidates, first_candidates, is_candidate, set_with, sets_with}
 
 abbrev pub Within : ℕ → List ℕ → Type 0
 Within most streams = AllByRecursion (λ bis. (1 ≤ bis) × (bis ≤ most)) streams

@@ -1,26 +1,13 @@
 -- What a train carries that synchronizes a sink to a BIG.
-use Rattle.std.proofs.Common.{◌≡◌, ◌≤◌, ℕ, Bool, true, false, cond, eqb, List, Option, Some, None, Result, Ok, Err, refl, sym, ◌∙◌, arith}
-use Rattle.std.specs.Prelude.{◌==◌, length, map}
-use Rattle.std.proofs.lemmas.Bool.{eqb-false}
-use Rattle.std.proofs.lemmas.Option.{none-some, same_Some}
-use Rattle.base_grammar.specs.declared.fault.BaseFault.{BaseFault}
+use Rattle.delegator_history.proofs.Prelude.{◌≡◌, ◌≤◌, ℕ, Bool, true, false, cond, eqb, List, Option, Some, None, Result, Ok, Err, refl, sym, ◌∙◌, arith, ◌==◌, length, map, eqb-false, none-some, same_Some, BaseFault, Endpoint, Wish, BigFault, BigInfo, Capability, Snapshot, entry_at, is_on_group, wishes_at, TrainOutcome, Setup, heard, ignored, taken, base_in, big_info_in, outcome_by, by_base, by_big_info, by_broadcast_id, by_endpoint, BigSync, are_none, by_group, by_info, by_slot, by_streams, first_candidates, is_elsewhere, is_wanted, big_sync_in, big_sync_of, set_with, sets_with}
 use Rattle.base_grammar.specs.AdReading.{broadcast_id_of}
-use Rattle.base_grammar.specs.Layout.{Endpoint}
 use Rattle.base_grammar.specs.Reading.{base_of}
-use Rattle.bass_operations.specs.declared.wishes.Wish.{Wish}
-use Rattle.big_info.specs.declared.big_fault.BigFault.{BigFault}
 use Rattle.big_info.specs.declared.fault.GroupFault.{GroupFault}
-use Rattle.big_info.specs.declared.info.BigInfo.{BigInfo}
 use Rattle.big_info.specs.Reading.{info_of}
 use Rattle.big_info.specs.Rows.{first_fault}
-use Rattle.pacs_records.specs.declared.capability.Capability.{Capability}
 use Rattle.delegator_history.specs.declared.train_heard.TrainHeard.{TrainHeard}
 use Rattle.delegator_history.specs.declared.train_heard.TrainHeard.TheVariants as answers
-use Rattle.delegator_history.specs.Snapshots.{Snapshot, entry_at, is_on_group}
-use Rattle.delegator_history.specs.Steps.{wishes_at}
-use Rattle.delegator_history.specs.Trains.{TrainOutcome, Setup, Train, heard, ignored, taken, base_in, big_info_in, outcome_by, by_base, by_big_info, by_broadcast_id, by_endpoint}
-use Rattle.sync_reference.specs.BigSync.{BigSync}
-use Rattle.delegator_history.specs.Trains.{are_none, by_group, by_info, by_slot, by_streams, first_candidates, is_elsewhere, is_wanted, big_sync_in, big_sync_of, set_with, sets_with}
+use Rattle.delegator_history.specs.Trains.{Train}
 use Rattle.delegator_history.specs.Writes.{slot_where}
 use Rattle.delegator_history.proofs.Citable.{none_set}
 

@@ -1,14 +1,9 @@
 -- The notices that wait go on by what each step makes of them.
-use Rattle.std.proofs.Common.{ℕ, zero, suc, ◌≡◌, ◌≢◌, ◌+◌, ◌<◌, min, List, [], ◌∷◌, ◌++◌, length, drop, refl, sym, ap, ◌∙◌, arith}
-use Rattle.std.specs.Prelude.{if◌then◌else◌}
+use Rattle.delegator_history.proofs.Prelude.{ℕ, zero, suc, ◌≡◌, ◌≢◌, ◌+◌, ◌<◌, min, List, [], ◌∷◌, ◌++◌, length, drop, refl, sym, ap, ◌∙◌, arith, if◌then◌else◌, drop-append-le, drop_min, Snapshot, Step, snapshot_of, Setup}
 use Rattle.std.proofs.Math.Nat.{min-le_right}
 use Rattle.std.proofs.lemmas.Slice.Eq.{bytes_eq-Decides}
-use Rattle.std.proofs.lemmas.List.{drop-append-le, drop_min}
 use Rattle.delegator_history.specs.declared.notice.Notice.{Notice}
 use Rattle.delegator_history.specs.Notices.{change, changes, notices, is_told, delivered, waiting}
-use Rattle.delegator_history.specs.Snapshots.{Snapshot}
-use Rattle.delegator_history.specs.States.{Step, snapshot_of}
-use Rattle.delegator_history.specs.Trains.{Setup}
 use Rattle.delegator_history.specs.Values.{value_at}
 use Rattle.delegator_history.proofs.Lists.{flat_none, flat_one}
 

@@ -1,3 +1,4 @@
+mod Prelude
 mod Bits
 mod Places
 mod Standing

@@ -1,22 +1,11 @@
 -- Which steps synchronize a sink to a BIG.
-use Rattle.std.proofs.Common.{ℕ, ◌≡◌, Bool, true, false, List, Option, Some, None, Result, Ok, Err, unwrap_or, refl, ◌∙◌, ap}
-use Rattle.std.specs.Prelude.{◌==◌, ◌&&◌, not, if◌then◌else◌}
-use Rattle.bass_operations.specs.declared.fault.OpFault.{OpFault}
-use Rattle.bass_operations.specs.declared.operation.Operation.{Operation}
+use Rattle.delegator_machine.proofs.Prelude.{ℕ, ◌≡◌, Bool, true, false, List, Option, Some, None, Result, Ok, Err, unwrap_or, refl, ◌∙◌, ap, ◌==◌, ◌&&◌, not, if◌then◌else◌, OpFault, Operation, op_of, Place, idle, on_train, on_group, Snapshot, entry_at, is_on, is_on_group, Step, record_added, locations_set, contexts_set, mtu_set, sync_to_group, written, train_heard, train_lost, control_heard, notified, done_by, Done, after, capability_after, encryption_given, place_given, place_left, placed, same_streams, slots_after, taken_given, wishes_at, TrainOutcome, Setup, ignored, heard, taken, outcome_by, done_by_outcome, big_sync_in, BigSync, has_group, big_sync_given}
 use Rattle.bass_operations.specs.declared.operation.Operation.TheVariants.{ScanStopped, ScanStarted, Add, Modify, Code, Remove}
-use Rattle.bass_operations.specs.Reading.{op_of}
 use Rattle.delegator_history.specs.declared.replies.Cause.{Cause}
 use Rattle.delegator_history.specs.declared.train_heard.ControlHeard.{ControlHeard}
 use Rattle.delegator_history.specs.declared.train_heard.ControlHeard.TheVariants as controls
 use Rattle.delegator_history.specs.Controls.{control_heard as answer_to, done_heard}
-use Rattle.delegator_history.specs.Snapshots.{Place, idle, on_train, on_group, Snapshot, entry_at, is_on, is_on_group}
-use Rattle.delegator_history.specs.States.{Step, record_added, locations_set, contexts_set, mtu_set, sync_to_group, written, train_heard, train_lost, control_heard, notified, done_by}
-use Rattle.delegator_history.specs.Steps.{Done, after, capability_after, encryption_given, place_given, place_left, placed, same_streams, slots_after, taken_given, wishes_at}
-use Rattle.delegator_history.specs.Trains.{TrainOutcome, Setup, ignored, heard, taken, outcome_by, done_by_outcome, big_sync_in}
-use Rattle.sync_reference.specs.BigSync.{BigSync}
 use Rattle.delegator_history.specs.Writes.{cause_of, done_read, operated, slot_with}
-use Rattle.delegator_control.specs.Groups.{has_group}
-use Rattle.delegator_machine.specs.Groups.{big_sync_given}
 use Rattle.delegator_machine.proofs.Trains.{brings_none}
 
 placed_place : (given : Option Place) (encryption : Option Bool) (streams : Option (List ℕ)) (snapshot : Snapshot)

@@ -1,16 +1,8 @@
 -- A Scan Delegator that stands for its calls stands for them and one more.
-use Rattle.std.proofs.Common.{◌≡◌, Bool, true, false, List, ◌∷◌, Option, Some, None, refl, sym, ◌∙◌, ap, subst}
-use Rattle.delegator_history.specs.Snapshots.{Snapshot}
-use Rattle.delegator_history.specs.States.{Step, snapshot_of}
-use Rattle.delegator_history.specs.Trains.{Setup}
-use Rattle.sync_reference.specs.BigSync.{BigSync}
+use Rattle.delegator_machine.proofs.Prelude.{◌≡◌, Bool, true, false, List, ◌∷◌, Option, Some, None, refl, sym, ◌∙◌, ap, subst, Snapshot, Step, snapshot_of, Setup, BigSync, OnGroup, has_group, Machine, Call, control, steps_of, big_sync_given, by_numbers, with_leave, with_step, group_calls, Halves, StandsFor}
 use Rattle.group_sink.specs.Calls as sinks
-use Rattle.group_sink.specs.State.Sinks.{OnGroup, StandsFor as SinkStands}
-use Rattle.delegator_control.specs.Groups.{has_group}
-use Rattle.delegator_control.specs.State.Machines.{Machine, StandsFor as ScanStands}
-use Rattle.delegator_machine.specs.Calls.{Call, control, steps_of}
-use Rattle.delegator_machine.specs.Groups.{big_sync_given, by_numbers, with_leave, with_step, group_calls}
-use Rattle.delegator_machine.specs.State.Halves.{Halves, StandsFor}
+use Rattle.group_sink.specs.State.Sinks.{StandsFor as SinkStands}
+use Rattle.delegator_control.specs.State.Machines.{StandsFor as ScanStands}
 
 -- what the control half has
 pub snapshot_is : (setup : Setup) (calls : List Call) (d : Halves) → StandsFor setup calls d → d.scan.snapshot ≡ snapshot_of setup (steps_of calls)

@@ -1,24 +1,12 @@
 -- A train that is heard synchronizes the sink to a BIG, or leaves it off one.
-use Rattle.std.proofs.Common.{ℕ, ◌≡◌, Bool, true, false, List, ◌∷◌, Option, Some, None, option_map, refl, sym, ◌∙◌, ap}
-use Rattle.std.specs.Prelude.{not, is_some, if◌then◌else◌}
+use Rattle.delegator_machine.proofs.Prelude.{ℕ, ◌≡◌, Bool, true, false, List, ◌∷◌, Option, Some, None, option_map, refl, sym, ◌∙◌, ap, not, is_some, if◌then◌else◌, Place, idle, on_train, on_group, Snapshot, entry_at, is_on_group, train_heard, snapshot_of, nothing, after, wishes_at, TrainOutcome, Setup, Train, ignored, heard, taken, base_in, outcome_by, by_base, by_broadcast_id, by_slot, done_by_outcome, is_elsewhere, is_wanted, big_sync_in, BigSync, OnGroup, fresh_on, has_base, is_followed, has_group, Machine, moved, Call, control, steps_of, group_calls, by_numbers, Halves, StandsFor}
 use Rattle.base_grammar.specs.AdReading.{broadcast_id_of}
 use Rattle.delegator_history.specs.declared.train_heard.TrainHeard.{TrainHeard}
 use Rattle.delegator_history.specs.declared.train_heard.TrainHeard.TheVariants as answers
-use Rattle.delegator_history.specs.Snapshots.{Place, idle, on_train, on_group, Snapshot, entry_at, is_on_group}
-use Rattle.delegator_history.specs.States.{train_heard, snapshot_of}
-use Rattle.delegator_history.specs.Steps.{nothing, after, wishes_at}
-use Rattle.delegator_history.specs.Trains.{TrainOutcome, Setup, Train, ignored, heard, taken, base_in, outcome_by, by_base, by_broadcast_id, by_slot, done_by_outcome, is_elsewhere, is_wanted, big_sync_in}
 use Rattle.delegator_history.specs.Writes.{slot_where}
 use Rattle.group_sink.specs.Calls as sinks
-use Rattle.sync_reference.specs.BigSync.{BigSync}
-use Rattle.group_sink.specs.State.Sinks.{OnGroup, StandsFor as SinkStands}
-use Rattle.group_sink.specs.State.Steps.{fresh_on}
-use Rattle.delegator_control.specs.Following.{has_base, is_followed}
-use Rattle.delegator_control.specs.Groups.{has_group}
-use Rattle.delegator_control.specs.State.Machines.{Machine, moved, StandsFor as ScanStands}
-use Rattle.delegator_machine.specs.Calls.{Call, control, steps_of}
-use Rattle.delegator_machine.specs.Groups.{group_calls, by_numbers}
-use Rattle.delegator_machine.specs.State.Halves.{Halves, StandsFor}
+use Rattle.group_sink.specs.State.Sinks.{StandsFor as SinkStands}
+use Rattle.delegator_control.specs.State.Machines.{StandsFor as ScanStands}
 use Rattle.delegator_machine.proofs.Standing.{snapshot_is, stands_joined, stands_quiet}
 
 -- ---- of a sink that is on a group a train changes nothing

@@ -1,18 +1,10 @@
 -- Both halves are on a group, or on none.
-use Rattle.std.proofs.Common.{◌≡◌, Bool, true, false, List, [], ◌∷◌, Option, Some, None, option_map, refl, sym, ◌∙◌, ap}
+use Rattle.delegator_machine.proofs.Prelude.{◌≡◌, Bool, true, false, List, [], ◌∷◌, Option, Some, None, option_map, refl, sym, ◌∙◌, ap, is_some, if◌then◌else◌, Snapshot, Step, snapshot_of, after, Setup, BigSync, has_group, Call, control, hear, tick, steps_of, big_sync_given, last_big_sync, by_numbers, with_leave, with_step, group_calls}
 use Rattle.std.specs.Option.{option_or}
-use Rattle.std.specs.Prelude.{is_some, if◌then◌else◌}
-use Rattle.delegator_history.specs.Snapshots.{Snapshot}
-use Rattle.delegator_history.specs.States.{Step, answered, snapshot_of}
-use Rattle.delegator_history.specs.Steps.{after}
-use Rattle.delegator_history.specs.Trains.{Setup}
-use Rattle.sync_reference.specs.BigSync.{BigSync}
+use Rattle.delegator_history.specs.States.{answered}
 use Rattle.delegator_history.proofs.Citable.{snapshot_goes_on}
 use Rattle.group_sink.specs.Calls as sinks
 use Rattle.group_sink.specs.Calls.{place}
-use Rattle.delegator_control.specs.Groups.{has_group}
-use Rattle.delegator_machine.specs.Calls.{Call, control, hear, tick, steps_of}
-use Rattle.delegator_machine.specs.Groups.{big_sync_given, last_big_sync, by_numbers, with_leave, with_step, group_calls}
 use Rattle.delegator_machine.proofs.Places.{comes_on, stays_off}
 
 -- ---- one step

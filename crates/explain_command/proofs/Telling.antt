@@ -1,15 +1,9 @@
 -- What is told as octets are written one after the other.
-use Rattle.std.proofs.Common.{ℕ, suc, zero, ◌≡◌, ◌≢◌, ◌+◌, ◌<◌, ◌≤◌, ◌==◌, Bool, true, false, List, [], ◌∷◌, ◌++◌, Option, None, Some, Result, Ok, Err, MatchResult, length, get_or, take, drop, min}
-use Rattle.std.proofs.Common.{refl, sym, ap, subst, ◌∙◌, append-nil, arith, take-append-drop, if◌then◌else◌, eq-eqb}
+use Rattle.explain_command.proofs.Prelude.{ℕ, suc, zero, ◌≡◌, ◌≢◌, ◌+◌, ◌<◌, ◌≤◌, ◌==◌, Bool, true, false, List, [], ◌∷◌, ◌++◌, Option, None, Some, Result, Ok, Err, MatchResult, length, get_or, take, drop, min, refl, sym, ap, subst, ◌∙◌, append-nil, arith, take-append-drop, if◌then◌else◌, eq-eqb, drop-drop, get_or-take, length-drop, length-take, take-append-le, Appends, Keeps, AppendsPrefix, AppendsShort, Start, Blank, Blanks, Mark, Within, Beside, Line, lines_at, lines_told, next, next_in_row, number_of, picked, picked_at, place_after, takes, tells_line, told, told_at}
 use Rattle.std.proofs.lemmas.Bool.{eqb-true, ne_eqb}
 use Rattle.std.proofs.Math.Seq.{take-add}
-use Rattle.std.proofs.lemmas.List.{drop-drop, get_or-take, length-drop, length-take, take-append-le}
-use Rattle.std.specs.Io.KnownBytes.{Appends, Keeps}
 use Rattle.bcast_io.proofs.Citable.{Appends-nothing, Appends-then}
-use Rattle.bcast_io.specs.Writing.{AppendsPrefix, AppendsShort}
 use Rattle.explain_command.specs.declared.place.Place.{Place}
-use Rattle.explain_command.specs.declared.place.Place.TheVariants.{Start, Blank, Blanks, Mark, Within, Beside, Line}
-use Rattle.explain_command.specs.Rows.{lines_at, lines_told, next, next_in_row, number_of, picked, picked_at, place_after, takes, tells_line, told, told_at}
 
 -- ---- octets behind octets
 

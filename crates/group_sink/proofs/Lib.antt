@@ -1,3 +1,4 @@
+mod Prelude
 mod Handing
 mod Offsets
 mod OneStream

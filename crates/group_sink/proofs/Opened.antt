@@ -1,10 +1,6 @@
 -- The open event of a stream by the ticks alone.
-use Rattle.std.proofs.Common.{ℕ, ◌≡◌, ◌+◌, Bool, true, false, cond, eqb, leb, List, [], ◌∷◌, Option, Some, None, refl, ap, ◌∙◌, arith}
+use Rattle.group_sink.proofs.Prelude.{ℕ, ◌≡◌, ◌+◌, Bool, true, false, cond, eqb, leb, List, [], ◌∷◌, Option, Some, None, refl, ap, ◌∙◌, arith, Stay, opened, Call, tune, hear, tick, leave, BigSync, closes, number_of, stay_on, stream_calls, with_hear}
 use Rattle.isoal_base.specs.Stays as stays
-use Rattle.isoal_base.specs.Stays.{Stay, opened}
-use Rattle.group_sink.specs.Calls.{Call, tune, hear, tick, leave}
-use Rattle.sync_reference.specs.BigSync.{BigSync}
-use Rattle.group_sink.specs.Streams.{closes, number_of, stay_on, stream_calls, with_hear}
 
 -- a hear opens no event
 pub opened-hear : (stay : Stay) (number : Option ℕ) (octets : List ℕ) (calls : List stays.Call)

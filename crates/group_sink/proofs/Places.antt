@@ -1,13 +1,5 @@
 -- The place of the receiver of a stream among those of the streams that a sink takes.
-use Rattle.std.proofs.Common.{ℕ, zero, suc, ◌≡◌, ◌≢◌, ◌+◌, ◌-◌, ◌<◌, ◌≤◌, Bool, true, false, cond, List, [], ◌∷◌, ◌++◌, length, map, set, replicate, slice_get, Some, None, refl, sym, ap, ◌∙◌, inl, inr, arith}
-use Rattle.std.specs.List.{filter, range_with_len}
-use Rattle.std.proofs.lemmas.Bool.{cases_Bool, cases_eq, cond-true, cond-false}
-use Rattle.std.proofs.lemmas.List.{append_assoc, append-nil, length-map, map-append, set_at}
-use Rattle.std.proofs.lemmas.List.Elements.{filter-append}
-use Rattle.std.proofs.lemmas.List.FromFn.{length-map-range_with_len, length-range_with_len, map-range_with_len_more}
-use Rattle.std.proofs.lemmas.Option.{same_Some}
-use Rattle.group_sink.specs.State.Sinks.{place_in, places_of}
-use Rattle.group_sink.specs.Streams.{is_in, streams_of}
+use Rattle.group_sink.proofs.Prelude.{ℕ, zero, suc, ◌≡◌, ◌≢◌, ◌+◌, ◌-◌, ◌<◌, ◌≤◌, Bool, true, false, cond, List, [], ◌∷◌, ◌++◌, length, map, set, replicate, slice_get, Some, None, refl, sym, ap, ◌∙◌, inl, inr, arith, filter, range_with_len, cases_Bool, cases_eq, cond-true, cond-false, append_assoc, append-nil, length-map, map-append, set_at, filter-append, length-map-range_with_len, length-range_with_len, map-range_with_len_more, same_Some, place_in, places_of, is_in, streams_of}
 
 -- the indices below one and above it
 range_split : (start n m : ℕ) → range_with_len start (n + m) ≡ range_with_len start n ++ range_with_len (start + n) m

@@ -1,26 +1,11 @@
 -- A sink that stands for its calls stands for them and one more.
-use Rattle.std.proofs.Common.{ℕ, ◌≡◌, ◌≢◌, ◌-◌, ◌≤◌, Bool, true, false, cond, eqb, leb, List, [], ◌∷◌, ◌++◌, map, slice_get, slice_set, Option, Some, None, option_map, refl, sym, ap, ◌∙◌, subst, arith}
-use Rattle.std.specs.List.{flat_map}
-use Rattle.std.proofs.lemmas.Bool.{cond-true, cond-false, eq-eqb, ne_eqb}
-use Rattle.std.proofs.lemmas.List.FromFn.{get_or-map-range_with_len}
+use Rattle.group_sink.proofs.Prelude.{ℕ, ◌≡◌, ◌≢◌, ◌-◌, ◌≤◌, Bool, true, false, cond, eqb, leb, List, [], ◌∷◌, ◌++◌, map, slice_get, slice_set, Option, Some, None, option_map, refl, sym, ap, ◌∙◌, subst, arith, flat_map, cond-true, cond-false, eq-eqb, ne_eqb, get_or-map-range_with_len, same_Some, Bounds, Handed, Stay, opened, Call, tune, hear, tick, place, BigSync, units_by, units_on, handed_by, handed_at, closed, fresh, owed_of, receiver_after, OnGroup, StandsFor, place_in, places_of, stream_after, on_after, fresh_on, answer_at, answer_on, hear_at, heard_at, hear_on, place_on, owed_by, owed_on, tick_at, tick_on, is_in, number_of, stay_on, stream_calls, streams_of, with_hear, with_tick, Receiver}
 use Rattle.std.proofs.lemmas.List.Folds.{flat_map-map}
-use Rattle.std.proofs.lemmas.Option.{same_Some}
-use Rattle.big_info.specs.Bounds.{Bounds}
-use Rattle.unit_outlets.specs.Handed.{Handed}
 use Rattle.isoal_base.specs.declared.hearing.Hearing.TheVariants as hearings
 use Rattle.isoal_base.specs.Stays as stays
-use Rattle.isoal_base.specs.Stays.{Stay, opened}
 use Rattle.group_sink.proofs.Places.{stream_at, stream_set, streams_same}
 use Rattle.group_sink.proofs.Receivers.{answer_is, open_is, owed_is, receiver_close, receiver_hear, receiver_new}
-use Rattle.group_sink.specs.Calls.{Call, tune, hear, tick, place}
-use Rattle.sync_reference.specs.BigSync.{BigSync}
-use Rattle.group_sink.specs.Handing.{units_by, units_on, handed_by, handed_at}
 use Rattle.group_sink.specs.Hearings.{hearing_on, hearing_at, hearing_of}
-use Rattle.group_sink.specs.State.Receivers.{closed, fresh, owed_of, receiver_after}
-use Rattle.group_sink.specs.State.Sinks.{OnGroup, StandsFor, place_in, places_of, stream_after, on_after}
-use Rattle.group_sink.specs.State.Steps.{fresh_on, answer_at, answer_on, hear_at, heard_at, hear_on, place_on, owed_by, owed_on, tick_at, tick_on}
-use Rattle.group_sink.specs.Streams.{is_in, number_of, stay_on, stream_calls, streams_of, with_hear, with_tick}
-use Rattle.group_sink.specs.declared.receiver.Receiver.{Receiver}
 
 map_all : {X : Type 0} (f g : ℕ → X) (xs : List ℕ) → ((x : ℕ) → f x ≡ g x) → map f xs ≡ map g xs
 map_all f g [] same = refl

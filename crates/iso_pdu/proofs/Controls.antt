@@ -1,12 +1,7 @@
 -- Control payloads: reading and layout agree.
-use Rattle.std.proofs.Common.{◌≡◌, ℕ, zero, suc, ◌+◌, ◌*◌, ◌/◌, ◌%◌, List, [], ◌∷◌, ◌++◌, length, take, drop, eqb, true, refl, arith, sym, ap, subst, inl, inr, length-append}
-use Rattle.std.proofs.Common.{length-take, length-drop, take-append-drop, Result, Ok, Err}
-use Rattle.std.specs.Prelude.{IfOk, IfErr}
-use Rattle.std.proofs.lemmas.Bool.{cases_Bool, eqb-true, eqb-false, eq-eqb, ne_eqb}
-use Rattle.bcast_base.specs.Numbers.{Le}
-use Rattle.iso_pdu.specs.Control.{ControlIs, ControlFaultIs, control_of, terminate_of, terminate}
+use Rattle.iso_pdu.proofs.Prelude.{◌≡◌, ℕ, zero, suc, ◌+◌, ◌*◌, ◌/◌, ◌%◌, List, [], ◌∷◌, ◌++◌, length, take, drop, eqb, true, refl, arith, sym, ap, subst, inl, inr, length-append, length-take, length-drop, take-append-drop, Result, Ok, Err, IfOk, IfErr, cases_Bool, eqb-true, eqb-false, eq-eqb, ne_eqb, Le, ControlIs, ControlFaultIs, terminate_of, terminate, ChannelMap, Terminate}
+use Rattle.iso_pdu.specs.Control.{control_of}
 use Rattle.iso_pdu.specs.declared.control.Control.{Control}
-use Rattle.iso_pdu.specs.declared.control.Control.TheVariants.{ChannelMap, Terminate}
 use Rattle.iso_pdu.specs.declared.control.ControlFault.{ControlFault}
 use Rattle.iso_pdu.specs.declared.control.ControlFault.TheVariants.{Opcode, ControlLength}
 

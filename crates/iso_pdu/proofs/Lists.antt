@@ -1,6 +1,5 @@
 -- The first octets of a list.
-use Rattle.std.proofs.Common.{◌≡◌, ℕ, ◌≤◌, ◌<◌, ◌^◌, List, [], ◌∷◌, length, take, set, get_or, refl, arith}
-use Rattle.bcast_base.specs.Numbers.{sum_from}
+use Rattle.iso_pdu.proofs.Prelude.{◌≡◌, ℕ, ◌≤◌, ◌<◌, ◌^◌, List, [], ◌∷◌, length, take, set, get_or, refl, arith, sum_from}
 
 pub take-set_two : (octets : List ℕ) (a b : ℕ) → 2 ≤ length octets → take 2 (set (set octets 0 a) 1 b) ≡ a ∷ b ∷ []
 take-set_two [] a b h = absurd (omega arith)

@@ -1,12 +1,7 @@
 -- A segment put behind others.
-use Rattle.std.proofs.Common.{◌≡◌, ℕ, ◌+◌, ◌-◌, ◌*◌, ◌<◌, ◌≤◌, List, [], ◌∷◌, ◌++◌, zero, suc, length, take, drop, set, get_or, refl, sym, ap, ◌∙◌, arith, append_assoc, length-append, length-take, length-drop, Bool}
-use Rattle.std.proofs.lemmas.List.{append-nil, drop-take, take_more_set, length-set}
-use Rattle.std.proofs.lemmas.Slice.{take-put_mid}
+use Rattle.iso_pdu.proofs.Prelude.{◌≡◌, ℕ, ◌+◌, ◌-◌, ◌*◌, ◌<◌, ◌≤◌, List, [], ◌∷◌, ◌++◌, zero, suc, length, take, drop, set, get_or, refl, sym, ap, ◌∙◌, arith, append_assoc, length-append, length-take, length-drop, Bool, append-nil, drop-take, take_more_set, length-set, take-put_mid, Part, start, more, framed, bit, parts_in, offset_octets, segment, segments, pdu}
 use Rattle.std.proofs.Math.Seq.{take-set-lt}
 use borrow.Rule.Slice.PartMut.{put_mid}
-use Rattle.iso_pdu.specs.Layout.{Part, start, more, framed, bit}
-use Rattle.iso_pdu.specs.Reading.{parts_in}
-use Rattle.iso_pdu.specs.Encoding.{offset_octets, segment, segments, pdu}
 use Rattle.iso_pdu.specs.State.Packing.{Packed, room_in, packed_in, IsPacked}
 use Rattle.iso_pdu.proofs.PartsRead.{parts_from-layout}
 use Rattle.iso_pdu.proofs.PdusRead.{segments-are}

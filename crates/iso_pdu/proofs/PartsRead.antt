@@ -1,14 +1,7 @@
 -- Segments are read as the layout says, and the other way round.
-use Rattle.std.proofs.Common.{◌≡◌, ℕ, zero, suc, ◌+◌, ◌-◌, ◌/◌, ◌%◌, ◌<◌, ◌≤◌, Bool, true, false, eqb, List, [], ◌∷◌, ◌++◌, length, take, drop, get_or, Option, Some, None, Result}
-use Rattle.std.proofs.Common.{Ok, Err, refl, sym, ap, ◌∙◌, subst, inl, inr, arith, add-zero, append_assoc, length-append, length-drop, length-take, take-append-drop}
-use Rattle.std.proofs.lemmas.Bool.{cases_Bool, eqb-true, eqb-false, eq-eqb, ne_eqb}
+use Rattle.iso_pdu.proofs.Prelude.{◌≡◌, ℕ, zero, suc, ◌+◌, ◌-◌, ◌/◌, ◌%◌, ◌<◌, ◌≤◌, Bool, true, false, eqb, List, [], ◌∷◌, ◌++◌, length, take, drop, get_or, Option, Some, None, Result, Ok, Err, refl, sym, ap, ◌∙◌, subst, inl, inr, arith, add-zero, append_assoc, length-append, length-drop, length-take, take-append-drop, cases_Bool, eqb-true, eqb-false, eq-eqb, ne_eqb, take_at, drop_at, append-nil, result_err, PduFault, SegmentShort, Part, start, more, bit, BodyIs, SegmentIs, SegmentsAre, part_at, fault_at, before, unless, parts_of, parts_in, IsPassed}
 use Rattle.std.proofs.lemmas.Bool.Decides.{nat_tests}
-use Rattle.std.proofs.lemmas.List.{take_at, drop_at, append-nil}
-use Rattle.std.specs.Result.{result_err}
-use Rattle.iso_pdu.specs.declared.fault.PduFault.{PduFault}
-use Rattle.iso_pdu.specs.declared.fault.PduFault.TheVariants.{SegmentShort}
-use Rattle.iso_pdu.specs.Layout.{Part, start, more, bit, BodyIs, SegmentIs, SegmentsAre}
-use Rattle.iso_pdu.specs.Reading.{part_at, fault_at, before, unless, parts_from, parts_of, parts_in, IsPassed}
+use Rattle.iso_pdu.specs.Reading.{parts_from}
 
 -- ---- the octets of a segment that was read are passed
 

@@ -1,15 +1,7 @@
 -- A PDU is read as the layout says, its fault is the one at the cut, and what is written is read.
-use Rattle.std.proofs.Common.{◌≡◌, ℕ, zero, suc, ◌+◌, ◌*◌, ◌%◌, ◌<◌, ◌≤◌, ◌⊎◌, ◌&&◌, Bool, true, false, cond, eqb, ltb, List, [], ◌∷◌, ◌++◌, length, take, drop, Option, Some}
-use Rattle.std.proofs.Common.{None, Result, Ok, Err, refl, sym, ap, ◌∙◌, subst, inl, inr, arith, append_assoc, length-append, length-take, length-drop, take-append-drop}
-use Rattle.std.proofs.lemmas.Bool.{and_parts, cases_Bool, ltb-true, ltb-false, le-ltb, lt-ltb, eqb-true, eqb-false, eq-eqb, ne_eqb}
+use Rattle.iso_pdu.proofs.Prelude.{◌≡◌, ℕ, zero, suc, ◌+◌, ◌*◌, ◌%◌, ◌<◌, ◌≤◌, ◌⊎◌, ◌&&◌, Bool, true, false, cond, eqb, ltb, List, [], ◌∷◌, ◌++◌, length, take, drop, Option, Some, None, Result, Ok, Err, refl, sym, ap, ◌∙◌, subst, inl, inr, arith, append_assoc, length-append, length-take, length-drop, take-append-drop, and_parts, cases_Bool, ltb-true, ltb-false, le-ltb, lt-ltb, eqb-true, eqb-false, eq-eqb, ne_eqb, Le, PduFault, Short, LengthDiffers, TooLong, SegmentShort, SegmentNoOffset, Part, start, more, Content, end, fragment, framed, control, bit, IsSegmentHeader, SegmentIs, SegmentsAre, PayloadIs, PduIs, llid, octets_of, HasAtMost, part_at, fault_at, before, unless, parts_of, framed_of, content_at, StandsShort, StandsNoOffset, AtCut, InFramed, FaultIs, offset_octets, segment, segments, payload_of, pdu}
 use Rattle.std.specs.List.{AllByRecursion}
-use Rattle.bcast_base.specs.Numbers.{Le}
-use Rattle.iso_pdu.specs.declared.fault.PduFault.{PduFault}
-use Rattle.iso_pdu.specs.declared.fault.PduFault.TheVariants.{Short, LengthDiffers, TooLong, SegmentShort, SegmentNoOffset}
-use Rattle.iso_pdu.specs.Layout.{Part, start, more, Content, end, fragment, framed, control, bit, IsSegmentHeader, SegmentIs, SegmentsAre, PayloadIs, PduIs, llid, octets_of, HasAtMost}
-use Rattle.iso_pdu.specs.Reading.{part_at, fault_at, before, unless, parts_from, parts_of, framed_of, content_at, read_of}
-use Rattle.iso_pdu.specs.Faults.{StandsShort, StandsNoOffset, AtCut, InFramed, FaultIs}
-use Rattle.iso_pdu.specs.Encoding.{offset_octets, segment, segments, payload_of, pdu}
+use Rattle.iso_pdu.specs.Reading.{parts_from, read_of}
 use Rattle.iso_pdu.proofs.PartsRead.{fault_at-none, parts_from-whole, part_at-is, parts_from-encoded, parts_from-layout, parts_from-segments, befores, befores-err}
 
 -- ---- what is read is of the layout, and the other way round

@@ -1,16 +1,6 @@
 -- The units that begin at a number that is heard, and at one that is not.
-use Rattle.std.proofs.Common.{ℕ, suc, ◌≡◌, ◌+◌, ◌-◌, ◌/◌, ◌<◌, ◌≤◌, inl, inr, true, false, Bool, ◌&&◌, cond, List, [], ◌∷◌, ◌++◌, map}
-use Rattle.std.proofs.Common.{length, Option, Some, None, refl, sym, ap, ◌∙◌, subst, arith, length-append}
-use Rattle.std.specs.List.{flat_map}
-use Rattle.std.proofs.lemmas.Bool.{cases_Bool, cases_order, and_from, and_left, cond-true, cond-false, le-leb, and_right}
-use Rattle.std.proofs.lemmas.List.{append-nil}
-use Rattle.std.proofs.lemmas.Option.{none-some}
-use Rattle.unit_outlets.specs.Handed.{valid}
-use Rattle.isoal_base.specs.Stays.{Stay}
-use Rattle.isoal_framed.specs.Tokens.{Token, starts, token_of, time_of}
-use Rattle.isoal_framed.specs.Units.{Run}
-use Rattle.isoal_framed.specs.State.Joining.{hands, hands_joined, run_joined}
-use Rattle.isoal_framed.specs.Struck.{Fit, Sent, octets_in, behind, is_last, parts_at, InOrder, entry_of}
+use Rattle.isoal_framed.proofs.Prelude.{ℕ, suc, ◌≡◌, ◌+◌, ◌-◌, ◌/◌, ◌<◌, ◌≤◌, inl, inr, true, false, Bool, ◌&&◌, cond, List, [], ◌∷◌, ◌++◌, map, length, Option, Some, None, refl, sym, ap, ◌∙◌, subst, arith, length-append, flat_map, cases_Bool, cases_order, and_from, and_left, cond-true, cond-false, le-leb, and_right, append-nil, none-some, valid, Stay, Token, starts, token_of, time_of, Run, hands, hands_joined, run_joined, Fit, Sent, octets_in, is_last, parts_at, InOrder, entry_of}
+use Rattle.isoal_framed.specs.Struck.{behind}
 use Rattle.isoal_framed.proofs.Carried.{carried_here, carried_later, none_here, toks, toks_same, toks_none}
 use Rattle.isoal_framed.proofs.Entries.{scan, scan_run, entry_heard, entry_missed, scan_end}
 

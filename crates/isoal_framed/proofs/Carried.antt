@@ -1,10 +1,6 @@
 -- The segments of units at a number, and its tokens.
-use Rattle.std.proofs.Common.{ℕ, zero, suc, ◌≡◌, ◌+◌, ◌-◌, ◌/◌, ◌<◌, ◌≤◌, true, false, Bool, ◌&&◌, eqb, cond, List, [], ◌∷◌, ◌++◌, map, Option, Some, None, refl, arith}
-use Rattle.std.specs.List.{flat_map, range_with_len}
-use Rattle.std.proofs.lemmas.Bool.{cond-true, cond-false, eq-eqb, ne_eqb}
-use Rattle.isoal_base.specs.Stays.{Stay}
-use Rattle.isoal_framed.specs.Tokens.{Token, missing, token_of}
-use Rattle.isoal_framed.specs.Struck.{Sent, behind, is_last, part_with, carried, parts_at, InOrder}
+use Rattle.isoal_framed.proofs.Prelude.{ℕ, zero, suc, ◌≡◌, ◌+◌, ◌-◌, ◌/◌, ◌<◌, ◌≤◌, true, false, Bool, ◌&&◌, eqb, cond, List, [], ◌∷◌, ◌++◌, map, Option, Some, None, refl, arith, flat_map, range_with_len, cond-true, cond-false, eq-eqb, ne_eqb, Stay, Token, missing, token_of, Sent, is_last, part_with, carried, parts_at, InOrder}
+use Rattle.isoal_framed.specs.Struck.{behind}
 use Rattle.isoal_framed.proofs.Closed.{flat_same}
 
 -- the segments that a number carries

@@ -1,13 +1,6 @@
 -- The entry of a unit: what becomes of it from a number on.
-use Rattle.std.proofs.Common.{ℕ, ◌≡◌, ◌+◌, ◌-◌, ◌/◌, ◌<◌, ◌≤◌, inl, inr, true, false, Bool, ◌&&◌, ltb, cond, List, [], ◌∷◌, ◌++◌}
-use Rattle.std.proofs.Common.{length, Option, Some, None, refl, sym, ap, ◌∙◌, arith}
-use Rattle.std.specs.List.{flat_map}
-use Rattle.std.proofs.lemmas.Bool.{cases_Bool, cases_order, cond-true, cond-false, lt-ltb, le-ltb, and_right}
-use Rattle.unit_outlets.specs.Handed.{Handed, valid, lost}
-use Rattle.isoal_base.specs.Stays.{Stay}
-use Rattle.isoal_framed.specs.Tokens.{time_of}
-use Rattle.isoal_framed.specs.Units.{Run}
-use Rattle.isoal_framed.specs.Struck.{Sent, octets_in, behind, InOrder, first_missing, entry_by, entry_of}
+use Rattle.isoal_framed.proofs.Prelude.{ℕ, ◌≡◌, ◌+◌, ◌-◌, ◌/◌, ◌<◌, ◌≤◌, inl, inr, true, false, Bool, ◌&&◌, ltb, cond, List, [], ◌∷◌, ◌++◌, length, Option, Some, None, refl, sym, ap, ◌∙◌, arith, flat_map, cases_Bool, cases_order, cond-true, cond-false, lt-ltb, le-ltb, and_right, Handed, valid, lost, Stay, time_of, Run, Sent, octets_in, InOrder, first_missing, entry_by, entry_of}
+use Rattle.isoal_framed.specs.Struck.{behind}
 
 -- a unit that goes on: what becomes of it from this number on
 unfoldable pub scan : (ℕ → Bool) → ℕ → ℕ → ℕ → Bool → List ℕ → ℕ → List (List ℕ) → List Handed

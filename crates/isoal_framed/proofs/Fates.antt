@@ -1,8 +1,5 @@
 -- The fate of a run from left to right is what the run and what follows it say.
-use Rattle.std.proofs.Common.{ℕ, ◌≡◌, ◌≤◌, ◌<◌, ◌⊎◌, inl, inr, true, false, leb, cond, Bool, List, [], ◌∷◌, ◌++◌, length, refl, sym, ap, ◌∙◌, subst, arith, append_assoc, length-append}
-use Rattle.std.proofs.lemmas.Bool.{cases_Bool, cond-true, cond-false, leb-true, leb-false, le-leb, lt-leb}
-use Rattle.std.proofs.lemmas.List.{append-nil}
-use Rattle.isoal_framed.specs.Units.{Piece, Fate, whole, broken, undecided, NoneComplete, joined, IsWhole, IsTooLong, IsCut, FateIs, fate_after, fate_of}
+use Rattle.isoal_framed.proofs.Prelude.{ℕ, ◌≡◌, ◌≤◌, ◌<◌, ◌⊎◌, inl, inr, true, false, leb, cond, Bool, List, [], ◌∷◌, ◌++◌, length, refl, sym, ap, ◌∙◌, subst, arith, append_assoc, length-append, cases_Bool, cond-true, cond-false, leb-true, leb-false, le-leb, lt-leb, append-nil, Piece, Fate, whole, broken, undecided, NoneComplete, joined, IsWhole, IsTooLong, IsCut, FateIs, fate_after, fate_of}
 
 -- a piece that fits and doesn't complete, and what follows
 goes : (max_sdu : ℕ) (prefix : List ℕ) (piece : Piece) (run : List Piece) (followed : Bool) → piece.complete ≡ false

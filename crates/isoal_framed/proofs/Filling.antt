@@ -1,14 +1,7 @@
 -- An event that is filled act by act ends all its PDUs: each act ends one, fills one that then ends, or is done with a unit.
-use Rattle.std.proofs.Common.{ℕ, zero, suc, ◌≡◌, ◌+◌, ◌*◌, ◌<◌, ◌≤◌, ◌⊎◌, inl, inr, true, false, eqb, List, [], ◌∷◌, ◌++◌, length, Some, refl, sym, ◌∙◌, subst, arith}
-use Rattle.std.specs.List.{slice_get}
-use Rattle.std.proofs.lemmas.Bool.{cases_Bool, cond-true, cond-false, eqb-true, eq-eqb, false≢true}
-use Rattle.std.proofs.lemmas.Option.{slice_get_within}
+use Rattle.isoal_framed.proofs.Prelude.{ℕ, zero, suc, ◌≡◌, ◌+◌, ◌*◌, ◌<◌, ◌≤◌, ◌⊎◌, inl, inr, true, false, eqb, List, [], ◌∷◌, ◌++◌, length, Some, refl, sym, ◌∙◌, subst, arith, slice_get, cases_Bool, cond-true, cond-false, eqb-true, eq-eqb, false≢true, slice_get_within, BigInfo, AllCome, pdus_ended, IsEvent, IsAirOf, IsFramedAir, Call, accept, lay, Timed, accepted, Act, carries, leaves_out, ends, place_of, Comes, done, sent, room, least_room}
 use Rattle.circular_buffer.proofs.Places.{slice_get-append_left}
-use Rattle.big_info.specs.declared.info.BigInfo.{BigInfo}
-use Rattle.isoal_framed.specs.Air.{AllCome, pdus_ended, IsEvent, IsAirOf, IsFramedAir}
-use Rattle.isoal_framed.specs.Calls.{Call, accept, lay, Timed, accepted}
 use Rattle.isoal_framed.specs.Filling.{next_act, filled, event_acts, acts_of, framed_air}
-use Rattle.isoal_framed.specs.Places.{Act, carries, leaves_out, ends, place_of, Comes, done, sent, room, least_room}
 use Rattle.isoal_framed.proofs.Greedy.{Partly, cases_low, same_due, strictly, least_over}
 use Rattle.isoal_framed.proofs.Packings.{comes_act}
 use Rattle.isoal_framed.proofs.Senders.{done_come, done_within}

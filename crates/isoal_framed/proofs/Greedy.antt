@@ -1,11 +1,5 @@
 -- Filling PDUs greedily meets the conditions on each place, and nothing else does.
-use Rattle.std.proofs.Common.{ℕ, ◌≡◌, ◌+◌, ◌-◌, ◌<◌, ◌≤◌, ◌⊎◌, inl, inr, true, false, eqb, Bool, ◌&&◌, length, Option, Some, None, refl, sym, ◌∙◌, arith}
-use Rattle.std.proofs.lemmas.Bool.{cases_Bool, cond-true, cond-false, leb-true, leb-false, lt-ltb, le-ltb, le-leb, lt-leb, eqb-true, eq-eqb, ne_eqb, and_left, and_right, false≢true, cases_eq, and_from}
-use Rattle.std.proofs.lemmas.Option.{none-some}
-use Rattle.isoal_base.proofs.Citable.{cases_option}
-use Rattle.isoal_framed.specs.Calls.{Timed}
-use Rattle.isoal_framed.specs.Places.{Act, carries, leaves_out, ends, Place, overhead, least_room, HasTurn, IsSegment, Comes}
-use Rattle.isoal_framed.specs.Greedy.{sends, unless_stale, unless_early, act_for, act_of}
+use Rattle.isoal_framed.proofs.Prelude.{ℕ, ◌≡◌, ◌+◌, ◌-◌, ◌<◌, ◌≤◌, ◌⊎◌, inl, inr, true, false, eqb, Bool, ◌&&◌, length, Option, Some, None, refl, sym, ◌∙◌, arith, cases_Bool, cond-true, cond-false, leb-true, leb-false, lt-ltb, le-ltb, le-leb, lt-leb, eqb-true, eq-eqb, ne_eqb, and_left, and_right, false≢true, cases_eq, and_from, none-some, cases_option, Timed, Act, carries, leaves_out, ends, Place, overhead, least_room, HasTurn, IsSegment, Comes, sends, unless_stale, unless_early, act_for, act_of}
 
 pub cases_low : (m n : ℕ) → (m ≤ n) ⊎ (n < m)
 cases_low m n = grind (arith, cases_Bool, leb-true, leb-false)

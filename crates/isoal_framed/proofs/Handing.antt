@@ -1,10 +1,6 @@
 -- Units that are handed one by one, up to the taker's first fault.
-use Rattle.std.proofs.Common.{◌+◌, List, ◌++◌, length, take, Result, Ok, Err, arith, append_assoc, length-append}
-use Rattle.std.proofs.lemmas.List.{take-append-le}
+use Rattle.isoal_framed.proofs.Prelude.{◌+◌, List, ◌++◌, length, take, Result, Ok, Err, arith, append_assoc, length-append, take-append-le, Handed, Counts, HandsOver, TakerFault, HandsOn, CausedOn}
 use Rattle.std.proofs.Math.Seq.{take-append-add}
-use Rattle.unit_outlets.specs.Handed.{Handed, Counts, HandsOver}
-use Rattle.unit_outlets.specs.declared.fault.TakerFault.{TakerFault}
-use Rattle.isoal_framed.specs.State.Windows.{HandsOn, CausedOn}
 
 -- units, and then more
 over_then : (first second : List Handed) (old now new : List Handed) (middle result : Result (Unit {0}) TakerFault)

@@ -1,12 +1,6 @@
 -- What the tokens hand one by one is what the list of them decides.
-use Rattle.std.proofs.Common.{ℕ, ◌≡◌, ◌≤◌, true, cond, Bool, List, [], ◌∷◌, ◌++◌, length, Option, Some, None, refl, ap, ◌+◌, take, arith, append_assoc, length-append}
-use Rattle.std.proofs.lemmas.Bool.{cond-true, le-leb}
-use Rattle.std.proofs.lemmas.List.{length-take}
+use Rattle.isoal_framed.proofs.Prelude.{ℕ, ◌≡◌, ◌≤◌, true, cond, Bool, List, [], ◌∷◌, ◌++◌, length, Option, Some, None, refl, ap, ◌+◌, take, arith, append_assoc, length-append, cond-true, le-leb, length-take, Handed, valid, lost, Token, starts, goes_on, missing, Fate, whole, broken, Run, run_on, is_followed, fate_after, handed_of, run_of, units, undecided_run, hands_at, hands_joined, run_at, hands, run_after}
 use Rattle.std.specs.Option.{option_or}
-use Rattle.unit_outlets.specs.Handed.{Handed, valid, lost}
-use Rattle.isoal_framed.specs.Tokens.{Token, starts, goes_on, missing}
-use Rattle.isoal_framed.specs.Units.{Fate, whole, broken, Run, run_on, is_followed, fate_after, handed_of, run_of, units, undecided_run}
-use Rattle.isoal_framed.specs.State.Joining.{hands_at, hands_joined, run_at, hands, run_after}
 
 -- behind a start whose run so far has these octets
 record Joins (max_sdu bis : ℕ) (tokens : List Token) : Type 0 where

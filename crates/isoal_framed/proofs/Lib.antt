@@ -1,3 +1,4 @@
+mod Prelude
 mod Begun
 mod Carried
 mod Closed

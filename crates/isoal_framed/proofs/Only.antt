@@ -1,13 +1,6 @@
 -- At most one air: the acts of an event are those of the greedy filling, up to the end of its last PDU.
-use Rattle.std.proofs.Common.{ℕ, zero, suc, ◌≡◌, ◌+◌, ◌-◌, ◌<◌, ◌≤◌, inl, inr, List, [], ◌∷◌, ◌++◌, length, refl, sym, ap, ◌∙◌, subst, arith}
-use Rattle.std.specs.List.{slice_get}
-use Rattle.std.proofs.lemmas.Bool.{cases_order}
-use Rattle.big_info.specs.declared.info.BigInfo.{BigInfo}
-use Rattle.isoal_base.specs.Air.{Air}
-use Rattle.isoal_framed.specs.Air.{AllCome, pdus_ended, IsEvent, event_of, begun_by, IsAirOf}
-use Rattle.isoal_framed.specs.Calls.{Call, accept, lay, Timed, accepted}
-use Rattle.isoal_framed.specs.Places.{Act, carries, leaves_out, ends, place_of, room, sent, done}
-use Rattle.isoal_framed.specs.Greedy.{act_of}
+use Rattle.isoal_framed.proofs.Prelude.{ℕ, zero, suc, ◌≡◌, ◌+◌, ◌-◌, ◌<◌, ◌≤◌, inl, inr, List, [], ◌∷◌, ◌++◌, length, refl, sym, ap, ◌∙◌, subst, arith, slice_get, cases_order, BigInfo, Air, AllCome, pdus_ended, IsEvent, begun_by, IsAirOf, Call, accept, lay, Timed, accepted, Act, carries, leaves_out, ends, place_of, room, sent, done, act_of}
+use Rattle.isoal_framed.specs.Air.{event_of}
 use Rattle.isoal_framed.proofs.Greedy.{only_act}
 
 -- so many acts of the greedy filling

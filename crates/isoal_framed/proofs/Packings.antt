@@ -1,18 +1,5 @@
 -- An event that is filled act by act.
-use Rattle.std.proofs.Common.{ℕ, zero, suc, ◌≡◌, ◌+◌, ◌-◌, ◌<◌, ◌≤◌, true, false, Bool, List, [], ◌∷◌, ◌++◌, length, drop, Option, Some, None, ◌⊎◌, refl, sym, ap, ◌∙◌, subst, arith}
-use Rattle.std.specs.List.{slice_get}
-use Rattle.std.proofs.lemmas.Bool.{false≢true}
-use Rattle.std.proofs.lemmas.Option.{none-some, slice_get_past, same_Some}
-use Rattle.iso_pdu.specs.Layout.{framed}
-use Rattle.iso_pdu.specs.State.Packing.{room_in}
-use Rattle.iso_pdu.specs.Encoding.{pdu}
-use Rattle.isoal_base.proofs.Citable.{cases_option}
-use Rattle.isoal_framed.specs.Air.{pdus_ended}
-use Rattle.isoal_framed.specs.Calls.{Timed}
-use Rattle.isoal_framed.specs.Places.{Act, carries, leaves_out, ends, Place, place_of, Comes, done, sent, room}
-use Rattle.isoal_framed.specs.Greedy.{act_for, act_of}
-use Rattle.isoal_framed.specs.State.Packings.{Carried, Changes, Placed}
-use Rattle.isoal_framed.specs.State.Senders.{Going, IsPartly}
+use Rattle.isoal_framed.proofs.Prelude.{ℕ, zero, suc, ◌≡◌, ◌+◌, ◌-◌, ◌<◌, ◌≤◌, true, false, Bool, List, [], ◌∷◌, ◌++◌, length, drop, Option, Some, None, ◌⊎◌, refl, sym, ap, ◌∙◌, subst, arith, slice_get, false≢true, none-some, slice_get_past, same_Some, framed, room_in, pdu, cases_option, pdus_ended, Timed, Act, carries, leaves_out, ends, Place, place_of, Comes, done, sent, room, act_for, act_of, Carried, Changes, Placed, Going, IsPartly}
 use Rattle.isoal_framed.specs.declared.packing.Packing.{Packing}
 use Rattle.isoal_framed.proofs.Greedy.{Partly, strictly, comes_for, comes_none}
 

@@ -1,14 +1,8 @@
 -- The places of a window: filled with empty ones, and turned by one.
-use Rattle.std.proofs.Common.{ℕ, suc, ◌≡◌, ◌+◌, ◌-◌, ◌<◌, ◌≤◌, List, [], ◌∷◌, ◌++◌, map, length, take, drop, replicate, get_or, Option, None, ◌⊎◌, inl, inr, refl, sym, ap, ◌∙◌}
-use Rattle.std.proofs.Common.{arith, append_assoc, length-append}
-use Rattle.std.specs.List.{flat_map, slice_get}
-use Rattle.std.proofs.lemmas.Option.{none-some, slice_get-get_or}
-use Rattle.std.proofs.lemmas.List.{map-append, drop-map, length-map, length-replicate, length-drop, replicate-append-replicate, drop-append-le, drop-drop}
+use Rattle.isoal_framed.proofs.Prelude.{ℕ, suc, ◌≡◌, ◌+◌, ◌-◌, ◌<◌, ◌≤◌, List, [], ◌∷◌, ◌++◌, map, length, take, drop, replicate, get_or, Option, None, ◌⊎◌, inl, inr, refl, sym, ap, ◌∙◌, arith, append_assoc, length-append, flat_map, slice_get, none-some, slice_get-get_or, map-append, drop-map, length-map, length-replicate, length-drop, replicate-append-replicate, drop-append-le, drop-drop, read_as, segmented}
 use Rattle.std.proofs.Math.Seq.{drop-cons}
 use Rattle.circular_buffer.specs.Buffer.{keep_last}
 use Rattle.iso_pdu.specs.Reading.{read_of}
-use Rattle.isoal_base.specs.Hearing.{read_as}
-use Rattle.isoal_framed.specs.Tokens.{segmented}
 
 empty : (max_pdu : ℕ) → read_as segmented max_pdu [] ≡ None
 unfolding read_of

@@ -1,18 +1,8 @@
 -- What an act adds to the units that were sent: a start, a further segment, a unit left out, the end of a PDU.
-use Rattle.std.proofs.Common.{ℕ, ◌≡◌, ◌+◌, ◌-◌, ◌*◌, ◌<◌, ◌≤◌, inr, true, false, Bool, List, [], ◌∷◌, ◌++◌, length, take, drop}
-use Rattle.std.proofs.Common.{Option, Some, None, refl, sym, ap, ◌∙◌, subst, arith, length-append}
-use Rattle.std.specs.List.{slice_get}
-use Rattle.std.proofs.lemmas.Bool.{cond-true, cond-false, eq-eqb, ne_eqb, false≢true}
-use Rattle.std.proofs.lemmas.List.{append-nil, length-take, take_all}
-use Rattle.std.proofs.lemmas.Option.{slice_get_within}
+use Rattle.isoal_framed.proofs.Prelude.{ℕ, ◌≡◌, ◌+◌, ◌-◌, ◌*◌, ◌<◌, ◌≤◌, inr, true, false, Bool, List, [], ◌∷◌, ◌++◌, length, take, drop, Option, Some, None, refl, sym, ap, ◌∙◌, subst, arith, length-append, slice_get, cond-true, cond-false, eq-eqb, ne_eqb, false≢true, append-nil, length-take, take_all, slice_get_within, Part, start, more, part_of, Laying, Timed, Act, carries, leaves_out, ends, Comes, IsSegment, place_of, overhead, least_room, done, sent, room, IsTimed, AreOf, Sent, octets_in, parts_at}
 use Rattle.std.proofs.Math.Seq.{take-add}
 use Rattle.std.proofs.Math.Bool.{and-true}
-use Rattle.iso_pdu.specs.Layout.{Part, start, more}
-use Rattle.isoal_framed.specs.Air.{part_of}
-use Rattle.isoal_framed.specs.Calls.{Laying, Timed}
-use Rattle.isoal_framed.specs.Places.{Act, carries, leaves_out, ends, Comes, IsSegment, place_of, overhead, least_room, done, sent, room}
-use Rattle.isoal_framed.specs.Sends.{IsTimed, AreOf}
-use Rattle.isoal_framed.specs.Struck.{Sent, octets_in, behind, parts_at}
+use Rattle.isoal_framed.specs.Struck.{behind}
 use Rattle.isoal_framed.proofs.Stays.{carried_past}
 use Rattle.isoal_framed.proofs.Carried.{carried_before, carried_here}
 use Rattle.isoal_framed.proofs.Sendings.{chain_more, Open, are_more, are_snoc, take_next, octets_snoc, get_same, taken_before, Sending, at_least}

@@ -1,13 +1,6 @@
 -- A sender that stands for its calls stands for them and one more.
-use Rattle.std.proofs.Common.{ℕ, ◌≡◌, ◌≤◌, true, false, List, [], ◌∷◌, ◌++◌, length, drop, ap, ◌∙◌, arith, length-append}
-use Rattle.std.proofs.lemmas.List.{drop-append-le}
-use Rattle.std.proofs.lemmas.Option.{slice_get_within}
-use Rattle.big_info.specs.declared.info.BigInfo.{BigInfo}
-use Rattle.isoal_base.specs.Air.{Laid, Air}
-use Rattle.isoal_framed.specs.Air.{AllCome, IsEvent, IsAirOf, event_of, begun_by}
-use Rattle.isoal_framed.specs.Calls.{Call, accept, lay, Timed, accepted}
-use Rattle.isoal_framed.specs.Places.{Act, carries, leaves_out, ends, done, sent, room}
-use Rattle.isoal_framed.specs.State.Senders.{Sender, IsSender, StandsFor, with_unit}
+use Rattle.isoal_framed.proofs.Prelude.{ℕ, ◌≡◌, ◌≤◌, true, false, List, [], ◌∷◌, ◌++◌, length, drop, ap, ◌∙◌, arith, length-append, drop-append-le, slice_get_within, BigInfo, Laid, Air, AllCome, IsEvent, IsAirOf, begun_by, Call, accept, lay, Timed, accepted, Act, carries, leaves_out, ends, done, sent, room, Sender, IsSender, StandsFor, with_unit}
+use Rattle.isoal_framed.specs.Air.{event_of}
 
 -- between two events a PDU begins
 pub room_between : (max_pdu : ℕ) (info : BigInfo) (calls : List Call) (acts : List Act) (air : Air) → IsAirOf info calls acts air → room max_pdu acts ≡ max_pdu

@@ -1,16 +1,7 @@
 -- How the units that acts have sent stand for these acts, and what later calls leave of it.
-use Rattle.std.proofs.Common.{ℕ, zero, suc, ◌≡◌, ◌+◌, ◌-◌, ◌<◌, ◌≤◌, ◌⊎◌, inl, inr, true, false, Bool, ◌&&◌, List, [], ◌∷◌, ◌++◌, length, take}
-use Rattle.std.proofs.Common.{Option, Some, None, refl, sym, ap, ◌∙◌, subst, arith}
-use Rattle.std.specs.List.{slice_get}
-use Rattle.std.proofs.lemmas.Bool.{cond-false, ne_eqb, and_right}
+use Rattle.isoal_framed.proofs.Prelude.{ℕ, zero, suc, ◌≡◌, ◌+◌, ◌-◌, ◌<◌, ◌≤◌, ◌⊎◌, inl, inr, true, false, Bool, ◌&&◌, List, [], ◌∷◌, ◌++◌, length, take, Option, Some, None, refl, sym, ap, ◌∙◌, subst, arith, slice_get, cond-false, ne_eqb, and_right, append-nil, length-take, none-some, slice_get_past, slice_get_within, Part, more, Laying, Timed, Act, done, sent, room, IsTimed, IsOf, AreOf, Sent, Fit, octets_in, carried, is_last, parts_at}
 use Rattle.std.proofs.lemmas.Grind.{flat_map-append}
-use Rattle.std.proofs.lemmas.List.{append-nil, length-take}
-use Rattle.std.proofs.lemmas.Option.{none-some, slice_get_past, slice_get_within}
-use Rattle.iso_pdu.specs.Layout.{Part, more}
-use Rattle.isoal_framed.specs.Calls.{Laying, Timed}
-use Rattle.isoal_framed.specs.Places.{Act, done, sent, room}
-use Rattle.isoal_framed.specs.Sends.{IsTimed, IsOf, AreOf}
-use Rattle.isoal_framed.specs.Struck.{Sent, Fit, octets_in, behind, carried, is_last, parts_at}
+use Rattle.isoal_framed.specs.Struck.{behind}
 use Rattle.isoal_framed.proofs.Stays.{carried_past}
 use Rattle.isoal_framed.proofs.Carried.{carried_here, carried_later}
 

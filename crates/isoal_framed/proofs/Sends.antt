@@ -1,19 +1,6 @@
 -- The units of an air, event by event.
-use Rattle.std.proofs.Common.{ℕ, zero, suc, ◌≡◌, ◌+◌, ◌-◌, ◌*◌, ◌<◌, ◌≤◌, List, [], ◌∷◌, ◌++◌, map, length, take, drop}
-use Rattle.std.proofs.Common.{Option, Some, None, refl, sym, ap, ◌∙◌, subst, arith, length-append}
-use Rattle.std.specs.List.{range_with_len, slice_get}
-use Rattle.std.proofs.lemmas.Bool.{true≢false}
-use Rattle.std.proofs.lemmas.List.{take-append-drop}
-use Rattle.big_info.specs.declared.info.BigInfo.{BigInfo}
-use Rattle.iso_pdu.specs.Layout.{framed}
-use Rattle.iso_pdu.specs.Encoding.{pdu}
-use Rattle.isoal_base.specs.Air.{Air}
-use Rattle.isoal_base.proofs.Citable.{map_same, map_append}
-use Rattle.isoal_framed.specs.Air.{AllCome, IsAirOf, pdus_ended, part_of, open_parts, pdus_of}
-use Rattle.isoal_framed.specs.Calls.{Call, accept, lay, Laying, Timed, accepted, layings_of}
-use Rattle.isoal_framed.specs.Places.{Act, carries, leaves_out, ends, Comes, place_of, done, sent, room}
-use Rattle.isoal_framed.specs.Sends.{AreOf, EventsAre, Sends}
-use Rattle.isoal_framed.specs.Struck.{Sent, InOrder, octets_in, behind, parts_at}
+use Rattle.isoal_framed.proofs.Prelude.{ℕ, zero, suc, ◌≡◌, ◌+◌, ◌-◌, ◌*◌, ◌<◌, ◌≤◌, List, [], ◌∷◌, ◌++◌, map, length, take, drop, Option, Some, None, refl, sym, ap, ◌∙◌, subst, arith, length-append, range_with_len, slice_get, true≢false, take-append-drop, BigInfo, framed, pdu, Air, map_same, map_append, AllCome, IsAirOf, pdus_ended, part_of, open_parts, pdus_of, Call, accept, lay, Laying, Timed, accepted, layings_of, Act, carries, leaves_out, ends, Comes, place_of, done, sent, room, AreOf, EventsAre, Sends, Sent, InOrder, octets_in, parts_at}
+use Rattle.isoal_framed.specs.Struck.{behind}
 use Rattle.isoal_framed.proofs.Senders.{room_between}
 use Rattle.isoal_framed.proofs.Segments.{in_place, ends_step, leaves_step, carries_step}
 use Rattle.isoal_framed.proofs.Sendings.{all, Chain, get_more, are_more, are_snoc, take_next, taken_before, Sending, Stable, fit_more, Grown, accepted_more, anchored_more}

@@ -1,15 +1,7 @@
 -- A stay, from its first number on: what it decides are the entries of the units that were sent.
-use Rattle.std.proofs.Common.{ℕ, zero, suc, ◌≡◌, ◌+◌, ◌-◌, ◌*◌, ◌/◌, ◌<◌, ◌≤◌, inl, inr, true, false, Bool, is_some, List, [], ◌∷◌, ◌++◌, length, drop}
-use Rattle.std.proofs.Common.{Option, Some, None, refl, sym, ap, ◌∙◌, subst, arith, append_assoc, length-drop}
-use Rattle.std.specs.List.{flat_map, range_with_len}
-use Rattle.std.proofs.Math.Nat.{add-mul, le-div_iff_mul-le, div-lt_iff_lt-mul}
-use Rattle.std.proofs.lemmas.Bool.{cond-true, cond-false, true≢false}
-use Rattle.isoal_base.specs.Stays.{Stay, Call, opened, heard}
-use Rattle.isoal_base.proofs.Citable.{cases_option, heard_first}
-use Rattle.isoal_framed.specs.Histories.{heard_in, event_tokens, closed_tokens, decided}
-use Rattle.isoal_framed.specs.Tokens.{tokens_of}
-use Rattle.isoal_framed.specs.State.Joining.{hands}
-use Rattle.isoal_framed.specs.Struck.{Fit, Sent, behind, carried, parts_at, InOrder, FromSource, is_heard, closed_end, entry_of, struck}
+use Rattle.isoal_framed.proofs.Prelude.{ℕ, zero, suc, ◌≡◌, ◌+◌, ◌-◌, ◌*◌, ◌/◌, ◌<◌, ◌≤◌, inl, inr, true, false, Bool, is_some, List, [], ◌∷◌, ◌++◌, length, drop, Option, Some, None, refl, sym, ap, ◌∙◌, subst, arith, append_assoc, length-drop, flat_map, range_with_len, add-mul, le-div_iff_mul-le, div-lt_iff_lt-mul, cond-true, cond-false, true≢false, Stay, opened, heard, cases_option, heard_first, heard_in, event_tokens, closed_tokens, decided, tokens_of, hands, Fit, Sent, carried, parts_at, InOrder, FromSource, is_heard, closed_end, entry_of, struck}
+use Rattle.isoal_base.specs.Stays.{Call}
+use Rattle.isoal_framed.specs.Struck.{behind}
 use Rattle.isoal_framed.proofs.Closed.{flat_same, opened_least}
 use Rattle.isoal_framed.proofs.Joins.{units_are}
 use Rattle.isoal_framed.proofs.Carried.{tok, toks, toks_same, carried_later}

@@ -1,12 +1,5 @@
 -- Tokens that are taken one behind the other: those taken so far, and the rest.
-use Rattle.std.proofs.Common.{ℕ, ◌≡◌, List, [], ◌∷◌, ◌++◌, Option, Result, sym, subst, append_assoc, arith}
-use Rattle.std.proofs.lemmas.List.{append-nil}
-use Rattle.unit_outlets.specs.Handed.{Handed, Counts}
-use Rattle.unit_outlets.specs.declared.fault.TakerFault.{TakerFault}
-use Rattle.isoal_framed.specs.Tokens.{Token}
-use Rattle.isoal_framed.specs.Units.{Run}
-use Rattle.isoal_framed.specs.State.Joining.{hands, hands_at, run_at, run_after}
-use Rattle.isoal_framed.specs.State.Windows.{HandsOn, CausedOn}
+use Rattle.isoal_framed.proofs.Prelude.{ℕ, ◌≡◌, List, [], ◌∷◌, ◌++◌, Option, Result, sym, subst, append_assoc, arith, append-nil, Handed, Counts, TakerFault, Token, Run, hands, hands_at, run_at, run_after, HandsOn, CausedOn}
 use Rattle.isoal_framed.proofs.Handing.{hands_then, caused_then}
 use Rattle.isoal_framed.proofs.Joins.{hands_append, run_append}
 

@@ -1,13 +1,6 @@
 -- The state of a sender against the calls that it took.
-use Rattle.std.proofs.Common.{ℕ, ◌≡◌, ◌≤◌, ◌+◌, ◌*◌, ◌-◌, min, zero, suc, List, [], ◌∷◌, length, drop, arith, ◌∙◌, ap, refl}
-use Rattle.std.proofs.lemmas.List.{drop-append-le, drop-drop, drop_min, length-append, length-drop}
-use Rattle.big_info.specs.declared.info.BigInfo.{BigInfo}
-use Rattle.big_info.specs.Schedule.{per_event_of, per_unit_of}
+use Rattle.isoal_unframed.proofs.Prelude.{ℕ, ◌≡◌, ◌≤◌, ◌+◌, ◌*◌, ◌-◌, min, zero, suc, List, [], ◌∷◌, length, drop, arith, ◌∙◌, ap, refl, drop-append-le, drop-drop, drop_min, length-append, length-drop, BigInfo, per_event_of, per_unit_of, Laid, unframed_air, Call, accept, lay, accepted, begun, lays, IsSender, Sender, StandsFor, after_event, event_pdus, with_unit}
 use Rattle.isoal_unframed.proofs.Events.{next_event_is}
-use Rattle.isoal_base.specs.Air.{Laid}
-use Rattle.isoal_unframed.specs.Air.{unframed_air}
-use Rattle.isoal_unframed.specs.Calls.{Call, accept, lay, accepted, begun, lays}
-use Rattle.isoal_unframed.specs.State.Sender.{IsSender, Sender, StandsFor, after_event, event_pdus, with_unit}
 
 -- no more units have their slot than were accepted
 pub begun_within : (info : BigInfo) (calls : List Call) → begun info calls ≤ length (accepted calls)

@@ -1,20 +1,8 @@
 -- The events of an air by their payload numbers.
-use Rattle.std.proofs.Common.{ℕ, ◌≡◌, ◌<◌, ◌≤◌, ◌+◌, ◌*◌, ◌/◌, ◌%◌, zero, suc, List, [], ◌∷◌, length, drop, map, Some, None, arith, ◌∙◌, ap, sym, refl, inl, inr}
-use Rattle.std.proofs.lemmas.Bool.{cases_eq, eq-eqb, ne_eqb}
-use Rattle.std.proofs.lemmas.List.FromFn.{get_or-map-range_with_len, length-map-range_with_len}
-use Rattle.std.proofs.lemmas.Nat.{div-add-mod', div-mul-add, mod-mul-add, mod_below, mul-add-lt}
-use Rattle.std.proofs.lemmas.Option.{slice_get-get_or}
-use Rattle.std.specs.List.{range_with_len, slice_get}
+use Rattle.isoal_unframed.proofs.Prelude.{ℕ, ◌≡◌, ◌<◌, ◌≤◌, ◌+◌, ◌*◌, ◌/◌, ◌%◌, zero, suc, List, [], ◌∷◌, length, drop, map, Some, None, arith, ◌∙◌, ap, sym, refl, inl, inr, cases_eq, eq-eqb, ne_eqb, get_or-map-range_with_len, length-map-range_with_len, div-add-mod', div-mul-add, mod-mul-add, mod_below, mul-add-lt, slice_get-get_or, range_with_len, slice_get, per_event_of, per_unit_of, BigInfo, pdu, Laid, event_at, pdu_at, laid_u, next_event, unframed_air, Call, accept, lay, accepted, begun, events, Sender, StandsFor, event_pdus, laid}
 use Rattle.std.specs.Option.{option_and_then}
-use Rattle.big_info.specs.Schedule.{per_event_of, per_unit_of}
-use Rattle.big_info.specs.declared.info.BigInfo.{BigInfo}
-use Rattle.iso_pdu.specs.Encoding.{pdu}
 use Rattle.isoal_unframed.proofs.Rows.{map_same, rows}
-use Rattle.isoal_base.specs.Air.{Laid, event_at, pdu_at}
-use Rattle.isoal_unframed.specs.Air.{laid_u, next_event, unframed_air, unit_at}
-use Rattle.isoal_unframed.specs.Calls.{Call, accept, lay, accepted, begun, events}
-use Rattle.isoal_unframed.specs.State.Sender.{Sender, StandsFor, event_pdus}
-use Rattle.isoal_unframed.specs.Slot.{laid}
+use Rattle.isoal_unframed.specs.Air.{unit_at}
 
 slice_get_drop : {X : Type 0} (xs : List X) (n i : ℕ) → slice_get (drop n xs) i ≡ slice_get xs (n + i)
 slice_get_drop xs zero i = let same : 0 + i ≡ i = omega arith in rw same refl

@@ -1,16 +1,7 @@
 -- Units that are handed one by one.
-use Rattle.std.proofs.Common.{ℕ, ◌≡◌, ◌+◌, ◌-◌, ◌*◌, ◌<◌, ◌≤◌, List, [], ◌∷◌, ◌++◌, length, take, drop, get_or, Option, Result, Err, sym, ap, ◌∙◌, subst, arith}
+use Rattle.isoal_unframed.proofs.Prelude.{ℕ, ◌≡◌, ◌+◌, ◌-◌, ◌*◌, ◌<◌, ◌≤◌, List, [], ◌∷◌, ◌++◌, length, take, drop, get_or, Option, Result, Err, sym, ap, ◌∙◌, subst, arith, take_more, take-take, drop-drop, append_assoc, append-nil, take_all, false≢true, get_or-map-range_with_len, length-map-range_with_len, per_event_of, per_unit_of, Content, Handed, HandsOver, Stay, unit_of, time_of, handed_of, owed_at, owed_of}
 use Rattle.std.specs.Prelude.{IsErr}
-use Rattle.std.proofs.lemmas.List.{take_more, take-take, drop-drop, append_assoc, append-nil, take_all}
-use Rattle.std.proofs.lemmas.Bool.{false≢true}
-use Rattle.std.proofs.lemmas.List.FromFn.{get_or-map-range_with_len, length-map-range_with_len}
-use Rattle.big_info.specs.Schedule.{per_event_of, per_unit_of}
-use Rattle.iso_pdu.specs.Layout.{Content}
-use Rattle.unit_outlets.specs.Handed.{Handed, HandsOver}
 use Rattle.unit_outlets.specs.declared.fault.TakerFault.{TakerFault}
-use Rattle.isoal_base.specs.Stays.{Stay}
-use Rattle.isoal_unframed.specs.Units.{unit_of}
-use Rattle.isoal_unframed.specs.State.Windows.{time_of, handed_of, owed_at, owed_of}
 
 pub hand_more : (units old now new : List Handed) (unit : Handed) (n : ℕ) → now ≡ old ++ take n units → n < length units
     → get_or units n unit ≡ unit → new ≡ now ++ unit ∷ [] → new ≡ old ++ take (n + 1) units

@@ -1,9 +1,5 @@
 -- What is held of a slot from left to right is the longest prefix.
-use Rattle.std.proofs.Common.{inl, inr, ℕ, ◌≡◌, ◌+◌, ◌-◌, ◌≤◌, cond, leb, List, [], ◌∷◌, ◌++◌, length, map, Option, Some, None, refl, sym, ap, ◌∙◌, subst, arith}
-use Rattle.std.proofs.lemmas.Bool.{cases_Bool, cond-true, cond-false, leb-true, le-leb}
-use Rattle.std.proofs.lemmas.Option.{none-some, same_Some}
-use Rattle.iso_pdu.specs.Layout.{Content, end, fragment, framed, control}
-use Rattle.isoal_unframed.specs.Units.{IsPrefix, IsHeld, count_in, held_in}
+use Rattle.isoal_unframed.proofs.Prelude.{inl, inr, ℕ, ◌≡◌, ◌+◌, ◌-◌, ◌≤◌, cond, leb, List, [], ◌∷◌, ◌++◌, length, map, Option, Some, None, refl, sym, ap, ◌∙◌, subst, arith, cases_Bool, cond-true, cond-false, leb-true, le-leb, none-some, same_Some, Content, end, fragment, framed, control, IsPrefix, IsHeld, count_in, held_in}
 
 abbrev tail_of : List (Option Content) → List (Option Content)
 tail_of [] = []

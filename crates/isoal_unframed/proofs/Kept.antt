@@ -1,18 +1,8 @@
 -- What a ring keeps, and how it changes.
-use Rattle.std.proofs.Common.{ℕ, zero, suc, ◌≡◌, ◌+◌, ◌-◌, ◌*◌, ◌<◌, ◌≤◌, true, cond, leb, List, [], ◌∷◌, ◌++◌, length, take, drop, set, replicate, get_or, Option}
-use Rattle.std.proofs.Common.{None, is_some, refl, sym, ap, ◌∙◌, subst, arith}
-use Rattle.std.specs.List.{All, copy_within}
-use Rattle.std.proofs.lemmas.List.{take-take, take_at, drop_at, drop-drop, take-append-le, drop-append-le, length-take-le, length-append, drop_more, length-drop}
-use Rattle.std.proofs.lemmas.List.{drop-take, append_assoc, length-take, length-replicate, get_or-take, get_or-drop}
+use Rattle.isoal_unframed.proofs.Prelude.{ℕ, zero, suc, ◌≡◌, ◌+◌, ◌-◌, ◌*◌, ◌<◌, ◌≤◌, true, cond, leb, List, [], ◌∷◌, ◌++◌, length, take, drop, set, replicate, get_or, Option, None, is_some, refl, sym, ap, ◌∙◌, subst, arith, All, copy_within, take-take, take_at, drop_at, drop-drop, take-append-le, drop-append-le, length-take-le, length-append, drop_more, length-drop, drop-take, append_assoc, length-take, length-replicate, get_or-take, get_or-drop, add-mul, mul-le, Content, Empty, Fragment, End, count_of, Within, entry_in, kept_in, held_cells, unit_after, held_in}
 use Rattle.std.specs.Option.{IfSome, option_map}
-use Rattle.std.proofs.Math.Nat.{add-mul}
-use Rattle.std.proofs.lemmas.Nat.{mul-le}
 use Rattle.std.proofs.lemmas.Slice.{drop-append-drop}
-use Rattle.iso_pdu.specs.Layout.{Content}
 use Rattle.isoal_unframed.specs.declared.cell.Cell.{Cell}
-use Rattle.isoal_unframed.specs.declared.cell.Cell.TheVariants.{Empty, Fragment, End}
-use Rattle.isoal_unframed.specs.State.Cells.{count_of, Within, entry_in, kept_in, held_cells}
-use Rattle.isoal_unframed.specs.Units.{unit_after, held_in}
 use Rattle.isoal_unframed.proofs.Places.{slot_fits}
 
 pub length-kept : (m : ℕ) (cells : List Cell) (block : List ℕ) → length (kept_in m cells block) ≡ length cells

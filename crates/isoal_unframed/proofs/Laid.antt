@@ -1,17 +1,5 @@
 -- The unit of a slot whose kept PDUs are the laid ones.
-use Rattle.std.proofs.Common.{ℕ, zero, suc, ◌≡◌, ◌+◌, ◌-◌, ◌*◌, ◌/◌, ◌%◌, ◌<◌, ◌≤◌, true, cond, ltb, leb, eqb, min, max, List, [], ◌∷◌, ◌++◌, length, take, drop, Option, Some}
-use Rattle.std.proofs.Common.{None, refl, sym, ap, ◌∙◌, subst, inl, inr, arith}
-use Rattle.std.specs.Int.{div_ceil}
-use Rattle.std.specs.Prelude.{slice_get}
-use Rattle.std.proofs.Math.Nat.{add-div_left, add-mod_left, mod-eq_of_lt, div-eq_of_lt, mod_self, div_self, add-mul}
-use Rattle.std.proofs.lemmas.Nat.{mul-le}
-use Rattle.std.proofs.lemmas.Grind.{div_ceil_times}
-use Rattle.std.proofs.lemmas.Bool.{cond-true, cond-false, lt-ltb, le-ltb, le-leb, eq-eqb, ne_eqb, cases_lt, cases_order}
-use Rattle.std.proofs.lemmas.List.{drop-drop, length-drop, append_assoc, take-append-drop}
-use Rattle.std.proofs.lemmas.Option.{none-some, same_Some, cond_some}
-use Rattle.iso_pdu.specs.Layout.{Content, fragment, end}
-use Rattle.isoal_unframed.specs.Slot.{fragments_of, laid_unit, laid}
-use Rattle.isoal_unframed.specs.Units.{unit_after}
+use Rattle.isoal_unframed.proofs.Prelude.{ℕ, zero, suc, ◌≡◌, ◌+◌, ◌-◌, ◌*◌, ◌/◌, ◌%◌, ◌<◌, ◌≤◌, true, cond, ltb, leb, eqb, min, max, List, [], ◌∷◌, ◌++◌, length, take, drop, Option, Some, None, refl, sym, ap, ◌∙◌, subst, inl, inr, arith, div_ceil, slice_get, add-div_left, add-mod_left, mod-eq_of_lt, div-eq_of_lt, mod_self, div_self, add-mul, mul-le, div_ceil_times, cond-true, cond-false, lt-ltb, le-ltb, le-leb, eq-eqb, ne_eqb, cases_lt, cases_order, drop-drop, length-drop, append_assoc, take-append-drop, none-some, same_Some, cond_some, Content, fragment, end, fragments_of, laid_unit, laid, unit_after}
 
 ceil_small : (x m : ℕ) → 0 < x → x ≤ m → div_ceil x m ≡ 1
 ceil_small x m some fits = elim (cases_lt x m) [

@@ -1,3 +1,4 @@
+mod Prelude
 mod Airs
 mod Events
 mod Handing

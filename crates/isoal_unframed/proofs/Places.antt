@@ -1,7 +1,5 @@
 -- Places of slots in an event, and of events in the ring.
-use Rattle.std.proofs.Common.{ℕ, ◌≡◌, ◌+◌, ◌*◌, ◌%◌, ◌<◌, ◌≤◌, arith}
-use Rattle.std.proofs.Math.Nat.{mod-lt}
-use Rattle.std.proofs.lemmas.Nat.{row_fits}
+use Rattle.isoal_unframed.proofs.Prelude.{ℕ, ◌≡◌, ◌+◌, ◌*◌, ◌%◌, ◌<◌, ◌≤◌, arith, mod-lt, row_fits}
 
 pub slot_fits : (slot k m : ℕ) → slot < k → slot * m + m ≤ k * m
 slot_fits slot k m below = row_fits slot m k m below (omega arith)

@@ -1,9 +1,6 @@
 -- Lists that are made from a function of the index, and places of a list in rows.
-use Rattle.std.proofs.Common.{ℕ, ◌≡◌, ◌<◌, ◌+◌, ◌*◌, ◌/◌, ◌%◌, zero, suc, List, [], ◌++◌, map, arith, ◌∙◌, ap, sym, refl}
-use Rattle.std.proofs.lemmas.List.{append-nil, append_assoc}
-use Rattle.std.proofs.lemmas.Nat.{div-mul-add, mod-mul-add}
+use Rattle.isoal_unframed.proofs.Prelude.{ℕ, ◌≡◌, ◌<◌, ◌+◌, ◌*◌, ◌/◌, ◌%◌, zero, suc, List, [], ◌++◌, map, arith, ◌∙◌, ap, sym, refl, append-nil, append_assoc, div-mul-add, mod-mul-add, flat_map, range_with_len}
 use Rattle.isoal_base.proofs.Citable.{map_append}
-use Rattle.std.specs.List.{flat_map, range_with_len}
 
 pub map_same : {X : Type 0} (f g : ℕ → X) (a b n : ℕ) → ((i : ℕ) → i < n → f (a + i) ≡ g (b + i)) → map f (range_with_len a n) ≡ map g (range_with_len b n)
 map_same f g a b zero same = refl

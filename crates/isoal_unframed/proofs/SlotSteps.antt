@@ -1,17 +1,6 @@
 -- The PDUs of a slot, one behind the other.
-use Rattle.std.proofs.Common.{ℕ, ◌≡◌, ◌<◌, ◌≤◌, ◌+◌, zero, suc, List, [], length, take, drop, Some, None, arith, ap, refl, inl, inr}
-use Rattle.std.proofs.Math.Nat.{add-div_right, add-mod_right, mod-eq_of_lt}
-use Rattle.std.proofs.lemmas.Bool.{cases_lt, cases_order, eq-eqb, le-ltb, lt-ltb, ne_eqb}
-use Rattle.std.proofs.lemmas.List.{append-nil, drop-drop, length-drop, take-append-drop}
-use Rattle.std.proofs.lemmas.Nat.{div-mul-add, div_below, le-div, mod-mul-add, mul-le}
-use Rattle.std.proofs.lemmas.Grind.{div_ceil_times}
-use Rattle.std.specs.Int.{div_ceil}
-use Rattle.std.specs.List.{flat_map, range_with_len}
-use Rattle.iso_pdu.specs.Layout.{fragment, end}
-use Rattle.iso_pdu.specs.Encoding.{payload_of, pdu}
+use Rattle.isoal_unframed.proofs.Prelude.{ℕ, ◌≡◌, ◌<◌, ◌≤◌, ◌+◌, zero, suc, List, [], length, take, drop, Some, None, arith, ap, refl, inl, inr, add-div_right, add-mod_right, mod-eq_of_lt, cases_lt, cases_order, eq-eqb, le-ltb, lt-ltb, ne_eqb, append-nil, drop-drop, length-drop, take-append-drop, div-mul-add, div_below, le-div, mod-mul-add, mul-le, div_ceil_times, div_ceil, flat_map, range_with_len, fragment, end, payload_of, pdu, fragments_of, laid_unit, Begins}
 use Rattle.isoal_unframed.proofs.Rows.{flat_map_nothing, flat_map_same, map_same}
-use Rattle.isoal_unframed.specs.Slot.{fragments_of, laid_unit}
-use Rattle.isoal_unframed.specs.State.Sender.{Begins}
 
 ceil_more : (n k : ℕ) → 1 ≤ k → div_ceil (n + k) k ≡ suc (div_ceil n k)
 ceil_more n k some = grind (arith, add-div_right, add-mod_right)

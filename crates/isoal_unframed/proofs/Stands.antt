@@ -1,13 +1,7 @@
 -- A receiver that stands for its calls.
-use Rattle.std.proofs.Common.{ℕ, ◌≡◌, ◌+◌, ◌*◌, ◌≤◌, List, ◌∷◌, take, drop, ap, ◌∙◌, arith}
-use Rattle.big_info.specs.Bounds.{Bounds}
-use Rattle.big_info.specs.Schedule.{per_event_of, per_unit_of}
-use Rattle.isoal_base.specs.Stays.{Call, hear, close, opened, window_of}
-use Rattle.isoal_base.specs.Hearing.{read_as}
+use Rattle.isoal_unframed.proofs.Prelude.{ℕ, ◌≡◌, ◌+◌, ◌*◌, ◌≤◌, List, ◌∷◌, take, drop, ap, ◌∙◌, arith, Bounds, per_event_of, per_unit_of, hear, close, opened, window_of, read_as, heard_in, unit_at, units_of, unframed, unit_of, Window, Stands, after_hear, after_close, handed_of, time_of, owed, owed_at}
+use Rattle.isoal_base.specs.Stays.{Call}
 use Rattle.isoal_base.proofs.Citable.{map_same, map_part, stands_hear, stands_close}
-use Rattle.isoal_unframed.specs.Histories.{heard_in, unit_at, units_of}
-use Rattle.isoal_unframed.specs.Units.{unframed, unit_of}
-use Rattle.isoal_unframed.specs.State.Windows.{Window, Stands, after_hear, after_close, handed_of, time_of, owed, owed_at}
 use Rattle.isoal_unframed.proofs.Places.{slot_fits}
 
 pub hear_stands : (window : Window) (number : ℕ) (octets : List ℕ) → Bounds window.stay.info

@@ -1,22 +1,8 @@
 -- The units of a stay are those struck.
-use Rattle.std.proofs.Common.{ℕ, zero, suc, ◌≡◌, ◌+◌, ◌-◌, ◌*◌, ◌/◌, ◌%◌, ◌<◌, ◌≤◌, List, [], ◌∷◌, ◌++◌, length, map, Option, Some, None, refl, sym, ap, ◌∙◌, subst, arith}
-use Rattle.std.specs.List.{AllZip, range_with_len}
-use Rattle.std.specs.Prelude.{slice_get}
-use Rattle.std.proofs.Math.Nat.{mul-add-div_right, mul-add-mod_self_right, div-eq_of_lt, mod-eq_of_lt}
-use Rattle.std.proofs.lemmas.List.{append_assoc}
-use Rattle.std.proofs.lemmas.List.FromFn.{get_or-map-range_with_len, length-map-range_with_len}
-use Rattle.std.proofs.lemmas.Option.{none-some, same_Some, slice_get-get_or, slice_get_within}
-use Rattle.big_info.specs.Bounds.{Bounds}
-use Rattle.big_info.specs.Schedule.{per_event_of, per_unit_of}
-use Rattle.iso_pdu.specs.Layout.{Content}
-use Rattle.isoal_unframed.specs.Slot.{fragments_of, laid}
-use Rattle.isoal_base.specs.Stays.{Stay, Call, hear, close, opened, FirstHeard}
-use Rattle.isoal_base.specs.Hearing.{read_as}
+use Rattle.isoal_unframed.proofs.Prelude.{ℕ, zero, suc, ◌≡◌, ◌+◌, ◌-◌, ◌*◌, ◌/◌, ◌%◌, ◌<◌, ◌≤◌, List, [], ◌∷◌, ◌++◌, length, map, Option, Some, None, refl, sym, ap, ◌∙◌, subst, arith, AllZip, range_with_len, slice_get, mul-add-div_right, mul-add-mod_self_right, div-eq_of_lt, mod-eq_of_lt, append_assoc, get_or-map-range_with_len, length-map-range_with_len, none-some, same_Some, slice_get-get_or, slice_get_within, Bounds, per_event_of, per_unit_of, Content, fragments_of, laid, Stay, hear, close, opened, FirstHeard, read_as, heard_in, numbers_of, unit_at, units_of, handed, unframed, unit_of, handed_of, time_of}
+use Rattle.isoal_base.specs.Stays.{Call}
 use Rattle.isoal_base.proofs.Citable.{heard_same, entry_outside, heard_first, map_same}
-use Rattle.isoal_unframed.specs.Histories.{heard_in, numbers_of, unit_at, units_of, handed}
 use Rattle.isoal_unframed.specs.Struck.{Slots, air_at, FromSource, Carried, IsStruck, closed_slots, Struck}
-use Rattle.isoal_unframed.specs.Units.{unframed, unit_of}
-use Rattle.isoal_unframed.specs.State.Windows.{handed_of, time_of}
 use Rattle.isoal_unframed.proofs.Laid.{Agrees, Carries, carried_unit, unit_carried, padding_none, fragments_fit}
 use Rattle.isoal_unframed.proofs.Places.{slot_fits}
 

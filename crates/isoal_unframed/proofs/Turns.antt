@@ -1,13 +1,5 @@
 -- A ring that is read from a place on.
-use Rattle.std.proofs.Common.{ℕ, zero, suc, ◌≡◌, ◌+◌, ◌-◌, ◌%◌, ◌<◌, ◌≤◌, ◌⊎◌, cond, ltb, List, [], ◌∷◌, ◌++◌, length, take, drop, set, replicate, get_or, Option, None, refl, sym}
-use Rattle.std.proofs.Common.{ap, ◌∙◌, inl, inr, arith}
-use Rattle.std.proofs.Math.Nat.{suc-mod, mod-eq_of_lt, mod_self, mod-lt}
-use Rattle.std.proofs.lemmas.Bool.{cases_Bool, cond-true, cond-false, ltb-true, ltb-false, cases_lt}
-use Rattle.std.proofs.lemmas.List.{length-take-le, length-drop, length-append, append-nil, append_assoc, take_at, drop_at, drop-append-le, take-append-le, drop_all, drop-drop}
-use Rattle.std.proofs.lemmas.List.{drop-set-add, drop-set-lt, take-set-le, set-append_left, set-append_right, get_or_append_left, get_or-append_right, get_or-drop, get_or-take}
-use Rattle.std.proofs.lemmas.List.{length-replicate}
-use Rattle.iso_pdu.specs.Layout.{Content}
-use Rattle.isoal_unframed.specs.State.Cells.{turned}
+use Rattle.isoal_unframed.proofs.Prelude.{ℕ, zero, suc, ◌≡◌, ◌+◌, ◌-◌, ◌%◌, ◌<◌, ◌≤◌, ◌⊎◌, cond, ltb, List, [], ◌∷◌, ◌++◌, length, take, drop, set, replicate, get_or, Option, None, refl, sym, ap, ◌∙◌, inl, inr, arith, suc-mod, mod-eq_of_lt, mod_self, mod-lt, cases_Bool, cond-true, cond-false, ltb-true, ltb-false, cases_lt, length-take-le, length-drop, length-append, append-nil, append_assoc, take_at, drop_at, drop-append-le, take-append-le, drop_all, drop-drop, drop-set-add, drop-set-lt, take-set-le, set-append_left, set-append_right, get_or_append_left, get_or-append_right, get_or-drop, get_or-take, length-replicate, Content, turned}
 
 -- the place of an index
 abbrev pub position : ℕ → ℕ → ℕ → ℕ

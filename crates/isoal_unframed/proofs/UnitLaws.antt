@@ -1,12 +1,6 @@
 -- The unit of a slot from left to right is the unit of the slot.
-use Rattle.std.proofs.Common.{inl, inr, ℕ, ◌≡◌, ◌≤◌, true, leb, List, [], ◌∷◌, ◌++◌, length, map, Option, Some, None, refl, sym, ap, ◌∙◌, subst, arith}
-use Rattle.std.specs.List.{concat}
-use Rattle.std.proofs.lemmas.Bool.{cond-true, leb-true, le-leb}
-use Rattle.std.proofs.lemmas.Option.{none-some, cond_some}
-use Rattle.std.proofs.lemmas.List.{append_assoc}
-use Rattle.iso_pdu.specs.Layout.{Content, end, fragment}
+use Rattle.isoal_unframed.proofs.Prelude.{inl, inr, ℕ, ◌≡◌, ◌≤◌, true, leb, List, [], ◌∷◌, ◌++◌, length, map, Option, Some, None, refl, sym, ap, ◌∙◌, subst, arith, concat, cond-true, leb-true, le-leb, none-some, cond_some, append_assoc, Content, end, fragment, IsUnit, unit_after, unit_of}
 use Rattle.isoal_base.proofs.Citable.{cases_option}
-use Rattle.isoal_unframed.specs.Units.{IsUnit, unit_after, unit_of}
 
 -- a unit behind a prefix
 record IsUnitAfter (max_sdu : ℕ) (prefix : List ℕ) (slot : List (Option Content)) (octets : List ℕ) : Type 0 where

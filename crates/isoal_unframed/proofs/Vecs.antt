@@ -1,9 +1,6 @@
 -- A vector of which a part was written.
-use Rattle.std.proofs.Common.{ℕ, ◌≡◌, ◌+◌, ◌-◌, ◌≤◌, List, ◌++◌, length, take, drop, ap, sym, subst, ◌∙◌, arith}
-use Rattle.std.specs.List.{copy_within}
+use Rattle.isoal_unframed.proofs.Prelude.{ℕ, ◌≡◌, ◌+◌, ◌-◌, ◌≤◌, List, ◌++◌, length, take, drop, ap, sym, subst, ◌∙◌, arith, copy_within, with_items, append_assoc, with_items_is, drop-drop, length-append, length-take-le, length-drop, take-append-drop}
 use Rattle.std.specs.Global.{Vec}
-use Rattle.std.specs.Vec.{with_items}
-use Rattle.std.proofs.lemmas.List.{append_assoc, with_items_is, drop-drop, length-append, length-take-le, length-drop, take-append-drop}
 
 pub mid_is : {X : Type 0} (v : Vec X) (a k n : ℕ) (xs ys zs : List X) → xs ≡ v.items → ys ≡ zs → length zs ≡ n → k ≡ n → a + n ≤ v.len
     → (with_items v (take a xs ++ (ys ++ drop k (drop a xs)))).items ≡ take a v.items ++ (zs ++ drop (a + n) v.items)

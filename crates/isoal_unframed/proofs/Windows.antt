@@ -1,23 +1,9 @@
 -- What is owed and held over a ring that is read from the open event's place on.
-use Rattle.std.proofs.Common.{ℕ, ◌≡◌, ◌+◌, ◌-◌, ◌*◌, ◌%◌, ◌<◌, ◌≤◌, Bool, not, cond, List, ◌++◌, length, map, take, drop, set, replicate, get_or, Option, None}
-use Rattle.std.proofs.Common.{is_some, sym, ap, ◌∙◌, inl, inr, arith}
-use Rattle.std.specs.List.{range_with_len, sum}
-use Rattle.std.proofs.lemmas.Bool.{cond-true, cond-false, lt-ltb, le-ltb, true≢false, false≢true}
-use Rattle.std.proofs.Math.Nat.{add-mul}
-use Rattle.std.proofs.lemmas.List.{drop-replicate, take-replicate, replicate-append-replicate}
-use Rattle.std.proofs.lemmas.List.FromFn.{sum_by-map-range_with_len_more}
-use Rattle.big_info.specs.declared.info.BigInfo.{BigInfo}
-use Rattle.big_info.specs.Schedule.{horizon_of, per_event_of, per_unit_of}
-use Rattle.iso_pdu.specs.Layout.{Content}
+use Rattle.isoal_unframed.proofs.Prelude.{ℕ, ◌≡◌, ◌+◌, ◌-◌, ◌*◌, ◌%◌, ◌<◌, ◌≤◌, Bool, not, cond, List, ◌++◌, length, map, take, drop, set, replicate, get_or, Option, None, is_some, sym, ap, ◌∙◌, inl, inr, arith, range_with_len, sum, cond-true, cond-false, lt-ltb, le-ltb, true≢false, false≢true, add-mul, drop-replicate, take-replicate, replicate-append-replicate, sum_by-map-range_with_len_more, BigInfo, horizon_of, per_event_of, per_unit_of, Content, Stay, window_of, placing, turned, place_of, place_at, owed_of, held_in_event, slot_in}
 use Rattle.isoal_base.specs.declared.heard.Heard.TheVariants.{Repeat, Kept}
-use Rattle.isoal_base.specs.Stays.{Stay, window_of}
-use Rattle.isoal_base.specs.Hearing.{placing}
 use Rattle.isoal_base.proofs.Citable.{map_same}
-use Rattle.isoal_unframed.specs.State.Cells.{turned}
 use Rattle.isoal_unframed.specs.State.Opening.{IsOpen}
-use Rattle.isoal_unframed.specs.State.Streams.{place_of, place_at}
 use Rattle.isoal_unframed.specs.declared.stream.OpenEvent.{OpenEvent}
-use Rattle.isoal_unframed.specs.State.Windows.{owed_of, held_in_event, slot_in}
 use Rattle.isoal_unframed.proofs.Places.{slot_fits, event_fits}
 use Rattle.isoal_unframed.proofs.Turns.{take-turned, get-turned, set-turned, next_turn, turned_next, turned_round}
 

@@ -1,6 +1,5 @@
 -- The calls of a program say what the acts on its link say.
-use Rattle.std.proofs.Common.{◌≡◌, ℕ, inl, inr, Bool, true, false, List, [], ◌∷◌, Option, Some, None, refl, ap, sym, ◌∙◌}
-use Rattle.std.specs.Prelude.{◌==◌, ◌&&◌, not, unwrap_or}
+use Rattle.link_c.proofs.Prelude.{◌≡◌, ℕ, inl, inr, Bool, true, false, List, [], ◌∷◌, Option, Some, None, refl, ap, sym, ◌∙◌, ◌==◌, ◌&&◌, not, unwrap_or, Acts, begun, calls_of, first_given, language, encoded}
 use Rattle.std.proofs.lemmas.Bool.Decides.{eqb_tells}
 use Rattle.assistant_machine.specs.Calls.{Call, mtu_of}
 use Rattle.assistant_machine.specs.Cuts.{asks}
@@ -10,7 +9,6 @@ use Rattle.assistant_machine.specs.Views as views
 use Rattle.assistant_machine.specs.Views.{if_slot, reading_of}
 use Rattle.receive_state.specs.Cuts.{cut}
 use Rattle.receive_state.specs.declared.state.ReceiveState.{ReceiveState}
-use Rattle.link_c.specs.Agreement.{Acts, begun, calls_of, first_given, language, encoded}
 
 same_if : {A : Type 0} (is : Bool) (given : Option A) → if_slot is given ≡ if_its is given
 same_if true given = refl

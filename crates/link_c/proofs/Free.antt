@@ -1,14 +1,9 @@
 -- What C's tests say of the fields of an operation.
-use Rattle.std.proofs.Common.{◌≡◌, ℕ, List, [], ◌∷◌, map, Bool, true, false, not, Option, Some, None, refl, ap, ◌∙◌}
-use Rattle.std.proofs.lemmas.Bool.{and_parts}
+use Rattle.link_c.proofs.Prelude.{◌≡◌, ℕ, List, [], ◌∷◌, map, Bool, true, false, not, Option, Some, None, refl, ap, ◌∙◌, and_parts, counted_in, ◌>>=◌, group_of, Wish, are_free, wish}
 use Rattle.std.specs.List.{flat_map}
 use Rattle.bcast_base.specs.Layout.{NoneReserved}
-use Rattle.bcast_base.specs.Reading.{counted_in}
-use Rattle.bcast_base.specs.Steps.{◌>>=◌}
 use Rattle.bcast_base.specs.Subgroups.{is_reserved, subgroup_fields}
-use Rattle.bass_operations.specs.Layout.{group_of}
-use Rattle.bass_operations.specs.declared.wishes.Wish.{Wish}
-use Rattle.link_c.specs.Wishes.{are_free, wish, wishes_in}
+use Rattle.link_c.specs.Wishes.{wishes_in}
 
 abbrev pub bits_of : List Wish → List ℕ
 bits_of wishes = map (λ (one : Wish). one.bis_sync) wishes

@@ -1,20 +1,7 @@
 -- What a handle owns, by what it keeps, and its machine value. Assumes `Logic`.
-use Rattle.std.proofs.Common.{◌≡◌, ℕ, zero, suc, List, [], ◌∷◌, ◌++◌, refl, subst, ◌∙◌}
-use Rattle.std.specs.Prelude.{Bool, true, false, Option, Some, None, IsSome}
-use seplogic.Ra.Ura.{Ura}
-use mir.Val.{Val, vstruct, vcons, vnil, of_list}
-use base.Logic.{ent, emp}
-use base.Fml.{Fml, fex}
-use types.Logic.{Logic, sem}
-use types.Kit.{Goal, Seq, Item, ‵}
+use Rattle.link_c.proofs.Prelude.{◌≡◌, ℕ, zero, suc, List, [], ◌∷◌, ◌++◌, refl, subst, ◌∙◌, Bool, true, false, Option, Some, None, IsSome, Ura, Val, vstruct, vcons, vnil, of_list, ent, emp, Fml, fex, Logic, sem, Goal, Seq, Item, ‵, Ptr, RawPtr, ptr_val, Slot, plain, Struct, Global, boxed, owned, LinkMachine}
 use denote.Builtin.{unit}
-use denote.RawPtr.{Ptr, RawPtr, ptr_val}
 use denote.Shadow.{shadow, makes_shadow}
-use denote.Signature.{Slot, plain}
-use denote.Struct.Struct.{Struct}
-use Rattle.std_heap.specs.declared.Global.{Global}
-use Rattle.link_c.specs.Owned.{boxed, owned}
-use Rattle.link_c.specs.declared.machine.LinkMachine.{LinkMachine}
 
 abbrev pub slot_at : {n : ℕ} → ℕ → List (Slot n) → Slot n
 slot_at k [] = plain (λ _. unit)

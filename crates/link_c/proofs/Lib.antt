@@ -1,3 +1,4 @@
+mod Prelude
 mod Agreeing
 mod Free
 mod Kept

@@ -1,12 +1,7 @@
 -- The wishes of subgroups, one behind the other.
-use Rattle.std.proofs.Common.{◌≡◌, ℕ, suc, arith, List, [], ◌∷◌, ◌++◌, length, Option, Some, None, refl, ap, sym, ◌∙◌, ◌≤◌, ◌==◌, true, false, append_assoc}
-use Rattle.std.proofs.lemmas.Bool.{eqb-true}
+use Rattle.link_c.proofs.Prelude.{◌≡◌, ℕ, suc, arith, List, [], ◌∷◌, ◌++◌, length, Option, Some, None, refl, ap, sym, ◌∙◌, ◌≤◌, ◌==◌, true, false, append_assoc, eqb-true, counted_in, ◌>>=◌, MetadataFits, Wish, wish}
 use Rattle.std.proofs.lemmas.List.{append-nil}
-use Rattle.bcast_base.specs.Reading.{counted_in}
-use Rattle.bcast_base.specs.Steps.{◌>>=◌}
-use Rattle.bass_operations.specs.Layout.{MetadataFits}
-use Rattle.bass_operations.specs.declared.wishes.Wish.{Wish}
-use Rattle.link_c.specs.Wishes.{wish, wishes_in}
+use Rattle.link_c.specs.Wishes.{wishes_in}
 
 -- the first wishes, and those that are read behind them
 abbrev pub with_prefix : List Wish → Option (List Wish) → Option (List Wish)

@@ -1,3 +1,4 @@
+mod Prelude
 mod Lists
 mod Loops
 pub mod Citable

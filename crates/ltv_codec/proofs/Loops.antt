@@ -1,23 +1,12 @@
 -- Reading structures one after the other, as a loop does.
-use Rattle.std.proofs.Common.{◌≡◌, ℕ, zero, suc, ◌+◌, ◌-◌, ◌<◌, ◌≤◌, Bool, true, false, cond, eqb, List, [], ◌∷◌, ◌++◌, length, get_or, take, drop, Some, None, Result, Ok, Err}
-use Rattle.std.proofs.Common.{refl, sym, ap, ◌∙◌, arith}
+use Rattle.ltv_codec.proofs.Prelude.{◌≡◌, ℕ, zero, suc, ◌+◌, ◌-◌, ◌<◌, ◌≤◌, Bool, true, false, cond, eqb, List, [], ◌∷◌, ◌++◌, length, get_or, take, drop, Some, None, Result, Ok, Err, refl, sym, ap, ◌∙◌, arith, length-append, append-nil, take_at, IsOctets, ZeroLength, IsBad, IsFault, Fits, encoding, IsLtvList, AreLtvs, AllByRecursion, place_in, counted_in, Answers, LtvBad, Ltv, before, ltvs_of, ltvs_in, bad_of, told, IsStructure, IsBadAt}
 use Rattle.std.specs.Result.{result_err, result_unwrap_or}
 use Rattle.std.specs.Prelude.{OnOk, IfOk, IfErr, IsOk}
-use Rattle.std.proofs.lemmas.List.{length-append, append-nil, take_at}
 use Rattle.std.proofs.lemmas.Bool.{eqb-true}
 use Rattle.std.proofs.lemmas.Option.{same_Some}
-use Rattle.bcast_base.specs.Encoding.{IsOctets}
-use Rattle.ltv_codec.specs.declared.fault.LtvBad.TheVariants.{ZeroLength}
 use Rattle.ltv_codec.specs.declared.fault.LtvFault.{LtvFault}
 use Rattle.ltv_codec.specs.declared.fault.LtvFault.TheVariants as faults
-use Rattle.ltv_codec.specs.Faults.{IsBad, IsFault}
-use Rattle.ltv_codec.specs.Layout.{Fits, encoding, IsLtvList, AreLtvs}
-use Rattle.std.specs.List.{AllByRecursion}
-use Rattle.bcast_base.specs.Reading.{place_in, counted_in}
-use Rattle.bcast_base.specs.Tries.{Answers}
-use Rattle.ltv_codec.specs.declared.fault.LtvBad.{LtvBad}
-use Rattle.ltv_codec.specs.declared.ltvs.Ltv.{Ltv}
-use Rattle.ltv_codec.specs.Reading.{before, ltvs_from, ltvs_of, ltvs_in, bad_of, told, IsStructure, IsBadAt}
+use Rattle.ltv_codec.specs.Reading.{ltvs_from}
 use Rattle.ltv_codec.specs.Values.{first_of, first_in}
 use Rattle.ltv_codec.proofs.Lists.{made, behind, behind-more, structure_read, is_zero, is_structure, list_read, read_list, read_bad}
 

@@ -1,12 +1,8 @@
 -- Bits of numbers: a number that isn't 0 has one, and two numbers share one where their `and` isn't 0.
-use Rattle.std.proofs.Common.{◌≡◌, ◌↔◌, ℕ, zero, suc, ◌+◌, ◌/◌, ◌%◌, ◌<◌, ◌≤◌, ◌⊎◌, Bool, true, false, bit_and, eqb, refl, sym, ap, ◌∙◌, arith, inl, inr}
-use Rattle.std.specs.Prelude.{not}
-use Rattle.std.specs.Int.{bit_at}
+use Rattle.pacs_records.proofs.Prelude.{◌≡◌, ◌↔◌, ℕ, zero, suc, ◌+◌, ◌/◌, ◌%◌, ◌<◌, ◌≤◌, ◌⊎◌, Bool, true, false, bit_and, eqb, refl, sym, ap, ◌∙◌, arith, inl, inr, not, bit_at, cases_lt, eqb-false, ne_eqb, Has, ShareBit}
 use Rattle.std.specs.Int.RustNames.{count_ones}
 use Rattle.std.proofs.lemmas.Nat.{zero_from_ones}
 use Rattle.std.proofs.lemmas.Nat.Bits.{bit_at_lowest, bit_at-suc, bit_at-zero, bit_at_and, bit_at-lt}
-use Rattle.std.proofs.lemmas.Bool.{cases_lt, eqb-false, ne_eqb}
-use Rattle.pacs_records.specs.Match.{Has, ShareBit}
 
 pub one_bit : (n : ℕ) → (n ≡ 0 → ⊥) → 1 ≤ count_ones n
 one_bit n some =

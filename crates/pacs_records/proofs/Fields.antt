@@ -1,26 +1,7 @@
 -- What is read is encoded so, and what is encoded so is read: runs, records and values.
-use Rattle.std.proofs.Common.{◌≡◌, ℕ, zero, suc, ◌+◌, ◌*◌, ◌<◌, ◌≤◌, Bool, true, false, cond, eqb, ltb, List, [], ◌∷◌, ◌++◌, length, Option, Some, None, Result, Ok, Err, refl}
-use Rattle.std.proofs.Common.{sym, ap, subst, ◌∙◌, append_assoc, arith}
-use Rattle.std.specs.List.{flat_map, AllByRecursion}
-use Rattle.std.specs.Prelude.{IfOk}
-use Rattle.std.proofs.lemmas.Slice.Eq.{bytes_eq-Decides}
-use Rattle.std.proofs.lemmas.Bool.{eqb-true, ltb-false, le-ltb}
-use Rattle.std.proofs.lemmas.List.{append-nil, nil_from_length, length-append}
-use Rattle.std.proofs.lemmas.List.Concat.{flat_map-cons}
-use Rattle.bcast_base.specs.Encoding.{IsOctets, octet, counted}
-use Rattle.bcast_base.specs.Reading.{octet_in, octets_in, place_in, Takes}
-use Rattle.bcast_base.proofs.Citable.{octet_takes, octets_take, octets_again, IsOctets-prefix, Takes-then, ok_is, bind_ok, needed_ok}
-use Rattle.ltv_codec.specs.declared.fault.LtvBad.{LtvBad}
-use Rattle.ltv_codec.specs.Layout.{AreLtvs}
-use Rattle.ltv_codec.specs.Reading.{bad_of}
+use Rattle.pacs_records.proofs.Prelude.{◌≡◌, ℕ, zero, suc, ◌+◌, ◌*◌, ◌<◌, ◌≤◌, Bool, true, false, cond, eqb, ltb, List, [], ◌∷◌, ◌++◌, length, Option, Some, None, Result, Ok, Err, refl, sym, ap, subst, ◌∙◌, append_assoc, arith, flat_map, AllByRecursion, IfOk, bytes_eq-Decides, eqb-true, ltb-false, le-ltb, append-nil, nil_from_length, length-append, flat_map-cons, IsOctets, octet, counted, octet_in, octets_in, place_in, Takes, octet_takes, octets_take, octets_again, IsOctets-prefix, Takes-then, ok_is, bind_ok, needed_ok, LtvBad, AreLtvs, bad_of, PacFault, TooLong, Short, Trailing, PacRecord, lc3, is_lc3, greatest_value, encoded, value, Fits, AreRecords, PacIs, ◌>>=◌, Answers, field_at, codec_in, told, checked}
 use Rattle.ltv_codec.proofs.Citable.{reads, are_read}
-use Rattle.pacs_records.specs.declared.fault.PacFault.{PacFault}
-use Rattle.pacs_records.specs.declared.fault.PacFault.TheVariants.{TooLong, Short, Trailing}
-use Rattle.pacs_records.specs.declared.record.PacRecord.{PacRecord}
-use Rattle.base_grammar.specs.Layout.{lc3, is_lc3}
-use Rattle.pacs_records.specs.Layout.{greatest_value, encoded, value, Fits, AreRecords, PacIs}
-use Rattle.bcast_base.specs.Tries.{◌>>=◌, Answers}
-use Rattle.pacs_records.specs.Reading.{field_at, codec_in, told, checked, run_in, record_in, records_in, value_in}
+use Rattle.pacs_records.specs.Reading.{run_in, record_in, records_in, value_in}
 
 -- ---- steps of reading
 

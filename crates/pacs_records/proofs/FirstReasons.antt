@@ -1,18 +1,5 @@
 -- The first requirement that is not met, found in the order of the list.
-use Rattle.std.proofs.Common.{◌≡◌, ℕ, zero, suc, ◌<◌, ◌⊎◌, Bool, true, false, cond, List, [], ◌∷◌, Option, Some, None, refl, sym, ap, subst, ◌∙◌, arith, inl, inr}
-use Rattle.std.specs.Prelude.{not, ◌||◌}
-use Rattle.std.specs.List.{find}
-use Rattle.std.specs.Str.{bytes_eq}
-use Rattle.std.proofs.lemmas.Bool.{cases_lt}
-use Rattle.std.proofs.lemmas.Option.{same_Some}
-use Rattle.base_grammar.specs.declared.effective.Effective.{Effective}
-use Rattle.pacs_records.specs.declared.capability.Capability.{Capability}
-use Rattle.pacs_records.specs.declared.not_taken.NotTaken.{NotTaken}
-use Rattle.pacs_records.specs.declared.not_taken.NotTaken.TheVariants.{Codec, Frequency, Duration, FrameOctets, Channels, FramesPerSdu, Location, Context}
-use Rattle.pacs_records.specs.declared.record.PacRecord.{PacRecord}
-use Rattle.base_grammar.specs.Layout.{is_lc3}
-use Rattle.pacs_records.specs.Match.{number, FitsStream, IsReason, caps_in}
-use Rattle.pacs_records.specs.Reasons.{lc3_met, lc3_reasons, reason_of}
+use Rattle.pacs_records.proofs.Prelude.{◌≡◌, ℕ, zero, suc, ◌<◌, ◌⊎◌, Bool, true, false, cond, List, [], ◌∷◌, Option, Some, None, refl, sym, ap, subst, ◌∙◌, arith, inl, inr, not, ◌||◌, find, bytes_eq, cases_lt, same_Some, Effective, Capability, NotTaken, Codec, Frequency, Duration, FrameOctets, Channels, FramesPerSdu, Location, Context, PacRecord, is_lc3, number, FitsStream, IsReason, caps_in, lc3_met, lc3_reasons, reason_of}
 use Rattle.pacs_records.proofs.Meanings.{met, met_means}
 
 -- ---- lists of reasons

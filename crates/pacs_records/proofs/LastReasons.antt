@@ -1,18 +1,7 @@
 -- The records one after the other, up to the first that fits.
-use Rattle.std.proofs.Common.{◌≡◌, ◌↔◌, ◌⊎◌, Bool, true, List, [], ◌∷◌, ◌++◌, Option, Some, None}
-use Rattle.std.proofs.Common.{Result, Ok, Err, refl, sym, ap, subst, ◌∙◌, inl, inr}
-use Rattle.std.specs.Prelude.{option_and_then, Any, OnOk, IfErr, is_none}
-use Rattle.std.specs.Result.{result_err}
-use Rattle.std.specs.List.{list_any}
-use Rattle.std.proofs.lemmas.Option.{same_Some}
+use Rattle.pacs_records.proofs.Prelude.{◌≡◌, ◌↔◌, ◌⊎◌, Bool, true, List, [], ◌∷◌, ◌++◌, Option, Some, None, Result, Ok, Err, refl, sym, ap, subst, ◌∙◌, inl, inr, option_and_then, Any, OnOk, IfErr, is_none, result_err, list_any, same_Some, Effective, Capability, NotTaken, Codec, PacRecord, FitsStream, IsReason, IsToldReason, reason_of, last_reason, not_taken}
 use Rattle.std.proofs.lemmas.List.Folds.{Any-from_list_any, list_any-from_Any}
-use Rattle.base_grammar.specs.declared.effective.Effective.{Effective}
-use Rattle.pacs_records.specs.declared.capability.Capability.{Capability}
-use Rattle.pacs_records.specs.declared.not_taken.NotTaken.{NotTaken}
-use Rattle.pacs_records.specs.declared.not_taken.NotTaken.TheVariants.{Codec}
-use Rattle.pacs_records.specs.declared.record.PacRecord.{PacRecord}
-use Rattle.pacs_records.specs.Match.{FitsStream, Takes, IsReason, IsToldReason}
-use Rattle.pacs_records.specs.Reasons.{reason_of, last_reason, not_taken}
+use Rattle.pacs_records.specs.Match.{Takes}
 use Rattle.pacs_records.proofs.FirstReasons.{none_is_fit, fit_is_none, some_is_reason, reason_is_some}
 
 -- ---- the loop

@@ -7,3 +7,4 @@ pub mod Bits
 pub mod Meanings
 pub mod FirstReasons
 pub mod LastReasons
+mod Prelude

@@ -1,11 +1,6 @@
 -- Reading records one after the other, as a loop does.
-use Rattle.std.proofs.Common.{◌≡◌, ℕ, suc, ◌-◌, ◌+◌, ◌≤◌, ◌<◌, List, [], ◌∷◌, ◌++◌, length, Result, Ok, Err, refl, sym, ap, subst, ◌∙◌, append_assoc, arith}
-use Rattle.std.specs.Prelude.{IsOk}
-use Rattle.std.proofs.lemmas.List.{append-nil}
-use Rattle.pacs_records.specs.declared.fault.PacFault.{PacFault}
-use Rattle.pacs_records.specs.declared.record.PacRecord.{PacRecord}
-use Rattle.bcast_base.specs.Tries.{◌>>=◌}
-use Rattle.pacs_records.specs.Reading.{record_in, records_in, list_of, rest_of}
+use Rattle.pacs_records.proofs.Prelude.{◌≡◌, ℕ, suc, ◌-◌, ◌+◌, ◌≤◌, ◌<◌, List, [], ◌∷◌, ◌++◌, length, Result, Ok, Err, refl, sym, ap, subst, ◌∙◌, append_assoc, arith, IsOk, append-nil, PacFault, PacRecord, ◌>>=◌, list_of, rest_of}
+use Rattle.pacs_records.specs.Reading.{record_in, records_in}
 
 -- what was read before, and what is still read
 abbrev pub with_prefix : List PacRecord → Result (List PacRecord × List ℕ) PacFault → Result (List PacRecord × List ℕ) PacFault

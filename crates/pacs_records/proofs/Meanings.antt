@@ -1,20 +1,7 @@
 -- Each test of a requirement means what the requirement says.
-use Rattle.std.proofs.Common.{◌≡◌, ◌↔◌, ℕ, zero, suc, ◌-◌, ◌*◌, ◌<◌, ◌≤◌, Bool, true, false, ◌&&◌, ◌||◌, eqb, bit_and, List, Option, Some, None, refl, arith}
-use Rattle.std.specs.Prelude.{not, nat_le, unwrap_or, IsSomeAnd}
-use Rattle.std.specs.Int.{bit_at}
-use Rattle.std.specs.Str.{bytes_eq}
-use Rattle.std.proofs.lemmas.Bool.{leb-true, le-leb, eqb-true, eq-eqb, ne_eqb}
-use Rattle.std.proofs.lemmas.Slice.Eq.{bytes_eq-Decides}
-use Rattle.base_grammar.specs.declared.effective.Effective.{Effective}
+use Rattle.pacs_records.proofs.Prelude.{◌≡◌, ◌↔◌, ℕ, zero, suc, ◌-◌, ◌*◌, ◌<◌, ◌≤◌, Bool, true, false, ◌&&◌, ◌||◌, eqb, bit_and, List, Option, Some, None, refl, arith, not, nat_le, unwrap_or, IsSomeAnd, bit_at, bytes_eq, leb-true, le-leb, eqb-true, eq-eqb, ne_eqb, bytes_eq-Decides, Effective, Capability, NotTaken, Codec, Frequency, Duration, FrameOctets, Channels, FramesPerSdu, Location, Context, PacRecord, lc3, is_lc3, Has, ShareBit, caps_in, channel_count, HasFrequency, HasDuration, HasFrameOctets, HasChannels, HasFrames, IsPlaced, HasContext, Meets, present, has, frequency_met, duration_met, frame_octets_met, channels_met, frames_met, location_met, context_met}
 use Rattle.ltv_codec.specs.declared.caps.Caps.{Caps}
 use Rattle.ltv_codec.specs.declared.config.Config.{Config}
-use Rattle.pacs_records.specs.declared.capability.Capability.{Capability}
-use Rattle.pacs_records.specs.declared.not_taken.NotTaken.{NotTaken}
-use Rattle.pacs_records.specs.declared.not_taken.NotTaken.TheVariants.{Codec, Frequency, Duration, FrameOctets, Channels, FramesPerSdu, Location, Context}
-use Rattle.pacs_records.specs.declared.record.PacRecord.{PacRecord}
-use Rattle.base_grammar.specs.Layout.{lc3, is_lc3}
-use Rattle.pacs_records.specs.Match.{Has, ShareBit, caps_in, channel_count, HasFrequency, HasDuration, HasFrameOctets, HasChannels, HasFrames, IsPlaced, HasContext, Meets}
-use Rattle.pacs_records.specs.Reasons.{present, has, frequency_met, duration_met, frame_octets_met, channels_met, frames_met, location_met, context_met}
 use Rattle.pacs_records.proofs.Bits.{share_means}
 
 both_mean : (a b : Bool) (P Q : Type 0) → (a ≡ true) ↔ P → (b ≡ true) ↔ Q → ((a && b) ≡ true) ↔ (P × Q)

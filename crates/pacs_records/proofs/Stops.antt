@@ -1,31 +1,9 @@
 -- A fault is the one at the cut.
-use Rattle.std.proofs.Common.{◌≡◌, ℕ, zero, suc, ◌+◌, ◌<◌, ◌≤◌, ◌⊎◌, Bool, true, false, cond, eqb, ltb, List, [], ◌∷◌, ◌++◌, length, get_or, take, drop, Option, Some, None, Result}
-use Rattle.std.proofs.Common.{Ok, Err, refl, sym, ap, subst, ◌∙◌, append_assoc, arith, inl, inr}
-use Rattle.std.specs.Prelude.{IfErr, IsOk}
-use Rattle.std.specs.List.{flat_map, AllByRecursion}
-use Rattle.std.specs.Result.{result_err}
-use Rattle.std.proofs.lemmas.Bool.{ltb-true, ltb-false}
-use Rattle.std.proofs.lemmas.Option.{same_Some}
-use Rattle.std.proofs.lemmas.List.{length-append}
-use Rattle.std.proofs.lemmas.List.Concat.{flat_map-cons}
-use Rattle.bcast_base.specs.Encoding.{IsOctets, octet, counted}
-use Rattle.bcast_base.specs.Reading.{octet_in, octets_in, place_in, Takes}
-use Rattle.bcast_base.proofs.Citable.{octet_takes, octets_take, IsOctets-prefix, Takes-then, err_is, ok_no, bind_err, needed_err}
-use Rattle.ltv_codec.specs.declared.fault.LtvBad.{LtvBad}
+use Rattle.pacs_records.proofs.Prelude.{◌≡◌, ℕ, zero, suc, ◌+◌, ◌<◌, ◌≤◌, ◌⊎◌, Bool, true, false, cond, eqb, ltb, List, [], ◌∷◌, ◌++◌, length, get_or, take, drop, Option, Some, None, Result, Ok, Err, refl, sym, ap, subst, ◌∙◌, append_assoc, arith, inl, inr, IfErr, IsOk, flat_map, AllByRecursion, result_err, ltb-true, ltb-false, same_Some, length-append, flat_map-cons, IsOctets, octet, counted, octet_in, octets_in, place_in, Takes, octet_takes, octets_take, IsOctets-prefix, Takes-then, err_is, ok_no, bind_err, needed_err, LtvBad, AreLtvs, ltvs_of, bad_of, PacFault, TooLong, Short, Ltv, Trailing, Memory, PacRecord, Fields, to_codec, to_caps_length, to_caps, to_metadata_length, to_metadata, octets_of, next_length, MeetRows, IsNextList, Cut, IsFault, lc3, is_lc3, greatest_value, encoded, value, Fits, PacIs, ◌>>=◌, Answers, told, field_at, codec_in, checked}
 use Rattle.ltv_codec.specs.declared.ltvs.Ltv.{Ltv as Structure}
 use Rattle.ltv_codec.specs.Faults.{IsBad}
-use Rattle.ltv_codec.specs.Layout.{AreLtvs}
-use Rattle.ltv_codec.specs.Reading.{ltvs_of, bad_of}
 use Rattle.ltv_codec.proofs.Citable.{read_bad}
-use Rattle.pacs_records.specs.declared.fault.PacFault.{PacFault}
-use Rattle.pacs_records.specs.declared.fault.PacFault.TheVariants.{TooLong, Short, Ltv, Trailing, Memory}
-use Rattle.pacs_records.specs.declared.record.PacRecord.{PacRecord}
-use Rattle.pacs_records.specs.Faults.{Fields, to_codec, to_caps_length, to_caps, to_metadata_length, to_metadata, octets_of, next_length, MeetRows, IsNextList, Cut}
-use Rattle.pacs_records.specs.Faults.{IsFault}
-use Rattle.base_grammar.specs.Layout.{lc3, is_lc3}
-use Rattle.pacs_records.specs.Layout.{greatest_value, encoded, value, Fits, PacIs}
-use Rattle.bcast_base.specs.Tries.{◌>>=◌, Answers}
-use Rattle.pacs_records.specs.Reading.{told, field_at, codec_in, checked, run_in, record_in, records_in, value_in}
+use Rattle.pacs_records.specs.Reading.{run_in, record_in, records_in, value_in}
 use Rattle.pacs_records.proofs.Fields.{field_ok, is_lc3-true, lc3-is, run_takes, record_takes, records_take, value_takes}
 
 -- ---- steps that fail

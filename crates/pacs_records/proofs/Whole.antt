@@ -1,15 +1,6 @@
 -- The whole value: what is left behind the records, and the records in memory of their own.
-use Rattle.std.proofs.Common.{◌≡◌, ℕ, Bool, true, false, cond, eqb, ltb, List, [], ◌∷◌, length, Option, Some, None, Result, Ok, Err, refl, sym, ap, subst, ◌∙◌}
-use Rattle.std.specs.Prelude.{IsOk, IfOk}
-use Rattle.std.specs.Result.{result_err}
-use Rattle.bcast_base.specs.Reading.{octet_in, place_in}
-use Rattle.bcast_base.specs.Encoding.{IsOctets}
-use Rattle.pacs_records.specs.declared.fault.PacFault.{PacFault}
-use Rattle.pacs_records.specs.declared.fault.PacFault.TheVariants.{TooLong, Short, Ltv, Trailing, Memory}
-use Rattle.pacs_records.specs.declared.record.PacRecord.{PacRecord}
-use Rattle.pacs_records.specs.Layout.{greatest_value}
-use Rattle.bcast_base.specs.Tries.{◌>>=◌, Finds}
-use Rattle.pacs_records.specs.Reading.{told, field_at, records_in, list_of, value_in}
+use Rattle.pacs_records.proofs.Prelude.{◌≡◌, ℕ, Bool, true, false, cond, eqb, ltb, List, [], ◌∷◌, length, Option, Some, None, Result, Ok, Err, refl, sym, ap, subst, ◌∙◌, IsOk, IfOk, result_err, octet_in, place_in, IsOctets, PacFault, TooLong, Short, Ltv, Trailing, Memory, PacRecord, greatest_value, ◌>>=◌, Finds, told, field_at, list_of}
+use Rattle.pacs_records.specs.Reading.{records_in, value_in}
 use Rattle.pacs_records.proofs.Fields.{value_again}
 use Rattle.pacs_records.proofs.Stops.{value_stops}
 

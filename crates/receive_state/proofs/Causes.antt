@@ -1,17 +1,7 @@
 -- What is wrong with octets that have all fields, as it is found and as it is told.
-use Rattle.std.proofs.Common.{◌≡◌, ℕ, ◌<◌, List, [], ◌∷◌, length, Option, Some, None, Result, Ok, Err, refl, sym, ap, ◌∙◌, arith}
-use Rattle.std.proofs.lemmas.List.{length-append}
-use Rattle.bcast_base.specs.Layout.{laid, reserved_from}
-use Rattle.bcast_base.specs.Reading.{place_in}
-use Rattle.bcast_base.specs.Encoding.{IsOctets}
-use Rattle.bcast_base.specs.Subgroups.{Subgroup, subgroups_in}
-use Rattle.bcast_base.proofs.Citable.{reserved_first, first_reserved, reserved_none, none_reserved}
-use Rattle.receive_state.specs.declared.fault.StateFault.{StateFault}
-use Rattle.receive_state.specs.declared.fault.StateFault.TheVariants.{Short, Rfu, Trailing}
-use Rattle.receive_state.specs.declared.state.ReceiveState.{ReceiveState}
-use Rattle.receive_state.specs.Faults.{IsFollowed, IsReserved, IsTrailing}
-use Rattle.receive_state.specs.Layout.{StateFields, fields}
-use Rattle.receive_state.specs.Reading.{head_in, end_in, subgroups_of, state_from, first_fault, answered, behind, judged, judged_of, lifted, state_of}
+use Rattle.receive_state.proofs.Prelude.{◌≡◌, ℕ, ◌<◌, List, [], ◌∷◌, length, Option, Some, None, Result, Ok, Err, refl, sym, ap, ◌∙◌, arith, length-append, laid, reserved_from, place_in, IsOctets, Subgroup, reserved_first, first_reserved, reserved_none, none_reserved, StateFault, Short, Rfu, Trailing, ReceiveState, IsFollowed, IsReserved, IsTrailing, StateFields, fields, subgroups_of, state_from, first_fault, answered, behind, judged, judged_of, lifted, state_of}
+use Rattle.bcast_base.specs.Subgroups.{subgroups_in}
+use Rattle.receive_state.specs.Reading.{head_in, end_in}
 use Rattle.receive_state.proofs.Judged.{whole_of, whole_judged}
 use Rattle.receive_state.proofs.Loops.{groups_read}
 

@@ -1,17 +1,6 @@
 -- Octets that end within a subgroup are read up to it, and octets that are read up to a subgroup end within it.
-use Rattle.std.proofs.Common.{◌≡◌, ℕ, zero, suc, ◌+◌, ◌-◌, ◌*◌, ◌^◌, ◌<◌, ◌≤◌, List, [], ◌∷◌, ◌++◌, length, Option, Some, None, Result, Ok, Err, refl, sym, ap, subst, ◌∙◌, arith, add-zero}
-use Rattle.std.specs.List.{flat_map, AllByRecursion}
-use Rattle.std.proofs.lemmas.List.{length-append}
-use Rattle.bcast_base.specs.Numbers.{sum_from}
-use Rattle.bcast_base.specs.Layout.{Field, free, unless}
-use Rattle.bcast_base.specs.Reading.{octet_in, octets_in, place_in}
-use Rattle.bcast_base.specs.Encoding.{IsOctets, octet, number}
-use Rattle.bcast_base.specs.Subgroups.{Subgroup, Fits, subgroup_fields, is_reserved}
-use Rattle.bcast_base.proofs.Citable.{IsOctets-prefix, number-length, number_below, number_once}
-use Rattle.receive_state.specs.Faults.{EndsIn}
+use Rattle.receive_state.proofs.Prelude.{◌≡◌, ℕ, zero, suc, ◌+◌, ◌-◌, ◌*◌, ◌^◌, ◌<◌, ◌≤◌, List, [], ◌∷◌, ◌++◌, length, Option, Some, None, Result, Ok, Err, refl, sym, ap, subst, ◌∙◌, arith, add-zero, flat_map, AllByRecursion, length-append, sum_from, Field, free, unless, octet_in, octets_in, place_in, IsOctets, octet, number, Subgroup, Fits, subgroup_fields, is_reserved, IsOctets-prefix, number-length, number_below, number_once, EndsIn, ◌>>=◌, needed, field_in}
 use Rattle.receive_state.specs.Reading.{end_in}
-use Rattle.bcast_base.specs.Tries.{◌>>=◌, needed}
-use Rattle.receive_state.specs.Steps.{field_in}
 use Rattle.receive_state.proofs.Cuts.{ends_here, ends_more, ends_nowhere, zeros, octets_with, filled, length-filled, more-zeros}
 use Rattle.receive_state.proofs.CutSteps.{told_octet, told_octets, find_octet, find_octets}
 

@@ -1,18 +1,7 @@
 -- Octets are short at a place exactly where they end within the field at it.
-use Rattle.std.proofs.Common.{◌≡◌, ℕ, ◌+◌, ◌<◌, ◌≤◌, List, [], ◌∷◌, ◌++◌, length, Option, Some, None, Result, Ok, Err, refl, sym, ap, subst, ◌∙◌, inl, inr, arith}
-use Rattle.std.specs.Prelude.{nat_lt, IfErr}
-use Rattle.std.specs.List.{flat_map}
-use Rattle.bcast_base.specs.Layout.{free, unless, reserved_from}
-use Rattle.bcast_base.specs.Reading.{place_in}
-use Rattle.bcast_base.specs.Encoding.{IsOctets, octet}
-use Rattle.bcast_base.specs.Subgroups.{subgroup_fields, subgroups_in}
-use Rattle.receive_state.specs.declared.fault.StateFault.{StateFault}
-use Rattle.receive_state.specs.declared.fault.StateFault.TheVariants.{Short, Rfu, Trailing, Memory}
-use Rattle.receive_state.specs.declared.state.ReceiveState.{ReceiveState}
-use Rattle.receive_state.specs.Faults.{EndsIn, IsShort, IsFault}
-use Rattle.receive_state.specs.Layout.{StateFields, fields}
-use Rattle.receive_state.specs.Reading.{head_in, end_in, subgroups_of, state_from, first_fault, answered, behind, judged, judged_of, lifted, state_of, told}
-use Rattle.bcast_base.specs.Tries.{Answers}
+use Rattle.receive_state.proofs.Prelude.{◌≡◌, ℕ, ◌+◌, ◌<◌, ◌≤◌, List, [], ◌∷◌, ◌++◌, length, Option, Some, None, Result, Ok, Err, refl, sym, ap, subst, ◌∙◌, inl, inr, arith, nat_lt, IfErr, flat_map, free, unless, reserved_from, place_in, IsOctets, octet, subgroup_fields, StateFault, Short, Rfu, Trailing, Memory, ReceiveState, EndsIn, IsShort, IsFault, StateFields, fields, subgroups_of, state_from, first_fault, answered, behind, judged, judged_of, lifted, state_of, Answers}
+use Rattle.bcast_base.specs.Subgroups.{subgroups_in}
+use Rattle.receive_state.specs.Reading.{head_in, end_in, told}
 use Rattle.receive_state.proofs.Causes.{lifted_err, reserved_found, reserved_told, trailing_found, trailing_told}
 use Rattle.receive_state.proofs.CutGroups.{found_groups, told_groups}
 use Rattle.receive_state.proofs.HeadsFound.{found_head}

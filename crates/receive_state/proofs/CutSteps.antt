@@ -1,14 +1,5 @@
 -- One step of reading: the octets end within a field, or reading goes on behind it.
-use Rattle.std.proofs.Common.{◌≡◌, ℕ, ◌+◌, ◌<◌, ◌≤◌, List, [], ◌∷◌, ◌++◌, length, Option, Some, None, Result, Err, refl, sym, ap, subst, ◌∙◌, inl, inr, arith, add-zero}
-use Rattle.std.specs.Prelude.{◌⊎◌}
-use Rattle.std.proofs.lemmas.List.{length-append}
-use Rattle.bcast_base.specs.Layout.{Field}
-use Rattle.bcast_base.specs.Reading.{octet_in, octets_in, place_in}
-use Rattle.bcast_base.specs.Encoding.{octet}
-use Rattle.bcast_base.proofs.Citable.{octet_takes, octets_take}
-use Rattle.receive_state.specs.Faults.{EndsIn}
-use Rattle.bcast_base.specs.Tries.{◌>>=◌, needed}
-use Rattle.receive_state.specs.Steps.{field_in}
+use Rattle.receive_state.proofs.Prelude.{◌≡◌, ℕ, ◌+◌, ◌<◌, ◌≤◌, List, [], ◌∷◌, ◌++◌, length, Option, Some, None, Result, Err, refl, sym, ap, subst, ◌∙◌, inl, inr, arith, add-zero, ◌⊎◌, length-append, Field, octet_in, octets_in, place_in, octet, octet_takes, octets_take, EndsIn, ◌>>=◌, needed, field_in}
 use Rattle.receive_state.proofs.Cuts.{ends_split, no_octet, no_octets, octet_short, octets_short}
 use Rattle.receive_state.proofs.Heads.{octets_again_at}
 

@@ -1,13 +1,6 @@
 -- Octets that end within a field of a list, and what is read of them.
-use Rattle.std.proofs.Common.{◌≡◌, ℕ, zero, suc, ◌+◌, ◌-◌, ◌<◌, Bool, true, false, cond, ltb, List, [], ◌∷◌, ◌++◌, length, take, drop, Option, Some, None, refl, sym, ap, ◌∙◌, inl}
-use Rattle.std.proofs.Common.{inr, append_assoc, arith}
-use Rattle.std.specs.Prelude.{◌⊎◌}
+use Rattle.receive_state.proofs.Prelude.{◌≡◌, ℕ, zero, suc, ◌+◌, ◌-◌, ◌<◌, Bool, true, false, cond, ltb, List, [], ◌∷◌, ◌++◌, length, take, drop, Option, Some, None, refl, sym, ap, ◌∙◌, inl, inr, append_assoc, arith, ◌⊎◌, length-append, Field, laid, octet_in, octets_in, IsOctets, EndsIn}
 use Rattle.std.proofs.lemmas.Bool.{lt-ltb, ltb-true}
-use Rattle.std.proofs.lemmas.List.{length-append}
-use Rattle.bcast_base.specs.Layout.{Field, laid}
-use Rattle.bcast_base.specs.Reading.{octet_in, octets_in}
-use Rattle.bcast_base.specs.Encoding.{IsOctets}
-use Rattle.receive_state.specs.Faults.{EndsIn}
 
 pub ends_here : (field : Field) (fields : List Field) (part more : List ℕ) → field.octets ≡ part ++ more → 0 < length more → EndsIn 0 (field ∷ fields) part
 ends_here field fields part more e lt = ([], field, fields, part, more, refl, e, lt, refl, refl)

@@ -1,15 +1,7 @@
 -- Which states have an encoding.
-use Rattle.std.proofs.Common.{◌≡◌, ◌≤◌, ◌<◌, ◌^◌, ℕ, suc, Bool, true, false, cond, ltb, leb, List, [], ◌∷◌, length, map, Some, refl, ap, subst, arith}
-use Rattle.std.specs.Prelude.{◌&&◌, ◌||◌, not}
-use Rattle.std.specs.List.{flat_map, list_all, AllByRecursion}
+use Rattle.receive_state.proofs.Prelude.{◌≡◌, ◌≤◌, ◌<◌, ◌^◌, ℕ, suc, Bool, true, false, cond, ltb, leb, List, [], ◌∷◌, length, map, Some, refl, ap, subst, arith, ◌&&◌, ◌||◌, not, flat_map, list_all, AllByRecursion, NoneReserved, Fits, subgroup_fields, is_reserved, Encryption, GroupState, ReceiveState, FieldsFit, fields_of, group_of, number_of, encoding, group_is_encoded, is_encoded, HasEncoding, HasTypes, StateIs}
 use Rattle.std.proofs.lemmas.Bool.{leb-true, le-leb}
-use Rattle.bcast_base.specs.Layout.{NoneReserved}
-use Rattle.bcast_base.specs.Subgroups.{Fits, subgroup_fields, is_reserved}
-use Rattle.receive_state.specs.declared.state.Encryption.{Encryption}
 use Rattle.receive_state.specs.declared.state.Encryption.TheVariants as keys
-use Rattle.receive_state.specs.declared.state.GroupState.{GroupState}
-use Rattle.receive_state.specs.declared.state.ReceiveState.{ReceiveState}
-use Rattle.receive_state.specs.Layout.{FieldsFit, fields_of, group_of, number_of, encoding, group_is_encoded, is_encoded, HasEncoding, HasTypes, StateIs}
 
 length-groups : (groups : List GroupState) → length (map group_of groups) ≡ length groups
 length-groups [] = refl

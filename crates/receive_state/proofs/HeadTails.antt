@@ -1,10 +1,6 @@
 -- What is left to read of the head, from each of its fields on.
-use Rattle.std.proofs.Common.{◌≡◌, ℕ, List, [], Option, Some, None, Result, Ok, refl}
-use Rattle.bcast_base.specs.Reading.{octet_in, octets_in}
-use Rattle.receive_state.specs.Layout.{StateFields, code_width}
+use Rattle.receive_state.proofs.Prelude.{◌≡◌, ℕ, List, [], Option, Some, None, Result, Ok, refl, octet_in, octets_in, StateFields, code_width, ◌>>=◌, needed, field_in}
 use Rattle.receive_state.specs.Reading.{source_in, head_in}
-use Rattle.bcast_base.specs.Tries.{◌>>=◌, needed}
-use Rattle.receive_state.specs.Steps.{field_in}
 
 abbrev pub sourced : StateFields → List ℕ → Result (StateFields × List ℕ) ℕ
 sourced s rest = Ok (s, rest)

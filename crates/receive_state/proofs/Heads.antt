@@ -1,13 +1,6 @@
 -- The fields before the subgroups: what is read of them is encoded so, and what is encoded so is read.
-use Rattle.std.proofs.Common.{◌≡◌, ℕ, ◌+◌, ◌<◌, List, [], ◌++◌, length, Some, Ok, refl, ap, subst, ◌∙◌, arith}
-use Rattle.std.proofs.lemmas.List.{length-append}
-use Rattle.bcast_base.specs.Reading.{octet_in, octets_in, place_in}
-use Rattle.bcast_base.specs.Encoding.{IsOctets, octet}
-use Rattle.bcast_base.proofs.Citable.{octet_takes, octets_take, octets_again, bind_ok, needed_ok, ok_is}
-use Rattle.receive_state.specs.Layout.{StateFields, code_width}
+use Rattle.receive_state.proofs.Prelude.{◌≡◌, ℕ, ◌+◌, ◌<◌, List, [], ◌++◌, length, Some, Ok, refl, ap, subst, ◌∙◌, arith, length-append, octet_in, octets_in, place_in, IsOctets, octet, octet_takes, octets_take, octets_again, bind_ok, needed_ok, ok_is, StateFields, code_width, ◌>>=◌, field_in}
 use Rattle.receive_state.specs.Reading.{source_in, head_in}
-use Rattle.bcast_base.specs.Tries.{◌>>=◌}
-use Rattle.receive_state.specs.Steps.{field_in}
 
 pub octets_again_at : (k : ℕ) (value rest : List ℕ) → length value ≡ k → octets_in k (value ++ rest) ≡ Some (value, rest)
 octets_again_at k value rest e = subst (λ (n : ℕ). octets_in n (value ++ rest) ≡ Some (value, rest)) e (octets_again value rest)

@@ -1,14 +1,6 @@
 -- Where reading the head ends at a place, the octets end in a field of the head there.
-use Rattle.std.proofs.Common.{◌≡◌, ℕ, ◌+◌, ◌-◌, List, [], ◌∷◌, ◌++◌, length, Ok, Err, refl, sym, ap, subst, ◌∙◌, arith, zero-add}
-use Rattle.std.specs.Prelude.{nat_lt}
-use Rattle.std.proofs.lemmas.List.{length-append}
-use Rattle.bcast_base.specs.Layout.{Field, free, unless}
-use Rattle.bcast_base.specs.Reading.{octet_in, octets_in, place_in}
-use Rattle.bcast_base.specs.Encoding.{octet}
-use Rattle.receive_state.specs.Faults.{EndsIn}
-use Rattle.receive_state.specs.Layout.{StateFields, fields, FieldsFit, code_width}
+use Rattle.receive_state.proofs.Prelude.{◌≡◌, ℕ, ◌+◌, ◌-◌, List, [], ◌∷◌, ◌++◌, length, Ok, Err, refl, sym, ap, subst, ◌∙◌, arith, zero-add, nat_lt, length-append, Field, free, unless, octet_in, octets_in, place_in, octet, EndsIn, StateFields, fields, FieldsFit, code_width, ◌>>=◌}
 use Rattle.receive_state.specs.Reading.{head_in}
-use Rattle.bcast_base.specs.Tries.{◌>>=◌}
 use Rattle.receive_state.proofs.Cuts.{ends_here, ends_more, zeros, length-zeros, filled, length-filled, more-zeros}
 use Rattle.receive_state.proofs.CutSteps.{find_octet, find_octets}
 use Rattle.receive_state.proofs.HeadTails.{sourced, from_id, from_sid, from_address, from_kind, from_source, from_count, from_code, from_enc, from_sync, head_is, assoc}

@@ -1,15 +1,6 @@
 -- Where the octets end in a field of the head, reading the head ends at its place.
-use Rattle.std.proofs.Common.{◌≡◌, ℕ, ◌+◌, ◌≤◌, List, [], ◌∷◌, length, Result, Ok, Err, refl, sym, subst, inl, inr, arith}
-use Rattle.std.specs.Prelude.{nat_lt, ◌⊎◌}
-use Rattle.std.specs.List.{flat_map}
-use Rattle.bcast_base.specs.Layout.{free, unless}
-use Rattle.bcast_base.specs.Reading.{octet_in, octets_in, place_in}
-use Rattle.bcast_base.specs.Encoding.{octet}
-use Rattle.bcast_base.specs.Subgroups.{subgroup_fields}
-use Rattle.receive_state.specs.Faults.{EndsIn}
-use Rattle.receive_state.specs.Layout.{StateFields, fields, FieldsFit, code_width}
+use Rattle.receive_state.proofs.Prelude.{◌≡◌, ℕ, ◌+◌, ◌≤◌, List, [], ◌∷◌, length, Result, Ok, Err, refl, sym, subst, inl, inr, arith, nat_lt, ◌⊎◌, flat_map, free, unless, octet_in, octets_in, place_in, octet, subgroup_fields, EndsIn, StateFields, fields, FieldsFit, code_width, ◌>>=◌}
 use Rattle.receive_state.specs.Reading.{head_in}
-use Rattle.bcast_base.specs.Tries.{◌>>=◌}
 use Rattle.receive_state.proofs.CutSteps.{told_octet, told_octets}
 use Rattle.receive_state.proofs.HeadTails.{sourced, from_id, from_sid, from_address, from_kind, from_source, from_count, from_code, from_enc, from_sync, head_is, assoc}
 

@@ -1,24 +1,10 @@
 -- States that are read are encoded so, and their first fault is the one that is told.
-use Rattle.std.proofs.Common.{◌≡◌, ℕ, zero, suc, ◌<◌, ◌≤◌, List, [], ◌∷◌, ◌++◌, length, map, Option, Some, None, Result, Ok, Err, refl, sym, ap, subst, ◌∙◌, append_assoc, arith}
-use Rattle.std.specs.Prelude.{IfOk}
+use Rattle.receive_state.proofs.Prelude.{◌≡◌, ℕ, zero, suc, ◌<◌, ◌≤◌, List, [], ◌∷◌, ◌++◌, length, map, Option, Some, None, Result, Ok, Err, refl, sym, ap, subst, ◌∙◌, append_assoc, arith, IfOk, append-nil, nil_from_length, flat_map, Field, laid, reserved_from, NoneReserved, place_in, IsOctets, Subgroup, subgroup, subgroup_fields, subgroup_laid, subgroups_take, subgroups_again, reserved_none, none_reserved, StateFault, Encryption, GroupState, ReceiveState, IsFollowed, StateFields, fields, FieldsFit, code_width, number_of, code_of, group_of, fields_of, encoding, IsEncoded, StateIs, subgroups_of, state_of_group, encryption_of, state_from, first_fault, answered, behind, judged, judged_of, lifted, state_of, Answers}
 use Rattle.std.proofs.lemmas.Bool.{ltb-false}
 use Rattle.std.proofs.lemmas.Grind.{flat_map-append}
-use Rattle.std.proofs.lemmas.List.{append-nil, nil_from_length}
-use Rattle.std.specs.List.{flat_map}
-use Rattle.bcast_base.specs.Layout.{Field, laid, reserved_from, NoneReserved}
-use Rattle.bcast_base.specs.Reading.{place_in}
-use Rattle.bcast_base.specs.Encoding.{IsOctets}
-use Rattle.bcast_base.specs.Subgroups.{Subgroup, subgroup, subgroup_fields, subgroups_in}
-use Rattle.bcast_base.proofs.Citable.{subgroup_laid, subgroups_take, subgroups_again, reserved_none, none_reserved}
-use Rattle.receive_state.specs.declared.fault.StateFault.{StateFault}
-use Rattle.receive_state.specs.declared.state.Encryption.{Encryption}
+use Rattle.bcast_base.specs.Subgroups.{subgroups_in}
 use Rattle.receive_state.specs.declared.state.Encryption.TheVariants as keys
-use Rattle.receive_state.specs.declared.state.GroupState.{GroupState}
-use Rattle.receive_state.specs.declared.state.ReceiveState.{ReceiveState}
-use Rattle.receive_state.specs.Faults.{IsFollowed}
-use Rattle.receive_state.specs.Layout.{StateFields, fields, FieldsFit, code_width, number_of, code_of, group_of, fields_of, encoding, IsEncoded, StateIs}
-use Rattle.receive_state.specs.Reading.{head_in, end_in, subgroups_of, state_of_group, encryption_of, state_from, first_fault, answered, behind, judged, judged_of, lifted, state_of, told}
-use Rattle.bcast_base.specs.Tries.{Answers}
+use Rattle.receive_state.specs.Reading.{head_in, end_in, told}
 use Rattle.receive_state.proofs.Heads.{before, head_takes, head_again}
 use Rattle.receive_state.proofs.Loops.{groups_read, groups_told}
 

@@ -12,3 +12,4 @@ pub mod Judged
 pub mod Loops
 pub mod Parts
 pub mod Read
+mod Prelude

@@ -1,17 +1,9 @@
 -- Subgroups looked through one after the other, as a loop does.
-use Rattle.std.proofs.Common.{◌≡◌, ℕ, zero, suc, ◌+◌, ◌-◌, ◌<◌, ◌≤◌, Bool, true, false, cond, ltb, List, [], ◌∷◌, ◌++◌, length, take, drop, map, Option, Some, None, is_some}
-use Rattle.std.proofs.Common.{Result, Ok, Err, refl, sym, ap, ◌∙◌, append_assoc, arith}
-use Rattle.std.proofs.lemmas.List.{append-nil}
+use Rattle.receive_state.proofs.Prelude.{◌≡◌, ℕ, zero, suc, ◌+◌, ◌-◌, ◌<◌, ◌≤◌, Bool, true, false, cond, ltb, List, [], ◌∷◌, ◌++◌, length, take, drop, map, Option, Some, None, is_some, Result, Ok, Err, refl, sym, ap, ◌∙◌, append_assoc, arith, append-nil, sum_from, octet_in, octets_in, number_in, counted_in, place_in, some_is, bind_ok, needed_ok, ok_is, Subgroup, GroupState, group_end_in, groups_of, states_of, state_of_group, ◌>>=◌, needed, field_in}
 use Rattle.std.proofs.lemmas.Option.{some_pair_parts}
-use Rattle.bcast_base.specs.Numbers.{sum_from}
-use Rattle.bcast_base.specs.Reading.{octet_in, octets_in, number_in, counted_in, place_in}
-use Rattle.bcast_base.proofs.Citable.{some_is, bind_ok, needed_ok, ok_is}
-use Rattle.bcast_base.specs.Subgroups.{Subgroup, subgroup_in, subgroups_in}
-use Rattle.receive_state.specs.declared.state.GroupState.{GroupState}
+use Rattle.bcast_base.specs.Subgroups.{subgroup_in, subgroups_in}
 use Rattle.receive_state.proofs.Parts.{joined, subgroup_parts, subgroup_made, subgroups_suc, subgroups_none, subgroups_parts}
-use Rattle.receive_state.specs.Reading.{group_end_in, end_in, groups_of, states_of, state_of_group}
-use Rattle.bcast_base.specs.Tries.{◌>>=◌, needed}
-use Rattle.receive_state.specs.Steps.{field_in}
+use Rattle.receive_state.specs.Reading.{end_in}
 
 one_left : (count i : ℕ) → i < count → count - i ≡ suc (count - (i + 1))
 one_left count i lt = omega arith

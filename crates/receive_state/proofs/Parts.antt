@@ -1,9 +1,7 @@
 -- The parts of subgroups that are read.
-use Rattle.std.proofs.Common.{◌≡◌, ℕ, suc, List, ◌∷◌, Option, Some, None, refl, ap, ◌∙◌}
-use Rattle.bcast_base.specs.Reading.{number_in, counted_in}
+use Rattle.receive_state.proofs.Prelude.{◌≡◌, ℕ, suc, List, ◌∷◌, Option, Some, None, refl, ap, ◌∙◌, number_in, counted_in, Subgroup, bind_some, some_is}
 use Rattle.bcast_base.specs.Steps.{◌>>=◌}
-use Rattle.bcast_base.specs.Subgroups.{Subgroup, subgroup_in, subgroups_in}
-use Rattle.bcast_base.proofs.Citable.{bind_some, some_is}
+use Rattle.bcast_base.specs.Subgroups.{subgroup_in, subgroups_in}
 
 -- a subgroup before others
 abbrev pub joined : Subgroup → Option (List Subgroup × List ℕ) → Option (List Subgroup × List ℕ)

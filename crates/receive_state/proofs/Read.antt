@@ -1,20 +1,9 @@
 -- What a state is judged as, by the steps of reading.
-use Rattle.std.proofs.Common.{◌≡◌, ℕ, ◌+◌, ◌<◌, Bool, true, false, cond, ltb, eqb, List, [], ◌∷◌, length, map, Option, Some, None, is_some, Result, Ok, Err, refl, sym, ap, ◌∙◌, arith}
-use Rattle.std.specs.Prelude.{IsOk}
-use Rattle.std.specs.List.{flat_map}
+use Rattle.receive_state.proofs.Prelude.{◌≡◌, ℕ, ◌+◌, ◌<◌, Bool, true, false, cond, ltb, eqb, List, [], ◌∷◌, length, map, Option, Some, None, is_some, Result, Ok, Err, refl, sym, ap, ◌∙◌, arith, IsOk, flat_map, nil_from_length, length-map, reserved_from, place_in, IsOctets, Subgroup, subgroup_fields, reserved_in, subgroups_take, StateFault, Rfu, Trailing, GroupState, ReceiveState, StateFields, fields, groups_of, states_of, state_of_group, state_from, reserved_head, first_fault, answered, judged_of}
 use Rattle.std.proofs.lemmas.Bool.{eqb-true}
-use Rattle.std.proofs.lemmas.List.{nil_from_length, length-map}
-use Rattle.bcast_base.specs.Layout.{reserved_from}
-use Rattle.bcast_base.specs.Reading.{place_in}
-use Rattle.bcast_base.specs.Encoding.{IsOctets}
-use Rattle.bcast_base.specs.Subgroups.{Subgroup, subgroup_fields, subgroups_in, reserved_in}
-use Rattle.bcast_base.proofs.Citable.{reserved_found, subgroups_take}
-use Rattle.receive_state.specs.declared.fault.StateFault.{StateFault}
-use Rattle.receive_state.specs.declared.fault.StateFault.TheVariants.{Rfu, Trailing}
-use Rattle.receive_state.specs.declared.state.GroupState.{GroupState}
-use Rattle.receive_state.specs.declared.state.ReceiveState.{ReceiveState}
-use Rattle.receive_state.specs.Layout.{StateFields, fields}
-use Rattle.receive_state.specs.Reading.{head_in, end_in, groups_of, states_of, state_of_group, state_from, reserved_head, first_fault, answered, judged_of}
+use Rattle.bcast_base.specs.Subgroups.{subgroups_in}
+use Rattle.bcast_base.proofs.Citable.{reserved_found}
+use Rattle.receive_state.specs.Reading.{head_in, end_in}
 use Rattle.receive_state.proofs.Heads.{head_takes, before-length}
 use Rattle.receive_state.proofs.Judged.{or_place, judged_as}
 use Rattle.receive_state.proofs.Loops.{groups_read}

@@ -1,22 +1,10 @@
 -- No step of a generated scenario is refused, where there are two boxes.
-use Rattle.std.proofs.Common.{◌≡◌, ℕ, zero, suc, ◌+◌, ◌≤◌, Bool, true, false, nat_eq, List, [], ◌∷◌, ◌++◌, length, refl, ap, ◌∙◌, arith, None}
-use Rattle.std.specs.Prelude.{⊤, nat_le}
-use Rattle.std.specs.Option.{option_or}
-use Rattle.std.proofs.lemmas.Bool.{lt-leb}
+use Rattle.replay_generated.proofs.Prelude.{◌≡◌, ℕ, zero, suc, ◌+◌, ◌≤◌, Bool, true, false, nat_eq, List, [], ◌∷◌, ◌++◌, length, refl, ap, ◌∙◌, arith, None, ⊤, nat_le, option_or, lt-leb, accept, airs_of, Call, give, event, events, stream_calls, NoOutlet, Step, drawn, next_state, unit_of, version_of, refusal_of, refuse_if}
 use Rattle.std.proofs.Math.Numerals.{suc-eq-add-one}
 use Rattle.big_info.specs.Rows.{first_fault}
-use Rattle.isoal_unframed.specs.Calls.{accept}
 use Rattle.bcast_base.specs.Encoding as encoding
-use Rattle.source_machine.specs.Airs.{airs_of}
-use Rattle.source_machine.specs.Calls.{Call, give, event, events, stream_calls}
-use Rattle.transcript_text.specs.declared.refusal.Refusal.TheVariants.{NoOutlet}
-use Rattle.scenario_text.specs.declared.step.Step.{Step}
 use Rattle.scenario_text.specs.declared.step.Step.TheVariants as kinds
-use Rattle.scenario_lines.specs.Draws.{drawn, next_state}
-use Rattle.scenario_lines.specs.Generated.{unit_of}
-use Rattle.scenario_history.specs.Steps.{version_of}
-use Rattle.scenario_history.specs.Refusals.{refusal_of, has_beyond}
-use Rattle.sink_history.specs.Refusals.{refuse_if}
+use Rattle.scenario_history.specs.Refusals.{has_beyond}
 use Rattle.replay_generated.proofs.Standing.{At, air_fine, air_plain, at_next, end_fine, event_fine, event_plain, info_said, unit_fine, unit_plain, version_is}
 use Rattle.replay_generated.proofs.Waiting.{Near, Sent, accept_near, event_given, event_near, first_given, more_near, second_given, some_events}
 

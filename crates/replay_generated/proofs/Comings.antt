@@ -1,8 +1,5 @@
 -- What comes, where a line comes.
-use Rattle.std.proofs.Common.{◌≡◌, ℕ, List, Option, Some, subst}
-use Rattle.std.specs.Prelude.{IfSome}
-use Rattle.replay_generated.specs.State.Comings.{Comes}
-use Rattle.replay_generated.specs.declared.coming.Coming.{Coming}
+use Rattle.replay_generated.proofs.Prelude.{◌≡◌, ℕ, List, Option, Some, subst, IfSome, Comes, Coming}
 
 pub one_comes : (next : Option Coming) (coming : Coming) (octets : List ℕ) (lines left : List (List ℕ)) → next ≡ Some coming
     → IfSome next (λ one. Comes one octets lines left) → Comes coming octets lines left

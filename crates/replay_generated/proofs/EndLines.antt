@@ -1,15 +1,9 @@
 -- The generated lines have `end`.
-use Rattle.std.proofs.Common.{◌≡◌, ℕ, true, List, [], ◌∷◌, ◌++◌, map, reverse, codes, refl, ap, ◌∙◌, Some, Ok}
+use Rattle.replay_generated.proofs.Prelude.{◌≡◌, ℕ, true, List, [], ◌∷◌, ◌++◌, map, reverse, codes, refl, ap, ◌∙◌, Some, Ok, TextLine, plain, generated_lines, is_over, version_of, said_by, said_of, with_said, has_end, lines_made}
 use Rattle.std.proofs.lemmas.List.{reverse-append, map-append}
-use Rattle.bcast_io.specs.TextLines.{TextLine, plain}
 use Rattle.scenario_text.specs.Steps.{read_of, step_of}
 use Rattle.scenario_text.specs.Table.{first_row_of, row_of}
 use Rattle.scenario_text.specs.declared.step.Step.TheVariants.{End}
-use Rattle.scenario_lines.specs.Generated.{generated_lines}
-use Rattle.scenario_history.specs.Steps.{is_over, version_of}
-use Rattle.scenario_history.specs.Lines.{said_by, said_of, with_said}
-use Rattle.scenario_history.specs.Transcript.{has_end}
-use Rattle.replay_generated.specs.Generated.{lines_made}
 use Rattle.replay_generated.proofs.GeneratedText.{generated_end}
 
 read_end : (version : ℕ) → read_of version (codes "end") ≡ Ok (Some End)

@@ -1,24 +1,9 @@
 -- How the generated lines end: at their last, or where no box is left for a sink.
-use Rattle.std.proofs.Common.{◌≡◌, ℕ, zero, suc, ◌+◌, ◌<◌, ◌≤◌, true, false, List, [], ◌∷◌, length, map, codes, refl, sym, ap, subst, ◌∙◌, arith, None, Some, Ok}
-use Rattle.std.proofs.lemmas.Bool.{lt-leb, le-leb}
-use Rattle.bcast_io.specs.TextLines.{TextLine, plain}
-use Rattle.unit_outlets.specs.Account.{Account}
-use Rattle.source_machine.specs.Airs.{airs_of}
-use Rattle.transcript_text.specs.declared.refusal.Refusal.{Refusal}
-use Rattle.transcript_text.specs.declared.refusal.Refusal.TheVariants.{NoOutlet}
-use Rattle.scenario_history.specs.Runs.{End, through, refused, end_of, end_unless}
-use Rattle.scenario_text.specs.Lines.{LineIs}
+use Rattle.replay_generated.proofs.Prelude.{◌≡◌, ℕ, zero, suc, ◌+◌, ◌<◌, ◌≤◌, true, false, List, [], ◌∷◌, length, map, codes, refl, sym, ap, subst, ◌∙◌, arith, None, Some, Ok, lt-leb, le-leb, TextLine, plain, Account, airs_of, Refusal, NoOutlet, End, through, refused, end_of, end_unless, LineIs, Step, generated_lines, a_step, refusal_said, rules_of, said_after, said_by, said_in, said_of, with_said, refusal_of, version_of, end_after, has_end, last_end_after, transcript_end, refusal_at, lines_made}
 use Rattle.scenario_text.specs.Steps.{read_of}
-use Rattle.scenario_text.specs.declared.step.Step.{Step}
-use Rattle.scenario_lines.specs.Generated.{generated_lines, lines_from, unit_line}
-use Rattle.scenario_history.specs.Lines.{a_step, refusal_said, rules_of, said_after, said_by, said_in, said_of, with_said}
+use Rattle.scenario_lines.specs.Generated.{lines_from, unit_line}
 use Rattle.scenario_history.specs.Relays.{has_relay, makes_relay}
 use Rattle.scenario_laws.proofs.RelayedUnits.Citable.{SaidNever, none_relayed, nothing_else, plain_after, says_no_relay}
-use Rattle.scenario_history.specs.Refusals.{refusal_of}
-use Rattle.scenario_history.specs.Steps.{version_of}
-use Rattle.scenario_history.specs.Transcript.{end_after, has_end, last_end_after, transcript_end}
-use Rattle.replay_steps.specs.LineMeets.{refusal_at}
-use Rattle.replay_generated.specs.Generated.{lines_made}
 use Rattle.replay_generated.proofs.Accepting.{AllFine, all_fine, first_sink, group_fine, group_step, made_steps, scenario_fine, scenario_step, second_sink, sink_step}
 use Rattle.replay_generated.proofs.EndLines.{made_end}
 use Rattle.replay_generated.proofs.GeneratedText.{generated_read}

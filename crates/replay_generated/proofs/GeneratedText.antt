@@ -1,17 +1,10 @@
 -- The lines of the generated text are the generated lines: none holds the octet that ends a line, and none passes a limit.
-use Rattle.std.proofs.Common.{◌≡◌, ℕ, zero, suc, ◌+◌, ◌*◌, ◌<◌, ◌≤◌, ◌/◌, ◌%◌, Bool, true, false, cond, not, ◌&&◌, eqb, leb, nat_eq, List, [], ◌∷◌, ◌++◌, length, get_or, map}
-use Rattle.std.proofs.Common.{codes, decimal, refl, sym, ap, subst, ◌∙◌, append_assoc, arith, length-append, append-nil}
-use Rattle.std.specs.Prelude.{replicate, slice_index, ⊤}
-use Rattle.std.proofs.lemmas.Bool.{lt-leb, le-leb, leb-true, ne_eqb, and_parts}
+use Rattle.replay_generated.proofs.Prelude.{◌≡◌, ℕ, zero, suc, ◌+◌, ◌*◌, ◌<◌, ◌≤◌, ◌/◌, ◌%◌, Bool, true, false, cond, not, ◌&&◌, eqb, leb, nat_eq, List, [], ◌∷◌, ◌++◌, length, get_or, map, codes, decimal, refl, sym, ap, subst, ◌∙◌, append_assoc, arith, length-append, append-nil, replicate, slice_index, ⊤, lt-leb, le-leb, leb-true, ne_eqb, and_parts, joined, digits, plain, too_long, past, line_limit, text_limit, lines-nothing, drawn, next_state, unit_of, head_lines, generated_lines, generated, text_of}
 use Rattle.std.proofs.lemmas.Fmt.{decimal_digit}
 use Rattle.hex.specs.Hex.{encode_with, encode_lower, lower_digits}
-use Rattle.scenario_words.specs.Joined.{joined}
-use Rattle.scenario_words.specs.Digits.{digits}
-use Rattle.bcast_io.specs.TextLines.{plain, too_long, past, newline, line_limit, text_limit, line_of, lines_from, lines_of}
-use Rattle.bcast_io.proofs.Citable.{lines-nothing}
-use Rattle.scenario_lines.specs.Draws.{drawn, next_state}
+use Rattle.bcast_io.specs.TextLines.{newline, line_of, lines_from, lines_of}
 use Rattle.scenario_lines.specs.Generated as made
-use Rattle.scenario_lines.specs.Generated.{unit_of, unit_line, air_line, head_lines, generated_lines, generated, text_of}
+use Rattle.scenario_lines.specs.Generated.{unit_line, air_line}
 
 -- ---- lines of a text
 

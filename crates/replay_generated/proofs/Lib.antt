@@ -1,4 +1,5 @@
 pub mod Citable
+mod Prelude
 mod Short
 mod GeneratedText
 mod Comings

@@ -1,24 +1,12 @@
 -- What each line prints is whole lines.
-use Rattle.std.proofs.Common.{ℕ, ◌+◌, ◌==◌, cond, Bool, true, false, List, [], ◌∷◌, ◌++◌, codes, decimal, length, map, Option, None, Some}
-use Rattle.std.specs.Prelude.{sum}
-use Rattle.std.specs.List.{filter, flat_map}
-use Rattle.unit_outlets.specs.Account.{Account}
+use Rattle.replay_generated.proofs.Prelude.{ℕ, ◌+◌, ◌==◌, cond, Bool, true, false, List, [], ◌∷◌, ◌++◌, codes, decimal, length, map, Option, None, Some, sum, filter, flat_map, Account, airs_of, digits, control_line, dropped_name, hearing_name, hearing_number, numbers, stale_line, Step, SinkUnit, account_at, box_of, closing, closing_both, handed_up, sink_numbers, valid_for, Refusal, Said, a_step, nothing, unsaid, output_said, chosen_of, chosen_steps, IsWhole, whole_append, whole_none}
 use Rattle.unit_outlets.specs.Handed.{Handed, valid, lost}
-use Rattle.source_machine.specs.Airs.{airs_of}
 use Rattle.source_machine.specs.declared.sent.Stale.{Stale}
-use Rattle.scenario_words.specs.Digits.{digits}
-use Rattle.transcript_text.specs.Lines.{control_line, dropped_name, handed_line, hearing_name, hearing_number, numbers, stale_line}
-use Rattle.scenario_text.specs.declared.step.Step.{Step}
+use Rattle.transcript_text.specs.Lines.{handed_line}
 use Rattle.scenario_text.specs.declared.step.Step.TheVariants as kinds
-use Rattle.scenario_history.specs.Boxes.{SinkUnit, account_at, box_of, closing, closing_both, handed_up, sink_numbers, valid_for}
-use Rattle.transcript_text.specs.declared.refusal.Refusal.{Refusal}
 use Rattle.scenario_history.specs.RelayedUnits.{Answered, Offer, answered_by, handed_of}
-use Rattle.scenario_history.specs.Lines.{Said, a_step, nothing, unsaid, output_said}
 use Rattle.scenario_history.specs.Output.{answer_line, close_lines, dropped_lines, first_lines, injected_hearing, output_of, stale_lines, sum_if, sums_of, unit_line, unit_lines}
 use Rattle.scenario_history.specs.Source.{end_pdu, event_back, pdu_in, stale_in}
-use Rattle.scenario_history.specs.Steps.{chosen_of, chosen_steps}
-use Rattle.transcript_text.specs.CountedLines.{IsWhole}
-use Rattle.transcript_text.proofs.Citable.{whole_append, whole_none}
 use Rattle.replay_generated.proofs.SinkOutputs.{sink_lines_whole, line_whole}
 
 all_whole : {X : Type 0} (print : X → List ℕ) → ((x : X) → IsWhole (print x)) → (xs : List X) → IsWhole (flat_map print xs)

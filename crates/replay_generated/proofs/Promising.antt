@@ -1,28 +1,11 @@
 -- What a generated run promises, by how its lines ended and what was written.
-use Rattle.std.proofs.Common.{◌≡◌, ◌≢◌, ℕ, ◌+◌, ◌<◌, ◌≤◌, List, [], ◌∷◌, length, reverse, refl, sym, subst, ◌∙◌, Option, inl, inr}
-use Rattle.std.proofs.lemmas.List.{append-nil}
-use Rattle.std.proofs.lemmas.Bool.{cases_lt}
+use Rattle.replay_generated.proofs.Prelude.{◌≡◌, ◌≢◌, ℕ, ◌+◌, ◌<◌, ◌≤◌, List, [], ◌∷◌, length, reverse, refl, sym, subst, ◌∙◌, Option, inl, inr, append-nil, cases_lt, TextLine, AppendsShort, Appends-nothing, Account, airs_of, Airs, Refusal, NoOutlet, counts_of, summary, summary_of, Counts, End, through, refused, Accepted, RoomFor, SinkUnit, Took, rules_of, handed_on, transcript_of, transcript_end, units_of, BoxFails, BoxFailed, Did, EndedOver, GeneratedRun, IsDoneOrMemory, Summed, lines_made, Ends, PrefixTaken, Puts, Told}
 use Rattle.std.specs.Io.KnownBytes.{Appends}
 use Rattle.bcast_base.specs.Counts.{Rose}
-use Rattle.bcast_io.specs.TextLines.{TextLine}
-use Rattle.bcast_io.specs.Writing.{AppendsShort}
-use Rattle.bcast_io.proofs.Citable.{Appends-nothing}
-use Rattle.unit_outlets.specs.Account.{Account}
-use Rattle.source_machine.specs.Airs.{airs_of, Airs}
-use Rattle.transcript_text.specs.declared.refusal.Refusal.{Refusal}
-use Rattle.transcript_text.specs.declared.refusal.Refusal.TheVariants.{NoOutlet}
-use Rattle.transcript_text.specs.Summary.{counts_of, summary, summary_of}
-use Rattle.transcript_text.specs.declared.counts.Counts.{Counts}
-use Rattle.scenario_history.specs.Runs.{End, through, refused, Accepted}
 use Rattle.scenario_history.specs.Airs.{MeetAirs}
-use Rattle.scenario_history.specs.Boxes.{RoomFor, SinkUnit, Took}
-use Rattle.scenario_history.specs.Lines.{rules_of, handed_on}
-use Rattle.scenario_history.specs.Transcript.{transcript_of, transcript_end, units_of}
 use Rattle.scenario_sinks.specs.Faults.{CountsStay, OneCounts}
-use Rattle.scenario_sinks.specs.Handing.{BoxFails}
 use Rattle.scenario_sinks.proofs.Citable.{failed_one, none_counts, one_then, took_stay}
-use Rattle.replay_generated.specs.Generated.{BoxFailed, CutShort, Did, EndedOver, GeneratedRun, IsDoneOrMemory, Summed, lines_made}
-use Rattle.replay_generated.specs.State.Between.{Ends, PrefixTaken, Puts, Told}
+use Rattle.replay_generated.specs.Generated.{CutShort}
 use Rattle.replay_generated.specs.declared.outcome.Outcome.{Outcome}
 use Rattle.replay_generated.specs.declared.outcome.Outcome.TheVariants as outcomes
 use Rattle.replay_generated.proofs.Endings.{Reads, made_refused, made_through}

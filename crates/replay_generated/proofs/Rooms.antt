@@ -1,13 +1,5 @@
 -- A box that failed at a unit of the lines of a generated run.
-use Rattle.std.proofs.Common.{List, [], ◌∷◌, ◌++◌, reverse, sym, ap, ◌∙◌, append_assoc}
-use Rattle.bcast_io.specs.TextLines.{TextLine}
-use Rattle.unit_outlets.specs.Account.{Account}
-use Rattle.source_machine.specs.Airs.{airs_of}
-use Rattle.scenario_history.specs.Boxes.{RoomFor, SinkUnit}
-use Rattle.scenario_history.specs.Lines.{handed_on}
-use Rattle.scenario_history.specs.Transcript.{units_of}
-use Rattle.replay_steps.proofs.Citable.{Failure, failure, no_room_for}
-use Rattle.replay_generated.specs.Generated.{BoxFailed}
+use Rattle.replay_generated.proofs.Prelude.{List, [], ◌∷◌, ◌++◌, reverse, sym, ap, ◌∙◌, append_assoc, TextLine, Account, airs_of, RoomFor, SinkUnit, handed_on, units_of, Failure, failure, no_room_for, BoxFailed}
 use Rattle.replay_generated.proofs.Runs.{units_all, units_line}
 
 failed_in : (starts ends : List Account) (lines : List TextLine) → BoxFailed airs_of starts ends lines → Failure starts ends (units_of airs_of starts lines)

@@ -1,33 +1,12 @@
 -- What a run over lines did, by its history.
-use Rattle.std.proofs.Common.{◌≡◌, ℕ, ◌+◌, true, List, [], ◌∷◌, ◌++◌, length, map, reverse, refl, sym, ap, subst, ◌∙◌, append_assoc, arith, Option, None, Some, Result, Ok}
-use Rattle.std.proofs.Common.{Err, inl, inr}
-use Rattle.std.proofs.lemmas.List.{append-nil}
-use Rattle.bcast_io.specs.TextLines.{TextLine, plain}
-use Rattle.unit_outlets.specs.Account.{Account}
-use Rattle.source_machine.specs.Airs.{airs_of}
-use Rattle.transcript_text.specs.declared.refusal.Refusal.{Refusal}
+use Rattle.replay_generated.proofs.Prelude.{◌≡◌, ℕ, ◌+◌, true, List, [], ◌∷◌, ◌++◌, length, map, reverse, refl, sym, ap, subst, ◌∙◌, append_assoc, arith, Option, None, Some, Result, Ok, Err, inl, inr, append-nil, TextLine, plain, Account, airs_of, Refusal, refusal_line, lines_of, counts_of, none_counted, with_lines, Counts, counts_append, whole_append, whole_none, through, refused, out, out_unless, end_of, end_unless, accepted_of, accepted_unless, brought, Accepted, SinkUnit, accounts_after, handed_up, Took, rules_of, steps_of, said_after, handed_on, out_of, end_after, last_line_after, last_end_after, has_end, transcript_of, transcript_end, units_of, BoxFails, CutShort, LinesStand, LineMeets, refusal_at, output_at, answered_on, box_fails, meets_at, unassigned_line, took_as, took_history, handed_line, BoxFailed, Counted, PrefixTaken, LineRefused, LineRuns, Ran, Refuses, RunTo, Told, Ending}
 use Rattle.transcript_text.specs.declared.stop.Stop.{Stop}
 use Rattle.transcript_text.specs.declared.stop.Stop.TheVariants as stops
-use Rattle.transcript_text.specs.Lines.{refusal_line}
-use Rattle.transcript_text.specs.CountedLines.{lines_of}
-use Rattle.transcript_text.specs.Summary.{counts_of, none_counted, with_lines}
-use Rattle.transcript_text.specs.declared.counts.Counts.{Counts}
-use Rattle.transcript_text.proofs.Citable.{counts_append, whole_append, whole_none}
-use Rattle.scenario_history.specs.Runs.{through, refused, out, out_unless, end_of, end_unless, accepted_of, accepted_unless, brought, Accepted}
 use Rattle.scenario_history.proofs.Citable.{out_accepted, end_accepted, accepted_accepted, reverse_onto}
-use Rattle.scenario_history.specs.Boxes.{SinkUnit, accounts_after, handed_up, Took}
-use Rattle.scenario_history.specs.Lines.{rules_of, steps_of, said_after, handed_on}
-use Rattle.scenario_history.specs.Transcript.{out_of, end_after, last_line_after, last_end_after, has_end, transcript_of, transcript_end, units_of}
 use Rattle.scenario_history.proofs.Citable.{took_all}
-use Rattle.scenario_sinks.specs.Handing.{BoxFails, CutShort}
 use Rattle.scenario_sinks.proofs.Citable.{accounts_append}
-use Rattle.replay_steps.specs.LineMeets.{LinesStand, LineMeets, refusal_at, output_at, answered_on}
 use Rattle.replay_steps.specs.declared.machine.Machine.{Machine}
-use Rattle.replay_steps.proofs.Citable.{box_fails, meets_at, unassigned_line, took_as, took_history, handed_line}
-use Rattle.replay_generated.specs.Generated.{BoxFailed}
 use Rattle.replay_steps.specs.Unassigned.{UnassignedRun, UnassignedSame}
-use Rattle.replay_generated.specs.State.Between.{Counted, PrefixTaken, LineRefused, LineRuns, Ran, Refuses, RunTo, Told}
-use Rattle.replay_generated.specs.declared.running.Ending.{Ending}
 use Rattle.replay_generated.specs.declared.running.Ending.TheVariants as endings
 use Rattle.replay_generated.proofs.Outputs.{said_whole}
 

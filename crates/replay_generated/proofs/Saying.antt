@@ -1,20 +1,15 @@
 -- What the generated lines say.
-use Rattle.std.proofs.Common.{◌≡◌, ℕ, zero, suc, ◌+◌, ◌%◌, ◌<◌, ◌≤◌, true, List, [], ◌∷◌, codes, refl, arith, None, Some}
-use Rattle.std.specs.Prelude.{replicate, ⊤}
+use Rattle.replay_generated.proofs.Prelude.{◌≡◌, ℕ, zero, suc, ◌+◌, ◌%◌, ◌<◌, ◌≤◌, true, List, [], ◌∷◌, codes, refl, arith, None, Some, replicate, ⊤, joined, Step, LineIs, drawn, next_state, unit_of, generated_lines}
 use Rattle.std.specs.Fmt.{digits as numerals}
 use Rattle.bcast_base.specs.Encoding.{IsOctets}
-use Rattle.scenario_words.specs.Joined.{joined}
 use Rattle.scenario_words.specs.Lines.{Values, ◌▸◌, AllHaveWords, all_words}
 use Rattle.scenario_words.proofs.CitableValues.{NoSpace, joined_split, unspaced}
-use Rattle.scenario_text.specs.declared.step.Step.{Step}
 use Rattle.scenario_text.specs.declared.step.Step.TheVariants as kinds
-use Rattle.scenario_text.specs.Lines.{LineIs}
 use Rattle.scenario_text.specs.Table as rows
 use Rattle.scenario_text.specs.Table.{Row, first_row_of, row_of}
 use Rattle.scenario_text.proofs.Citable.{all_small, all_unspaced, made as made_of, says, takes_all_last}
-use Rattle.scenario_lines.specs.Draws.{drawn, next_state}
 use Rattle.scenario_lines.specs.Generated as made
-use Rattle.scenario_lines.specs.Generated.{unit_of, unit_line, air_line, generated_lines}
+use Rattle.scenario_lines.specs.Generated.{unit_line, air_line}
 use Rattle.replay_generated.proofs.Accepting.{event_steps, group_step, made_steps, scenario_step, sink_step, tuned_step}
 
 -- ---- a line of a row

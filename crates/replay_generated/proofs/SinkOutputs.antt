@@ -1,6 +1,5 @@
 -- What a line prints of a sink and of its assistants is whole lines.
-use Rattle.std.proofs.Common.{ℕ, zero, suc, List, [], ◌∷◌, ◌++◌, codes, decimal, length, map, Option, None, Some}
-use Rattle.std.specs.List.{concat, flat_map, range_with_len}
+use Rattle.replay_generated.proofs.Prelude.{ℕ, zero, suc, List, [], ◌∷◌, ◌++◌, codes, decimal, length, map, Option, None, Some, concat, flat_map, range_with_len, digits, joined, line_of, Step, IsWhole, whole_append, whole_ended, whole_none}
 use Rattle.assistant_machine.specs.Answers.{answer_of as forged_answer}
 use Rattle.delegator_history.specs.declared.notice.Notice.{Notice}
 use Rattle.delegator_history.specs.Controls as controls
@@ -9,19 +8,13 @@ use Rattle.sink_history.specs.Calls as links
 use Rattle.sink_history.specs.Calls.{Call, writes_waiting}
 use Rattle.sink_history.specs.Drains.{repeated, served_out, notified_out}
 use Rattle.sink_history.specs.Links.{notices_waiting, reads_waiting}
-use Rattle.scenario_words.specs.Digits.{digits}
-use Rattle.scenario_words.specs.Joined.{joined}
-use Rattle.transcript_text.specs.Lines.{line_of}
 use Rattle.transcript_text.specs.SinkLines.{Label, control_words, forged_words, on_link, plain, reply_line, reply_words, train_words, value_line}
-use Rattle.scenario_text.specs.declared.step.Step.{Step}
 use Rattle.scenario_text.specs.declared.step.Step.TheVariants as steps
 use Rattle.sink_history.specs.History.{Source, World, given_train, history_of, made_of, named_by, own_train}
 use Rattle.sink_history.specs.Output.{Lines, drain_lines, heard_line, if_there, notice_delivered, printed, printed_at, printed_of, printed_where, read_line, read_lines}
 use Rattle.sink_history.specs.Output.{replied, serve_line, serve_lines, show_lines, snapshot_in, stated, tell_line, tell_lines, view_lines, viewed, was_read}
 use Rattle.scenario_history.specs.Output.{sink_lines}
 use Rattle.scenario_history.specs.Worlds.{the_world}
-use Rattle.transcript_text.specs.CountedLines.{IsWhole}
-use Rattle.transcript_text.proofs.Citable.{whole_append, whole_ended, whole_none}
 
 -- each of these lines is whole
 abbrev AllWhole : Lines → Type 0

@@ -1,21 +1,9 @@
 -- What stands between the steps of two lines of a generated scenario, and when such a step isn't refused.
-use Rattle.std.proofs.Common.{◌≡◌, ℕ, true, false, cond, not, ◌&&◌, ◌||◌, nat_eq, List, ◌∷◌, refl, ap, ◌∙◌, Option, None, Some}
-use Rattle.std.specs.Prelude.{is_some, unwrap_or}
-use Rattle.std.specs.Option.{option_or, option_map}
+use Rattle.replay_generated.proofs.Prelude.{◌≡◌, ℕ, true, false, cond, not, ◌&&◌, ◌||◌, nat_eq, List, ◌∷◌, refl, ap, ◌∙◌, Option, None, Some, is_some, unwrap_or, option_or, option_map, airs_of, Setup, Call, events, give_fault, event_fault, AfterEnd, Order, NoSuchSink, NotOnAir, Step, Stage, running, chosen_given, chosen_of, chosen_steps, is_common, is_of_source, is_over, is_over_at, is_source_line, last_given, stage_after, stage_of, steps_of_source, version_at, version_of, box_after, box_of, counter_ends, give_refusal, is_misplaced, is_out_of_order, is_out_of_phase, own_refusal, phase_refusal, refusal_of, source_refusal, refuse_if}
 use Rattle.big_info.specs.declared.info.BigInfo.{BigInfo}
-use Rattle.source_machine.specs.Airs.{airs_of}
-use Rattle.source_machine.specs.Calls.{Setup, Call, events}
-use Rattle.source_machine.specs.Faults.{give_fault, event_fault}
-use Rattle.transcript_text.specs.declared.refusal.Refusal.TheVariants.{AfterEnd, Order, NoSuchSink, NotOnAir}
-use Rattle.scenario_text.specs.declared.step.Step.{Step}
 use Rattle.scenario_text.specs.declared.step.Step.TheVariants as kinds
-use Rattle.scenario_history.specs.Steps.{Stage, running, chosen_given, chosen_of, chosen_steps, is_common, is_of_source, is_over, is_over_at, is_source_line, last_given, stage_after, stage_of}
-use Rattle.scenario_history.specs.Steps.{steps_of_source, version_at, version_of}
 use Rattle.scenario_history.specs.Source.{GroupLine, absent, sending, cipher_given, group_given, info_with, is_heard, is_sending_at, no_group, performed, phase_given, setup_from, setup_of}
 use Rattle.scenario_history.specs.Source.{source_calls, start_given, start_of, takes_units, was_started_at, with_source_call, is_ahead_in}
-use Rattle.scenario_history.specs.Boxes.{box_after, box_of}
-use Rattle.scenario_history.specs.Refusals.{counter_ends, give_refusal, is_misplaced, is_out_of_order, is_out_of_phase, own_refusal, phase_refusal, refusal_of, source_refusal}
-use Rattle.sink_history.specs.Refusals.{refuse_if}
 
 -- the group that the lines say, and what fixes its source
 abbrev pub group_said : GroupLine

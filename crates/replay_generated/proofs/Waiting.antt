@@ -1,18 +1,10 @@
 -- How many units of a generated scenario wait: at most one of each stream before those of an event.
-use Rattle.std.proofs.Common.{◌≡◌, ℕ, zero, suc, ◌+◌, ◌-◌, ◌*◌, ◌^◌, ◌<◌, ◌≤◌, Bool, true, false, cond, nat_eq, List, [], ◌∷◌, ◌++◌, length, refl, sym, ap, ◌∙◌, arith, length-append, None, Some}
-use Rattle.std.specs.Prelude.{min}
-use Rattle.std.specs.Option.{option_map}
-use Rattle.std.proofs.lemmas.Bool.{lt-leb, le-ltb, ne_eqb}
+use Rattle.replay_generated.proofs.Prelude.{◌≡◌, ℕ, zero, suc, ◌+◌, ◌-◌, ◌*◌, ◌^◌, ◌<◌, ◌≤◌, Bool, true, false, cond, nat_eq, List, [], ◌∷◌, ◌++◌, length, refl, sym, ap, ◌∙◌, arith, length-append, None, Some, min, option_map, lt-leb, le-ltb, ne_eqb, accept, lay, lays, accepted, begun, airs_of, waiting_of, Call, give, event, events, given, laid_with, stream_calls, give_fault, event_fault, unit_of, counter_ends, give_refusal}
 use Rattle.isoal_base.specs.Air.{begun_in}
 use Rattle.isoal_unframed.specs.Air.{unframed_air}
-use Rattle.isoal_unframed.specs.Calls.{Call as StreamCall, accept, lay, lays, accepted, begun}
-use Rattle.source_machine.specs.Airs.{airs_of, waiting_of}
-use Rattle.source_machine.specs.Calls.{Call, give, event, events, given, laid_with, stream_calls}
-use Rattle.source_machine.specs.Faults.{give_fault, event_fault}
+use Rattle.isoal_unframed.specs.Calls.{Call as StreamCall}
 use Rattle.source_machine.specs.UnitFaults as give_faults
 use Rattle.source_machine.specs.declared.fault.EventFault.TheVariants as event_faults
-use Rattle.scenario_lines.specs.Generated.{unit_of}
-use Rattle.scenario_history.specs.Refusals.{counter_ends, give_refusal}
 use Rattle.replay_generated.proofs.Standing.{info_said, setup_said}
 
 laid_accepted : (count : ℕ) (calls : List StreamCall) → accepted (lays count calls) ≡ accepted calls

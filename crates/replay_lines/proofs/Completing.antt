@@ -1,21 +1,6 @@
 -- Which endings come, and what the boxes took of a text that its source tells.
-use Rattle.std.proofs.Common.{◌≡◌, ◌≢◌, ℕ, Bool, true, List, [], ◌∷◌, ◌++◌, reverse, refl, sym, ap, subst, ◌∙◌, append_assoc, Option, None, Some}
-use Rattle.std.proofs.lemmas.List.{append-nil}
-use Rattle.std.specs.Io.KnownBytes.{Consumes, IsAtEnd}
-use Rattle.bcast_io.specs.State.Reading.{MayFollow}
-use Rattle.bcast_io.specs.TextLines.{lines_of}
-use Rattle.unit_outlets.specs.Account.{Account}
-use Rattle.bcast_base.specs.Counts.{Rose}
-use Rattle.source_machine.specs.Airs.{airs_of}
-use Rattle.scenario_history.specs.Runs.{through, refused}
-use Rattle.scenario_history.specs.Boxes.{SinkUnit, Took}
-use Rattle.scenario_history.specs.Lines.{handed_on}
-use Rattle.scenario_history.specs.Transcript.{out_of, transcript_end, units_of}
-use Rattle.replay_lines.specs.declared.ending.Ending.{Ending}
+use Rattle.replay_lines.proofs.Prelude.{◌≡◌, ◌≢◌, ℕ, Bool, true, List, [], ◌∷◌, ◌++◌, reverse, refl, sym, ap, subst, ◌∙◌, append_assoc, Option, None, Some, append-nil, Consumes, IsAtEnd, MayFollow, lines_of, Account, Rose, airs_of, through, refused, SinkUnit, Took, handed_on, out_of, transcript_end, units_of, Ending, TextRead, OutletFaulted, Ended, IsDoneOrMemory, IsNoFault, IsWhole, AheadOf, NoneFailed, RoomForText, Complete, Failure, failure, no_room_for, took_as}
 use Rattle.replay_lines.specs.declared.ending.Ending.TheVariants as endings
-use Rattle.replay_lines.specs.Replayed.{TextRead, OutletFaulted}
-use Rattle.replay_lines.specs.Ended.{Ended, IsDoneOrMemory, IsNoFault, IsWhole, AheadOf, NoneFailed, RoomForText, Complete}
-use Rattle.replay_steps.proofs.Citable.{Failure, failure, no_room_for, took_as}
 use Rattle.replay_lines.proofs.Endings.{units_all}
 use Rattle.replay_lines.proofs.LineUnits.{box_stops, units_line}
 

@@ -1,16 +1,6 @@
 -- The counts of the boxes, by how a run ended.
-use Rattle.std.proofs.Common.{◌≢◌, ℕ, true, false, List, [], reverse, refl, Option, inl, inr, ◌⊎◌}
-use Rattle.bcast_io.specs.TextLines.{TextLine, lines_of}
-use Rattle.unit_outlets.specs.Account.{Account}
-use Rattle.source_machine.specs.Airs.{airs_of}
-use Rattle.scenario_history.specs.Lines.{handed_on}
-use Rattle.scenario_history.specs.Transcript.{out_of, units_of}
-use Rattle.scenario_sinks.specs.Faults.{CountsStay, OneCounts}
-use Rattle.scenario_sinks.proofs.Citable.{failed_one, none_counts, one_then, took_stay}
-use Rattle.replay_lines.specs.declared.ending.Ending.{Ending}
+use Rattle.replay_lines.proofs.Prelude.{◌≢◌, ℕ, true, false, List, [], reverse, refl, Option, inl, inr, ◌⊎◌, TextLine, lines_of, Account, airs_of, handed_on, out_of, units_of, CountsStay, OneCounts, failed_one, none_counts, one_then, took_stay, Ending, Ended, IsCut, Broken, FaultCut, LineFails}
 use Rattle.replay_lines.specs.declared.ending.Ending.TheVariants as endings
-use Rattle.replay_lines.specs.Ended.{Ended, IsCut}
-use Rattle.replay_lines.specs.Replayed.{Broken, FaultCut, LineFails}
 use Rattle.replay_lines.proofs.LineUnits.{box_stops}
 
 broken_counts : (starts ends : List Account) (left left' kept kept' : Option (List ℕ)) → Broken airs_of starts ends left left' kept kept'

@@ -1,17 +1,8 @@
 -- What is promised of a document that was read.
-use Rattle.std.proofs.Common.{◌≡◌, ◌≢◌, ℕ, List, refl, sym, subst, Option, Some, Result, Ok, Err}
-use Rattle.bcast_io.specs.Documents.{ReadsDocument}
+use Rattle.replay_lines.proofs.Prelude.{◌≡◌, ◌≢◌, ℕ, List, refl, sym, subst, Option, Some, Result, Ok, Err, ReadsDocument, Unread, Promised, World, Ending, Account, DocumentIs, DocumentLaws, FromToml, TomlEnding, Standing, refused_for, stands_for, cause_line, DocumentRuns, over_text}
 use Rattle.bcast_io.specs.declared.document.Document.{Document}
-use Rattle.bcast_io.specs.declared.piece.Unread.{Unread}
-use Rattle.replay_lines.specs.Promised.{Promised}
-use Rattle.replay_lines.specs.World.{World}
-use Rattle.replay_lines.specs.declared.ending.Ending.{Ending}
 use Rattle.replay_lines.specs.declared.ending.Ending.TheVariants as endings
-use Rattle.unit_outlets.specs.Account.{Account}
-use Rattle.replay_lines.specs.Documents.{DocumentIs}
-use Rattle.replay_lines.specs.FromToml.{DocumentLaws, FromToml, TomlEnding}
-use Rattle.replay_lines.specs.Standing.{Standing, refused_for, stands_for, cause_line}
-use Rattle.replay_lines.specs.State.Runs.{DocumentRuns, Refuses, over_text}
+use Rattle.replay_lines.specs.State.Runs.{Refuses}
 use Rattle.replay_lines.proofs.Refusing.{refused_toml}
 use Rattle.replay_lines.proofs.Running.{ending_is, never_fails, ran_toml}
 use Rattle.replay_lines.proofs.Endings.{prefix_none}

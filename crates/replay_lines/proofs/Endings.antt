@@ -1,33 +1,7 @@
 -- How a run of a text ends at a line, by what was run and written before it.
-use Rattle.std.proofs.Common.{◌≡◌, ℕ, ◌+◌, Bool, true, false, List, [], ◌∷◌, ◌++◌, length, reverse, refl, sym, ap, subst, ◌∙◌, append_assoc, arith, Option, None, Some, length-append, inl, inr}
-use Rattle.std.proofs.lemmas.List.{append-nil, length-reverse, reverse-reverse}
-use Rattle.std.proofs.lemmas.Bool.{false≢true}
-use Rattle.std.specs.Io.KnownBytes.{Appends, Keeps}
-use Rattle.bcast_io.specs.TextLines.{TextLine, lines_of}
-use Rattle.bcast_io.specs.State.Reading.{MayFollow}
-use Rattle.bcast_io.specs.Writing.{AppendsPrefix, AppendsShort}
-use Rattle.bcast_io.proofs.Citable.{Appends-then, AppendsPrefix-then, AppendsPrefix-nothing, Consumes-nothing}
-use Rattle.unit_outlets.specs.Account.{Account}
-use Rattle.source_machine.specs.Airs.{airs_of, Airs}
-use Rattle.transcript_text.specs.declared.refusal.Refusal.{Refusal}
-use Rattle.transcript_text.specs.declared.refusal.Refusal.TheVariants.{NoEnd}
-use Rattle.transcript_text.specs.Lines.{refusal_line}
-use Rattle.scenario_history.specs.Runs.{through, refused, out, out_unless, end_of, end_unless, accepted_of, accepted_unless, brought, Accepted}
-use Rattle.scenario_history.proofs.Citable.{out_accepted, end_accepted, accepted_accepted}
-use Rattle.scenario_history.specs.Steps.{is_over, is_over_at}
-use Rattle.scenario_history.specs.Boxes.{SinkUnit, handed_up}
+use Rattle.replay_lines.proofs.Prelude.{◌≡◌, ℕ, ◌+◌, Bool, true, false, List, [], ◌∷◌, ◌++◌, length, reverse, refl, sym, ap, subst, ◌∙◌, append_assoc, arith, Option, None, Some, length-append, inl, inr, append-nil, length-reverse, reverse-reverse, false≢true, Appends, Keeps, TextLine, lines_of, MayFollow, AppendsPrefix, AppendsShort, Appends-then, AppendsPrefix-then, AppendsPrefix-nothing, Consumes-nothing, Account, airs_of, Airs, Refusal, NoEnd, refusal_line, through, refused, out, out_unless, end_of, end_unless, accepted_of, accepted_unless, brought, Accepted, out_accepted, end_accepted, accepted_accepted, is_over, is_over_at, SinkUnit, handed_up, handed_line, took_as, took_history, rules_of, said_of, steps_of, handed_on, out_of, end_after, last_line_after, last_end_after, has_end, transcript_of, transcript_end, units_of, took_all, Ending, Machine, refusal_at, output_at, Done, ReadFaulted, brought_by, Broken, Ended, TextIs, RunTo, Refuses}
 use Rattle.scenario_laws.proofs.RelayedUnits.Citable.{stage_happened}
-use Rattle.replay_steps.proofs.Citable.{handed_line, took_as, took_history}
-use Rattle.scenario_history.specs.Lines.{rules_of, said_of, steps_of, handed_on}
-use Rattle.scenario_history.specs.Transcript.{out_of, end_after, last_line_after, last_end_after, has_end, transcript_of, transcript_end, units_of}
-use Rattle.scenario_history.proofs.Citable.{took_all}
-use Rattle.replay_lines.specs.declared.ending.Ending.{Ending}
 use Rattle.replay_lines.specs.declared.ending.Ending.TheVariants as endings
-use Rattle.replay_steps.specs.declared.machine.Machine.{Machine}
-use Rattle.replay_steps.specs.LineMeets.{refusal_at, output_at}
-use Rattle.replay_lines.specs.Replayed.{Done, ReadFaulted, brought_by, Broken}
-use Rattle.replay_lines.specs.Ended.{Ended}
-use Rattle.replay_lines.specs.State.Between.{TextIs, RunTo, Refuses}
 
 -- ---- the transcript over an accepted history
 

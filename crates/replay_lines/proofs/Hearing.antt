@@ -1,22 +1,6 @@
 -- What a listener changes at a line: nothing where it goes on, and where it fails the run ends before the line.
-use Rattle.std.proofs.Common.{◌≡◌, ◌≢◌, ◌∙◌, Bool, false, true, List, refl, ap, inl, Option, None, Some, ℕ}
-use Rattle.std.specs.Io.KnownBytes.{Appends, Keeps}
-use Rattle.bcast_base.specs.Counts.{Rose}
-use Rattle.bcast_io.specs.TextLines.{TextLine}
-use Rattle.unit_outlets.specs.Account.{Account}
-use Rattle.source_machine.specs.Airs.{airs_of}
-use Rattle.scenario_history.specs.Lines.{rules_of}
-use Rattle.scenario_history.specs.Runs.{brought}
-use Rattle.source_machine.specs.Airs.{Airs}
-use Rattle.replay_steps.specs.declared.machine.Machine.{Machine}
-use Rattle.replay_lines.specs.declared.ending.Ending.{Ending}
+use Rattle.replay_lines.proofs.Prelude.{◌≡◌, ◌≢◌, ◌∙◌, Bool, false, true, List, refl, ap, inl, Option, None, Some, ℕ, Appends, Keeps, Rose, TextLine, Account, airs_of, rules_of, brought, Airs, Machine, Ending, Ended, Heard, as_told, Broken, Comes, ReadsAtMost, read_limit, RunTo, StepRuns, StepHeard, Laws, World}
 use Rattle.replay_lines.specs.declared.ending.Ending.TheVariants as endings
-use Rattle.replay_lines.specs.Ended.{Ended}
-use Rattle.replay_lines.specs.Heard.{Heard, as_told}
-use Rattle.replay_lines.specs.Replayed.{Broken, Comes, ReadsAtMost, read_limit}
-use Rattle.replay_lines.specs.State.Between.{RunTo, StepRuns, StepHeard}
-use Rattle.replay_lines.specs.State.Laws.{Laws}
-use Rattle.replay_lines.specs.World.{World}
 use Rattle.replay_lines.proofs.LineEndings.{step_memory}
 use Rattle.replay_lines.proofs.Promises.{promised_run}
 

@@ -1,4 +1,5 @@
 pub mod Citable
+mod Prelude
 mod Completing
 mod Counting
 mod DocumentPromises

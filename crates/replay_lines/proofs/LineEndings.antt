@@ -1,30 +1,7 @@
 -- How a run of a text goes on or ends once a line was read.
-use Rattle.std.proofs.Common.{◌≡◌, ℕ, ◌+◌, Bool, true, false, List, [], ◌∷◌, ◌++◌, length, reverse, refl, sym}
-use Rattle.std.proofs.Common.{ap, subst, ◌∙◌, append_assoc, arith, Option, None, Some, length-append, inl, inr, ◌⊎◌}
-use Rattle.std.proofs.lemmas.List.{append-nil, reverse-append}
-use Rattle.std.specs.Io.KnownBytes.{Appends}
-use Rattle.bcast_io.specs.TextLines.{TextLine, lines_of}
-use Rattle.bcast_io.specs.Writing.{AppendsPrefix, AppendsShort}
-use Rattle.bcast_io.proofs.Citable.{Appends-then, AppendsPrefix-of_more, AppendsPrefix-then}
-use Rattle.unit_outlets.specs.Account.{Account}
-use Rattle.source_machine.specs.Airs.{airs_of}
-use Rattle.transcript_text.specs.declared.refusal.Refusal.{Refusal}
-use Rattle.transcript_text.specs.Lines.{refusal_line}
-use Rattle.scenario_history.specs.Runs.{refused, brought, Accepted}
-use Rattle.scenario_history.specs.Boxes.{handed_up}
-use Rattle.scenario_history.specs.Lines.{rules_of, steps_of, handed_on}
-use Rattle.scenario_history.specs.Transcript.{out_of, last_line_after, end_after, has_end, transcript_of, transcript_end, units_of}
-use Rattle.replay_lines.specs.declared.ending.Ending.{Ending}
+use Rattle.replay_lines.proofs.Prelude.{◌≡◌, ℕ, ◌+◌, Bool, true, false, List, [], ◌∷◌, ◌++◌, length, reverse, refl, sym, ap, subst, ◌∙◌, append_assoc, arith, Option, None, Some, length-append, inl, inr, ◌⊎◌, append-nil, reverse-append, Appends, TextLine, lines_of, AppendsPrefix, AppendsShort, Appends-then, AppendsPrefix-of_more, AppendsPrefix-then, Account, airs_of, Refusal, refusal_line, refused, brought, Accepted, handed_up, rules_of, steps_of, handed_on, out_of, last_line_after, end_after, has_end, transcript_of, transcript_end, units_of, Ending, Machine, CutShort, BoxesStand, LinesStand, answered_on, refusal_at, output_at, took_history, Comes, brought_by, BoxesCut, Broken, FaultCut, LineFails, OutletFaulted, ReadsAhead, CutAt, BoxesAt, Ended, Refuses, Puts, StepRuns}
 use Rattle.replay_lines.specs.declared.ending.Ending.TheVariants as endings
-use Rattle.replay_steps.specs.declared.machine.Machine.{Machine}
-use Rattle.scenario_sinks.specs.Handing.{CutShort}
 use Rattle.replay_steps.specs.Failing.{printed_before}
-use Rattle.replay_steps.specs.Meets.{BoxesStand}
-use Rattle.replay_steps.specs.LineMeets.{LinesStand, answered_on, refusal_at, output_at}
-use Rattle.replay_steps.proofs.Citable.{took_history}
-use Rattle.replay_lines.specs.Replayed.{Comes, brought_by, BoxesCut, Broken, FaultCut, LineFails, OutletFaulted, ReadsAhead, CutAt, BoxesAt}
-use Rattle.replay_lines.specs.Ended.{Ended}
-use Rattle.replay_lines.specs.State.Between.{Refuses, Puts, StepRuns}
 use Rattle.replay_lines.proofs.Endings.{out_then, out_all, ends_refused, writes_refused, units_refused, prefix_of_short, prefix_none}
 use Rattle.replay_lines.proofs.RefusalLaws.{never_no_end}
 use Rattle.replay_lines.proofs.LineUnits.{Brings, CutFor, box_stops, brings_before, brings_nothing, brings_refused, brings_output, cut_before}

@@ -1,28 +1,8 @@
 -- What the loop of `replay` does at a line, put together.
-use Rattle.std.proofs.Common.{◌≡◌, ℕ, ◌+◌, ◌≤◌, Bool, false, List, [], ◌∷◌, length, refl, sym, subst, arith, Option, None, Some, Result, Ok, Err, inl, inr}
-use Rattle.bcast_io.specs.TextLines.{TextLine, plain, too_long, past, text_limit}
-use Rattle.bcast_io.specs.State.Reading.{Reading, lines_left}
-use Rattle.bcast_io.specs.declared.line_reader.LineRead.{LineRead}
-use Rattle.bcast_io.specs.declared.line_reader.LineRead.TheVariants.{Line, LineTooLong, TextTooLong}
-use Rattle.bcast_io.specs.declared.source.Failed.{Failed}
-use Rattle.unit_outlets.specs.Account.{Account}
-use Rattle.source_machine.specs.Airs.{airs_of}
-use Rattle.transcript_text.specs.declared.refusal.Refusal.{Refusal}
+use Rattle.replay_lines.proofs.Prelude.{◌≡◌, ℕ, ◌+◌, ◌≤◌, Bool, false, List, [], ◌∷◌, length, refl, sym, subst, arith, Option, None, Some, Result, Ok, Err, inl, inr, TextLine, plain, too_long, past, text_limit, Reading, lines_left, LineRead, Line, LineTooLong, TextTooLong, Failed, Account, airs_of, Refusal, Ending, Machine, Refused, OutletFault, Memory, steps_of, UnassignedSame, meets_at, unassigned_line, LinesStand, LineMeets, Comes, ReadsAhead, Broken, Ended, as_told, ReadTo, NextIs, RunTo, Refuses, Puts, StepRuns, StepHeard, LineRuns, Appends-nothing}
 use Rattle.transcript_text.specs.declared.refusal.Refusal.TheVariants as refusals
-use Rattle.replay_lines.specs.declared.ending.Ending.{Ending}
 use Rattle.replay_lines.specs.declared.ending.Ending.TheVariants as endings
-use Rattle.replay_steps.specs.declared.machine.Machine.{Machine}
 use Rattle.transcript_text.specs.declared.stop.Stop.{Stop}
-use Rattle.transcript_text.specs.declared.stop.Stop.TheVariants.{Refused, OutletFault, Memory}
-use Rattle.scenario_history.specs.Lines.{steps_of}
-use Rattle.replay_steps.specs.Unassigned.{UnassignedSame}
-use Rattle.replay_steps.proofs.Citable.{meets_at, unassigned_line}
-use Rattle.replay_steps.specs.LineMeets.{LinesStand, LineMeets}
-use Rattle.replay_lines.specs.Replayed.{Comes, ReadsAhead, Broken}
-use Rattle.replay_lines.specs.Ended.{Ended}
-use Rattle.replay_lines.specs.Heard.{as_told}
-use Rattle.replay_lines.specs.State.Between.{ReadTo, NextIs, RunTo, Refuses, Puts, StepRuns, StepHeard, LineRuns}
-use Rattle.bcast_io.proofs.Citable.{Appends-nothing}
 use Rattle.replay_lines.proofs.ReadingOn.{read_none, comes_of, ahead_of}
 use Rattle.replay_lines.proofs.LineEndings.{ends_refusal, step_put, outlet_put, step_memory}
 

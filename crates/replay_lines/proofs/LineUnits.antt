@@ -1,22 +1,5 @@
 -- What a line brings of a transcript, and what the boxes took of its units.
-use Rattle.std.proofs.Common.{◌≡◌, ℕ, ◌+◌, List, [], ◌∷◌, ◌++◌, length, reverse, refl, sym, ap, subst, ◌∙◌, append_assoc, None, Some, inl}
-use Rattle.std.proofs.lemmas.List.{append-nil, reverse-append}
-use Rattle.bcast_io.specs.TextLines.{TextLine}
-use Rattle.unit_outlets.specs.Account.{Account}
-use Rattle.source_machine.specs.Airs.{airs_of}
-use Rattle.transcript_text.specs.declared.refusal.Refusal.{Refusal}
-use Rattle.transcript_text.specs.Lines.{refusal_line}
-use Rattle.scenario_history.specs.Runs.{out, accepted_of, accepted_unless, Accepted}
-use Rattle.scenario_history.specs.Boxes.{SinkUnit, accounts_after, handed_up, Took}
-use Rattle.scenario_history.specs.Lines.{rules_of, steps_of, handed_on}
-use Rattle.scenario_history.specs.Transcript.{units_of}
-use Rattle.scenario_history.proofs.Citable.{took_all}
-use Rattle.scenario_sinks.specs.Handing.{BoxFails, CutShort}
-use Rattle.scenario_sinks.proofs.Citable.{accounts_append}
-use Rattle.replay_steps.specs.Meets.{BoxesStand}
-use Rattle.replay_steps.specs.LineMeets.{refusal_at, output_at, answered_on}
-use Rattle.replay_lines.specs.Replayed.{BoxesCut, BoxesAt, LineFails, TookPrefix}
-use Rattle.replay_steps.proofs.Citable.{box_fails, handed_line, took_history}
+use Rattle.replay_lines.proofs.Prelude.{◌≡◌, ℕ, ◌+◌, List, [], ◌∷◌, ◌++◌, length, reverse, refl, sym, ap, subst, ◌∙◌, append_assoc, None, Some, inl, append-nil, reverse-append, TextLine, Account, airs_of, Refusal, refusal_line, out, accepted_of, accepted_unless, Accepted, SinkUnit, accounts_after, handed_up, Took, rules_of, steps_of, handed_on, units_of, took_all, BoxFails, CutShort, accounts_append, BoxesStand, refusal_at, output_at, answered_on, BoxesCut, BoxesAt, LineFails, TookPrefix, box_fails, handed_line, took_history}
 use Rattle.replay_lines.proofs.Endings.{out_line, out_refused, units_then, units_all, units_refused, units_rest}
 
 -- whatever comes after it, the line begins with these octets

@@ -1,19 +1,6 @@
 -- What a listener was told once one line more was run, or where a run ended.
-use Rattle.std.proofs.Common.{◌≡◌, ℕ, ◌+◌, ◌∙◌, Bool, true, false, List, [], ◌∷◌, ◌++◌, length, refl, sym, ap, subst, arith}
-use Rattle.std.proofs.Common.{Option, None, Some, inl, inr, append_assoc}
-use Rattle.std.proofs.lemmas.List.{append-nil}
-use Rattle.std.specs.Io.KnownBytes.{Appends, Keeps}
-use Rattle.bcast_io.specs.State.Reading.{Reading}
-use Rattle.bcast_io.specs.TextLines.{TextLine, plain}
-use Rattle.bcast_io.specs.Writing.{AppendsPrefix}
-use Rattle.bcast_io.proofs.Citable.{Appends-nothing, Appends-then, AppendsPrefix-then}
-use Rattle.transcript_text.specs.declared.refusal.Refusal.TheVariants.{NoEnd}
+use Rattle.replay_lines.proofs.Prelude.{◌≡◌, ℕ, ◌+◌, ◌∙◌, Bool, true, false, List, [], ◌∷◌, ◌++◌, length, refl, sym, ap, subst, arith, Option, None, Some, inl, inr, append_assoc, append-nil, Appends, Keeps, Reading, TextLine, plain, AppendsPrefix, Appends-nothing, Appends-then, AppendsPrefix-then, NoEnd, Comes, Puts, ReadTo, Refuses, TextIs, Listened, Telling, Tells, begun, rows_of, tellings, was_run, Refusal, Ending}
 use Rattle.replay_lines.specs.Listening.{EndsAt, EndsText, HasTold, LineTold, StepTold, Told, ToldAll, ToldBefore, ToldUpTo}
-use Rattle.replay_lines.specs.Replayed.{Comes}
-use Rattle.replay_lines.specs.State.Between.{Puts, ReadTo, Refuses, TextIs}
-use Rattle.replay_lines.specs.Tellings.{Listened, Telling, Tells, begun, rows_of, tellings, was_run}
-use Rattle.transcript_text.specs.declared.refusal.Refusal.{Refusal}
-use Rattle.replay_lines.specs.declared.ending.Ending.{Ending}
 use Rattle.replay_lines.specs.declared.ending.Ending.TheVariants as endings
 use Rattle.replay_lines.proofs.Hearing.{kept_on}
 use Rattle.replay_lines.proofs.ReadingOn.{read_none}

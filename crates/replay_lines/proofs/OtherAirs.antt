@@ -1,28 +1,9 @@
 -- What a run did over one air it did over any other that gives the same transcripts.
-use Rattle.std.proofs.Common.{◌≡◌, ◌≤◌, ◌<◌, ℕ, Bool, true, false, List, [], ◌∷◌, ◌++◌, length, reverse, refl, sym, ap, subst, ◌∙◌, Option, None, inl, inr, ◌⊎◌}
-use Rattle.std.specs.Io.KnownBytes.{Appends}
-use Rattle.bcast_io.specs.TextLines.{TextLine, lines_of}
-use Rattle.bcast_io.specs.Writing.{AppendsPrefix}
-use Rattle.unit_outlets.specs.Account.{Account}
-use Rattle.scenario_text.specs.declared.step.Step.{Step}
-use Rattle.transcript_text.specs.declared.refusal.Refusal.{Refusal}
-use Rattle.scenario_history.specs.Runs.{Accepted}
-use Rattle.scenario_history.specs.Boxes.{SinkUnit, Took}
+use Rattle.replay_lines.proofs.Prelude.{◌≡◌, ◌≤◌, ◌<◌, ℕ, Bool, true, false, List, [], ◌∷◌, ◌++◌, length, reverse, refl, sym, ap, subst, ◌∙◌, Option, None, inl, inr, ◌⊎◌, Appends, TextLine, lines_of, AppendsPrefix, Account, Step, Refusal, Accepted, SinkUnit, Took, Said, a_step, nothing, unsaid, handed_on, refusal_said, rules_of, Airs, out_of, units_of, answered_on, answered_said, took_as, Ending, CountsStay, AheadOf, Complete, Ended, IsCut, RoomForText, RoomFor, Same, BoxesAt, BoxesCut, Broken, CutAt, Done, FaultCut, LineFails, NoEndCut, OutletFaulted, ReadFaulted, RefusedAt, WriteCut, brought_by}
 use Rattle.scenario_history.specs.RelayedUnits.{Answered, answered_by}
-use Rattle.scenario_history.specs.Lines.{Said, a_step, nothing, unsaid, handed_on, refusal_said, rules_of}
 use Rattle.scenario_history.specs.Refusals.{line_refusal}
-use Rattle.source_machine.specs.Airs.{Airs}
-use Rattle.scenario_history.specs.Transcript.{out_of, units_of}
 use Rattle.replay_steps.specs.Failing.{CloseFails}
-use Rattle.replay_steps.specs.LineMeets.{answered_on, answered_said}
-use Rattle.replay_steps.proofs.Citable.{took_as}
-use Rattle.replay_lines.specs.declared.ending.Ending.{Ending}
 use Rattle.replay_lines.specs.declared.ending.Ending.TheVariants as endings
-use Rattle.scenario_sinks.specs.Faults.{CountsStay}
-use Rattle.replay_lines.specs.Ended.{AheadOf, Complete, Ended, IsCut, RoomForText}
-use Rattle.scenario_history.specs.Boxes.{RoomFor}
-use Rattle.replay_lines.specs.State.Laws.{Same}
-use Rattle.replay_lines.specs.Replayed.{BoxesAt, BoxesCut, Broken, CutAt, Done, FaultCut, LineFails, NoEndCut, OutletFaulted, ReadFaulted, RefusedAt, WriteCut, brought_by}
 
 -- the same becomes of the units that relays offer before a line, where it does before each step that isn't refused
 pub answered_alike : (airs others : Airs) (boxes : ℕ) (made more : List Step) (said : Said)

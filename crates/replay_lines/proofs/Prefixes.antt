@@ -1,19 +1,7 @@
 -- What the whole lines of a prefix of a text bring is a prefix of what all lines bring.
-use Rattle.std.proofs.Common.{◌≡◌, ℕ, ◌+◌, Bool, true, false, cond, eqb, leb, List, [], ◌∷◌, ◌++◌, length}
-use Rattle.std.proofs.Common.{refl, sym, ap, ◌∙◌, append_assoc, Option, None, Some}
-use Rattle.std.proofs.lemmas.List.{append-nil}
-use Rattle.bcast_io.specs.State.Reading.{MayFollow}
-use Rattle.bcast_io.specs.TextLines.{TextLine, past, newline, text_limit, line_of, lines_of, lines_from}
-use Rattle.unit_outlets.specs.Account.{Account}
-use Rattle.scenario_history.specs.Runs.{Rules, out, out_unless, accepted_of, accepted_unless}
-use Rattle.replay_lines.specs.Replayed.{brought_by}
+use Rattle.replay_lines.proofs.Prelude.{◌≡◌, ℕ, ◌+◌, Bool, true, false, cond, eqb, leb, List, [], ◌∷◌, ◌++◌, length, refl, sym, ap, ◌∙◌, append_assoc, Option, None, Some, append-nil, MayFollow, TextLine, past, newline, text_limit, line_of, lines_of, Account, Rules, out, out_unless, accepted_of, accepted_unless, brought_by, Step, SinkUnit, handed_up, rules_of, steps_of, Airs, out_of, end_after, has_end, last_line_after, transcript_of, units_of, Refusal}
+use Rattle.bcast_io.specs.TextLines.{lines_from}
 use Rattle.replay_lines.proofs.Endings.{units_rest}
-use Rattle.scenario_text.specs.declared.step.Step.{Step}
-use Rattle.scenario_history.specs.Boxes.{SinkUnit, handed_up}
-use Rattle.scenario_history.specs.Lines.{rules_of, steps_of}
-use Rattle.source_machine.specs.Airs.{Airs}
-use Rattle.scenario_history.specs.Transcript.{out_of, end_after, has_end, last_line_after, transcript_of, units_of}
-use Rattle.transcript_text.specs.declared.refusal.Refusal.{Refusal}
 
 -- ---- lines
 

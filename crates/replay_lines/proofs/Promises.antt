@@ -1,17 +1,6 @@
 -- What is promised of a run, from what it did.
-use Rattle.std.proofs.Common.{◌≡◌, ◌≢◌, ◌∙◌, List, refl, sym}
-use Rattle.bcast_io.specs.TextLines.{TextLine}
-use Rattle.unit_outlets.specs.Account.{Account}
-use Rattle.bcast_base.specs.Counts.{Rose}
-use Rattle.source_machine.specs.Airs.{airs_of, Airs}
-use Rattle.scenario_history.specs.Airs.{MeetAirs}
-use Rattle.scenario_history.specs.Transcript.{transcript_of}
-use Rattle.replay_lines.specs.declared.ending.Ending.{Ending}
+use Rattle.replay_lines.proofs.Prelude.{◌≡◌, ◌≢◌, ◌∙◌, List, refl, sym, TextLine, Account, Rose, airs_of, Airs, MeetAirs, transcript_of, Ending, Promised, Did, DidOver, ReadsAtMost, read_limit, AllSame, Laws, World}
 use Rattle.replay_lines.specs.declared.ending.Ending.TheVariants as endings
-use Rattle.replay_lines.specs.Promised.{Promised, Did, DidOver}
-use Rattle.replay_lines.specs.Replayed.{ReadsAtMost, read_limit}
-use Rattle.replay_lines.specs.State.Laws.{AllSame, Laws}
-use Rattle.replay_lines.specs.World.{World}
 use Rattle.replay_lines.proofs.Completing.{ended_at, ended_whole, ended_ahead, ended_complete}
 use Rattle.replay_lines.proofs.Counting.{ended_counts, ended_one}
 use Rattle.replay_lines.proofs.Endings.{ends_at_once}

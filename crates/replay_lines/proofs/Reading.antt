@@ -1,14 +1,7 @@
 -- What was read of a document, and what it stands for.
-use Rattle.std.proofs.Common.{◌≡◌, ℕ, ◌+◌, ◌≤◌, cond, List, [], ◌++◌, length, ap, subst, ◌∙◌, arith, Option, Some, length-append}
-use Rattle.std.proofs.lemmas.Bool.{lt-ltb, le-ltb}
-use Rattle.std.proofs.lemmas.List.{append-nil}
-use Rattle.std.specs.Io.KnownBytes.{Consumes, IsAtEnd}
-use Rattle.bcast_io.specs.Documents.{ReadWhole, ReadPast, ReadPrefix, document_limit}
+use Rattle.replay_lines.proofs.Prelude.{◌≡◌, ℕ, ◌+◌, ◌≤◌, cond, List, [], ◌++◌, length, ap, subst, ◌∙◌, arith, Option, Some, length-append, lt-ltb, le-ltb, append-nil, Consumes, IsAtEnd, ReadWhole, ReadPast, ReadPrefix, document_limit, Meaning, no_toml, no_form, lines, meaning_of, TooLong, BadToml, BadDocument, DocumentIs, WholeIs, Standing, refused_for, stands_for, standing_by}
 use Rattle.replay_lines.proofs.Completing.{told}
-use Rattle.scenario_toml.specs.Document.{Meaning, no_toml, no_form, lines, meaning_of}
-use Rattle.replay_lines.specs.declared.cause.Cause.TheVariants.{TooLong, BadToml, BadDocument}
-use Rattle.replay_lines.specs.Documents.{DocumentIs, WholeIs}
-use Rattle.replay_lines.specs.Standing.{Standing, refused_for, stands_for, standing_by, standing_of}
+use Rattle.replay_lines.specs.Standing.{standing_of}
 
 is_too_long : (document : List ℕ) → document_limit + 1 ≤ length document → standing_of document ≡ refused_for TooLong
 unfolding standing_of

@@ -1,21 +1,10 @@
 -- The text that a run took from its source, line by line.
-use Rattle.std.proofs.Common.{◌≡◌, ℕ, ◌+◌, ◌≤◌, Bool, true, false, List, [], ◌∷◌, ◌++◌, length, reverse}
-use Rattle.std.proofs.Common.{refl, sym, ap, subst, ◌∙◌, append_assoc, arith, Option, None, Result, Ok, Err, length-append}
+use Rattle.replay_lines.proofs.Prelude.{◌≡◌, ℕ, ◌+◌, ◌≤◌, Bool, true, false, List, [], ◌∷◌, ◌++◌, length, reverse, refl, sym, ap, subst, ◌∙◌, append_assoc, arith, Option, None, Result, Ok, Err, length-append, append-nil, length-reverse, false≢true, false_from_ne_true, Consumes, IsAtEnd, TextLine, plain, too_long, past, lines_of, Reading, IsSound, IsPast, IsDone, BreaksOff, lines_after, LineRead, Line, LineTooLong, TextTooLong, End, Failed, Consumes-nothing, Consumes-then, lines-nothing, lines-unended, lines-end, lines-past_all, reverse_onto, Comes, ReadsAhead, ReadsAtMost, read_limit, ReadTo, TextIs, NextIs}
 use Rattle.std.specs.Prelude.{IfOk, OnErr}
-use Rattle.std.proofs.lemmas.List.{append-nil, length-reverse}
-use Rattle.std.proofs.lemmas.Bool.{false≢true, false_from_ne_true}
-use Rattle.std.specs.Io.KnownBytes.{Consumes, IsAtEnd}
-use Rattle.bcast_io.specs.TextLines.{TextLine, plain, too_long, past, lines_of, lines_from}
-use Rattle.bcast_io.specs.State.Reading.{Reading, IsSound, IsPast, IsDone, Took, BreaksOff, lines_after}
+use Rattle.bcast_io.specs.TextLines.{lines_from}
+use Rattle.bcast_io.specs.State.Reading.{Took}
 use Rattle.bcast_io.specs.State.Reading as reading
 use Rattle.bcast_io.specs.State.Answering.{Answers, Anew}
-use Rattle.bcast_io.specs.declared.line_reader.LineRead.{LineRead}
-use Rattle.bcast_io.specs.declared.line_reader.LineRead.TheVariants.{Line, LineTooLong, TextTooLong, End}
-use Rattle.bcast_io.specs.declared.source.Failed.{Failed}
-use Rattle.bcast_io.proofs.Citable.{Consumes-nothing, Consumes-then, lines-nothing, lines-unended, lines-end, lines-past_all}
-use Rattle.scenario_history.proofs.Citable.{reverse_onto}
-use Rattle.replay_lines.specs.Replayed.{Comes, ReadsAhead, ReadsAtMost, read_limit}
-use Rattle.replay_lines.specs.State.Between.{ReadTo, TextIs, NextIs}
 
 -- nothing was read yet
 pub read_none : (left : Option (List ℕ)) (reader : Reading)

@@ -1,9 +1,7 @@
 -- No line is refused as NoEnd, which is the refusal of a text.
-use Rattle.std.proofs.Common.{◌≡◌, ◌≢◌, ℕ, Bool, true, false, List, length, refl, subst, Option, None, Some, Result, Ok, Err}
+use Rattle.replay_lines.proofs.Prelude.{◌≡◌, ◌≢◌, ℕ, Bool, true, false, List, length, refl, subst, Option, None, Some, Result, Ok, Err, TextLine, plain, too_long, past, Account, airs_of, Refusal, AfterEnd, Order, BaseTooLong, IdentTwice, NoSuchSink, SinkTwice, NoOutlet, NoSuchBis, NotOnAir, NoEnd, NoSuchLink, LinkTwice, NothingWaiting, RecordsTooLong, RelayTaken, Step, chosen_steps, version_of, is_over, sinks_made, box_of, said_by, said_in, said_of, steps_of, refusal_said, refusal_at}
 use Rattle.std.specs.Prelude.{◌==◌, ◌||◌, nat_le, nat_lt, not, is_some, unwrap_or}
 use Rattle.std.specs.Option.{option_or, option_map}
-use Rattle.bcast_io.specs.TextLines.{TextLine, plain, too_long, past}
-use Rattle.unit_outlets.specs.Account.{Account}
 use Rattle.big_info.specs.declared.fault.GroupFault.{GroupFault}
 use Rattle.big_info.specs.declared.fault.GroupFault.TheVariants as of_group
 use Rattle.big_info.specs.Rows.{first_fault}
@@ -13,31 +11,22 @@ use Rattle.source_machine.specs.UnitFaults.{UnitFault}
 use Rattle.source_machine.specs.UnitFaults as gives
 use Rattle.source_machine.specs.declared.fault.AnnounceFault.{AnnounceFault}
 use Rattle.source_machine.specs.declared.fault.EventFault.{EventFault}
-use Rattle.source_machine.specs.Airs.{airs_of}
 use Rattle.source_machine.specs.Faults.{event_fault, announce_fault, air_fault}
-use Rattle.transcript_text.specs.declared.refusal.Refusal.{Refusal}
-use Rattle.transcript_text.specs.declared.refusal.Refusal.TheVariants.{AfterEnd, Order, BaseTooLong, IdentTwice, NoSuchSink, SinkTwice, NoOutlet, NoSuchBis, NotOnAir, NoEnd}
-use Rattle.transcript_text.specs.declared.refusal.Refusal.TheVariants.{NoSuchLink, LinkTwice, NothingWaiting, RecordsTooLong, RelayTaken}
 use Rattle.transcript_text.specs.declared.refusal.Refusal.TheVariants as refusals
 use Rattle.sink_history.specs.Calls.{Call}
 use Rattle.delegator_history.specs.Trains.{Settings}
 use Rattle.sink_history.specs.History.{World, history_of, made_of, named_by, horizon_in}
 use Rattle.sink_history.specs.Refusals.{link_named, link_twice, no_link, no_record_room, nothing_waits, refused_at, refused_by, refused_where, refusal_of as refusal_of_sink, refuse_if}
 use Rattle.scenario_history.specs.Worlds.{the_world}
-use Rattle.scenario_text.specs.declared.step.Step.{Step}
 use Rattle.scenario_text.specs.declared.step.Step.TheVariants as kinds
 use Rattle.scenario_words.specs.declared.fault.LineFault.{LineFault}
 use Rattle.scenario_words.specs.declared.fault.LineFault.TheVariants as misread
 use Rattle.scenario_text.specs.Steps.{read_of}
-use Rattle.scenario_history.specs.Steps.{chosen_steps, version_of, is_over, sinks_made}
 use Rattle.scenario_history.specs.Bases.{has_bis, is_base_too_long}
 use Rattle.scenario_history.specs.Source.{checked_info, group_of, no_group, performed, setup_of, source_calls}
-use Rattle.scenario_history.specs.Boxes.{box_of}
 use Rattle.scenario_history.specs.Refusals.{group_refusal, no_sink, no_place, has_beyond, is_ident_twice, is_out_of_order}
 use Rattle.scenario_history.specs.Refusals.{is_relay_beyond, is_relay_taken, is_relayed, may_relay, relayed_or}
 use Rattle.scenario_history.specs.Refusals.{give_refusal, air_refusal, counter_ends, train_ends, sink_refusal, source_refusal, twin_refusal, own_refusal, phase_refusal, refusal_of}
-use Rattle.scenario_history.specs.Lines.{said_by, said_in, said_of, steps_of, refusal_said}
-use Rattle.replay_steps.specs.LineMeets.{refusal_at}
 
 abbrev OtherThan : Option Refusal → Type 0
 OtherThan None = Unit {0}

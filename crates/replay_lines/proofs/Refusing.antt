@@ -1,21 +1,9 @@
 -- What is promised of a document that is refused before any line of it is run.
-use Rattle.std.proofs.Common.{◌≡◌, ◌≢◌, List, [], refl, sym, subst, Result, Ok, Err, inl, inr}
-use Rattle.std.specs.Io.KnownBytes.{Appends}
-use Rattle.bcast_io.specs.Writing.{AppendsPrefix}
-use Rattle.scenario_history.specs.Runs.{End, through}
-use Rattle.replay_lines.specs.World.{World}
+use Rattle.replay_lines.proofs.Prelude.{◌≡◌, ◌≢◌, List, [], refl, sym, subst, Result, Ok, Err, inl, inr, Appends, AppendsPrefix, through, World, Took, took_all, CountsStay, none_counts, took_stay, Refusal, Account, DocumentIs, Cut, DocumentLaws, FromToml, TomlComplete, TomlEnding, WasNoFault, Written, Standing, refused_for, cause_line, end_over, units_over, RefusesDocument}
+use Rattle.scenario_history.specs.Runs.{End}
 use Rattle.replay_lines.specs.declared.ending.Ending.TheVariants as endings
-use Rattle.scenario_history.specs.Boxes.{Took}
-use Rattle.scenario_history.proofs.Citable.{took_all}
-use Rattle.scenario_sinks.specs.Faults.{CountsStay}
-use Rattle.scenario_sinks.proofs.Citable.{none_counts, took_stay}
-use Rattle.transcript_text.specs.declared.refusal.Refusal.{Refusal}
-use Rattle.unit_outlets.specs.Account.{Account}
 use Rattle.replay_lines.specs.declared.cause.Cause.{Cause}
-use Rattle.replay_lines.specs.Documents.{DocumentIs}
-use Rattle.replay_lines.specs.FromToml.{Cut, DocumentLaws, FromToml, TomlComplete, TomlEnding, WasNoFault, Written}
-use Rattle.replay_lines.specs.Standing.{Standing, refused_for, cause_line, end_over, units_over}
-use Rattle.replay_lines.specs.State.Runs.{Refuses, RefusesDocument}
+use Rattle.replay_lines.specs.State.Runs.{Refuses}
 use Rattle.replay_lines.proofs.Reading.{document_told, prefix_read}
 
 refused_not_through : (cause : Cause) (other : End Refusal) (result : Result (End Refusal) Cause)

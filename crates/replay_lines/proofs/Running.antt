@@ -1,29 +1,7 @@
 -- What is promised of a document whose lines were run, by a source in memory.
-use Rattle.std.proofs.Common.{◌≡◌, ℕ, ◌++◌, ◌∷◌, true, List, reverse, refl, sym, ap, subst, ◌∙◌, append_assoc, arith}
-use Rattle.std.proofs.Common.{Option, Some, Result, Ok, inl, inr}
-use Rattle.std.proofs.lemmas.List.{append-nil}
-use Rattle.std.specs.Io.KnownBytes.{Appends}
-use Rattle.bcast_base.specs.Counts.{Rose}
-use Rattle.bcast_io.proofs.Citable.{AppendsPrefix-of_more}
-use Rattle.bcast_io.specs.TextLines.{TextLine, lines_of}
-use Rattle.bcast_io.specs.Writing.{AppendsPrefix}
-use Rattle.scenario_history.specs.Runs.{through, refused}
-use Rattle.replay_lines.specs.Ended.{Complete}
-use Rattle.replay_lines.specs.Promised.{Promised}
-use Rattle.replay_lines.specs.Replayed.{Broken, Comes, Done, FaultCut, OutletFaulted, RefusedAt}
-use Rattle.replay_lines.specs.World.{World}
-use Rattle.replay_lines.specs.declared.ending.Ending.{Ending}
+use Rattle.replay_lines.proofs.Prelude.{◌≡◌, ℕ, ◌++◌, ◌∷◌, true, List, reverse, refl, sym, ap, subst, ◌∙◌, append_assoc, arith, Option, Some, Result, Ok, inl, inr, append-nil, Appends, Rose, AppendsPrefix-of_more, TextLine, lines_of, AppendsPrefix, through, refused, Complete, Promised, Broken, Comes, Done, FaultCut, OutletFaulted, RefusedAt, World, Ending, SinkUnit, Took, Airs, transcript_of, transcript_end, units_of, Refusal, Account, DocumentIs, FaultCutIn, TomlCut, TomlOutlet, TomlWritten, FromToml, TomlComplete, TomlEnding, Standing, stands_for, end_over, units_over, over_text}
 use Rattle.replay_lines.specs.declared.ending.Ending.TheVariants as endings
 use Rattle.replay_lines.proofs.Completing.{rest_of}
-use Rattle.scenario_history.specs.Boxes.{SinkUnit, Took}
-use Rattle.source_machine.specs.Airs.{Airs}
-use Rattle.scenario_history.specs.Transcript.{transcript_of, transcript_end, units_of}
-use Rattle.transcript_text.specs.declared.refusal.Refusal.{Refusal}
-use Rattle.unit_outlets.specs.Account.{Account}
-use Rattle.replay_lines.specs.Documents.{DocumentIs, FaultCutIn, TomlCut, TomlOutlet, TomlWritten}
-use Rattle.replay_lines.specs.FromToml.{FromToml, TomlComplete, TomlEnding}
-use Rattle.replay_lines.specs.Standing.{Standing, stands_for, end_over, units_over}
-use Rattle.replay_lines.specs.State.Runs.{over_text}
 use Rattle.replay_lines.proofs.Prefixes.{transcript_more, units_of_more}
 use Rattle.replay_lines.proofs.Reading.{document_told, prefix_read}
 use Rattle.replay_lines.proofs.Unread.{laws_of}

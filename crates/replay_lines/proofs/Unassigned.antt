@@ -1,16 +1,5 @@
 -- The boxes that no line of a text took, where its source tells it.
-use Rattle.std.proofs.Common.{◌≡◌, ℕ, true, List, ◌++◌, reverse, refl, ap, subst, ◌∙◌, append_assoc, Option, Some}
-use Rattle.std.specs.Io.KnownBytes.{IsAtEnd}
-use Rattle.bcast_io.specs.State.Reading.{MayFollow, Reading, lines_after}
-use Rattle.bcast_io.specs.TextLines.{TextLine, lines_of}
-use Rattle.unit_outlets.specs.Account.{Account}
-use Rattle.scenario_history.specs.Lines.{steps_of}
-use Rattle.source_machine.specs.Airs.{airs_of}
-use Rattle.replay_steps.specs.LineMeets.{LinesStand}
-use Rattle.replay_steps.specs.Unassigned.{UnassignedSame}
-use Rattle.replay_steps.specs.declared.machine.Machine.{Machine}
-use Rattle.replay_steps.specs.Unassigned.{UnassignedRun}
-use Rattle.replay_lines.specs.State.Between.{ReadTo}
+use Rattle.replay_lines.proofs.Prelude.{◌≡◌, ℕ, true, List, ◌++◌, reverse, refl, ap, subst, ◌∙◌, append_assoc, Option, Some, IsAtEnd, MayFollow, Reading, lines_after, TextLine, lines_of, Account, steps_of, airs_of, LinesStand, UnassignedSame, Machine, UnassignedRun, ReadTo}
 use Rattle.replay_lines.proofs.Completing.{told}
 use Rattle.replay_lines.proofs.LineSteps.{Running}
 

@@ -1,19 +1,7 @@
 -- What is promised where a document wasn't read, and of the laws.
-use Rattle.std.proofs.Common.{◌≡◌, ℕ, ◌+◌, true, List, refl, Option, Ok, inl, arith}
-use Rattle.bcast_base.specs.Counts.{Rose}
-use Rattle.bcast_io.specs.Documents.{ReadPrefix, document_limit}
-use Rattle.replay_lines.specs.Promised.{Promised}
-use Rattle.replay_lines.specs.World.{World}
-use Rattle.replay_lines.specs.declared.ending.Ending.{Ending}
+use Rattle.replay_lines.proofs.Prelude.{◌≡◌, ℕ, ◌+◌, true, List, refl, Option, Ok, inl, arith, Rose, ReadPrefix, document_limit, Promised, World, Ending, lines_of, AppendsPrefix, AppendsPrefix-nothing, MeetAirs, Airs, none_counts, DocumentLaws, FromToml, Standing, refused_for, stands_for, transcript_over}
 use Rattle.replay_lines.specs.declared.ending.Ending.TheVariants as endings
-use Rattle.bcast_io.specs.TextLines.{lines_of}
-use Rattle.bcast_io.specs.Writing.{AppendsPrefix}
-use Rattle.bcast_io.proofs.Citable.{AppendsPrefix-nothing}
-use Rattle.scenario_history.specs.Airs.{MeetAirs}
-use Rattle.source_machine.specs.Airs.{Airs}
-use Rattle.scenario_sinks.proofs.Citable.{none_counts}
-use Rattle.replay_lines.specs.FromToml.{DocumentLaws, FromToml, Unread}
-use Rattle.replay_lines.specs.Standing.{Standing, refused_for, stands_for, transcript_over}
+use Rattle.replay_lines.specs.FromToml.{Unread}
 use Rattle.replay_lines.proofs.Endings.{keeps_same}
 
 -- the laws that are promised of every run

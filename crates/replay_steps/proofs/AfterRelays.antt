@@ -1,26 +1,7 @@
 -- A step of source 0 that is made before the relayed units that stand before it: relayed units touch source 1 alone, so both orders leave
 -- the same.
-use Rattle.std.proofs.Common.{ℕ, ◌≡◌, ◌==◌, Bool, true, false, cond, List, [], ◌∷◌, refl, sym, ◌∙◌, ap, ap₂, subst, not, option_map, Option, None, Some}
-use Rattle.std.specs.List.{list_any}
-use Rattle.std.specs.Option.{option_or}
-use Rattle.source_machine.specs.Airs.{airs_of}
-use Rattle.transcript_text.specs.declared.refusal.Refusal.{Refusal}
-use Rattle.transcript_text.specs.declared.refusal.Refusal.TheVariants.{Order}
-use Rattle.scenario_text.specs.declared.step.Step.{Step}
+use Rattle.replay_steps.proofs.Prelude.{ℕ, ◌≡◌, ◌==◌, Bool, true, false, cond, List, [], ◌∷◌, refl, sym, ◌∙◌, ap, ap₂, subst, not, option_map, Option, None, Some, list_any, option_or, airs_of, Refusal, Order, Step, Offer, after_offer, after_offers, answered, dropped_for, with_relayed_unit, with_relayed_unit_unless, Answered, gives_on, source_refusal, refuse_if, relay_given, relays_to, takes_units, chosen_given, chosen_of, is_of_source, stage_of, steps_of_source, version_at, version_of, left_by_offers, Relays, RelaysStand, Sources, SourcesStand, lent, relay_histories}
 use Rattle.scenario_text.specs.declared.step.Step.TheVariants.{Unit as UnitLine}
-use Rattle.scenario_history.specs.RelayedUnits.{Offer, after_offer, after_offers, answered, dropped_for, with_relayed_unit, with_relayed_unit_unless}
-use Rattle.scenario_history.specs.RelayedUnits.{Answered}
-use Rattle.scenario_history.specs.Refusals.{gives_on, source_refusal}
-use Rattle.sink_history.specs.Refusals.{refuse_if}
-use Rattle.scenario_history.specs.Relays.{relay_given, relays_to}
-use Rattle.scenario_history.specs.Source.{takes_units}
-use Rattle.scenario_history.specs.Steps.{chosen_given, chosen_of, is_of_source, stage_of, steps_of_source, version_at, version_of}
-use Rattle.scenario_laws.proofs.RelayedUnits.Citable.{left_by_offers}
-use Rattle.scenario_sinks.specs.declared.relays.Relays.{Relays}
-use Rattle.scenario_sinks.specs.State.RelaysStand.{RelaysStand}
-use Rattle.scenario_sources.specs.declared.sources.Sources.{Sources}
-use Rattle.scenario_sources.specs.State.Standing.{SourcesStand}
-use Rattle.replay_steps.specs.Machines.{lent, relay_histories}
 use Rattle.replay_steps.proofs.Offering.{SaySame, sources_as}
 use Rattle.replay_steps.proofs.RelaysStay.{relays_as}
 

@@ -1,43 +1,11 @@
 -- The PDUs of the air that a sink hears.
-use Rattle.std.proofs.Common.{◌≡◌, ℕ, zero, suc, ◌+◌, ◌*◌, ◌/◌, ◌%◌, ◌<◌, ◌≤◌, ◌==◌, ◌++◌, ◌∷◌, Bool, true, false, not, is_some, nat_le, if◌then◌else◌, List, length, Option}
-use Rattle.std.proofs.Common.{None, Some, option_map, Ok, Err, refl, sym, ◌∙◌, ap, subst, add-one, ne_eqb, arith}
-use Rattle.std.proofs.lemmas.Bool.{le-ltb}
+use Rattle.replay_steps.proofs.Prelude.{◌≡◌, ℕ, zero, suc, ◌+◌, ◌*◌, ◌/◌, ◌%◌, ◌<◌, ◌≤◌, ◌==◌, ◌++◌, ◌∷◌, Bool, true, false, not, is_some, nat_le, if◌then◌else◌, List, length, Option, None, Some, option_map, Ok, Err, refl, sym, ◌∙◌, ap, subst, add-one, ne_eqb, arith, le-ltb, option_or, Account, airs_of, Call, heard_line, pdu_line, Refusal, NoSuchSink, NotOnAir, Order, Stop, Refused, OutletFault, Memory, Step, Air, Hear, Inject, Sniff, chosen_of, chosen_steps, running, sinks_made, stage_of, event_back, is_heard, pdu_in, performed, setup_of, source_calls, hear_at, heard_on_air, is_lost, reaches, sink_calls, source_of, position_at, positions_of, unless_lost, box_of, injected_hearing, calls_made, made_of, air_refusal, no_place, no_sink, phase_refusal, source_refusal, refuse_if, NoPlace, air_says, hear_says, inject_says, sniff_says, sources_stay, Sinks, Histories, with_hearing, SinksStand, stands_same, Machine, OnAir, Reaches, histories_on_air, Stands, histories_of, Quiet, Tells}
 use Rattle.std.proofs.lemmas.Nat.{div_below, mod_below}
-use Rattle.std.specs.Option.{option_or}
-use Rattle.unit_outlets.specs.Account.{Account}
-use Rattle.source_machine.specs.Airs.{airs_of}
 use Rattle.source_machine.specs.Calls.{events}
 use Rattle.source_machine.specs.Faults.{air_fault}
-use Rattle.group_sink.specs.Calls.{Call}
 use Rattle.isoal_base.specs.declared.hearing.Hearing.{Hearing}
-use Rattle.transcript_text.specs.Lines.{heard_line, pdu_line}
-use Rattle.transcript_text.specs.declared.refusal.Refusal.{Refusal}
-use Rattle.transcript_text.specs.declared.refusal.Refusal.TheVariants.{NoSuchSink, NotOnAir, Order}
-use Rattle.transcript_text.specs.declared.stop.Stop.{Stop}
-use Rattle.transcript_text.specs.declared.stop.Stop.TheVariants.{Refused, OutletFault, Memory}
-use Rattle.scenario_text.specs.declared.step.Step.{Step}
-use Rattle.scenario_text.specs.declared.step.Step.TheVariants.{Air, Hear, Inject, Sniff}
-use Rattle.scenario_history.specs.Steps.{chosen_of, chosen_steps, running, sinks_made, stage_of}
-use Rattle.scenario_history.specs.Source.{event_back, is_heard, pdu_in, performed, setup_of, source_calls}
-use Rattle.scenario_history.specs.Sinks.{hear_at, heard_on_air, is_lost, reaches, sink_calls, source_of, position_at, positions_of, unless_lost}
-use Rattle.scenario_history.specs.Boxes.{box_of}
-use Rattle.scenario_history.specs.Output.{injected_hearing}
-use Rattle.scenario_history.specs.Worlds.{calls_made}
-use Rattle.sink_history.specs.History.{made_of}
-use Rattle.scenario_history.specs.Refusals.{air_refusal, no_place, no_sink, phase_refusal, source_refusal}
-use Rattle.sink_history.specs.Refusals.{refuse_if}
-use Rattle.scenario_sources.specs.Answers.{NoPlace}
-use Rattle.scenario_sources.proofs.Citable.{air_says, hear_says, inject_says, sniff_says, sources_stay}
-use Rattle.scenario_sinks.specs.declared.sinks.Sinks.{Sinks}
 use Rattle.scenario_sinks.specs.Hearing.{Hears, hearing_by}
-use Rattle.scenario_sinks.specs.Histories.{Histories, with_hearing}
-use Rattle.scenario_sinks.specs.State.Standing.{SinksStand}
-use Rattle.scenario_sinks.proofs.Citable.{stands_same}
 use Rattle.replay_steps.specs.declared.grid.Grid.{Grid}
-use Rattle.replay_steps.specs.declared.machine.Machine.{Machine}
-use Rattle.replay_steps.specs.Airing.{OnAir, Reaches, histories_on_air}
-use Rattle.replay_steps.specs.Machines.{Stands, histories_of}
-use Rattle.replay_steps.specs.Meets.{Quiet, Tells}
 use Rattle.replay_steps.proofs.RelaysStay.{minds_relays, relays_stay}
 use Rattle.replay_steps.proofs.Stepping.{as_step, brought, or_none}
 

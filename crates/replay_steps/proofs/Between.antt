@@ -1,34 +1,6 @@
 -- Closing an event of source 0 for one sink after the other.
-use Rattle.std.proofs.Common.{ℕ, ◌≡◌, ◌<◌, ◌+◌, ◌-◌, ◌==◌, nat_lt, Bool, cond, List, [], ◌++◌, refl, sym, ◌∙◌, ap, ap₂, subst, inl, inr, arith}
-use Rattle.std.proofs.Common.{append_assoc, append-nil, eq-eqb, ne_eqb, le-ltb, lt-ltb, slice_get, Some, Ok, Err}
-use Rattle.std.specs.List.{flat_map, range_with_len}
-use Rattle.std.proofs.lemmas.Bool.{cases_order}
-use Rattle.std.proofs.lemmas.List.Concat.{flat_map-append}
-use Rattle.unit_outlets.specs.Account.{Account}
-use Rattle.group_sink.specs.Calls.{Call}
-use Rattle.source_machine.specs.Airs.{airs_of}
-use Rattle.transcript_text.specs.declared.stop.Stop.{Stop}
-use Rattle.transcript_text.specs.declared.stop.Stop.TheVariants.{Refused, OutletFault, Memory}
-use Rattle.scenario_text.specs.declared.step.Step.{Step}
-use Rattle.scenario_history.specs.Boxes.{SinkUnit, accounts_after, closing_by}
-use Rattle.scenario_history.specs.RelayedUnits.{Offer, after_offers, answered, offered_of}
-use Rattle.scenario_history.specs.Output.{unit_lines}
-use Rattle.scenario_history.specs.Sinks.{is_of, ticked_if}
-use Rattle.scenario_laws.proofs.RelayedUnits.Citable.{left_by_offers}
-use Rattle.scenario_sinks.specs.Closing.{closing_of, handed_all}
-use Rattle.scenario_sinks.specs.Handing.{BoxFails, CutShort}
-use Rattle.scenario_sinks.specs.Histories.{Histories, with_close, with_close_at}
-use Rattle.scenario_sinks.specs.State.Standing.{EntryIs, SinksStand}
-use Rattle.scenario_sinks.specs.Unassigned.{UnassignedSame}
-use Rattle.scenario_sinks.specs.declared.sinks.Sinks.{Sinks}
-use Rattle.scenario_sinks.proofs.Citable.{accounts_append, hands_stop, hands_then, stands_same}
+use Rattle.replay_steps.proofs.Prelude.{ℕ, ◌≡◌, ◌<◌, ◌+◌, ◌-◌, ◌==◌, nat_lt, Bool, cond, List, [], ◌++◌, refl, sym, ◌∙◌, ap, ap₂, subst, inl, inr, arith, append_assoc, append-nil, eq-eqb, ne_eqb, le-ltb, lt-ltb, slice_get, Some, Ok, Err, flat_map, range_with_len, cases_order, flat_map-append, Account, Call, airs_of, Stop, Refused, OutletFault, Memory, Step, SinkUnit, accounts_after, closing_by, Offer, after_offers, answered, offered_of, unit_lines, is_of, ticked_if, left_by_offers, closing_of, handed_all, BoxFails, CutShort, Histories, with_close, with_close_at, EntryIs, SinksStand, UnassignedSame, Sinks, accounts_append, hands_stop, hands_then, stands_same, RelaysStand, SourcesStand, Machine, FirstBetween, with_closes_below, relay_histories, FirstMeets, ComponentsStand, SinkMeets, answer_lines, lines_at, lines_below, offers_below, offers_of, units_below}
 use Rattle.scenario_sinks.proofs.Ranges.{range_append}
-use Rattle.scenario_sinks.specs.State.RelaysStand.{RelaysStand}
-use Rattle.scenario_sources.specs.State.Standing.{SourcesStand}
-use Rattle.replay_steps.specs.declared.machine.Machine.{Machine}
-use Rattle.replay_steps.specs.Between.{FirstBetween, with_closes_below}
-use Rattle.replay_steps.specs.Machines.{relay_histories}
-use Rattle.replay_steps.specs.Relaying.{FirstMeets, ComponentsStand, SinkMeets, answer_lines, lines_at, lines_below, offers_below, offers_of, units_below}
 use Rattle.replay_steps.proofs.Offering.{after_append}
 
 -- ---- ranges

@@ -1,30 +1,10 @@
 -- A close that a box stops: what was printed before is a prefix of what the close prints.
-use Rattle.std.proofs.Common.{ℕ, ◌≡◌, ◌≢◌, ◌<◌, ◌+◌, ◌-◌, ◌==◌, ◌&&◌, nat_lt, Bool, true, false, cond, List, [], ◌∷◌, ◌++◌, map, refl, sym, ◌∙◌, ap, ap₂, subst, inl, inr}
-use Rattle.std.proofs.Common.{append_assoc, append-nil, arith, eq-eqb, ne_eqb, le-ltb, lt-ltb, Option, None, Some, Err}
-use Rattle.std.specs.List.{filter, flat_map, range_with_len}
-use Rattle.std.proofs.lemmas.Bool.{and_left, and_right, cases_eq}
-use Rattle.std.proofs.lemmas.List.Elements.{filter-append}
-use Rattle.unit_outlets.specs.Account.{Account}
-use Rattle.unit_outlets.specs.Handed.{Handed}
-use Rattle.unit_outlets.specs.Took.{TookAt}
-use Rattle.unit_outlets.specs.declared.fault.OutletFault.TheVariants.{Failed}
-use Rattle.group_sink.specs.Calls.{Call}
-use Rattle.group_sink.specs.Handing.{handed_at}
-use Rattle.source_machine.specs.Airs.{airs_of}
+use Rattle.replay_steps.proofs.Prelude.{ℕ, ◌≡◌, ◌≢◌, ◌<◌, ◌+◌, ◌-◌, ◌==◌, ◌&&◌, nat_lt, Bool, true, false, cond, List, [], ◌∷◌, ◌++◌, map, refl, sym, ◌∙◌, ap, ap₂, subst, inl, inr, append_assoc, append-nil, arith, eq-eqb, ne_eqb, le-ltb, lt-ltb, Option, None, Some, Err, filter, flat_map, range_with_len, and_left, and_right, cases_eq, filter-append, Account, Handed, TookAt, Failed, Call, handed_at, airs_of, Step, SinkUnit, accounts_after, closing_in, Answered, after_offers, answered, dropped_lines, first_lines, unit_lines, is_of, closing_of, handed_all, BoxFails, Histories, accounts_append, CloseFails, printed_before, FirstFails, answer_lines, lines_at, lines_below, offers_below, offers_of, units_below, flat_within, handed_append}
 use Rattle.transcript_text.specs.Lines.{handed_line}
-use Rattle.scenario_text.specs.declared.step.Step.{Step}
-use Rattle.scenario_history.specs.Boxes.{SinkUnit, accounts_after, closing_in, sink_numbers}
-use Rattle.scenario_history.specs.RelayedUnits.{Answered, after_offers, answered, handed_of}
-use Rattle.scenario_history.specs.Output.{dropped_lines, first_lines, unit_lines}
-use Rattle.scenario_history.specs.Sinks.{is_of}
-use Rattle.scenario_sinks.specs.Closing.{closing_of, handed_all}
-use Rattle.scenario_sinks.specs.Handing.{BoxFails}
-use Rattle.scenario_sinks.specs.Histories.{Histories}
-use Rattle.scenario_sinks.proofs.Citable.{accounts_append, lines_append}
-use Rattle.replay_steps.specs.Failing.{CloseFails, printed_before}
-use Rattle.replay_steps.specs.Relaying.{FirstFails, answer_lines, lines_at, lines_below, offers_below, offers_of, units_below}
+use Rattle.scenario_history.specs.Boxes.{sink_numbers}
+use Rattle.scenario_history.specs.RelayedUnits.{handed_of}
+use Rattle.scenario_sinks.proofs.Citable.{lines_append}
 use Rattle.replay_steps.proofs.Between.{range_about}
-use Rattle.scenario_laws.proofs.RelayedUnits.Citable.{flat_within, handed_append}
 use Rattle.replay_steps.proofs.CloseLines.{answers_of, flat_nothing, none_handed, of_sink, own_handed, own_lines}
 
 -- ---- whose units they are

@@ -1,29 +1,11 @@
 -- What a close of source 0 prints, sink by sink, is what its definition says: the units of each sink, and then those that its relay
 -- offered and that source 1 didn't take.
-use Rattle.std.proofs.Common.{ℕ, zero, suc, ◌≡◌, ◌<◌, ◌≤◌, ◌+◌, ◌-◌, ◌==◌, Bool, true, false, cond, List, [], ◌∷◌, ◌++◌, map, refl, sym, ◌∙◌, ap, ap₂, subst, inl, inr}
-use Rattle.std.proofs.Common.{append-nil, arith, eq-eqb, ne_eqb, Option, None, Some}
-use Rattle.std.specs.List.{filter, flat_map, range_with_len}
-use Rattle.std.proofs.lemmas.Bool.{cases_eq}
-use Rattle.std.proofs.lemmas.List.Elements.{filter-append}
+use Rattle.replay_steps.proofs.Prelude.{ℕ, zero, suc, ◌≡◌, ◌<◌, ◌≤◌, ◌+◌, ◌-◌, ◌==◌, Bool, true, false, cond, List, [], ◌∷◌, ◌++◌, map, refl, sym, ◌∙◌, ap, ap₂, subst, inl, inr, append-nil, arith, eq-eqb, ne_eqb, Option, None, Some, filter, flat_map, range_with_len, cases_eq, filter-append, Call, handed_at, Handed, airs_of, Step, SinkUnit, closing, closing_at, closing_in, Answered, Offer, after_offer, after_offers, answered, dropped_for, offered_of, offers_at, units_on, dropped_lines, first_lines, unit_lines, Route, relay_of, is_of, open_event, steps_of_source, closing_of, handed_all, Histories, histories_of, answer_lines, lines_at, lines_below, offers_below, offers_of, units_below, flat_within, flat_one, other_in, handed_flat, lines_map}
 use Rattle.bcast_base.specs.declared.unit.Unit.{Unit as AudioUnit}
-use Rattle.group_sink.specs.Calls.{Call}
-use Rattle.group_sink.specs.Handing.{handed_at}
-use Rattle.unit_outlets.specs.Handed.{Handed}
-use Rattle.source_machine.specs.Airs.{airs_of}
 use Rattle.transcript_text.specs.Lines.{handed_line}
-use Rattle.scenario_text.specs.declared.step.Step.{Step}
-use Rattle.scenario_history.specs.Boxes.{SinkUnit, closing, closing_at, closing_in, sink_numbers}
-use Rattle.scenario_history.specs.RelayedUnits.{Answered, Offer, after_offer, after_offers, answered, dropped_for, handed_of, offered_of, offers_at, units_on}
-use Rattle.scenario_history.specs.Output.{dropped_lines, first_lines, unit_lines}
-use Rattle.scenario_history.specs.Relays.{Route, relay_of}
-use Rattle.scenario_history.specs.Sinks.{is_of}
-use Rattle.scenario_history.specs.Source.{open_event}
-use Rattle.scenario_history.specs.Steps.{steps_of_source}
-use Rattle.scenario_sinks.specs.Closing.{closing_of, handed_all}
-use Rattle.scenario_sinks.specs.Histories.{Histories}
-use Rattle.replay_steps.specs.Machines.{histories_of}
-use Rattle.replay_steps.specs.Relaying.{answer_lines, lines_at, lines_below, offers_below, offers_of, units_below}
-use Rattle.scenario_laws.proofs.RelayedUnits.Citable.{flat_within, flat_one, other_in, handed_flat, lines_map, own_handed as own_units}
+use Rattle.scenario_history.specs.Boxes.{sink_numbers}
+use Rattle.scenario_history.specs.RelayedUnits.{handed_of}
+use Rattle.scenario_laws.proofs.RelayedUnits.Citable.{own_handed as own_units}
 use Rattle.replay_steps.proofs.Offering.{after_append, answered_append}
 
 -- ---- lists

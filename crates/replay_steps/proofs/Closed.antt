@@ -1,30 +1,7 @@
 -- What a close of a source left, whether an event of it was open or none.
-use Rattle.std.proofs.Common.{ℕ, zero, suc, ◌≡◌, ◌≢◌, Bool, true, false, List, [], ◌++◌, refl, sym, ◌∙◌, subst, append-nil, Option, None, Some, Result, Ok, Err}
-use Rattle.std.specs.List.{range_with_len}
-use Rattle.unit_outlets.specs.Account.{Account}
-use Rattle.group_sink.specs.Calls.{Call}
-use Rattle.source_machine.specs.Airs.{airs_of}
-use Rattle.transcript_text.specs.declared.stop.Stop.{Stop}
-use Rattle.transcript_text.specs.declared.stop.Stop.TheVariants.{Refused, OutletFault, Memory}
-use Rattle.transcript_text.specs.declared.refusal.Refusal.{Refusal}
-use Rattle.scenario_text.specs.declared.step.Step.{Step}
-use Rattle.scenario_history.specs.Boxes.{SinkUnit, accounts_after, sink_numbers}
-use Rattle.scenario_history.specs.RelayedUnits.{Answered, after_offers, answered}
-use Rattle.scenario_history.specs.Output.{first_lines, unit_lines}
-use Rattle.scenario_history.specs.Sinks.{is_of, ticked_if}
+use Rattle.replay_steps.proofs.Prelude.{ℕ, zero, suc, ◌≡◌, ◌≢◌, Bool, true, false, List, [], ◌++◌, refl, sym, ◌∙◌, subst, append-nil, Option, None, Some, Result, Ok, Err, range_with_len, Account, Call, airs_of, Stop, Refused, OutletFault, Memory, Refusal, Step, SinkUnit, accounts_after, Answered, after_offers, answered, first_lines, unit_lines, is_of, ticked_if, closings_at, CutShort, Histories, with_close, SinksStand, Sinks, RelaysStand, SourcesStand, hands_stop, stands_same, Machine, CloseFails, relay_histories, Closes, FirstMeets, ComponentsStand, SecondMeets}
+use Rattle.scenario_history.specs.Boxes.{sink_numbers}
 use Rattle.scenario_sinks.specs.Closing as sinks
-use Rattle.scenario_sinks.specs.Closing.{closings_at}
-use Rattle.scenario_sinks.specs.Handing.{CutShort}
-use Rattle.scenario_sinks.specs.Histories.{Histories, with_close}
-use Rattle.scenario_sinks.specs.State.Standing.{SinksStand}
-use Rattle.scenario_sinks.specs.declared.sinks.Sinks.{Sinks}
-use Rattle.scenario_sinks.specs.State.RelaysStand.{RelaysStand}
-use Rattle.scenario_sources.specs.State.Standing.{SourcesStand}
-use Rattle.scenario_sinks.proofs.Citable.{hands_stop, stands_same}
-use Rattle.replay_steps.specs.declared.machine.Machine.{Machine}
-use Rattle.replay_steps.specs.Failing.{CloseFails}
-use Rattle.replay_steps.specs.Machines.{relay_histories}
-use Rattle.replay_steps.specs.Relaying.{Closes, FirstMeets, ComponentsStand, SecondMeets}
 use Rattle.replay_steps.proofs.BoxStops.{AreFrom, first_fails, from_closings, second_fails}
 use Rattle.replay_steps.proofs.CloseLines.{lines_closed, offers_closed, units_closed}
 

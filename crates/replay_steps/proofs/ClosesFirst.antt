@@ -1,28 +1,5 @@
 -- A step that closes the open event of source 0, by what the close of each sink made of the components.
-use Rattle.std.proofs.Common.{ℕ, ◌≡◌, ◌==◌, cond, false, List, [], ◌∷◌, ◌++◌, refl, sym, ◌∙◌, ap, ap₂, subst, Option, None, Some}
-use Rattle.std.specs.List.{range_with_len}
-use Rattle.unit_outlets.specs.Account.{Account}
-use Rattle.source_machine.specs.Airs.{airs_of}
-use Rattle.scenario_text.specs.declared.step.Step.{Step}
-use Rattle.scenario_history.specs.Boxes.{SinkUnit, closing, handed_by}
-use Rattle.scenario_history.specs.RelayedUnits.{Answered, Offer, after_offers, answered, answered_by, closes_first, offered_of, offers_at, with_relayed_units}
-use Rattle.scenario_history.specs.Output.{close_lines, first_lines, output_of, unit_lines}
-use Rattle.scenario_history.specs.Relays.{relay_of}
-use Rattle.scenario_history.specs.Sinks.{is_of, ticked_if}
-use Rattle.scenario_history.specs.Source.{open_event}
-use Rattle.scenario_history.specs.Steps.{chosen_of, chosen_steps, steps_of_source}
-use Rattle.scenario_laws.proofs.RelayedUnits.Citable.{left_by_offers, flat_same}
-use Rattle.scenario_sinks.specs.Closing.{closing_of, handed_all}
-use Rattle.scenario_sinks.specs.Histories.{Histories, with_close}
-use Rattle.scenario_sinks.specs.State.Standing.{SinksStand}
-use Rattle.scenario_sinks.specs.declared.sinks.Sinks.{Sinks}
-use Rattle.scenario_sinks.proofs.Citable.{stands_same}
-use Rattle.scenario_sinks.specs.State.RelaysStand.{RelaysStand}
-use Rattle.scenario_sources.specs.State.Standing.{SourcesStand}
-use Rattle.replay_steps.specs.declared.machine.Machine.{Machine}
-use Rattle.replay_steps.specs.Machines.{Stands, histories_of, relay_histories}
-use Rattle.replay_steps.specs.Relaying.{answer_lines, lines_at, lines_below, offers_below, offers_of}
-use Rattle.replay_steps.specs.Versions.{stage_in}
+use Rattle.replay_steps.proofs.Prelude.{ℕ, ◌≡◌, ◌==◌, cond, false, List, [], ◌∷◌, ◌++◌, refl, sym, ◌∙◌, ap, ap₂, subst, Option, None, Some, range_with_len, Account, airs_of, Step, SinkUnit, closing, handed_by, Answered, Offer, after_offers, answered, answered_by, closes_first, offered_of, offers_at, with_relayed_units, close_lines, first_lines, output_of, unit_lines, relay_of, is_of, ticked_if, open_event, chosen_of, chosen_steps, steps_of_source, left_by_offers, flat_same, closing_of, handed_all, Histories, with_close, SinksStand, Sinks, stands_same, RelaysStand, SourcesStand, Machine, Stands, histories_of, relay_histories, answer_lines, lines_at, lines_below, offers_below, offers_of, stage_in}
 use Rattle.replay_steps.proofs.CloseLines.{first_printed, lines_closed, offers_closed, offers_same, units_are, units_closed}
 use Rattle.replay_steps.proofs.Closed.{FirstClosed}
 use Rattle.replay_steps.proofs.AfterRelays.{MeansOne, relays_behind, same_answers, same_answers_after, sources_behind}

@@ -1,33 +1,8 @@
 -- The steps that close the open event of the chosen source.
-use Rattle.std.proofs.Common.{◌≡◌, ◌==◌, ◌<◌, ℕ, zero, suc, cond, false, List, [], ◌∷◌, ◌++◌, length, inr, inl, refl, sym, ◌∙◌, ap, append_assoc, append-nil, subst, arith, Option, None}
-use Rattle.std.proofs.Common.{Some, Result, Ok, Err}
-use Rattle.unit_outlets.specs.Account.{Account}
-use Rattle.source_machine.specs.Airs.{airs_of}
-use Rattle.transcript_text.specs.declared.stop.Stop.{Stop}
-use Rattle.transcript_text.specs.declared.stop.Stop.TheVariants.{Refused, OutletFault, Memory}
-use Rattle.transcript_text.specs.Lines.{control_line}
-use Rattle.scenario_text.specs.declared.step.Step.{Step}
+use Rattle.replay_steps.proofs.Prelude.{◌≡◌, ◌==◌, ◌<◌, ℕ, zero, suc, cond, false, List, [], ◌∷◌, ◌++◌, length, inr, inl, refl, sym, ◌∙◌, ap, append_assoc, append-nil, subst, arith, Option, None, Some, Result, Ok, Err, Account, airs_of, Stop, Refused, OutletFault, Memory, control_line, Step, chosen_of, chosen_steps, is_over, is_over_at, running, stage_of, steps_of_source, end_pdu, open_event, stale_in, SinkUnit, accounts_after, closing, closing_at, handed_by, Answered, answered, answered_by, closes_first, offers_at, with_relayed_units, close_lines, first_lines, output_of, stale_lines, unit_lines, stage_same, fault_of, SourcesStand, closings_at, CutShort, with_close, SinksStand, RelaysStand, Machine, CloseFails, Stands, histories_of, relay_histories, Meets, phase_line, Closes, ComponentsStand, stage_in}
 use Rattle.scenario_text.specs.declared.step.Step.TheVariants as variants
-use Rattle.scenario_history.specs.Steps.{chosen_of, chosen_steps, is_over, is_over_at, running, stage_of, steps_of_source}
-use Rattle.scenario_history.specs.Source.{end_pdu, open_event, stale_in}
-use Rattle.scenario_history.specs.Boxes.{SinkUnit, accounts_after, closing, closing_at, handed_by, sink_numbers}
-use Rattle.scenario_history.specs.RelayedUnits.{Answered, answered, answered_by, closes_first, offers_at, with_relayed_units}
-use Rattle.scenario_history.specs.Output.{close_lines, first_lines, output_of, stale_lines, unit_lines}
-use Rattle.scenario_history.proofs.Citable.{stage_same}
+use Rattle.scenario_history.specs.Boxes.{sink_numbers}
 use Rattle.scenario_sources.specs.Answers as sources
-use Rattle.scenario_sources.specs.Faults.{fault_of}
-use Rattle.scenario_sources.specs.State.Standing.{SourcesStand}
-use Rattle.scenario_sinks.specs.Closing.{closings_at}
-use Rattle.scenario_sinks.specs.Handing.{CutShort}
-use Rattle.scenario_sinks.specs.Histories.{with_close}
-use Rattle.scenario_sinks.specs.State.Standing.{SinksStand}
-use Rattle.scenario_sinks.specs.State.RelaysStand.{RelaysStand}
-use Rattle.replay_steps.specs.declared.machine.Machine.{Machine}
-use Rattle.replay_steps.specs.Failing.{CloseFails}
-use Rattle.replay_steps.specs.Machines.{Stands, histories_of, relay_histories}
-use Rattle.replay_steps.specs.Meets.{Meets, phase_line}
-use Rattle.replay_steps.specs.Relaying.{Closes, ComponentsStand}
-use Rattle.replay_steps.specs.Versions.{stage_in}
 use Rattle.replay_steps.proofs.Closed.{first_closed, first_cut, first_fails_at, never_refused, second_closed, second_cut, second_fails_at}
 use Rattle.replay_steps.proofs.CloseLines.{units_closed}
 use Rattle.replay_steps.proofs.ClosesFirst.{CloseSays, ClosesOpen, first_says, first_stands}

@@ -1,18 +1,8 @@
 -- A box that fails has no room for the valid units of its sink.
-use Rattle.std.proofs.Common.{◌≡◌, ℕ, ◌+◌, ◌<◌, ◌^◌, true, eq-eqb, List, [], ◌∷◌, ◌++◌, length, map, refl, sym, ap, subst, ◌∙◌, append_assoc, length-append, arith, Option}
-use Rattle.std.proofs.Common.{None, Some, slice_get, slice_set, zero, suc, IsTrue}
-use Rattle.std.specs.Prelude.{option_map, sum}
-use Rattle.std.proofs.lemmas.List.{map-append}
+use Rattle.replay_steps.proofs.Prelude.{◌≡◌, ℕ, ◌+◌, ◌<◌, ◌^◌, true, eq-eqb, List, [], ◌∷◌, ◌++◌, length, map, refl, sym, ap, subst, ◌∙◌, append_assoc, length-append, arith, Option, None, Some, slice_get, slice_set, zero, suc, IsTrue, option_map, map-append, Account, Fits, valid, Holds, RoomFor, SinkUnit, Took, accounts_after, onto_valid, valid_for, with_units, took_all, valid_append, Answered, unit_lines, BoxFails, CloseFails}
+use Rattle.std.specs.Prelude.{sum}
 use Rattle.std.proofs.lemmas.List.Sums.{sum_by-append, sum_by-cons}
-use Rattle.unit_outlets.specs.Account.{Account, Fits}
-use Rattle.unit_outlets.specs.Handed.{valid}
 use Rattle.bcast_base.specs.Counts.{Rose}
-use Rattle.scenario_history.specs.Boxes.{Holds, RoomFor, SinkUnit, Took, accounts_after, onto_valid, valid_for, with_units}
-use Rattle.scenario_history.proofs.Citable.{took_all, valid_append}
-use Rattle.scenario_history.specs.RelayedUnits.{Answered}
-use Rattle.scenario_history.specs.Output.{unit_lines}
-use Rattle.scenario_sinks.specs.Handing.{BoxFails}
-use Rattle.replay_steps.specs.Failing.{CloseFails}
 
 map_some : {A : Type 0} (f : A → A) (o : Option A) (b : A) → option_map f o ≡ Some b → (a : A) × (o ≡ Some a) × (f a ≡ b)
 map_some f None b e = cc

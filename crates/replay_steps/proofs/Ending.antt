@@ -1,44 +1,10 @@
 -- The sums of the boxes, and the end of a scenario.
-use Rattle.std.proofs.Common.{◌≡◌, ℕ, zero, suc, ◌+◌, ◌<◌, ◌≤◌, List, [], ◌∷◌, ◌++◌, length, inr, ne_eqb, refl, sym, ◌∙◌, ap, ap₂, subst, append-nil}
-use Rattle.std.proofs.Common.{append_assoc, arith, Option, None, Some, Ok, Err}
-use Rattle.std.specs.List.{flat_map, range_with_len}
-use Rattle.unit_outlets.specs.Account.{Account}
-use Rattle.source_machine.specs.Airs.{airs_of}
-use Rattle.group_sink.specs.Calls.{Call}
-use Rattle.transcript_text.specs.Lines.{sum_line}
-use Rattle.transcript_text.specs.declared.stop.Stop.{Stop}
-use Rattle.transcript_text.specs.declared.stop.Stop.TheVariants.{Refused, OutletFault, Memory}
-use Rattle.scenario_text.specs.declared.step.Step.{Step}
-use Rattle.scenario_text.specs.declared.step.Step.TheVariants.{Drop, End}
-use Rattle.scenario_history.specs.Steps.{over, running, sinks_made, stage_after, stage_of, steps_of_source}
-use Rattle.scenario_history.specs.Source.{open_event}
-use Rattle.scenario_history.specs.Sinks.{is_of, sink_calls, source_of, ticked_if}
-use Rattle.scenario_history.specs.Boxes.{SinkUnit, account_at, accounts_after, box_of, closing, closing_both, closing_by, handed_up, sink_numbers, valid_for}
-use Rattle.scenario_history.specs.RelayedUnits.{Answered, Offer, after_offers, answered, answered_by, with_relayed_units}
-use Rattle.scenario_history.specs.Output.{first_lines, output_of, sum_if, sum_of, sums_of, unit_lines}
-use Rattle.scenario_history.specs.Refusals.{no_sink, phase_refusal}
-use Rattle.scenario_history.proofs.Citable.{box_was_made, octets_add_up, units_add_up}
+use Rattle.replay_steps.proofs.Prelude.{◌≡◌, ℕ, zero, suc, ◌+◌, ◌<◌, ◌≤◌, List, [], ◌∷◌, ◌++◌, length, inr, ne_eqb, refl, sym, ◌∙◌, ap, ap₂, subst, append-nil, append_assoc, arith, Option, None, Some, Ok, Err, flat_map, range_with_len, Account, airs_of, Call, sum_line, Stop, Refused, OutletFault, Memory, Step, Drop, End, over, running, sinks_made, stage_after, stage_of, steps_of_source, open_event, is_of, sink_calls, source_of, ticked_if, SinkUnit, account_at, accounts_after, box_of, closing, closing_both, closing_by, handed_up, valid_for, Answered, Offer, after_offers, answered, answered_by, with_relayed_units, first_lines, output_of, sum_if, sum_of, sums_of, unit_lines, no_sink, phase_refusal, box_was_made, octets_add_up, units_add_up, left_by_offers, flat_same, Sources, SourcesStand, drop_says, end_says, sources_stay, Sinks, closings_at, CutShort, with_close, without, SinksStand, accounts_append, hands_then, stands_same, Machine, RelaysStand, CloseFails, Stands, histories_of, relay_histories, BoxesStand, Meets, Tells, phase_line, Closes, ComponentsStand, stage_in}
+use Rattle.scenario_history.specs.Boxes.{sink_numbers}
 use Rattle.scenario_laws.specs.RelayedUnits.Laws.{IsLeft}
-use Rattle.scenario_laws.proofs.RelayedUnits.Citable.{left_by_offers, flat_same}
-use Rattle.scenario_sources.specs.declared.sources.Sources.{Sources}
-use Rattle.scenario_sources.specs.State.Standing.{SourcesStand}
-use Rattle.scenario_sources.proofs.Citable.{drop_says, end_says, sources_stay}
-use Rattle.scenario_sinks.specs.declared.sinks.Sinks.{Sinks}
-use Rattle.scenario_sinks.specs.Closing.{closings_at}
-use Rattle.scenario_sinks.specs.Handing.{CutShort}
-use Rattle.scenario_sinks.specs.Histories.{with_close, without}
 use Rattle.scenario_sinks.specs.Refusals as sinks
 use Rattle.scenario_sinks.specs.Refusals.{not_living}
-use Rattle.scenario_sinks.specs.State.Standing.{SinksStand}
 use Rattle.scenario_sinks.specs.Sums.{Puts, sum_at, sum_where, sums_where}
-use Rattle.scenario_sinks.proofs.Citable.{accounts_append, hands_then, stands_same}
-use Rattle.replay_steps.specs.declared.machine.Machine.{Machine}
-use Rattle.scenario_sinks.specs.State.RelaysStand.{RelaysStand}
-use Rattle.replay_steps.specs.Failing.{CloseFails}
-use Rattle.replay_steps.specs.Machines.{Stands, histories_of, relay_histories}
-use Rattle.replay_steps.specs.Meets.{BoxesStand, Meets, Tells, phase_line}
-use Rattle.replay_steps.specs.Relaying.{Closes, ComponentsStand}
-use Rattle.replay_steps.specs.Versions.{stage_in}
 use Rattle.replay_steps.proofs.BoxStops.{AreFrom, from_closings}
 use Rattle.replay_steps.proofs.Closed.{FirstClosed, first_cut, first_fails_at, never_refused, second_closed, second_cut, second_fails_at}
 use Rattle.replay_steps.proofs.CloseLines.{first_printed, lines_closed, offers_closed, offers_same, units_are, units_closed}

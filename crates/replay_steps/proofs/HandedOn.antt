@@ -1,16 +1,5 @@
 -- What a line hands up comes behind what the lines before it did, and the boxes took it.
-use Rattle.std.proofs.Common.{◌≡◌, List, ◌∷◌, ◌++◌, sym, subst}
-use Rattle.std.proofs.lemmas.List.{append-nil}
-use Rattle.bcast_io.specs.TextLines.{TextLine}
-use Rattle.unit_outlets.specs.Account.{Account}
-use Rattle.source_machine.specs.Airs.{airs_of, Airs}
-use Rattle.scenario_text.specs.declared.step.Step.{Step}
-use Rattle.scenario_history.specs.Boxes.{SinkUnit, handed_up, Took}
-use Rattle.scenario_history.specs.RelayedUnits.{happened}
-use Rattle.scenario_laws.proofs.RelayedUnits.Citable.{handed_happened}
-use Rattle.scenario_history.specs.Lines.{Said, a_step, nothing, unsaid, said_of, steps_of, said_after, handed_on, handed_said, with_said}
-use Rattle.scenario_history.proofs.Citable.{took_all}
-use Rattle.replay_steps.specs.Meets.{BoxesStand}
+use Rattle.replay_steps.proofs.Prelude.{◌≡◌, List, ◌∷◌, ◌++◌, sym, subst, append-nil, TextLine, Account, airs_of, Airs, Step, SinkUnit, handed_up, Took, happened, handed_happened, Said, a_step, nothing, unsaid, said_of, steps_of, said_after, handed_on, handed_said, with_said, took_all, BoxesStand}
 
 handed_with : (airs : Airs) (earlier : List Step) (said : Said)
     → handed_up airs (happened airs (with_said said earlier)) ≡ handed_up airs (happened airs earlier) ++ handed_said airs (happened airs earlier) said

@@ -1,33 +1,10 @@
 -- Where no sink has a relay, an event of source 0 that is closed for all sinks at once is closed as for one behind the other.
-use Rattle.std.proofs.Common.{ℕ, zero, suc, ◌≡◌, ◌≤◌, ◌<◌, ◌+◌, ◌⊎◌, ◌==◌, ◌&&◌, not, Bool, true, false, List, [], ◌∷◌, ◌++◌, refl, sym, ◌∙◌, ap, subst, inl, inr, arith}
-use Rattle.std.proofs.Common.{append_assoc, append-nil, eqb-true, option_map, is_none, Option, None, Some, Result, Ok, Err}
-use Rattle.std.specs.List.{flat_map, list_all, range_with_len}
-use Rattle.std.proofs.lemmas.Bool.{and_parts, cases_eq, not-false}
-use Rattle.unit_outlets.specs.Account.{Account}
-use Rattle.unit_outlets.specs.Took.{TookAt}
-use Rattle.unit_outlets.specs.declared.fault.OutletFault.TheVariants.{Failed}
-use Rattle.source_machine.specs.Airs.{airs_of}
-use Rattle.transcript_text.specs.declared.stop.Stop.{Stop}
-use Rattle.transcript_text.specs.declared.stop.Stop.TheVariants.{Refused, OutletFault, Memory}
-use Rattle.scenario_text.specs.declared.step.Step.{Step}
-use Rattle.scenario_history.specs.Boxes.{SinkUnit, accounts_after, sink_numbers}
-use Rattle.scenario_history.specs.RelayedUnits.{after_offers, answered, offered_of}
-use Rattle.scenario_history.specs.Output.{unit_lines}
-use Rattle.scenario_history.specs.Relays.{Route, relay_of}
+use Rattle.replay_steps.proofs.Prelude.{ℕ, zero, suc, ◌≡◌, ◌≤◌, ◌<◌, ◌+◌, ◌⊎◌, ◌==◌, ◌&&◌, not, Bool, true, false, List, [], ◌∷◌, ◌++◌, refl, sym, ◌∙◌, ap, subst, inl, inr, arith, append_assoc, append-nil, eqb-true, option_map, is_none, Option, None, Some, Result, Ok, Err, flat_map, list_all, range_with_len, and_parts, cases_eq, not-false, Account, TookAt, Failed, airs_of, Stop, Refused, OutletFault, Memory, Step, SinkUnit, accounts_after, after_offers, answered, offered_of, unit_lines, Route, relay_of, closing_of, handed_all, BoxFails, Histories, accounts_append, is_idle, RelaysStand, SourcesStand, Machine, lent, relay_histories, Closes, FirstMeets, ComponentsStand, answer_lines, lines_at, lines_below, offers_below, offers_of, units_below, flat_within}
+use Rattle.scenario_history.specs.Boxes.{sink_numbers}
 use Rattle.scenario_sinks.specs.Closing as sinks
-use Rattle.scenario_sinks.specs.Closing.{closing_of, handed_all}
-use Rattle.scenario_sinks.specs.Handing.{BoxFails}
-use Rattle.scenario_sinks.specs.Histories.{Histories}
-use Rattle.scenario_sinks.proofs.Citable.{accounts_append, lines_append}
-use Rattle.scenario_sinks.specs.RelayHistories.{is_idle}
-use Rattle.scenario_sinks.specs.State.RelaysStand.{RelaysStand}
-use Rattle.scenario_sources.specs.State.Standing.{SourcesStand}
-use Rattle.replay_steps.specs.declared.machine.Machine.{Machine}
-use Rattle.replay_steps.specs.Machines.{lent, relay_histories}
-use Rattle.replay_steps.specs.Relaying.{Closes, FirstMeets, ComponentsStand, answer_lines, lines_at, lines_below, offers_below, offers_of, units_below}
+use Rattle.scenario_sinks.proofs.Citable.{lines_append}
 use Rattle.replay_steps.proofs.Between.{range_more}
 use Rattle.replay_steps.proofs.Closed.{first_closes, second_closes}
-use Rattle.scenario_laws.proofs.RelayedUnits.Citable.{flat_within}
 use Rattle.replay_steps.proofs.CloseLines.{flat_nothing}
 
 -- ---- a box stops units of two lists

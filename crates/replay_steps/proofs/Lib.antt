@@ -22,4 +22,5 @@ pub mod Closed
 pub mod Idle
 pub mod Components
 pub mod UnassignedRuns
+mod Prelude
 mod HandedOn

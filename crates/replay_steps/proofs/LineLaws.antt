@@ -1,33 +1,9 @@
 -- A line by its step.
-use Rattle.std.proofs.Common.{◌≡◌, ℕ, ◌+◌, ◌<◌, ◌≤◌, nat_le, List, [], ◌∷◌, ◌++◌, length, inl, inr, Option, None, Some, Result, Ok, Err, refl, sym, ◌∙◌, ap, ap₂, subst, is_some, arith}
-use Rattle.std.specs.Option.{option_or}
-use Rattle.std.proofs.lemmas.Bool.{leb-false}
-use Rattle.bcast_io.specs.TextLines.{TextLine, plain}
-use Rattle.unit_outlets.specs.Account.{Account}
-use Rattle.source_machine.specs.Airs.{airs_of}
-use Rattle.transcript_text.specs.declared.refusal.Refusal.TheVariants.{AfterEnd, BadLine, Order, SinkTwice, NoOutlet}
+use Rattle.replay_steps.proofs.Prelude.{◌≡◌, ℕ, ◌+◌, ◌<◌, ◌≤◌, nat_le, List, [], ◌∷◌, ◌++◌, length, inl, inr, Option, None, Some, Result, Ok, Err, refl, sym, ◌∙◌, ap, ap₂, subst, is_some, arith, option_or, leb-false, TextLine, plain, Account, airs_of, AfterEnd, BadLine, Order, SinkTwice, NoOutlet, happened, with_relayed_units, append-nil, read_of, Step, sinks_made, sinks_made_by, version_at, version_of, is_over, hands_alike, left_by_relayed_units, stage_happened, passes_both, accounts_after, box_of, handed_by, handed_up, is_relayed, is_out_of_order, sink_refusal, refuse_if, Said, a_step, nothing, unsaid, said_of, steps_of, said_by, said_after, with_said, refusal_said, output_said, handed_said, fails_not, Machine, Stop, Refused, OutletFault, Memory, Stands, BoxesStand, StepMeets, CutShort, CloseFails, accounts_append}
 use Rattle.scenario_words.specs.declared.fault.LineFault.TheVariants.{BadLine as Misfit}
-use Rattle.scenario_history.specs.RelayedUnits.{happened, with_relayed_units}
-use Rattle.std.proofs.lemmas.List.{append-nil}
-use Rattle.scenario_text.specs.Steps.{read_of}
-use Rattle.scenario_text.specs.declared.step.Step.{Step}
 use Rattle.scenario_text.specs.declared.step.Step.TheVariants as steps
-use Rattle.scenario_history.specs.Steps.{sinks_made, sinks_made_by, version_at, version_of, is_over}
-use Rattle.scenario_laws.proofs.RelayedUnits.Citable.{hands_alike, left_by_relayed_units, stage_happened, passes_both}
-use Rattle.scenario_history.specs.Boxes.{accounts_after, box_of, handed_by, handed_up}
-use Rattle.scenario_history.specs.Refusals.{is_relayed, refusal_of, is_out_of_order, sink_refusal}
-use Rattle.sink_history.specs.Refusals.{refuse_if}
-use Rattle.scenario_history.specs.Lines.{Said, a_step, nothing, unsaid, said_of, steps_of, said_by, said_after, with_said, refusal_said, output_said, handed_said}
-use Rattle.scenario_history.proofs.Citable.{fails_not}
-use Rattle.replay_steps.specs.declared.machine.Machine.{Machine}
-use Rattle.transcript_text.specs.declared.stop.Stop.{Stop}
-use Rattle.transcript_text.specs.declared.stop.Stop.TheVariants.{Refused, OutletFault, Memory}
-use Rattle.replay_steps.specs.Machines.{Stands}
-use Rattle.replay_steps.specs.Meets.{BoxesStand, StepMeets}
-use Rattle.scenario_sinks.specs.Handing.{CutShort}
-use Rattle.replay_steps.specs.Failing.{CloseFails}
+use Rattle.scenario_history.specs.Refusals.{refusal_of}
 use Rattle.replay_steps.specs.LineMeets.{LineMeets, LinesStand, answered_said}
-use Rattle.scenario_sinks.proofs.Citable.{accounts_append}
 use Rattle.replay_steps.proofs.StepLaws.{stands_beside}
 
 last_none : {A : Type 0} (a b : Option A) → option_or a b ≡ None → b ≡ None

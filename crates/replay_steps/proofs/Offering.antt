@@ -1,39 +1,11 @@
 -- Units that relays offer to source 1, by what they make of the sources, of the relays and of the text.
-use Rattle.std.proofs.Common.{ℕ, zero, suc, ◌≡◌, ◌≢◌, ◌<◌, ◌≤◌, ◌+◌, ◌==◌, ◌||◌, List, [], ◌∷◌, ◌++◌, length, map, take, get_or, not, refl, sym, ◌∙◌, ap, ap₂, subst}
-use Rattle.std.proofs.Common.{append_assoc, append-nil, arith, eq-eqb, ne_eqb, option_map, slice_get, Option, None, Some, Result, Ok, Err}
-use Rattle.std.specs.List.{list_any}
-use Rattle.std.specs.Option.{option_or}
-use Rattle.std.proofs.lemmas.List.{map-append, take_all, take_more}
-use Rattle.std.proofs.lemmas.List.Concat.{flat_map-append}
+use Rattle.replay_steps.proofs.Prelude.{ℕ, zero, suc, ◌≡◌, ◌≢◌, ◌<◌, ◌≤◌, ◌+◌, ◌==◌, ◌||◌, List, [], ◌∷◌, ◌++◌, length, map, take, get_or, not, refl, sym, ◌∙◌, ap, ap₂, subst, append_assoc, append-nil, arith, eq-eqb, ne_eqb, option_map, slice_get, Option, None, Some, Result, Ok, Err, list_any, option_or, map-append, take_all, take_more, flat_map-append, Handed, airs_of, dropped_line, Refusal, Order, Stop, Refused, OutletFault, Memory, Step, Source, Answered, Offer, after_offer, after_offers, answered, dropped_for, offered_of, units_on, valid_on, with_relayed_unit, answer_line, gives_on, source_refusal, refuse_if, Route, takes_units, chosen_of, steps_of_source, version_of, Relays, RelaysStand, handed_as, handed_of, Answers, Sources, SourcesStand, lent, relay_histories, Drops, GivesSecond, OffersMeet, answer_lines}
 use Rattle.bcast_base.specs.declared.unit.Unit.{Unit as AudioUnit}
-use Rattle.unit_outlets.specs.Handed.{Handed}
-use Rattle.source_machine.specs.Airs.{airs_of}
-use Rattle.transcript_text.specs.Lines.{dropped_line}
-use Rattle.transcript_text.specs.declared.refusal.Refusal.{Refusal}
-use Rattle.transcript_text.specs.declared.refusal.Refusal.TheVariants.{Order}
-use Rattle.transcript_text.specs.declared.stop.Stop.{Stop}
-use Rattle.transcript_text.specs.declared.stop.Stop.TheVariants.{Refused, OutletFault, Memory}
-use Rattle.scenario_text.specs.declared.step.Step.{Step}
-use Rattle.scenario_text.specs.declared.step.Step.TheVariants.{Source, Unit as UnitLine}
-use Rattle.scenario_history.specs.RelayedUnits.{Answered, Offer, after_offer, after_offers, answered, dropped_for, offered_of, units_on, valid_on, with_relayed_unit}
-use Rattle.scenario_history.specs.Output.{answer_line}
-use Rattle.scenario_history.specs.Refusals.{gives_on, source_refusal}
-use Rattle.sink_history.specs.Refusals.{refuse_if}
-use Rattle.scenario_history.specs.Relays.{Route}
-use Rattle.scenario_history.specs.Source.{takes_units}
-use Rattle.scenario_history.specs.Steps.{chosen_of, steps_of_source, version_of}
-use Rattle.scenario_sinks.specs.declared.relays.Relays.{Relays}
+use Rattle.scenario_text.specs.declared.step.Step.TheVariants.{Unit as UnitLine}
 use Rattle.scenario_sinks.specs.declared.route.Route.{Route as LentRoute}
 use Rattle.scenario_sinks.specs.RelayHistories as pasts
-use Rattle.scenario_sinks.specs.State.RelaysStand.{RelaysStand}
-use Rattle.scenario_sinks.specs.State.Gathering.{handed_as, handed_of}
 use Rattle.scenario_sinks.specs.declared.gathered.HandedUnit.{HandedUnit}
-use Rattle.scenario_sources.specs.Answers.{Answers}
-use Rattle.scenario_sources.specs.declared.sources.Sources.{Sources}
 use Rattle.scenario_sources.specs.State.Phases.{PhaseAt}
-use Rattle.scenario_sources.specs.State.Standing.{SourcesStand}
-use Rattle.replay_steps.specs.Machines.{lent, relay_histories}
-use Rattle.replay_steps.specs.Relaying.{Drops, GivesSecond, OffersMeet, answer_lines}
 use Rattle.replay_steps.proofs.RelaysStay.{relays_as}
 use Rattle.replay_steps.proofs.Stepping.{or_none}
 

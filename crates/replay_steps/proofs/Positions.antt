@@ -1,9 +1,8 @@
 -- The positions of an event one behind the other.
-use Rattle.std.proofs.Common.{◌≡◌, ℕ, ◌+◌, ◌*◌, ◌/◌, ◌%◌, ◌<◌, ◌^◌, sym, ◌∙◌, ap, subst, arith}
+use Rattle.replay_steps.proofs.Prelude.{◌≡◌, ℕ, ◌+◌, ◌*◌, ◌/◌, ◌%◌, ◌<◌, ◌^◌, sym, ◌∙◌, ap, subst, arith, IsPosition}
 use Rattle.std.proofs.Math.Nat.{add-mul}
 use Rattle.std.proofs.lemmas.Nat.{div-add-mod', div-mul-add, mod-mul-add}
 use Rattle.replay_steps.specs.declared.position.Position.{Position}
-use Rattle.replay_steps.specs.Positions.{IsPosition}
 use Rattle.replay_steps.proofs.Airing.{position_within}
 
 one_behind : (a b : ℕ) → a + b + 1 ≡ a + (b + 1)

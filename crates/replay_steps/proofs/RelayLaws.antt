@@ -1,44 +1,11 @@
 -- The steps that say something of relays: `relay`, `drop`, and a `unit` line.
-use Rattle.std.proofs.Common.{ℕ, ◌≡◌, ◌≢◌, ◌==◌, ◌&&◌, ◌||◌, Bool, true, false, cond, not, nat_lt, is_some, List, ◌∷◌, refl, sym, ◌∙◌, ap, ap₂, subst, unwrap_or, option_map}
-use Rattle.std.proofs.Common.{eq-eqb, ne_eqb, Option, None, Some, Ok, Err}
-use Rattle.std.specs.List.{list_any}
-use Rattle.std.specs.Option.{option_or}
-use Rattle.big_info.specs.declared.info.BigInfo.{BigInfo}
-use Rattle.source_machine.specs.Airs.{airs_of}
+use Rattle.replay_steps.proofs.Prelude.{ℕ, ◌≡◌, ◌≢◌, ◌==◌, ◌&&◌, ◌||◌, Bool, true, false, cond, not, nat_lt, is_some, List, ◌∷◌, refl, sym, ◌∙◌, ap, ap₂, subst, unwrap_or, option_map, eq-eqb, ne_eqb, Option, None, Some, Ok, Err, list_any, option_or, BigInfo, airs_of, Call, Settings, made_of, Refusal, NoSuchBis, NoSuchSink, Order, RelayTaken, Stop, Refused, OutletFault, Memory, Step, Drop, Relay, box_of, gives_on, is_relay_beyond, is_relay_taken, may_relay, phase_refusal, relay_refusal, relayed_or, refuse_if, Route, had_relay, relay_given, relay_of, sink_calls, setup_of, takes_units, chosen_of, last_given, running, stage_of, steps_of_source, calls_made, source_at, Relays, with_relay, RelaysStand, Answers, fault_of, SourcesStand, named_says, sources_stay, SinksStand, Sinks, stands_same, Machine, Stands, lent, histories_of, relay_histories, Quiet, phase_line, stage_in}
 use Rattle.delegator_machine.specs.Groups.{with_leave}
-use Rattle.group_sink.specs.Calls.{Call}
 use Rattle.sink_history.specs.Calls as links
-use Rattle.delegator_history.specs.Trains.{Settings}
-use Rattle.sink_history.specs.History.{Source, made_of}
+use Rattle.sink_history.specs.History.{Source}
 use Rattle.sink_history.specs.Moves.{received_by}
-use Rattle.transcript_text.specs.declared.refusal.Refusal.{Refusal}
-use Rattle.transcript_text.specs.declared.refusal.Refusal.TheVariants.{NoSuchBis, NoSuchSink, Order, RelayTaken}
-use Rattle.transcript_text.specs.declared.stop.Stop.{Stop}
-use Rattle.transcript_text.specs.declared.stop.Stop.TheVariants.{Refused, OutletFault, Memory}
-use Rattle.scenario_text.specs.declared.step.Step.{Step}
-use Rattle.scenario_text.specs.declared.step.Step.TheVariants.{Drop, Relay, Unit as UnitLine}
-use Rattle.scenario_history.specs.Boxes.{box_of}
-use Rattle.scenario_history.specs.Refusals.{gives_on, is_relay_beyond, is_relay_taken, may_relay, phase_refusal, relay_refusal, relayed_or}
-use Rattle.sink_history.specs.Refusals.{refuse_if}
-use Rattle.scenario_history.specs.Relays.{Route, had_relay, relay_given, relay_of}
-use Rattle.scenario_history.specs.Sinks.{sink_calls}
-use Rattle.scenario_history.specs.Source.{setup_of, takes_units}
-use Rattle.scenario_history.specs.Steps.{chosen_of, last_given, running, stage_of, steps_of_source}
-use Rattle.scenario_history.specs.Worlds.{calls_made, source_at}
-use Rattle.scenario_sinks.specs.declared.relays.Relays.{Relays}
-use Rattle.scenario_sinks.specs.RelayHistories.{with_relayed_unit, with_relay, without}
-use Rattle.scenario_sinks.specs.State.RelaysStand.{RelaysStand}
-use Rattle.scenario_sources.specs.Answers.{Answers}
-use Rattle.scenario_sources.specs.Faults.{fault_of}
-use Rattle.scenario_sources.specs.State.Standing.{SourcesStand}
-use Rattle.scenario_sources.proofs.Citable.{named_says, sources_stay}
-use Rattle.scenario_sinks.specs.State.Standing.{SinksStand}
-use Rattle.scenario_sinks.specs.declared.sinks.Sinks.{Sinks}
-use Rattle.scenario_sinks.proofs.Citable.{stands_same}
-use Rattle.replay_steps.specs.declared.machine.Machine.{Machine}
-use Rattle.replay_steps.specs.Machines.{Stands, lent, histories_of, relay_histories}
-use Rattle.replay_steps.specs.Meets.{Quiet, phase_line}
-use Rattle.replay_steps.specs.Versions.{stage_in}
+use Rattle.scenario_text.specs.declared.step.Step.TheVariants.{Unit as UnitLine}
+use Rattle.scenario_sinks.specs.RelayHistories.{with_relayed_unit, without}
 use Rattle.replay_steps.proofs.RelaysStay.{relays_as}
 use Rattle.replay_steps.proofs.Stepping.{GoesOn, source_fault, sources_stand}
 

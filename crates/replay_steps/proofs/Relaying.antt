@@ -1,23 +1,5 @@
 -- A close of source 0, sink by sink: each hands its units up, and then its relay offers them to source 1.
-use Rattle.std.proofs.Common.{ℕ, ◌≡◌, List, [], ◌++◌, sym, ◌∙◌, ap, subst}
-use Rattle.std.proofs.Common.{append_assoc, append-nil, Result, Ok, Err}
-use Rattle.unit_outlets.specs.Account.{Account}
-use Rattle.unit_outlets.specs.Handed.{Handed}
-use Rattle.source_machine.specs.Airs.{airs_of}
-use Rattle.transcript_text.specs.declared.stop.Stop.{Stop}
-use Rattle.transcript_text.specs.declared.stop.Stop.TheVariants.{Refused, OutletFault, Memory}
-use Rattle.scenario_text.specs.declared.step.Step.{Step}
-use Rattle.scenario_history.specs.RelayedUnits.{answered, offered_of}
-use Rattle.scenario_history.specs.Output.{unit_lines}
-use Rattle.scenario_history.specs.Relays.{relay_of}
-use Rattle.scenario_sinks.specs.Closing.{ClosesAt, closing_of, handed_all}
-use Rattle.scenario_sinks.specs.Histories.{Histories, with_close_at}
-use Rattle.scenario_sinks.specs.State.Standing.{SinksStand}
-use Rattle.scenario_sinks.specs.declared.sinks.Sinks.{Sinks}
-use Rattle.scenario_sources.specs.declared.sources.Sources.{Sources}
-use Rattle.scenario_sinks.specs.declared.relays.Relays.{Relays}
-use Rattle.replay_steps.specs.declared.machine.Machine.{Machine}
-use Rattle.replay_steps.specs.Relaying.{OffersMeet, SinkMeets, answer_lines, offers_of}
+use Rattle.replay_steps.proofs.Prelude.{ℕ, ◌≡◌, List, [], ◌++◌, sym, ◌∙◌, ap, subst, append_assoc, append-nil, Result, Ok, Err, Account, Handed, airs_of, Stop, Refused, OutletFault, Memory, Step, answered, offered_of, unit_lines, relay_of, ClosesAt, closing_of, handed_all, Histories, with_close_at, SinksStand, Sinks, Sources, Relays, Machine, OffersMeet, SinkMeets, answer_lines, offers_of}
 
 -- ---- one sink
 

@@ -1,16 +1,7 @@
 -- Steps that say nothing of relays leave them.
-use Rattle.std.proofs.Common.{ℕ, ◌≡◌, ◌||◌, ◌&&◌, Bool, true, false, cond, List, [], ◌∷◌, refl, sym, ◌∙◌, ap, unwrap_or, option_map, is_none, Option, None, Some}
-use Rattle.std.specs.List.{list_all, list_any, range_with_len}
-use Rattle.std.specs.Option.{option_or}
-use Rattle.scenario_text.specs.declared.step.Step.{Step}
-use Rattle.scenario_text.specs.declared.step.Step.TheVariants.{Drop, Relay, Unit as UnitLine}
-use Rattle.scenario_history.specs.Refusals.{gives_on, is_relayed}
-use Rattle.scenario_history.specs.Relays.{Route, had_relay, relay_given, relay_of, relays_to}
-use Rattle.scenario_history.specs.Steps.{is_of_source, last_given, steps_of_source}
-use Rattle.scenario_sinks.specs.declared.relays.Relays.{Relays}
+use Rattle.replay_steps.proofs.Prelude.{ℕ, ◌≡◌, ◌||◌, ◌&&◌, Bool, true, false, cond, List, [], ◌∷◌, refl, sym, ◌∙◌, ap, unwrap_or, option_map, is_none, Option, None, Some, list_all, list_any, range_with_len, option_or, Step, Drop, Relay, gives_on, is_relayed, Route, had_relay, relay_given, relay_of, relays_to, is_of_source, last_given, steps_of_source, Relays, RelaysStand, lent, relay_histories}
+use Rattle.scenario_text.specs.declared.step.Step.TheVariants.{Unit as UnitLine}
 use Rattle.scenario_sinks.specs.RelayHistories as relays
-use Rattle.scenario_sinks.specs.State.RelaysStand.{RelaysStand}
-use Rattle.replay_steps.specs.Machines.{lent, relay_histories}
 
 all_as : (one other : ℕ → Bool) (ns : List ℕ) → ((n : ℕ) → one n ≡ other n) → list_all one ns ≡ list_all other ns
 all_as one other [] same = refl

@@ -1,40 +1,14 @@
 -- The lines of a sink's control and of its links.
-use Rattle.std.proofs.Common.{◌≡◌, ℕ, ◌==◌, List, [], ◌∷◌, ◌++◌, Bool, true, false, is_some, cond, refl, sym, ◌∙◌, ap, subst, Option, None, Some, Result, Ok, Err, length}
-use Rattle.std.specs.List.{concat}
-use Rattle.std.specs.Option.{option_or}
-use Rattle.unit_outlets.specs.Account.{Account}
+use Rattle.replay_steps.proofs.Prelude.{◌≡◌, ℕ, ◌==◌, List, [], ◌∷◌, ◌++◌, Bool, true, false, is_some, cond, refl, sym, ◌∙◌, ap, subst, Option, None, Some, Result, Ok, Err, length, concat, option_or, Account, airs_of, NoSuchSink, Order, Stop, Refused, OutletFault, Memory, Step, Scenario, Group, Ident, Subgroup, Meta, Bis, Cipher, Start, Sink, Tuned, Event, Hear, Air, Inject, Sniff, Announce, Drop, Terminate, End, Relay, Pac, Locate, Context, Write, Add, Modify, Remove, Code, Assist, AWrite, Stage, chosen_steps, running, stage_after, stage_of, is_sending, setup_of, source_calls, box_of, handed_by, output_of, sink_lines, phase_refusal, train_ends, calls_made, source_at, the_world, Settings, made_of, named_by, refused_at, refused_where, refusal_of, IsSinkLine, AnnouncesAs, SaysNothing, Histories, with_line, SinksStand, Machine, Stands, histories_of, Tells, closes_first, is_relayed}
 use Rattle.announcement_train.specs.declared.train.Train.{Train as Announced}
 use Rattle.sink_history.specs.Calls.{Call}
-use Rattle.source_machine.specs.Airs.{airs_of}
 use Rattle.source_machine.specs.Faults.{announce_fault}
-use Rattle.transcript_text.specs.declared.refusal.Refusal.TheVariants.{NoSuchSink, Order}
-use Rattle.transcript_text.specs.declared.stop.Stop.{Stop}
-use Rattle.transcript_text.specs.declared.stop.Stop.TheVariants.{Refused, OutletFault, Memory}
-use Rattle.scenario_text.specs.declared.step.Step.{Step}
-use Rattle.scenario_text.specs.declared.step.Step.TheVariants.{Scenario, Group, Ident, Subgroup, Meta, Bis, Cipher, Start, Sink, Tuned, Unit as UnitLine, Event}
-use Rattle.scenario_text.specs.declared.step.Step.TheVariants.{Hear, Air, Inject, Sniff, Announce, Drop, Terminate, Stop as StopLine, End, Source as SourceLine, Relay}
-use Rattle.scenario_text.specs.declared.step.Step.TheVariants.{Pac, Locate, Context, Write, Add, Modify, Remove, Code, Assist, Apart, AWrite}
-use Rattle.scenario_history.specs.Steps.{Stage, chosen_steps, running, stage_after, stage_of}
-use Rattle.scenario_history.specs.Source.{is_sending, setup_of, source_calls}
-use Rattle.scenario_history.specs.Boxes.{box_of, handed_by}
-use Rattle.scenario_history.specs.Output.{output_of, sink_lines}
-use Rattle.scenario_history.specs.Refusals.{phase_refusal, train_ends}
-use Rattle.scenario_history.specs.Worlds.{calls_made, source_at, the_world}
-use Rattle.delegator_history.specs.Trains.{Settings}
-use Rattle.sink_history.specs.History.{Source, made_of, named_by}
+use Rattle.scenario_text.specs.declared.step.Step.TheVariants.{Unit as UnitLine}
+use Rattle.scenario_text.specs.declared.step.Step.TheVariants.{Stop as StopLine, Source as SourceLine}
+use Rattle.scenario_text.specs.declared.step.Step.TheVariants.{Apart}
+use Rattle.sink_history.specs.History.{Source}
 use Rattle.sink_history.specs.Output.{printed_at, printed_of, printed_where}
-use Rattle.sink_history.specs.Refusals.{refused_at, refused_where, refusal_of}
-use Rattle.scenario_sink.specs.SinkLines.{IsSinkLine}
-use Rattle.scenario_sources.specs.Answers.{AnnouncesAs}
-use Rattle.scenario_sources.proofs.Citable.{SaysNothing}
-use Rattle.scenario_sinks.specs.Histories.{Histories, with_line}
 use Rattle.scenario_sinks.specs.SinkLines.{SinkLineMakes}
-use Rattle.scenario_sinks.specs.State.Standing.{SinksStand}
-use Rattle.replay_steps.specs.declared.machine.Machine.{Machine}
-use Rattle.replay_steps.specs.Machines.{Stands, histories_of}
-use Rattle.replay_steps.specs.Meets.{Tells}
-use Rattle.scenario_history.specs.RelayedUnits.{closes_first}
-use Rattle.scenario_history.specs.Refusals.{is_relayed}
 use Rattle.replay_steps.proofs.RelaysStay.{beside, minds_relays}
 use Rattle.replay_steps.proofs.Stepping.{brought, or_none, sinks_stand}
 

@@ -1,22 +1,5 @@
 -- Each step by its own clause.
-use Rattle.std.proofs.Common.{◌≡◌, ℕ, Bool, cond, true, List, [], ◌∷◌, ◌++◌, length, map, false, inl, inr, None, Some, Result, Ok, Err, refl, sym, ◌∙◌, ap, subst, append-nil}
-use Rattle.std.proofs.lemmas.List.{length-map}
-use Rattle.unit_outlets.specs.Account.{Account}
-use Rattle.source_machine.specs.Airs.{airs_of}
-use Rattle.transcript_text.specs.declared.refusal.Refusal.TheVariants.{AfterEnd, Order}
-use Rattle.scenario_text.specs.declared.step.Step.{Step}
-use Rattle.scenario_text.specs.declared.step.Step.TheVariants.{Scenario}
-use Rattle.scenario_history.specs.Steps.{is_over, over, running, stage_of, unbegun}
-use Rattle.scenario_history.specs.Boxes.{accounts_after, handed_by, handed_up}
-use Rattle.scenario_history.specs.RelayedUnits.{after_offers, closes_first, offers_at, with_relayed_units}
-use Rattle.scenario_history.specs.Output.{output_of}
-use Rattle.scenario_history.specs.Refusals.{is_relayed, line_refusal, phase_refusal, relayed_or}
-use Rattle.scenario_history.proofs.Citable.{boxes_stay}
-use Rattle.replay_steps.specs.declared.machine.Machine.{Machine}
-use Rattle.transcript_text.specs.declared.stop.Stop.{Stop}
-use Rattle.transcript_text.specs.declared.stop.Stop.TheVariants.{Refused, OutletFault, Memory}
-use Rattle.replay_steps.specs.Machines.{Stands}
-use Rattle.replay_steps.specs.Meets.{BoxesStand, First, Quiet, Tells, Meets, StepMeets, phase_line}
+use Rattle.replay_steps.proofs.Prelude.{◌≡◌, ℕ, Bool, cond, true, List, [], ◌∷◌, ◌++◌, length, map, false, inl, inr, None, Some, Result, Ok, Err, refl, sym, ◌∙◌, ap, subst, append-nil, length-map, Account, airs_of, AfterEnd, Order, Step, Scenario, is_over, over, running, stage_of, unbegun, accounts_after, handed_by, handed_up, after_offers, closes_first, offers_at, with_relayed_units, output_of, is_relayed, line_refusal, phase_refusal, relayed_or, boxes_stay, Machine, Stop, Refused, OutletFault, Memory, Stands, BoxesStand, First, Quiet, Tells, Meets, StepMeets, phase_line}
 
 -- there are as many boxes as at the start
 pub boxes_count : (starts accounts : List Account) (steps : List Step) → BoxesStand starts steps accounts → length accounts ≡ length starts

@@ -1,44 +1,12 @@
 -- A step by the room that it belongs to.
-use Rattle.std.proofs.Common.{◌≡◌, ℕ, ◌==◌, List, [], ◌∷◌, true, false, if◌then◌else◌, unwrap_or, refl, sym, ◌∙◌, ap, subst, Option, None, Some, Result, Ok, Err}
-use Rattle.std.specs.Option.{option_or}
-use Rattle.source_machine.specs.Airs.{airs_of}
-use Rattle.big_info.specs.declared.info.BigInfo.{BigInfo}
+use Rattle.replay_steps.proofs.Prelude.{◌≡◌, ℕ, ◌==◌, List, [], ◌∷◌, true, false, if◌then◌else◌, unwrap_or, refl, sym, ◌∙◌, ap, subst, Option, None, Some, Result, Ok, Err, option_or, airs_of, BigInfo, Settings, tune, Refusal, NoSuchBis, Order, Stop, Refused, OutletFault, Memory, Step, End, Group, Scenario, Sink, Source, Tuned, Stage, chosen_of, chosen_steps, running, stage_after, stage_of, version_at, group_of, no_group, setup_of, takes_units, box_of, big_sync_on, horizon_of, version_given, horizon_in, sinks_made, has_beyond, is_misplaced, is_out_of_phase, no_sink, phase_refusal, relayed_or, sink_refusal, source_refusal, twin_refusal, refuse_if, Sources, fault_of, SourcesStand, SaysNothing, sink_says, sources_stay, tuned_says, Sinks, Histories, with_sink, with_tuning, SinksStand, Machine, Relays, RelaysStand, Stands, histories_of, relay_histories, Quiet, phase_line, stage_in}
 use Rattle.delegator_machine.specs.Groups.{by_numbers}
 use Rattle.delegator_history.specs.Announced.{numbers_alone}
 use Rattle.delegator_history.specs.LastGiven.{last_given}
-use Rattle.delegator_history.specs.Trains.{Settings}
 use Rattle.sync_reference.specs.BigSync.{BigSync}
-use Rattle.group_sink.specs.Calls.{tune}
-use Rattle.transcript_text.specs.declared.refusal.Refusal.{Refusal}
-use Rattle.transcript_text.specs.declared.refusal.Refusal.TheVariants.{NoSuchBis, Order}
-use Rattle.transcript_text.specs.declared.stop.Stop.{Stop}
-use Rattle.transcript_text.specs.declared.stop.Stop.TheVariants.{Refused, OutletFault, Memory}
-use Rattle.scenario_text.specs.declared.step.Step.{Step}
-use Rattle.scenario_text.specs.declared.step.Step.TheVariants.{End, Group, Scenario, Sink, Source, Tuned}
-use Rattle.scenario_history.specs.Steps.{Stage, chosen_of, chosen_steps, running, stage_after, stage_of, version_at}
-use Rattle.scenario_history.specs.Source.{group_of, no_group, setup_of, takes_units}
-use Rattle.scenario_history.specs.Boxes.{box_of}
-use Rattle.scenario_history.specs.Worlds.{big_sync_on}
-use Rattle.sink_history.specs.History.{horizon_of, version_given, horizon_in}
-use Rattle.scenario_history.specs.Steps.{sinks_made}
-use Rattle.scenario_history.specs.Refusals.{has_beyond, is_misplaced, is_out_of_phase, no_sink, phase_refusal, relayed_or, sink_refusal, source_refusal, twin_refusal}
-use Rattle.sink_history.specs.Refusals.{refuse_if}
-use Rattle.scenario_sources.specs.declared.sources.Sources.{Sources}
 use Rattle.scenario_sources.specs.Answers as sources
-use Rattle.scenario_sources.specs.Faults.{fault_of}
-use Rattle.scenario_sources.specs.State.Standing.{SourcesStand}
-use Rattle.scenario_sources.proofs.Citable.{SaysNothing, sink_says, sources_stay, tuned_says}
-use Rattle.scenario_sinks.specs.declared.sinks.Sinks.{Sinks}
-use Rattle.scenario_sinks.specs.Histories.{Histories, with_sink, with_tuning}
 use Rattle.scenario_sinks.specs.Refusals as sinks
 use Rattle.scenario_sinks.specs.Refusals.{not_made, not_tuned}
-use Rattle.scenario_sinks.specs.State.Standing.{SinksStand}
-use Rattle.replay_steps.specs.declared.machine.Machine.{Machine}
-use Rattle.scenario_sinks.specs.declared.relays.Relays.{Relays}
-use Rattle.scenario_sinks.specs.State.RelaysStand.{RelaysStand}
-use Rattle.replay_steps.specs.Machines.{Stands, histories_of, relay_histories}
-use Rattle.replay_steps.specs.Meets.{Quiet, phase_line}
-use Rattle.replay_steps.specs.Versions.{stage_in}
 use Rattle.replay_steps.proofs.RelaysStay.{beside, minds_relays, relays_stay}
 
 pub or_none : (a : Option Refusal) → option_or a None ≡ a

@@ -1,10 +1,6 @@
 -- The boxes that no sink took, as events are closed.
-use Rattle.std.proofs.Common.{◌<◌, List, ◌∙◌, arith}
-use Rattle.scenario_text.specs.declared.step.Step.{Step}
-use Rattle.scenario_history.specs.Steps.{sinks_made}
-use Rattle.scenario_history.proofs.Citable.{box_was_made}
+use Rattle.replay_steps.proofs.Prelude.{◌<◌, List, ◌∙◌, arith, Step, sinks_made, box_was_made, histories_of}
 use Rattle.scenario_sinks.specs.Unassigned as sinks
-use Rattle.replay_steps.specs.Machines.{histories_of}
 use Rattle.replay_steps.specs.Unassigned.{UnassignedSame}
 
 -- a box behind those that were taken is that of no sink

@@ -1,16 +1,6 @@
 -- The boxes that no `sink` line of a text takes, by the lines that were run.
-use Rattle.std.proofs.Common.{◌≡◌, ◌≤◌, List, [], ◌∷◌, ◌++◌, reverse, ap, ◌∙◌, arith, refl, Option, None, Some}
-use Rattle.bcast_io.specs.TextLines.{TextLine}
-use Rattle.unit_outlets.specs.Account.{Account}
-use Rattle.source_machine.specs.Airs.{airs_of, Airs}
-use Rattle.transcript_text.specs.declared.refusal.Refusal.{Refusal}
+use Rattle.replay_steps.proofs.Prelude.{◌≡◌, ◌≤◌, List, [], ◌∷◌, ◌++◌, reverse, ap, ◌∙◌, arith, refl, Option, None, Some, TextLine, Account, airs_of, Airs, Refusal, accepted_accepted, Step, Sink, Said, a_step, nothing, unsaid, rules_of, said_after, said_of, steps_of, with_said, sinks_happened, sinks_made}
 use Rattle.scenario_history.specs.Runs.{Accepted, accepted_of, accepted_unless}
-use Rattle.scenario_history.proofs.Citable.{accepted_accepted}
-use Rattle.scenario_text.specs.declared.step.Step.{Step}
-use Rattle.scenario_text.specs.declared.step.Step.TheVariants.{Sink}
-use Rattle.scenario_history.specs.Lines.{Said, a_step, nothing, unsaid, rules_of, said_after, said_of, steps_of, with_said}
-use Rattle.scenario_laws.proofs.RelayedUnits.Citable.{sinks_happened}
-use Rattle.scenario_history.specs.Steps.{sinks_made}
 use Rattle.replay_steps.specs.Unassigned.{UnassignedBy, UnassignedRun, UnassignedSame}
 
 -- ---- a line more takes no box back

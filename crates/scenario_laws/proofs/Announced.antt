@@ -1,31 +1,9 @@
 -- Where a sink is that `announce` puts on a group: where the group's source is for its next event (Basic Audio Profile 1.0,
 -- sections 3.7.2 and 6.5).
-use Rattle.std.proofs.Common.{ℕ, ◌≡◌, ◌<◌, ◌≤◌, ◌^◌, ◌∷◌, [], Bool, List, None, Some, refl, arith}
-use Rattle.std.specs.Prelude.{unwrap_or}
-use Rattle.std.proofs.lemmas.Option.{none-some}
-use Rattle.base_grammar.specs.declared.subgroup.Subgroup.{Subgroup}
-use Rattle.base_grammar.specs.Layout.{Endpoint}
-use Rattle.big_info.specs.declared.info.BigInfo.{BigInfo}
+use Rattle.scenario_laws.proofs.Prelude.{ℕ, ◌≡◌, ◌<◌, ◌≤◌, ◌^◌, ◌∷◌, [], Bool, List, None, Some, refl, arith, unwrap_or, none-some, Subgroup, Endpoint, BigInfo, IsTrain, Tells, IsOnGroup, heard_as, numbers_alone, MayAnnounce, train_of, Snapshot, TrainOutcome, Settings, outcome_by, big_sync_in, BigSync, by_numbers, next_anchor_of, next_of, Step, own_train, big_sync_of, snapshot_in, base_from, base_of, subgroups_of, GroupLine, checked_info, group_of, identity_of, no_group, setup_of, source_calls, Airs, chosen_of, chosen_steps, announced_of, big_sync_on, calls_made, source_at}
 use Rattle.announcement_train.specs.declared.train.Train.{Train}
-use Rattle.announcement_train.specs.Layout.{IsTrain}
-use Rattle.announcement_train.specs.Told.{Tells}
-use Rattle.delegator_history.specs.Announced.{IsOnGroup, heard_as, numbers_alone}
-use Rattle.delegator_history.specs.Octets.{MayAnnounce, train_of}
-use Rattle.delegator_history.specs.Snapshots.{Snapshot}
-use Rattle.delegator_history.specs.Trains.{TrainOutcome, Settings, Setup as SinkSetup, outcome_by, taken, big_sync_in}
-use Rattle.sync_reference.specs.BigSync.{BigSync}
-use Rattle.delegator_machine.specs.Groups.{by_numbers}
-use Rattle.source_machine.specs.Calls.{next_anchor_of, next_of}
-use Rattle.scenario_text.specs.declared.step.Step.{Step}
+use Rattle.delegator_history.specs.Trains.{Setup as SinkSetup, taken}
 use Rattle.scenario_text.specs.declared.step.Step.TheVariants as steps
-use Rattle.sink_history.specs.History.{own_train}
-use Rattle.sink_history.specs.Moves.{big_sync_of}
-use Rattle.sink_history.specs.Output.{snapshot_in}
-use Rattle.scenario_history.specs.Bases.{base_from, base_of, subgroups_of}
-use Rattle.scenario_history.specs.Source.{GroupLine, checked_info, group_of, identity_of, no_group, setup_of, source_calls}
-use Rattle.source_machine.specs.Airs.{Airs}
-use Rattle.scenario_history.specs.Steps.{chosen_of, chosen_steps}
-use Rattle.scenario_history.specs.Worlds.{announced_of, big_sync_on, calls_made, source_at}
 use Rattle.scenario_laws.proofs.Announcers.{Tellable, may_announce, tellable}
 use Rattle.scenario_laws.proofs.Legals.{Legal, Permitted}
 use Rattle.scenario_laws.proofs.Sources.{Lawful, Settled, bounds_in, lawful, sends, settled}

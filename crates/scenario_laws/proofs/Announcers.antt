@@ -1,39 +1,16 @@
 -- A source that sends can announce its next event: what its lines say fits the octets of a train (Basic Audio Profile 1.0,
 -- section 3.7.2; Core 5.2, volume 6 part B, section 4.4.6.11).
-use Rattle.std.proofs.Common.{ℕ, ◌≡◌, ◌<◌, ◌≤◌, ◌*◌, ◌^◌, ◌||◌, not, cond, leb, ltb, is_some, Bool, true, false, List, [], ◌∷◌, ◌++◌, length, Option, None, Some, Ok, refl, sym, subst, arith}
-use Rattle.std.specs.Prelude.{unwrap_or}
-use Rattle.std.proofs.lemmas.Bool.{false≢true, leb-false, or_parts}
-use Rattle.std.proofs.lemmas.Option.{none-some}
-use Rattle.big_info.specs.declared.info.BigInfo.{BigInfo}
-use Rattle.big_info.specs.declared.info.Cipher.{Cipher}
+use Rattle.scenario_laws.proofs.Prelude.{ℕ, ◌≡◌, ◌<◌, ◌≤◌, ◌*◌, ◌^◌, ◌||◌, not, cond, leb, ltb, is_some, Bool, true, false, List, [], ◌∷◌, ◌++◌, length, Option, None, Some, Ok, refl, sym, subst, arith, unwrap_or, false≢true, leb-false, or_parts, none-some, BigInfo, Cipher, FitsWidths, Subgroup, IsDraft, Refuses, entry_fault, last_of, metadata_fault, endpoint, indices, stands_in, numbers_alone, MayAnnounce, cipher_octets, next_anchor_of, next_of, with_cipher, announce_fault, Step, IsInRange, BaseTooLong, NoSuchBis, base_lines, base_of, has_bis, has_subgroup, is_base_too_long, is_last_bare, subgroups_of, group_refusal, train_ends, refuse_if, horizon_in, Phase, checked_info, cipher_of, group_of, identity_of, is_absent_at, is_described_at, is_sending, is_sending_at, is_started, Airs, GroupLine, no_group, phase_of, setup_of, source_calls}
 use Rattle.big_info.specs.Layout.{CipherIs}
 use Rattle.big_info.specs.Rows.{first_fault}
-use Rattle.big_info.specs.Widths.{FitsWidths}
 use Rattle.ltv_codec.proofs.Citable.{are_read}
-use Rattle.base_grammar.specs.declared.subgroup.Subgroup.{Subgroup}
 use Rattle.base_grammar.specs.declared.subgroup.BaseEntry.{BaseEntry}
-use Rattle.base_grammar.specs.Draft.{IsDraft, Refuses, entry_fault, last_of, metadata_fault, opened}
+use Rattle.base_grammar.specs.Draft.{opened}
 use Rattle.base_grammar.specs.declared.fault.DraftFault.TheVariants as faults
-use Rattle.base_grammar.specs.Layout.{endpoint, indices, stands_in}
 use Rattle.base_grammar.proofs.Drafts.{with_entry_keeps, with_metadata_keeps, with_subgroup_keeps}
-use Rattle.delegator_history.specs.Announced.{numbers_alone}
-use Rattle.delegator_history.specs.Octets.{MayAnnounce, cipher_octets}
 use Rattle.announcement_train.proofs.Citable.{adds_to_last, describes_last}
 use Rattle.source_machine.specs.declared.fault.AnnounceFault.{AnnounceFault}
-use Rattle.source_machine.specs.Calls.{next_anchor_of, next_of}
-use Rattle.source_machine.specs.Ciphers.{with_cipher}
-use Rattle.source_machine.specs.Faults.{announce_fault}
-use Rattle.scenario_text.specs.declared.step.Step.{Step}
 use Rattle.scenario_text.specs.declared.step.Step.TheVariants as steps
-use Rattle.scenario_text.specs.Ranges.{IsInRange}
-use Rattle.transcript_text.specs.declared.refusal.Refusal.TheVariants.{BaseTooLong, NoSuchBis}
-use Rattle.scenario_history.specs.Bases.{base_lines, base_of, has_bis, has_subgroup, is_base_too_long, is_last_bare, subgroups_of}
-use Rattle.scenario_history.specs.Refusals.{group_refusal, train_ends}
-use Rattle.sink_history.specs.Refusals.{refuse_if}
-use Rattle.sink_history.specs.History.{horizon_in}
-use Rattle.scenario_history.specs.Source.{Phase, checked_info, cipher_of, group_of, identity_of, is_absent_at, is_described_at, is_sending, is_sending_at, is_started}
-use Rattle.source_machine.specs.Airs.{Airs}
-use Rattle.scenario_history.specs.Source.{GroupLine, no_group, phase_of, setup_of, source_calls}
 use Rattle.scenario_laws.proofs.Bases.{is_base}
 use Rattle.scenario_laws.proofs.Legals.{fails_not, neither}
 use Rattle.scenario_laws.proofs.Sources.{Allowed, Lawful, Settled, bounds_in, not_yet, sends, settled, true_not_false}

@@ -1,21 +1,13 @@
 -- The BASE of a source that was started can be announced: each field of it meets its row (Basic Audio Profile 1.0, section
 -- 3.7.2.2).
-use Rattle.std.proofs.Common.{ℕ, zero, suc, ◌≡◌, ◌<◌, ◌≤◌, ◌+◌, ◌^◌, cond, eqb, ltb, Bool, false, List, [], ◌∷◌, ◌++◌, length, map, Some, None, refl, sym, ◌∙◌, arith}
-use Rattle.std.specs.List.{AllByRecursion, range_with_len}
-use Rattle.std.proofs.lemmas.Bool.{ltb-false, ne_eqb}
-use Rattle.std.proofs.lemmas.List.{append-nil}
-use Rattle.std.proofs.lemmas.List.Folds.{list_any-append}
+use Rattle.scenario_laws.proofs.Prelude.{ℕ, zero, suc, ◌≡◌, ◌<◌, ◌≤◌, ◌+◌, ◌^◌, cond, eqb, ltb, Bool, false, List, [], ◌∷◌, ◌++◌, length, map, Some, None, refl, sym, ◌∙◌, arith, AllByRecursion, range_with_len, ltb-false, ne_eqb, append-nil, list_any-append, IsDraft, is_empty_last, last_of, size_fault, Subgroup, AreNew, EntryFits, IsBase, SubgroupFits, endpoint, is_lc3, lc3, stands_in, GroupLine, base_from}
 use Rattle.std.proofs.lemmas.List.FromFn.{length-map-range_with_len}
 use Rattle.ltv_codec.specs.Layout.{AreLtvs}
-use Rattle.base_grammar.specs.Draft.{IsDraft, is_empty_last, last_of, size_fault}
 use Rattle.base_grammar.specs.declared.fault.DraftFault.TheVariants as faults
-use Rattle.base_grammar.specs.declared.subgroup.Subgroup.{Subgroup}
-use Rattle.base_grammar.specs.Layout.{AreNew, EntryFits, IsBase, SubgroupFits, bis_of, endpoint, is_lc3, lc3, encoding, stands_in}
+use Rattle.base_grammar.specs.Layout.{bis_of, encoding}
 use Rattle.base_grammar.proofs.Drafts.{draft_done, finish_is}
 use Rattle.announcement_train.specs.PlainBase.{plain_base_of, plain_entry, plain_subgroup}
 use Rattle.announcement_train.proofs.Citable.{plain_is_small}
-use Rattle.scenario_history.specs.Source.{GroupLine}
-use Rattle.scenario_history.specs.Bases.{base_from}
 
 -- ---- the BASE of which no line says one
 

@@ -1,17 +1,8 @@
 -- What a step makes of the group that a sink is on: the sink stays there, or is on none then, or the step puts it on one.
-use Rattle.std.proofs.Common.{ℕ, ◌≡◌, ◌⊎◌, ◌==◌, cond, true, false, List, [], ◌∷◌, None, Some, refl, sym, ◌∙◌, ap, inl, inr}
-use Rattle.std.proofs.lemmas.Bool.{cases_Bool}
+use Rattle.scenario_laws.proofs.Prelude.{ℕ, ◌≡◌, ◌⊎◌, ◌==◌, cond, true, false, List, [], ◌∷◌, None, Some, refl, sym, ◌∙◌, ap, inl, inr, cases_Bool, tune, BigSync, Step, chosen_of, chosen_steps, Airs, sink_calls, source_of, big_sync_on, handed_by, closed_by, is_given, is_made, is_tuned}
 use Rattle.delegator_machine.specs.Groups as machine
-use Rattle.group_sink.specs.Calls.{place, tune}
-use Rattle.sync_reference.specs.BigSync.{BigSync}
-use Rattle.scenario_text.specs.declared.step.Step.{Step}
+use Rattle.group_sink.specs.Calls.{place}
 use Rattle.scenario_text.specs.declared.step.Step.TheVariants as steps
-use Rattle.scenario_history.specs.Steps.{chosen_of, chosen_steps}
-use Rattle.source_machine.specs.Airs.{Airs}
-use Rattle.scenario_history.specs.Sinks.{sink_calls, source_of}
-use Rattle.scenario_history.specs.Worlds.{big_sync_on}
-use Rattle.scenario_history.specs.Boxes.{handed_by}
-use Rattle.scenario_laws.specs.Laws.{closed_by, is_given, is_made, is_tuned}
 use Rattle.scenario_laws.proofs.ByHand.{as_by_hand}
 use Rattle.scenario_laws.proofs.Announced.{Announcing}
 use Rattle.scenario_laws.proofs.Legals.{Legal, Permitted}

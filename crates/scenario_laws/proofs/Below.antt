@@ -1,28 +1,12 @@
 -- The laws of lower crates that the laws of units stand on.
-use Rattle.std.proofs.Common.{ℕ, ◌≡◌, ◌<◌, ◌≤◌, ◌+◌, ◌++◌, List, [], length, Some}
-use Rattle.std.specs.Prelude.{slice_get}
-use Rattle.std.specs.List.{Contains}
-use Rattle.big_info.specs.declared.group.Group.{Group}
-use Rattle.big_info.specs.Bounds.{Bounds}
-use Rattle.iso_pdu.specs.Encoding.{pdu}
+use Rattle.scenario_laws.proofs.Prelude.{ℕ, ◌≡◌, ◌<◌, ◌≤◌, ◌+◌, ◌++◌, List, [], length, Some, slice_get, Contains, Group, Bounds, pdu, Stay, opened, Air, IsFramedAir, Timed, decided, Sends, Sent, Fit, InOrder, closed_end, handed, Slots, FromSource, Struck, payload_number, AreAirs, airs_of, content_at, pdu_of, Setup, next_of, IsChecked, Call, BigSync, of_stream, stay_on, stream_calls, streams_of}
 use Rattle.isoal_base.specs.Stays as stays
-use Rattle.isoal_base.specs.Stays.{Stay, opened}
-use Rattle.isoal_base.specs.Air.{Air}
-use Rattle.isoal_framed.specs.Air.{IsFramedAir}
-use Rattle.isoal_framed.specs.Calls.{Call as FramedCall, Timed, accepted as timed}
-use Rattle.isoal_framed.specs.Histories.{decided}
-use Rattle.isoal_framed.specs.Sends.{Sends}
-use Rattle.isoal_framed.specs.Struck.{Sent, Fit, FromSource as FramedFromSource, InOrder, closed_end, struck as struck_over}
-use Rattle.isoal_unframed.specs.Histories.{handed}
-use Rattle.isoal_unframed.specs.Struck.{Slots, FromSource, Struck}
-use Rattle.radio_schedule.specs.PayloadNumber.{payload_number}
-use Rattle.source_machine.specs.Airs.{AreAirs, airs_of, content_at, pdu_of}
-use Rattle.source_machine.specs.Calls.{Setup, Call as SourceCall, next_of}
-use Rattle.source_machine.specs.Setups.{IsChecked}
-use Rattle.group_sink.specs.Calls.{Call, place}
-use Rattle.sync_reference.specs.BigSync.{BigSync}
-use Rattle.group_sink.specs.Handing.{handed_since, of_stream}
-use Rattle.group_sink.specs.Streams.{closes, stay_on, stream_calls, streams_of}
+use Rattle.isoal_framed.specs.Calls.{Call as FramedCall, accepted as timed}
+use Rattle.isoal_framed.specs.Struck.{FromSource as FramedFromSource, struck as struck_over}
+use Rattle.source_machine.specs.Calls.{Call as SourceCall}
+use Rattle.group_sink.specs.Calls.{place}
+use Rattle.group_sink.specs.Handing.{handed_since}
+use Rattle.group_sink.specs.Streams.{closes}
 use Rattle.scenario_laws.proofs.Announced.{Announcing}
 use Rattle.scenario_laws.proofs.Legals.{LinesInRange}
 

@@ -1,18 +1,7 @@
 -- A stay that an announced train begins is the one that `tuned` would begin with the same streams, which are the group's.
-use Rattle.std.proofs.Common.{ℕ, ◌≡◌, ◌<◌, ◌≤◌, ◌-◌, ◌/◌, ◌%◌, ◌^◌, ◌==◌, cond, ltb, Bool, true, false, List, [], ◌∷◌, refl, sym, ◌∙◌, ap, subst, arith, inl, inr}
-use Rattle.std.specs.List.{filter, list_any, range_with_len}
-use Rattle.std.proofs.Math.Nat.{div-eq_of_lt, pow-le-pow_right}
-use Rattle.std.proofs.lemmas.Bool.{cases_Bool, eqb-true, false≢true, ltb-true}
-use Rattle.delegator_machine.specs.Groups.{by_numbers}
-use Rattle.sync_reference.specs.BigSync.{BigSync}
-use Rattle.group_sink.specs.Streams.{is_in}
-use Rattle.scenario_text.specs.declared.step.Step.{Step}
+use Rattle.scenario_laws.proofs.Prelude.{ℕ, ◌≡◌, ◌<◌, ◌≤◌, ◌-◌, ◌/◌, ◌%◌, ◌^◌, ◌==◌, cond, ltb, Bool, true, false, List, [], ◌∷◌, refl, sym, ◌∙◌, ap, subst, arith, inl, inr, filter, list_any, range_with_len, div-eq_of_lt, pow-le-pow_right, cases_Bool, eqb-true, false≢true, ltb-true, by_numbers, BigSync, is_in, Step, setup_of, Airs, big_sync_on, chosen_steps}
 use Rattle.scenario_text.specs.declared.step.Step.TheVariants as steps
 use Rattle.scenario_history.specs.Refusals.{has_beyond}
-use Rattle.scenario_history.specs.Source.{setup_of}
-use Rattle.source_machine.specs.Airs.{Airs}
-use Rattle.scenario_history.specs.Worlds.{big_sync_on}
-use Rattle.scenario_history.specs.Steps.{chosen_steps}
 use Rattle.scenario_laws.proofs.Announced.{Announcing, announced_tuning, announced_within}
 use Rattle.scenario_laws.proofs.Legals.{Legal, Permitted}
 use Rattle.scenario_laws.proofs.Moves.{Brings}

@@ -1,19 +1,6 @@
 -- What is struck of units, by the numbers that they begin at: each entry is of its unit, in order.
-use Rattle.std.proofs.Common.{ℕ, suc, ◌≡◌, ◌⊎◌, ◌<◌, ◌≤◌, ◌+◌, ◌-◌, ◌/◌, cond, ltb, Bool, true}
-use Rattle.std.proofs.Common.{List, [], ◌∷◌, ◌++◌, length, Option, Some, refl, sym, ◌∙◌, ap, subst, arith, inl, inr}
-use Rattle.std.specs.Prelude.{slice_get}
-use Rattle.std.specs.List.{AllZip, flat_map}
-use Rattle.std.proofs.lemmas.Bool.{and_parts, ltb-true}
-use Rattle.std.proofs.lemmas.Option.{none-some, same_Some}
-use Rattle.std.proofs.Math.Nat.{zero-add}
-use Rattle.unit_outlets.specs.Handed.{Handed, valid, lost}
-use Rattle.isoal_base.specs.Stays.{Stay}
-use Rattle.isoal_framed.specs.Calls.{Laying, Timed}
-use Rattle.isoal_framed.specs.Sends.{AreOf, IsOf}
-use Rattle.isoal_framed.specs.Struck.{InOrder, Sent, behind, entry_by, entry_of, first_missing, octets_in}
-use Rattle.isoal_framed.specs.Tokens.{time_of}
-use Rattle.isoal_framed.proofs.Citable.{cases_low}
-use Rattle.isoal_unframed.proofs.Citable.{all_zip_append}
+use Rattle.scenario_laws.proofs.Prelude.{ℕ, suc, ◌≡◌, ◌⊎◌, ◌<◌, ◌≤◌, ◌+◌, ◌-◌, ◌/◌, cond, ltb, Bool, true, List, [], ◌∷◌, ◌++◌, length, Option, Some, refl, sym, ◌∙◌, ap, subst, arith, inl, inr, slice_get, AllZip, flat_map, and_parts, ltb-true, none-some, same_Some, zero-add, Handed, valid, lost, Stay, Laying, Timed, AreOf, IsOf, InOrder, Sent, entry_by, entry_of, first_missing, time_of, cases_low, all_zip_append}
+use Rattle.isoal_framed.specs.Struck.{behind, octets_in}
 use Rattle.scenario_laws.proofs.Closes.{Climb, climb_on}
 
 -- ---- the entry of a unit

@@ -1,24 +1,9 @@
 -- What a source of a framed group lays: how many events, with which anchors, and that its units fit Max_SDU.
-use Rattle.std.proofs.Common.{ℕ, zero, suc, ◌≡◌, ◌⊎◌, ◌<◌, ◌≤◌, ◌+◌, ◌*◌, ◌==◌, cond, ltb, Bool, true, false}
-use Rattle.std.proofs.Common.{List, [], ◌∷◌, ◌++◌, length, Some, refl, sym, ◌∙◌, ap, subst, arith, inl, inr}
-use Rattle.std.specs.Prelude.{slice_get, unwrap_or}
-use Rattle.std.specs.List.{AllByRecursion}
-use Rattle.std.proofs.Math.Nat.{add-mul}
-use Rattle.std.proofs.lemmas.Bool.{cases_eq, cond-false, eq-eqb, eqb-true, ltb-false, ne_eqb}
-use Rattle.std.proofs.lemmas.List.{length-append}
-use Rattle.std.proofs.lemmas.Option.{none-some, same_Some}
-use Rattle.big_info.specs.declared.info.BigInfo.{BigInfo}
-use Rattle.big_info.specs.Schedule.{horizon_of}
-use Rattle.big_info.specs.Time.{iso_us_of}
-use Rattle.isoal_base.specs.Air.{Air}
-use Rattle.isoal_framed.specs.Air.{IsAirOf, IsFramedAir}
-use Rattle.isoal_framed.specs.Calls.{Call as FramedCall, Laying, Timed, accept, lay, accepted, layings_of}
+use Rattle.scenario_laws.proofs.Prelude.{ℕ, zero, suc, ◌≡◌, ◌⊎◌, ◌<◌, ◌≤◌, ◌+◌, ◌*◌, ◌==◌, cond, ltb, Bool, true, false, List, [], ◌∷◌, ◌++◌, length, Some, refl, sym, ◌∙◌, ap, subst, arith, inl, inr, slice_get, unwrap_or, AllByRecursion, add-mul, cases_eq, cond-false, eq-eqb, eqb-true, ltb-false, ne_eqb, length-append, none-some, same_Some, BigInfo, horizon_of, iso_us_of, Air, IsAirOf, IsFramedAir, Laying, Timed, accept, accepted, layings_of, Setup, give, event, events, framed_calls, framed_lays, laid_before, laid_with, lay_anchor, timed_accepted, Airs, AreAccepted}
+use Rattle.isoal_framed.specs.Calls.{Call as FramedCall, lay}
 use Rattle.isoal_framed.specs.Places.{Act}
-use Rattle.source_machine.specs.Calls.{Setup, Call, give, event, events, framed_calls, framed_lays, laid_before, laid_with, lay_anchor}
-use Rattle.source_machine.proofs.Citable.{timed_accepted}
-use Rattle.source_machine.specs.Airs.{Airs}
+use Rattle.source_machine.specs.Calls.{Call}
 use Rattle.scenario_laws.proofs.RelayedUnits.Citable.{second_false}
-use Rattle.scenario_history.specs.Airs.{AreAccepted}
 
 -- ---- the events laid, by their anchors
 

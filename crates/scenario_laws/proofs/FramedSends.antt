@@ -1,25 +1,6 @@
 -- What a source of a framed group sends is its own: the PDUs of the units that its air sends, by payload numbers.
-use Rattle.std.proofs.Common.{ℕ, zero, suc, ◌≡◌, ◌<◌, ◌≤◌, ◌+◌, ◌-◌, ◌*◌, ◌/◌, List, [], ◌∷◌, ◌++◌, length, map, Some, refl, sym, ◌∙◌, ap, subst, arith}
-use Rattle.std.specs.Prelude.{slice_get, unwrap_or}
-use Rattle.std.specs.List.{AllZip, range_with_len}
-use Rattle.std.specs.Option.{option_and_then}
-use Rattle.std.proofs.Math.Nat.{add-mul}
-use Rattle.big_info.specs.declared.info.BigInfo.{BigInfo}
-use Rattle.big_info.specs.declared.group.Group.{Group}
-use Rattle.big_info.specs.Bounds.{Bounds}
-use Rattle.big_info.specs.Schedule.{horizon_of}
-use Rattle.iso_pdu.specs.Layout.{Content, framed}
-use Rattle.iso_pdu.specs.Encoding.{pdu}
-use Rattle.isoal_base.specs.Air.{Air, pdu_at}
-use Rattle.isoal_framed.specs.Struck.{Fit, InOrder, Sent, parts_at}
-use Rattle.radio_schedule.specs.PayloadNumber.{ahead_of, payload_number}
-use Rattle.source_machine.specs.Airs.{AreAirs, IsAir, pdu_of, Airs}
-use Rattle.source_machine.specs.Calls.{Setup, Call as SourceCall, events, next_of}
-use Rattle.source_machine.proofs.Citable.{ahead_within, event_of_number}
-use Rattle.sync_reference.specs.BigSync.{BigSync}
-use Rattle.scenario_history.specs.Source.{setup_of, source_calls}
-use Rattle.scenario_history.specs.Airs.{MeetAirs}
-use Rattle.scenario_laws.specs.SourceUnits.{AreSent, by_payload}
+use Rattle.scenario_laws.proofs.Prelude.{ℕ, zero, suc, ◌≡◌, ◌<◌, ◌≤◌, ◌+◌, ◌-◌, ◌*◌, ◌/◌, List, [], ◌∷◌, ◌++◌, length, map, Some, refl, sym, ◌∙◌, ap, subst, arith, slice_get, unwrap_or, AllZip, range_with_len, option_and_then, add-mul, BigInfo, Group, Bounds, horizon_of, Content, framed, pdu, Air, pdu_at, Fit, InOrder, Sent, parts_at, ahead_of, payload_number, AreAirs, IsAir, pdu_of, Airs, Setup, events, next_of, ahead_within, event_of_number, BigSync, setup_of, source_calls, MeetAirs, AreSent, by_payload}
+use Rattle.source_machine.specs.Calls.{Call as SourceCall}
 use Rattle.scenario_laws.proofs.Below.{Below}
 use Rattle.scenario_laws.proofs.Sources.{Settled, group_in, settled}
 use Rattle.scenario_laws.proofs.Wholes.{events_more}

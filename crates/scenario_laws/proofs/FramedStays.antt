@@ -1,34 +1,11 @@
 -- One stay on a framed stream: what its closed events decide is struck over the units that the source sends.
-use Rattle.std.proofs.Common.{ℕ, zero, suc, ◌≡◌, ◌<◌, ◌≤◌, ◌+◌, ◌*◌, ◌/◌, ◌==◌, cond, ltb, Bool, true, false, List, [], ◌∷◌, length, map, Option, Some, refl, sym, ◌∙◌, ap, subst, arith}
-use Rattle.std.specs.Prelude.{is_some, slice_index_or, unwrap_or}
-use Rattle.std.specs.List.{Contains, list_any}
-use Rattle.std.proofs.Math.Nat.{add-mul, div-mul-le_self, mul-le-mul}
-use Rattle.std.proofs.lemmas.Bool.{eqb-true, false≢true, ltb-false, or_parts}
-use Rattle.big_info.specs.declared.info.BigInfo.{BigInfo}
-use Rattle.big_info.specs.declared.group.Group.{Group}
-use Rattle.big_info.specs.Schedule.{horizon_of}
+use Rattle.scenario_laws.proofs.Prelude.{ℕ, zero, suc, ◌≡◌, ◌<◌, ◌≤◌, ◌+◌, ◌*◌, ◌/◌, ◌==◌, cond, ltb, Bool, true, false, List, [], ◌∷◌, length, map, Option, Some, refl, sym, ◌∙◌, ap, subst, arith, is_some, slice_index_or, unwrap_or, Contains, list_any, add-mul, div-mul-le_self, mul-le-mul, eqb-true, false≢true, ltb-false, or_parts, BigInfo, Group, horizon_of, Stay, opened, decided, heard_in, Fit, Sent, is_heard, struck, segmented, opened_least, AreAirs, Airs, Setup, events, framed_calls, laid_before, next_of, BigSync, of_stream, member_is, stay_on, streams_of, Step, steps_of_source, is_started, setup_of, source_calls, MeetAirs, sink_calls, AreSent, by_payload, IsFramedStruck, air_in, calls_on, handed_since, injected_since, is_tuned, of_sink}
 use Rattle.isoal_base.specs.Hearing.{read_as}
 use Rattle.isoal_base.specs.Stays as stays
-use Rattle.isoal_base.specs.Stays.{Stay, opened}
 use Rattle.isoal_base.proofs.Citable.{heard_first}
-use Rattle.isoal_framed.specs.Histories.{decided, heard_in}
-use Rattle.isoal_framed.specs.Struck.{Fit, Sent, is_heard, struck}
-use Rattle.isoal_framed.specs.Tokens.{segmented}
-use Rattle.isoal_framed.proofs.Citable.{opened_least}
-use Rattle.source_machine.specs.Airs.{AreAirs, Airs}
-use Rattle.source_machine.specs.Calls.{Setup, Call as SourceCall, events, framed_calls, laid_before, next_of}
-use Rattle.sync_reference.specs.BigSync.{BigSync}
-use Rattle.group_sink.specs.Handing.{handed_since as ticked_since, of_stream}
-use Rattle.group_sink.proofs.Citable.{member_is}
-use Rattle.group_sink.specs.Streams.{stay_on, streams_of}
-use Rattle.scenario_text.specs.declared.step.Step.{Step}
-use Rattle.scenario_history.specs.Steps.{steps_of_source}
-use Rattle.scenario_history.specs.Source.{is_started, setup_of, source_calls}
-use Rattle.scenario_history.specs.Airs.{MeetAirs}
-use Rattle.scenario_history.specs.Sinks.{sink_calls}
-use Rattle.scenario_laws.specs.SourceUnits.{AreSent, by_payload}
+use Rattle.source_machine.specs.Calls.{Call as SourceCall}
+use Rattle.group_sink.specs.Handing.{handed_since as ticked_since}
 use Rattle.scenario_history.specs.Refusals.{has_beyond}
-use Rattle.scenario_laws.specs.Laws.{IsFramedStruck, air_in, calls_on, handed_since, injected_since, is_tuned, of_sink}
 use Rattle.scenario_laws.proofs.Announced.{Announcing}
 use Rattle.scenario_laws.proofs.Below.{Below}
 use Rattle.scenario_laws.proofs.Legals.{Legal}

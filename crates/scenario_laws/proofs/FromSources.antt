@@ -1,21 +1,12 @@
 -- What is the source's own is read as what was laid.
-use Rattle.std.proofs.Common.{ℕ, ◌≡◌, ◌+◌, cond, ltb, Bool, true, false, List, [], ◌∷◌, ◌++◌, Option, Some, Result, Ok, refl, sym, ◌∙◌, ap, subst, arith}
-use Rattle.std.specs.List.{AllByRecursion}
-use Rattle.std.proofs.lemmas.Option.{none-some, same_Some}
+use Rattle.scenario_laws.proofs.Prelude.{ℕ, ◌≡◌, ◌+◌, cond, ltb, Bool, true, false, List, [], ◌∷◌, ◌++◌, Option, Some, Result, Ok, refl, sym, ◌∙◌, ap, subst, arith, AllByRecursion, none-some, same_Some, Content, PduIs, fragment, end, framed, pdu, Stay, Sent, parts_at, segmented, laid, Slots, air_at, FromSource, unframed}
 use Rattle.iso_pdu.specs.declared.fault.PduFault.{PduFault}
-use Rattle.iso_pdu.specs.Layout.{Content, PduIs, fragment, end, framed}
 use Rattle.iso_pdu.specs.Reading.{read_of}
-use Rattle.iso_pdu.specs.Encoding.{pdu}
 use Rattle.iso_pdu.proofs.Citable.{pdu-is, read_of-layout, read_of-encoded}
 use Rattle.isoal_base.specs.Hearing.{read_as, taken_of}
 use Rattle.isoal_base.specs.Stays as stays
-use Rattle.isoal_base.specs.Stays.{Stay}
 use Rattle.isoal_base.proofs.Citable.{heard_first}
-use Rattle.isoal_framed.specs.Struck.{FromSource as FramedFromSource, Sent, parts_at}
-use Rattle.isoal_framed.specs.Tokens.{segmented}
-use Rattle.isoal_unframed.specs.Slot.{laid}
-use Rattle.isoal_unframed.specs.Struck.{Slots, air_at, FromSource}
-use Rattle.isoal_unframed.specs.Units.{unframed}
+use Rattle.isoal_framed.specs.Struck.{FromSource as FramedFromSource}
 use Rattle.scenario_laws.proofs.Hears.{Own}
 
 laid_unframed : (a b : Bool) (x y z : List ℕ) → unframed (cond a (fragment x) (cond b (end y) (fragment z))) ≡ Some (cond a (fragment x) (cond b (end y) (fragment z)))

@@ -1,34 +1,9 @@
 -- Each PDU that a sink hears on a stream of its group is the source's own at its payload number, where none is injected.
-use Rattle.std.proofs.Common.{ℕ, zero, suc, ◌≡◌, ◌≢◌, ◌<◌, ◌≤◌, ◌+◌, ◌*◌, ◌/◌, ◌%◌, ◌&&◌, ◌||◌, ◌==◌, cond, ltb, leb}
-use Rattle.std.proofs.Common.{Bool, true, false, List, [], ◌∷◌, Option, None, Some, refl, sym, ◌∙◌, ap, subst, arith, inl, inr}
-use Rattle.std.specs.List.{AllByRecursion}
-use Rattle.std.proofs.Math.Nat.{div-lt_iff_lt-mul}
-use Rattle.std.proofs.lemmas.Bool.{and_parts, eqb-true, eqb-false, ltb-false, leb-false, false≢true}
-use Rattle.std.proofs.lemmas.Nat.{mod_below}
-use Rattle.std.proofs.lemmas.Option.{none-some}
-use Rattle.big_info.specs.Bounds.{Bounds}
-use Rattle.iso_pdu.specs.Layout.{Content}
-use Rattle.iso_pdu.specs.Encoding.{pdu}
+use Rattle.scenario_laws.proofs.Prelude.{ℕ, zero, suc, ◌≡◌, ◌≢◌, ◌<◌, ◌≤◌, ◌+◌, ◌*◌, ◌/◌, ◌%◌, ◌&&◌, ◌||◌, ◌==◌, cond, ltb, leb, Bool, true, false, List, [], ◌∷◌, Option, None, Some, refl, sym, ◌∙◌, ap, subst, arith, inl, inr, AllByRecursion, div-lt_iff_lt-mul, and_parts, eqb-true, eqb-false, ltb-false, leb-false, false≢true, mod_below, none-some, Bounds, Content, pdu, laid, payload_number, AreAirs, Airs, Setup, events, next_of, air_fault, Call, tune, hear, BigSync, stay_on, stream_calls, with_hear, Step, NotOnAir, chosen_of, chosen_steps, steps_of_source, setup_of, source_calls, performed, event_back, is_started, pdu_in, open_event, MeetAirs, position_at, is_lost, is_of, hear_at, unless_lost, heard_on_air, reaches, sink_calls, source_of, positions_of, ticked_if, big_sync_on, air_refusal, no_place, injected_since, is_injected, is_tuned}
 use Rattle.isoal_base.specs.Stays as stays
-use Rattle.isoal_unframed.specs.Slot.{laid}
-use Rattle.radio_schedule.specs.PayloadNumber.{payload_number}
 use Rattle.radio_schedule.specs.declared.air.AirFault.{AirFault}
-use Rattle.source_machine.specs.Airs.{AreAirs, Airs}
-use Rattle.source_machine.specs.Calls.{Setup, Call as SourceCall, events, next_of}
-use Rattle.source_machine.specs.Faults.{air_fault}
-use Rattle.group_sink.specs.Calls.{Call, tune, hear}
-use Rattle.sync_reference.specs.BigSync.{BigSync}
-use Rattle.group_sink.specs.Streams.{stay_on, stream_calls, with_hear}
-use Rattle.scenario_text.specs.declared.step.Step.{Step}
+use Rattle.source_machine.specs.Calls.{Call as SourceCall}
 use Rattle.scenario_text.specs.declared.step.Step.TheVariants as steps
-use Rattle.transcript_text.specs.declared.refusal.Refusal.TheVariants.{NotOnAir}
-use Rattle.scenario_history.specs.Steps.{chosen_of, chosen_steps, steps_of_source}
-use Rattle.scenario_history.specs.Source.{setup_of, source_calls, performed, event_back, is_started, pdu_in, open_event}
-use Rattle.scenario_history.specs.Airs.{MeetAirs}
-use Rattle.scenario_history.specs.Sinks.{position_at, is_lost, is_of, hear_at, unless_lost, heard_on_air, reaches, sink_calls, source_of, positions_of, ticked_if}
-use Rattle.scenario_history.specs.Worlds.{big_sync_on}
-use Rattle.scenario_history.specs.Refusals.{air_refusal, no_place}
-use Rattle.scenario_laws.specs.Laws.{injected_since, is_injected, is_tuned}
 use Rattle.scenario_laws.proofs.Announced.{Announcing}
 use Rattle.scenario_laws.proofs.Legals.{Legal, Permitted, fails_not, maps_none, permitted}
 use Rattle.scenario_laws.proofs.Sources.{Lawful, are_accepted, bounds_in, group_in, lawful, settled}

@@ -1,22 +1,11 @@
 -- The history of a sink of any lines: what its links write is octets, and it has at most eight slots.
-use Rattle.std.proofs.Common.{ℕ, zero, suc, ◌≡◌, ◌<◌, ◌==◌, cond, Bool, true, false, List, [], ◌∷◌, ◌++◌, Option, None, Some, sym, ◌∙◌, subst, arith}
-use Rattle.std.specs.List.{AllByRecursion}
-use Rattle.std.proofs.lemmas.List.{append-nil}
-use Rattle.std.proofs.lemmas.Option.{none-some}
+use Rattle.scenario_laws.proofs.Prelude.{ℕ, zero, suc, ◌≡◌, ◌<◌, ◌==◌, cond, Bool, true, false, List, [], ◌∷◌, ◌++◌, Option, None, Some, sym, ◌∙◌, subst, arith, AllByRecursion, append-nil, none-some, TextLine, encoding, born, repeated, AreOctets, IsAsked, Step, IsInRange, Settings, Source, World, history_of, calls_after, calls_at, calls_by, made_by, made_of, named_by, a_step, nothing, unsaid, with_said}
 use Rattle.bcast_base.specs.Encoding.{IsOctets}
-use Rattle.bcast_io.specs.TextLines.{TextLine}
-use Rattle.bass_operations.specs.Layout.{encoding}
 use Rattle.bass_operations.specs.declared.operation.Operation.TheVariants as operations
-use Rattle.sink_history.specs.Calls.{Call, born}
-use Rattle.sink_history.specs.Drains.{repeated}
-use Rattle.sink_history.specs.Octets.{AreOctets, IsAsked}
-use Rattle.scenario_text.specs.declared.step.Step.{Step}
+use Rattle.sink_history.specs.Calls.{Call}
 use Rattle.scenario_text.specs.declared.step.Step.TheVariants as steps
-use Rattle.scenario_text.specs.Ranges.{IsInRange}
 use Rattle.scenario_text.proofs.Citable.{nil_octets, cons_octets}
-use Rattle.delegator_history.specs.Trains.{Settings}
-use Rattle.sink_history.specs.History.{Source, World, history_of, calls_after, calls_at, calls_by, made_by, made_of, named_by}
-use Rattle.scenario_history.specs.Lines.{Said, a_step, nothing, unsaid, said_of, with_said}
+use Rattle.scenario_history.specs.Lines.{Said, said_of}
 use Rattle.scenario_laws.proofs.Legals.{InRange, LinesInRange, in_range}
 
 -- ---- steps of lines

@@ -1,28 +1,12 @@
 -- The valid units that a sink hands up of a source are units that the source accepted, in order.
-use Rattle.std.proofs.Common.{ℕ, ◌≡◌, ◌<◌, ◌≤◌, ◌+◌, ◌==◌, cond, leb, Bool, true, false, List, [], ◌∷◌, ◌++◌, length, map, Option, None, Some, refl, sym, ◌∙◌, ap, subst, arith, inl, inr}
-use Rattle.std.proofs.lemmas.Bool.{eq-eqb, cases_Bool, leb-true, false≢true}
-use Rattle.std.proofs.lemmas.List.{append-nil}
-use Rattle.std.proofs.lemmas.List.Elements.{filter-append}
-use Rattle.big_info.specs.declared.info.BigInfo.{BigInfo}
-use Rattle.unit_outlets.specs.Handed.{Handed}
+use Rattle.scenario_laws.proofs.Prelude.{ℕ, ◌≡◌, ◌<◌, ◌≤◌, ◌+◌, ◌==◌, cond, leb, Bool, true, false, List, [], ◌∷◌, ◌++◌, length, map, Option, None, Some, refl, sym, ◌∙◌, ap, subst, arith, inl, inr, eq-eqb, cases_Bool, leb-true, false≢true, append-nil, filter-append, BigInfo, Handed, slots_of, Airs, Setup, events, Call, tick, BigSync, handed_at, of_stream, is_in, stay_on, stream_calls, is_member, member_is, Step, chosen_of, steps_of_source, setup_of, source_calls, open_event, MeetAirs, is_of, sink_calls, source_of, ticked, SinkUnit, handed_by, closed_by, given_since_made, handed_since, injected_since, is_given, is_injected, is_made, is_tuned, of_sink, shown_since, InSourceOrder, valid_in}
 use Rattle.isoal_unframed.specs.Calls.{events as laid_events}
 use Rattle.isoal_unframed.specs.Histories.{units_of}
-use Rattle.source_machine.specs.Airs.{slots_of, Airs}
-use Rattle.source_machine.specs.Calls.{Setup, Call as SourceCall, events, stream_calls as source_stream}
-use Rattle.group_sink.specs.Calls.{Call, tick, place}
-use Rattle.sync_reference.specs.BigSync.{BigSync}
-use Rattle.group_sink.specs.Handing.{handed_at, handed_by as ticked_by, of_stream}
-use Rattle.group_sink.specs.Streams.{closes, is_in, stay_on, stream_calls}
-use Rattle.group_sink.proofs.Citable.{is_member, member_is}
-use Rattle.scenario_text.specs.declared.step.Step.{Step}
+use Rattle.source_machine.specs.Calls.{Call as SourceCall, stream_calls as source_stream}
+use Rattle.group_sink.specs.Calls.{place}
+use Rattle.group_sink.specs.Handing.{handed_by as ticked_by}
+use Rattle.group_sink.specs.Streams.{closes}
 use Rattle.scenario_text.specs.declared.step.Step.TheVariants as steps
-use Rattle.scenario_history.specs.Steps.{chosen_of, steps_of_source}
-use Rattle.scenario_history.specs.Source.{setup_of, source_calls, open_event}
-use Rattle.scenario_history.specs.Airs.{MeetAirs}
-use Rattle.scenario_history.specs.Sinks.{is_of, sink_calls, source_of, ticked}
-use Rattle.scenario_history.specs.Boxes.{SinkUnit, handed_by}
-use Rattle.scenario_laws.specs.Laws.{closed_by, given_since_made, handed_since, injected_since, is_given, is_injected, is_made, is_tuned, of_sink, shown_since}
-use Rattle.scenario_laws.specs.SourceUnits.{InSourceOrder, valid_in}
 use Rattle.scenario_laws.proofs.Announced.{Announcing}
 use Rattle.scenario_laws.proofs.Below.{Below}
 use Rattle.scenario_laws.proofs.Legals.{Legal, legal}

@@ -1,19 +1,9 @@
 -- The steps of lines of which none was refused, and what happens by them: each is in range, and no refusal holds of it after those
 -- before it.
-use Rattle.std.proofs.Common.{ℕ, ◌≡◌, List, [], ◌∷◌, length, Option, None, Some, Result, Ok, Err, refl, arith}
-use Rattle.bcast_io.specs.TextLines.{TextLine}
-use Rattle.unit_outlets.specs.Account.{Account}
-use Rattle.scenario_history.specs.Runs.{Accepted}
-use Rattle.scenario_words.specs.declared.fault.LineFault.{LineFault}
+use Rattle.scenario_laws.proofs.Prelude.{ℕ, ◌≡◌, List, [], ◌∷◌, length, Option, None, Some, Result, Ok, Err, refl, arith, TextLine, Account, Accepted, LineFault, Step, IsInRange, happened, Airs, a_step, nothing, unsaid, said_by, said_in, steps_of, with_said, refusal_said, rules_of, AreLegal, AreSaidLegally}
 use Rattle.scenario_words.specs.declared.fault.LineFault.TheVariants.{BadLine as Misfit, Memory as NoMemory}
-use Rattle.scenario_text.specs.declared.step.Step.{Step}
-use Rattle.scenario_text.specs.Ranges.{IsInRange}
 use Rattle.scenario_text.specs.Steps.{read_of}
-use Rattle.scenario_history.specs.RelayedUnits.{happened}
-use Rattle.source_machine.specs.Airs.{Airs}
-use Rattle.scenario_history.specs.Lines.{Said, a_step, nothing, unsaid, said_by, said_in, said_of, steps_of, with_said}
-use Rattle.scenario_history.specs.Lines.{refusal_said, rules_of}
-use Rattle.scenario_laws.specs.RelayedUnits.Legal.{AreLegal, AreSaidLegally}
+use Rattle.scenario_history.specs.Lines.{Said, said_of}
 use Rattle.scenario_laws.proofs.RelayedUnits.Citable.{happens_legally}
 pub use Rattle.scenario_history.proofs.Citable.{Permitted, fails_not, maps_none, neither, permitted}
 

@@ -1,3 +1,4 @@
+mod Prelude
 mod Announced
 mod Announcers
 mod Bases

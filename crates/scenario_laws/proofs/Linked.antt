@@ -1,21 +1,11 @@
 -- No notice is forged over a link other than 0, and every sink of any lines agrees with its assistants.
-use Rattle.std.proofs.Common.{ℕ, ◌≡◌, ◌≢◌, ◌<◌, ◌==◌, cond, Bool, true, false, List, [], ◌∷◌, Option, None, Some, refl, sym, ◌∙◌, ap, subst}
-use Rattle.std.specs.Prelude.{unwrap_or}
-use Rattle.std.specs.Option.{option_or}
-use Rattle.std.proofs.lemmas.Bool.{ne_eqb}
-use Rattle.bcast_io.specs.TextLines.{TextLine}
+use Rattle.scenario_laws.proofs.Prelude.{ℕ, ◌≡◌, ◌≢◌, ◌<◌, ◌==◌, cond, Bool, true, false, List, [], ◌∷◌, Option, None, Some, refl, sym, ◌∙◌, ap, subst, unwrap_or, option_or, ne_eqb, TextLine, Settings, NoneNotifies, notified_and_read, forging_by, is_forged, read_waits, state, view, AreOctets, made_of, steps_of, Airs, calls_made, the_world}
 use Rattle.delegator_history.specs.LastGiven.{last_given}
-use Rattle.delegator_history.specs.Trains.{Settings, Setup}
+use Rattle.delegator_history.specs.Trains.{Setup}
 use Rattle.sink_history.specs.Calls as links
 use Rattle.sink_history.specs.Calls.{Call}
-use Rattle.sink_history.specs.Drains.{NoneNotifies, notified_and_read}
-use Rattle.sink_history.specs.Links.{forging_by, is_forged, read_waits, state, view}
-use Rattle.sink_history.specs.Octets.{AreOctets}
-use Rattle.sink_history.specs.History.{made_of}
-use Rattle.scenario_history.specs.Lines.{said_of, steps_of}
-use Rattle.source_machine.specs.Airs.{Airs}
+use Rattle.scenario_history.specs.Lines.{said_of}
 use Rattle.scenario_laws.proofs.RelayedUnits.Citable.{history_happened, made_happened}
-use Rattle.scenario_history.specs.Worlds.{calls_made, the_world}
 use Rattle.scenario_laws.specs.Links.{AgreementLaw, Agrees}
 use Rattle.scenario_laws.proofs.Legals.{LinesInRange}
 use Rattle.scenario_laws.proofs.HistoryOctets.{few_slots, history_octets, ranged_lines}

@@ -1,8 +1,5 @@
 -- Airs that meet the relation of their framing.
-use Rattle.std.proofs.Common.{sym, subst}
-use Rattle.scenario_history.specs.Airs.{MeetAirs}
-use Rattle.source_machine.specs.Airs.{airs_of}
-use Rattle.source_machine.specs.Setups.{IsChecked}
+use Rattle.scenario_laws.proofs.Prelude.{sym, subst, MeetAirs, airs_of, IsChecked}
 use Rattle.scenario_laws.proofs.TwoAirs.{SomeAirs}
 use Rattle.scenario_laws.proofs.Sources.{checked}
 

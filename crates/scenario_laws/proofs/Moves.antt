@@ -1,25 +1,11 @@
 -- What a line makes of a sink that it names by its control or by its links: its receivers stay or leave, or a train puts them on
 -- a group; and a sink that follows a train on no group may be of another source then.
-use Rattle.std.proofs.Common.{ℕ, ◌≡◌, ◌⊎◌, ◌==◌, ◌&&◌, not, cond, Bool, true, false, List, ◌∷◌, Option, None, Some, is_some, refl, ap, subst, inl, inr, arith}
-use Rattle.delegator_machine.specs.Groups.{by_numbers, with_leave, with_step}
-use Rattle.delegator_history.specs.declared.train_heard.TrainHeard.{TrainHeard}
-use Rattle.delegator_history.specs.Snapshots.{Snapshot}
-use Rattle.delegator_history.specs.Trains.{TrainOutcome, Settings, Setup, Train, heard, ignored, taken}
-use Rattle.delegator_history.specs.Trains.{outcome_by, by_broadcast_id, by_slot, big_sync_in}
-use Rattle.sync_reference.specs.BigSync.{BigSync}
-use Rattle.group_sink.specs.Calls.{Call, leave, place, tune}
+use Rattle.scenario_laws.proofs.Prelude.{ℕ, ◌≡◌, ◌⊎◌, ◌==◌, ◌&&◌, not, cond, Bool, true, false, List, ◌∷◌, Option, None, Some, is_some, refl, ap, subst, inl, inr, arith, by_numbers, with_leave, with_step, TrainHeard, Snapshot, TrainOutcome, Settings, Train, heard, ignored, outcome_by, by_broadcast_id, by_slot, big_sync_in, BigSync, Call, leave, tune, has_group, Step, Source, made_of, named_by, own_train, brings_by, follows, big_sync_of, received_by, source_by, train_by, snapshot_in, Airs, sink_calls, source_after, source_of, with_sink_call, chosen_of, calls_made, source_at, is_tuned}
+use Rattle.delegator_history.specs.Trains.{Setup, taken}
+use Rattle.group_sink.specs.Calls.{place}
 use Rattle.sink_history.specs.Calls as links
-use Rattle.delegator_control.specs.Groups.{has_group}
-use Rattle.scenario_text.specs.declared.step.Step.{Step}
 use Rattle.scenario_text.specs.declared.step.Step.TheVariants as steps
-use Rattle.sink_history.specs.History.{Source, made_of, named_by, own_train}
-use Rattle.sink_history.specs.Moves.{brings_by, follows, big_sync_of, received_by, source_by, train_by}
-use Rattle.sink_history.specs.Output.{snapshot_in}
-use Rattle.source_machine.specs.Airs.{Airs}
-use Rattle.scenario_history.specs.Sinks.{moved, sink_calls, source_after, source_of, with_sink_call}
-use Rattle.scenario_history.specs.Steps.{chosen_of}
-use Rattle.scenario_history.specs.Worlds.{calls_made, source_at}
-use Rattle.scenario_laws.specs.Laws.{is_tuned}
+use Rattle.scenario_history.specs.Sinks.{moved}
 use Rattle.scenario_laws.proofs.Nowhere.{Nowhere, nowhere}
 
 -- ---- what becomes of the receivers

@@ -1,26 +1,11 @@
 -- Where the history of a sink says that it is on no group, its receivers are on none.
-use Rattle.std.proofs.Common.{ℕ, ◌≡◌, ◌==◌, cond, Bool, true, false, List, [], ◌∷◌, Option, None, Some, refl, sym, ap, subst, arith}
-use Rattle.std.proofs.lemmas.Bool.{false≢true}
-use Rattle.std.proofs.lemmas.Option.{none-some, same_Some}
-use Rattle.delegator_machine.specs.Groups.{with_step}
+use Rattle.scenario_laws.proofs.Prelude.{ℕ, ◌≡◌, ◌==◌, cond, Bool, true, false, List, [], ◌∷◌, Option, None, Some, refl, sym, ap, subst, arith, false≢true, none-some, same_Some, with_step, Snapshot, sync_to_group, train_heard, Settings, Train, BigSync, snapshot_goes_on, Call, tune, stepped, has_group, Step, Source, given_train, calls_at, made_of, named_by, own_train, big_sync_of, received_by, train_by, snapshot_in, Airs, sink_calls, with_sink_call, calls_made, source_at, the_world}
 use Rattle.delegator_machine.proofs.Citable.{comes_on}
-use Rattle.delegator_history.specs.Snapshots.{Snapshot}
-use Rattle.delegator_history.specs.States.{sync_to_group, train_heard}
-use Rattle.delegator_history.specs.Trains.{Settings, Train}
-use Rattle.sync_reference.specs.BigSync.{BigSync}
-use Rattle.delegator_history.proofs.Citable.{snapshot_goes_on}
-use Rattle.group_sink.specs.Calls.{Call, tune, place}
+use Rattle.group_sink.specs.Calls.{place}
 use Rattle.sink_history.specs.Calls as links
-use Rattle.sink_history.specs.Calls.{stepped, steps_of}
-use Rattle.delegator_control.specs.Groups.{has_group}
-use Rattle.scenario_text.specs.declared.step.Step.{Step}
+use Rattle.sink_history.specs.Calls.{steps_of}
 use Rattle.scenario_text.specs.declared.step.Step.TheVariants as steps
-use Rattle.sink_history.specs.History.{Source, given_train, calls_at, made_of, named_by, own_train}
-use Rattle.sink_history.specs.Moves.{big_sync_of, received_by, train_by}
-use Rattle.sink_history.specs.Output.{snapshot_in}
-use Rattle.source_machine.specs.Airs.{Airs}
-use Rattle.scenario_history.specs.Sinks.{moved, sink_calls, with_sink_call}
-use Rattle.scenario_history.specs.Worlds.{calls_made, source_at, the_world}
+use Rattle.scenario_history.specs.Sinks.{moved}
 use Rattle.scenario_laws.proofs.Places.{air_place, end_place, same_place, tick_if_place}
 
 -- a living sink that is on no group by its history has receivers on none

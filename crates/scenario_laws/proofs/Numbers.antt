@@ -1,35 +1,11 @@
 -- The units of an event by their numbers, and what a close hands of them.
-use Rattle.std.proofs.Common.{ℕ, zero, suc, ◌≡◌, ◌<◌, ◌≤◌, ◌+◌, ◌-◌, ◌==◌, min, cond, Bool, true, false, List}
-use Rattle.std.proofs.Common.{[], ◌∷◌, ◌++◌, length, map, Some, refl, sym, ◌∙◌, ap, subst, arith, inl, inr}
-use Rattle.std.specs.Prelude.{slice_get}
-use Rattle.std.specs.List.{AllZip, AllByRecursion, range_with_len}
-use Rattle.std.proofs.lemmas.Bool.{cases_eq, eq-eqb, ne_eqb, false≢true}
-use Rattle.std.proofs.lemmas.Option.{none-some, slice_get_within}
+use Rattle.scenario_laws.proofs.Prelude.{ℕ, zero, suc, ◌≡◌, ◌<◌, ◌≤◌, ◌+◌, ◌-◌, ◌==◌, min, cond, Bool, true, false, List, [], ◌∷◌, ◌++◌, length, map, Some, refl, sym, ◌∙◌, ap, subst, arith, inl, inr, slice_get, AllZip, AllByRecursion, range_with_len, cases_eq, eq-eqb, ne_eqb, false≢true, none-some, slice_get_within, BigInfo, Bounds, per_event_of, horizon_of, Handed, valid, lost, opened, before_event, lay, lays, begun, handed, unit_at, IsStruck, Place, Struck, air_at, closed_slots, begun_within, lays_accepted, all_zip_append, place_of, slots_of, Airs, Setup, give, events, given, laid_with, next_of, prefix_accepted, lays_events, BigSync, bis_of, stay_on, stream_calls, Step, steps_of_source, MeetAirs, sink_calls, injected_since, is_tuned, IsGiven, is_valid, time_in, valid_in, whole_stay}
 use Rattle.std.proofs.lemmas.Slice.Zip.{AllZip-long}
-use Rattle.big_info.specs.declared.info.BigInfo.{BigInfo}
-use Rattle.big_info.specs.Bounds.{Bounds}
-use Rattle.big_info.specs.Schedule.{per_event_of, horizon_of}
-use Rattle.unit_outlets.specs.Handed.{Handed, valid, lost}
 use Rattle.isoal_base.specs.Stays as stays
-use Rattle.isoal_base.specs.Stays.{opened}
-use Rattle.isoal_unframed.specs.Air.{before_event}
-use Rattle.isoal_unframed.specs.Calls.{Call as StreamCall, accept, lay, lays, accepted, begun, events as laid_events}
-use Rattle.isoal_unframed.specs.Histories.{handed, unit_at, units_of}
-use Rattle.isoal_unframed.specs.Struck.{IsStruck, Place, Struck, air_at, closed_slots}
+use Rattle.isoal_unframed.specs.Calls.{Call as StreamCall, accept, accepted, events as laid_events}
+use Rattle.isoal_unframed.specs.Histories.{units_of}
 use Rattle.isoal_unframed.specs.State.Windows.{time_of}
-use Rattle.isoal_unframed.proofs.Citable.{begun_within, lays_accepted, all_zip_append}
-use Rattle.source_machine.specs.Airs.{place_of, slots_of, Airs}
-use Rattle.source_machine.specs.Calls.{Setup, Call as SourceCall, give, event as perform, events, given, laid_with, next_of, stream_calls as source_stream}
-use Rattle.source_machine.proofs.Citable.{prefix_accepted, lays_events}
-use Rattle.sync_reference.specs.BigSync.{BigSync}
-use Rattle.group_sink.specs.Handing.{bis_of}
-use Rattle.group_sink.specs.Streams.{stay_on, stream_calls}
-use Rattle.scenario_text.specs.declared.step.Step.{Step}
-use Rattle.scenario_history.specs.Steps.{steps_of_source}
-use Rattle.scenario_history.specs.Airs.{MeetAirs}
-use Rattle.scenario_history.specs.Sinks.{sink_calls}
-use Rattle.scenario_laws.specs.Laws.{injected_since, is_tuned}
-use Rattle.scenario_laws.specs.SourceUnits.{IsGiven, is_valid, time_in, valid_in, whole_stay}
+use Rattle.source_machine.specs.Calls.{Call as SourceCall, event as perform, stream_calls as source_stream}
 use Rattle.scenario_laws.proofs.Below.{Below}
 use Rattle.scenario_laws.proofs.Legals.{Legal}
 use Rattle.scenario_laws.proofs.Sources.{Settled, bounds_in, lawful, settled}

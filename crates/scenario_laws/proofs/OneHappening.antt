@@ -1,20 +1,8 @@
 -- Over two airs that meet the relation of their framing the same happens: relays offer the same units, and source 1 takes the same of
 -- them.
-use Rattle.std.proofs.Common.{ℕ, ◌≡◌, ◌∙◌, cond, not, Bool, true, false, List, [], ◌∷◌, None, Some, refl, ap}
-use Rattle.std.specs.List.{flat_map}
-use Rattle.std.specs.Option.{option_map}
-use Rattle.scenario_text.specs.declared.step.Step.{Step}
-use Rattle.source_machine.specs.Faults.{give_fault}
-use Rattle.transcript_text.specs.declared.refusal.Refusal.TheVariants.{Order}
+use Rattle.scenario_laws.proofs.Prelude.{ℕ, ◌≡◌, ◌∙◌, cond, not, Bool, true, false, List, [], ◌∷◌, None, Some, refl, ap, flat_map, option_map, Step, give_fault, Order, Answered, Offer, after_offer, after_offers, answered_by, closes_first, dropped_for, handed_of, happened, offered_of, offers_at, with_relayed_unit_unless, with_relayed_units, give_refusal, refusal_of, relay_of, setup_of, source_calls, takes_units, Airs, steps_of_source, AreSaidLegally}
 use Rattle.scenario_history.specs.Boxes.{sink_numbers}
-use Rattle.scenario_history.specs.RelayedUnits.{Answered, Offer, after_offer, after_offers, answered, answered_by, closes_first, dropped_for}
-use Rattle.scenario_history.specs.RelayedUnits.{handed_of, happened, offered_of, offers_at, with_relayed_unit_unless, with_relayed_units}
-use Rattle.scenario_history.specs.Refusals.{give_refusal, refusal_of}
-use Rattle.scenario_history.specs.Relays.{relay_of}
-use Rattle.scenario_history.specs.Source.{setup_of, source_calls, takes_units}
-use Rattle.source_machine.specs.Airs.{Airs}
-use Rattle.scenario_history.specs.Steps.{steps_of_source}
-use Rattle.scenario_laws.specs.RelayedUnits.Legal.{AreSaidLegally}
+use Rattle.scenario_history.specs.RelayedUnits.{answered}
 use Rattle.scenario_laws.proofs.RelayedUnits.Citable.{Runs, happens_legally, left_by_offers, line_passes, runs_at, runs_still, unless_legal}
 use Rattle.scenario_laws.proofs.Legals.{Legal}
 use Rattle.scenario_laws.proofs.Sources.{lawful, takes}

@@ -1,24 +1,11 @@
 -- Two airs that meet the relation of their framing give one transcript: no step, no line and no text tells them apart.
-use Rattle.std.proofs.Common.{ℕ, ◌≡◌, ◌+◌, ◌==◌, cond, true, List, [], ◌∷◌, ◌++◌, length, Option, None, Some, refl, sym, ◌∙◌, ap, subst, arith}
-use Rattle.bcast_io.specs.TextLines.{TextLine}
-use Rattle.unit_outlets.specs.Account.{Account}
-use Rattle.scenario_history.specs.Runs.{Accepted, End, accepted_of, accepted_unless, end_of, end_unless, out, out_unless}
-use Rattle.source_machine.specs.Airs.{AreAirs, stale_of, Airs}
+use Rattle.scenario_laws.proofs.Prelude.{ℕ, ◌≡◌, ◌+◌, ◌==◌, cond, true, List, [], ◌∷◌, ◌++◌, length, Option, None, Some, refl, sym, ◌∙◌, ap, subst, arith, TextLine, Account, Accepted, End, accepted_of, accepted_unless, end_unless, out, out_unless, AreAirs, stale_of, Airs, event_fault, Step, Refusal, chosen_of, chosen_steps, is_started, setup_of, source_calls, stale_in, MeetAirs, answered_by, closing_both, handed_up, line_refusal, refusal_of, close_lines, first_lines, output_of, sums_of, unit_lines, handed_said, output_said, refusal_said, rules_of, steps_of, end_after, out_of, transcript_end, transcript_of, units_of}
+use Rattle.scenario_history.specs.Runs.{end_of}
 use Rattle.source_machine.specs.Calls.{event as perform}
-use Rattle.source_machine.specs.Faults.{event_fault}
-use Rattle.scenario_text.specs.declared.step.Step.{Step}
 use Rattle.scenario_text.specs.declared.step.Step.TheVariants as steps
-use Rattle.transcript_text.specs.declared.refusal.Refusal.{Refusal}
-use Rattle.scenario_history.specs.Steps.{chosen_of, chosen_steps}
-use Rattle.scenario_history.specs.Source.{is_started, setup_of, source_calls, stale_in}
-use Rattle.scenario_history.specs.Airs.{MeetAirs}
-use Rattle.scenario_history.specs.RelayedUnits.{answered_by}
-use Rattle.scenario_history.specs.Boxes.{closing, closing_both, handed_up}
-use Rattle.scenario_history.specs.Refusals.{line_refusal, refusal_of}
-use Rattle.scenario_history.specs.Output.{close_lines, first_lines, output_of, sums_of, unit_lines}
-use Rattle.scenario_history.specs.Lines.{Said, handed_on, handed_said, output_said, refusal_said, rules_of}
-use Rattle.scenario_history.specs.Lines.{said_after, said_of, steps_of}
-use Rattle.scenario_history.specs.Transcript.{end_after, out_of, transcript_end, transcript_of, units_of}
+use Rattle.scenario_history.specs.Boxes.{closing}
+use Rattle.scenario_history.specs.Lines.{Said, handed_on}
+use Rattle.scenario_history.specs.Lines.{said_after, said_of}
 use Rattle.scenario_laws.proofs.RelayedUnits.Citable.{line_passes}
 use Rattle.scenario_laws.proofs.Legals.{Legal, LinesInRange, legal, permitted, said_legally}
 use Rattle.scenario_laws.proofs.OneHappening.{answers_same, happened_same}

@@ -1,8 +1,5 @@
 -- The order law, of both framings.
-use Rattle.std.proofs.Common.{List, length}
-use Rattle.unit_outlets.specs.Account.{Account}
-use Rattle.scenario_history.specs.Lines.{steps_of}
-use Rattle.scenario_laws.specs.Laws.{OrderLaw, StepsInOrder}
+use Rattle.scenario_laws.proofs.Prelude.{List, length, Account, steps_of, OrderLaw, StepsInOrder}
 use Rattle.scenario_laws.proofs.Below.{Below}
 use Rattle.scenario_laws.proofs.Legals.{legal}
 use Rattle.scenario_laws.proofs.Closes.{closes_rise}

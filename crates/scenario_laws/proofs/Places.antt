@@ -1,9 +1,6 @@
 -- The group that the receivers of a sink are on, before a line of the air and after it: the same.
-use Rattle.std.proofs.Common.{ℕ, zero, suc, ◌≡◌, cond, Bool, true, false, List, Option, None, Some, refl, ◌∙◌, arith}
-use Rattle.group_sink.specs.Calls.{Call, hear, place}
-use Rattle.scenario_text.specs.declared.step.Step.{Step}
-use Rattle.source_machine.specs.Airs.{Airs}
-use Rattle.scenario_history.specs.Sinks.{heard_on_air, ticked, ticked_if, unless_lost}
+use Rattle.scenario_laws.proofs.Prelude.{ℕ, zero, suc, ◌≡◌, cond, Bool, true, false, List, Option, None, Some, refl, ◌∙◌, arith, Call, hear, Step, Airs, heard_on_air, ticked, ticked_if, unless_lost}
+use Rattle.group_sink.specs.Calls.{place}
 
 pub same_place : (mine : Bool) (more calls : List Call) → place more ≡ place calls → place (cond mine more calls) ≡ place calls
 same_place true more calls is = is

@@ -1,20 +1,6 @@
 -- What a source of an unframed group sends is its own, by division.
-use Rattle.std.proofs.Common.{ℕ, ◌≡◌, ◌<◌, ◌≤◌}
-use Rattle.std.proofs.Common.{true, List, [], ◌++◌, Some, refl, sym, ◌∙◌, ap, subst, arith}
-use Rattle.std.specs.Prelude.{unwrap_or}
-use Rattle.big_info.specs.declared.group.Group.{Group}
-use Rattle.iso_pdu.specs.Encoding.{pdu}
-use Rattle.isoal_base.specs.Air.{Air}
-use Rattle.isoal_unframed.specs.Struck.{air_at}
-use Rattle.radio_schedule.specs.PayloadNumber.{payload_number}
-use Rattle.source_machine.specs.Airs.{AreAirs, airs_of, content_at, pdu_of, slots_of, Airs}
-use Rattle.source_machine.specs.Calls.{Setup, Call as SourceCall, next_of}
-use Rattle.source_machine.specs.Setups.{IsChecked}
-use Rattle.sync_reference.specs.BigSync.{BigSync}
-use Rattle.group_sink.specs.Streams.{stay_on}
-use Rattle.scenario_text.specs.declared.step.Step.{Step}
-use Rattle.scenario_history.specs.Source.{setup_of, source_calls, is_started}
-use Rattle.scenario_history.specs.Airs.{MeetAirs}
+use Rattle.scenario_laws.proofs.Prelude.{ℕ, ◌≡◌, ◌<◌, ◌≤◌, true, List, [], ◌++◌, Some, refl, sym, ◌∙◌, ap, subst, arith, unwrap_or, Group, pdu, Air, air_at, payload_number, AreAirs, airs_of, content_at, pdu_of, slots_of, Airs, Setup, next_of, IsChecked, BigSync, stay_on, Step, setup_of, source_calls, is_started, MeetAirs}
+use Rattle.source_machine.specs.Calls.{Call as SourceCall}
 use Rattle.scenario_laws.proofs.Below.{Below}
 use Rattle.scenario_laws.proofs.Sources.{Lawful, Settled, checked, group_in, settled}
 use Rattle.scenario_laws.proofs.Wholes.{Extends, Within, events_more}

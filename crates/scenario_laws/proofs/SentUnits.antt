@@ -1,18 +1,6 @@
 -- The units that a framed air sends, by payload numbers: the PDU of each number is theirs.
-use Rattle.std.proofs.Common.{ℕ, ◌≡◌, ◌<◌, ◌≤◌, ◌+◌, ◌-◌, ◌*◌, ◌/◌, ◌%◌, ◌&&◌, cond, eqb, Bool, List}
-use Rattle.std.proofs.Common.{[], ◌∷◌, length, map, Option, None, Some, refl, sym, ◌∙◌, ap, subst, arith, inl, inr}
-use Rattle.std.specs.Prelude.{slice_get}
-use Rattle.std.specs.List.{range_with_len}
-use Rattle.std.specs.Option.{option_and_then}
-use Rattle.std.proofs.lemmas.Bool.{cases_eq, eq-eqb, ne_eqb}
-use Rattle.std.proofs.lemmas.Nat.{div-add-mod', mod_below}
-use Rattle.big_info.specs.declared.info.BigInfo.{BigInfo}
-use Rattle.iso_pdu.specs.Layout.{framed}
-use Rattle.iso_pdu.specs.Encoding.{pdu}
-use Rattle.isoal_base.specs.Air.{Air, Laid, event_at, pdu_at}
-use Rattle.isoal_framed.specs.Sends.{EventsAre}
-use Rattle.isoal_unframed.proofs.Citable.{get-range}
-use Rattle.isoal_framed.specs.Struck.{Fit, InOrder, Sent, behind, carried, is_last, part_with, parts_at}
+use Rattle.scenario_laws.proofs.Prelude.{ℕ, ◌≡◌, ◌<◌, ◌≤◌, ◌+◌, ◌-◌, ◌*◌, ◌/◌, ◌%◌, ◌&&◌, cond, eqb, Bool, List, [], ◌∷◌, length, map, Option, None, Some, refl, sym, ◌∙◌, ap, subst, arith, inl, inr, slice_get, range_with_len, option_and_then, cases_eq, eq-eqb, ne_eqb, div-add-mod', mod_below, BigInfo, framed, pdu, Air, Laid, event_at, pdu_at, EventsAre, get-range, Fit, InOrder, Sent, carried, is_last, part_with, parts_at}
+use Rattle.isoal_framed.specs.Struck.{behind}
 
 -- ---- the PDU of a number
 

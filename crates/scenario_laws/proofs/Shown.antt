@@ -1,39 +1,14 @@
 -- What a sink hands up on a stream of a source is one entry for each slot of each event of it that the sink closed.
-use Rattle.std.proofs.Common.{ℕ, zero, suc, ◌≡◌, ◌<◌, ◌≤◌, ◌+◌, ◌-◌, ◌*◌, cond, leb, eqb, Bool, true, false}
-use Rattle.std.proofs.Common.{List, [], ◌∷◌, ◌++◌, map, Option, None, Some, refl, sym, ◌∙◌, ap, subst, arith, inl, inr}
-use Rattle.std.specs.List.{AllZip, Contains, range_with_len}
-use Rattle.std.proofs.Math.Nat.{add-mul}
-use Rattle.std.proofs.lemmas.Bool.{cases_Bool, cond-true}
+use Rattle.scenario_laws.proofs.Prelude.{ℕ, zero, suc, ◌≡◌, ◌<◌, ◌≤◌, ◌+◌, ◌-◌, ◌*◌, cond, leb, eqb, Bool, true, false, List, [], ◌∷◌, ◌++◌, map, Option, None, Some, refl, sym, ◌∙◌, ap, subst, arith, inl, inr, AllZip, Contains, range_with_len, add-mul, cases_Bool, cond-true, append-nil, append_cancel_left, filter-append, BigInfo, per_event_of, iso_us_of, Handed, anchor_of, unframed_reference_of, render_of, Stay, opened, handed, numbers_of, unit_at, unit_of, all_zip_append, Setup, Call, tick, BigSync, bis_of, handed_at, of_stream, is_in, stay_on, stream_calls, streams_of, is_member, member_is, Step, steps_of_source, setup_of, source_calls, Airs, is_of, sink_calls, source_of, SinkUnit, handed_by, Closed, closed_at, closed_by, closed_in, closed_since, IsOfSlot, given_since_made, handed_since, is_given, is_made, of_sink, shown_since, slots_closed, time_in, whole_stay}
 use Rattle.std.proofs.lemmas.Grind.{flat_map-append}
-use Rattle.std.proofs.lemmas.List.{append-nil, append_cancel_left}
-use Rattle.std.proofs.lemmas.List.Elements.{filter-append}
-use Rattle.big_info.specs.declared.info.BigInfo.{BigInfo}
-use Rattle.big_info.specs.Schedule.{per_event_of}
-use Rattle.big_info.specs.Time.{iso_us_of}
-use Rattle.unit_outlets.specs.Handed.{Handed}
-use Rattle.sync_reference.specs.Reference.{anchor_of, unframed_reference_of, render_of}
 use Rattle.isoal_base.specs.Stays as stays
-use Rattle.isoal_base.specs.Stays.{Stay, opened}
-use Rattle.isoal_unframed.specs.Histories.{handed, heard_in, numbers_of, unit_at, units_of}
-use Rattle.isoal_unframed.specs.Units.{unit_of}
+use Rattle.isoal_unframed.specs.Histories.{heard_in, units_of}
 use Rattle.isoal_unframed.specs.State.Windows.{handed_of, time_of}
-use Rattle.isoal_unframed.proofs.Citable.{all_zip_append}
-use Rattle.source_machine.specs.Calls.{Setup, Call as SourceCall}
-use Rattle.group_sink.specs.Calls.{Call, tick, place}
-use Rattle.sync_reference.specs.BigSync.{BigSync}
-use Rattle.group_sink.specs.Handing.{bis_of, handed_at, handed_by as ticked_by, handed_since as ticked_since, of_stream}
-use Rattle.group_sink.specs.Streams.{closes, is_in, stay_on, stream_calls, streams_of}
-use Rattle.group_sink.proofs.Citable.{is_member, member_is}
-use Rattle.scenario_text.specs.declared.step.Step.{Step}
-use Rattle.scenario_history.specs.Steps.{steps_of_source}
-use Rattle.scenario_history.specs.Source.{setup_of, source_calls}
-use Rattle.source_machine.specs.Airs.{Airs}
-use Rattle.scenario_history.specs.Sinks.{is_of, sink_calls, source_of}
-use Rattle.scenario_history.specs.Boxes.{SinkUnit, handed_by}
-use Rattle.scenario_laws.specs.Laws.{Closed, closed_at, closed_by, closed_if, closed_in, closed_since}
-use Rattle.scenario_laws.specs.SourceUnits.{IsOfSlot}
-use Rattle.scenario_laws.specs.Laws.{given_since_made, handed_since, is_given, is_made, of_sink, shown_since, slots_closed}
-use Rattle.scenario_laws.specs.SourceUnits.{time_in, whole_stay}
+use Rattle.source_machine.specs.Calls.{Call as SourceCall}
+use Rattle.group_sink.specs.Calls.{place}
+use Rattle.group_sink.specs.Handing.{handed_by as ticked_by, handed_since as ticked_since}
+use Rattle.group_sink.specs.Streams.{closes}
+use Rattle.scenario_laws.specs.Laws.{closed_if}
 use Rattle.scenario_laws.proofs.Announced.{Announcing}
 use Rattle.scenario_laws.proofs.Below.{Below}
 use Rattle.scenario_laws.proofs.Legals.{Legal}

@@ -1,31 +1,11 @@
 -- The steps of one source of a scenario of which no line was refused: its group stands before its start, it takes calls only
 -- behind it, and what fixes it stays.
-use Rattle.std.proofs.Common.{ℕ, ◌≡◌, ◌⊎◌, ◌≤◌, ◌||◌, ◌&&◌, ◌==◌, not, cond, Bool, true, false, List, [], ◌∷◌, Option, None, refl, sym, ◌∙◌, ap, subst, arith, inl, inr}
-use Rattle.std.specs.Prelude.{unwrap_or}
-use Rattle.std.proofs.lemmas.Bool.{cases_Bool, eqb-true, false≢true, or_parts, not-false}
-use Rattle.std.proofs.lemmas.Option.{none-some}
-use Rattle.big_info.specs.declared.group.Group.{Group}
-use Rattle.big_info.specs.Bounds.{Bounds}
-use Rattle.big_info.specs.Rows.{NoFault, first_fault}
-use Rattle.big_info.specs.Widths.{FitsWidths}
+use Rattle.scenario_laws.proofs.Prelude.{ℕ, ◌≡◌, ◌⊎◌, ◌≤◌, ◌||◌, ◌&&◌, ◌==◌, not, cond, Bool, true, false, List, [], ◌∷◌, Option, None, refl, sym, ◌∙◌, ap, subst, arith, inl, inr, unwrap_or, cases_Bool, eqb-true, false≢true, or_parts, not-false, none-some, Group, Bounds, NoFault, FitsWidths, without_cipher, IsChecked, Step, IsInRange, GroupRanges, BaseTooLong, stage_same, chosen_of, is_common, is_of_source, is_source_line, is_unbegun_at, stage_of, steps_of_source, version_of, Phase, checked_info, cipher_of, group_of, info_with, is_absent_at, is_ciphered, Airs, is_described_at, is_sending, is_sending_at, is_started, no_group, takes_units, phase_of, setup_of, source_calls, start_of, was_started_at, AreAccepted, is_base_too_long, counter_ends, group_refusal, is_misplaced, is_out_of_phase, source_refusal, refuse_if, horizon_in}
+use Rattle.big_info.specs.Rows.{first_fault}
 use Rattle.big_info.proofs.Citable.{bounds_of, no_fault_within}
 use Rattle.source_machine.specs.declared.fault.EventFault.{EventFault}
-use Rattle.source_machine.specs.Ciphers.{without_cipher}
-use Rattle.source_machine.specs.Setups.{IsChecked}
-use Rattle.scenario_text.specs.declared.step.Step.{Step}
 use Rattle.scenario_text.specs.declared.step.Step.TheVariants as steps
-use Rattle.scenario_text.specs.Ranges.{IsInRange, GroupRanges}
-use Rattle.transcript_text.specs.declared.refusal.Refusal.TheVariants.{BaseTooLong}
-use Rattle.scenario_history.proofs.Citable.{stage_same}
-use Rattle.scenario_history.specs.Steps.{chosen_of, is_common, is_of_source, is_source_line, is_unbegun_at, stage_of, steps_of_source, version_of}
-use Rattle.scenario_history.specs.Source.{Phase, checked_info, cipher_of, group_of, info_with, is_absent_at, is_ciphered}
-use Rattle.source_machine.specs.Airs.{Airs}
-use Rattle.scenario_history.specs.Source.{is_described_at, is_heard, is_sending, is_sending_at, is_started, no_group, takes_units, phase_of, setup_of, source_calls, start_of, was_started_at}
-use Rattle.scenario_history.specs.Airs.{AreAccepted}
-use Rattle.scenario_history.specs.Bases.{is_base_too_long}
-use Rattle.scenario_history.specs.Refusals.{counter_ends, group_refusal, is_misplaced, is_out_of_phase, source_refusal}
-use Rattle.sink_history.specs.Refusals.{refuse_if}
-use Rattle.sink_history.specs.History.{horizon_in}
+use Rattle.scenario_history.specs.Source.{is_heard}
 use Rattle.scenario_laws.proofs.Legals.{Legal, Permitted, maps_none, neither, permitted}
 use Rattle.scenario_laws.proofs.StartGroups.{may_be_sent}
 

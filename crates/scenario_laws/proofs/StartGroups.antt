@@ -1,19 +1,8 @@
 -- Which groups a source may be started with: those of which no row of the group check holds but that of a cipher. Then none
 -- holds of the group without its cipher.
-use Rattle.std.proofs.Common.{ℕ, ◌≡◌, ◌<◌, cond, Bool, true, false, List, [], ◌∷◌, ◌++◌, Option, None, Some, refl, sym, ap, arith}
-use Rattle.std.specs.Prelude.{unwrap_or}
-use Rattle.std.specs.List.{find, AllByRecursion}
-use Rattle.std.proofs.lemmas.Bool.{false≢true}
-use Rattle.std.proofs.lemmas.Option.{none-some}
-use Rattle.big_info.specs.declared.info.BigInfo.{BigInfo}
-use Rattle.big_info.specs.declared.info.Cipher.{Cipher}
-use Rattle.big_info.specs.declared.fault.GroupFault.{GroupFault}
+use Rattle.scenario_laws.proofs.Prelude.{ℕ, ◌≡◌, ◌<◌, cond, Bool, true, false, List, [], ◌∷◌, ◌++◌, Option, None, Some, refl, sym, ap, arith, unwrap_or, find, AllByRecursion, false≢true, none-some, BigInfo, Cipher, GroupFault, faults, number_of, IsFirstFault, NoFault, has_fault, with_cipher, without_cipher, none_holds, group_refusal}
 use Rattle.big_info.specs.declared.fault.GroupFault.TheVariants as of_group
-use Rattle.big_info.specs.Faults.{faults, number_of}
-use Rattle.big_info.specs.Rows.{IsFirstFault, NoFault, first_fault, has_fault}
-use Rattle.source_machine.specs.Ciphers.{with_cipher, without_cipher}
-use Rattle.source_machine.proofs.Citable.{none_holds}
-use Rattle.scenario_history.specs.Refusals.{group_refusal}
+use Rattle.big_info.specs.Rows.{first_fault}
 
 not_found : (holds : Bool) (fault : GroupFault) (rest : Option GroupFault) → cond holds (Some fault) rest ≡ None → (holds ≡ false) × (rest ≡ None)
 not_found holds fault rest none = grind (arith, none-some)

@@ -1,29 +1,9 @@
 -- The entries of a framed stream over all stays of a sink with a source, whatever was injected: each is of a start that was heard
 -- in its stay, in the order of these starts.
-use Rattle.std.proofs.Common.{ℕ, ◌≡◌, ◌<◌, ◌≤◌, ◌*◌, ◌/◌, ◌||◌, is_some, Bool, false, List, [], ◌∷◌, ◌++◌, refl, sym, ◌∙◌, ap, subst, arith, inl, inr, append_assoc}
-use Rattle.std.specs.List.{AllZip, Contains, list_any}
-use Rattle.std.proofs.Math.Nat.{div-mul-le_self, mul-le-mul}
-use Rattle.std.proofs.lemmas.Bool.{cases_Bool}
-use Rattle.std.proofs.lemmas.List.{append-nil}
-use Rattle.std.proofs.lemmas.List.Folds.{list_any-append}
-use Rattle.big_info.specs.declared.info.BigInfo.{BigInfo}
-use Rattle.unit_outlets.specs.Handed.{Handed}
+use Rattle.scenario_laws.proofs.Prelude.{ℕ, ◌≡◌, ◌<◌, ◌≤◌, ◌*◌, ◌/◌, ◌||◌, is_some, Bool, false, List, [], ◌∷◌, ◌++◌, refl, sym, ◌∙◌, ap, subst, arith, inl, inr, append_assoc, AllZip, Contains, list_any, div-mul-le_self, mul-le-mul, cases_Bool, append-nil, list_any-append, BigInfo, Handed, opened, decided, closed_end, opened_least, Setup, next_of, BigSync, of_stream, is_in, stay_on, streams_of, is_member, member_is, Step, steps_of_source, setup_of, source_calls, Airs, sink_calls, Closed, InStartOrder, IsOfStart, SegmentPlace, calls_on, given_since_made, is_given, is_made, is_tuned, shown_since, all_zip_append}
 use Rattle.isoal_base.specs.Stays as stays
-use Rattle.isoal_base.specs.Stays.{opened}
-use Rattle.isoal_framed.specs.Histories.{decided}
-use Rattle.isoal_framed.specs.Struck.{closed_end}
-use Rattle.isoal_framed.proofs.Citable.{opened_least}
-use Rattle.source_machine.specs.Calls.{Setup, Call as SourceCall, next_of}
-use Rattle.sync_reference.specs.BigSync.{BigSync}
-use Rattle.group_sink.specs.Handing.{handed_since as ticked_since, of_stream}
-use Rattle.group_sink.specs.Streams.{is_in, stay_on, streams_of}
-use Rattle.group_sink.proofs.Citable.{is_member, member_is}
-use Rattle.scenario_text.specs.declared.step.Step.{Step}
-use Rattle.scenario_history.specs.Steps.{steps_of_source}
-use Rattle.scenario_history.specs.Source.{setup_of, source_calls}
-use Rattle.source_machine.specs.Airs.{Airs}
-use Rattle.scenario_history.specs.Sinks.{sink_calls}
-use Rattle.scenario_laws.specs.Laws.{Closed, InStartOrder, IsOfStart, SegmentPlace, calls_on, given_since_made, is_given, is_made, is_tuned, shown_since}
+use Rattle.source_machine.specs.Calls.{Call as SourceCall}
+use Rattle.group_sink.specs.Handing.{handed_since as ticked_since}
 use Rattle.scenario_laws.proofs.Below.{Below}
 use Rattle.scenario_laws.proofs.Legals.{Legal}
 use Rattle.scenario_laws.proofs.Sources.{true_not_false}
@@ -34,7 +14,6 @@ use Rattle.scenario_laws.proofs.UnitsLaw.{since}
 use Rattle.scenario_laws.proofs.FramedStays.{heard_least, next_of_whole, opened_within, stay_on_whole}
 use Rattle.scenario_laws.proofs.UnitOrder.{event_below, start_time_is}
 use Rattle.scenario_laws.proofs.StaysInTurn.{OverStay, Turns, closed_from}
-use Rattle.isoal_unframed.proofs.Citable.{all_zip_append}
 use Rattle.scenario_laws.proofs.Turning.{over_stays}
 
 -- ---- the steps so far, as a part of all steps

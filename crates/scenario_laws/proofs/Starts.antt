@@ -1,22 +1,8 @@
 -- The entries that a stay on a framed stream decides, each of a start that was heard in it, in the order of these starts.
-use Rattle.std.proofs.Common.{ℕ, zero, suc, ◌≡◌, ◌<◌, ◌≤◌, ◌+◌, ◌-◌, ◌*◌, ◌/◌, Bool, List, [], ◌∷◌, ◌++◌, map, Option, Some, None, refl, sym, ◌∙◌, ap, subst, arith, inl, inr, append_assoc}
-use Rattle.std.specs.Prelude.{slice_get}
-use Rattle.std.specs.List.{AllZip, flat_map, range_with_len}
-use Rattle.std.proofs.Math.Nat.{add-mul, zero-add}
-use Rattle.std.proofs.lemmas.Nat.{div-mul-add}
-use Rattle.iso_pdu.specs.Layout.{Part, start, more as further}
-use Rattle.unit_outlets.specs.Handed.{Handed}
+use Rattle.scenario_laws.proofs.Prelude.{ℕ, zero, suc, ◌≡◌, ◌<◌, ◌≤◌, ◌+◌, ◌-◌, ◌*◌, ◌/◌, Bool, List, [], ◌∷◌, ◌++◌, map, Option, Some, None, refl, sym, ◌∙◌, ap, subst, arith, inl, inr, append_assoc, slice_get, AllZip, flat_map, range_with_len, add-mul, zero-add, div-mul-add, Part, start, Handed, Stay, opened, decided, event_tokens, heard_in, closed_end, Token, time_of, token_of, tokens_of, Fate, whole, broken, undecided, fate_at, units, opened_least, bis_of, AreInOrder, IsBefore, SegmentPlace, all_zip_append, time_in}
+use Rattle.iso_pdu.specs.Layout.{more as further}
 use Rattle.isoal_base.specs.Stays as stays
-use Rattle.isoal_base.specs.Stays.{Stay, opened}
-use Rattle.isoal_framed.specs.Histories.{decided, event_tokens, heard_in}
-use Rattle.isoal_framed.specs.Struck.{closed_end}
-use Rattle.isoal_framed.specs.Tokens.{Token, time_of, token_of, tokens_of}
-use Rattle.isoal_framed.specs.Units.{Fate, whole, broken, undecided, fate_at, handed_of, units}
-use Rattle.isoal_framed.proofs.Citable.{opened_least}
-use Rattle.group_sink.specs.Handing.{bis_of}
-use Rattle.scenario_laws.specs.Laws.{AreInOrder, IsBefore, SegmentPlace}
-use Rattle.isoal_unframed.proofs.Citable.{all_zip_append}
-use Rattle.scenario_laws.specs.SourceUnits.{time_in}
+use Rattle.isoal_framed.specs.Units.{handed_of}
 
 -- ---- places in order, between two payload numbers
 

@@ -1,19 +1,9 @@
 -- One stay after the other: what holds of the events and the entries of the earlier stays of a sink with a source, and goes on
 -- over one stay, holds of all of them.
-use Rattle.std.proofs.Common.{ℕ, ◌≡◌, ◌⊎◌, ◌≤◌, ◌==◌, cond, Bool, true, false, List, [], ◌∷◌, ◌++◌, Option, None, Some, refl, sym, ◌∙◌, ap, subst, arith, inl, inr, append_assoc}
-use Rattle.std.proofs.lemmas.Bool.{eqb-true, false≢true}
-use Rattle.std.proofs.lemmas.List.{append-nil}
-use Rattle.std.proofs.lemmas.Option.{none-some}
-use Rattle.unit_outlets.specs.Handed.{Handed}
-use Rattle.group_sink.specs.Calls.{Call, tune, place}
-use Rattle.sync_reference.specs.BigSync.{BigSync}
-use Rattle.group_sink.specs.Handing.{handed_by as ticked_by, of_stream}
-use Rattle.scenario_text.specs.declared.step.Step.{Step}
-use Rattle.scenario_history.specs.Steps.{chosen_of, chosen_steps, steps_of_source}
-use Rattle.source_machine.specs.Airs.{Airs}
-use Rattle.scenario_history.specs.Sinks.{is_of, sink_calls, source_of}
-use Rattle.scenario_history.specs.Boxes.{SinkUnit, handed_by}
-use Rattle.scenario_laws.specs.Laws.{Closed, closed_by, closed_if, closed_in, closed_since, given_since_made, handed_since, is_given, is_made, is_tuned, of_sink, shown_since}
+use Rattle.scenario_laws.proofs.Prelude.{ℕ, ◌≡◌, ◌⊎◌, ◌≤◌, ◌==◌, cond, Bool, true, false, List, [], ◌∷◌, ◌++◌, Option, None, Some, refl, sym, ◌∙◌, ap, subst, arith, inl, inr, append_assoc, eqb-true, false≢true, append-nil, none-some, Handed, Call, tune, BigSync, of_stream, Step, chosen_of, chosen_steps, steps_of_source, Airs, is_of, sink_calls, source_of, SinkUnit, handed_by, Closed, closed_by, closed_in, closed_since, given_since_made, handed_since, is_given, is_made, is_tuned, of_sink, shown_since}
+use Rattle.group_sink.specs.Calls.{place}
+use Rattle.group_sink.specs.Handing.{handed_by as ticked_by}
+use Rattle.scenario_laws.specs.Laws.{closed_if}
 use Rattle.scenario_laws.proofs.Announced.{Announcing}
 use Rattle.scenario_laws.proofs.Legals.{Legal}
 use Rattle.scenario_laws.proofs.Wholes.{next_in}

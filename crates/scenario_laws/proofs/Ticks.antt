@@ -1,12 +1,6 @@
 -- Which events a sink of one source closes by a step: those of its source alone.
-use Rattle.std.proofs.Common.{ℕ, zero, suc, ◌≡◌, ◌≢◌, ◌≤◌, ◌==◌, cond, true, List, [], ◌∷◌, Option, Some, refl, sym, ◌∙◌, ap, arith, inl, inr}
-use Rattle.std.proofs.lemmas.Bool.{cases_eq, cond-false, cond-true, eq-eqb, ne_eqb, eqb-true, false≢true}
-use Rattle.group_sink.specs.Calls.{Call}
-use Rattle.scenario_text.specs.declared.step.Step.{Step}
+use Rattle.scenario_laws.proofs.Prelude.{ℕ, zero, suc, ◌≡◌, ◌≢◌, ◌≤◌, ◌==◌, cond, true, List, [], ◌∷◌, Option, Some, refl, sym, ◌∙◌, ap, arith, inl, inr, cases_eq, cond-false, cond-true, eq-eqb, ne_eqb, eqb-true, false≢true, Call, Step, chosen_of, Airs, is_of, ticked, ticked_if}
 use Rattle.scenario_text.specs.declared.step.Step.TheVariants as steps
-use Rattle.scenario_history.specs.Steps.{chosen_of}
-use Rattle.source_machine.specs.Airs.{Airs}
-use Rattle.scenario_history.specs.Sinks.{is_of, ticked, ticked_if}
 use Rattle.scenario_laws.proofs.Legals.{Legal}
 
 -- the sink is of this source

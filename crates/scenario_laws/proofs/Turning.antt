@@ -1,16 +1,6 @@
 -- Step by step, the stays of a sink with a source, one after the other.
-use Rattle.std.proofs.Common.{ℕ, ◌≡◌, cond, Bool, true, false, List, [], ◌∷◌, ◌++◌, Option, None, Some, refl, sym, ap, subst, inl, inr}
-use Rattle.std.proofs.lemmas.Bool.{cases_Bool, false≢true}
-use Rattle.std.proofs.lemmas.Option.{none-some}
-use Rattle.unit_outlets.specs.Handed.{Handed}
+use Rattle.scenario_laws.proofs.Prelude.{ℕ, ◌≡◌, cond, Bool, true, false, List, [], ◌∷◌, ◌++◌, Option, None, Some, refl, sym, ap, subst, inl, inr, cases_Bool, false≢true, none-some, Handed, BigSync, Step, steps_of_source, Airs, sink_calls, SinkUnit, handed_by, Closed, closed_by, closed_since, given_since_made, handed_since, is_given, is_made, is_tuned, shown_since}
 use Rattle.group_sink.specs.Calls.{place}
-use Rattle.sync_reference.specs.BigSync.{BigSync}
-use Rattle.scenario_text.specs.declared.step.Step.{Step}
-use Rattle.scenario_history.specs.Steps.{steps_of_source}
-use Rattle.source_machine.specs.Airs.{Airs}
-use Rattle.scenario_history.specs.Sinks.{sink_calls}
-use Rattle.scenario_history.specs.Boxes.{SinkUnit, handed_by}
-use Rattle.scenario_laws.specs.Laws.{Closed, closed_by, closed_since, given_since_made, handed_since, is_given, is_made, is_tuned, shown_since}
 use Rattle.scenario_laws.proofs.Legals.{permitted}
 use Rattle.scenario_laws.proofs.Becoming.{becomes, puts_first}
 use Rattle.scenario_laws.proofs.Wholes.{next_in, next_rises}

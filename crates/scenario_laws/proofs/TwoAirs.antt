@@ -1,22 +1,7 @@
 -- Two airs that meet the relation of their framing: no source, no refusal, no sink and no close tells them apart.
-use Rattle.std.proofs.Common.{ℕ, zero, suc, ◌≡◌, Bool, true, false, List, [], ◌∷◌, Option, None, refl, sym, ◌∙◌, ap, arith}
-use Rattle.std.specs.Prelude.{unwrap_or}
-use Rattle.std.specs.Option.{option_or}
-use Rattle.std.proofs.lemmas.Bool.{or_parts}
-use Rattle.isoal_base.specs.Air.{Air}
-use Rattle.source_machine.specs.Airs.{AreAirs, airs_of, pdu_of, Airs}
-use Rattle.source_machine.specs.Calls.{Setup, Call as SourceCall}
-use Rattle.source_machine.specs.Setups.{IsChecked}
-use Rattle.group_sink.specs.Calls.{Call, hear}
-use Rattle.scenario_text.specs.declared.step.Step.{Step}
-use Rattle.transcript_text.specs.declared.refusal.Refusal.{Refusal}
-use Rattle.scenario_history.specs.Steps.{chosen_of, chosen_steps, steps_of_source}
-use Rattle.scenario_history.specs.Source.{event_back, is_started, open_event, pdu_in, setup_of, source_calls}
-use Rattle.scenario_history.specs.Airs.{MeetAirs}
-use Rattle.scenario_history.specs.Sinks.{Position, hear_at, heard_on_air, is_lost, sink_calls, position_at, unless_lost, with_sink_call}
-use Rattle.scenario_history.specs.Boxes.{closing, closing_at, closing_both, handed_by, handed_up}
-use Rattle.scenario_history.specs.Refusals.{refusal_of}
-use Rattle.sink_history.specs.Refusals.{refuse_if}
+use Rattle.scenario_laws.proofs.Prelude.{ℕ, zero, suc, ◌≡◌, Bool, true, false, List, [], ◌∷◌, Option, None, refl, sym, ◌∙◌, ap, arith, unwrap_or, option_or, or_parts, Air, AreAirs, airs_of, pdu_of, Airs, Setup, IsChecked, Call, hear, Step, Refusal, chosen_of, chosen_steps, steps_of_source, event_back, is_started, open_event, pdu_in, setup_of, source_calls, MeetAirs, Position, hear_at, heard_on_air, is_lost, sink_calls, position_at, unless_lost, with_sink_call, closing_at, closing_both, handed_by, handed_up, refusal_of, refuse_if}
+use Rattle.source_machine.specs.Calls.{Call as SourceCall}
+use Rattle.scenario_history.specs.Boxes.{closing}
 use Rattle.scenario_laws.proofs.Legals.{Legal, permitted}
 use Rattle.scenario_laws.proofs.Sources.{Lawful, checked, group_in, hears, lawful, settled, takes}
 use Rattle.scenario_laws.proofs.RelayedUnits.Citable.{flat_same}

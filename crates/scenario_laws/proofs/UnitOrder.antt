@@ -1,36 +1,10 @@
 -- The entries of a framed stream over all stays of a sink with a source: each is of a unit that the source accepted, in order.
-use Rattle.std.proofs.Common.{ℕ, suc, ◌≡◌, ◌⊎◌, ◌<◌, ◌≤◌, ◌+◌, ◌-◌, ◌*◌, ◌/◌, true, false, List, [], ◌∷◌, ◌++◌, map, Some, refl, sym, ◌∙◌, ap, subst, arith, inl, inr}
-use Rattle.std.specs.Prelude.{slice_get}
-use Rattle.std.specs.List.{Contains}
-use Rattle.std.proofs.Math.Nat.{add-mul, mul-le-mul}
-use Rattle.std.proofs.lemmas.Bool.{cases_Bool}
-use Rattle.std.proofs.lemmas.List.{append-nil}
-use Rattle.std.proofs.lemmas.Nat.{div-mul-add}
-use Rattle.big_info.specs.declared.info.BigInfo.{BigInfo}
-use Rattle.big_info.specs.Time.{iso_us_of}
-use Rattle.unit_outlets.specs.Handed.{Handed, valid, lost}
-use Rattle.isoal_base.specs.Air.{Air}
+use Rattle.scenario_laws.proofs.Prelude.{ℕ, suc, ◌≡◌, ◌⊎◌, ◌<◌, ◌≤◌, ◌+◌, ◌-◌, ◌*◌, ◌/◌, true, false, List, [], ◌∷◌, ◌++◌, map, Some, refl, sym, ◌∙◌, ap, subst, arith, inl, inr, slice_get, Contains, add-mul, mul-le-mul, cases_Bool, append-nil, div-mul-add, BigInfo, iso_us_of, Handed, valid, lost, Air, opened, Timed, accepted, layings_of, IsOf, Sent, closed_end, entry_of, is_heard, struck, time_of, cases_low, opened_least, anchor_of, framed_reference_of, render_of, Setup, framed_calls, next_of, BigSync, bis_of, of_stream, is_in, stay_on, streams_of, is_member, member_is, Step, steps_of_source, is_started, setup_of, source_calls, Airs, MeetAirs, sink_calls, AreSent, InUnitOrder, IsOfUnit, IsSentAs, by_payload, time_in, whole_stay, Closed, air_in, calls_on, given_since_made, injected_since, is_given, is_injected, is_made, is_tuned, shown_since}
 use Rattle.isoal_base.specs.Stays as stays
-use Rattle.isoal_base.specs.Stays.{opened}
-use Rattle.isoal_framed.specs.Calls.{Timed, accepted, layings_of}
-use Rattle.isoal_framed.specs.Sends.{IsOf}
-use Rattle.isoal_framed.specs.Struck.{Sent, closed_end, entry_of, is_heard, octets_in, struck}
-use Rattle.isoal_framed.specs.Tokens.{time_of}
-use Rattle.isoal_framed.proofs.Citable.{cases_low, opened_least}
-use Rattle.sync_reference.specs.Reference.{anchor_of, framed_reference_of, render_of}
-use Rattle.source_machine.specs.Calls.{Setup, Call as SourceCall, framed_calls, next_of}
-use Rattle.sync_reference.specs.BigSync.{BigSync}
-use Rattle.group_sink.specs.Handing.{bis_of, handed_since as ticked_since, of_stream}
-use Rattle.group_sink.specs.Streams.{is_in, stay_on, streams_of}
-use Rattle.group_sink.proofs.Citable.{is_member, member_is}
-use Rattle.scenario_text.specs.declared.step.Step.{Step}
-use Rattle.scenario_history.specs.Steps.{steps_of_source}
-use Rattle.scenario_history.specs.Source.{is_started, setup_of, source_calls}
-use Rattle.source_machine.specs.Airs.{Airs}
-use Rattle.scenario_history.specs.Airs.{MeetAirs}
-use Rattle.scenario_history.specs.Sinks.{sink_calls}
-use Rattle.scenario_laws.specs.SourceUnits.{AreSent, InUnitOrder, IsOfUnit, IsSentAs, anchor_in, by_payload, time_in, whole_stay}
-use Rattle.scenario_laws.specs.Laws.{Closed, air_in, calls_on, given_since_made, injected_since, is_given, is_injected, is_made, is_tuned, shown_since}
+use Rattle.isoal_framed.specs.Struck.{octets_in}
+use Rattle.source_machine.specs.Calls.{Call as SourceCall}
+use Rattle.group_sink.specs.Handing.{handed_since as ticked_since}
+use Rattle.scenario_laws.specs.SourceUnits.{anchor_in}
 use Rattle.scenario_laws.proofs.Below.{Below}
 use Rattle.scenario_laws.proofs.Legals.{Legal}
 use Rattle.scenario_laws.proofs.Sources.{Lawful, lawful, true_not_false}

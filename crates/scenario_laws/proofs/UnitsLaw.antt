@@ -1,38 +1,10 @@
 -- The units law of a stay.
-use Rattle.std.proofs.Common.{ℕ, zero, suc, ◌≡◌, ◌≤◌, ◌+◌, ◌-◌, ◌==◌, cond, ltb, Bool, true, false, List, [], ◌∷◌, ◌++◌, length, Option, Some, refl, sym, ◌∙◌, ap, subst, inl, inr, arith}
-use Rattle.std.specs.Prelude.{slice_get}
-use Rattle.std.specs.List.{AllByRecursion, Contains}
-use Rattle.std.proofs.lemmas.Bool.{eq-eqb, eqb-true, ltb-false}
-use Rattle.std.proofs.lemmas.List.{append-nil}
-use Rattle.std.proofs.lemmas.Option.{none-some, same_Some}
-use Rattle.big_info.specs.declared.info.BigInfo.{BigInfo}
-use Rattle.big_info.specs.Bounds.{Bounds}
-use Rattle.unit_outlets.specs.Account.{Account}
-use Rattle.unit_outlets.specs.Handed.{Handed}
-use Rattle.isoal_unframed.specs.Air.{before_event}
-use Rattle.isoal_unframed.specs.Calls.{Call as StreamCall, accept, lay, lays, accepted, begun}
-use Rattle.isoal_unframed.specs.Histories.{handed}
-use Rattle.isoal_unframed.specs.Struck.{Struck, air_at}
-use Rattle.source_machine.specs.Airs.{slots_of, Airs}
+use Rattle.scenario_laws.proofs.Prelude.{ℕ, zero, suc, ◌≡◌, ◌≤◌, ◌+◌, ◌-◌, ◌==◌, cond, ltb, Bool, true, false, List, [], ◌∷◌, ◌++◌, length, Option, Some, refl, sym, ◌∙◌, ap, subst, inl, inr, arith, slice_get, AllByRecursion, Contains, eq-eqb, eqb-true, ltb-false, append-nil, none-some, same_Some, BigInfo, Bounds, Account, Handed, before_event, lay, lays, begun, handed, Struck, air_at, slots_of, Airs, give_fault, Call, tune, hear, BigSync, of_stream, stay_on, streams_of, member_is, Step, IsInRange, chosen_of, chosen_steps, steps_of_source, open_event, setup_of, source_calls, MeetAirs, heard_on_air, is_of, reaches, sink_calls, source_of, positions_of, ticked, ticked_if, unless_lost, big_sync_on, SinkUnit, handed_by, give_refusal, steps_of, IsStayStruck, UnitsLaw, any_since, calls_on, handed_since, injected_since, is_given, is_tuned, of_sink}
+use Rattle.isoal_unframed.specs.Calls.{Call as StreamCall, accept, accepted}
 use Rattle.source_machine.specs.Calls.{Call as SourceCall, stream_calls as source_stream}
-use Rattle.source_machine.specs.Faults.{give_fault}
-use Rattle.group_sink.specs.Calls.{Call, tune, hear, place}
-use Rattle.sync_reference.specs.BigSync.{BigSync}
-use Rattle.group_sink.specs.Handing.{handed_since as ticked_since, of_stream}
-use Rattle.group_sink.specs.Streams.{stay_on, streams_of}
-use Rattle.group_sink.proofs.Citable.{member_is}
-use Rattle.scenario_text.specs.declared.step.Step.{Step}
+use Rattle.group_sink.specs.Calls.{place}
+use Rattle.group_sink.specs.Handing.{handed_since as ticked_since}
 use Rattle.scenario_text.specs.declared.step.Step.TheVariants as steps
-use Rattle.scenario_text.specs.Ranges.{IsInRange}
-use Rattle.scenario_history.specs.Steps.{chosen_of, chosen_steps, steps_of_source}
-use Rattle.scenario_history.specs.Source.{open_event, setup_of, source_calls}
-use Rattle.scenario_history.specs.Airs.{MeetAirs}
-use Rattle.scenario_history.specs.Sinks.{heard_on_air, is_of, reaches, sink_calls, source_of, positions_of, ticked, ticked_if, unless_lost}
-use Rattle.scenario_history.specs.Worlds.{big_sync_on}
-use Rattle.scenario_history.specs.Boxes.{SinkUnit, handed_by}
-use Rattle.scenario_history.specs.Refusals.{give_refusal}
-use Rattle.scenario_history.specs.Lines.{steps_of}
-use Rattle.scenario_laws.specs.Laws.{IsStayStruck, UnitsLaw, any_since, calls_on, handed_since, injected_since, is_given, is_tuned, of_sink}
 use Rattle.scenario_laws.proofs.Below.{Below}
 use Rattle.scenario_laws.proofs.Legals.{Legal, legal, maps_none}
 use Rattle.scenario_laws.proofs.Sources.{Allowed, Lawful, Settled, bounds_in, lawful, no_group_yet, settled}

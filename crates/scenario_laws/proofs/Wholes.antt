@@ -1,11 +1,7 @@
 -- The steps of a source so far, as a part of all its steps: what fixes it is the same, and its calls are the first of all.
-use Rattle.std.proofs.Common.{ℕ, ◌≡◌, ◌≤◌, cond, Bool, true, false, List, [], ◌∷◌, ◌++◌, refl, sym, ◌∙◌, arith, append_assoc}
-use Rattle.source_machine.specs.Calls.{Setup, Call as SourceCall, give, event as perform, events, next_of}
-use Rattle.scenario_text.specs.declared.step.Step.{Step}
+use Rattle.scenario_laws.proofs.Prelude.{ℕ, ◌≡◌, ◌≤◌, cond, Bool, true, false, List, [], ◌∷◌, ◌++◌, refl, sym, ◌∙◌, arith, append_assoc, Setup, give, events, next_of, Step, is_of_source, steps_of_source, is_started, setup_of, source_calls, Airs}
+use Rattle.source_machine.specs.Calls.{Call as SourceCall, event as perform}
 use Rattle.scenario_text.specs.declared.step.Step.TheVariants as steps
-use Rattle.scenario_history.specs.Steps.{is_of_source, steps_of_source}
-use Rattle.scenario_history.specs.Source.{is_started, setup_of, source_calls}
-use Rattle.source_machine.specs.Airs.{Airs}
 use Rattle.scenario_laws.proofs.Legals.{Legal, permitted}
 use Rattle.scenario_laws.proofs.Sources.{Allowed, Lawful, its_step, lawful, not_yet, settled, setup_stays, started_stays}
 

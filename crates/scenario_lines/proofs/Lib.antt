@@ -1,3 +1,4 @@
+mod Prelude
 mod LowFirst
 mod MadeSteps
 mod NextLines

@@ -1,5 +1,5 @@
 -- The octets of a number as std has them are its octets with the least first.
-use Rattle.std.proofs.Common.{◌≡◌, ◌/◌, ℕ, w16, w32, refl, arith}
+use Rattle.scenario_lines.proofs.Prelude.{◌≡◌, ◌/◌, ℕ, w16, w32, refl, arith}
 use Rattle.std.specs.Int.{to_le_bytes}
 use Rattle.bcast_base.specs.Encoding.{number}
 

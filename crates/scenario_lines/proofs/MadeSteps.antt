@@ -1,14 +1,10 @@
 -- The lines of the generator that say their steps in each version.
-use Rattle.std.proofs.Common.{◌≡◌, ℕ, zero, suc, ◌<◌, ◌≤◌, ◌%◌, None, List, length, refl, arith, codes}
+use Rattle.scenario_lines.proofs.Prelude.{◌≡◌, ℕ, zero, suc, ◌<◌, ◌≤◌, ◌%◌, None, List, length, refl, arith, codes, ◌▸◌, Unit, Event, Air, LineIs, unit_row, event_row, air_row, nil_octets, cons_octets, unit_of}
 use Rattle.std.specs.Prelude.{replicate}
 use Rattle.std.proofs.lemmas.List.{length-replicate}
 use Rattle.bcast_base.specs.Encoding.{IsOctets}
-use Rattle.scenario_words.specs.Lines.{◌▸◌}
-use Rattle.scenario_text.specs.declared.step.Step.TheVariants.{Unit, Event, Air}
-use Rattle.scenario_text.specs.Lines.{LineIs}
-use Rattle.scenario_text.specs.Table.{row_of, unit_row, event_row, air_row}
-use Rattle.scenario_text.proofs.Citable.{nil_octets, cons_octets}
-use Rattle.scenario_lines.specs.Generated.{unit_of, unit_line, air_line}
+use Rattle.scenario_text.specs.Table.{row_of}
+use Rattle.scenario_lines.specs.Generated.{unit_line, air_line}
 use Rattle.scenario_lines.proofs.Said.{row_says}
 
 same_octets : (n v : ℕ) → v < 256 → IsOctets (replicate n v)

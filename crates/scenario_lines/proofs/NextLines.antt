@@ -1,7 +1,6 @@
 -- The next line, by where the generator stands.
-use Rattle.std.proofs.Common.{◌≡◌, ◌≢◌, ℕ, zero, suc, ◌+◌, ◌-◌, ◌==◌, cond, Bool, true, false, eqb-true, List, [], ◌∷◌, ◌++◌, drop, refl, sym, ap, ◌∙◌, arith, codes}
-use Rattle.scenario_lines.specs.Generated.{unit_line, head_lines, lines_from}
-use Rattle.scenario_lines.specs.State.Places.{left_at}
+use Rattle.scenario_lines.proofs.Prelude.{◌≡◌, ◌≢◌, ℕ, zero, suc, ◌+◌, ◌-◌, ◌==◌, cond, Bool, true, false, eqb-true, List, [], ◌∷◌, ◌++◌, drop, refl, sym, ap, ◌∙◌, arith, codes, head_lines, left_at}
+use Rattle.scenario_lines.specs.Generated.{unit_line, lines_from}
 use Rattle.scenario_lines.specs.declared.made_lines.Place.TheVariants.{Head, FirstUnit, Unit, OtherUnit, Over}
 
 pub end_next : (state x count : ℕ) (line : List ℕ) → count ≡ 0 → line ≡ codes "end" → left_at Unit state x count ≡ line ∷ left_at Over state x count

@@ -1,5 +1,5 @@
 -- Words behind words, and the streams of a set, the pairs and the values one after the other.
-use Rattle.std.proofs.Common.{◌≡◌, ◌≤◌, ◌<◌, ◌+◌, ◌-◌, ℕ, zero, suc, Bool, true, false, cond, nat_eq, List, [], ◌∷◌, ◌++◌, map, drop, get_or, length, Some, decimal, refl, ap, sym, ◌∙◌, append_assoc, arith}
+use Rattle.scenario_lines.proofs.Prelude.{◌≡◌, ◌≤◌, ◌<◌, ◌+◌, ◌-◌, ℕ, zero, suc, Bool, true, false, cond, nat_eq, List, [], ◌∷◌, ◌++◌, map, drop, get_or, length, Some, decimal, refl, ap, sym, ◌∙◌, append_assoc, arith, all_words_given, next_item, placed_line}
 use Rattle.std.specs.Prelude.{slice_get}
 use Rattle.std.specs.Int.{bit_at}
 use Rattle.std.proofs.lemmas.List.{append-nil, drop_all}
@@ -8,8 +8,6 @@ use Rattle.bass_operations.specs.declared.wishes.Wish.{Wish}
 use Rattle.scenario_words.specs.ValueWords.{streams_from, wish_words}
 use Rattle.scenario_words.specs.declared.value.Value.{Value}
 use Rattle.scenario_words.specs.Given.{at_place, given_words, placed, words_at}
-use Rattle.scenario_words.proofs.CitableValues.{all_words_given, next_item}
-use Rattle.scenario_text.specs.Written.{placed_line}
 
 pub behind_more : (words more : List (List ℕ)) → behind (words ++ more) ≡ behind words ++ behind more
 behind_more [] more = refl

@@ -1,14 +1,6 @@
 -- Each step has its row in the table of version 2, and its values make it again.
-use Rattle.std.proofs.Common.{◌≡◌, true, Some, refl}
-use Rattle.scenario_text.specs.declared.step.Step.{Step}
-use Rattle.scenario_text.specs.declared.step.Step.TheVariants.{Scenario, Group, Ident, Subgroup, Meta, Bis, Cipher, Start, Sink, Pac, Locate, Context, Tuned}
-use Rattle.scenario_text.specs.declared.step.Step.TheVariants.{Unit, Event, Hear, Air, Inject, Sniff, Announce, Train, Write, Add, Modify, Remove, Code, Serve}
-use Rattle.scenario_text.specs.declared.step.Step.TheVariants.{Tell, Read, Drain, Show, Lose, Drop, Terminate, Control, Forge, Stop, End, Assist, Apart, AWrite}
-use Rattle.scenario_text.specs.declared.step.Step.TheVariants.{AServe, ATell, ARead, ADrain, AShow, Source, Relay}
-use Rattle.scenario_text.specs.Table.{Row, row_of, first_row_of, source_row_of, sink_row_of, link_row_of, row_of_2, link_row_of_2}
-use Rattle.scenario_text.specs.Written.{Parts, in_row, parts_of}
-use Rattle.scenario_text.proofs.Citable.{made}
-use Rattle.scenario_words.proofs.CitableValues.{is_unspaced}
+use Rattle.scenario_lines.proofs.Prelude.{◌≡◌, true, Some, refl, Step, Scenario, Group, Ident, Subgroup, Meta, Bis, Cipher, Start, Sink, Pac, Locate, Context, Tuned, Unit, Event, Hear, Air, Inject, Sniff, Announce, Train, Write, Add, Modify, Remove, Code, Serve, Tell, Read, Drain, Show, Lose, Drop, Terminate, Control, Forge, Stop, End, Assist, Apart, AWrite, AServe, ATell, ARead, ADrain, AShow, Source, Relay, Row, Parts, in_row, parts_of, made, is_unspaced}
+use Rattle.scenario_text.specs.Table.{row_of, first_row_of, source_row_of, sink_row_of, link_row_of, row_of_2, link_row_of_2}
 
 abbrev pub made_of : Parts → Step
 made_of (in_row row values) = made row.places row.build values

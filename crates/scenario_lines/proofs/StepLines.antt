@@ -1,13 +1,7 @@
 -- The line that is written for a step is a line of the table, and each line of the table has values that have words.
-use Rattle.std.proofs.Common.{◌≡◌, ℕ, List, [], ◌∷◌, Some}
+use Rattle.scenario_lines.proofs.Prelude.{◌≡◌, ℕ, List, [], ◌∷◌, Some, Values, AllHaveWords, words_fit, Step, Build, Row, Says, Fits, EachRow, made, of_each_row}
 use Rattle.scenario_words.specs.Places.{Place}
-use Rattle.scenario_words.specs.Lines.{Values, AllHaveWords}
-use Rattle.scenario_words.proofs.CitableValues.{words_fit}
-use Rattle.scenario_text.specs.declared.step.Step.{Step}
-use Rattle.scenario_text.specs.Table.{Build, Row, row_of}
-use Rattle.scenario_text.specs.Lines.{Says}
-use Rattle.scenario_text.specs.Written.{Fits}
-use Rattle.scenario_text.proofs.Citable.{EachRow, made, of_each_row}
+use Rattle.scenario_text.specs.Table.{row_of}
 
 -- ---- what is said
 

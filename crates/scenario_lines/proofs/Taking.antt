@@ -1,5 +1,5 @@
 -- Where the next word spells an octet, and where a word is left.
-use Rattle.std.proofs.Common.{◌≡◌, ◌≢◌, ℕ, true, List, [], ◌∷◌, length, Result, Ok, Err, refl, arith}
+use Rattle.scenario_lines.proofs.Prelude.{◌≡◌, ◌≢◌, ℕ, true, List, [], ◌∷◌, length, Result, Ok, Err, refl, arith}
 use Rattle.std.proofs.lemmas.Bool.{lt-ltb}
 use Rattle.std.specs.Prelude.{nat_lt}
 use Rattle.scenario_words.specs.declared.fault.LineFault.{LineFault}

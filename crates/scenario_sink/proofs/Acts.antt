@@ -1,20 +1,8 @@
 -- What a call adds to what happens on a link.
-use Rattle.std.proofs.Common.{ℕ, zero, suc, ◌≡◌, ◌≢◌, ◌+◌, ◌<◌, ◌≤◌, min, Bool, true, false, List, [], ◌∷◌}
-use Rattle.std.proofs.Common.{◌++◌, length, drop, slice_get, Option, Some, None, refl, sym, ap, ◌∙◌, subst, length-append, arith, inl, inr}
-use Rattle.std.specs.Prelude.{◌==◌, if◌then◌else◌, unwrap_or}
-use Rattle.std.specs.List.{filter, range_with_len}
-use Rattle.std.specs.Option.{option_or}
-use Rattle.std.proofs.lemmas.Bool.{cases_eq, eq-eqb, ne_eqb}
+use Rattle.scenario_sink.proofs.Prelude.{ℕ, zero, suc, ◌≡◌, ◌≢◌, ◌+◌, ◌<◌, ◌≤◌, min, Bool, true, false, List, [], ◌∷◌, ◌++◌, length, drop, slice_get, Option, Some, None, refl, sym, ap, ◌∙◌, subst, length-append, arith, inl, inr, ◌==◌, if◌then◌else◌, unwrap_or, filter, range_with_len, option_or, cases_eq, eq-eqb, ne_eqb, reads_of, waiting_of, IsLowest, NoneWaits, Setup, Call, stepped, joined, parted, asked, served, notified, read, is_joined, joining_by, served_of, writes, writes_waiting, IsApart, Acts, Told, acts_of, language, notices_waiting, read_first, reads_waiting, notified_first, IsStep}
 use Rattle.assistant_machine.specs.Links as links
-use Rattle.assistant_machine.specs.Links.{reads_of, waiting_of}
-use Rattle.assistant_machine.specs.State.Assistants.{IsLowest, NoneWaits}
 use Rattle.assistant_machine.proofs.Citable.{drop_more}
 use Rattle.delegator_history.specs.LastGiven.{last_given}
-use Rattle.delegator_history.specs.Trains.{Setup}
-use Rattle.sink_history.specs.Calls.{Call, stepped, joined, parted, asked, served, notified, read, is_joined, joining_by, served_of, writes, writes_waiting}
-use Rattle.sink_history.specs.Drains.{IsApart}
-use Rattle.sink_history.specs.Links.{Acts, Told, acts_of, language, notices_waiting, read_first, reads_waiting, notified_first}
-use Rattle.sink_history.specs.Steps.{IsStep}
 
 pub first_and_rest : {A : Type 0} (xs : List A) (x : A) → slice_get xs 0 ≡ Some x → xs ≡ x ∷ drop 1 xs
 first_and_rest [] x is = absurd cc

@@ -1,15 +1,8 @@
 -- A line that is one of the lines of a sink.
-use Rattle.std.proofs.Common.{ℕ, ◌≡◌, List, [], Option, Result, Ok, Err, refl, sym, subst}
+use Rattle.scenario_sink.proofs.Prelude.{ℕ, ◌≡◌, List, [], Option, Result, Ok, Err, refl, sym, subst, Source, printed_of, refused_by, LinkedSink, LineMakes, Makes, Quietly, SinkHistory, after_line, Refusal, Stop}
 use Rattle.scenario_text.specs.declared.step.Step.{Step}
-use Rattle.sink_history.specs.History.{Source}
-use Rattle.sink_history.specs.Output.{printed_of}
-use Rattle.sink_history.specs.Refusals.{refused_by}
-use Rattle.scenario_sink.specs.declared.sink.LinkedSink.{LinkedSink}
-use Rattle.scenario_sink.specs.Making.{LineMakes, Makes, Quietly, Takes}
-use Rattle.scenario_sink.specs.SinkHistory.{SinkHistory, after_line}
+use Rattle.scenario_sink.specs.Making.{Takes}
 use Rattle.scenario_sink.proofs.Printing.{nothing_put}
-use Rattle.transcript_text.specs.declared.refusal.Refusal.{Refusal}
-use Rattle.transcript_text.specs.declared.stop.Stop.{Stop}
 use Rattle.transcript_text.specs.declared.stop.Stop.TheVariants.{Refused, OutletFault, Memory}
 
 quiet_makes : (refusal : Option Refusal) (takes : Type 0) (history next : SinkHistory) (text : List ℕ) (new : LinkedSink) (result : Result (Unit {0}) Stop)

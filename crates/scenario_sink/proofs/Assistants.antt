@@ -1,20 +1,11 @@
 -- A link on which one thing more happens.
-use Rattle.std.proofs.Common.{ℕ, zero, suc, ◌≡◌, ◌≤◌, Bool, true, false, List, [], ◌∷◌, ◌++◌, length, map, drop, slice_get, Option, Some, refl, sym, ap, ◌∙◌, subst, arith, inl, inr}
-use Rattle.std.specs.Prelude.{◌==◌, ◌&&◌, not, unwrap_or}
-use Rattle.std.proofs.lemmas.Bool.{cases_eq, eq-eqb, ne_eqb}
-use Rattle.bcast_base.specs.Encoding.{IsOctets}
-use Rattle.receive_state.specs.declared.state.ReceiveState.{ReceiveState}
+use Rattle.scenario_sink.proofs.Prelude.{ℕ, zero, suc, ◌≡◌, ◌≤◌, Bool, true, false, List, [], ◌∷◌, ◌++◌, length, map, drop, slice_get, Option, Some, refl, sym, ap, ◌∙◌, subst, arith, inl, inr, ◌==◌, ◌&&◌, not, unwrap_or, cases_eq, eq-eqb, ne_eqb, IsOctets, ReceiveState, Assistant, if_slot, reading_of, Notice, delivered_of, if_its, notices_of, told_by, value_of, waiting_of, waits_of, Acts, Told, delivered, language, Linked, LinkHolds}
 use Rattle.assistant_machine.specs.Calls as assistants
-use Rattle.assistant_machine.specs.State.Assistants.{Assistant, StandsFor}
+use Rattle.assistant_machine.specs.State.Assistants.{StandsFor}
 use Rattle.assistant_machine.specs.Views as known
-use Rattle.assistant_machine.specs.Views.{if_slot, reading_of}
-use Rattle.delegator_history.specs.declared.notice.Notice.{Notice}
 use Rattle.assistant_machine.specs.Cuts.{asks}
 use Rattle.assistant_machine.specs.Links as links
-use Rattle.assistant_machine.specs.Links.{delivered_of, if_its, notices_of, told_by, view_of, value_of, waiting_of, waits_of}
-use Rattle.sink_history.specs.Links.{Acts, Told, delivered, language}
-use Rattle.multi_assist.specs.State.Places.{Linked}
-use Rattle.scenario_sink.specs.State.Links.{LinkHolds}
+use Rattle.assistant_machine.specs.Links.{view_of}
 
 -- ---- the same happened, by another name
 

@@ -1,21 +1,7 @@
 -- A new sink.
-use Rattle.std.proofs.Common.{ℕ, zero, suc, ◌≡◌, [], ◌∷◌, List, Option, Some, None, refl, sym, ◌∙◌, subst}
-use Rattle.std.specs.Prelude.{slice_index_or}
-use Rattle.std.proofs.lemmas.Bool.{ne_eqb}
-use Rattle.delegator_machine.specs.State.Halves.{Halves, StandsFor}
-use Rattle.delegator_history.specs.States.{answered, mtu_set}
-use Rattle.delegator_history.specs.Trains.{Settings, Setup}
-use Rattle.delegator_history.proofs.Citable.{waiting_goes_on}
+use Rattle.scenario_sink.proofs.Prelude.{ℕ, zero, suc, ◌≡◌, [], ◌∷◌, List, Option, Some, None, refl, sym, ◌∙◌, subst, slice_index_or, ne_eqb, Halves, StandsFor, mtu_set, Settings, Setup, waiting_goes_on, is_joined, stepped, link_at, linked, mtu_of, slots_of, Linked, joining, Links, SinkHistory, new_sink, OnLink, HasStepped, Stands, after_call, its_mtu}
+use Rattle.delegator_history.specs.States.{answered}
 use Rattle.group_sink.specs.Calls as sinks
-use Rattle.sink_history.specs.Calls.{is_joined, stepped}
-use Rattle.multi_assist.specs.State.Links.{link_at, linked, mtu_of, slots_of}
-use Rattle.multi_assist.specs.State.Places.{Linked}
-use Rattle.multi_assist.specs.State.Terms.{joining}
-use Rattle.multi_assist.specs.declared.links.Links.{Links}
-use Rattle.scenario_sink.specs.SinkHistory.{SinkHistory, new_sink}
-use Rattle.scenario_sink.specs.State.Links.{OnLink}
-use Rattle.scenario_sink.specs.State.Stands.{HasStepped, Stands, after_call}
-use Rattle.scenario_sink.specs.State.Untold.{its_mtu}
 use Rattle.scenario_sink.proofs.Fresh.{first_holds}
 use Rattle.scenario_sink.proofs.Stands.{Tells, no_notices, on_none, on_some, settled, waiting_is}
 

@@ -1,33 +1,10 @@
 -- A sink whose links took a call.
-use Rattle.std.proofs.Common.{ℕ, zero, suc, ◌≡◌, ◌≢◌, ◌<◌, ◌≤◌, true, false, List, [], ◌∷◌, length}
-use Rattle.std.proofs.Common.{map, drop, slice_get, slice_set, Option, Some, None, refl, sym, ap, ◌∙◌, subst, arith, inl, inr}
-use Rattle.std.specs.Prelude.{is_some, option_map, slice_index_or}
-use Rattle.std.proofs.lemmas.Bool.{cases_eq}
-use Rattle.bcast_base.specs.Encoding.{IsOctets}
+use Rattle.scenario_sink.proofs.Prelude.{ℕ, zero, suc, ◌≡◌, ◌≢◌, ◌<◌, ◌≤◌, true, false, List, [], ◌∷◌, length, map, drop, slice_get, slice_set, Option, Some, None, refl, sym, ap, ◌∙◌, subst, arith, inl, inr, is_some, option_map, slice_index_or, cases_eq, IsOctets, value_of, waits_of, Assistant, IsLowest, NoneWaits, Halves, StandsFor, settings_of, Notice, written, Setup, value, Call, asked, forged, joined, parted, read, served, notified, is_joined, step_by, writes_waiting, IsApart, Told, acts_of, delivered, language, notices_waiting, reads_waiting, state, AreOctets, IsAsked, writes_one, link_at, linked, mtu_of, slots_of, with_assistant_on, Linked, asking, assistant_in, first_of, without_first, Links, SinkHistory, LinkHolds, OnLink, HasStepped, LinkIs, Stands, after_call, Takes}
 use Rattle.assistant_machine.specs.Answers.{answer_of}
 use Rattle.assistant_machine.specs.Calls as assistants
 use Rattle.assistant_machine.specs.Links as happened
-use Rattle.assistant_machine.specs.Links.{value_of, waits_of}
-use Rattle.assistant_machine.specs.State.Assistants.{Assistant, IsLowest, NoneWaits}
 use Rattle.assistant_machine.specs.Views as known
 use Rattle.delegator_machine.specs.Calls as machine
-use Rattle.delegator_machine.specs.State.Halves.{Halves, StandsFor, settings_of}
-use Rattle.delegator_history.specs.declared.notice.Notice.{Notice}
-use Rattle.delegator_history.specs.States.{written}
-use Rattle.delegator_history.specs.Trains.{Setup}
-use Rattle.delegator_history.specs.Values.{value}
-use Rattle.sink_history.specs.Calls.{Call, asked, forged, joined, parted, read, served, notified, is_joined, step_by, writes_waiting}
-use Rattle.sink_history.specs.Drains.{IsApart}
-use Rattle.sink_history.specs.Links.{Told, acts_of, delivered, language, notices_waiting, reads_waiting, state}
-use Rattle.sink_history.specs.Octets.{AreOctets, IsAsked}
-use Rattle.sink_history.proofs.Citable.{writes_one}
-use Rattle.multi_assist.specs.State.Links.{link_at, linked, mtu_of, slots_of, with_assistant_on}
-use Rattle.multi_assist.specs.State.Places.{Linked, asking, assistant_in, first_of, without_first}
-use Rattle.multi_assist.specs.declared.links.Links.{Links}
-use Rattle.scenario_sink.specs.SinkHistory.{SinkHistory}
-use Rattle.scenario_sink.specs.State.Links.{LinkHolds, OnLink}
-use Rattle.scenario_sink.specs.State.Stands.{HasStepped, LinkIs, Stands, after_call}
-use Rattle.scenario_sink.specs.State.Taking.{Takes}
 use Rattle.scenario_sink.proofs.Acts.{acts_joined, acts_read, acts_told, apart_joined, joins, none_there, parts}
 use Rattle.scenario_sink.proofs.Acts.{lowest_read, lowest_within, none_read, writes_asked, writes_joined, writes_kept}
 use Rattle.scenario_sink.proofs.Assistants.{first_notice, forged_holds, holds_as, put_holds, read_holds, sent_holds, told_holds, waiting_writes}

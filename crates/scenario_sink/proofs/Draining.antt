@@ -1,22 +1,8 @@
 -- Calls of one kind on a link, for as long as something waits for them.
-use Rattle.std.proofs.Common.{ℕ, zero, suc, ◌≡◌, ◌+◌, ◌<◌, ◌≤◌, Bool, true, false, List, [], ◌∷◌, ◌++◌, drop, length, slice_get, Option, Some, None, Ok, refl, sym, ap, ◌∙◌, append_assoc, subst, arith}
-use Rattle.std.specs.List.{concat}
-use Rattle.std.proofs.lemmas.List.{length-append}
-use Rattle.std.specs.Prelude.{is_none, option_map}
-use Rattle.delegator_history.specs.Writes.{reply_of}
-use Rattle.delegator_history.specs.Trains.{Settings}
+use Rattle.scenario_sink.proofs.Prelude.{ℕ, zero, suc, ◌≡◌, ◌+◌, ◌<◌, ◌≤◌, Bool, true, false, List, [], ◌∷◌, ◌++◌, drop, length, slice_get, Option, Some, None, Ok, refl, sym, ap, ◌∙◌, append_assoc, subst, arith, concat, length-append, is_none, option_map, reply_of, Settings, Call, is_joined, writes_waiting, drained, repeated, served_out, notified_out, Told, delivered, notices_waiting, reads_waiting, notices_one, writes_one, Lines, drain_lines, if_there, read_line, read_lines, serve_line, serve_lines, snapshot_in, stated, tell_line, tell_lines, Label, reply_line, value_line, LinkedSink, Goes, Stays, Turns, stayed, SinkHistory, IsSink}
 use Rattle.group_sink.specs.Calls as sinks
 use Rattle.sink_history.specs.Calls as calls
-use Rattle.sink_history.specs.Calls.{Call, is_joined, writes_waiting}
-use Rattle.sink_history.specs.Drains.{drained, repeated, served_out, notified_out}
-use Rattle.sink_history.specs.Links.{Told, delivered, notices_waiting, reads_waiting}
-use Rattle.sink_history.proofs.Citable.{notices_one, reads_one, writes_one}
-use Rattle.sink_history.specs.Output.{Lines, drain_lines, if_there, read_line, read_lines, serve_line, serve_lines, snapshot_in, stated, tell_line, tell_lines}
-use Rattle.transcript_text.specs.SinkLines.{Label, reply_line, value_line}
-use Rattle.scenario_sink.specs.declared.sink.LinkedSink.{LinkedSink}
-use Rattle.scenario_sink.specs.Making.{Goes, Stays, Turns, stayed}
-use Rattle.scenario_sink.specs.SinkHistory.{SinkHistory}
-use Rattle.scenario_sink.specs.State.Stands.{IsSink}
+use Rattle.sink_history.proofs.Citable.{reads_one}
 use Rattle.scenario_sink.proofs.Leaving.{StaysOff, goes_on, served_off}
 use Rattle.scenario_sink.proofs.Histories.{lives_stayed}
 use Rattle.scenario_sink.proofs.Printing.{more_put, nothing_put}

@@ -1,6 +1,5 @@
 -- A train synchronizes a sink to itself or to its BIG exactly where it gets none of the first four answers.
-use Rattle.std.proofs.Common.{ℕ, ◌≡◌, Bool, true, false, List, Option, Some, None, Result, Ok, Err, refl}
-use Rattle.std.specs.Prelude.{if◌then◌else◌}
+use Rattle.scenario_sink.proofs.Prelude.{ℕ, ◌≡◌, Bool, true, false, List, Option, Some, None, Result, Ok, Err, refl, if◌then◌else◌, Snapshot, entry_at, is_on_group, wishes_at, TrainOutcome, ignored, heard, taken, Setup, Train, answer_of, are_none, base_in, big_info_in, outcome_by, by_base, by_big_info, by_broadcast_id, by_endpoint, by_group, by_info, by_slot, by_streams, first_candidates, is_elsewhere, is_wanted, slot_where, follows, is_followed}
 use Rattle.base_grammar.specs.AdReading.{broadcast_id_of}
 use Rattle.base_grammar.specs.Layout.{Endpoint}
 use Rattle.base_grammar.specs.Reading.{base_of}
@@ -12,14 +11,7 @@ use Rattle.big_info.specs.declared.info.BigInfo.{BigInfo}
 use Rattle.big_info.specs.Reading.{info_of}
 use Rattle.big_info.specs.Rows.{first_fault}
 use Rattle.delegator_history.specs.declared.train_heard.TrainHeard.TheVariants as answers
-use Rattle.delegator_history.specs.Snapshots.{Snapshot, entry_at, is_on_group}
-use Rattle.delegator_history.specs.Steps.{wishes_at}
-use Rattle.delegator_history.specs.Trains.{TrainOutcome, ignored, heard, taken, Setup, Train, answer_of, are_none, base_in, big_info_in, outcome_by, by_base, by_big_info}
-use Rattle.delegator_history.specs.Trains.{by_broadcast_id, by_endpoint, by_group, by_info, by_slot, by_streams, first_candidates, is_elsewhere, is_wanted}
-use Rattle.delegator_history.specs.Writes.{slot_where}
 use Rattle.pacs_records.specs.declared.capability.Capability.{Capability}
-use Rattle.sink_history.specs.Moves.{follows}
-use Rattle.scenario_sink.specs.Answers.{is_followed}
 
 -- what a train brings is followed as its answer says
 abbrev IsTold : TrainOutcome → Type 0

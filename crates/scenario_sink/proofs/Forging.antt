@@ -1,9 +1,7 @@
 -- What a forged notice is answered.
-use Rattle.std.proofs.Common.{◌≡◌, ◌≢◌, Result, Ok, Err, refl, sym}
-use Rattle.std.specs.Prelude.{IfErr, IfOk}
+use Rattle.scenario_sink.proofs.Prelude.{◌≡◌, ◌≢◌, Result, Ok, Err, refl, sym, IfErr, IfOk, BadNotice, Memory, NoSuchSlot}
 use Rattle.assistant_machine.specs.Answers.{IsCause}
 use Rattle.assistant_machine.specs.declared.fault.NoticeFault.{NoticeFault}
-use Rattle.assistant_machine.specs.declared.fault.NoticeFault.TheVariants.{BadNotice, Memory, NoSuchSlot}
 use Rattle.assistant_machine.specs.declared.fault.NoticeTaken.{NoticeTaken}
 
 pub its_answer : (result answer : Result NoticeTaken NoticeFault) → result ≢ Err Memory → IfOk result (λ taken. answer ≡ Ok taken) → IfErr result (λ fault. IsCause fault answer)

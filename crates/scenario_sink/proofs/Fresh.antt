@@ -1,13 +1,9 @@
 -- An assistant that just joined.
-use Rattle.std.proofs.Common.{ℕ, true, false, List, [], ◌∷◌, replicate, Option, Some, None, refl, subst}
+use Rattle.scenario_sink.proofs.Prelude.{ℕ, true, false, List, [], ◌∷◌, replicate, Option, Some, None, refl, subst, Acts, asking, joining, LinkHolds}
 use Rattle.assistant_machine.specs.Calls.{Call, all_asked, limited}
 use Rattle.assistant_machine.specs.State.Assistants.{StandsFor, joined}
 use Rattle.assistant_machine.proofs.Citable.{all_stands, fresh, length_replicate, limited_stands}
 use Rattle.assistant_machine.specs.Links as links
-use Rattle.sink_history.specs.Links.{Acts}
-use Rattle.multi_assist.specs.State.Places.{asking}
-use Rattle.multi_assist.specs.State.Terms.{joining}
-use Rattle.scenario_sink.specs.State.Links.{LinkHolds}
 
 -- it was told its MTU, where there is one
 abbrev its_calls : Option ℕ → List Call

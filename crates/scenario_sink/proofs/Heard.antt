@@ -1,18 +1,12 @@
 -- What an assistant takes for a state has octets, since it was read from some.
-use Rattle.std.proofs.Common.{ℕ, suc, ◌≡◌, ◌<◌, ◌≤◌, Bool, true, false, List, [], ◌∷◌, length, map, Option, Some, None, Result, Ok, Err, refl, ap, subst, arith}
-use Rattle.std.specs.Prelude.{◌↔◌, ◌==◌, ◌&&◌, not, unwrap_or}
-use Rattle.std.specs.List.{AllByRecursion}
-use Rattle.bcast_base.specs.Encoding.{IsOctets}
+use Rattle.scenario_sink.proofs.Prelude.{ℕ, suc, ◌≡◌, ◌<◌, ◌≤◌, Bool, true, false, List, [], ◌∷◌, length, map, Option, Some, None, Result, Ok, Err, refl, ap, subst, arith, ◌↔◌, ◌==◌, ◌&&◌, not, unwrap_or, AllByRecursion, IsOctets, ReceiveState, if_slot, reading_of, told_of, view_of, AreHeard}
 use Rattle.bcast_base.specs.Subgroups.{Fits}
 use Rattle.receive_state.specs.Layout.{HasEncoding, IsEncoded, StateIs, group_of}
 use Rattle.receive_state.specs.Reading.{state_of}
 use Rattle.receive_state.specs.declared.fault.StateFault.{StateFault}
 use Rattle.receive_state.specs.declared.state.GroupState.{GroupState}
-use Rattle.receive_state.specs.declared.state.ReceiveState.{ReceiveState}
 use Rattle.assistant_machine.specs.Calls.{Call, notified, read, mtu_of}
-use Rattle.assistant_machine.specs.Views.{if_slot, reading_of, told_of, view_of}
 use Rattle.assistant_machine.specs.Cuts.{asks}
-use Rattle.scenario_sink.specs.State.Links.{AreHeard}
 
 abbrev pub ReadsStates : Type 0
 ReadsStates = (state : Option ReceiveState) (octets : List ℕ) → IsOctets octets → (state_of octets ≡ Ok state) ↔ StateIs state octets

@@ -1,20 +1,7 @@
 -- A living sink that took a call.
-use Rattle.std.proofs.Common.{ℕ, ◌≡◌, true, List, ◌∷◌, Option, Some, None, slice_get, refl, sym, ap, subst}
-use Rattle.std.specs.Prelude.{option_map}
-use Rattle.delegator_machine.specs.Groups.{with_step}
-use Rattle.delegator_machine.specs.State.Halves.{Halves}
-use Rattle.delegator_history.specs.Snapshots.{Snapshot}
-use Rattle.delegator_history.specs.States.{written}
-use Rattle.delegator_history.specs.Trains.{Setup}
-use Rattle.delegator_control.specs.Groups.{has_group}
+use Rattle.scenario_sink.proofs.Prelude.{ℕ, ◌≡◌, true, List, ◌∷◌, Option, Some, None, slice_get, refl, sym, ap, subst, option_map, with_step, Halves, Snapshot, written, Setup, has_group, is_joined, served, writes_waiting, Links, snapshot_in, LinkedSink, stayed, SinkHistory, IsSink, Stands, after_call}
 use Rattle.group_sink.specs.Calls as sinks
-use Rattle.sink_history.specs.Calls.{is_joined, served, writes_waiting}
-use Rattle.multi_assist.specs.declared.links.Links.{Links}
-use Rattle.sink_history.specs.Output.{snapshot_in}
-use Rattle.scenario_sink.specs.declared.sink.LinkedSink.{LinkedSink}
-use Rattle.scenario_sink.specs.Making.{stayed}
-use Rattle.scenario_sink.specs.SinkHistory.{SinkHistory}
-use Rattle.scenario_sink.specs.State.Stands.{IsSink, Stands, after_call, given}
+use Rattle.scenario_sink.specs.State.Stands.{given}
 use Rattle.scenario_sink.proofs.Untold.{stays}
 
 pub first_joined : (history : SinkHistory) (living : LinkedSink) → IsSink history living → is_joined 0 history.calls_made ≡ true

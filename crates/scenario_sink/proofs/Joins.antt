@@ -1,11 +1,7 @@
 -- Whether an assistant is on a link, and why a line that names the link is refused.
-use Rattle.std.proofs.Common.{◌≡◌, Bool, true, false, Option, None, Result, Ok, Err, refl, sym, ◌∙◌}
-use Rattle.std.specs.Option.{option_or}
-use Rattle.std.specs.Prelude.{◌↔◌}
+use Rattle.scenario_sink.proofs.Prelude.{◌≡◌, Bool, true, false, Option, None, Result, Ok, Err, refl, sym, ◌∙◌, option_or, ◌↔◌, refuse_if, Refusal}
 use Rattle.multi_assist.specs.declared.fault.LinkFault.{LinkFault}
 use Rattle.multi_assist.specs.declared.fault.LinkFault.TheVariants.{LinkTwice as Twice, Memory as NoMemory}
-use Rattle.sink_history.specs.Refusals.{refuse_if}
-use Rattle.transcript_text.specs.declared.refusal.Refusal.{Refusal}
 use Rattle.transcript_text.specs.declared.refusal.Refusal.TheVariants.{LinkTwice}
 
 -- that the link is joined already

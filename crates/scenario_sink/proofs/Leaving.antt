@@ -1,16 +1,8 @@
 -- A write that is served synchronizes no sink to a BIG, so that a row of them takes it off one at most once.
-use Rattle.std.proofs.Common.{ℕ, ◌≡◌, Bool, true, false, List, ◌∷◌, slice_get, Option, Some, None, refl, ◌∙◌, ap}
-use Rattle.std.specs.Prelude.{option_map}
-use Rattle.delegator_machine.specs.Groups.{with_leave, with_step}
+use Rattle.scenario_sink.proofs.Prelude.{ℕ, ◌≡◌, Bool, true, false, List, ◌∷◌, slice_get, Option, Some, None, refl, ◌∙◌, ap, option_map, with_leave, with_step, snapshot_goes_on, Snapshot, Step, snapshot_of, written, Setup, Call, served, steps_of, writes_waiting, has_group}
 use Rattle.delegator_machine.proofs.Citable.{stays_off}
-use Rattle.delegator_history.proofs.Citable.{snapshot_goes_on}
-use Rattle.delegator_history.specs.Snapshots.{Snapshot}
-use Rattle.delegator_history.specs.States.{Step, snapshot_of, written}
-use Rattle.delegator_history.specs.Trains.{Setup}
 use Rattle.group_sink.specs.Calls as sinks
 use Rattle.sink_history.specs.Calls as links
-use Rattle.sink_history.specs.Calls.{Call, served, steps_of, writes_waiting}
-use Rattle.delegator_control.specs.Groups.{has_group}
 
 -- ---- steps
 

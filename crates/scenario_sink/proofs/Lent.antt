@@ -1,12 +1,8 @@
 -- The assistant that is lent is the one on the link.
-use Rattle.std.proofs.Common.{ℕ, ◌≡◌, List, [], ◌∷◌, ◌++◌, drop, Option, Some, None, refl, sym, ap, ◌∙◌, subst}
-use Rattle.std.specs.Prelude.{IfSome, OnSome, option_map, option_to_list}
+use Rattle.scenario_sink.proofs.Prelude.{ℕ, ◌≡◌, List, [], ◌∷◌, ◌++◌, drop, Option, Some, None, refl, sym, ap, ◌∙◌, subst, IfSome, OnSome, option_map, option_to_list, Assistant, IsLowest, with_assistant_on, Links, Takes}
 use denote.Ref.{MutBor}
 use Rattle.assistant_machine.specs.Calls.{Call, asked, sent}
-use Rattle.assistant_machine.specs.State.Assistants.{Assistant, IsLowest, StandsFor}
-use Rattle.multi_assist.specs.State.Links.{with_assistant_on}
-use Rattle.multi_assist.specs.declared.links.Links.{Links}
-use Rattle.scenario_sink.specs.State.Taking.{Takes}
+use Rattle.assistant_machine.specs.State.Assistants.{StandsFor}
 
 pub its_own : (lent : Option (MutBor Assistant)) (it : MutBor Assistant) (before : Assistant) → lent ≡ Some it → option_map (λ (r : MutBor Assistant). r.now) lent ≡ Some before → it.now ≡ before
 its_own lent it before is holds = let same : Some it.now ≡ Some before = sym (ap (option_map (λ (r : MutBor Assistant). r.now)) is) ∙ holds in cc

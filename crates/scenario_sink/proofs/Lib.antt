@@ -1,3 +1,4 @@
+mod Prelude
 mod Acts
 mod Arms
 mod Assistants

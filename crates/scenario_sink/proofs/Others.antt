@@ -1,5 +1,5 @@
 -- A step that none of the arms for a sink's lines took is none of these lines.
-use Rattle.std.proofs.Common.{ℕ, ◌≡◌, List, refl}
+use Rattle.scenario_sink.proofs.Prelude.{ℕ, ◌≡◌, List, refl}
 use Rattle.bass_operations.specs.declared.operation.AddSource.{AddSource}
 use Rattle.bass_operations.specs.declared.operation.ModifySource.{ModifySource}
 use Rattle.scenario_text.specs.declared.step.Step.{Step}

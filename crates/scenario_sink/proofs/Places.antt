@@ -1,11 +1,5 @@
 -- What stands on each of the four links.
-use Rattle.std.proofs.Common.{ℕ, zero, suc, ◌≡◌, ◌≢◌, ◌≤◌, List, [], ◌∷◌, Option, Some, None, map, slice_set, refl, sym, ap, ◌∙◌, arith, inl, inr}
-use Rattle.std.specs.Prelude.{option_map, slice_index_or}
-use Rattle.std.proofs.lemmas.Bool.{cases_eq}
-use Rattle.assistant_machine.specs.State.Assistants.{Assistant}
-use Rattle.multi_assist.specs.State.Links.{link_at, linked, mtu_of, slots_of, with_assistant_on}
-use Rattle.multi_assist.specs.State.Places.{Linked, link_of}
-use Rattle.multi_assist.specs.declared.links.Links.{Links}
+use Rattle.scenario_sink.proofs.Prelude.{ℕ, zero, suc, ◌≡◌, ◌≢◌, ◌≤◌, List, [], ◌∷◌, Option, Some, None, map, slice_set, refl, sym, ap, ◌∙◌, arith, inl, inr, option_map, slice_index_or, cases_eq, Assistant, link_at, linked, mtu_of, slots_of, with_assistant_on, Linked, link_of, Links}
 use Rattle.multi_assist.specs.declared.place.Place.{Place}
 
 -- ---- a list of links

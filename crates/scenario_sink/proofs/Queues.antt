@@ -1,8 +1,5 @@
 -- How many wait of what calls of one kind take one by one.
-use Rattle.std.proofs.Common.{ℕ, zero, suc, ◌≡◌, ◌≤◌, List, [], ◌∷◌, length, drop, slice_get, Some, None, sym, ap, ◌∙◌, arith}
-use Rattle.sink_history.specs.Calls.{Call}
-use Rattle.sink_history.specs.Drains.{repeated}
-use Rattle.sink_history.proofs.Citable.{drop_nil, taken_one_by_one}
+use Rattle.scenario_sink.proofs.Prelude.{ℕ, zero, suc, ◌≡◌, ◌≤◌, List, [], ◌∷◌, length, drop, slice_get, Some, None, sym, ap, ◌∙◌, arith, Call, repeated, drop_nil, taken_one_by_one}
 
 within : {A : Type 0} (n : ℕ) (xs : List A) (x : A) → slice_get (drop n xs) 0 ≡ Some x → suc n ≤ length xs
 within n [] x is = absurd (let none : None ≡ Some x = ap (λ ys. slice_get ys 0) (sym (drop_nil n)) ∙ is in cc)

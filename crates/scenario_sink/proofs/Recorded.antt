@@ -1,9 +1,5 @@
 -- A record of capabilities that finds room, or none.
-use Rattle.std.proofs.Common.{ℕ, ◌≡◌, ◌≤◌, ◌<◌, None, Some, ap}
-use Rattle.std.specs.Prelude.{nat_lt}
-use Rattle.std.proofs.lemmas.Bool.{le-ltb, lt-ltb}
-use Rattle.pacs_records.specs.Layout.{greatest_value}
-use Rattle.sink_history.specs.Refusals.{refuse_if}
+use Rattle.scenario_sink.proofs.Prelude.{ℕ, ◌≡◌, ◌≤◌, ◌<◌, None, Some, ap, nat_lt, le-ltb, lt-ltb, greatest_value, refuse_if}
 use Rattle.transcript_text.specs.declared.refusal.Refusal.TheVariants.{RecordsTooLong}
 
 pub has_room : (count : ℕ) → count ≤ greatest_value → refuse_if (nat_lt greatest_value count) RecordsTooLong ≡ None

@@ -1,15 +1,5 @@
 -- What is shown of a slot.
-use Rattle.std.proofs.Common.{ℕ, ◌≡◌, ◌<◌, ◌≤◌, ltb, List, ◌++◌, [], ◌∷◌, Some, None, ◌∙◌, ap, sym}
-use Rattle.std.proofs.lemmas.Bool.{cond-false, cond-true, le-ltb, lt-ltb}
-use Rattle.std.specs.List.{concat}
-use Rattle.std.specs.Prelude.{codes, decimal}
-use Rattle.delegator_history.specs.declared.notice.Notice.{Notice}
-use Rattle.delegator_history.specs.Trains.{Settings}
-use Rattle.sink_history.specs.Calls.{Call}
-use Rattle.sink_history.specs.Output.{state_where, stated, viewed}
-use Rattle.transcript_text.specs.SinkLines.{value_line}
-use Rattle.scenario_sink.specs.Making.{slot_lines}
-use Rattle.scenario_sink.specs.SinkHistory.{SinkHistory}
+use Rattle.scenario_sink.proofs.Prelude.{ℕ, ◌≡◌, ◌<◌, ◌≤◌, ltb, List, ◌++◌, [], ◌∷◌, Some, None, ◌∙◌, ap, sym, cond-false, cond-true, le-ltb, lt-ltb, concat, codes, decimal, Notice, Settings, Call, state_where, stated, viewed, value_line, slot_lines, SinkHistory}
 use Rattle.scenario_sink.proofs.Printing.{two_put}
 
 abbrev pub with_value : ℕ → List ℕ → Notice

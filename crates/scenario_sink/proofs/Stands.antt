@@ -1,36 +1,10 @@
 -- A sink with its links that stands for its past stands for one call more.
-use Rattle.std.proofs.Common.{ℕ, ◌≡◌, ◌≢◌, Bool, true, false, List, [], ◌∷◌, ◌++◌, map, drop, Option, Some, None, refl, sym, ap, ◌∙◌, subst, inl, inr}
-use Rattle.std.specs.Prelude.{is_some}
-use Rattle.std.proofs.lemmas.Bool.{cases_eq}
-use Rattle.std.proofs.lemmas.List.{append-nil}
+use Rattle.scenario_sink.proofs.Prelude.{ℕ, ◌≡◌, ◌≢◌, Bool, true, false, List, [], ◌∷◌, ◌++◌, map, drop, Option, Some, None, refl, sym, ap, ◌∙◌, subst, inl, inr, is_some, cases_eq, append-nil, group_calls, with_step, Halves, StandsFor, settings_of, has_group, Notice, changes, handed_out, is_told, waiting, Snapshot, Step, done_by, snapshot_of, after, Setup, value_at, none_change, snapshot_goes_on, waiting_goes_on, Call, stepped, is_joined, step_by, steps_of, writes_waiting, IsApart, LeavesLink, Acts, acts_of, IsAsked, IsWritten, IsStep, NotifiesLink, link_at, linked, mtu_of, slots_of, Linked, with_notices, Links, snapshot_in, SinkHistory, receiving, LinkHolds, OnLink, HasStepped, LinkIs, Stands, after_call, untold}
 use Rattle.delegator_machine.specs.Calls as machine
-use Rattle.delegator_machine.specs.Groups.{group_calls, with_step}
-use Rattle.delegator_machine.specs.State.Halves.{Halves, StandsFor, settings_of}
-use Rattle.delegator_control.specs.Groups.{has_group}
-use Rattle.delegator_history.specs.declared.notice.Notice.{Notice}
-use Rattle.delegator_history.specs.Notices.{changes, handed_out, is_told, waiting}
-use Rattle.delegator_history.specs.Snapshots.{Snapshot}
-use Rattle.delegator_history.specs.States.{Step, done_by, snapshot_of}
-use Rattle.delegator_history.specs.Steps.{after}
-use Rattle.delegator_history.specs.Trains.{Setup}
-use Rattle.delegator_history.specs.Values.{value_at}
-use Rattle.delegator_history.proofs.Citable.{none_change, snapshot_goes_on, waiting_goes_on}
 use Rattle.group_sink.specs.Calls as sinks
 use Rattle.sink_history.specs.Calls as calls
-use Rattle.sink_history.specs.Calls.{Call, stepped, is_joined, step_by, steps_of, writes_waiting}
-use Rattle.sink_history.specs.Drains.{IsApart, LeavesLink}
-use Rattle.sink_history.specs.Links.{Acts, acts_of}
-use Rattle.sink_history.specs.Octets.{IsAsked, IsWritten}
-use Rattle.sink_history.specs.Steps.{IsStep, NotifiesLink}
 use Rattle.multi_assist.specs.State.Gathering.{Gathers, StandsOn, asked}
-use Rattle.multi_assist.specs.State.Links.{link_at, linked, mtu_of, slots_of}
-use Rattle.multi_assist.specs.State.Places.{Linked, with_notices}
-use Rattle.multi_assist.specs.declared.links.Links.{Links}
-use Rattle.sink_history.specs.Output.{snapshot_in}
-use Rattle.scenario_sink.specs.SinkHistory.{SinkHistory, receiving}
-use Rattle.scenario_sink.specs.State.Links.{LinkHolds, OnLink}
-use Rattle.scenario_sink.specs.State.Stands.{HasStepped, LinkIs, Stands, after_call, given}
-use Rattle.scenario_sink.specs.State.Untold.{untold}
+use Rattle.scenario_sink.specs.State.Stands.{given}
 use Rattle.scenario_sink.proofs.Acts.{apart_joined, step_joined}
 use Rattle.scenario_sink.proofs.Assistants.{holds_as, told_all}
 use Rattle.scenario_sink.proofs.Places.{at_mapped}

@@ -1,18 +1,9 @@
 -- A train that a line hands a sink.
-use Rattle.std.proofs.Common.{ℕ, ◌≡◌, List, ◌∷◌, Some, sym, ap, ◌∙◌}
-use Rattle.std.specs.Prelude.{if◌then◌else◌}
+use Rattle.scenario_sink.proofs.Prelude.{ℕ, ◌≡◌, List, ◌∷◌, Some, sym, ap, ◌∙◌, if◌then◌else◌, train_heard, TrainOutcome, Train, outcome_by, big_sync_in, with_step, Call, stepped, Source, given_train, own_train, follows, snapshot_in, SinkHistory}
 use Rattle.delegator_history.specs.Announced.{heard_as}
 use Rattle.announcement_train.specs.declared.train.Train.{Train as Announced}
-use Rattle.delegator_history.specs.States.{train_heard}
-use Rattle.delegator_history.specs.Trains.{TrainOutcome, Train, outcome_by, big_sync_in}
-use Rattle.delegator_machine.specs.Groups.{with_step}
-use Rattle.sink_history.specs.Calls.{Call, stepped}
-use Rattle.sink_history.specs.History.{Source, given_train, own_train}
-use Rattle.sink_history.specs.Moves.{follows}
-use Rattle.sink_history.specs.Output.{snapshot_in}
 use Rattle.scenario_sink.specs.declared.origin.Origin.{Origin}
 use Rattle.scenario_sink.specs.Origins.{IsFrom}
-use Rattle.scenario_sink.specs.SinkHistory.{SinkHistory}
 
 abbrev train_of : ℕ → ℕ → (ext adv acad : List ℕ) → ℕ → Train
 train_of address_type sid ext adv acad now = record { address_type = address_type; sid = sid; ext = ext; adv = adv; acad = acad; now = now }

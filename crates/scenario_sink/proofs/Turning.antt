@@ -1,18 +1,7 @@
 -- What waits first on a link: it is taken, or none waits.
-use Rattle.std.proofs.Common.{ℕ, ◌≡◌, Bool, true, false, List, ◌++◌, Option, Some, None, Result, Ok, refl, sym, ap, ◌∙◌, subst}
-use Rattle.std.specs.Prelude.{is_none, not, option_map}
-use Rattle.std.specs.List.{concat}
-use Rattle.std.specs.Option.{option_or}
-use Rattle.sink_history.specs.Calls.{Call, is_joined}
-use Rattle.sink_history.specs.Output.{Lines, if_there}
-use Rattle.sink_history.specs.Refusals.{refuse_if}
-use Rattle.scenario_sink.specs.declared.sink.LinkedSink.{LinkedSink}
-use Rattle.scenario_sink.specs.Making.{Goes, LinkMakes, Makes, Stays, Turns, answer_if, stayed}
-use Rattle.scenario_sink.specs.SinkHistory.{SinkHistory}
+use Rattle.scenario_sink.proofs.Prelude.{ℕ, ◌≡◌, Bool, true, false, List, ◌++◌, Option, Some, None, Result, Ok, refl, sym, ap, ◌∙◌, subst, is_none, not, option_map, concat, option_or, Call, is_joined, Lines, if_there, refuse_if, LinkedSink, Goes, LinkMakes, Makes, Stays, Turns, answer_if, stayed, SinkHistory, Refusal, Stop}
 use Rattle.scenario_sink.proofs.Printing.{one_put}
-use Rattle.transcript_text.specs.declared.refusal.Refusal.{Refusal}
 use Rattle.transcript_text.specs.declared.refusal.Refusal.TheVariants.{NoSuchLink, NothingWaiting}
-use Rattle.transcript_text.specs.declared.stop.Stop.{Stop}
 
 -- ---- a call that answers what there was
 

@@ -1,21 +1,9 @@
 -- What a delegator answers is the same without the steps that asked for notices.
-use Rattle.std.proofs.Common.{ℕ, zero, suc, ◌≡◌, Bool, true, false, List, [], ◌∷◌, refl, sym, ap, ◌∙◌}
-use Rattle.delegator_history.specs.Notices.{is_told}
-use Rattle.delegator_history.specs.States.{Step, notified, done_by, snapshot_of}
-use Rattle.delegator_history.specs.Steps.{after}
-use Rattle.delegator_history.specs.Trains.{Setup}
-use Rattle.delegator_history.proofs.Citable.{snapshot_goes_on}
+use Rattle.scenario_sink.proofs.Prelude.{ℕ, zero, suc, ◌≡◌, Bool, true, false, List, [], ◌∷◌, refl, sym, ap, ◌∙◌, is_told, Step, done_by, snapshot_of, after, Setup, snapshot_goes_on, group_calls, with_leave, Halves, Links, has_group, snapshot_in, SinkHistory, Took, unless_told, untold}
+use Rattle.delegator_history.specs.States.{notified}
 use Rattle.delegator_machine.specs.Calls as machine
-use Rattle.delegator_machine.specs.Groups.{group_calls, with_leave}
-use Rattle.delegator_machine.specs.State.Halves.{Halves}
 use Rattle.group_sink.specs.Calls as sinks
 use Rattle.multi_assist.specs.State.Gathering.{asked}
-use Rattle.multi_assist.specs.declared.links.Links.{Links}
-use Rattle.delegator_control.specs.Groups.{has_group}
-use Rattle.sink_history.specs.Output.{snapshot_in}
-use Rattle.scenario_sink.specs.SinkHistory.{SinkHistory}
-use Rattle.scenario_sink.specs.State.Stands.{Took}
-use Rattle.scenario_sink.specs.State.Untold.{unless_told, untold}
 
 -- ---- the snapshot
 

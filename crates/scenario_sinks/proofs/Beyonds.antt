@@ -1,6 +1,5 @@
 -- A set of streams against those of a group, index by index.
-use Rattle.std.proofs.Common.{◌≡◌, ℕ, ◌+◌, ◌-◌, ◌≤◌, List, [], ◌∷◌, ◌++◌, Bool, true, false, ◌||◌, ◌&&◌, cond, nat_lt, refl, sym, ◌∙◌, ap, arith}
-use Rattle.std.specs.List.{filter, list_any, range_with_len}
+use Rattle.scenario_sinks.proofs.Prelude.{◌≡◌, ℕ, ◌+◌, ◌-◌, ◌≤◌, List, [], ◌∷◌, ◌++◌, Bool, true, false, ◌||◌, ◌&&◌, cond, nat_lt, refl, sym, ◌∙◌, ap, arith, filter, list_any, range_with_len}
 use Rattle.std.proofs.Math.Bool.{or-false}
 use Rattle.group_sink.specs.Streams.{is_in}
 use Rattle.scenario_history.specs.Refusals.{has_beyond}

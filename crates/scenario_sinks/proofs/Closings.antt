@@ -1,38 +1,11 @@
 -- Closing an event for one sink after the other.
-use Rattle.std.proofs.Common.{◌≡◌, ◌≢◌, ℕ, ◌+◌, ◌<◌, ◌≤◌, List, [], ◌∷◌, ◌++◌, length, map, OnOk, refl, sym, ◌∙◌, ap, subst, slice_get, slice_set, get_or, eq-eqb, arith, Bool, true, false, ◌&&◌, if◌then◌else◌, Option, is_some}
-use Rattle.std.proofs.Common.{Result, Ok, Err, None, Some, ◌⊎◌, inl, inr}
-use Rattle.std.specs.List.{flat_map, range_with_len}
-use Rattle.std.proofs.lemmas.Grind.{flat_map-append}
-use Rattle.std.proofs.lemmas.List.{append-nil}
-use Rattle.std.proofs.lemmas.Option.{slice_get-get_or}
-use Rattle.std.proofs.lemmas.Result.{on_ok_weaker}
-use Rattle.std.proofs.lemmas.Bool.{cases_eq}
-use Rattle.unit_outlets.specs.Account.{Account}
-use Rattle.unit_outlets.specs.Handed.{Handed}
-use Rattle.group_sink.specs.Calls.{Call, tick}
+use Rattle.scenario_sinks.proofs.Prelude.{◌≡◌, ◌≢◌, ℕ, ◌+◌, ◌<◌, ◌≤◌, List, [], ◌∷◌, ◌++◌, length, map, OnOk, refl, sym, ◌∙◌, ap, subst, slice_get, slice_set, get_or, eq-eqb, arith, Bool, true, false, ◌&&◌, if◌then◌else◌, Option, is_some, Result, Ok, Err, None, Some, ◌⊎◌, inl, inr, flat_map, range_with_len, flat_map-append, append-nil, slice_get-get_or, on_ok_weaker, cases_eq, Account, Handed, Call, tick, is_of, ticked_if, SinkUnit, most_sinks, closing_by, accounts_after, unit_lines, get_set_here, get_set_other, Gathered, HandedUnit, Owner, Sink, Stop, Histories, with_close, with_close_at, Hands, Sinks, calls_of, handed_of, units_for, EntryIs, EntryAt, EntriesAre, SinksStand, histories_of, SinkCloses, SinkHands, AllClose, Between, EntriesFrom, OneBetween, OneCloses, Unmoved, Settings, IsSink, receiving}
 use Rattle.group_sink.specs.Handing.{handed_at}
 use Rattle.sink_history.specs.Calls as links
-use Rattle.scenario_history.specs.Sinks.{is_of, ticked_if}
-use Rattle.scenario_history.specs.Boxes.{SinkUnit, most_sinks, sink_numbers, closing_by, accounts_after}
-use Rattle.scenario_history.specs.Output.{unit_lines}
-use Rattle.scenario_history.proofs.Citable.{get_set_here, get_set_other}
-use Rattle.scenario_sinks.specs.declared.gathered.Gathered.{Gathered}
-use Rattle.scenario_sinks.specs.declared.gathered.HandedUnit.{HandedUnit}
-use Rattle.scenario_sinks.specs.declared.sink.Owner.{Owner}
-use Rattle.scenario_sinks.specs.declared.sink.Sink.{Sink}
-use Rattle.transcript_text.specs.declared.stop.Stop.{Stop}
-use Rattle.scenario_sinks.specs.Histories.{Histories, with_close, with_close_at}
-use Rattle.scenario_sinks.specs.Handing.{Hands}
-use Rattle.scenario_sinks.specs.declared.sinks.Sinks.{Sinks}
+use Rattle.scenario_history.specs.Boxes.{sink_numbers}
 use Rattle.scenario_sinks.specs.Closing.{Closes, ClosesAt, closing_of, closings, handed_all}
-use Rattle.scenario_sinks.specs.State.Gathering.{calls_of, handed_of, units_for}
-use Rattle.scenario_sinks.specs.State.Standing.{EntryIs, EntryAt, EntriesAre, SinksStand, histories_of}
-use Rattle.scenario_sinks.specs.State.Between.{SinkCloses, SinkHands, AllClose, Between, EntriesFrom, OneBetween, OneCloses, Unmoved}
-use Rattle.delegator_history.specs.Trains.{Settings}
-use Rattle.scenario_sink.specs.State.Stands.{IsSink}
 use Rattle.scenario_sinks.proofs.Entries.{OthersStay, SinkIs, entry_of, one_entry}
 use Rattle.scenario_sinks.proofs.Citable.{hands_stop, hands_then}
-use Rattle.scenario_sink.specs.SinkHistory.{receiving}
 use Rattle.scenario_sinks.proofs.Ranges.{range_append}
 
 pub closings_more : (source event : ℕ) (past : Histories) (n : ℕ)

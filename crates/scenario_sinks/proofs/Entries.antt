@@ -1,34 +1,13 @@
 -- The entries of the sinks, of which one changes.
-use Rattle.std.proofs.Common.{◌≡◌, ◌≢◌, ℕ, zero, suc, ◌<◌, ◌==◌, ◌∷◌, Bool, true, false, ◌&&◌, List, length, replicate, refl, sym, ◌∙◌, ap, subst, ne_eqb, slice_get, slice_set, get_or, is_some}
-use Rattle.std.proofs.Common.{arith, Option, None, Some, Result, Ok, Err, ◌⊎◌, inl, inr}
-use Rattle.std.proofs.lemmas.Option.{slice_get-get_or}
-use Rattle.std.proofs.lemmas.Bool.{cases_eq}
+use Rattle.scenario_sinks.proofs.Prelude.{◌≡◌, ◌≢◌, ℕ, zero, suc, ◌<◌, ◌==◌, ◌∷◌, Bool, true, false, ◌&&◌, List, length, replicate, refl, sym, ◌∙◌, ap, subst, ne_eqb, slice_get, slice_set, get_or, is_some, arith, Option, None, Some, Result, Ok, Err, ◌⊎◌, inl, inr, slice_get-get_or, cases_eq, Settings, BigSync, Call, hear, tune, Hearing, is_of, most_sinks, get_set_here, get_set_other, Sink, Histories, EntryIs, EntryAt, EntriesAre, histories_of, EntryHears, EntryRuns, EntryTunes, Step, Source, calls_by, received_by, source_by, Stop, Refused, OutletFault, Memory, IsSink, after_tuning, receiving}
 use Rattle.delegator_machine.specs.Groups.{by_numbers}
 use Rattle.delegator_history.specs.States.{sync_to_group}
-use Rattle.delegator_history.specs.Trains.{Settings}
-use Rattle.sync_reference.specs.BigSync.{BigSync}
-use Rattle.group_sink.specs.Calls.{Call, hear, tune}
 use Rattle.group_sink.specs.Hearings.{hearing_of}
-use Rattle.isoal_base.specs.declared.hearing.Hearing.{Hearing}
 use Rattle.isoal_base.specs.declared.hearing.Hearing.TheVariants.{NotOnGroup}
 use Rattle.scenario_history.specs.Refusals.{has_beyond}
-use Rattle.scenario_history.specs.Sinks.{is_of}
 use Rattle.sink_history.specs.Calls as links
 use Rattle.sink_history.specs.Calls.{stepped}
-use Rattle.scenario_history.specs.Boxes.{most_sinks}
-use Rattle.scenario_history.proofs.Citable.{get_set_here, get_set_other}
-use Rattle.scenario_sinks.specs.declared.sink.Sink.{Sink}
-use Rattle.scenario_sinks.specs.Histories.{Histories}
-use Rattle.scenario_sinks.specs.State.Standing.{EntryIs, EntryAt, EntriesAre, histories_of}
 use Rattle.scenario_sinks.specs.Hearing.{hearing_where}
-use Rattle.scenario_sinks.specs.State.Entries.{EntryHears, EntryRuns, EntryTunes}
-use Rattle.scenario_text.specs.declared.step.Step.{Step}
-use Rattle.sink_history.specs.History.{Source, calls_by}
-use Rattle.sink_history.specs.Moves.{received_by, source_by}
-use Rattle.transcript_text.specs.declared.stop.Stop.{Stop}
-use Rattle.transcript_text.specs.declared.stop.Stop.TheVariants.{Refused, OutletFault, Memory}
-use Rattle.scenario_sink.specs.State.Stands.{IsSink}
-use Rattle.scenario_sink.specs.SinkHistory.{after_tuning, receiving}
 use Rattle.scenario_sink.specs.Making.{LineMakes}
 
 -- ---- the sink of one entry

@@ -1,11 +1,7 @@
 -- The counts of faults of boxes that take units.
-use Rattle.std.proofs.Common.{◌≡◌, ℕ, List, ◌∙◌, refl, ap, slice_get, Option, None, Some}
+use Rattle.scenario_sinks.proofs.Prelude.{◌≡◌, ℕ, List, ◌∙◌, refl, ap, slice_get, Option, None, Some, Account, SinkUnit, Took, accounts_after, valid_for, with_units, took_all, get_set_other, BoxFails}
 use Rattle.std.specs.Prelude.{option_map}
-use Rattle.unit_outlets.specs.Account.{Account}
-use Rattle.scenario_history.specs.Boxes.{SinkUnit, Took, accounts_after, valid_for, with_units}
-use Rattle.scenario_history.proofs.Citable.{took_all, get_set_other}
 use Rattle.scenario_sinks.specs.Faults.{CountsStay, OneCounts, faults_at}
-use Rattle.scenario_sinks.specs.Handing.{BoxFails}
 
 with_units_stays : (units : List (List ℕ)) (first : Option Account)
     → option_map (λ (a : Account). a.faults) (option_map (λ (a : Account). with_units a units) first) ≡ option_map (λ (a : Account). a.faults) first

@@ -1,20 +1,7 @@
 -- Units that go to their boxes one after the other.
-use Rattle.std.proofs.Common.{◌≡◌, ℕ, ◌+◌, ◌<◌, List, [], ◌∷◌, ◌++◌, length, map, take, drop, refl, sym, ◌∙◌, ap, subst, slice_get, slice_set, get_or, Result}
-use Rattle.std.proofs.Common.{Err, Some, zero, suc}
-use Rattle.std.proofs.lemmas.List.{append-nil, map-append, take-append-drop, take_more}
-use Rattle.unit_outlets.specs.Account.{Account}
-use Rattle.unit_outlets.specs.Handed.{valid}
-use Rattle.unit_outlets.specs.Took.{TookAt}
+use Rattle.scenario_sinks.proofs.Prelude.{◌≡◌, ℕ, ◌+◌, ◌<◌, List, [], ◌∷◌, ◌++◌, length, map, take, drop, refl, sym, ◌∙◌, ap, subst, slice_get, slice_set, get_or, Result, Err, Some, zero, suc, append-nil, map-append, take-append-drop, take_more, Account, valid, TookAt, SinkUnit, accounts_after, unit_lines, Stop, Refused, OutletFault, Memory, handed_of, units_for, HandedUnit, Owner, BoxTakes, Hands}
 use Rattle.unit_outlets.specs.declared.fault.OutletFault.{OutletFault as Refusal}
 use Rattle.unit_outlets.specs.declared.fault.OutletFault.TheVariants.{Memory as NoMemory}
-use Rattle.scenario_history.specs.Boxes.{SinkUnit, accounts_after}
-use Rattle.scenario_history.specs.Output.{unit_lines}
-use Rattle.transcript_text.specs.declared.stop.Stop.{Stop}
-use Rattle.transcript_text.specs.declared.stop.Stop.TheVariants.{Refused, OutletFault, Memory}
-use Rattle.scenario_sinks.specs.State.Gathering.{handed_of, units_for}
-use Rattle.scenario_sinks.specs.declared.gathered.HandedUnit.{HandedUnit}
-use Rattle.scenario_sinks.specs.declared.sink.Owner.{Owner}
-use Rattle.scenario_sinks.specs.Handing.{BoxTakes, Hands}
 use Rattle.scenario_sinks.proofs.Citable.{hands_stop, hands_then}
 
 pub set_same : {A : Type 0} (xs : List A) (i : ℕ) (x : A) → slice_get xs i ≡ Some x → slice_set xs i x ≡ xs

@@ -1,6 +1,7 @@
 pub mod Citable
 pub mod Ranges
 pub mod Handings
+mod Prelude
 mod Unassigned
 pub mod Faults
 pub mod Entries

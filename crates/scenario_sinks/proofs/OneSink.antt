@@ -1,24 +1,8 @@
 -- The sinks after a call for one of them.
-use Rattle.std.proofs.Common.{◌≡◌, ℕ, ◌+◌, ◌<◌, ◌≤◌, true, false, List, length, refl, sym, ◌∙◌, ap, subst, is_some, slice_set, get_or, eq-eqb}
-use Rattle.std.proofs.Common.{arith, Option, None, Some, Result, Ok, Err}
-use Rattle.std.proofs.lemmas.Bool.{le-leb, lt-leb}
-use Rattle.sync_reference.specs.BigSync.{BigSync}
-use Rattle.isoal_base.specs.declared.hearing.Hearing.{Hearing}
+use Rattle.scenario_sinks.proofs.Prelude.{◌≡◌, ℕ, ◌+◌, ◌<◌, ◌≤◌, true, false, List, length, refl, sym, ◌∙◌, ap, subst, is_some, slice_set, get_or, eq-eqb, arith, Option, None, Some, Result, Ok, Err, le-leb, lt-leb, BigSync, Hearing, most_sinks, Gathered, Sink, Sinks, Stop, Refused, OutletFault, Memory, Histories, with_sink, without, with_tuning, with_hearing, EntryAt, EntriesAre, SinksStand, EntryHears, EntryTunes, Settings, IsSink, new_sink}
 use Rattle.transcript_text.specs.declared.refusal.Refusal.TheVariants.{SinkTwice, NoOutlet}
-use Rattle.scenario_history.specs.Boxes.{most_sinks}
-use Rattle.scenario_sinks.specs.declared.gathered.Gathered.{Gathered}
-use Rattle.scenario_sinks.specs.declared.sink.Sink.{Sink}
-use Rattle.scenario_sinks.specs.declared.sinks.Sinks.{Sinks}
-use Rattle.transcript_text.specs.declared.stop.Stop.{Stop}
-use Rattle.transcript_text.specs.declared.stop.Stop.TheVariants.{Refused, OutletFault, Memory}
 use Rattle.scenario_sinks.specs.Hearing.{Hears}
-use Rattle.scenario_sinks.specs.Histories.{Histories, with_sink, without, with_tuning, with_hearing}
 use Rattle.scenario_sinks.specs.Refusals.{Answers, Tunes, not_made, not_living, not_tuned}
-use Rattle.scenario_sinks.specs.State.Standing.{EntryAt, EntriesAre, SinksStand}
-use Rattle.scenario_sinks.specs.State.Entries.{EntryHears, EntryTunes}
-use Rattle.delegator_history.specs.Trains.{Settings}
-use Rattle.scenario_sink.specs.State.Stands.{IsSink}
-use Rattle.scenario_sink.specs.SinkHistory.{new_sink}
 use Rattle.scenario_sinks.proofs.Entries.{OthersStay, one_entry, entry_read, none_lives, lives_in, sink_in}
 
 -- the sinks where the entry of a number is new

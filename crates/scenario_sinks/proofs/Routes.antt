@@ -1,7 +1,5 @@
 -- The relays of the sinks as one of them gets one or has none any more.
-use Rattle.std.proofs.Common.{ℕ, zero, suc, ◌≡◌, ◌≢◌, ◌≤◌, ◌<◌, ◌+◌, ◌==◌, ◌&&◌, Bool, false, inl, inr, List, [], ◌∷◌, refl, sym, ◌∙◌, ap, Option, Some, is_none, slice_get, slice_set, eq-eqb, ne_eqb, if◌then◌else◌, arith}
-use Rattle.std.specs.List.{list_all, range_with_len}
-use Rattle.std.proofs.lemmas.Bool.{cases_eq}
+use Rattle.scenario_sinks.proofs.Prelude.{ℕ, zero, suc, ◌≡◌, ◌≢◌, ◌≤◌, ◌<◌, ◌+◌, ◌==◌, ◌&&◌, Bool, false, inl, inr, List, [], ◌∷◌, refl, sym, ◌∙◌, ap, Option, Some, is_none, slice_get, slice_set, eq-eqb, ne_eqb, if◌then◌else◌, arith, list_all, range_with_len, cases_eq}
 use Rattle.std.proofs.Math.Bool.{and-false}
 use Rattle.scenario_sinks.specs.declared.route.Route.{Route}
 use Rattle.scenario_sinks.specs.RelayHistories.{Histories, is_idle, with_relay}

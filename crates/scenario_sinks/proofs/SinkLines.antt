@@ -1,20 +1,7 @@
 -- The sinks after a line of the control or of the links of one of them.
-use Rattle.std.proofs.Common.{◌≡◌, ℕ, ◌<◌, ◌==◌, false, List, length, refl, sym, ◌∙◌, subst, slice_set, eq-eqb, Option, None, Some, Result, Ok, Err}
-use Rattle.delegator_history.specs.Trains.{Train}
-use Rattle.group_sink.specs.Calls.{Call}
+use Rattle.scenario_sinks.proofs.Prelude.{◌≡◌, ℕ, ◌<◌, ◌==◌, false, List, length, refl, sym, ◌∙◌, subst, slice_set, eq-eqb, Option, None, Some, Result, Ok, Err, Train, Call, most_sinks, Step, Source, calls_by, follows_by, received_by, source_by, train_by, Stop, Refused, OutletFault, Memory, Sink, Sinks, Histories, sourced_by, with_line, EntryRuns, EntryAt, EntryIs, SinksStand}
 use Rattle.sink_history.specs.Calls as links
-use Rattle.scenario_history.specs.Boxes.{most_sinks}
-use Rattle.scenario_text.specs.declared.step.Step.{Step}
-use Rattle.sink_history.specs.History.{Source, calls_by}
-use Rattle.sink_history.specs.Moves.{follows_by, received_by, source_by, train_by}
-use Rattle.transcript_text.specs.declared.stop.Stop.{Stop}
-use Rattle.transcript_text.specs.declared.stop.Stop.TheVariants.{Refused, OutletFault, Memory}
-use Rattle.scenario_sinks.specs.declared.sink.Sink.{Sink}
-use Rattle.scenario_sinks.specs.declared.sinks.Sinks.{Sinks}
-use Rattle.scenario_sinks.specs.Histories.{Histories, sourced_by, with_line}
 use Rattle.scenario_sinks.specs.SinkLines.{SinkLineMakes}
-use Rattle.scenario_sinks.specs.State.Entries.{EntryRuns}
-use Rattle.scenario_sinks.specs.State.Standing.{EntryAt, EntryIs, SinksStand}
 use Rattle.scenario_sinks.proofs.Entries.{OthersStay}
 use Rattle.scenario_sinks.proofs.OneSink.{one_changed, same_stays}
 

@@ -1,13 +1,7 @@
 -- The sums of the boxes in the transcript.
-use Rattle.std.proofs.Common.{◌≡◌, ℕ, zero, suc, ◌+◌, ◌<◌, List, [], ◌∷◌, ◌++◌, length, map, get_or, sym, ◌∙◌, ap, arith, append_assoc, Option, Result, OnOk}
-use Rattle.std.specs.List.{flat_map, range_with_len}
-use Rattle.std.proofs.lemmas.Grind.{flat_map-append}
-use Rattle.std.proofs.lemmas.List.{append-nil}
-use Rattle.std.proofs.lemmas.Result.{on_ok_weaker}
-use Rattle.unit_outlets.specs.Account.{Account}
+use Rattle.scenario_sinks.proofs.Prelude.{◌≡◌, ℕ, zero, suc, ◌+◌, ◌<◌, List, [], ◌∷◌, ◌++◌, length, map, get_or, sym, ◌∙◌, ap, arith, append_assoc, Option, Result, OnOk, flat_map, range_with_len, flat_map-append, append-nil, on_ok_weaker, Account, account_at, most_sinks, sum_at, sum_where, sums_where}
 use Rattle.transcript_text.specs.Lines.{sum_line}
-use Rattle.scenario_history.specs.Boxes.{account_at, most_sinks, sink_numbers}
-use Rattle.scenario_sinks.specs.Sums.{sum_at, sum_where, sums_where}
+use Rattle.scenario_history.specs.Boxes.{sink_numbers}
 use Rattle.scenario_sinks.proofs.Ranges.{range_append}
 
 pub account_mapped : {A : Type 0} (f : A → Account) (xs : List A) (i : ℕ) (x : A) → i < length xs → x ≡ get_or xs i x → account_at (map f xs) i ≡ f x

@@ -1,8 +1,5 @@
 -- The boxes that no sink has, as units go to others.
-use Rattle.std.proofs.Common.{◌≡◌, ℕ, List, sym, ap, ◌∙◌, Option, Some}
-use Rattle.unit_outlets.specs.Took.{OthersSame}
-use Rattle.scenario_sinks.specs.Histories.{Histories}
-use Rattle.scenario_sinks.specs.Unassigned.{AllButSame, UnassignedSame}
+use Rattle.scenario_sinks.proofs.Prelude.{◌≡◌, ℕ, List, sym, ap, ◌∙◌, Option, Some, OthersSame, Histories, AllButSame, UnassignedSame}
 
 -- units went to the box of a sink
 pub all_but : {A : Type 0} (box : Option ℕ) (place : ℕ) (old new : List A) → box ≡ Some place → OthersSame place old new → AllButSame box old new

@@ -1,29 +1,13 @@
 -- A source whose BASE is put together, after a line that says something of it.
-use Rattle.std.proofs.Common.{ℕ, ◌≡◌, ◌≤◌, ◌<◌, ◌⊎◌, inl, inr, nat_lt, Bool, true, false, cond, List, [], ◌∷◌}
-use Rattle.std.proofs.Common.{length, Option, None, Some, Result, Ok, Err, refl, sym, ap, subst, is_some, not, ◌∙◌, arith}
-use Rattle.std.proofs.lemmas.Bool.{le-ltb, lt-ltb}
-use Rattle.std.specs.Option.{ForSome}
+use Rattle.scenario_sources.proofs.Prelude.{ℕ, ◌≡◌, ◌≤◌, ◌<◌, ◌⊎◌, inl, inr, nat_lt, Bool, true, false, cond, List, [], ◌∷◌, length, Option, None, Some, Result, Ok, Err, refl, sym, ap, subst, is_some, not, ◌∙◌, arith, le-ltb, lt-ltb, ForSome, BigInfo, Refuses, entry_fault, finish_fault, is_empty_last, last_of, metadata_fault, opened, size_fault, subgroup_fault, with_entry, with_metadata, with_subgroup, Endpoint, IsConfig, endpoint, indices, is_lc3, encoding, stands_in, Subgroup, NoSuchBis, Order, Stop, Refused, Step, Bis, Meta, base_lines, has_bis, has_subgroup, is_last_bare, subgroups_of, described, phase_of, Described, Becomes, DescribedIs}
 use Rattle.ltv_codec.specs.Layout.{AreLtvs}
-use Rattle.big_info.specs.declared.info.BigInfo.{BigInfo}
-use Rattle.base_grammar.specs.Draft.{Refuses, entry_fault, finish_fault, is_empty_last, last_of, metadata_fault}
-use Rattle.base_grammar.specs.Draft.{opened, size_fault, subgroup_fault, with_entry, with_metadata, with_subgroup}
-use Rattle.base_grammar.specs.Layout.{Endpoint, IsConfig, endpoint, indices, is_lc3, encoding, stands_in}
 use Rattle.base_grammar.specs.declared.fault.DraftFault.{DraftFault}
 use Rattle.base_grammar.specs.declared.fault.DraftFault.TheVariants as of_draft
 use Rattle.base_grammar.specs.declared.subgroup.BaseEntry.{BaseEntry}
-use Rattle.base_grammar.specs.declared.subgroup.Subgroup.{Subgroup}
-use Rattle.transcript_text.specs.declared.refusal.Refusal.TheVariants.{NoSuchBis, Order}
-use Rattle.transcript_text.specs.declared.stop.Stop.{Stop}
-use Rattle.transcript_text.specs.declared.stop.Stop.TheVariants.{Refused}
 use Rattle.announcement_train.proofs.Citable.{adds_to_last, describes_last}
-use Rattle.scenario_text.specs.declared.step.Step.{Step}
-use Rattle.scenario_text.specs.declared.step.Step.TheVariants.{Bis, Meta, Subgroup as SubgroupStep}
-use Rattle.scenario_history.specs.Bases.{base_lines, has_bis, has_subgroup, is_last_bare, subgroups_of}
-use Rattle.scenario_history.specs.Source.{described, phase_of}
+use Rattle.scenario_text.specs.declared.step.Step.TheVariants.{Subgroup as SubgroupStep}
 use Rattle.scenario_sources.specs.Bases.{is_bare, is_missing, stop_of}
-use Rattle.scenario_sources.specs.declared.phase.Described.{Described}
 use Rattle.scenario_sources.specs.declared.phase.Phase.TheVariants as phases
-use Rattle.scenario_sources.specs.State.Phases.{Becomes, DescribedIs}
 
 -- ---- what a draft refuses
 

@@ -4,3 +4,4 @@ pub mod Drafts
 pub mod Starts
 pub mod Citable
 pub mod Trains
+mod Prelude

@@ -1,30 +1,11 @@
 -- The sources after a step that means one of them.
-use Rattle.std.proofs.Common.{◌≡◌, ◌≢◌, ℕ, ◌<◌, ◌==◌, Bool, true, false, List, ◌∷◌, length, refl, sym, ◌∙◌, ap, subst, eq-eqb, ne_eqb, slice_get, slice_set, get_or}
-use Rattle.std.proofs.Common.{if◌then◌else◌, ◌&&◌, arith, Option, None, Some, ◌⊎◌, inl, inr, Result, Ok, Err}
-use Rattle.std.proofs.lemmas.Option.{get_or_from_slice_get, slice_get-get_or}
-use Rattle.std.proofs.lemmas.Bool.{cases_eq}
-use Rattle.transcript_text.specs.declared.refusal.Refusal.{Refusal}
-use Rattle.transcript_text.specs.declared.refusal.Refusal.TheVariants.{IdentTwice}
-use Rattle.transcript_text.specs.declared.stop.Stop.{Stop}
-use Rattle.transcript_text.specs.declared.stop.Stop.TheVariants.{Refused, OutletFault, Memory}
-use Rattle.scenario_text.specs.declared.step.Step.{Step}
-use Rattle.scenario_text.specs.declared.step.Step.TheVariants.{Event, Start, Terminate}
-use Rattle.scenario_history.specs.Steps.{chosen_given, chosen_of, chosen_steps, is_of_source, other_of, steps_of_source}
-use Rattle.scenario_history.specs.Source.{identity_of, is_started}
+use Rattle.scenario_sources.proofs.Prelude.{◌≡◌, ◌≢◌, ℕ, ◌<◌, ◌==◌, Bool, true, false, List, ◌∷◌, length, refl, sym, ◌∙◌, ap, subst, eq-eqb, ne_eqb, slice_get, slice_set, get_or, if◌then◌else◌, ◌&&◌, arith, Option, None, Some, ◌⊎◌, inl, inr, Result, Ok, Err, get_or_from_slice_get, slice_get-get_or, cases_eq, Refusal, IdentTwice, Stop, Refused, OutletFault, Memory, Step, Event, Start, Terminate, chosen_given, chosen_of, chosen_steps, is_of_source, other_of, steps_of_source, identity_of, is_started, get_set_here, get_set_other, refuse_if, Identity, Phase, Sources, fault_in, fault_of, Becomes, IsReady, PhaseAt, PhaseIs, PhasesAre, SourcesStand}
 use Rattle.scenario_history.specs.Refusals.{is_ident_twice, twin_refusal}
-use Rattle.scenario_history.proofs.Citable.{get_set_here, get_set_other}
-use Rattle.sink_history.specs.Refusals.{refuse_if}
 use Rattle.source_machine.specs.Setups.{are_twins}
-use Rattle.source_machine.specs.declared.setup.Identity.{Identity}
 use Rattle.scenario_sources.specs.declared.performed.Performed.{Performed}
 use Rattle.scenario_sources.specs.declared.terminated.Terminated.{Terminated}
-use Rattle.scenario_sources.specs.declared.phase.Phase.{Phase}
-use Rattle.scenario_sources.specs.declared.sources.Sources.{Sources}
 use Rattle.scenario_sources.specs.Answers.{Answers, Closes, Performs, Terminates}
-use Rattle.scenario_sources.specs.Faults.{fault_in, fault_of}
-use Rattle.scenario_sources.specs.State.Phases.{Becomes, IsReady, PhaseAt, PhaseIs}
 use Rattle.scenario_sources.specs.State.Phases as state
-use Rattle.scenario_sources.specs.State.Standing.{PhasesAre, SourcesStand}
 
 -- the phase of a source that was read
 pub phase_read : (steps : List Step) (s at : ℕ) (phases : List Phase) (phase : Phase) → at ≡ s → s < 2 → length phases ≡ 2

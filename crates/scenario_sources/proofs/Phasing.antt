@@ -1,38 +1,14 @@
 -- One source after a step that means it.
-use Rattle.std.proofs.Common.{◌≡◌, ◌-◌, ℕ, ◌==◌, Bool, true, false, not, nat_le, nat_lt, List, [], ◌∷◌, length, refl, sym}
-use Rattle.std.specs.Option.{option_or}
-use Rattle.isoal_base.specs.Air.{Air}
-use Rattle.std.proofs.Common.{◌∙◌, ap, subst, is_some, unwrap_or, option_map, if◌then◌else◌, arith, Option, None, Some, Result, Ok, Err}
-use Rattle.base_grammar.specs.Layout.{endpoint}
-use Rattle.big_info.specs.declared.info.BigInfo.{BigInfo}
-use Rattle.big_info.specs.declared.info.Cipher.{Cipher}
-use Rattle.announcement_train.specs.BaseLines.{subgroups_in}
-use Rattle.source_machine.specs.Ciphers.{with_cipher, without_cipher}
+use Rattle.scenario_sources.proofs.Prelude.{◌≡◌, ◌-◌, ℕ, ◌==◌, Bool, true, false, not, nat_le, nat_lt, List, [], ◌∷◌, length, refl, sym, option_or, Air, ◌∙◌, ap, subst, is_some, unwrap_or, option_map, if◌then◌else◌, arith, Option, None, Some, Result, Ok, Err, endpoint, BigInfo, Cipher, subgroups_in, with_cipher, without_cipher, airs_of, pdu_of, stale_of, waiting_of, Call, Setup, next_of, Source, StandsFor, Refusal, Order, Stop, Refused, OutletFault, Memory, Step, Ident, subgroups_of, GroupLine, cipher_of, event_back, pdu_in, absent, described, sending, phase_of, ident_of, is_ciphered, open_event, performed, setup_of, source_calls, stale_in, takes_units, is_over, Identity, Described, IsPlain, group_step, fault_in, misfit_refusal_of, AbsentIs, Becomes, DescribedIs, StartedIs}
 use Rattle.iso_pdu.specs.Encoding.{pdu}
-use Rattle.source_machine.specs.Airs.{airs_of, pdu_of, stale_of, waiting_of}
-use Rattle.source_machine.specs.Calls.{Call, Setup, event as perform, last_of, next_of}
+use Rattle.source_machine.specs.Calls.{event as perform, last_of}
 use Rattle.source_machine.specs.declared.sent.Stale.{Stale}
 use Rattle.source_machine.specs.declared.fault.GiveFault.{GiveFault}
 use Rattle.source_machine.specs.UnitFaults as faults
 use Rattle.source_machine.specs.Faults.{air_fault, answer_of, give_fault, has_its_time, misfit_of, refused_unit}
-use Rattle.source_machine.specs.State.Sources.{Source, StandsFor}
-use Rattle.transcript_text.specs.declared.refusal.Refusal.{Refusal}
-use Rattle.transcript_text.specs.declared.refusal.Refusal.TheVariants.{Order}
-use Rattle.transcript_text.specs.declared.stop.Stop.{Stop}
-use Rattle.transcript_text.specs.declared.stop.Stop.TheVariants.{Refused, OutletFault, Memory}
-use Rattle.scenario_text.specs.declared.step.Step.{Step}
-use Rattle.scenario_text.specs.declared.step.Step.TheVariants.{Cipher as CipherLine, Ident, Unit as UnitStep}
-use Rattle.scenario_history.specs.Bases.{subgroups_of}
-use Rattle.scenario_history.specs.Source.{GroupLine, cipher_of, event_back, pdu_in, absent, described, sending}
-use Rattle.scenario_history.specs.Source.{phase_of, ident_of, is_ciphered, open_event, performed, setup_of, source_calls, stale_in, takes_units}
-use Rattle.scenario_history.specs.Steps.{is_over}
+use Rattle.scenario_text.specs.declared.step.Step.TheVariants.{Cipher as CipherLine, Unit as UnitStep}
 use Rattle.scenario_history.specs.Refusals.{air_refusal, give_refusal, no_place, relayed_or}
-use Rattle.source_machine.specs.declared.setup.Identity.{Identity}
-use Rattle.scenario_sources.specs.declared.phase.Described.{Described}
 use Rattle.scenario_sources.specs.declared.phase.Phase.TheVariants as phases
-use Rattle.scenario_sources.specs.Described.{IsPlain, group_step}
-use Rattle.scenario_sources.specs.Faults.{fault_in, misfit_refusal_of}
-use Rattle.scenario_sources.specs.State.Phases.{AbsentIs, Becomes, DescribedIs, StartedIs}
 use Rattle.scenario_sources.specs.State.Stops.{GivesTo, GiveStops}
 
 same_line : (i j : BigInfo) (o p d e : ℕ) → i ≡ j → o ≡ p → d ≡ e

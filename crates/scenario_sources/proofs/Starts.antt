@@ -1,45 +1,21 @@
 -- The start of a source: why it is refused, and what it begins with.
-use Rattle.std.proofs.Common.{ℕ, ◌≡◌, ◌≤◌, ◌||◌, nat_lt, not, Bool, true, false, cond, List, [], ◌∷◌, length, Option, None, Some, Err, refl, sym, ap, subst, is_some, unwrap_or, ◌∙◌}
-use Rattle.std.specs.Option.{option_or}
-use Rattle.std.proofs.lemmas.Bool.{false≢true}
-use Rattle.std.proofs.lemmas.Option.{none-some}
-use Rattle.base_grammar.specs.Draft.{finish_fault, is_empty_last, last_of, size_fault}
-use Rattle.base_grammar.specs.Layout.{Endpoint, endpoint, encoding}
+use Rattle.scenario_sources.proofs.Prelude.{ℕ, ◌≡◌, ◌≤◌, ◌||◌, nat_lt, not, Bool, true, false, cond, List, [], ◌∷◌, length, Option, None, Some, Err, refl, sym, ap, subst, is_some, unwrap_or, ◌∙◌, option_or, false≢true, none-some, finish_fault, is_empty_last, last_of, size_fault, Endpoint, endpoint, encoding, Subgroup, BigInfo, Call, Setup, without_cipher, Source, StandsFor, Refusal, BadGroup, BaseTooLong, Order, Stop, Refused, OutletFault, Memory, Step, Start, base_from, base_of, has_subgroup, is_base_too_long, is_last_bare, subgroups_of, refuse_if, GroupLine, checked_info, described, identity_of, is_ahead_in, is_described_at, no_identity, phase_of, is_unbegun_at, running, stage_of, neither, fails_not, fault_in, Identity, identity_or_none, Described, Becomes, Begins, DescribedIs, MayStart, StartedIs, line_of}
 use Rattle.base_grammar.specs.declared.fault.DraftFault.TheVariants as of_draft
-use Rattle.base_grammar.specs.declared.subgroup.Subgroup.{Subgroup}
 use Rattle.big_info.specs.Rows.{first_fault}
-use Rattle.big_info.specs.declared.info.BigInfo.{BigInfo}
 use Rattle.big_info.specs.declared.fault.GroupFault.{GroupFault}
 use Rattle.big_info.specs.declared.fault.GroupFault.TheVariants as of_group
 use Rattle.announcement_train.specs.PlainBase.{plain_base_of}
 use Rattle.announcement_train.proofs.Citable.{plain_is_small}
-use Rattle.source_machine.specs.Calls.{Call, Setup}
-use Rattle.source_machine.specs.Ciphers.{without_cipher}
 use Rattle.source_machine.specs.Faults.{ConfigureFails}
 use Rattle.source_machine.specs.declared.fault.ConfigureFault.{ConfigureFault}
 use Rattle.source_machine.specs.declared.fault.ConfigureFault.TheVariants.{BadGroup as Misfit, Memory as NoMemory}
-use Rattle.source_machine.specs.State.Sources.{Source, StandsFor}
-use Rattle.transcript_text.specs.declared.refusal.Refusal.{Refusal}
-use Rattle.transcript_text.specs.declared.refusal.Refusal.TheVariants.{BadGroup, BaseTooLong, Order}
-use Rattle.transcript_text.specs.declared.stop.Stop.{Stop}
-use Rattle.transcript_text.specs.declared.stop.Stop.TheVariants.{Refused, OutletFault, Memory}
-use Rattle.scenario_text.specs.declared.step.Step.{Step}
-use Rattle.scenario_text.specs.declared.step.Step.TheVariants.{Start}
-use Rattle.scenario_history.specs.Bases.{base_from, base_of, has_subgroup, is_base_too_long, is_last_bare, subgroups_of}
 use Rattle.scenario_history.specs.Refusals.{fault_refusal, group_refusal}
-use Rattle.sink_history.specs.Refusals.{refuse_if}
 use Rattle.sink_history.specs.History.{horizon_in}
-use Rattle.scenario_history.specs.Source.{GroupLine, Phase, checked_info, described, identity_of, is_ahead_in, is_described_at, no_identity, phase_of}
-use Rattle.scenario_history.specs.Steps.{is_unbegun_at, running, stage_of}
-use Rattle.scenario_history.proofs.Citable.{neither, fails_not}
+use Rattle.scenario_history.specs.Source.{Phase}
 use Rattle.scenario_sources.specs.Bases.{is_long}
-use Rattle.scenario_sources.specs.Faults.{fault_in}
-use Rattle.source_machine.specs.declared.setup.Identity.{Identity}
-use Rattle.scenario_sources.specs.Described.{identity_or_none}
-use Rattle.scenario_sources.specs.declared.phase.Described.{Described}
 use Rattle.scenario_sources.specs.declared.phase.Phase.{Phase as Phases}
 use Rattle.scenario_sources.specs.declared.phase.Phase.TheVariants as phases
-use Rattle.scenario_sources.specs.State.Phases.{Becomes, Begins, DescribedIs, MayStart, StartedIs, is_described as is_described_phase, line_of}
+use Rattle.scenario_sources.specs.State.Phases.{is_described as is_described_phase}
 use Rattle.scenario_sources.specs.State.Stops.{FinishStops, Finishes, StartStops}
 use Rattle.scenario_sources.proofs.Drafts.{has_last}
 

@@ -1,25 +1,13 @@
 -- What a source announces that is as its steps leave it.
-use Rattle.std.proofs.Common.{◌≡◌, ℕ, List, None, Some, Ok, Err, refl, sym, ◌∙◌, ap}
+use Rattle.scenario_sources.proofs.Prelude.{◌≡◌, ℕ, List, None, Some, Ok, Err, refl, sym, ◌∙◌, ap, Endpoint, BigInfo, Setup, next_anchor_of, next_of, with_cipher, anchor_in, group_in, Identity, Source, CounterEnds, Refused, Step, checked_info, phase_of, sending, setup_of, source_calls, StartedIs}
 use Rattle.delegator_history.specs.Octets.{train_of}
 use Rattle.announcement_train.specs.declared.train.Train.{Train}
-use Rattle.base_grammar.specs.Layout.{Endpoint}
-use Rattle.big_info.specs.declared.info.BigInfo.{BigInfo}
 use Rattle.big_info.specs.Time.{iso_us_of}
 use Rattle.sync_reference.specs.Reference.{anchor_of}
-use Rattle.source_machine.specs.Calls.{Setup, next_anchor_of, next_of}
-use Rattle.source_machine.specs.Ciphers.{with_cipher}
 use Rattle.source_machine.specs.Faults.{announce_fault}
-use Rattle.source_machine.specs.State.Sources.{anchor_in, group_in}
 use Rattle.source_machine.specs.declared.fault.AnnounceFault.TheVariants.{CounterEnds as NumbersEnd}
-use Rattle.source_machine.specs.declared.setup.Identity.{Identity}
-use Rattle.source_machine.specs.State.Sources.{Source}
-use Rattle.transcript_text.specs.declared.refusal.Refusal.TheVariants.{CounterEnds}
-use Rattle.transcript_text.specs.declared.stop.Stop.TheVariants.{Refused}
-use Rattle.scenario_text.specs.declared.step.Step.{Step}
 use Rattle.scenario_history.specs.Refusals.{train_ends}
-use Rattle.scenario_history.specs.Source.{checked_info, phase_of, sending, setup_of, source_calls}
 use Rattle.scenario_sources.specs.Answers.{AnnouncesAs}
-use Rattle.scenario_sources.specs.State.Phases.{StartedIs}
 
 -- the group that it announces is the one that its lines say
 group_is : (own : List Step) (started : Source) → StartedIs own started → group_in started ≡ checked_info own

@@ -1,4 +1,5 @@
 pub mod Citable
+mod Prelude
 mod Making
 mod MigratedLines
 mod MisfitNumbers

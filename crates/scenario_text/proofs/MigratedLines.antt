@@ -1,11 +1,7 @@
 -- The lines of a text are the text again, and a text is migrated line by line.
-use Rattle.std.proofs.Common.{◌≡◌, ◌≤◌, ◌<◌, ℕ, zero, suc, Bool, true, false, cond, nat_eq, List, [], ◌∷◌, ◌++◌}
-use Rattle.std.proofs.Common.{length, get_or, take, drop, Option, None, Some, refl, ap, sym, ◌∙◌, append_assoc, arith, eqb-true}
+use Rattle.scenario_text.proofs.Prelude.{◌≡◌, ◌≤◌, ◌<◌, ℕ, zero, suc, Bool, true, false, cond, nat_eq, List, [], ◌∷◌, ◌++◌, length, get_or, take, drop, Option, None, Some, refl, ap, sym, ◌∙◌, append_assoc, arith, eqb-true, false_from_ne_true, onto_first, lines_of, behind, text_of, lines_after, text_after}
 use Rattle.std.specs.Borrow.{Bor}
 use Rattle.std.proofs.lemmas.List.{append-nil}
-use Rattle.std.proofs.lemmas.Bool.{false_from_ne_true}
-use Rattle.scenario_words.specs.Joined.{onto_first}
-use Rattle.scenario_text.specs.MigratedLines.{lines_of, behind, text_of, lines_after, text_after}
 use Rattle.scenario_text.specs.Migrated.{is_blank, migrated_line, migrated_lines, migrated}
 
 -- ---- the first line ends at the first end of a line

@@ -1,11 +1,6 @@
 -- A bad line has one number: words that fit have prefixes that fit.
-use Rattle.std.proofs.Common.{◌≡◌, ◌<◌, ◌+◌, ℕ, zero, suc, List, [], ◌∷◌, take, subst, arith, inl, inr}
+use Rattle.scenario_text.proofs.Prelude.{◌≡◌, ◌<◌, ◌+◌, ℕ, zero, suc, List, [], ◌∷◌, take, subst, arith, inl, inr, cases_lt, words_of, Place, one, perhaps, rising, wishes, FitsIndices, FitsPairs, FitsPrefix, FitsLine, IsMisfit}
 use Rattle.std.proofs.lemmas.List.{take-take}
-use Rattle.std.proofs.lemmas.Bool.{cases_lt}
-use Rattle.scenario_words.specs.Words.{words_of}
-use Rattle.scenario_words.specs.Places.{Place, one, perhaps, rising, wishes}
-use Rattle.scenario_words.specs.Fitting.{FitsIndices, FitsPairs, FitsPrefix}
-use Rattle.scenario_text.specs.Misfits.{FitsLine, IsMisfit}
 
 indices_prefix : (least : ℕ) (words : List (List ℕ)) (j : ℕ) → FitsIndices least words → FitsIndices least (take j words)
 indices_prefix least [] zero fits = tt

@@ -1,24 +1,9 @@
 -- The number of a fault is the number of the words that fit, and no other number is.
-use Rattle.std.proofs.Common.{◌≡◌, ◌≤◌, ◌<◌, ◌+◌, ℕ, suc, Bool, true, false, cond, ◌||◌, List, [], ◌∷◌, length, take, Option, None, Some}
-use Rattle.std.proofs.Common.{Result, Ok, Err, refl, ap, sym, subst, ◌∙◌, arith}
+use Rattle.scenario_text.proofs.Prelude.{◌≡◌, ◌≤◌, ◌<◌, ◌+◌, ℕ, suc, Bool, true, false, cond, ◌||◌, List, [], ◌∷◌, length, take, Option, None, Some, Result, Ok, Err, refl, ap, sym, subst, ◌∙◌, arith, same_Some, and_parts, Wish, LineFault, words_of, WordPlace, between, Place, one, perhaps, rising, wishes, WordValue, ◌>>=◌, bind_ok, Left, Gives, any_word, next_of, taken, word_in, decimal_in, with_stream, streams_of, rising_of, perhaps_of, wishes_of, bounded, all_wishes_of, ended, FitsIndices, FitsPairs, FitsPrefix, word_spelled, is_small, bounded_is, Stops, misfit, bad_is, indices_first, indices_stop, indices_all, pairs_stop, pairs_end, Step, Build, Row, built_at, at_known, whole, line_after, FitsLine, IsMisfit}
 use Rattle.std.proofs.lemmas.List.{take_all}
-use Rattle.std.proofs.lemmas.Option.{same_Some}
-use Rattle.std.proofs.lemmas.Bool.{and_parts}
-use Rattle.bass_operations.specs.declared.wishes.Wish.{Wish}
-use Rattle.scenario_words.specs.declared.fault.LineFault.{LineFault}
 use Rattle.scenario_words.specs.declared.fault.LineFault.TheVariants.{BadLine}
-use Rattle.scenario_words.specs.Words.{words_of}
-use Rattle.scenario_words.specs.Places.{WordPlace, between, Place, one, perhaps, rising, wishes, WordValue}
-use Rattle.bcast_base.specs.Tries.{◌>>=◌}
-use Rattle.bcast_base.proofs.Citable.{bind_ok}
-use Rattle.scenario_words.specs.Reading.{Left, Gives, any_word, next_of, taken, word_in, decimal_in, with_stream, streams_of, rising_of, perhaps_of}
-use Rattle.scenario_words.specs.Reading.{wishes_of, bounded, all_wishes_of, ended}
-use Rattle.scenario_words.specs.Fitting.{FitsIndices, FitsPairs, FitsPrefix}
-use Rattle.scenario_words.proofs.Citable.{word_spelled, is_small, bounded_is, Stops, misfit, bad_is, indices_first, indices_stop, indices_all, pairs_stop, pairs_end}
-use Rattle.scenario_text.specs.declared.step.Step.{Step}
-use Rattle.scenario_text.specs.Table.{Build, Row, row_of}
-use Rattle.scenario_text.specs.Steps.{built_at, at_known, whole, line_after, step_of, read_of}
-use Rattle.scenario_text.specs.Misfits.{FitsLine, IsMisfit}
+use Rattle.scenario_text.specs.Table.{row_of}
+use Rattle.scenario_text.specs.Steps.{step_of, read_of}
 use Rattle.scenario_text.proofs.Rows.{all_small, none_more, takes_all_last, is_word, of_table}
 use Rattle.scenario_text.proofs.Steps.{left_of, done, ok_is, says_so, blank_is_none}
 

@@ -1,16 +1,8 @@
 -- What a word of digits spells is octets, and so is what an operation of such octets spells.
-use Rattle.std.proofs.Common.{◌≤◌, ◌<◌, ◌≡◌, ℕ, zero, suc, ◌/◌, ◌%◌, List, [], ◌∷◌, ◌++◌, length, Ok, arith, inl, inr}
-use Rattle.std.specs.List.{flat_map, AllByRecursion}
+use Rattle.scenario_text.proofs.Prelude.{◌≤◌, ◌<◌, ◌≡◌, ℕ, zero, suc, ◌/◌, ◌%◌, List, [], ◌∷◌, ◌++◌, length, Ok, arith, inl, inr, flat_map, AllByRecursion, laid, IsOctets, subgroup_fields, Wish, AddSource, ModifySource, Add, Modify, MetadataFits, group_of, encoding}
 use Rattle.hex.specs.Hex.{decode_of}
 use Rattle.hex.proofs.HexLemmas.{decode_of-ok}
-use Rattle.bcast_base.specs.Layout.{laid}
-use Rattle.bcast_base.specs.Encoding.{IsOctets, number}
-use Rattle.bcast_base.specs.Subgroups.{subgroup_fields}
-use Rattle.bass_operations.specs.declared.wishes.Wish.{Wish}
-use Rattle.bass_operations.specs.declared.operation.AddSource.{AddSource}
-use Rattle.bass_operations.specs.declared.operation.ModifySource.{ModifySource}
-use Rattle.bass_operations.specs.declared.operation.Operation.TheVariants.{Add, Modify}
-use Rattle.bass_operations.specs.Layout.{MetadataFits, group_of, encoding}
+use Rattle.bcast_base.specs.Encoding.{number}
 use Rattle.scenario_words.specs.Spelling.{SpellsOctets, SpellsWishes}
 
 -- each metadata is octets

@@ -1,17 +1,7 @@
 -- How many octets an operation has.
-use Rattle.std.proofs.Common.{◌≡◌, ◌+◌, List, [], ◌∷◌, ◌++◌, length, refl, arith}
-use Rattle.std.specs.List.{flat_map}
+use Rattle.scenario_text.proofs.Prelude.{◌≡◌, ◌+◌, List, [], ◌∷◌, ◌++◌, length, refl, arith, flat_map, laid, subgroup_fields, number-length, Wish, AddSource, ModifySource, Add, Modify, group_of, encoding, wishes_octets}
 use Rattle.std.proofs.lemmas.List.{length-append}
-use Rattle.bcast_base.specs.Layout.{laid}
-use Rattle.bcast_base.specs.Subgroups.{subgroup_fields}
-use Rattle.bcast_base.proofs.Citable.{number-length}
 use Rattle.bcast_base.specs.Encoding.{number}
-use Rattle.bass_operations.specs.declared.wishes.Wish.{Wish}
-use Rattle.bass_operations.specs.declared.operation.AddSource.{AddSource}
-use Rattle.bass_operations.specs.declared.operation.ModifySource.{ModifySource}
-use Rattle.bass_operations.specs.declared.operation.Operation.TheVariants.{Add, Modify}
-use Rattle.bass_operations.specs.Layout.{group_of, encoding}
-use Rattle.scenario_words.specs.Places.{wishes_octets}
 
 wishes_length : (wishes : List Wish) → length (laid (flat_map (λ wish. subgroup_fields (group_of wish)) wishes)) ≡ wishes_octets wishes
 wishes_length [] = refl

@@ -1,13 +1,8 @@
 -- What holds of each row of the table, whatever its step: its first word begins no comment, its numbers fit 64 bits, and a
 -- place that takes all words that are left is its last.
-use Rattle.std.proofs.Common.{◌≡◌, ℕ, Bool, true, false, cond, nat_eq, nat_lt, ◌^◌, ◌&&◌, ◌||◌, not, List, [], ◌∷◌, Option, None, Some, refl, subst}
-use Rattle.std.specs.Prelude.{⊤}
+use Rattle.scenario_text.proofs.Prelude.{◌≡◌, ℕ, Bool, true, false, cond, nat_eq, nat_lt, ◌^◌, ◌&&◌, ◌||◌, not, List, [], ◌∷◌, Option, None, Some, refl, subst, ⊤, and_parts, Place, one, perhaps, rising, wishes, is_small, Row, row_in, event_rows, first_rows, source_rows, sink_rows, link_rows, rows_of_2, link_rows_of_2}
 use Rattle.std.specs.Str.{bytes_eq}
 use Rattle.std.proofs.lemmas.Slice.Eq.{bytes_eq-Decides}
-use Rattle.std.proofs.lemmas.Bool.{and_parts}
-use Rattle.scenario_words.specs.Places.{Place, one, perhaps, rising, wishes}
-use Rattle.scenario_words.proofs.Citable.{is_small}
-use Rattle.scenario_text.specs.Table.{Row, row_in, event_rows, first_rows, source_rows, sink_rows, link_rows, rows_of_2, link_rows_of_2}
 use Rattle.scenario_text.specs.Table.{row_of, first_row_of, source_row_of, sink_row_of, link_row_of, row_of_2, link_row_of_2}
 
 abbrev pub all_small : List Place → Bool

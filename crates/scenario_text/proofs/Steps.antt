@@ -1,21 +1,7 @@
 -- Steps and their lines: what is read is the step that the line says, and what a line says is read.
-use Rattle.std.proofs.Common.{◌≡◌, ◌+◌, ℕ, Bool, true, false, cond, nat_eq, ◌||◌, not, List, [], ◌∷◌, Option, None, Some, Result, Ok, Err, refl, ap, sym, subst, ◌∙◌, eqb-true}
-use Rattle.std.specs.Prelude.{IfOk, IfSome, IfNone}
-use Rattle.std.proofs.lemmas.Bool.{and_parts, not-true}
-use Rattle.std.proofs.lemmas.Option.{same_Some}
-use Rattle.scenario_words.specs.declared.fault.LineFault.{LineFault}
-use Rattle.scenario_words.specs.Joined.{onto_first}
-use Rattle.scenario_words.specs.Words.{words_of}
-use Rattle.scenario_words.specs.Places.{Place, one, perhaps, rising, wishes}
-use Rattle.bcast_base.specs.Tries.{◌>>=◌}
-use Rattle.bcast_base.proofs.Citable.{bind_ok}
-use Rattle.scenario_words.specs.Reading.{Left, Gives, any_word, next_of, at_place, ended}
-use Rattle.scenario_words.proofs.Citable.{place_again, place_spelled, IsLast}
-use Rattle.scenario_text.specs.declared.step.Step.{Step}
-use Rattle.scenario_text.specs.Ranges.{IsInRange}
-use Rattle.scenario_text.specs.Table.{Build, Row, row_of}
-use Rattle.scenario_text.specs.Lines.{Says, LineIs, IsBlank}
-use Rattle.scenario_text.specs.Steps.{built_at, at_known, whole, line_after, step_of, read_of}
+use Rattle.scenario_text.proofs.Prelude.{◌≡◌, ◌+◌, ℕ, Bool, true, false, cond, nat_eq, ◌||◌, not, List, [], ◌∷◌, Option, None, Some, Result, Ok, Err, refl, ap, sym, subst, ◌∙◌, eqb-true, IfOk, IfSome, IfNone, and_parts, not-true, same_Some, LineFault, onto_first, words_of, Place, one, perhaps, rising, wishes, ◌>>=◌, bind_ok, Left, Gives, any_word, next_of, at_place, ended, place_again, place_spelled, IsLast, Step, IsInRange, Build, Row, Says, LineIs, IsBlank, built_at, at_known, whole, line_after}
+use Rattle.scenario_text.specs.Table.{row_of}
+use Rattle.scenario_text.specs.Steps.{step_of, read_of}
 use Rattle.scenario_text.proofs.Rows.{all_small, takes_all, none_more, takes_all_last, is_word, of_table}
 use Rattle.scenario_text.proofs.Within.{row_within, says_within}
 

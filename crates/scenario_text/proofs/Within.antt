@@ -1,20 +1,11 @@
 -- The values at the places of a row are within their ranges, and so are the numbers of its step.
-use Rattle.std.proofs.Common.{◌≡◌, ◌≤◌, ℕ, Bool, true, false, cond, nat_eq, List, [], ◌∷◌, length, Option, None, Some, sym, ◌∙◌, subst, arith, inl, inr}
-use Rattle.std.specs.Prelude.{⊤}
+use Rattle.scenario_text.proofs.Prelude.{◌≡◌, ◌≤◌, ℕ, Bool, true, false, cond, nat_eq, List, [], ◌∷◌, length, Option, None, Some, sym, ◌∙◌, subst, arith, inl, inr, ⊤, same_Some, WordPlace, between, framing_word, time_up_to, octets_up_to, octets_exactly, number_in_octets, list_up_to, Place, one, perhaps, rising, wishes, WordValue, PlaceValue, IsOctets, MetadataFits, Step, IsInRange, Build, Row, Says}
 use Rattle.std.specs.Option.{ForSome}
-use Rattle.std.proofs.lemmas.Option.{same_Some}
-use Rattle.scenario_words.specs.Places.{WordPlace, between, framing_word, time_up_to, octets_up_to, octets_exactly, number_in_octets, list_up_to, Place, one}
-use Rattle.scenario_words.specs.Places.{perhaps, rising, wishes, WordValue, PlaceValue}
 use Rattle.scenario_words.specs.Spelling.{Spells, SpellsWord}
 use Rattle.ltv_codec.specs.Reading.{bad_of}
 use Rattle.scenario_words.specs.Lines.{◌▸◌}
-use Rattle.bcast_base.specs.Encoding.{IsOctets}
-use Rattle.bass_operations.specs.Layout.{MetadataFits}
-use Rattle.scenario_text.specs.declared.step.Step.{Step}
-use Rattle.scenario_text.specs.Ranges.{IsInRange}
 use Rattle.scenario_text.specs.Table as rows
-use Rattle.scenario_text.specs.Table.{Build, Row, row_of}
-use Rattle.scenario_text.specs.Lines.{Says}
+use Rattle.scenario_text.specs.Table.{row_of}
 use Rattle.scenario_text.proofs.Rows.{EachRow, of_each_row}
 use Rattle.scenario_text.proofs.Octets.{AreOctets, decoded, are_octets, few_octets, wishes_spelled, add_octets, modify_octets}
 

@@ -1,6 +1,5 @@
 -- How a text grows by the parts of a document, one after the other.
-use Rattle.std.proofs.Common.{◌≡◌, ℕ, ◌+◌, ◌<◌, true, false, cond, List, [], ◌∷◌, ◌++◌, length, drop, get_or, map}
-use Rattle.std.proofs.Common.{Option, None, Some, Result, Ok, Err, refl, sym, ap, ◌∙◌, append_assoc}
+use Rattle.scenario_toml.proofs.Prelude.{◌≡◌, ℕ, ◌+◌, ◌<◌, true, false, cond, List, [], ◌∷◌, ◌++◌, length, drop, get_or, map, Option, None, Some, Result, Ok, Err, refl, sym, ap, ◌∙◌, append_assoc, items_view, after, both, field, words, field_of}
 use Rattle.std.specs.Bool.{⊤}
 use Rattle.std.proofs.lemmas.Option.{same_Some}
 use Rattle.std.proofs.lemmas.List.{drop_more}
@@ -8,12 +7,8 @@ use Rattle.std.proofs.lemmas.Str.{IsUtf8-from_is_utf8, is_utf8-from_IsUtf8}
 use Rattle.std.specs.Str.{IsUtf8, is_utf8}
 use Rattle.toml.specs.Data.{Members}
 use Rattle.toml.specs.Parse.{parse_document}
-use Rattle.toml.specs.View.{items_view}
 use Rattle.toml.specs.declared.value.Value.{Value}
 use Rattle.scenario_toml.specs.Document.{meaning_of, meaning_in_keys, meaning_of_members, no_toml, two_texts}
-use Rattle.scenario_toml.specs.Parts.{after, both}
-use Rattle.scenario_toml.specs.Words.{field, words}
-use Rattle.scenario_toml.specs.State.Fields.{field_of}
 use Rattle.scenario_toml.specs.declared.fields.Field.{Field as CodeField}
 use Rattle.scenario_toml.specs.State.Growth.{Grows}
 use Rattle.scenario_toml.specs.declared.fault.TomlFault.{TomlFault}

@@ -1,12 +1,6 @@
 -- Pairs of digits that are read some at a time.
-use Rattle.std.proofs.Common.{◌≡◌, ◌+◌, ◌*◌, ◌%◌, ℕ, true, List, [], ◌∷◌, ◌++◌, take, drop, length, Ok, refl, sym, ap, ◌∙◌, append_assoc, arith}
-use Rattle.std.proofs.lemmas.List.{take-append-drop, append-nil}
-use Rattle.std.proofs.lemmas.List.Folds.{list_all-append}
-use Rattle.std.specs.List.{list_all}
-use Rattle.std.specs.Option.{unwrap_or}
-use Rattle.hex.specs.Hex.{decode_of, decode_pairs, hex_digit_value, is_hex_digit}
-use Rattle.hex.proofs.HexLemmas.{decode_of-even, decode_of-same}
-use Rattle.hex.proofs.Pairs.{cons_byte, decode_pairs-ok_pair}
+use Rattle.scenario_words.proofs.Prelude.{◌≡◌, ◌+◌, ◌*◌, ◌%◌, ℕ, true, List, [], ◌∷◌, ◌++◌, take, drop, length, Ok, refl, sym, ap, ◌∙◌, append_assoc, arith, take-append-drop, append-nil, list_all-append, list_all, unwrap_or, decode_of, hex_digit_value, is_hex_digit, decode_of-even, decode_of-same, cons_byte, decode_pairs-ok_pair}
+use Rattle.hex.specs.Hex.{decode_pairs}
 use Rattle.scenario_words.proofs.DigitPairs.{both_digits, pair_reads}
 
 -- the octets that pairs of digits spell

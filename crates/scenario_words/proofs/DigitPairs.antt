@@ -1,17 +1,7 @@
 -- Pairs of digits that are tested first, and then read one by one.
-use Rattle.std.proofs.Common.{◌≡◌, ◌≤◌, ◌<◌, ◌+◌, ◌*◌, ◌/◌, ◌%◌, ◌&&◌, ℕ, suc, zero, Bool, true, false, List, [], ◌∷◌, Option, Some, None, Result, Ok, Err}
-use Rattle.std.proofs.Common.{take, drop, length, slice_index, slice_set, get_or, refl, sym, ap, ◌∙◌, arith}
-use Rattle.std.proofs.lemmas.List.{drop-drop, take_more, take_all}
-use Rattle.std.proofs.lemmas.List.Folds.{list_all-append}
-use Rattle.std.proofs.lemmas.List.Sums.{AllPass-from_list_all, list_all-from_AllPass}
-use Rattle.std.specs.Prelude.{IsErr, is_some}
+use Rattle.scenario_words.proofs.Prelude.{◌≡◌, ◌≤◌, ◌<◌, ◌+◌, ◌*◌, ◌/◌, ◌%◌, ◌&&◌, ℕ, suc, zero, Bool, true, false, List, [], ◌∷◌, Option, Some, None, Result, Ok, Err, take, drop, length, slice_index, slice_set, get_or, refl, sym, ap, ◌∙◌, arith, drop-drop, take_more, take_all, list_all-append, AllPass-from_list_all, list_all-from_AllPass, IsErr, is_some, list_all, unwrap_or, decode_of, digit_or_error, hex_digit_value, is_hex_digit, pair_value, FromHexError, decode_of-even, decode_of-ok, cons_byte, prepend, decode_done, decode_pairs-ok_pair, decode_step, drop-pair}
 use Rattle.std.specs.Simd.{first_chunks}
-use Rattle.std.specs.List.{list_all}
-use Rattle.std.specs.Option.{unwrap_or}
-use Rattle.hex.specs.Hex.{decode_of, decode_pairs, digit_or_error, hex_digit_value, is_hex_digit, pair_value}
-use Rattle.hex.specs.declared.error.FromHexError.{FromHexError}
-use Rattle.hex.proofs.HexLemmas.{decode_of-even, decode_of-ok}
-use Rattle.hex.proofs.Pairs.{cons_byte, prepend, decode_done, decode_pairs-ok_pair, decode_step, drop-pair}
+use Rattle.hex.specs.Hex.{decode_pairs}
 
 and_true : (a b : Bool) → (a && b) ≡ (a && (b && true))
 and_true a true = refl

@@ -1,14 +1,7 @@
 -- How many words fit: those before the word that a fault names, or all that were read. Upper crates may cite `misfit`,
 -- `indices_stop`, `indices_all`, `pairs_stop` and `pairs_end`.
-use Rattle.std.proofs.Common.{◌≡◌, ◌≤◌, ◌<◌, ℕ, zero, suc, ◌+◌, true, List, [], ◌∷◌, ◌++◌, length, take, Option, None, Some, Result, Ok, Err, refl, ap, sym, subst, ◌∙◌, arith}
-use Rattle.bass_operations.specs.declared.wishes.Wish.{Wish}
-use Rattle.scenario_words.specs.declared.fault.LineFault.{LineFault}
-use Rattle.scenario_words.specs.declared.fault.LineFault.TheVariants.{BadLine}
-use Rattle.scenario_words.specs.Places.{WordPlace, between, octets_up_to, number_in_octets, one}
-use Rattle.bcast_base.specs.Tries.{◌>>=◌}
-use Rattle.bcast_base.proofs.Citable.{bind_ok, ok_is}
-use Rattle.scenario_words.specs.Reading.{Left, next_of, taken, decimal_in, octets_in, number_in, word_in, with_stream, streams_of, wish_of, wishes_of}
-use Rattle.scenario_words.specs.Spelling.{SpellsWord}
+use Rattle.scenario_words.proofs.Prelude.{◌≡◌, ◌≤◌, ◌<◌, ℕ, zero, suc, ◌+◌, true, List, [], ◌∷◌, ◌++◌, length, take, Option, None, Some, Result, Ok, Err, refl, ap, sym, subst, ◌∙◌, arith, Wish, LineFault, BadLine, WordPlace, between, octets_up_to, number_in_octets, one, ◌>>=◌, bind_ok, ok_is, Left, next_of, taken, word_in, with_stream, wish_of, SpellsWord}
+use Rattle.scenario_words.specs.Reading.{decimal_in, octets_in, number_in, streams_of, wishes_of}
 use Rattle.scenario_words.specs.Fitting.{FitsWord, FitsIndices, FitsPairs}
 use Rattle.scenario_words.proofs.Spelling.{is_small, word_again, word_spelled}
 

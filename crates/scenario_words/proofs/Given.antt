@@ -1,12 +1,6 @@
 -- Values that are tested one after the other.
-use Rattle.std.proofs.Common.{◌≡◌, ◌+◌, ℕ, zero, suc, List, [], ◌∷◌, drop, Some, ap, refl, ◌↔◌, add-one}
-use Rattle.std.specs.Prelude.{slice_get}
-use Rattle.std.specs.List.{AllByRecursion}
-use Rattle.bass_operations.specs.declared.wishes.Wish.{Wish}
-use Rattle.bass_operations.specs.Layout.{MetadataFits}
-use Rattle.scenario_words.specs.ValueFitting.{HasWishWords, HasWords}
+use Rattle.scenario_words.proofs.Prelude.{◌≡◌, ◌+◌, ℕ, zero, suc, List, [], ◌∷◌, drop, Some, ap, refl, ◌↔◌, add-one, slice_get, AllByRecursion, Wish, MetadataFits, HasWishWords, HasWords, words_for}
 use Rattle.scenario_words.specs.declared.value.Value.{Value}
-use Rattle.scenario_words.specs.ValueWords.{words_for}
 use Rattle.scenario_words.specs.Lines.{AllHaveWords, all_words}
 use Rattle.scenario_words.specs.Given.{Placement, value_at, at_place, place_in, value_in, places_of, values_of, HasWordsAt, AllGivenHaveWords, words_at, given_words}
 

@@ -1,17 +1,7 @@
 -- A line that spells octets is one word: no digit is a space.
-use Rattle.std.proofs.Common.{eqb-true, nat_eq, ◌≡◌, ◌+◌, ℕ, Bool, true, false, cond, List, [], ◌∷◌, Option, None, Some, Result, Ok, Err, refl, sym}
-use Rattle.std.specs.Borrow.{Bor}
-use Rattle.std.specs.List.{list_all}
-use Rattle.std.specs.Str.{bytes_eq}
-use Rattle.std.proofs.lemmas.List.Sums.{list_all-from_AllPass}
-use Rattle.std.proofs.lemmas.Slice.Eq.{bytes_eq-Decides}
-use Rattle.hex.specs.Hex.{decode_of, is_hex_digit}
-use Rattle.hex.specs.declared.error.FromHexError.{FromHexError}
-use Rattle.hex.proofs.HexLemmas.{decode_of-ok}
+use Rattle.scenario_words.proofs.Prelude.{eqb-true, nat_eq, ◌≡◌, ◌+◌, ℕ, Bool, true, false, cond, List, [], ◌∷◌, Option, None, Some, Result, Ok, Err, refl, sym, Bor, list_all, bytes_eq, list_all-from_AllPass, bytes_eq-Decides, decode_of, is_hex_digit, FromHexError, decode_of-ok, SpellsNext, SpellsSome, next, within, words_after, words_of}
 use Rattle.scenario_words.proofs.DigitPairs.{both_digits}
-use Rattle.scenario_words.specs.Reading.{SpellsNext, SpellsSome, next, octets_in, within}
-use Rattle.scenario_words.specs.Rests.{words_after}
-use Rattle.scenario_words.specs.Words.{words_of}
+use Rattle.scenario_words.specs.Reading.{octets_in}
 
 no_space_at : (octet : ℕ) (b : Bool) → nat_eq octet 32 ≡ b → is_hex_digit octet ≡ true → b ≡ false
 no_space_at octet true e digit = let space : octet ≡ 32 = eqb-true octet 32 e in absurd (cc (rw space at digit))

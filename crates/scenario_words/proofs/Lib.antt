@@ -1,6 +1,7 @@
 pub mod Citable
 pub mod CitableValues
 pub mod Decimals
+mod Prelude
 mod DigitChunks
 pub mod DigitPairs
 mod Fitting

@@ -1,12 +1,5 @@
 -- Whether a word is left: each line has one.
-use Rattle.std.proofs.Common.{◌≡◌, ◌≢◌, ◌↔◌, ℕ, Bool, true, false, cond, List, [], ◌∷◌, Option, None, Some, Err, refl, sym, ◌∙◌, IsTrue}
-use Rattle.std.specs.Borrow.{Bor}
-use Rattle.std.specs.Option.{is_some}
-use Rattle.scenario_words.specs.declared.fault.LineFault.TheVariants.{BadLine}
-use Rattle.scenario_words.specs.Joined.{onto_first}
-use Rattle.scenario_words.specs.Words.{words_of}
-use Rattle.scenario_words.specs.Rests.{words_after}
-use Rattle.scenario_words.specs.Reading.{ended}
+use Rattle.scenario_words.proofs.Prelude.{◌≡◌, ◌≢◌, ◌↔◌, ℕ, Bool, true, false, cond, List, [], ◌∷◌, Option, None, Some, Err, refl, sym, ◌∙◌, IsTrue, Bor, is_some, BadLine, onto_first, words_of, words_after, ended}
 
 onto_some : (x : ℕ) (words : List (List ℕ)) → onto_first x words ≡ [] → ⊥
 onto_some x [] e = absurd cc

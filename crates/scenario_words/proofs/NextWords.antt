@@ -1,10 +1,6 @@
 -- One word of a line: it fits its place, or it doesn't, or none is left.
-use Rattle.std.proofs.Common.{◌∙◌, ◌≡◌, ℕ, ◌+◌, ◌-◌, List, [], ◌∷◌, Option, None, Some, Ok, Err, refl, ap, arith}
-use Rattle.scenario_words.specs.declared.fault.LineFault.{LineFault}
-use Rattle.scenario_words.specs.declared.fault.LineFault.TheVariants.{BadLine}
-use Rattle.bcast_base.specs.Tries.{FindsOrWants}
-use Rattle.bcast_base.proofs.Citable.{ok_is}
-use Rattle.scenario_words.specs.Reading.{Left, SpellsNext, SpellsSome, told, any_word, next_of, next, octets_in}
+use Rattle.scenario_words.proofs.Prelude.{◌∙◌, ◌≡◌, ℕ, ◌+◌, ◌-◌, List, [], ◌∷◌, Option, None, Some, Ok, Err, refl, ap, arith, LineFault, BadLine, FindsOrWants, ok_is, Left, SpellsNext, SpellsSome, told, any_word, next_of, next}
+use Rattle.scenario_words.specs.Reading.{octets_in}
 
 abbrev after : List (List ℕ) → ℕ → Left
 after words read = record { words = words; read = read + 1 }

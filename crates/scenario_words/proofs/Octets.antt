@@ -1,12 +1,8 @@
 -- Octets as digits and back, and a number as its octets.
-use Rattle.std.proofs.Common.{◌≡◌, ◌<◌, ◌*◌, ◌^◌, ◌/◌, ℕ, zero, suc, false, nat_lt, List, [], ◌∷◌, ◌++◌, length, take, Ok, Option, Some, None, ap, sym, arith}
-use Rattle.std.proofs.lemmas.Bool.{le-ltb}
-use Rattle.std.proofs.lemmas.List.{append-nil, take_all}
-use Rattle.hex.specs.Hex.{decode_of, encode_with, encode_lower}
-use Rattle.hex.proofs.HexLemmas.{decode_of-encode_lower, decode_of-ok}
-use Rattle.bcast_base.specs.Numbers.{sum_from}
-use Rattle.bcast_base.specs.Encoding.{IsOctets, number}
-use Rattle.bcast_base.proofs.Citable.{number-length, number_again}
+use Rattle.scenario_words.proofs.Prelude.{◌≡◌, ◌<◌, ◌*◌, ◌^◌, ◌/◌, ℕ, zero, suc, false, nat_lt, List, [], ◌∷◌, ◌++◌, length, take, Ok, Option, Some, None, ap, sym, arith, le-ltb, append-nil, take_all, decode_of, encode_lower, decode_of-encode_lower, decode_of-ok, sum_from, IsOctets, number-length}
+use Rattle.hex.specs.Hex.{encode_with}
+use Rattle.bcast_base.specs.Encoding.{number}
+use Rattle.bcast_base.proofs.Citable.{number_again}
 
 pub digits_back : (octets : List ℕ) → IsOctets octets → decode_of (encode_lower octets) ≡ Ok octets
 digits_back octets h = decode_of-encode_lower octets h

@@ -1,15 +1,8 @@
 -- A line whose first word is one digit, which is the decimal of its value.
-use Rattle.std.proofs.Common.{◌≡◌, ◌≤◌, ◌<◌, ◌+◌, ◌-◌, ◌^◌, ℕ, true, false, nat_eq, List, [], ◌∷◌, Option, Some, Ok, length, get_or, take, drop, refl, ap, sym, ◌∙◌, eqb-true, arith, decimal}
-use Rattle.std.specs.Borrow.{Bor}
-use Rattle.std.specs.Int.{IsInRange}
-use Rattle.std.proofs.lemmas.Fmt.{decimal_digit}
-use Rattle.std.proofs.lemmas.Bool.{eq-eqb}
-use Rattle.std.proofs.lemmas.List.{take_rest}
+use Rattle.scenario_words.proofs.Prelude.{◌≡◌, ◌≤◌, ◌<◌, ◌+◌, ◌-◌, ◌^◌, ℕ, true, false, nat_eq, List, [], ◌∷◌, Option, Some, Ok, length, get_or, take, drop, refl, ap, sym, ◌∙◌, eqb-true, arith, decimal, Bor, IsInRange, decimal_digit, eq-eqb, take_rest, next, words_after, words_of}
 use Rattle.scenario_words.proofs.Splitting.{refused}
 use Rattle.scenario_words.proofs.OneWord.{decimal_fits}
-use Rattle.scenario_words.specs.Reading.{next, decimal_in}
-use Rattle.scenario_words.specs.Rests.{words_after}
-use Rattle.scenario_words.specs.Words.{words_of}
+use Rattle.scenario_words.specs.Reading.{decimal_in}
 
 digit_is : (digit n : ℕ) → IsInRange 48 57 digit → n ≡ digit - 48 → digit ∷ [] ≡ decimal n
 digit_is digit n small is = let whole : 48 + n ≡ digit = omega (arith, small.0, is) in ap (λ (d : ℕ). d ∷ []) (sym whole) ∙ sym (decimal_digit n (omega (arith, small.1, is)))

@@ -1,22 +1,8 @@
 -- What one word spells, and the ranges that follow.
-use Rattle.std.proofs.Common.{leb, nat_eq, eqb-true, ◌≡◌, ◌≤◌, ◌<◌, ℕ, ◌*◌, ◌/◌, ◌%◌, ◌^◌, Bool, true, false, cond, List, [], ◌∷◌, ◌++◌, take, length, Option, None}
-use Rattle.std.proofs.Common.{Some, Result, Ok, Err, refl, ap, sym, ◌∙◌, arith, decimal, ◌&&◌}
-use Rattle.std.specs.Prelude.{IsErr, is_none}
-use Rattle.std.specs.Str.{bytes_eq}
-use Rattle.std.specs.Str.Parse.{digits_value}
+use Rattle.scenario_words.proofs.Prelude.{leb, nat_eq, eqb-true, ◌≡◌, ◌≤◌, ◌<◌, ℕ, ◌*◌, ◌/◌, ◌%◌, ◌^◌, Bool, true, false, cond, List, [], ◌∷◌, ◌++◌, take, length, Option, None, Some, Result, Ok, Err, refl, ap, sym, ◌∙◌, arith, decimal, ◌&&◌, IsErr, is_none, bytes_eq, digits_value, bytes_eq-Decides, digits_value-decimal, decimal_injective, leb-true, le-leb, lt-leb, eq-eqb, list_all, decode_of, is_hex_digit, decode_of-ok, FromHexError, SpellsSome, within, exactly, listed, sum_from, number_below, bad_of}
 use Rattle.std.proofs.Math.Seq.{take-append_seam}
-use Rattle.std.proofs.lemmas.Slice.Eq.{bytes_eq-Decides}
-use Rattle.std.proofs.lemmas.Fmt.{digits_value-decimal, decimal_injective}
-use Rattle.std.proofs.lemmas.Bool.{leb-true, le-leb, lt-leb, eq-eqb}
-use Rattle.std.specs.List.{list_all}
-use Rattle.hex.specs.Hex.{decode_of, is_hex_digit}
-use Rattle.hex.proofs.HexLemmas.{decode_of-ok}
-use Rattle.hex.specs.declared.error.FromHexError.{FromHexError}
 use Rattle.scenario_words.proofs.DigitPairs.{spelled}
-use Rattle.scenario_words.specs.Reading.{SpellsSome, decimal_in, framing_in, octets_in, within, exact_in, exactly, number_in, list_in, listed}
-use Rattle.bcast_base.specs.Numbers.{sum_from}
-use Rattle.bcast_base.proofs.Citable.{number_below}
-use Rattle.ltv_codec.specs.Reading.{bad_of}
+use Rattle.scenario_words.specs.Reading.{decimal_in, framing_in, octets_in, exact_in, number_in, list_in}
 use Rattle.ltv_codec.specs.declared.fault.LtvBad.{LtvBad}
 use Rattle.scenario_words.proofs.Decimals.{own}
 

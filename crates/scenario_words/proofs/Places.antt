@@ -1,22 +1,7 @@
 -- A value has words at a place exactly where some words spell it there, and the words that are written for it do.
-use Rattle.std.proofs.Common.{◌≡◌, ◌≢◌, ◌≤◌, ◌<◌, ◌+◌, ◌*◌, ◌^◌, ℕ, zero, suc, Bool, true, false, cond, nat_eq, List, [], ◌∷◌}
-use Rattle.std.proofs.Common.{◌++◌, length, map, Option, None, Some, Ok, refl, ap, subst, ◌∙◌, arith, inl, inr, decimal, codes}
-use Rattle.std.specs.Prelude.{⊤}
-use Rattle.std.specs.List.{AllByRecursion}
-use Rattle.std.proofs.lemmas.List.{append-nil}
-use Rattle.hex.specs.Hex.{decode_of}
-use Rattle.bcast_base.specs.Numbers.{sum_from}
-use Rattle.bcast_base.specs.Encoding.{IsOctets, number}
-use Rattle.bcast_base.proofs.Citable.{number-length, number_below}
-use Rattle.bass_operations.specs.declared.wishes.Wish.{Wish}
-use Rattle.scenario_words.specs.Digits.{digits}
-use Rattle.scenario_words.specs.Places.{WordPlace, between, framing_word, time_up_to, octets_up_to, octets_exactly, number_in_octets, list_up_to, Place, one}
-use Rattle.scenario_words.specs.Places.{perhaps, rising, wishes, WordValue, PlaceValue}
-use Rattle.scenario_words.specs.Spelling.{SpellsOctets, SpellsWord, Rising, with_streams, SpellsWishes, Spells}
+use Rattle.scenario_words.proofs.Prelude.{◌≡◌, ◌≢◌, ◌≤◌, ◌<◌, ◌+◌, ◌*◌, ◌^◌, ℕ, zero, suc, Bool, true, false, cond, nat_eq, List, [], ◌∷◌, ◌++◌, length, map, Option, None, Some, Ok, refl, ap, subst, ◌∙◌, arith, inl, inr, decimal, codes, ⊤, AllByRecursion, append-nil, decode_of, sum_from, IsOctets, number-length, number_below, Wish, digits, WordPlace, between, framing_word, time_up_to, octets_up_to, octets_exactly, number_in_octets, list_up_to, Place, one, perhaps, rising, wishes, WordValue, PlaceValue, SpellsOctets, SpellsWord, Rising, with_streams, SpellsWishes, Spells, ltb-true, LiesBetween, HasWord, HasWishWords, HasWords, word_for, words_for, streams_in, wish_words, framing_name, time_name, perhaps_words}
+use Rattle.bcast_base.specs.Encoding.{number}
 use Rattle.scenario_words.proofs.Citable.{is_small}
-use Rattle.std.proofs.lemmas.Bool.{ltb-true}
-use Rattle.scenario_words.specs.ValueFitting.{LiesBetween, HasWord, HasWishWords, HasWords}
-use Rattle.scenario_words.specs.ValueWords.{word_for, words_for, streams_in, wish_words, framing_name, time_name, perhaps_words}
 use Rattle.scenario_words.proofs.Octets.{digits_back, octets_from, some_digits, number_octets, number_sum}
 use Rattle.scenario_words.proofs.Spaces.{NoSpace, NoSpaces, decimal_unspaced, digits_unspaced, octets_unspaced}
 use Rattle.scenario_words.proofs.ValueStreams.{streams_rise, all_streams, some_stream, streams_small, streams_some}

@@ -1,15 +1,10 @@
 -- A line that is put piece by piece: what was put so far is a prefix of it, and what is left is its rest.
-use Rattle.std.proofs.Common.{◌≡◌, ◌<◌, ◌≤◌, ◌+◌, ◌*◌, ◌/◌, ◌%◌, ℕ, suc, List, [], ◌∷◌, ◌++◌, length, get_or, slice_index, map, take, drop, Result, Ok, Err, refl, ap, sym, ◌∙◌, append_assoc, arith, decimal}
-use Rattle.std.specs.Prelude.{OnErr}
+use Rattle.scenario_words.proofs.Prelude.{◌≡◌, ◌<◌, ◌≤◌, ◌+◌, ◌*◌, ◌/◌, ◌%◌, ℕ, suc, List, [], ◌∷◌, ◌++◌, length, get_or, slice_index, map, take, drop, Result, Ok, Err, refl, ap, sym, ◌∙◌, append_assoc, arith, decimal, OnErr, decimal_digit, take-append-drop, append-nil, encode_with-drop, encode_lower, lower_digits, APrefix, PutUpTo, space}
 use Rattle.std.proofs.Math.Seq.{drop-cons}
-use Rattle.std.proofs.lemmas.Fmt.{decimal_digit}
 use Rattle.std.proofs.lemmas.Slice.{take-put_mid}
-use Rattle.std.proofs.lemmas.List.{take-append-drop, append-nil}
 use borrow.Rule.Slice.PartMut.{put_mid}
-use Rattle.hex.proofs.Pairs.{encode_with-drop}
-use Rattle.hex.specs.Hex.{encode_with, encode_lower, lower_digits}
-use Rattle.scenario_words.specs.Prefixes.{APrefix, PutUpTo}
-use Rattle.scenario_words.specs.Joined.{space, behind}
+use Rattle.hex.specs.Hex.{encode_with}
+use Rattle.scenario_words.specs.Joined.{behind}
 use Rattle.scenario_words.specs.PrintedWords.{spelled}
 use Rattle.scenario_words.specs.declared.printed_word.Word.{Word}
 

@@ -1,14 +1,8 @@
 -- No word that is written has a space in it, so that the words of a line are the words that were joined.
-use Rattle.std.proofs.Common.{◌≡◌, ◌<◌, ◌/◌, ◌%◌, ◌^◌, ℕ, zero, suc, Bool, true, false, not, ◌&&◌, nat_eq, List, [], ◌∷◌, ◌++◌, length, get_or, decimal, refl, ap, arith, eqb-true}
-use Rattle.std.specs.Prelude.{slice_index, ⊤}
-use Rattle.hex.specs.Hex.{encode_with, lower_digits, encode_lower}
-use Rattle.bcast_base.specs.Encoding.{IsOctets}
-use Rattle.bcast_base.proofs.Citable.{IsOctets-rest}
-use Rattle.scenario_words.specs.Words.{words_of}
+use Rattle.scenario_words.proofs.Prelude.{◌≡◌, ◌<◌, ◌/◌, ◌%◌, ◌^◌, ℕ, zero, suc, Bool, true, false, not, ◌&&◌, nat_eq, List, [], ◌∷◌, ◌++◌, length, get_or, decimal, refl, ap, arith, eqb-true, slice_index, ⊤, lower_digits, encode_lower, IsOctets, IsOctets-rest, words_of, digits_decimal, digits, joined}
+use Rattle.hex.specs.Hex.{encode_with}
 use Rattle.scenario_words.proofs.Citable.{own}
-use Rattle.std.proofs.lemmas.Fmt.{digits_decimal}
-use Rattle.scenario_words.specs.Digits.{digits}
-use Rattle.scenario_words.specs.Joined.{behind, joined}
+use Rattle.scenario_words.specs.Joined.{behind}
 
 -- no octet of the word is a space
 abbrev pub NoSpace : List ℕ → Type 0

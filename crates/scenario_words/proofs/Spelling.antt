@@ -1,26 +1,8 @@
 -- One place of a line: what is read is spelled so, and what is spelled so is read. Upper crates may cite `place_spelled`,
 -- `place_again`, `word_spelled`, `word_again` and `is_small`.
-use Rattle.std.proofs.Common.{◌≡◌, ◌≤◌, ◌<◌, ℕ, zero, suc, ◌+◌, ◌^◌, Bool, true, false, cond, nat_lt, nat_le, List, [], ◌∷◌, ◌++◌, length, map, Option, None}
-use Rattle.std.proofs.Common.{Some, Result, Ok, Err, refl, ap, sym, subst, ◌∙◌, arith, decimal, ◌⊎◌, inl, inr, codes, get_or, ◌/◌}
-use Rattle.std.specs.Str.{bytes_eq}
-use Rattle.std.proofs.lemmas.Slice.Eq.{bytes_eq-Decides}
-use Rattle.std.proofs.lemmas.Bool.{ltb-true, leb-true}
-use Rattle.std.proofs.lemmas.List.{nil_from_length, append_assoc, append-nil}
-use Rattle.std.proofs.lemmas.Fmt.{digits_decimal, decimal_nonempty}
-use Rattle.hex.specs.Hex.{decode_of}
-use Rattle.hex.proofs.HexLemmas.{decode_of-ok}
-use Rattle.bcast_base.specs.Numbers.{sum_from}
-use Rattle.bass_operations.specs.declared.wishes.Wish.{Wish}
-use Rattle.ltv_codec.specs.Reading.{bad_of}
-use Rattle.scenario_words.specs.declared.fault.LineFault.{LineFault}
-use Rattle.scenario_words.specs.declared.fault.LineFault.TheVariants.{BadLine}
-use Rattle.scenario_words.specs.Places.{WordPlace, between, framing_word, time_up_to, octets_up_to, octets_exactly, number_in_octets, list_up_to, Place, one}
-use Rattle.scenario_words.specs.Places.{perhaps, rising, wishes, WordValue, PlaceValue, wishes_octets}
-use Rattle.bcast_base.specs.Tries.{◌>>=◌}
-use Rattle.bcast_base.proofs.Citable.{bind_ok, ok_is}
-use Rattle.scenario_words.specs.Reading.{Left, next_of, taken, decimal_in, framing_in, time_in, timed, octets_in, within, exact_in, number_in, numbered}
-use Rattle.scenario_words.specs.Reading.{list_in, word_in, perhaps_of, with_stream, streams_of, rising_of, wish_of, wishes_of, bounded, all_wishes_of, at_place}
-use Rattle.scenario_words.specs.Spelling.{SpellsOctets, SpellsWord, Rising, with_streams, SpellsWishes, Spells}
+use Rattle.scenario_words.proofs.Prelude.{◌≡◌, ◌≤◌, ◌<◌, ℕ, zero, suc, ◌+◌, ◌^◌, Bool, true, false, cond, nat_lt, nat_le, List, [], ◌∷◌, ◌++◌, length, map, Option, None, Some, Result, Ok, Err, refl, ap, sym, subst, ◌∙◌, arith, decimal, ◌⊎◌, inl, inr, codes, get_or, ◌/◌, bytes_eq, bytes_eq-Decides, ltb-true, leb-true, nil_from_length, append_assoc, append-nil, digits_decimal, decimal_nonempty, decode_of, decode_of-ok, sum_from, Wish, bad_of, LineFault, BadLine, WordPlace, between, framing_word, time_up_to, octets_up_to, octets_exactly, number_in_octets, list_up_to, Place, one, perhaps, rising, wishes, WordValue, PlaceValue, wishes_octets, ◌>>=◌, bind_ok, ok_is, Left, next_of, taken, timed, within, numbered, word_in, perhaps_of, with_stream, rising_of, wish_of, bounded, all_wishes_of, at_place, SpellsOctets, SpellsWord, Rising, with_streams, SpellsWishes, Spells}
+use Rattle.scenario_words.specs.Reading.{decimal_in, framing_in, time_in, octets_in, exact_in, number_in}
+use Rattle.scenario_words.specs.Reading.{list_in, streams_of, wishes_of}
 use Rattle.scenario_words.proofs.Decimals.{own}
 use Rattle.scenario_words.proofs.OneWord.{decimal_range, decimal_is, decimal_fits, within_is, array_is, exactly_is, list_is}
 use Rattle.scenario_words.proofs.OneWord.{pairs as pairs_read}

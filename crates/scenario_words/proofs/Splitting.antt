@@ -1,8 +1,5 @@
 -- The first word of a line ends at its first space.
-use Rattle.std.proofs.Common.{◌≡◌, ◌≤◌, ◌<◌, ◌+◌, ◌-◌, ◌⊎◌, inl, inr, ℕ, zero, suc, Bool, true, false, nat_eq, List, [], ◌∷◌, length, get_or, take, drop, refl, ap, ◌∙◌, eqb-true, arith}
-use Rattle.std.proofs.lemmas.Bool.{cases_lt}
-use Rattle.std.proofs.lemmas.List.{get_or-drop, length-drop, take_rest}
-use Rattle.scenario_words.specs.Words.{words_of}
+use Rattle.scenario_words.proofs.Prelude.{◌≡◌, ◌≤◌, ◌<◌, ◌+◌, ◌-◌, ◌⊎◌, inl, inr, ℕ, zero, suc, Bool, true, false, nat_eq, List, [], ◌∷◌, length, get_or, take, drop, refl, ap, ◌∙◌, eqb-true, arith, cases_lt, get_or-drop, length-drop, take_rest, words_of}
 
 pub refused : (b : Bool) → (b ≡ true → ⊥) → b ≡ false
 refused true h = absurd (h refl)

@@ -1,13 +1,7 @@
 -- Sets of streams bit by bit, and the indices that are left of a line.
-use Rattle.std.proofs.Common.{◌≡◌, ◌≢◌, ◌≤◌, ◌<◌, ◌↔◌, ℕ, ◌+◌, ◌-◌, ◌^◌, max, List, [], ◌∷◌, Option, None, Some, Result, Ok, Err, refl, ap, sym, ◌∙◌, arith, inl, inr, bit_or}
-use Rattle.std.specs.Int.{bit_at}
-use Rattle.std.proofs.lemmas.Bool.{cases_eq}
-use Rattle.std.proofs.lemmas.Nat.Bits.{bit_at_or, bit_at-pow_same, bit_at-pow_other, bit_at-lt, same_from_bits}
+use Rattle.scenario_words.proofs.Prelude.{◌≡◌, ◌≢◌, ◌≤◌, ◌<◌, ◌↔◌, ℕ, ◌+◌, ◌-◌, ◌^◌, max, List, [], ◌∷◌, Option, None, Some, Result, Ok, Err, refl, ap, sym, ◌∙◌, arith, inl, inr, bit_or, bit_at, cases_eq, bit_at_or, bit_at-pow_same, bit_at-pow_other, bit_at-lt, same_from_bits, LineFault, BadLine, ◌>>=◌, FindsOrWants, Left, next_of, next, taken, with_stream}
 use Rattle.bcast_base.specs.Bis.{Has}
-use Rattle.scenario_words.specs.declared.fault.LineFault.{LineFault}
-use Rattle.scenario_words.specs.declared.fault.LineFault.TheVariants.{BadLine}
-use Rattle.bcast_base.specs.Tries.{◌>>=◌, FindsOrWants}
-use Rattle.scenario_words.specs.Reading.{Left, next_of, next, taken, decimal_in, with_stream, streams_of}
+use Rattle.scenario_words.specs.Reading.{decimal_in, streams_of}
 
 or_zero : (a : ℕ) → max a 0 ≡ a
 or_zero a = omega arith

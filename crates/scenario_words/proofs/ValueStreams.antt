@@ -1,14 +1,7 @@
 -- A set of streams and its streams in rising order.
-use Rattle.std.proofs.Common.{◌≡◌, ◌≢◌, ◌≤◌, ◌<◌, ◌+◌, ◌-◌, ◌^◌, ℕ, zero, suc, Bool, true, false, cond, nat_eq, max, List, [], ◌∷◌, refl, ap, sym, ◌∙◌, arith, eqb-true, subst, inl, inr}
-use Rattle.std.specs.Prelude.{bit_or}
-use Rattle.std.specs.Int.{bit_at}
-use Rattle.std.proofs.lemmas.Bool.{cases_eq, cases_lt}
+use Rattle.scenario_words.proofs.Prelude.{◌≡◌, ◌≢◌, ◌≤◌, ◌<◌, ◌+◌, ◌-◌, ◌^◌, ℕ, zero, suc, Bool, true, false, cond, nat_eq, max, List, [], ◌∷◌, refl, ap, sym, ◌∙◌, arith, eqb-true, subst, inl, inr, bit_or, bit_at, cases_eq, cases_lt, bit_at_or, bit_at-pow_same, bit_at-pow_other, bit_at-lt, bit_at-zero, bit_at_above, same_from_bits, with_stream, Rising, with_streams, streams_from, streams_in}
 use Rattle.std.proofs.lemmas.Nat.{or_lt}
-use Rattle.std.proofs.lemmas.Nat.Bits.{bit_at_or, bit_at-pow_same, bit_at-pow_other, bit_at-lt, bit_at-zero, bit_at_above, same_from_bits}
 use Rattle.std.proofs.Math.Pow.{pow-lt}
-use Rattle.scenario_words.specs.Reading.{with_stream}
-use Rattle.scenario_words.specs.Spelling.{Rising, with_streams}
-use Rattle.scenario_words.specs.ValueWords.{streams_from, streams_in}
 
 abbrev chosen : Bool → ℕ → List ℕ → List ℕ
 chosen b index others = cond b (index ∷ others) others

@@ -1,13 +1,6 @@
 -- The pairs of words that are left of a line.
-use Rattle.std.proofs.Common.{◌≡◌, ◌≢◌, ◌≤◌, ◌<◌, ℕ, zero, suc, ◌+◌, ◌-◌, List, [], ◌∷◌, ◌++◌, length, take, slice_get, Some, Result, Ok, refl, sym, ◌∙◌, ap, arith}
-use Rattle.std.proofs.lemmas.List.{length-append}
-use Rattle.bass_operations.specs.declared.wishes.Wish.{Wish}
-use Rattle.scenario_words.specs.declared.fault.LineFault.{LineFault}
-use Rattle.std.proofs.lemmas.Bool.{le-leb}
-use Rattle.bass_operations.specs.Layout.{MetadataFits}
-use Rattle.scenario_words.specs.Places.{wishes_octets}
-use Rattle.bcast_base.specs.Tries.{◌>>=◌, FindsOrWants}
-use Rattle.scenario_words.specs.Reading.{Left, told, wish_of, wishes_of, bounded, all_wishes_of}
+use Rattle.scenario_words.proofs.Prelude.{◌≡◌, ◌≢◌, ◌≤◌, ◌<◌, ℕ, zero, suc, ◌+◌, ◌-◌, List, [], ◌∷◌, ◌++◌, length, take, slice_get, Some, Result, Ok, refl, sym, ◌∙◌, ap, arith, length-append, Wish, LineFault, le-leb, MetadataFits, wishes_octets, ◌>>=◌, FindsOrWants, Left, told, wish_of, bounded, all_wishes_of}
+use Rattle.scenario_words.specs.Reading.{wishes_of}
 use Rattle.scenario_words.proofs.Streams.{fails_so}
 
 abbrev go_on : List Wish → ℕ → Wish × Left → Result (List Wish × Left) LineFault

@@ -1,17 +1,9 @@
 -- All that the ticks handed up ends with what they handed since the sink was synchronized to its BIG.
-use Rattle.std.proofs.Common.{◌≡◌, Bool, true, false, List, [], ◌∷◌, ◌++◌, Option, Some, None, append-nil, append_assoc, ap, refl, sym, ◌∙◌}
-use Rattle.std.specs.Prelude.{◌&&◌, not, if◌then◌else◌}
+use Rattle.sink_c.proofs.Prelude.{◌≡◌, Bool, true, false, List, [], ◌∷◌, ◌++◌, Option, Some, None, append-nil, append_assoc, ap, refl, sym, ◌∙◌, ◌&&◌, not, if◌then◌else◌, Setup, Call, control, hear, tick, steps_of, group_calls, big_sync_given, with_leave, with_step, handed_at, handed_since, BigSync, Handed, all_handed}
 use Rattle.delegator_control.specs.Groups.{has_group}
 use Rattle.delegator_history.specs.Snapshots.{Snapshot}
 use Rattle.delegator_history.specs.States.{snapshot_of}
-use Rattle.delegator_history.specs.Trains.{Setup}
-use Rattle.delegator_machine.specs.Calls.{Call, control, hear, tick, steps_of}
-use Rattle.delegator_machine.specs.Groups.{group_calls, big_sync_given, with_leave, with_step}
 use Rattle.group_sink.specs.Calls as sinks
-use Rattle.group_sink.specs.Handing.{handed_at, handed_since}
-use Rattle.sync_reference.specs.BigSync.{BigSync}
-use Rattle.unit_outlets.specs.Handed.{Handed}
-use Rattle.sink_c.specs.Sinks.{all_handed}
 
 abbrev Ends : List Handed → List sinks.Call → Type 0
 Ends all calls = (earlier : List Handed) × (all ≡ earlier ++ handed_since calls)

@@ -1,3 +1,4 @@
+mod Prelude
 mod AllHanded
 mod Handing
 mod Kept

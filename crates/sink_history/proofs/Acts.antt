@@ -1,25 +1,12 @@
 -- What happens on a link: it is founded, it was forged where its calls say so, and its slots have the states of the sink.
-use Rattle.std.proofs.Common.{ℕ, zero, suc, ◌≡◌, ◌≢◌, ◌+◌, ◌<◌, ◌≤◌, inl, inr, Bool, true, false, List, [], ◌∷◌, ◌++◌, length, map, drop, Option, Some, None, option_map, refl, sym, ap, ◌∙◌, arith}
-use Rattle.std.specs.Prelude.{◌==◌, if◌then◌else◌, unwrap_or, bytes_eq}
-use Rattle.std.specs.List.{flat_map, range_with_len}
+use Rattle.sink_history.proofs.Prelude.{ℕ, zero, suc, ◌≡◌, ◌≢◌, ◌+◌, ◌<◌, ◌≤◌, inl, inr, Bool, true, false, List, [], ◌∷◌, ◌++◌, length, map, drop, Option, Some, None, option_map, refl, sym, ap, ◌∙◌, arith, ◌==◌, if◌then◌else◌, unwrap_or, bytes_eq, flat_map, range_with_len, cases_eq, eq-eqb, ne_eqb, ReceiveState, reading_of, Act, AreFounded, AreReadBack, Language, delivered_of, made, notices_of, reads_of, value_of, waiting_of, Notice, change, changes, Entry, Snapshot, entry_in, snapshot_of, Setup, received, state_at, status_of, value, value_at, Call, stepped, joined, served, notified, read, forged, steps_of, Acts, Told, acts_of, forging_by, is_forged, language, made_all, read_first, state, notified_first, AreOctets}
 use Rattle.std.specs.Option.{option_or}
-use Rattle.std.proofs.lemmas.Bool.{cases_eq, eq-eqb, ne_eqb}
 use Rattle.std.proofs.lemmas.Option.{same_Some}
 use Rattle.std.proofs.lemmas.Slice.Eq.{bytes_eq-Decides}
-use Rattle.receive_state.specs.declared.state.ReceiveState.{ReceiveState}
-use Rattle.assistant_machine.specs.Views.{reading_of}
 use Rattle.assistant_machine.specs.Links as links
-use Rattle.assistant_machine.specs.Links.{Act, AreFounded, AreReadBack, Language, delivered_of, made, notices_of, reads_of, value_of, waiting_of}
-use Rattle.delegator_history.specs.declared.notice.Notice.{Notice}
 use Rattle.delegator_history.specs.LastGiven.{last_given}
-use Rattle.delegator_history.specs.Notices.{change, changes}
-use Rattle.delegator_history.specs.Snapshots.{Entry, Snapshot, entry_at}
-use Rattle.delegator_history.specs.States.{answered, entry_in, snapshot_of}
-use Rattle.delegator_history.specs.Trains.{Setup}
-use Rattle.delegator_history.specs.Values.{received, state_at, status_of, value, value_at}
-use Rattle.sink_history.specs.Calls.{Call, stepped, joined, served, notified, read, forged, steps_of}
-use Rattle.sink_history.specs.Links.{Acts, Told, acts_of, forging_by, is_forged, language, made_all, read_first, state, notified_first}
-use Rattle.sink_history.specs.Octets.{AreOctets}
+use Rattle.delegator_history.specs.Snapshots.{entry_at}
+use Rattle.delegator_history.specs.States.{answered}
 use Rattle.sink_history.proofs.ReadBack.{ReadsOperations, ReadsStates, states_back}
 
 -- ---- what the sink makes

@@ -1,12 +1,6 @@
 -- Each link agrees with the sink, by the law of what happens on it.
-use Rattle.std.proofs.Common.{ℕ, ◌≡◌, ◌<◌, false, List, Option, ◌∙◌}
-use Rattle.receive_state.specs.declared.state.ReceiveState.{ReceiveState}
-use Rattle.assistant_machine.specs.Links.{Act, AreFounded, AreReadBack, Agrees, Language, is_forged as is_forged_by}
-use Rattle.delegator_history.specs.Trains.{Setup}
-use Rattle.sink_history.specs.Calls.{Call}
-use Rattle.sink_history.specs.Drains.{NoneNotifies, notified_and_read}
-use Rattle.sink_history.specs.Links.{acts_of, is_forged, language, read_waits, state, view}
-use Rattle.sink_history.specs.Octets.{AreOctets}
+use Rattle.sink_history.proofs.Prelude.{ℕ, ◌≡◌, ◌<◌, false, List, Option, ◌∙◌, ReceiveState, Act, AreFounded, AreReadBack, Agrees, Language, Setup, Call, NoneNotifies, notified_and_read, acts_of, is_forged, language, read_waits, state, view, AreOctets}
+use Rattle.assistant_machine.specs.Links.{is_forged as is_forged_by}
 use Rattle.sink_history.proofs.Acts.{are_back, forged_is, founded, value_is}
 use Rattle.sink_history.proofs.Drains.{out_forged, out_octets, out_state, out_tells, out_waits}
 use Rattle.sink_history.proofs.ReadBack.{ReadsOperations, ReadsStates}

@@ -1,15 +1,6 @@
 -- A link on which all that waits is served, delivered and read, call by call.
-use Rattle.std.proofs.Common.{ℕ, zero, suc, ◌≡◌, ◌≢◌, ◌+◌, ◌<◌, ◌≤◌, min, inl, inr, Bool, true, false, List, [], ◌∷◌, ◌++◌, length, drop, Option, Some, refl, sym, ap, ◌∙◌, subst, arith}
-use Rattle.std.specs.Prelude.{◌==◌, if◌then◌else◌, unwrap_or}
-use Rattle.std.specs.List.{AllByRecursion, filter, range_with_len}
-use Rattle.std.proofs.lemmas.Bool.{cases_eq, eq-eqb, ne_eqb}
+use Rattle.sink_history.proofs.Prelude.{ℕ, zero, suc, ◌≡◌, ◌≢◌, ◌+◌, ◌<◌, ◌≤◌, min, inl, inr, Bool, true, false, List, [], ◌∷◌, ◌++◌, length, drop, Option, Some, refl, sym, ap, ◌∙◌, subst, arith, ◌==◌, if◌then◌else◌, unwrap_or, AllByRecursion, filter, range_with_len, cases_eq, eq-eqb, ne_eqb, delivered_of, if_its, notices_of, reads_of, waiting_of, waits_of, Setup, Call, stepped, joined, asked, served, notified, read, forged, served_of, writes, writes_waiting, IsAnew, IsApart, IsDrained, LeavesLink, NoneNotifies, drained, repeated, served_out, notified_and_read, notified_out, Acts, Told, acts_of, is_forged, language, notices_waiting, read_first, read_waits, reads_waiting, state, notified_first, AreOctets}
 use Rattle.assistant_machine.specs.Links as links
-use Rattle.assistant_machine.specs.Links.{delivered_of, if_its, notices_of, reads_of, waiting_of, waits_of}
-use Rattle.delegator_history.specs.Trains.{Setup}
-use Rattle.sink_history.specs.Calls.{Call, stepped, joined, asked, served, notified, read, forged, served_of, writes, writes_waiting}
-use Rattle.sink_history.specs.Drains.{IsAnew, IsApart, IsDrained, LeavesLink, NoneNotifies, drained, repeated, served_out, notified_and_read, notified_out}
-use Rattle.sink_history.specs.Links.{Acts, Told, acts_of, is_forged, language, notices_waiting, read_first, read_waits, reads_waiting, state, notified_first}
-use Rattle.sink_history.specs.Octets.{AreOctets}
 
 -- ---- lists
 

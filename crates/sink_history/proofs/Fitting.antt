@@ -1,23 +1,14 @@
 -- What a sink has fits the octets of its states, whatever octets were written to it.
-use Rattle.std.proofs.Common.{ℕ, zero, suc, ◌≡◌, ◌+◌, ◌<◌, ◌≤◌, ◌^◌, Bool, true, false, List, [], ◌∷◌, ◌++◌, length, map, Option, Some, None, Result, Ok, Err, refl, sym, ap, ◌∙◌, subst, arith}
-use Rattle.std.specs.Prelude.{slice_set, if◌then◌else◌, is_some}
-use Rattle.std.specs.List.{AllByRecursion, flat_map, range_with_len}
-use Rattle.std.proofs.lemmas.Bool.{ltb-false}
+use Rattle.sink_history.proofs.Prelude.{ℕ, zero, suc, ◌≡◌, ◌+◌, ◌<◌, ◌≤◌, ◌^◌, Bool, true, false, List, [], ◌∷◌, ◌++◌, length, map, Option, Some, None, Result, Ok, Err, refl, sym, ap, ◌∙◌, subst, arith, slice_set, if◌then◌else◌, is_some, AllByRecursion, flat_map, range_with_len, ltb-false, laid, IsOctets, subgroup_fields, IsOctets-prefix, IsOctets-rest, Operation, Wish, OpIs, WishFits, group_of, Entry, Place, Snapshot, Wanted, idle, on_group, on_train}
 use Rattle.std.proofs.lemmas.List.{length-set}
-use Rattle.bcast_base.specs.Layout.{laid}
-use Rattle.bcast_base.specs.Encoding.{IsOctets, number}
-use Rattle.bcast_base.specs.Subgroups.{subgroup_fields}
-use Rattle.bcast_base.proofs.Citable.{IsOctets-prefix, IsOctets-rest}
+use Rattle.bcast_base.specs.Encoding.{number}
 use Rattle.bass_operations.specs.declared.fault.OpFault.{OpFault}
 use Rattle.bass_operations.specs.declared.operation.AddSource.{AddSource}
 use Rattle.bass_operations.specs.declared.operation.ModifySource.{ModifySource}
-use Rattle.bass_operations.specs.declared.operation.Operation.{Operation}
 use Rattle.bass_operations.specs.declared.operation.Operation.TheVariants.{ScanStopped, ScanStarted, Add, Modify, Code, Remove}
-use Rattle.bass_operations.specs.declared.wishes.Wish.{Wish}
-use Rattle.bass_operations.specs.Layout.{OpIs, WishFits, group_of}
 use Rattle.delegator_history.specs.declared.replies.Cause.{Cause}
 use Rattle.delegator_history.specs.declared.source.Source.{Source}
-use Rattle.delegator_history.specs.Snapshots.{Entry, Place, Snapshot, Wanted, idle, on_group, on_train, entry_at}
+use Rattle.delegator_history.specs.Snapshots.{entry_at}
 use Rattle.delegator_history.specs.Steps.{Done, added, modified, removed, joined}
 use Rattle.delegator_history.specs.Steps.{after, capability_after, encryption_given, place_given, placed, slots_after, taken_given, taken_on, wanting}
 use Rattle.delegator_history.specs.Writes.{done_read, entry_of, least_unused, operated, slot_with, unused_from}

@@ -1,3 +1,4 @@
+mod Prelude
 mod Opened
 mod OctetLists
 mod Fitting

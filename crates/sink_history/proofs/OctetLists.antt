@@ -1,7 +1,6 @@
 -- Lists of octets, put together and taken apart.
-use Rattle.std.proofs.Common.{ℕ, zero, suc, ◌<◌, ◌/◌, ◌%◌, List, [], ◌∷◌, ◌++◌, arith}
-use Rattle.bcast_base.specs.Encoding.{IsOctets, number}
-use Rattle.bcast_base.proofs.Citable.{IsOctets-rest}
+use Rattle.sink_history.proofs.Prelude.{ℕ, zero, suc, ◌<◌, ◌/◌, ◌%◌, List, [], ◌∷◌, ◌++◌, arith, IsOctets, IsOctets-rest}
+use Rattle.bcast_base.specs.Encoding.{number}
 
 pub no_octets : IsOctets []
 no_octets i = omega arith

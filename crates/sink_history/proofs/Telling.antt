@@ -1,19 +1,8 @@
 -- A step of the delegator puts its notices behind those that wait on a link, and changes nothing that its assistant knows.
-use Rattle.std.proofs.Common.{ℕ, zero, suc, ◌≡◌, ◌+◌, ◌≤◌, Bool, true, false, List, [], ◌∷◌, ◌++◌, length, length-append, map, drop, Option, Some, None, refl, sym, ap, ◌∙◌, subst, append_assoc, arith}
-use Rattle.std.specs.Prelude.{bytes_eq, if◌then◌else◌}
-use Rattle.std.specs.List.{flat_map, range_with_len}
+use Rattle.sink_history.proofs.Prelude.{ℕ, zero, suc, ◌≡◌, ◌+◌, ◌≤◌, Bool, true, false, List, [], ◌∷◌, ◌++◌, length, length-append, map, drop, Option, Some, None, refl, sym, ap, ◌∙◌, subst, append_assoc, arith, bytes_eq, if◌then◌else◌, flat_map, range_with_len, Act, AreFounded, delivered_of, made, notices_of, view_of, waiting_of, waits_of, Notice, change, changes, handed_out, Snapshot, snapshot_of, Setup, state_at, value_at, Call, stepped, served, steps_of, Acts, Told, acts_of, delivered, language, made_all}
 use Rattle.std.proofs.lemmas.List.{append-nil}
 use Rattle.receive_state.specs.Cuts.{cut}
 use Rattle.assistant_machine.specs.Links as links
-use Rattle.assistant_machine.specs.Links.{Act, AreFounded, delivered_of, made, notices_of, view_of, waiting_of, waits_of}
-use Rattle.delegator_history.specs.declared.notice.Notice.{Notice}
-use Rattle.delegator_history.specs.Notices.{change, changes, handed_out}
-use Rattle.delegator_history.specs.Snapshots.{Snapshot}
-use Rattle.delegator_history.specs.States.{snapshot_of}
-use Rattle.delegator_history.specs.Trains.{Setup}
-use Rattle.delegator_history.specs.Values.{state_at, value_at}
-use Rattle.sink_history.specs.Calls.{Call, stepped, served, steps_of}
-use Rattle.sink_history.specs.Links.{Acts, Told, acts_of, delivered, language, made_all}
 use Rattle.sink_history.specs.Steps.{IsStep, NotifiesLink}
 use Rattle.sink_history.proofs.Acts.{founded}
 

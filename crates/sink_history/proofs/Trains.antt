@@ -1,13 +1,10 @@
 -- The streams that a train puts a sink on are sets of streams.
-use Rattle.std.proofs.Common.{ℕ, zero, suc, ◌+◌, ◌-◌, ◌<◌, ◌≤◌, ◌^◌, Bool, true, false, List, [], ◌∷◌, length, map, take, Option, Some, None, Result, Ok, Err, arith}
-use Rattle.std.specs.Prelude.{bit_or, ◌==◌, if◌then◌else◌}
-use Rattle.std.specs.List.{AllByRecursion, filter, range_with_len}
+use Rattle.sink_history.proofs.Prelude.{ℕ, zero, suc, ◌+◌, ◌-◌, ◌<◌, ◌≤◌, ◌^◌, Bool, true, false, List, [], ◌∷◌, length, map, take, Option, Some, None, Result, Ok, Err, arith, bit_or, ◌==◌, if◌then◌else◌, AllByRecursion, filter, range_with_len, Wish, Snapshot, is_on_group, TrainOutcome, ignored, heard, taken, Setup, Train, is_candidate, candidates, set_with, sets_with, first_candidates, are_none, base_in, big_info_in, big_sync_of, by_streams, by_group, by_info, by_big_info, by_endpoint, by_base, by_slot, by_broadcast_id, outcome_by, done_by_outcome, is_elsewhere, is_wanted}
 use Rattle.std.proofs.lemmas.Nat.{or_lt, pow_below}
 use Rattle.base_grammar.specs.declared.fault.BaseFault.{BaseFault}
 use Rattle.base_grammar.specs.declared.subgroup.Subgroup.{Subgroup}
 use Rattle.base_grammar.specs.Layout.{Endpoint}
 use Rattle.base_grammar.specs.Reading.{base_of}
-use Rattle.bass_operations.specs.declared.wishes.Wish.{Wish}
 use Rattle.big_info.specs.declared.big_fault.BigFault.{BigFault}
 use Rattle.big_info.specs.declared.fault.GroupFault.{GroupFault}
 use Rattle.big_info.specs.declared.info.BigInfo.{BigInfo}
@@ -16,11 +13,8 @@ use Rattle.big_info.specs.Rows.{first_fault}
 use Rattle.base_grammar.specs.AdReading.{broadcast_id_of}
 use Rattle.pacs_records.specs.declared.capability.Capability.{Capability}
 use Rattle.delegator_history.specs.declared.train_heard.TrainHeard.TheVariants as answers
-use Rattle.delegator_history.specs.Snapshots.{Snapshot, is_on_group, entry_at}
+use Rattle.delegator_history.specs.Snapshots.{entry_at}
 use Rattle.delegator_history.specs.Steps.{wishes_at}
-use Rattle.delegator_history.specs.Trains.{TrainOutcome, ignored, heard, taken, Setup, Train, is_candidate, candidates, set_with, sets_with, first_candidates, are_none}
-use Rattle.delegator_history.specs.Trains.{base_in, big_info_in, big_sync_of, by_streams, by_group, by_info, by_big_info, by_endpoint}
-use Rattle.delegator_history.specs.Trains.{by_base, by_slot, by_broadcast_id, outcome_by, done_by_outcome, is_elsewhere, is_wanted}
 use Rattle.delegator_history.specs.Writes.{slot_where}
 use Rattle.sink_history.proofs.Fitting.{AreSets, DoneIs}
 

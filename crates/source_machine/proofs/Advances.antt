@@ -1,17 +1,5 @@
 -- The streams of a source as events are laid.
-use Rattle.std.proofs.Common.{ℕ, ◌≡◌, ◌<◌, ◌≤◌, ◌+◌, ◌-◌, ◌*◌, ◌^◌, List, [], ◌∷◌, length, get_or, arith, ◌∙◌, ap, sym, subst, inl, inr}
-use Rattle.std.proofs.lemmas.Bool.{cases_eq, cases_lt, eq-eqb, ne_eqb}
-use Rattle.std.proofs.lemmas.Nat.{mul-le}
-use Rattle.std.proofs.lemmas.List.Elements.{AllZip-get_or, length_all_zip}
-use Rattle.std.specs.List.{All, AllZip}
-use Rattle.big_info.specs.Schedule.{horizon_of}
-use Rattle.big_info.specs.Time.{iso_us_of}
-use Rattle.isoal_unframed.specs.Calls.{lays}
-use Rattle.source_machine.specs.Calls.{Setup, Call, event, events, framed_calls, framed_lays, laid_before, laid_with, lay_anchor, next_of, stream_calls}
-use Rattle.source_machine.specs.Setups.{IsChecked}
-use Rattle.source_machine.specs.State.Sources.{Source, Stream, StreamStands, StreamsAre, info_in, kept_of}
-use Rattle.source_machine.specs.State.Streams.{Grows, IsLaid, IsReady, IsSource, Lays, LaysNext}
-use Rattle.source_machine.specs.declared.laying.Laying.{Laying}
+use Rattle.source_machine.proofs.Prelude.{ℕ, ◌≡◌, ◌<◌, ◌≤◌, ◌+◌, ◌-◌, ◌*◌, ◌^◌, List, [], ◌∷◌, length, get_or, arith, ◌∙◌, ap, sym, subst, inl, inr, cases_eq, cases_lt, eq-eqb, ne_eqb, mul-le, AllZip-get_or, length_all_zip, All, AllZip, horizon_of, iso_us_of, lays, Setup, Call, event, events, framed_calls, framed_lays, laid_before, laid_with, lay_anchor, next_of, stream_calls, IsChecked, Source, Stream, StreamStands, StreamsAre, info_in, kept_of, Grows, IsLaid, IsReady, IsSource, Lays, LaysNext, Laying}
 
 stream_grown : (setup : Setup) (next : ℕ) (old new : Stream) → IsReady setup next old → Grows old new → IsReady setup next new
 stream_grown setup next old new ready grows = record {

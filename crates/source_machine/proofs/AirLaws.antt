@@ -1,11 +1,5 @@
 -- What upper crates may cite of sources and their airs.
-use Rattle.std.proofs.Common.{ℕ, ◌≡◌, ◌<◌, ◌≤◌, List, [], ◌∷◌, arith, ◌∙◌, ap, sym, subst}
-use Rattle.big_info.specs.declared.group.Group.{Group}
-use Rattle.big_info.specs.declared.info.BigInfo.{BigInfo}
-use Rattle.isoal_base.specs.Air.{Air}
-use Rattle.source_machine.specs.Airs.{AreAirs, Sends, airs_of, pdu_of}
-use Rattle.source_machine.specs.Calls.{Setup, Call, next_of}
-use Rattle.source_machine.specs.Setups.{IsChecked}
+use Rattle.source_machine.proofs.Prelude.{ℕ, ◌≡◌, ◌<◌, ◌≤◌, List, [], ◌∷◌, arith, ◌∙◌, ap, sym, subst, Group, BigInfo, Air, AreAirs, Sends, airs_of, pdu_of, Setup, Call, next_of, IsChecked}
 use Rattle.source_machine.proofs.Framings.{airs_only, are_airs}
 use Rattle.source_machine.proofs.Payloads.{sent_stays}
 

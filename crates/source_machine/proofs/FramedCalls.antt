@@ -1,18 +1,8 @@
 -- What the calls of a source say of its streams in a framed group.
-use Rattle.std.proofs.Common.{ℕ, ◌≡◌, ◌≢◌, ◌<◌, ◌≤◌, ◌+◌, ◌-◌, zero, suc, Option, List, [], ◌∷◌, ◌++◌, length, map, arith, ◌∙◌, ap, sym, refl, inl, inr}
-use Rattle.std.specs.Prelude.{unwrap_or}
-use Rattle.std.proofs.lemmas.Bool.{cases_eq, eq-eqb, ne_eqb}
-use Rattle.std.proofs.lemmas.List.{length-drop, length-map, map-append}
-use Rattle.big_info.specs.declared.info.BigInfo.{BigInfo}
-use Rattle.big_info.specs.Schedule.{horizon_of}
-use Rattle.big_info.specs.Time.{iso_us_of}
-use Rattle.isoal_base.specs.Air.{Air, begun_in, event_at}
-use Rattle.isoal_framed.specs.Air.{IsAirOf, begun_by}
-use Rattle.isoal_framed.specs.Calls.{Call as TimedCall, Timed, accept, lay, accepted}
-use Rattle.isoal_framed.specs.Filling.{framed_air}
+use Rattle.source_machine.proofs.Prelude.{ℕ, ◌≡◌, ◌≢◌, ◌<◌, ◌≤◌, ◌+◌, ◌-◌, zero, suc, Option, List, [], ◌∷◌, ◌++◌, length, map, arith, ◌∙◌, ap, sym, refl, inl, inr, unwrap_or, cases_eq, eq-eqb, ne_eqb, length-drop, length-map, map-append, BigInfo, horizon_of, iso_us_of, Air, begun_in, event_at, IsAirOf, begun_by, Timed, framed_air, Setup, Call, give, event, events, framed_calls, framed_lays, given, laid_before, laid_with, lay_anchor}
+use Rattle.isoal_framed.specs.Calls.{Call as TimedCall, accept, lay, accepted}
 use Rattle.isoal_framed.specs.Places.{Act, done, sent}
 use Rattle.isoal_framed.specs.State.Senders.{Sender, StandsFor, waiting, waiting_of}
-use Rattle.source_machine.specs.Calls.{Setup, Call, give, event, events, framed_calls, framed_lays, given, laid_before, laid_with, lay_anchor}
 
 lays_length : (info : BigInfo) (anchor iso_us n : ℕ) (calls : List TimedCall)
     → length (framed_air info (framed_lays anchor iso_us n calls)) ≡ n + length (framed_air info calls)

@@ -1,25 +1,7 @@
 -- The airs of the streams of a source, by the framing of its group.
-use Rattle.std.proofs.Common.{ℕ, ◌≡◌, ◌<◌, ◌≤◌, ◌+◌, ◌-◌, Some, List, [], ◌∷◌, ◌++◌, length, map, arith, ◌∙◌, ap, sym, refl, inl, inr}
-use Rattle.std.proofs.lemmas.Bool.{cases_eq, eq-eqb, ne_eqb}
-use Rattle.std.proofs.lemmas.List.{length-drop}
-use Rattle.std.proofs.lemmas.List.FromFn.{get_or-map-range_with_len, length-map-range_with_len}
-use Rattle.std.proofs.lemmas.Option.{slice_get-get_or}
-use Rattle.std.specs.List.{AllZip, range_with_len, slice_get}
-use Rattle.big_info.specs.declared.info.BigInfo.{BigInfo}
-use Rattle.big_info.specs.Schedule.{horizon_of}
-use Rattle.isoal_base.specs.Air.{Air, begun_in, event_at}
-use Rattle.isoal_unframed.specs.Air.{unframed_air}
-use Rattle.isoal_unframed.specs.Calls.{Call as PlainCall, accepted, begun}
-use Rattle.isoal_framed.specs.Air.{IsFramedAir}
+use Rattle.source_machine.proofs.Prelude.{ℕ, ◌≡◌, ◌<◌, ◌≤◌, ◌+◌, ◌-◌, Some, List, [], ◌∷◌, ◌++◌, length, map, arith, ◌∙◌, ap, sym, refl, inl, inr, cases_eq, eq-eqb, ne_eqb, length-drop, get_or-map-range_with_len, length-map-range_with_len, slice_get-get_or, AllZip, range_with_len, slice_get, BigInfo, horizon_of, Air, begun_in, event_at, unframed_air, accepted, begun, IsFramedAir, framed_air, framed_air_is, one_air, AreAirs, IsAir, air_after, air_of, airs_of, begun_of, waiting_of, Setup, Call, events, framed_calls, given, stream_calls, IsChecked, SenderStands, info_of, waiting_in, Sender, Framed, Unframed}
+use Rattle.isoal_unframed.specs.Calls.{Call as PlainCall}
 use Rattle.isoal_framed.specs.Calls.{Call as TimedCall}
-use Rattle.isoal_framed.specs.Filling.{framed_air}
-use Rattle.isoal_framed.proofs.Citable.{framed_air_is, one_air}
-use Rattle.source_machine.specs.Airs.{AreAirs, IsAir, air_after, air_of, airs_of, begun_of, waiting_of}
-use Rattle.source_machine.specs.Calls.{Setup, Call, events, framed_calls, given, stream_calls}
-use Rattle.source_machine.specs.Setups.{IsChecked}
-use Rattle.source_machine.specs.State.Senders.{SenderStands, info_of, waiting_in}
-use Rattle.source_machine.specs.declared.sender.Sender.{Sender}
-use Rattle.source_machine.specs.declared.sender.Sender.TheVariants.{Framed, Unframed}
 use Rattle.source_machine.proofs.FramedCalls.{timed_ahead, timed_count, timed_keeps, timed_waiting}
 use Rattle.source_machine.proofs.Histories.{accepted_are, ahead_laid, air_length, begun_is, call_keeps}
 

@@ -1,13 +1,5 @@
 -- What is heard of the events that a source performed last.
-use Rattle.std.proofs.Common.{ℕ, ◌≡◌, ◌<◌, ◌≤◌, ◌-◌, Some, None, List, get_or, arith, ◌∙◌, ap, refl}
-use Rattle.std.proofs.lemmas.Bool.{le-ltb, lt-leb}
-use Rattle.isoal_base.specs.Air.{Air}
-use Rattle.source_machine.specs.Airs.{AreAirs, pdu_of}
-use Rattle.source_machine.specs.Calls.{Call, events, next_of}
-use Rattle.source_machine.specs.Faults.{air_fault}
-use Rattle.source_machine.specs.Setups.{IsChecked}
-use Rattle.source_machine.specs.State.Sources.{Source, StandsFor, Stream}
-use Rattle.source_machine.specs.State.Streams.{IsSource, sent_of}
+use Rattle.source_machine.proofs.Prelude.{ℕ, ◌≡◌, ◌<◌, ◌≤◌, ◌-◌, Some, None, List, get_or, arith, ◌∙◌, ap, refl, le-ltb, lt-leb, Air, AreAirs, pdu_of, Call, events, next_of, air_fault, IsChecked, Source, StandsFor, Stream, IsSource, sent_of}
 use Rattle.source_machine.proofs.Framings.{airs_only}
 use Rattle.source_machine.proofs.Payloads.{ahead_within, sent_is}
 use Rattle.source_machine.proofs.Standing.{stream_is}

@@ -1,13 +1,7 @@
 -- What the calls of a source say of its streams in an unframed group.
-use Rattle.std.proofs.Common.{ℕ, ◌≡◌, ◌≢◌, ◌<◌, ◌≤◌, ◌+◌, zero, suc, Option, List, [], ◌∷◌, ◌++◌, length, arith, ◌∙◌, ap, refl, inl, inr}
-use Rattle.std.proofs.lemmas.Bool.{cases_eq, eq-eqb, ne_eqb}
-use Rattle.big_info.specs.declared.info.BigInfo.{BigInfo}
-use Rattle.big_info.specs.Schedule.{horizon_of}
-use Rattle.isoal_base.specs.Air.{begun_in, event_at}
-use Rattle.isoal_unframed.specs.Air.{unframed_air}
-use Rattle.isoal_unframed.specs.Calls.{Call as StreamCall, accept, lay, lays, accepted, begun, events as laid_events}
+use Rattle.source_machine.proofs.Prelude.{ℕ, ◌≡◌, ◌≢◌, ◌<◌, ◌≤◌, ◌+◌, zero, suc, Option, List, [], ◌∷◌, ◌++◌, length, arith, ◌∙◌, ap, refl, inl, inr, cases_eq, eq-eqb, ne_eqb, BigInfo, horizon_of, begun_in, event_at, unframed_air, accept, lay, lays, accepted, begun, Call, give, event, events, given, stream_calls, laid_with}
+use Rattle.isoal_unframed.specs.Calls.{Call as StreamCall, events as laid_events}
 use Rattle.isoal_unframed.proofs.Citable.{lays_accepted}
-use Rattle.source_machine.specs.Calls.{Call, give, event, events, given, stream_calls, laid_with}
 
 pub lays_events : (calls : List StreamCall) (n : ℕ) → laid_events (lays n calls) ≡ n + laid_events calls
 lays_events calls zero = omega arith

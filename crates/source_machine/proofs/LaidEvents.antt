@@ -1,27 +1,8 @@
 -- What a stream keeps of the events that were laid.
-use Rattle.std.proofs.Common.{ℕ, ◌≡◌, ◌<◌, ◌≤◌, ◌+◌, ◌-◌, ◌*◌, min, suc, List, [], ◌∷◌, ◌++◌, length, get_or}
-use Rattle.std.proofs.Common.{drop, map, append_assoc, arith, ◌∙◌, ap, sym, refl, subst, inl, inr, Option, Result, Ok, Err}
-use Rattle.std.specs.Prelude.{unwrap_or}
-use Rattle.std.specs.Result.{OnOk}
-use Rattle.std.proofs.lemmas.Bool.{cases_eq, eq-eqb, ne_eqb}
-use Rattle.std.proofs.lemmas.List.{append-nil, length-append, length-drop, map-append}
-use Rattle.std.proofs.lemmas.List.FromFn.{length-map-range_with_len}
-use Rattle.std.specs.List.{flat_map, range_with_len}
+use Rattle.source_machine.proofs.Prelude.{ℕ, ◌≡◌, ◌<◌, ◌≤◌, ◌+◌, ◌-◌, ◌*◌, min, suc, List, [], ◌∷◌, ◌++◌, length, get_or, drop, map, append_assoc, arith, ◌∙◌, ap, sym, refl, subst, inl, inr, Option, Result, Ok, Err, unwrap_or, OnOk, cases_eq, eq-eqb, ne_eqb, append-nil, length-append, length-drop, map-append, length-map-range_with_len, flat_map, range_with_len, BigInfo, map_append, map_rest, map_same, Air, Entry, Laid, accept, lay, lays, flat_last, air_after, stale_in, stale_on, framed_calls, framed_lays, stream_calls, IsChecked, HasTime, SenderStands, info_of, waiting_in, Stream, StreamIs, StreamStands, info_in, kept_of, last_laid, pdus_at, Accepts, AllTell, Grows, Lays, LaysOne, Tells, told_by, Sender, Stale}
 use Rattle.circular_buffer.specs.Buffer.{keep_last}
-use Rattle.big_info.specs.declared.info.BigInfo.{BigInfo}
-use Rattle.isoal_base.proofs.Citable.{map_append, map_rest, map_same}
-use Rattle.isoal_base.specs.Air.{Air, Entry, Laid}
-use Rattle.isoal_unframed.specs.Calls.{Call as PlainCall, accept, lay, lays}
+use Rattle.isoal_unframed.specs.Calls.{Call as PlainCall}
 use Rattle.isoal_framed.specs.Calls.{Call as TimedCall, accept as accept_timed, lay as lay_at}
-use Rattle.isoal_framed.proofs.Citable.{flat_last}
-use Rattle.source_machine.specs.Airs.{air_after, stale_in, stale_on}
-use Rattle.source_machine.specs.Calls.{framed_calls, framed_lays, stream_calls}
-use Rattle.source_machine.specs.Setups.{IsChecked}
-use Rattle.source_machine.specs.State.Senders.{HasTime, SenderStands, info_of, waiting_in}
-use Rattle.source_machine.specs.State.Sources.{Stream, StreamIs, StreamStands, info_in, kept_of, last_laid, pdus_at}
-use Rattle.source_machine.specs.State.Streams.{Accepts, AllTell, Grows, Lays, LaysOne, Tells, told_by}
-use Rattle.source_machine.specs.declared.sender.Sender.{Sender}
-use Rattle.source_machine.specs.declared.sent.Stale.{Stale}
 use Rattle.source_machine.proofs.Framings.{info_is}
 
 newest_at : (entry : Entry) (air : Air) (n : ℕ) → length air ≡ n → pdus_at (entry ∷ air) n ≡ entry.event.pdus

@@ -1,3 +1,4 @@
+mod Prelude
 mod Advances
 mod AirLaws
 mod Ciphers

@@ -1,13 +1,5 @@
 -- Facts of all items of lists, place by place.
-use Rattle.std.proofs.Common.{ℕ, ◌≡◌, ◌<◌, ◌≤◌, ◌+◌, suc, List, [], ◌∷◌, ◌++◌, length, get_or, set, take, append_assoc, Some}
-use Rattle.std.proofs.Common.{arith, ◌∙◌, ap, sym, subst, inl, inr, get_or-set_same, get_or-set_other, length-set, Result, Ok, Err}
-use Rattle.std.specs.List.{AllZip, slice_get}
-use Rattle.std.specs.Result.{IfErr, IsErrAnd, OnErr, OnOk}
-use Rattle.std.proofs.lemmas.List.{get_or_default, map_more}
-use Rattle.std.proofs.lemmas.Option.{none-some, same_Some, slice_get-get_or, slice_get_past}
-use Rattle.std.proofs.lemmas.Bool.{cases_eq, cases_lt}
-use Rattle.source_machine.specs.Airs.{stale_on}
-use Rattle.source_machine.specs.declared.sent.Stale.{Stale}
+use Rattle.source_machine.proofs.Prelude.{ℕ, ◌≡◌, ◌<◌, ◌≤◌, ◌+◌, suc, List, [], ◌∷◌, ◌++◌, length, get_or, set, take, append_assoc, Some, arith, ◌∙◌, ap, sym, subst, inl, inr, get_or-set_same, get_or-set_other, length-set, Result, Ok, Err, AllZip, slice_get, IfErr, IsErrAnd, OnErr, OnOk, get_or_default, map_more, none-some, same_Some, slice_get-get_or, slice_get_past, cases_eq, cases_lt, stale_on, Stale}
 
 pub on_err : {T E P : Type 0} (r : Result T E) → P → OnErr r P
 on_err (Ok x) p = tt

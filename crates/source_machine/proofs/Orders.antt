@@ -1,14 +1,7 @@
 -- The units of a stream take its slots in the order of acceptance.
-use Rattle.std.proofs.Common.{ℕ, ◌≡◌, ◌<◌, ◌≤◌, ◌+◌, min, Some, None, List, [], ◌∷◌, ◌++◌, length, arith, ◌∙◌, ap, sym, refl, inl, inr, append_assoc}
-use Rattle.std.proofs.lemmas.Bool.{cases_eq, cases_lt, eq-eqb, ne_eqb}
-use Rattle.std.proofs.lemmas.List.{append-nil}
-use Rattle.std.proofs.lemmas.Option.{none-some, slice_get_within}
-use Rattle.std.specs.List.{slice_get}
+use Rattle.source_machine.proofs.Prelude.{ℕ, ◌≡◌, ◌<◌, ◌≤◌, ◌+◌, min, Some, None, List, [], ◌∷◌, ◌++◌, length, arith, ◌∙◌, ap, sym, refl, inl, inr, append_assoc, cases_eq, cases_lt, eq-eqb, ne_eqb, append-nil, none-some, slice_get_within, slice_get, BigInfo, per_event_of, before_event, unit_at, accept, lay, accepted, begun}
 use Rattle.circular_buffer.proofs.Places.{slice_get-append_left}
-use Rattle.big_info.specs.declared.info.BigInfo.{BigInfo}
-use Rattle.big_info.specs.Schedule.{per_event_of}
-use Rattle.isoal_unframed.specs.Air.{before_event, unit_at}
-use Rattle.isoal_unframed.specs.Calls.{Call as StreamCall, accept, lay, accepted, begun, events as laid_events}
+use Rattle.isoal_unframed.specs.Calls.{Call as StreamCall, events as laid_events}
 use Rattle.isoal_unframed.proofs.Citable.{begun_within}
 
 -- what was accepted before an event is a prefix of all that was accepted

@@ -1,23 +1,7 @@
 -- The PDU that a stream keeps of an event that was performed.
-use Rattle.std.proofs.Common.{ℕ, ◌≡◌, ◌<◌, ◌≤◌, ◌+◌, ◌-◌, ◌*◌, ◌/◌, ◌%◌, min, Option, Some, None, List, [], ◌++◌, length, arith, ◌∙◌, ap, sym, refl, inl, inr}
-use Rattle.std.proofs.lemmas.List.FromFn.{get_or-map-range_with_len, length-map-range_with_len}
-use Rattle.std.proofs.lemmas.Nat.{div-mul-add, mod-mul-add, mod_below}
-use Rattle.std.proofs.lemmas.Option.{none-some, slice_get-get_or}
-use Rattle.std.proofs.lemmas.Bool.{cases_lt, le-ltb, lt-ltb}
-use Rattle.std.proofs.Math.Nat.{div-lt_iff_lt-mul, mul-le-mul_left}
-use Rattle.std.specs.List.{slice_get}
-use Rattle.std.specs.Option.{option_and_then}
-use Rattle.big_info.specs.declared.info.BigInfo.{BigInfo}
-use Rattle.big_info.specs.Schedule.{group_count, horizon_of}
-use Rattle.isoal_base.specs.Air.{Air, Laid, event_at, pdu_at}
-use Rattle.isoal_unframed.specs.Air.{laid_u}
+use Rattle.source_machine.proofs.Prelude.{ℕ, ◌≡◌, ◌<◌, ◌≤◌, ◌+◌, ◌-◌, ◌*◌, ◌/◌, ◌%◌, min, Option, Some, None, List, [], ◌++◌, length, arith, ◌∙◌, ap, sym, refl, inl, inr, get_or-map-range_with_len, length-map-range_with_len, div-mul-add, mod-mul-add, mod_below, none-some, slice_get-get_or, cases_lt, le-ltb, lt-ltb, div-lt_iff_lt-mul, mul-le-mul_left, slice_get, option_and_then, BigInfo, group_count, horizon_of, Air, Laid, event_at, pdu_at, laid_u, ahead_of, payload_number, air_of, airs_of, content_at, pdu_of, Setup, Call, events, framed_calls, next_of, stream_calls, Stream, StreamIs, info_in, kept_of, last_laid, pdus_at, pdus_in, sent_of}
 use Rattle.isoal_unframed.specs.Calls.{events as laid_events}
-use Rattle.radio_schedule.specs.PayloadNumber.{ahead_of, payload_number}
-use Rattle.source_machine.specs.Airs.{air_of, airs_of, content_at, pdu_of}
 use Rattle.iso_pdu.specs.Encoding.{pdu as encoded}
-use Rattle.source_machine.specs.Calls.{Setup, Call, events, framed_calls, next_of, stream_calls}
-use Rattle.source_machine.specs.State.Sources.{Stream, StreamIs, info_in, kept_of, last_laid, pdus_at, pdus_in}
-use Rattle.source_machine.specs.State.Streams.{sent_of}
 use Rattle.source_machine.proofs.Framings.{air_at, calls_keep, info_is, laid_count}
 use Rattle.source_machine.proofs.Histories.{ahead_laid}
 

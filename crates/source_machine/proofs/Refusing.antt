@@ -1,24 +1,10 @@
 -- Why a source refuses a unit, by what its stream's sender says.
-use Rattle.std.proofs.Common.{ℕ, ◌≡◌, ◌<◌, ◌≤◌, ◌-◌, Bool, true, false, not, Option, Some, None, List, length, get_or, arith, ◌∙◌, ap, sym, refl, subst, inl, inr}
-use Rattle.std.proofs.lemmas.Bool.{cases_lt, eq-eqb, ne_eqb, le-leb, lt-leb, le-ltb, lt-ltb, and_from}
-use Rattle.std.specs.Prelude.{◌&&◌, ◌||◌, nat_le, if◌then◌else◌}
-use Rattle.big_info.specs.declared.info.BigInfo.{BigInfo}
+use Rattle.source_machine.proofs.Prelude.{ℕ, ◌≡◌, ◌<◌, ◌≤◌, ◌-◌, Bool, true, false, not, Option, Some, None, List, length, get_or, arith, ◌∙◌, ap, sym, refl, subst, inl, inr, cases_lt, eq-eqb, ne_eqb, le-leb, lt-leb, le-ltb, lt-ltb, and_from, ◌&&◌, ◌||◌, nat_le, if◌then◌else◌, BigInfo, iso_us_of, Air, AreAirs, waiting_of, Setup, Call, framed_calls, last_time_of, next_anchor_of, stream_calls, give_fault, has_its_time, is_above, misfit_of, of_sender, refused_unit, IsChecked, HasTime, PutStops, SenderStands, info_of, waiting_in, Source, StandsFor, Stream, StreamIs, IsFit, IsSource, limit_of, Sender, Framed, Unframed}
 use Rattle.sync_reference.specs.Reference.{anchor_of}
-use Rattle.big_info.specs.Time.{iso_us_of}
-use Rattle.isoal_base.specs.Air.{Air}
 use Rattle.isoal_base.specs.declared.laid.PutFault.{PutFault}
 use Rattle.isoal_base.specs.declared.laid.PutFault.TheVariants.{Backlog as Full, Memory, TimeOrder, TooLong}
 use Rattle.isoal_framed.specs.State.Senders.{Above, NotPast}
-use Rattle.source_machine.specs.Airs.{AreAirs, waiting_of}
-use Rattle.source_machine.specs.Calls.{Setup, Call, framed_calls, last_time_of, next_anchor_of, stream_calls}
-use Rattle.source_machine.specs.Faults.{give_fault, has_its_time, is_above, misfit_of, of_sender, refused_unit}
-use Rattle.source_machine.specs.Setups.{IsChecked}
 use Rattle.source_machine.specs.UnitFaults as unit_faults
-use Rattle.source_machine.specs.State.Senders.{HasTime, PutStops, SenderStands, info_of, waiting_in}
-use Rattle.source_machine.specs.State.Sources.{Source, StandsFor, Stream, StreamIs}
-use Rattle.source_machine.specs.State.Streams.{IsFit, IsSource, limit_of}
-use Rattle.source_machine.specs.declared.sender.Sender.{Sender}
-use Rattle.source_machine.specs.declared.sender.Sender.TheVariants.{Framed, Unframed}
 use Rattle.source_machine.proofs.Framings.{airs_only, info_is, waiting_is}
 use Rattle.source_machine.proofs.Standing.{stream_is}
 

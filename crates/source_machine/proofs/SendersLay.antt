@@ -1,16 +1,9 @@
 -- A sender that lays an event, by its framing.
-use Rattle.std.proofs.Common.{ℕ, ◌≡◌, ◌∷◌, List, Result, Ok, Err, ◌∙◌, ap, sym, subst}
-use Rattle.std.specs.Result.{IfOk, OnOk}
-use Rattle.big_info.specs.declared.info.BigInfo.{BigInfo}
-use Rattle.isoal_base.specs.Air.{Air, Entry}
-use Rattle.isoal_unframed.specs.Air.{unframed_air}
-use Rattle.isoal_unframed.specs.Calls.{Call as PlainCall, begun, lay}
+use Rattle.source_machine.proofs.Prelude.{ℕ, ◌≡◌, ◌∷◌, List, Result, Ok, Err, ◌∙◌, ap, sym, subst, IfOk, OnOk, BigInfo, Air, Entry, unframed_air, begun, lay, framed_air, framed_air_is, one_air, Framed, Unframed}
+use Rattle.isoal_unframed.specs.Calls.{Call as PlainCall}
 use Rattle.isoal_unframed.specs.State.Sender.{Sender as PlainSender, StandsFor as PlainStands}
 use Rattle.isoal_framed.specs.Calls.{Call as TimedCall, lay as lay_at}
-use Rattle.isoal_framed.specs.Filling.{framed_air}
 use Rattle.isoal_framed.specs.State.Senders.{Sender as TimedSender, StandsFor as TimedStands}
-use Rattle.isoal_framed.proofs.Citable.{framed_air_is, one_air}
-use Rattle.source_machine.specs.declared.sender.Sender.TheVariants.{Framed, Unframed}
 use Rattle.source_machine.proofs.Framings.{plain_air, timed_air}
 use Rattle.source_machine.proofs.LaidEvents.{LaysEvent}
 

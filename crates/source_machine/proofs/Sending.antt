@@ -1,19 +1,5 @@
 -- The PDUs of an event, gathered from the streams.
-use Rattle.std.proofs.Common.{ℕ, ◌≡◌, ◌<◌, ◌≤◌, ◌+◌, ◌-◌, ◌*◌, ◌/◌, ◌%◌, Option, Some, None, List, [], ◌∷◌, ◌++◌, length, get_or, map, arith, ◌∙◌, ap, sym, subst}
-use Rattle.std.proofs.lemmas.List.{length-map, map-append}
-use Rattle.std.proofs.lemmas.List.FromFn.{get_or-map-range_with_len, length-map-range_with_len}
-use Rattle.std.proofs.lemmas.Nat.{div-mul-add, mod-mul-add, mul-add-lt}
-use Rattle.std.proofs.lemmas.Option.{none-some, same_Some, slice_get-get_or, slice_get-map}
-use Rattle.std.specs.List.{range_with_len, slice_get}
-use Rattle.std.specs.Option.{option_and_then, option_map}
-use Rattle.big_info.specs.declared.info.BigInfo.{BigInfo}
-use Rattle.big_info.specs.Schedule.{group_count}
-use Rattle.isoal_base.proofs.Citable.{map_append}
-use Rattle.source_machine.specs.Airs.{Sends, airs_of, pdu_of}
-use Rattle.source_machine.specs.Calls.{Setup, Call, events, next_of}
-use Rattle.source_machine.specs.State.Sources.{Stream, StreamIs, StreamsAre}
-use Rattle.source_machine.specs.State.Streams.{sent_at, sent_of}
-use Rattle.source_machine.specs.declared.sender.Sender.TheVariants.{Unframed}
+use Rattle.source_machine.proofs.Prelude.{ℕ, ◌≡◌, ◌<◌, ◌≤◌, ◌+◌, ◌-◌, ◌*◌, ◌/◌, ◌%◌, Option, Some, None, List, [], ◌∷◌, ◌++◌, length, get_or, map, arith, ◌∙◌, ap, sym, subst, length-map, map-append, get_or-map-range_with_len, length-map-range_with_len, div-mul-add, mod-mul-add, mul-add-lt, none-some, same_Some, slice_get-get_or, slice_get-map, range_with_len, slice_get, option_and_then, option_map, BigInfo, group_count, map_append, Sends, airs_of, pdu_of, Setup, Call, events, next_of, Stream, StreamIs, StreamsAre, sent_at, sent_of, Unframed}
 use Rattle.source_machine.proofs.Payloads.{ahead_within, sent_is}
 
 unwrapped : {A : Type 0} (item want : Option A) → option_map Some item ≡ Some want → item ≡ want

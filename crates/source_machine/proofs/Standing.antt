@@ -1,25 +1,9 @@
 -- A source that stands for its calls.
-use Rattle.std.proofs.Common.{ℕ, ◌≡◌, ◌<◌, ◌≤◌, ◌+◌, ◌-◌, ◌*◌, Option, Some, List, [], ◌∷◌, ◌++◌}
-use Rattle.std.proofs.Common.{false, length, map, get_or, set, get_or-set_other, get_or-set_same, length-set, arith, ◌∙◌, ap, sym, refl, subst, inl, inr}
-use Rattle.std.proofs.lemmas.Bool.{cases_eq, cases_lt}
-use Rattle.std.proofs.lemmas.List.{get_or-append_right, get_or_append_left, length-append}
+use Rattle.source_machine.proofs.Prelude.{ℕ, ◌≡◌, ◌<◌, ◌≤◌, ◌+◌, ◌-◌, ◌*◌, Option, Some, List, [], ◌∷◌, ◌++◌, false, length, map, get_or, set, get_or-set_other, get_or-set_same, length-set, arith, ◌∙◌, ap, sym, refl, subst, inl, inr, cases_eq, cases_lt, get_or-append_right, get_or_append_left, length-append, BigInfo, length_all_zip, unwrap_or, AllZip, flat_map, range_with_len, slice_get, accept, flat_same, Sends, airs_of, stale_in, stale_of, stale_on, Setup, Call, give, event, framed_calls, laid_before, laid_with, lay_anchor, stream_calls, IsChecked, Source, StandsFor, Stream, StreamIs, StreamStands, StreamsAre, Accepts, Advances, AllTell, IsSource, Lays, LaysNext, Performs, sent_at, told_by, Laying, Stale}
 use Rattle.base_grammar.specs.Layout.{Endpoint}
-use Rattle.big_info.specs.declared.info.BigInfo.{BigInfo}
 use Rattle.big_info.specs.declared.info.Cipher.{Cipher}
-use Rattle.std.proofs.lemmas.List.Elements.{length_all_zip}
-use Rattle.std.specs.Prelude.{unwrap_or}
-use Rattle.std.specs.List.{AllZip, flat_map, range_with_len, slice_get}
-use Rattle.isoal_unframed.specs.Calls.{accept}
 use Rattle.isoal_framed.specs.Calls.{accept as accept_timed}
-use Rattle.isoal_framed.proofs.Citable.{flat_same}
-use Rattle.source_machine.specs.Airs.{Sends, airs_of, stale_in, stale_of, stale_on}
-use Rattle.source_machine.specs.Calls.{Setup, Call, give, event, framed_calls, laid_before, laid_with, lay_anchor, stream_calls}
-use Rattle.source_machine.specs.Setups.{IsChecked}
-use Rattle.source_machine.specs.State.Sources.{Source, StandsFor, Stream, StreamIs, StreamStands, StreamsAre}
-use Rattle.source_machine.specs.State.Streams.{Accepts, Advances, AllTell, IsSource, Lays, LaysNext, Performs, sent_at, told_by}
-use Rattle.source_machine.specs.declared.laying.Laying.{Laying}
 use Rattle.source_machine.specs.declared.sent.Sent.{Sent}
-use Rattle.source_machine.specs.declared.sent.Stale.{Stale}
 use Rattle.source_machine.specs.declared.setup.Identity.{Identity}
 use Rattle.source_machine.proofs.Advances.{IsNext, is_next, streams_next}
 use Rattle.source_machine.proofs.FramedCalls.{timed_other, timed_same}

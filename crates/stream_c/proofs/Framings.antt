@@ -1,17 +1,13 @@
 -- What a receiver of either framing stands for and hands up, by the stay that it is on.
-use Rattle.std.proofs.Common.{◌≡◌, List, [], replicate, None, sym, ◌∙◌, ap, subst}
-use Rattle.std.specs.Prelude.{◌==◌, if◌then◌else◌}
+use Rattle.stream_c.proofs.Prelude.{◌≡◌, List, [], replicate, None, sym, ◌∙◌, ap, subst, ◌==◌, if◌then◌else◌, Call, Stay, opened, window_of, units_at_close, FramedStands, PlainStands}
 use Rattle.isoal_base.proofs.Citable.{stands_new}
 use Rattle.isoal_base.specs.Hearing.{read_as}
-use Rattle.isoal_base.specs.Stays.{Call, Stay, opened, window_of}
 use Rattle.isoal_framed.proofs.Citable.{new_stands}
 use Rattle.isoal_framed.specs.Histories.{gained}
 use Rattle.isoal_framed.specs.State.Windows as segments
 use Rattle.isoal_unframed.specs.Histories.{units_of}
 use Rattle.isoal_unframed.specs.State.Windows as plain
 use Rattle.isoal_unframed.specs.Units.{unframed}
-use Rattle.group_sink.specs.Handing.{units_at_close}
-use Rattle.stream_c.specs.Streams.{FramedStands, PlainStands}
 
 pub plain_new : (stay : Stay) (window : plain.Window) → stay.info.framing ≡ 0
     → window ≡ record { stay = stay; event = stay.first; kept = replicate (window_of stay.info) None } → PlainStands stay [] window

@@ -1,8 +1,6 @@
 -- What a round brings that began as the units that waited.
-use Rattle.std.proofs.Common.{◌≡◌, Bool, List, Result, subst}
-use Rattle.unit_outlets.specs.Handed.{Caused, Handed, HandsOver}
+use Rattle.stream_c.proofs.Prelude.{◌≡◌, Bool, List, Result, subst, Caused, Handed, HandsOver, Brought, Kept, begun, calls_of, counts_of}
 use Rattle.unit_outlets.specs.declared.fault.TakerFault.{TakerFault}
-use Rattle.c_values.specs.Kept.{Brought, Kept, begun, calls_of, counts_of}
 
 pub brought_by : (before began between after : Kept) (units : List Handed) (handed : Result (Unit {0}) TakerFault) (all : Bool)
     → ((before : Kept) (units : List Handed) → HandsOver units (calls_of (begun before)) (calls_of between) handed

@@ -1,3 +1,4 @@
+mod Prelude
 mod Framings
 mod Handing
 mod Kept

@@ -1,22 +1,7 @@
 -- A line that means another source, and puts the sink on no train and no group, changes nothing of the sink and of the source.
-use Rattle.std.proofs.Common.{ℕ, ◌≡◌, ◌≢◌, ◌==◌, ◌&&◌, cond, not, Bool, true, false, List, ◌∷◌, Option, None, Some, refl, arith}
-use Rattle.std.proofs.Common.{ap}
-use Rattle.std.proofs.lemmas.Bool.{and_right, false≢true, ne_eqb, cond-false}
-use Rattle.delegator_machine.specs.Groups.{with_leave}
-use Rattle.delegator_history.specs.States.{train_heard}
-use Rattle.delegator_history.specs.Trains.{TrainOutcome, Settings, Train, big_sync_in}
-use Rattle.group_sink.specs.Calls.{Call}
+use Rattle.scenario_laws.proofs.Prelude.{ℕ, ◌≡◌, ◌≢◌, ◌==◌, ◌&&◌, cond, not, Bool, true, false, List, ◌∷◌, Option, None, Some, refl, arith, ap, and_right, false≢true, ne_eqb, cond-false, with_leave, train_heard, TrainOutcome, Settings, Train, big_sync_in, Call, Step, is_of, sink_calls, source_of, ticked_if, open_event, Airs, chosen_of, chosen_steps, is_common, is_of_source, is_source_line, calls_made, source_at, Source, given_train, calls_by, made_of, own_train, follows, follows_by, received_by, train_by, puts}
 use Rattle.sink_history.specs.Calls as links
-use Rattle.scenario_text.specs.declared.step.Step.{Step}
 use Rattle.scenario_text.specs.declared.step.Step.TheVariants as steps
-use Rattle.scenario_history.specs.Sinks.{is_of, sink_calls, source_of, ticked_if}
-use Rattle.scenario_history.specs.Source.{open_event}
-use Rattle.source_machine.specs.Airs.{Airs}
-use Rattle.scenario_history.specs.Steps.{chosen_of, chosen_steps, is_common, is_of_source, is_source_line}
-use Rattle.scenario_history.specs.Worlds.{calls_made, source_at}
-use Rattle.sink_history.specs.History.{Source, given_train, calls_by, made_of, own_train}
-use Rattle.sink_history.specs.Moves.{follows, follows_by, received_by, train_by}
-use Rattle.scenario_laws.specs.Isolation.{puts}
 use Rattle.scenario_laws.proofs.Isolating.Histories.{ignores}
 use Rattle.scenario_laws.proofs.Isolating.Left.{Leaves, lives_equal, lives_itself}
 use Rattle.scenario_laws.proofs.Isolating.Said.{said_elsewhere}

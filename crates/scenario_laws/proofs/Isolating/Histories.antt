@@ -1,23 +1,12 @@
 -- Two histories of one sink of which one has trains more that it ignored: they come to the same, and each call keeps that.
-use Rattle.std.proofs.Common.{ℕ, zero, suc, ◌≡◌, ◌+◌, ◌==◌, ◌∙◌, min, cond, false, List, [], ◌∷◌, ◌++◌, length, Option, None, Some, arith}
-use Rattle.std.proofs.Common.{refl, sym, ap, subst}
-use Rattle.std.specs.Prelude.{unwrap_or}
-use Rattle.std.specs.Option.{option_or}
-use Rattle.std.proofs.lemmas.Bool.{false≢true}
-use Rattle.delegator_history.proofs.Citable.{none_change, snapshot_goes_on}
+use Rattle.scenario_laws.proofs.Prelude.{ℕ, zero, suc, ◌≡◌, ◌+◌, ◌==◌, ◌∙◌, min, cond, false, List, [], ◌∷◌, ◌++◌, length, Option, None, Some, arith, refl, sym, ap, subst, unwrap_or, option_or, false≢true, none_change, snapshot_goes_on, Snapshot, snapshot_of, train_heard, written, TrainOutcome, Train, outcome_by, done_by_outcome, value_at, is_joined, joining_by, served_of, step_by, writes, writes_waiting, drained, read_out, repeated, served_out, notified_out, Acts, acts_of, made_all, notices_waiting, reads_waiting, waiting_of, follows}
 use Rattle.delegator_history.specs.LastGiven.{last_given}
 use Rattle.delegator_history.specs.Notices.{changes}
-use Rattle.delegator_history.specs.Snapshots.{Snapshot}
-use Rattle.delegator_history.specs.States.{Step, snapshot_of, train_heard, written}
+use Rattle.delegator_history.specs.States.{Step}
 use Rattle.delegator_history.specs.Steps.{after, nothing}
-use Rattle.delegator_history.specs.Trains.{TrainOutcome, Setup, Train, outcome_by, done_by_outcome}
-use Rattle.delegator_history.specs.Values.{value_at}
+use Rattle.delegator_history.specs.Trains.{Setup}
 use Rattle.sink_history.specs.Calls as links
-use Rattle.sink_history.specs.Calls.{Call, is_joined, joining_by, served_of, step_by, steps_of, with_step, writes, writes_waiting}
-use Rattle.sink_history.specs.Drains.{drained, read_out, repeated, served_out, notified_out}
-use Rattle.sink_history.specs.Links.{Acts, acts_of, made_all, notices_waiting, reads_waiting}
-use Rattle.assistant_machine.specs.Links.{waiting_of}
-use Rattle.sink_history.specs.Moves.{follows}
+use Rattle.sink_history.specs.Calls.{Call, steps_of, with_step}
 
 -- ---- what two histories have alike
 

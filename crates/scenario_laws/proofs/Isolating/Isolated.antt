@@ -1,20 +1,6 @@
 -- The isolation law: by one induction over the steps, each of which is kept in both lists or left out of one.
-use Rattle.std.proofs.Common.{ℕ, ◌≡◌, ◌≢◌, ◌⊎◌, ◌==◌, ◌&&◌, ◌||◌, ◌∙◌, cond, not, Bool, true, false, List, [], ◌∷◌, ◌++◌, Option, None, arith}
-use Rattle.std.proofs.Common.{Some, refl, sym, ap, subst, inl, inr}
-use Rattle.std.proofs.lemmas.Bool.{and_parts, eq-eqb, eqb-true, false≢true, not-true}
-use Rattle.delegator_history.specs.Values.{state_at}
-use Rattle.delegator_history.specs.Trains.{Settings}
+use Rattle.scenario_laws.proofs.Prelude.{ℕ, ◌≡◌, ◌≢◌, ◌⊎◌, ◌==◌, ◌&&◌, ◌||◌, ◌∙◌, cond, not, Bool, true, false, List, [], ◌∷◌, ◌++◌, Option, None, arith, Some, refl, sym, ap, subst, inl, inr, and_parts, eq-eqb, eqb-true, false≢true, not-true, state_at, Settings, language, view_of, waits_of, Step, Account, steps_of, Airs, chosen_of, is_common, is_source_line, calls_made, IsIsolated, IsSameHistory, IsolationLaw, NoOtherPuts, kept_lines, lines_by, lines_of, puts, chooses, is_kept, is_other, is_sink, only, sink_in}
 use Rattle.sink_history.specs.Calls.{Call}
-use Rattle.sink_history.specs.Links.{language}
-use Rattle.assistant_machine.specs.Links.{view_of, waits_of}
-use Rattle.scenario_text.specs.declared.step.Step.{Step}
-use Rattle.unit_outlets.specs.Account.{Account}
-use Rattle.scenario_history.specs.Lines.{steps_of}
-use Rattle.source_machine.specs.Airs.{Airs}
-use Rattle.scenario_history.specs.Steps.{chosen_of, is_common, is_source_line}
-use Rattle.scenario_history.specs.Worlds.{calls_made}
-use Rattle.scenario_laws.specs.Isolation.{IsIsolated, IsSameHistory, IsolationLaw, NoOtherPuts, kept_lines, lines_by, lines_of, puts}
-use Rattle.scenario_laws.specs.Only.{chooses, is_kept, is_other, is_sink, only, sink_in}
 use Rattle.scenario_laws.proofs.Isolating.Elsewhere.{elsewhere}
 use Rattle.scenario_laws.proofs.Isolating.Kept.{Means, kept}
 use Rattle.scenario_laws.proofs.Isolating.Left.{another_sink, left_out}

@@ -1,19 +1,7 @@
 -- A step that both lists of steps have keeps what they have alike of a sink and a source, where it means this source if it is a
 -- source line.
-use Rattle.std.proofs.Common.{ℕ, ◌≡◌, ◌≢◌, ◌∙◌, cond, Bool, true, false, List, ◌∷◌, Option, None, Some, is_some, refl, arith}
-use Rattle.std.proofs.Common.{sym, ap, inl, inr}
-use Rattle.std.specs.Option.{option_or}
-use Rattle.std.proofs.lemmas.Bool.{cases_eq, ne_eqb}
-use Rattle.group_sink.specs.Calls.{Call}
-use Rattle.scenario_text.specs.declared.step.Step.{Step}
-use Rattle.scenario_history.specs.Boxes.{box_of, closing, handed_by, handed_up}
-use Rattle.scenario_history.specs.Sinks.{is_of, reaches, sink_calls, source_of, ticked_by, ticked_if}
-use Rattle.scenario_history.specs.Source.{open_event}
-use Rattle.source_machine.specs.Airs.{Airs}
-use Rattle.scenario_history.specs.Steps.{chosen_given, chosen_of, is_source_line, steps_of_source}
-use Rattle.scenario_history.specs.Worlds.{calls_made, source_at}
-use Rattle.sink_history.specs.History.{made_of, version_given}
-use Rattle.scenario_laws.specs.Isolation.{units_by}
+use Rattle.scenario_laws.proofs.Prelude.{ℕ, ◌≡◌, ◌≢◌, ◌∙◌, cond, Bool, true, false, List, ◌∷◌, Option, None, Some, is_some, refl, arith, sym, ap, inl, inr, option_or, cases_eq, ne_eqb, Call, Step, box_of, handed_by, handed_up, is_of, reaches, sink_calls, source_of, ticked_by, ticked_if, open_event, Airs, chosen_given, chosen_of, is_source_line, steps_of_source, calls_made, source_at, made_of, version_given, units_by}
+use Rattle.scenario_history.specs.Boxes.{closing}
 use Rattle.scenario_laws.proofs.Isolating.Moves.{Sourced, cond_same, history_grows, moved_same, sourced_same}
 use Rattle.scenario_laws.proofs.Isolating.Said.{back_same, hear_same, heard_same, said_grows, tuning_same}
 use Rattle.scenario_laws.proofs.Isolating.Same.{HistoriesAlike, Same, chosen_alike, horizon_alike, own_alike, source_alike}

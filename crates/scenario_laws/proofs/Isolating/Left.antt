@@ -1,23 +1,8 @@
 -- A step that is left out changes nothing of the sink and of the source: it names another sink, or it means another source and puts
 -- the sink on no train and no group.
-use Rattle.std.proofs.Common.{ℕ, ◌≡◌, ◌∙◌, cond, not, Bool, true, List, [], ◌∷◌, ◌++◌, Option, None, is_some, arith}
-use Rattle.std.proofs.Common.{sym, ap, subst}
-use Rattle.std.specs.Option.{option_or}
-use Rattle.std.proofs.lemmas.Bool.{false≢true}
-use Rattle.std.proofs.lemmas.List.{append-nil}
+use Rattle.scenario_laws.proofs.Prelude.{ℕ, ◌≡◌, ◌∙◌, cond, not, Bool, true, List, [], ◌∷◌, ◌++◌, Option, None, is_some, arith, sym, ap, subst, option_or, false≢true, append-nil, Settings, Call, Step, box_of, handed_by, handed_up, is_of, sink_calls, source_of, Airs, chosen_given, last_given, steps_of_source, calls_made, made_of, version_given, units_by, is_other, sink_in}
 use Rattle.delegator_history.specs.LastGiven.{last_given as last_of}
-use Rattle.delegator_history.specs.Trains.{Settings}
-use Rattle.group_sink.specs.Calls.{Call}
 use Rattle.sink_history.specs.Calls as links
-use Rattle.scenario_text.specs.declared.step.Step.{Step}
-use Rattle.scenario_history.specs.Boxes.{box_of, handed_by, handed_up}
-use Rattle.scenario_history.specs.Sinks.{is_of, sink_calls, source_of}
-use Rattle.source_machine.specs.Airs.{Airs}
-use Rattle.scenario_history.specs.Steps.{chosen_given, last_given, steps_of_source}
-use Rattle.scenario_history.specs.Worlds.{calls_made}
-use Rattle.sink_history.specs.History.{made_of, version_given}
-use Rattle.scenario_laws.specs.Isolation.{units_by}
-use Rattle.scenario_laws.specs.Only.{is_other, sink_in}
 use Rattle.scenario_laws.proofs.Isolating.Histories.{alike_itself, alike_then}
 use Rattle.scenario_laws.proofs.Isolating.Said.{Said, said_after, said_of, said_stays}
 use Rattle.scenario_laws.proofs.Isolating.Same.{HistoriesAlike, Same}

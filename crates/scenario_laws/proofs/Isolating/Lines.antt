@@ -1,20 +1,7 @@
 -- What a step that both lists of steps have prints of the sink, of its assistants and of the source.
-use Rattle.std.proofs.Common.{ℕ, zero, suc, ◌≡◌, ◌∙◌, List, [], ◌∷◌, ◌++◌, length, map, Option, refl, ap, arith}
-use Rattle.std.specs.Prelude.{codes, decimal, option_map, slice_get}
-use Rattle.std.specs.List.{flat_map, range_with_len}
-use Rattle.delegator_history.specs.Trains.{Settings, Train, answer_of, outcome_by}
-use Rattle.delegator_history.specs.Values.{state_at, value}
-use Rattle.sink_history.specs.Calls.{Call, writes_waiting}
-use Rattle.sink_history.specs.Drains.{served_out, notified_out}
-use Rattle.sink_history.specs.Links.{language, notices_waiting, reads_waiting}
-use Rattle.assistant_machine.specs.Links.{view_of}
-use Rattle.scenario_text.specs.declared.step.Step.{Step}
+use Rattle.scenario_laws.proofs.Prelude.{ℕ, zero, suc, ◌≡◌, ◌∙◌, List, [], ◌∷◌, ◌++◌, length, map, Option, refl, ap, arith, codes, decimal, option_map, slice_get, flat_map, range_with_len, Settings, Train, answer_of, outcome_by, state_at, value, writes_waiting, served_out, notified_out, language, notices_waiting, reads_waiting, view_of, Step, Label, reply_line, sink_line, train_words, value_line, Source, Lines, drain_lines, heard_line, if_there, notice_delivered, printed_of, printed_where, read_line, read_lines, replied, serve_line, serve_lines, show_lines, stated, tell_line, tell_lines, view_lines, viewed, was_read}
+use Rattle.sink_history.specs.Calls.{Call}
 use Rattle.scenario_text.specs.declared.step.Step.TheVariants as steps
-use Rattle.transcript_text.specs.SinkLines.{Label, reply_line, sink_line, train_words, value_line}
-use Rattle.sink_history.specs.History.{Source}
-use Rattle.sink_history.specs.Output.{Lines, drain_lines, heard_line, if_there, notice_delivered, printed_of, printed_where, read_line}
-use Rattle.sink_history.specs.Output.{read_lines, replied, serve_line}
-use Rattle.sink_history.specs.Output.{serve_lines, show_lines, stated, tell_line, tell_lines, view_lines, viewed, was_read}
 use Rattle.scenario_laws.proofs.Isolating.Histories.{Alike, notices_same, reads_same, repeats, served_grow, told_grow, waiting_same}
 use Rattle.scenario_laws.proofs.Isolating.Moves.{Sourced}
 use Rattle.scenario_laws.proofs.Isolating.Same.{HistoriesAlike}

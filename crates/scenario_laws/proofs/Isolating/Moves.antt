@@ -1,20 +1,12 @@
 -- What a line makes of two histories of the sink that it names which come to the same: of the histories, of the receivers, and of the
 -- source that the sink is of.
-use Rattle.std.proofs.Common.{ℕ, ◌≡◌, cond, Bool, true, false, List, [], ◌∷◌, Option, None, Some, refl, ap, subst, arith}
+use Rattle.scenario_laws.proofs.Prelude.{ℕ, ◌≡◌, cond, Bool, true, false, List, [], ◌∷◌, Option, None, Some, refl, ap, subst, arith, encoding, control_heard, locations_set, train_heard, train_lost, Settings, Train, outcome_by, born, Step, is_source_line, calls_made, source_at, the_world, Source, calls_at, calls_by, made_of, named_by, own_train, follows, follows_by, received_by, source_by, train_by}
 use Rattle.bass_operations.specs.declared.operation.Operation.TheVariants as operations
-use Rattle.bass_operations.specs.Layout.{encoding}
-use Rattle.delegator_history.specs.States.{control_heard, locations_set, train_heard, train_lost}
-use Rattle.delegator_history.specs.Trains.{Settings, Train, outcome_by}
 use Rattle.group_sink.specs.Calls as sinks
 use Rattle.sink_history.specs.Calls as links
-use Rattle.sink_history.specs.Calls.{Call, born}
-use Rattle.scenario_text.specs.declared.step.Step.{Step}
+use Rattle.sink_history.specs.Calls.{Call}
 use Rattle.scenario_text.specs.declared.step.Step.TheVariants as steps
 use Rattle.scenario_history.specs.Sinks.{moved}
-use Rattle.scenario_history.specs.Steps.{is_source_line}
-use Rattle.scenario_history.specs.Worlds.{calls_made, source_at, the_world}
-use Rattle.sink_history.specs.History.{Source, calls_at, calls_by, made_of, named_by, own_train}
-use Rattle.sink_history.specs.Moves.{follows, follows_by, received_by, source_by, train_by}
 use Rattle.scenario_laws.proofs.Isolating.Histories.{Alike, alike_itself, drains, grows}
 use Rattle.scenario_laws.proofs.Isolating.Same.{HistoriesAlike}
 

@@ -1,23 +1,10 @@
 -- What a step prints that is kept: the same over both lists of steps.
-use Rattle.std.proofs.Common.{ℕ, ◌≡◌, ◌==◌, ◌∙◌, not, false, List, ◌++◌, refl, sym, ap}
-use Rattle.std.specs.List.{concat, flat_map}
-use Rattle.std.proofs.lemmas.Bool.{eqb-true, not-false}
+use Rattle.scenario_laws.proofs.Prelude.{ℕ, ◌≡◌, ◌==◌, ◌∙◌, not, false, List, ◌++◌, refl, sym, ap, concat, flat_map, eqb-true, not-false, Step, control_line, handed_line, injected_hearing, stale_lines, is_of, sink_calls, source_of, end_pdu, event_back, stale_in, Airs, chosen_of, chosen_steps, calls_made, source_at, made_of, printed_where, lines_by, unit_lines_by, is_other, sink_in}
 use Rattle.group_sink.specs.Hearings.{hearing_of}
 use Rattle.isoal_base.specs.declared.hearing.Hearing.TheVariants.{NotOnGroup}
-use Rattle.scenario_text.specs.declared.step.Step.{Step}
 use Rattle.scenario_text.specs.declared.step.Step.TheVariants as steps
-use Rattle.transcript_text.specs.Lines.{control_line, handed_line, heard_line}
+use Rattle.transcript_text.specs.Lines.{heard_line}
 use Rattle.scenario_history.specs.Boxes.{closing}
-use Rattle.scenario_history.specs.Output.{injected_hearing, stale_lines}
-use Rattle.scenario_history.specs.Sinks.{is_of, sink_calls, source_of}
-use Rattle.scenario_history.specs.Source.{end_pdu, event_back, stale_in}
-use Rattle.source_machine.specs.Airs.{Airs}
-use Rattle.scenario_history.specs.Steps.{chosen_of, chosen_steps}
-use Rattle.scenario_history.specs.Worlds.{calls_made, source_at}
-use Rattle.sink_history.specs.History.{made_of}
-use Rattle.sink_history.specs.Output.{printed_where}
-use Rattle.scenario_laws.specs.Isolation.{lines_by, unit_lines_by}
-use Rattle.scenario_laws.specs.Only.{is_other, sink_in}
 use Rattle.scenario_laws.proofs.Isolating.Kept.{Means, chosen_closing, cond_both, sourced}
 use Rattle.scenario_laws.proofs.Isolating.Lines.{printed_same}
 use Rattle.scenario_laws.proofs.Isolating.Said.{back_same, end_same, pdu_back_same, said_of, stale_same}

@@ -1,33 +1,7 @@
 -- What is said of a source, looked back for: eight facts, of which all else that sinks and lines take of it are functions.
-use Rattle.std.proofs.Common.{ℕ, zero, suc, ◌≡◌, ◌-◌, ◌*◌, ◌%◌, ◌^◌, ◌==◌, ◌||◌, ◌∙◌, not, cond, Bool, true, false, List, [], ◌∷◌}
-use Rattle.std.proofs.Common.{Option, None, Some, refl, ap}
-use Rattle.std.specs.Prelude.{unwrap_or}
-use Rattle.std.specs.Option.{option_or}
-use Rattle.delegator_history.specs.Octets.{train_of}
-use Rattle.base_grammar.specs.Layout.{Endpoint}
-use Rattle.big_info.specs.declared.info.Cipher.{Cipher}
-use Rattle.group_sink.specs.Calls.{Call, hear}
-use Rattle.sync_reference.specs.BigSync.{BigSync}
+use Rattle.scenario_laws.proofs.Prelude.{ℕ, zero, suc, ◌≡◌, ◌-◌, ◌*◌, ◌%◌, ◌^◌, ◌==◌, ◌||◌, ◌∙◌, not, cond, Bool, true, false, List, [], ◌∷◌, Option, None, Some, refl, ap, unwrap_or, option_or, train_of, Endpoint, Cipher, Call, hear, BigSync, control, pdu, BaseLine, subgroups_in, Step, base_from, base_lines, with_base_line, Position, hear_at, heard_on_air, is_lost, position_at, positions_of, unless_lost, GroupLine, Phase, absent, cipher_given, cipher_of, end_pdu, event_back, group_given, Airs, pdu_of, stale_of, group_of, ident_of, identity_given, is_ahead_in, is_sending_at, no_group, no_identity, open_event, pdu_in, phase_given, setup_from, setup_of, source_calls, stale_in, start_given, start_of, with_source_call, Stage, chosen_of, chosen_steps, is_of_source, is_over_at, last_given, stage_after, stage_of, steps_of_source, version_at, big_sync_on, source_at, Source, Setup, events, next_anchor_of, next_of, with_cipher, Identity}
 use Rattle.iso_pdu.specs.Control.{terminate}
-use Rattle.iso_pdu.specs.Layout.{control}
-use Rattle.iso_pdu.specs.Encoding.{pdu}
-use Rattle.announcement_train.specs.BaseLines.{BaseLine, subgroups_in}
-use Rattle.scenario_text.specs.declared.step.Step.{Step}
-use Rattle.scenario_history.specs.Bases.{base_from, base_lines, with_base_line}
-use Rattle.scenario_history.specs.Sinks.{Position, hear_at, heard_on_air, is_lost, position_at, positions_of, unless_lost}
-use Rattle.scenario_history.specs.Source.{GroupLine, Phase, absent, cipher_given, cipher_of, end_pdu, event_back, group_given}
-use Rattle.source_machine.specs.Airs.{Airs, pdu_of, stale_of}
-use Rattle.scenario_history.specs.Source.{group_of, ident_of, identity_given}
-use Rattle.scenario_history.specs.Source.{is_ahead_in, is_sending_at, no_group, no_identity, open_event, pdu_in, phase_given, setup_from}
-use Rattle.scenario_history.specs.Source.{setup_of, source_calls}
-use Rattle.scenario_history.specs.Source.{stale_in, start_given, start_of, with_source_call}
-use Rattle.scenario_history.specs.Steps.{Stage, chosen_of, chosen_steps, is_of_source, is_over_at, last_given}
-use Rattle.scenario_history.specs.Steps.{stage_after, stage_of, steps_of_source, version_at}
-use Rattle.scenario_history.specs.Worlds.{big_sync_on, source_at}
-use Rattle.sink_history.specs.History.{Source}
-use Rattle.source_machine.specs.Calls.{Setup, Call as SourceCall, event as perform, events, next_anchor_of, next_of}
-use Rattle.source_machine.specs.Ciphers.{with_cipher}
-use Rattle.source_machine.specs.declared.setup.Identity.{Identity}
+use Rattle.source_machine.specs.Calls.{Call as SourceCall, event as perform}
 
 pub record Said : Type 0 where
   pub stage : Stage

@@ -1,17 +1,8 @@
 -- What two lists of steps have alike of one sink and of one source, where steps that concern neither are left out of one of them.
-use Rattle.std.proofs.Common.{ℕ, ◌≡◌, ◌≢◌, false, List, Option, None, Some, is_some, ap}
-use Rattle.std.specs.Prelude.{unwrap_or}
+use Rattle.scenario_laws.proofs.Prelude.{ℕ, ◌≡◌, ◌≢◌, false, List, Option, None, Some, is_some, ap, unwrap_or, Settings, Step, box_of, handed_up, is_of, sink_calls, source_of, Airs, chosen_given, chosen_of, chosen_steps, last_given, steps_of_source, calls_made, source_at, horizon_in, made_of, version_given, units_by}
 use Rattle.delegator_history.specs.LastGiven.{last_given as last_of}
-use Rattle.delegator_history.specs.Trains.{Settings}
 use Rattle.sink_history.specs.Calls.{Call}
-use Rattle.scenario_text.specs.declared.step.Step.{Step}
-use Rattle.scenario_history.specs.Boxes.{box_of, handed_up}
-use Rattle.scenario_history.specs.Sinks.{is_of, sink_calls, source_of}
-use Rattle.source_machine.specs.Airs.{Airs}
-use Rattle.scenario_history.specs.Steps.{chosen_given, chosen_of, chosen_steps, last_given, steps_of_source}
-use Rattle.scenario_history.specs.Worlds.{calls_made, source_at}
-use Rattle.sink_history.specs.History.{horizon_in, horizon_of, made_of, version_given}
-use Rattle.scenario_laws.specs.Isolation.{units_by}
+use Rattle.sink_history.specs.History.{horizon_of}
 use Rattle.scenario_laws.proofs.Isolating.Histories.{Alike}
 use Rattle.scenario_laws.proofs.Isolating.Sums.{TookAlike}
 use Rattle.scenario_laws.proofs.Isolating.Said.{chosen_said, said_of, source_same}

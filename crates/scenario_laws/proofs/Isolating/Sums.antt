@@ -1,23 +1,8 @@
 -- What the box of a sink took since the sink was made: the valid units that the sink handed up since then, and nothing else, since no
 -- two sinks have one box and a new sink has a new one.
-use Rattle.std.proofs.Common.{ℕ, ◌≡◌, ◌<◌, ◌≤◌, ◌==◌, ◌∙◌, cond, Bool, true, false, List, [], ◌∷◌, ◌++◌, map, Option, None, Some}
-use Rattle.std.proofs.Common.{arith, refl, sym, ap, inl, inr}
-use Rattle.std.specs.List.{AllByRecursion, filter, flat_map}
-use Rattle.std.proofs.lemmas.Bool.{cases_eq, eq-eqb, eqb-true, ne_eqb}
-use Rattle.std.proofs.lemmas.List.{append-nil}
-use Rattle.std.proofs.lemmas.Option.{none-some}
-use Rattle.unit_outlets.specs.Handed.{Handed, valid, lost}
-use Rattle.group_sink.specs.Calls.{Call}
-use Rattle.group_sink.specs.Handing.{handed_at}
-use Rattle.scenario_text.specs.declared.step.Step.{Step}
+use Rattle.scenario_laws.proofs.Prelude.{ℕ, ◌≡◌, ◌<◌, ◌≤◌, ◌==◌, ◌∙◌, cond, Bool, true, false, List, [], ◌∷◌, ◌++◌, map, Option, None, Some, arith, refl, sym, ap, inl, inr, AllByRecursion, filter, flat_map, cases_eq, eq-eqb, eqb-true, ne_eqb, append-nil, none-some, Handed, valid, lost, Call, handed_at, Step, box_was_made, valid_append, SinkUnit, box_of, closing_at, closing_in, handed_by, handed_up, onto_valid, valid_for, open_event, Airs, chosen_of, sinks_made, sinks_made_by, steps_of_source, units_by}
 use Rattle.scenario_text.specs.declared.step.Step.TheVariants as steps
-use Rattle.scenario_history.proofs.Citable.{box_was_made, valid_append}
-use Rattle.scenario_history.specs.Boxes.{SinkUnit, box_of, closing, closing_at, closing_in, handed_by, handed_up}
-use Rattle.scenario_history.specs.Boxes.{onto_valid, valid_for}
-use Rattle.scenario_history.specs.Source.{open_event}
-use Rattle.source_machine.specs.Airs.{Airs}
-use Rattle.scenario_history.specs.Steps.{chosen_of, sinks_made, sinks_made_by, steps_of_source}
-use Rattle.scenario_laws.specs.Isolation.{units_by}
+use Rattle.scenario_history.specs.Boxes.{closing}
 
 -- the octets of the valid ones
 abbrev pub octets_in : List Handed → List (List ℕ)

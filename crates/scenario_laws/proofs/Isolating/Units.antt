@@ -1,19 +1,6 @@
 -- The units that a sink hands up as an event is closed: of the source that it is of alone, whatever other sinks do.
-use Rattle.std.proofs.Common.{ℕ, ◌≡◌, ◌==◌, ◌∙◌, cond, Bool, false, List, [], ◌∷◌, ◌++◌, map, Option, None, Some, is_some, refl, sym, arith}
-use Rattle.std.proofs.Common.{ap, inl, inr}
-use Rattle.std.specs.List.{flat_map}
-use Rattle.std.proofs.lemmas.Bool.{cases_eq, eq-eqb, false≢true, ne_eqb}
-use Rattle.std.proofs.lemmas.List.{map-append}
-use Rattle.std.proofs.lemmas.List.Elements.{filter-append}
-use Rattle.unit_outlets.specs.Handed.{Handed}
-use Rattle.group_sink.specs.Calls.{Call}
-use Rattle.scenario_text.specs.declared.step.Step.{Step}
-use Rattle.scenario_history.specs.Boxes.{SinkUnit, box_of, closing, closing_at, closing_both, closing_by, closing_in}
-use Rattle.scenario_history.specs.Sinks.{is_of, sink_calls, source_of}
-use Rattle.scenario_history.specs.Source.{open_event}
-use Rattle.source_machine.specs.Airs.{Airs}
-use Rattle.scenario_history.specs.Steps.{steps_of_source}
-use Rattle.scenario_laws.specs.Isolation.{units_by}
+use Rattle.scenario_laws.proofs.Prelude.{ℕ, ◌≡◌, ◌==◌, ◌∙◌, cond, Bool, false, List, [], ◌∷◌, ◌++◌, map, Option, None, Some, is_some, refl, sym, arith, ap, inl, inr, flat_map, cases_eq, eq-eqb, false≢true, ne_eqb, map-append, filter-append, Handed, Call, Step, SinkUnit, box_of, closing_at, closing_both, closing_by, closing_in, is_of, sink_calls, source_of, open_event, Airs, steps_of_source, units_by}
+use Rattle.scenario_history.specs.Boxes.{closing}
 use Rattle.scenario_laws.proofs.Isolating.Said.{open_same}
 use Rattle.scenario_laws.proofs.RelayedUnits.Citable.{flat_same}
 use Rattle.scenario_laws.proofs.Isolating.Same.{Same}

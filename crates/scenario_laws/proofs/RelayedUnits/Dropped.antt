@@ -1,32 +1,13 @@
 -- A unit that a relay offers is dropped for one of four reasons: the stream that it goes to is one of source 1, which is framed and
 -- takes times ahead.
-use Rattle.std.proofs.Common.{ℕ, ◌≡◌, ◌==◌, ◌||◌, ◌&&◌, ◌∙◌, not, cond, Bool, true, false, List, [], ◌∷◌, ltb, arith}
-use Rattle.std.proofs.Common.{None, Some, refl, ap, subst, inl, inr}
-use Rattle.std.specs.Prelude.{slice_index_or}
-use Rattle.std.specs.List.{All}
-use Rattle.std.specs.Option.{option_map, option_or}
-use Rattle.std.proofs.lemmas.Bool.{and_parts, eqb-true, false≢true, or_cases, or_parts}
-use Rattle.std.proofs.lemmas.List.Elements.{All-head, All-tail}
+use Rattle.scenario_laws.proofs.Prelude.{ℕ, ◌≡◌, ◌==◌, ◌||◌, ◌&&◌, ◌∙◌, not, cond, Bool, true, false, List, [], ◌∷◌, ltb, arith, None, Some, refl, ap, subst, inl, inr, slice_index_or, All, option_map, option_or, and_parts, eqb-true, false≢true, or_parts, All-head, All-tail, Step, Airs, permitted, stage_same, give_refusal, is_out_of_phase, refusal_of, source_refusal, refuse_if, Phase, absent, described, is_ciphered, is_sending, is_sending_at, is_started, phase_of, sending, setup_of, stopped, takes_units, was_started_at, chosen_of, is_of_source, is_source_line, steps_of_source, version_at, version_of, DroppedLaw, Offer, after_offer, closes_first, dropped_for, happened, offers_at, AreLegal, had_relay, relay_of}
+use Rattle.std.proofs.lemmas.Bool.{or_cases}
 use Rattle.relay_role.specs.Relayed.{drop_name}
-use Rattle.scenario_text.specs.declared.step.Step.{Step}
 use Rattle.scenario_text.specs.declared.step.Step.TheVariants as steps
-use Rattle.source_machine.specs.Airs.{Airs}
 use Rattle.source_machine.specs.UnitFaults as give_faults
 use Rattle.transcript_text.specs.declared.refusal.Refusal.TheVariants as refusals
 use Rattle.relay_role.specs.declared.dropped.DropName.TheVariants as drops
-use Rattle.scenario_history.proofs.Citable.{permitted, stage_same}
-use Rattle.scenario_history.specs.Refusals.{give_refusal, is_out_of_phase, refusal_of, source_refusal}
-use Rattle.sink_history.specs.Refusals.{refuse_if}
-use Rattle.scenario_history.specs.Source.{Phase, absent, described, is_ciphered, is_sending}
-use Rattle.scenario_history.specs.Source.{is_sending_at, is_started, phase_of, sending, setup_of, stopped, takes_units}
-use Rattle.scenario_history.specs.Source.{was_started_at}
-use Rattle.scenario_history.specs.Steps.{chosen_of, is_of_source, is_source_line}
-use Rattle.scenario_history.specs.Steps.{steps_of_source, version_at, version_of}
 use Rattle.scenario_laws.specs.RelayedUnits.Dropped.{AreDroppedByName, refusal_named, second_at, second_of}
-use Rattle.scenario_laws.specs.RelayedUnits.Laws.{DroppedLaw}
-use Rattle.scenario_history.specs.RelayedUnits.{Offer, after_offer, closes_first, dropped_for, happened, offers_at}
-use Rattle.scenario_laws.specs.RelayedUnits.Legal.{AreLegal}
-use Rattle.scenario_history.specs.Relays.{had_relay, relay_of}
 use Rattle.scenario_laws.proofs.RelayedUnits.Happening.{stage_happened}
 use Rattle.scenario_laws.proofs.RelayedUnits.Left.{left_by_offers}
 use Rattle.scenario_laws.proofs.RelayedUnits.Legal.{Runs, happens_legally, runs_at, runs_still, unless_legal}

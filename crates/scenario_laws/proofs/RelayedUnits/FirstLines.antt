@@ -1,16 +1,11 @@
 -- A line of version 1 is no `relay` line: no row of the table that version 1 knows makes one.
-use Rattle.std.proofs.Common.{ℕ, ◌≡◌, Bool, false, cond, nat_eq, List, [], ◌∷◌, Option, None, Some, Result, Ok, Err, refl, arith}
-use Rattle.bcast_io.specs.TextLines.{TextLine}
-use Rattle.bcast_base.specs.Tries.{◌>>=◌}
-use Rattle.scenario_words.specs.declared.fault.LineFault.{LineFault}
+use Rattle.scenario_laws.proofs.Prelude.{ℕ, ◌≡◌, Bool, false, cond, nat_eq, List, [], ◌∷◌, Option, None, Some, Result, Ok, Err, refl, arith, TextLine, ◌>>=◌, LineFault, at_known, built_at, Build, Row, event_rows, first_rows, link_rows, row_in, sink_rows, source_rows, Step, a_step, nothing, said_by, said_in, unsaid, has_relay, makes_relay}
 use Rattle.scenario_words.specs.declared.fault.LineFault.TheVariants.{BadLine as Misfit, Memory as NoMemory}
 use Rattle.scenario_words.specs.Places.{Place, PlaceValue}
 use Rattle.scenario_words.specs.Reading.{Left, at_place, ended}
-use Rattle.scenario_text.specs.Steps.{at_known, built_at, read_of, step_of, whole}
-use Rattle.scenario_text.specs.Table.{Build, Row, event_rows, first_row_of, first_rows, link_row_of, link_rows, row_in, row_of, row_of_2, sink_row_of, sink_rows, source_row_of, source_rows}
-use Rattle.scenario_text.specs.declared.step.Step.{Step}
-use Rattle.scenario_history.specs.Lines.{Said, a_step, nothing, said_by, said_in, unsaid}
-use Rattle.scenario_history.specs.Relays.{has_relay, makes_relay}
+use Rattle.scenario_text.specs.Steps.{read_of, step_of, whole}
+use Rattle.scenario_text.specs.Table.{first_row_of, link_row_of, row_of, row_of_2, sink_row_of, source_row_of}
+use Rattle.scenario_history.specs.Lines.{Said}
 
 -- whatever stands at the places
 abbrev Never : (places : List Place) → Build places → Type 0

@@ -1,12 +1,7 @@
 -- What happens by steps of lines, of what they say: relayed units are no part of the stage, of the sinks and of what is handed up.
-use Rattle.std.proofs.Common.{◌≡◌, ◌==◌, ◌∙◌, cond, Bool, true, false, List, [], ◌∷◌, ◌++◌, refl, sym, ap, ap₂}
-use Rattle.std.proofs.lemmas.Bool.{eqb-true}
-use Rattle.scenario_text.specs.declared.step.Step.{Step}
+use Rattle.scenario_laws.proofs.Prelude.{◌≡◌, ◌==◌, ◌∙◌, cond, Bool, true, false, List, [], ◌∷◌, ◌++◌, refl, sym, ap, ap₂, eqb-true, Step, handed_by, handed_up, after_offers, happened, offers_at, with_relayed_units, Airs, chosen_of, sinks_made, stage_of}
 use Rattle.scenario_text.specs.declared.step.Step.TheVariants as steps
-use Rattle.scenario_history.specs.Boxes.{closing, handed_by, handed_up}
-use Rattle.scenario_history.specs.RelayedUnits.{after_offers, happened, offers_at, with_relayed_units}
-use Rattle.source_machine.specs.Airs.{Airs}
-use Rattle.scenario_history.specs.Steps.{chosen_of, sinks_made, stage_of}
+use Rattle.scenario_history.specs.Boxes.{closing}
 use Rattle.scenario_laws.proofs.RelayedUnits.Left.{left_by_relayed_units, left_by_offers}
 
 pub stage_happened : (airs : Airs) (said : List Step) → stage_of (happened airs said) ≡ stage_of said

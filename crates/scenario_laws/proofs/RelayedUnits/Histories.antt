@@ -1,30 +1,9 @@
 -- What happens by steps of lines makes of each sink, its links and its assistants what the lines say: relayed units are no part of what a
 -- source announces and of where it stands.
-use Rattle.std.proofs.Common.{ℕ, suc, ◌≡◌, ◌+◌, ◌==◌, ◌||◌, ◌&&◌, ◌∙◌, cond, Bool, true, false, List, [], ◌∷◌, Option, None, Some, refl, ap, ap₂, arith}
-use Rattle.std.specs.Prelude.{unwrap_or}
-use Rattle.std.specs.Option.{option_or}
-use Rattle.delegator_history.specs.Octets.{train_of}
-use Rattle.delegator_history.specs.Trains.{Settings}
-use Rattle.big_info.specs.Time.{iso_us_of}
-use Rattle.big_info.specs.declared.info.Cipher.{Cipher}
+use Rattle.scenario_laws.proofs.Prelude.{ℕ, suc, ◌≡◌, ◌+◌, ◌==◌, ◌||◌, ◌&&◌, ◌∙◌, cond, Bool, true, false, List, [], ◌∷◌, Option, None, Some, refl, ap, ap₂, arith, unwrap_or, option_or, train_of, Settings, iso_us_of, Cipher, BaseLine, subgroups_in, Step, Source, calls_after, calls_at, calls_by, made_by, made_of, named_by, events, anchor_of, with_cipher, Identity, Refusal, base_from, base_lines, with_base_line, Offer, after_offer, after_offers, happened, offers_before, with_relayed_unit_unless, with_relayed_units, GroupLine, cipher_given, cipher_of, group_given, group_of, ident_of, identity_given, no_group, Airs, no_identity, source_calls, start_given, start_of, chosen_given, chosen_of, is_common, is_of_source, is_source_line, last_given, steps_of_source, calls_made, source_at, the_world}
 use Rattle.sink_history.specs.Calls.{Call}
-use Rattle.announcement_train.specs.BaseLines.{BaseLine, subgroups_in}
-use Rattle.scenario_text.specs.declared.step.Step.{Step}
 use Rattle.scenario_text.specs.declared.step.Step.TheVariants as steps
-use Rattle.sink_history.specs.History.{Source, horizon_of, calls_after, calls_at, calls_by, made_by, made_of, named_by}
-use Rattle.source_machine.specs.Calls.{events}
-use Rattle.sync_reference.specs.Reference.{anchor_of}
-use Rattle.source_machine.specs.Ciphers.{with_cipher}
-use Rattle.source_machine.specs.declared.setup.Identity.{Identity}
-use Rattle.transcript_text.specs.declared.refusal.Refusal.{Refusal}
-use Rattle.scenario_history.specs.Bases.{base_from, base_lines, with_base_line}
-use Rattle.scenario_history.specs.RelayedUnits.{Offer, after_offer, after_offers, happened, offers_before, with_relayed_unit_unless, with_relayed_units}
-use Rattle.scenario_history.specs.Source.{GroupLine, cipher_given, cipher_of, group_given, group_of, ident_of, identity_given, no_group}
-use Rattle.source_machine.specs.Airs.{Airs}
-use Rattle.scenario_history.specs.Source.{no_identity, source_calls, start_given, start_of}
-use Rattle.scenario_history.specs.Steps.{chosen_given, chosen_of, is_common, is_of_source, is_source_line, last_given}
-use Rattle.scenario_history.specs.Steps.{steps_of_source}
-use Rattle.scenario_history.specs.Worlds.{calls_made, source_at, the_world}
+use Rattle.sink_history.specs.History.{horizon_of}
 use Rattle.scenario_laws.proofs.RelayedUnits.Left.{left_by_relayed_units}
 
 -- ---- what is said of a source, but for its units

@@ -1,18 +1,7 @@
 -- The relay law: by one induction over the steps of lines.
-use Rattle.std.proofs.Common.{ℕ, ◌≡◌, ◌||◌, ◌∙◌, Bool, true, false, List, [], ◌∷◌, ◌++◌, arith}
-use Rattle.std.proofs.Common.{None, sym, ap, subst, inl, inr}
-use Rattle.std.specs.List.{list_any}
-use Rattle.std.proofs.lemmas.Bool.{and_right, cases_Bool, eqb-true, false≢true}
-use Rattle.std.proofs.lemmas.List.{append-nil}
-use Rattle.scenario_text.specs.declared.step.Step.{Step}
+use Rattle.scenario_laws.proofs.Prelude.{ℕ, ◌≡◌, ◌||◌, ◌∙◌, Bool, true, false, List, [], ◌∷◌, ◌++◌, arith, None, sym, ap, subst, inl, inr, list_any, and_right, cases_Bool, eqb-true, false≢true, append-nil, Step, Airs, steps_of_source, all_answered, answered_by, happened, offered_to, offers_before, with_relayed_units, RelayLaw, accepted_on, AreSaidLegally, gives_on, line_refusal, had_relay, relays_to}
 use Rattle.scenario_text.specs.declared.step.Step.TheVariants as steps
-use Rattle.source_machine.specs.Airs.{Airs}
-use Rattle.scenario_history.specs.Steps.{steps_of_source}
-use Rattle.scenario_history.specs.RelayedUnits.{all_answered, answered_by, happened, offered_to, offers_before, passed, with_relayed_units}
-use Rattle.scenario_laws.specs.RelayedUnits.Laws.{RelayLaw, accepted_on}
-use Rattle.scenario_laws.specs.RelayedUnits.Legal.{AreSaidLegally}
-use Rattle.scenario_history.specs.Refusals.{gives_on, line_refusal}
-use Rattle.scenario_history.specs.Relays.{had_relay, relays_to}
+use Rattle.scenario_history.specs.RelayedUnits.{passed}
 use Rattle.scenario_laws.proofs.RelayedUnits.Passing.{all_pass, gives_to, none_taken, passed_append, step_takes}
 use Rattle.scenario_laws.proofs.RelayedUnits.Refused.{gives_none, is_free, line_passes}
 use Rattle.scenario_laws.proofs.RelayedUnits.Offered.{all_offered}

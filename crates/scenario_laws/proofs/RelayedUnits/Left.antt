@@ -1,11 +1,5 @@
 -- What relayed units leave: a step that chooses a source and one that gives source 1 a unit change nothing else.
-use Rattle.std.proofs.Common.{◌∙◌, List, [], ◌∷◌, Option, None, Some}
-use Rattle.std.proofs.lemmas.List.{append-nil}
-use Rattle.scenario_text.specs.declared.step.Step.{Step}
-use Rattle.transcript_text.specs.declared.refusal.Refusal.{Refusal}
-use Rattle.source_machine.specs.Airs.{Airs}
-use Rattle.scenario_history.specs.RelayedUnits.{Offer, after_offer, after_offers, offers_before, with_relayed_unit, with_relayed_unit_unless, with_relayed_units}
-use Rattle.scenario_laws.specs.RelayedUnits.Laws.{IsLeft}
+use Rattle.scenario_laws.proofs.Prelude.{◌∙◌, List, [], ◌∷◌, Option, None, Some, append-nil, Step, Refusal, Airs, Offer, after_offer, after_offers, offers_before, with_relayed_unit, with_relayed_unit_unless, with_relayed_units, IsLeft}
 
 left_same : (airs : Airs) (steps : List Step) → IsLeft airs steps steps
 left_same airs steps = assumption

@@ -1,29 +1,11 @@
 -- Lines of which none was refused give steps of which none is: relayed units are steps that source 1 takes, and what closes an event of
 -- source 0 is permitted behind them as before.
-use Rattle.std.proofs.Common.{ℕ, ◌≡◌, ◌≤◌, ◌||◌, ◌∙◌, not, cond, Bool, true, false, List, [], ◌∷◌, length, leb, ltb, Option}
-use Rattle.std.proofs.Common.{None, Some, refl, sym, ap, arith}
-use Rattle.std.specs.Option.{option_map, option_or}
-use Rattle.std.proofs.lemmas.Bool.{eqb-true, false≢true, ltb-false}
-use Rattle.std.proofs.lemmas.Option.{none-some}
-use Rattle.scenario_text.specs.Ranges.{IsInRange}
-use Rattle.scenario_text.specs.declared.step.Step.{Step}
+use Rattle.scenario_laws.proofs.Prelude.{ℕ, ◌≡◌, ◌≤◌, ◌||◌, ◌∙◌, not, cond, Bool, true, false, List, [], ◌∷◌, length, leb, ltb, Option, None, Some, refl, sym, ap, arith, option_map, option_or, eqb-true, false≢true, ltb-false, none-some, IsInRange, Step, Airs, give_fault, has_its_time, UnitFault, Refusal, fails_not, maps_none, permitted, give_refusal, is_misplaced, is_out_of_phase, refusal_of, refuse_if, source_refusal, setup_of, source_calls, takes_units, Stage, chosen_of, chosen_steps, is_over, is_over_at, is_unbegun, is_unbegun_at, stage_of, steps_of_source, version_at, Offer, after_offer, after_offers, closes_first, dropped_for, happened, offers_at, with_relayed_unit, with_relayed_unit_unless, with_relayed_units, AreLegal, AreSaidLegally}
 use Rattle.scenario_text.specs.declared.step.Step.TheVariants as steps
-use Rattle.source_machine.specs.Airs.{waiting_of, Airs}
-use Rattle.source_machine.specs.Faults.{give_fault, has_its_time}
-use Rattle.source_machine.specs.UnitFaults.{UnitFault}
+use Rattle.source_machine.specs.Airs.{waiting_of}
 use Rattle.source_machine.specs.UnitFaults as give_faults
-use Rattle.transcript_text.specs.declared.refusal.Refusal.{Refusal}
 use Rattle.transcript_text.specs.declared.refusal.Refusal.TheVariants as refusals
-use Rattle.scenario_history.proofs.Citable.{fails_not, maps_none, neither, permitted}
-use Rattle.scenario_history.specs.Refusals.{give_refusal, is_misplaced, is_out_of_phase, refusal_of}
-use Rattle.sink_history.specs.Refusals.{refuse_if}
-use Rattle.scenario_history.specs.Refusals.{source_refusal}
-use Rattle.scenario_history.specs.Source.{setup_of, source_calls, takes_units}
-use Rattle.scenario_history.specs.Steps.{Stage, chosen_of, chosen_steps, is_over, is_over_at, is_unbegun, is_unbegun_at}
-use Rattle.scenario_history.specs.Steps.{stage_of, steps_of_source, version_at}
-use Rattle.scenario_history.specs.RelayedUnits.{Offer, after_offer, after_offers, closes_first, dropped_for, happened, offers_at, with_relayed_unit}
-use Rattle.scenario_history.specs.RelayedUnits.{with_relayed_unit_unless, with_relayed_units}
-use Rattle.scenario_laws.specs.RelayedUnits.Legal.{AreLegal, AreSaidLegally}
+use Rattle.scenario_history.proofs.Citable.{neither}
 use Rattle.scenario_laws.proofs.RelayedUnits.Left.{left_by_offers}
 use Rattle.scenario_laws.proofs.RelayedUnits.Refused.{line_passes}
 

@@ -1,25 +1,9 @@
 -- What is offered to a stream of source 1 is what one sink handed up of one of its streams.
-use Rattle.std.proofs.Common.{ℕ, zero, suc, ◌≡◌, ◌≢◌, ◌<◌, ◌≤◌, ◌+◌, ◌==◌, ◌&&◌, ◌∙◌, Bool, true, false, cond, List, [], ◌∷◌, ◌++◌}
-use Rattle.std.proofs.Common.{map, Option, None, Some, refl, sym, ap, subst, arith, inl, inr}
-use Rattle.std.specs.List.{Contains, filter, flat_map, range_with_len}
-use Rattle.std.proofs.lemmas.Bool.{cases_Bool, cases_eq, and_right, eq-eqb, eqb-true, false_from_ne_true, false≢true, or_parts}
-use Rattle.std.proofs.lemmas.List.{append-nil, map-append}
-use Rattle.std.proofs.lemmas.List.Elements.{filter-append}
+use Rattle.scenario_laws.proofs.Prelude.{ℕ, zero, suc, ◌≡◌, ◌≢◌, ◌<◌, ◌≤◌, ◌+◌, ◌==◌, ◌&&◌, ◌∙◌, Bool, true, false, cond, List, [], ◌∷◌, ◌++◌, map, Option, None, Some, refl, sym, ap, subst, arith, inl, inr, Contains, filter, flat_map, range_with_len, cases_Bool, cases_eq, and_right, eq-eqb, eqb-true, false_from_ne_true, false≢true, or_parts, append-nil, map-append, filter-append, IsInRange, Step, Handed, SinkUnit, closing_at, handed_by, open_event, Airs, chosen_of, steps_of_source, Answered, Offer, after_offer, all_answered, answered_by, closes_first, dropped_for, handed_of, happened, offered_of, offered_to, offers_at, units_on, with_relayed_units, handed_on, is_route, offered, AreSaidLegally, Route, had_relay, relay_of, relays_to}
 use Rattle.bcast_base.specs.declared.unit.Unit.{Unit as AudioUnit}
-use Rattle.scenario_text.specs.Ranges.{IsInRange}
-use Rattle.scenario_text.specs.declared.step.Step.{Step}
 use Rattle.scenario_text.specs.declared.step.Step.TheVariants as steps
-use Rattle.unit_outlets.specs.Handed.{Handed}
-use Rattle.scenario_history.specs.Boxes.{SinkUnit, closing, closing_at, handed_by, sink_numbers}
-use Rattle.scenario_history.specs.Source.{open_event}
-use Rattle.source_machine.specs.Airs.{Airs}
-use Rattle.scenario_history.specs.Steps.{chosen_of, steps_of_source}
-use Rattle.scenario_history.specs.RelayedUnits.{Answered, Offer, after_offer, all_answered, answered, answered_by, closes_first}
-use Rattle.scenario_history.specs.RelayedUnits.{dropped_for, handed_of, happened, offered_of, offered_to, offers_at, units_on}
-use Rattle.scenario_history.specs.RelayedUnits.{with_relayed_units}
-use Rattle.scenario_laws.specs.RelayedUnits.Laws.{handed_on, is_route, offered}
-use Rattle.scenario_laws.specs.RelayedUnits.Legal.{AreSaidLegally}
-use Rattle.scenario_history.specs.Relays.{Route, had_relay, relay_of, relays_to}
+use Rattle.scenario_history.specs.Boxes.{closing, sink_numbers}
+use Rattle.scenario_history.specs.RelayedUnits.{answered}
 use Rattle.scenario_laws.proofs.RelayedUnits.Left.{left_by_relayed_units}
 use Rattle.scenario_laws.proofs.RelayedUnits.One.{OneStands, contains_cases, first_free, one_stands}
 use Rattle.scenario_laws.proofs.RelayedUnits.Routes.{had_happened, none_now, none_offered, route_had}

@@ -1,19 +1,7 @@
 -- A stream of source 1 has one relay: no other relay to it stands.
-use Rattle.std.proofs.Common.{ℕ, zero, suc, ◌≡◌, ◌<◌, ◌⊎◌, ◌==◌, ◌∙◌, Bool, true, false, cond, List, [], ◌∷◌, length}
-use Rattle.std.proofs.Common.{None, Some, refl, sym, ap, subst, arith, inl, inr}
-use Rattle.std.specs.Prelude.{slice_index_or, unwrap_or}
-use Rattle.std.specs.List.{Contains}
-use Rattle.std.specs.Option.{option_or}
-use Rattle.std.proofs.lemmas.Bool.{eq-eqb, eqb-true, false≢true, or_left, or_right}
-use Rattle.std.proofs.lemmas.Option.{none-some, same_Some}
-use Rattle.scenario_text.specs.declared.step.Step.{Step}
+use Rattle.scenario_laws.proofs.Prelude.{ℕ, zero, suc, ◌≡◌, ◌<◌, ◌⊎◌, ◌==◌, ◌∙◌, Bool, true, false, cond, List, [], ◌∷◌, length, None, Some, refl, sym, ap, subst, arith, inl, inr, slice_index_or, unwrap_or, Contains, option_or, eq-eqb, eqb-true, false≢true, or_right, none-some, same_Some, Step, Airs, last_given, happened, with_relayed_units, line_refusal, AreSaidLegally, Route, had_relay, relay_given, relay_of, relays_to}
+use Rattle.std.proofs.lemmas.Bool.{or_left}
 use Rattle.scenario_text.specs.declared.step.Step.TheVariants as steps
-use Rattle.source_machine.specs.Airs.{Airs}
-use Rattle.scenario_history.specs.Steps.{last_given}
-use Rattle.scenario_history.specs.RelayedUnits.{happened, with_relayed_units}
-use Rattle.scenario_history.specs.Refusals.{line_refusal}
-use Rattle.scenario_laws.specs.RelayedUnits.Legal.{AreSaidLegally}
-use Rattle.scenario_history.specs.Relays.{Route, had_relay, relay_given, relay_of, relays_to}
 use Rattle.scenario_laws.proofs.RelayedUnits.Left.{left_by_relayed_units}
 use Rattle.scenario_laws.proofs.RelayedUnits.Refused.{is_free, line_passes}
 use Rattle.scenario_laws.proofs.RelayedUnits.Routes.{had_happened, route_had}

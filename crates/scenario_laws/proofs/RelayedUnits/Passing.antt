@@ -1,25 +1,10 @@
 -- What source 1 accepts on a stream: of the units that are offered to it those that aren't dropped, and of a step that gives it no
 -- unit nothing.
-use Rattle.std.proofs.Common.{ℕ, ◌≡◌, ◌==◌, ◌&&◌, ◌∙◌, cond, Bool, true, false, List, [], ◌∷◌, ◌++◌, Option, arith}
-use Rattle.std.proofs.Common.{refl, sym, ap}
-use Rattle.std.proofs.Common.{append_assoc}
-use Rattle.std.specs.List.{list_any}
-use Rattle.std.proofs.lemmas.Bool.{false≢true, or_parts}
-use Rattle.std.proofs.lemmas.List.{append-nil, map-append}
-use Rattle.std.proofs.lemmas.List.Elements.{filter-append}
+use Rattle.scenario_laws.proofs.Prelude.{ℕ, ◌≡◌, ◌==◌, ◌&&◌, ◌∙◌, cond, Bool, true, false, List, [], ◌∷◌, ◌++◌, Option, arith, refl, sym, ap, append_assoc, list_any, false≢true, or_parts, append-nil, map-append, filter-append, accept, accepted, Step, Setup, event, framed_calls, give, timed_accepted, Refusal, setup_of, source_calls, Airs, chosen_of, Answered, Offer, after_offer, after_offers, dropped_for, offered_to, offers_before, with_relayed_unit_unless, PassesAtOnce, accepted_on, gives_on}
 use Rattle.bcast_base.specs.declared.unit.Unit.{Unit as AudioUnit}
-use Rattle.isoal_framed.specs.Calls.{Call as FramedCall, accept, accepted}
-use Rattle.scenario_text.specs.declared.step.Step.{Step}
-use Rattle.source_machine.specs.Calls.{Setup, Call, event, framed_calls, give}
-use Rattle.source_machine.proofs.Citable.{timed_accepted}
-use Rattle.transcript_text.specs.declared.refusal.Refusal.{Refusal}
-use Rattle.scenario_history.specs.Source.{setup_of, source_calls}
-use Rattle.source_machine.specs.Airs.{Airs}
-use Rattle.scenario_history.specs.Steps.{chosen_of}
-use Rattle.scenario_history.specs.RelayedUnits.{Answered, Offer, after_offer, after_offers, answered, dropped_for, offered_to, passed}
-use Rattle.scenario_history.specs.RelayedUnits.{offers_before, with_relayed_unit_unless}
-use Rattle.scenario_laws.specs.RelayedUnits.Laws.{PassesAtOnce, accepted_on}
-use Rattle.scenario_history.specs.Refusals.{gives_on}
+use Rattle.isoal_framed.specs.Calls.{Call as FramedCall}
+use Rattle.source_machine.specs.Calls.{Call}
+use Rattle.scenario_history.specs.RelayedUnits.{answered, passed}
 
 -- ---- the units of a stream, of the calls of its source
 

@@ -1,28 +1,9 @@
 -- Without relays a close prints the units of its sinks in order, and nothing else.
-use Rattle.std.proofs.Common.{ℕ, zero, suc, ◌≡◌, ◌<◌, ◌≤◌, ◌+◌, ◌==◌, ◌∙◌, Bool, true, false, cond, List, [], ◌∷◌, ◌++◌, map}
-use Rattle.std.proofs.Common.{Option, None, Some, refl, ap, arith}
-use Rattle.std.proofs.Common.{append_assoc}
-use Rattle.std.specs.List.{flat_map, range_with_len}
-use Rattle.std.proofs.lemmas.Bool.{eq-eqb, eqb-true, ne_eqb}
-use Rattle.std.proofs.lemmas.List.{append-nil}
-use Rattle.std.proofs.lemmas.List.Concat.{flat_map-append}
-use Rattle.group_sink.specs.Calls.{Call}
-use Rattle.group_sink.specs.Handing.{handed_at}
-use Rattle.scenario_text.specs.declared.step.Step.{Step}
+use Rattle.scenario_laws.proofs.Prelude.{ℕ, zero, suc, ◌≡◌, ◌<◌, ◌≤◌, ◌+◌, ◌==◌, ◌∙◌, Bool, true, false, cond, List, [], ◌∷◌, ◌++◌, map, Option, None, Some, refl, ap, arith, append_assoc, flat_map, range_with_len, eq-eqb, eqb-true, ne_eqb, append-nil, flat_map-append, Call, handed_at, Step, handed_line, Handed, Account, SinkUnit, box_of, closing_at, closing_both, closing_by, closing_in, handed_up, answered_by, closes_first, handed_of, offers_at, close_lines, first_lines, output_of, sums_of, unit_lines, is_of, sink_calls, source_of, open_event, Airs, chosen_of, steps_of_source, PrintsUnits, has_relay}
 use Rattle.scenario_text.specs.declared.step.Step.TheVariants as steps
-use Rattle.transcript_text.specs.Lines.{handed_line}
-use Rattle.unit_outlets.specs.Handed.{Handed}
-use Rattle.unit_outlets.specs.Account.{Account}
-use Rattle.scenario_history.specs.Boxes.{SinkUnit, box_of, closing, closing_at, closing_both, closing_by, closing_in, handed_up}
+use Rattle.scenario_history.specs.Boxes.{closing}
 use Rattle.scenario_history.specs.Boxes.{sink_numbers}
-use Rattle.scenario_history.specs.RelayedUnits.{answered, answered_by, closes_first, handed_of, offers_at}
-use Rattle.scenario_history.specs.Output.{close_lines, first_lines, output_of, sums_of, unit_lines}
-use Rattle.scenario_history.specs.Sinks.{is_of, sink_calls, source_of}
-use Rattle.scenario_history.specs.Source.{open_event}
-use Rattle.source_machine.specs.Airs.{Airs}
-use Rattle.scenario_history.specs.Steps.{chosen_of, steps_of_source}
-use Rattle.scenario_laws.specs.RelayedUnits.Laws.{PrintsUnits}
-use Rattle.scenario_history.specs.Relays.{has_relay}
+use Rattle.scenario_history.specs.RelayedUnits.{answered}
 use Rattle.scenario_laws.proofs.RelayedUnits.Offered.{flat_one, handed_append}
 use Rattle.scenario_laws.proofs.RelayedUnits.Routes.{no_offers}
 

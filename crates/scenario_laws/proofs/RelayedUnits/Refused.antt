@@ -1,22 +1,9 @@
 -- What the lines say of which none was refused: a `relay` line is of a stream that had neither a relay nor a unit, and no `unit`
 -- line of source 1 names a stream that has had a relay.
-use Rattle.std.proofs.Common.{ℕ, ◌≡◌, ◌==◌, ◌&&◌, ◌∙◌, not, Bool, true, false, List, Option, None, Some, is_some, sym, arith}
-use Rattle.std.proofs.Common.{ap, inl, inr}
-use Rattle.std.specs.List.{list_any}
-use Rattle.std.proofs.lemmas.Bool.{and_cases, and_left, and_right, eqb-true, false_from_ne_true, false≢true, or_parts, not-false}
-use Rattle.std.proofs.lemmas.Option.{none-some}
-use Rattle.scenario_text.specs.declared.step.Step.{Step}
+use Rattle.scenario_laws.proofs.Prelude.{ℕ, ◌≡◌, ◌==◌, ◌&&◌, ◌∙◌, not, Bool, true, false, List, Option, None, Some, is_some, sym, arith, ap, inl, inr, list_any, and_cases, and_left, and_right, eqb-true, false_from_ne_true, false≢true, or_parts, not-false, none-some, Step, Refusal, fails_not, permitted, box_of, gives_on, is_relay_beyond, is_relay_taken, is_relayed, line_refusal, may_relay, no_sink, refusal_of, relay_refusal, relayed_or, refuse_if, had_relay, relay_of, Airs, steps_of_source}
 use Rattle.scenario_text.specs.declared.step.Step.TheVariants as steps
-use Rattle.transcript_text.specs.declared.refusal.Refusal.{Refusal}
 use Rattle.transcript_text.specs.declared.refusal.Refusal.TheVariants as refusals
-use Rattle.scenario_history.proofs.Citable.{fails_not, neither, permitted}
-use Rattle.scenario_history.specs.Boxes.{box_of}
-use Rattle.scenario_history.specs.Refusals.{gives_on, is_relay_beyond, is_relay_taken, is_relayed, line_refusal, may_relay, no_sink}
-use Rattle.scenario_history.specs.Refusals.{refusal_of, relay_refusal, relayed_or}
-use Rattle.sink_history.specs.Refusals.{refuse_if}
-use Rattle.scenario_history.specs.Relays.{had_relay, relay_of}
-use Rattle.source_machine.specs.Airs.{Airs}
-use Rattle.scenario_history.specs.Steps.{steps_of_source}
+use Rattle.scenario_history.proofs.Citable.{neither}
 use Rattle.scenario_laws.proofs.RelayedUnits.Passing.{gives_to}
 
 -- ---- the step of a line

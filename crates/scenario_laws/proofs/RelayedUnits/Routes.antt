@@ -1,24 +1,9 @@
 -- Relays looked back for: whatever is offered is offered by a relay that stands, to a stream that has had a relay.
-use Rattle.std.proofs.Common.{ℕ, ◌≡◌, ◌==◌, ◌||◌, ◌∙◌, cond, Bool, true, false, List, [], ◌∷◌, ◌++◌, map, Option, None, arith}
-use Rattle.std.proofs.Common.{Some, refl, sym, ap}
-use Rattle.std.specs.Prelude.{unwrap_or}
-use Rattle.std.specs.List.{All, filter, flat_map}
-use Rattle.std.specs.Option.{option_or}
-use Rattle.std.proofs.lemmas.Bool.{and_right, eq-eqb, eqb-true, false_from_ne_true, false≢true, or_left, or_parts, or_right}
-use Rattle.std.proofs.lemmas.List.Elements.{All-append, All-cons, All-head, All-nil, All-tail, filter-append}
-use Rattle.std.proofs.lemmas.Option.{none-some, same_Some}
+use Rattle.scenario_laws.proofs.Prelude.{ℕ, ◌≡◌, ◌==◌, ◌||◌, ◌∙◌, cond, Bool, true, false, List, [], ◌∷◌, ◌++◌, map, Option, None, arith, Some, refl, sym, ap, unwrap_or, All, filter, flat_map, option_or, and_right, eq-eqb, eqb-true, false_from_ne_true, false≢true, or_parts, or_right, All-append, All-cons, All-head, All-nil, All-tail, filter-append, none-some, same_Some, Step, Handed, Airs, chosen_of, last_given, Answered, Offer, after_offer, after_offers, all_answered, answered_by, closes_first, dropped_for, happened, offered_of, offered_to, offers_at, offers_before, units_on, with_relayed_units, NoneRelayed, is_relayed, Route, had_relay, has_relay, makes_relay, relay_given, relay_of, relays_to}
+use Rattle.std.proofs.lemmas.Bool.{or_left}
 use Rattle.bcast_base.specs.declared.unit.Unit.{Unit as AudioUnit}
-use Rattle.scenario_text.specs.declared.step.Step.{Step}
 use Rattle.scenario_text.specs.declared.step.Step.TheVariants as steps
-use Rattle.unit_outlets.specs.Handed.{Handed}
-use Rattle.source_machine.specs.Airs.{Airs}
-use Rattle.scenario_history.specs.Steps.{chosen_of, last_given}
-use Rattle.scenario_history.specs.RelayedUnits.{Answered, Offer, after_offer, after_offers, all_answered, answered, answered_by, closes_first}
-use Rattle.scenario_history.specs.RelayedUnits.{dropped_for, happened, offered_of, offered_to, offers_at, offers_before, units_on}
-use Rattle.scenario_history.specs.RelayedUnits.{with_relayed_units}
-use Rattle.scenario_laws.specs.RelayedUnits.Laws.{NoneRelayed}
-use Rattle.scenario_history.specs.Refusals.{is_relayed}
-use Rattle.scenario_history.specs.Relays.{Route, had_relay, has_relay, makes_relay, relay_given, relay_of, relays_to}
+use Rattle.scenario_history.specs.RelayedUnits.{answered}
 use Rattle.scenario_laws.proofs.RelayedUnits.Left.{left_by_relayed_units}
 
 -- ---- a relay that stands

@@ -1,24 +1,8 @@
 -- The relayed units law: what is in the order of source 1 is in the order of what the relaying sink handed up, and that is in the
 -- order of source 0.
-use Rattle.std.proofs.Common.{ℕ, zero, suc, ◌≡◌, ◌<◌, ◌+◌, ◌∙◌, List, [], ◌∷◌, length, map}
-use Rattle.std.proofs.Common.{refl, sym, ap, subst, arith}
-use Rattle.std.specs.Prelude.{slice_index}
-use Rattle.std.specs.List.{AllZip}
-use Rattle.std.specs.List.Sorted.{IsStrictlyIncreasing}
-use Rattle.std.proofs.lemmas.Bool.{eqb-true}
-use Rattle.std.proofs.lemmas.List.{length-map}
-use Rattle.std.proofs.lemmas.Option.{slice_get_within}
+use Rattle.scenario_laws.proofs.Prelude.{ℕ, zero, suc, ◌≡◌, ◌<◌, ◌+◌, ◌∙◌, List, [], ◌∷◌, length, map, refl, sym, ap, subst, arith, slice_index, AllZip, IsStrictlyIncreasing, eqb-true, length-map, slice_get_within, Step, Setup, given, Handed, happened, setup_of, source_calls, steps_of_source, RelayLaw, offered, StepsInOrder, air_in, is_made, shown_since, InFirstOrder, InRelayOrder, IsOfFirst, IsOfOffered, RelayedUnits, UnitPlace}
 use Rattle.bcast_base.specs.declared.unit.Unit.{Unit as AudioUnit}
-use Rattle.scenario_text.specs.declared.step.Step.{Step}
-use Rattle.source_machine.specs.Calls.{Setup, given}
-use Rattle.unit_outlets.specs.Handed.{Handed}
-use Rattle.scenario_history.specs.RelayedUnits.{happened}
-use Rattle.scenario_history.specs.Source.{setup_of, source_calls}
-use Rattle.scenario_history.specs.Steps.{steps_of_source}
 use Rattle.scenario_laws.proofs.RelayedUnits.Citable.{had_happened, happens_legally, has_had, settled}
-use Rattle.scenario_laws.specs.RelayedUnits.Laws.{RelayLaw, offered}
-use Rattle.scenario_laws.specs.Laws.{StepsInOrder, air_in, is_made, shown_since}
-use Rattle.scenario_laws.specs.Relayed.{InFirstOrder, InRelayOrder, IsOfFirst, IsOfOffered, RelayedUnits, UnitPlace}
 use Rattle.scenario_laws.proofs.Relaying.Numbered.{Numbered}
 use Rattle.scenario_laws.proofs.Relaying.Offering.{offered_numbered, ungiven}
 use Rattle.scenario_laws.proofs.Relaying.Order.{at_map, in_relay_order, zip_map}

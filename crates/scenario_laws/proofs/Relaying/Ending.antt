@@ -1,34 +1,11 @@
 -- What the relay of a sink offered is the end of what the sink handed up since it was made: while the relay stands, the sink lives.
-use Rattle.std.proofs.Common.{ℕ, ◌≡◌, ◌==◌, ◌∙◌, cond, Bool, true, false, List, [], ◌∷◌, ◌++◌, Option, None, Some, arith}
-use Rattle.std.proofs.Common.{is_some, refl, sym, ap, subst, append_assoc, inl, inr}
-use Rattle.std.specs.Prelude.{unwrap_or}
-use Rattle.std.specs.List.{Contains}
-use Rattle.std.specs.Option.{option_or}
-use Rattle.std.proofs.lemmas.Bool.{eq-eqb, eqb-true, false_from_ne_true, false≢true}
-use Rattle.std.proofs.lemmas.List.{append-nil, map-append}
-use Rattle.std.proofs.lemmas.List.Concat.{flat_map-append}
-use Rattle.std.proofs.lemmas.List.Elements.{filter-append}
-use Rattle.std.proofs.lemmas.Option.{none-some, same_Some}
+use Rattle.scenario_laws.proofs.Prelude.{ℕ, ◌≡◌, ◌==◌, ◌∙◌, cond, Bool, true, false, List, [], ◌∷◌, ◌++◌, Option, None, Some, arith, is_some, refl, sym, ap, subst, append_assoc, inl, inr, unwrap_or, Contains, option_or, eq-eqb, eqb-true, false_from_ne_true, false≢true, append-nil, map-append, flat_map-append, filter-append, none-some, same_Some, Step, Refusal, SinkUnit, box_of, handed_by, fails_not, permitted, line_refusal, refusal_of, refuse_if, Airs, last_given, sinks_made, handed_since, is_made, of_sink, Offer, after_offer, after_offers, happened, offers_before, units_on, with_relayed_unit_unless, with_relayed_units, handed_on, is_route, offered, AreLegal, AreSaidLegally, Route, had_relay, relay_given, relay_of, EndsWith}
 use Rattle.bcast_base.specs.declared.unit.Unit.{Unit as AudioUnit}
-use Rattle.scenario_text.specs.declared.step.Step.{Step}
 use Rattle.scenario_text.specs.declared.step.Step.TheVariants as steps
-use Rattle.transcript_text.specs.declared.refusal.Refusal.{Refusal}
 use Rattle.transcript_text.specs.declared.refusal.Refusal.TheVariants as refusals
-use Rattle.scenario_history.specs.Boxes.{SinkUnit, box_of, handed_by}
-use Rattle.scenario_history.proofs.Citable.{fails_not, neither, permitted}
-use Rattle.scenario_history.specs.Refusals.{line_refusal, refusal_of}
-use Rattle.sink_history.specs.Refusals.{refuse_if}
-use Rattle.source_machine.specs.Airs.{Airs}
-use Rattle.scenario_history.specs.Steps.{last_given, sinks_made}
-use Rattle.scenario_laws.specs.Laws.{handed_since, is_made, of_sink}
+use Rattle.scenario_history.proofs.Citable.{neither}
 use Rattle.scenario_laws.proofs.RelayedUnits.Citable.{OneStands, contains_cases, first_free, had_happened, happens_legally, has_had, is_free}
 use Rattle.scenario_laws.proofs.RelayedUnits.Citable.{left_by_relayed_units, line_passes, not_yet, one_stands}
-use Rattle.scenario_history.specs.RelayedUnits.{Offer, after_offer, after_offers, happened, offers_before, units_on}
-use Rattle.scenario_history.specs.RelayedUnits.{with_relayed_unit_unless, with_relayed_units}
-use Rattle.scenario_laws.specs.RelayedUnits.Laws.{handed_on, is_route, offered}
-use Rattle.scenario_laws.specs.RelayedUnits.Legal.{AreLegal, AreSaidLegally}
-use Rattle.scenario_history.specs.Relays.{Route, had_relay, relay_given, relay_of}
-use Rattle.scenario_laws.specs.Relayed.{EndsWith}
 
 -- ---- a sink with a relay lives
 

@@ -1,20 +1,10 @@
 -- The units that a sink handed up of a stream, each with the number of the unit of its source that it is.
-use Rattle.std.proofs.Common.{ℕ, zero, suc, ◌≡◌, ◌<◌, ◌∙◌, Bool, true, false, cond, List, [], ◌∷◌, ◌++◌, length, map, slice_get}
-use Rattle.std.proofs.Common.{Option, None, Some, refl, sym, ap, arith}
-use Rattle.std.specs.Prelude.{slice_index}
-use Rattle.std.specs.List.{AllZip, filter}
-use Rattle.std.proofs.lemmas.List.{length-map, map-append}
+use Rattle.scenario_laws.proofs.Prelude.{ℕ, zero, suc, ◌≡◌, ◌<◌, ◌∙◌, Bool, true, false, cond, List, [], ◌∷◌, ◌++◌, length, map, slice_get, Option, None, Some, refl, sym, ap, arith, slice_index, AllZip, filter, length-map, map-append, none-some, same_Some, slice_get-map, of_stream, Air, accept, accepted, Setup, event, framed_calls, given, give, Handed, lost, valid, InSourceOrder, InUnitOrder, IsGiven, IsOfUnit, is_valid, valid_in, units_on}
 use Rattle.std.proofs.lemmas.List.Kept.{AllPairs-from_increasing}
-use Rattle.std.proofs.lemmas.Option.{none-some, same_Some, slice_get-map}
 use Rattle.bcast_base.specs.declared.unit.Unit.{Unit as AudioUnit}
-use Rattle.group_sink.specs.Handing.{of_stream}
-use Rattle.isoal_base.specs.Air.{Air}
-use Rattle.isoal_framed.specs.Calls.{Call as FramedCall, accept, accepted}
-use Rattle.source_machine.specs.Calls.{Call, Setup, event, framed_calls, given, give}
-use Rattle.unit_outlets.specs.Handed.{Handed, lost, valid}
-use Rattle.scenario_laws.specs.SourceUnits.{InSourceOrder, InUnitOrder, IsGiven, IsOfUnit, is_valid, valid_in}
+use Rattle.isoal_framed.specs.Calls.{Call as FramedCall}
+use Rattle.source_machine.specs.Calls.{Call}
 use Rattle.scenario_laws.proofs.RelayedUnits.Citable.{event_accepts_none}
-use Rattle.scenario_history.specs.RelayedUnits.{units_on}
 use Rattle.scenario_laws.proofs.Relaying.Order.{place, place_by, place_gets, place_rises}
 
 -- the number of each of these units, by its place, among the units with these octets

@@ -1,35 +1,11 @@
 -- What the relay of a sink offered is in the order of source 0: as an event of source 0 is closed while the relay stands, it is the end
 -- of what the sink handed up, and no other step offers anything.
-use Rattle.std.proofs.Common.{ℕ, zero, suc, ◌≡◌, ◌⊎◌, ◌<◌, ◌≤◌, ◌==◌, ◌&&◌, ◌||◌, ◌∙◌, cond, Bool, true, false, List, [], ◌∷◌, ◌++◌}
-use Rattle.std.proofs.Common.{length, slice_get, Option, None, Some, refl, sym, ap, ap₂, subst, arith, inl, inr}
-use Rattle.std.specs.Prelude.{unwrap_or}
-use Rattle.std.specs.List.{Contains}
-use Rattle.std.specs.Option.{option_or}
-use Rattle.std.proofs.lemmas.Bool.{and_parts, cases_Bool, eqb-true, false≢true, or_parts}
-use Rattle.std.proofs.lemmas.List.{append-nil}
-use Rattle.std.proofs.lemmas.Option.{none-some}
+use Rattle.scenario_laws.proofs.Prelude.{ℕ, zero, suc, ◌≡◌, ◌⊎◌, ◌<◌, ◌≤◌, ◌==◌, ◌&&◌, ◌||◌, ◌∙◌, cond, Bool, true, false, List, [], ◌∷◌, ◌++◌, length, slice_get, Option, None, Some, refl, sym, ap, ap₂, subst, arith, inl, inr, unwrap_or, Contains, option_or, and_parts, cases_Bool, eqb-true, false≢true, or_parts, append-nil, none-some, IsInRange, Step, given, Handed, Refusal, MeetAirs, Offer, after_offer, after_offers, closes_first, handed_of, happened, offers_before, units_on, with_relayed_unit_unless, with_relayed_units, Route, had_relay, relay_given, relay_of, setup_of, source_calls, Airs, chosen_of, is_of_source, last_given, steps_of_source, is_route, offered, AreLegal, AreSaidLegally, StepsInOrder, given_since_made, handed_since, injected_since, is_given, is_injected, is_made, air_in, of_sink, EndsWith, injected_till_last_offer}
 use Rattle.bcast_base.specs.declared.unit.Unit.{Unit as AudioUnit}
-use Rattle.scenario_text.specs.Ranges.{IsInRange}
-use Rattle.scenario_text.specs.declared.step.Step.{Step}
 use Rattle.scenario_text.specs.declared.step.Step.TheVariants as steps
-use Rattle.source_machine.specs.Calls.{given}
-use Rattle.unit_outlets.specs.Handed.{Handed}
-use Rattle.transcript_text.specs.declared.refusal.Refusal.{Refusal}
-use Rattle.scenario_history.specs.Airs.{MeetAirs}
 use Rattle.scenario_history.specs.Boxes.{closing}
-use Rattle.scenario_history.specs.RelayedUnits.{Offer, after_offer, after_offers, closes_first, handed_of, happened, offers_before}
-use Rattle.scenario_history.specs.RelayedUnits.{units_on, with_relayed_unit_unless, with_relayed_units}
-use Rattle.scenario_history.specs.Relays.{Route, had_relay, relay_given, relay_of}
-use Rattle.scenario_history.specs.Source.{setup_of, source_calls}
-use Rattle.source_machine.specs.Airs.{Airs}
-use Rattle.scenario_history.specs.Steps.{chosen_of, is_of_source, last_given, steps_of_source}
 use Rattle.scenario_laws.proofs.RelayedUnits.Citable.{chosen_happened, contains_cases, first_free, first_handed, had_happened, happens_legally}
 use Rattle.scenario_laws.proofs.RelayedUnits.Citable.{in_range, left_by_relayed_units, not_yet}
-use Rattle.scenario_laws.specs.RelayedUnits.Laws.{is_route, offered}
-use Rattle.scenario_laws.specs.RelayedUnits.Legal.{AreLegal, AreSaidLegally}
-use Rattle.scenario_laws.specs.Laws.{StepsInOrder, given_since_made, handed_since, injected_since, is_given, is_injected, is_made}
-use Rattle.scenario_laws.specs.Laws.{air_in, of_sink}
-use Rattle.scenario_laws.specs.Relayed.{EndsWith, injected_till_last_offer}
 use Rattle.scenario_laws.proofs.Relaying.Ending.{ends_with}
 use Rattle.scenario_laws.proofs.Relaying.Numbered.{Numbered, numbered_slots, numbered_units}
 

@@ -1,26 +1,11 @@
 -- Of what was offered those units pass that weren't dropped, in order: so what is in the order of the one is in the order of the other.
-use Rattle.std.proofs.Common.{ℕ, zero, suc, ◌≡◌, ◌<◌, ◌≤◌, ◌+◌, ◌-◌, ◌∙◌, Bool, true, false, cond, List, [], ◌∷◌, length, map}
-use Rattle.std.proofs.Common.{slice_get, Some, refl, sym, ap, arith}
-use Rattle.std.specs.Prelude.{is_none, slice_index}
-use Rattle.std.specs.List.{AllZip, Contains, filter}
-use Rattle.std.specs.List.Sorted.{IsStrictlyIncreasing}
-use Rattle.std.proofs.lemmas.List.{length-map}
+use Rattle.scenario_laws.proofs.Prelude.{ℕ, zero, suc, ◌≡◌, ◌<◌, ◌≤◌, ◌+◌, ◌-◌, ◌∙◌, Bool, true, false, cond, List, [], ◌∷◌, length, map, slice_get, Some, refl, sym, ap, arith, slice_index, AllZip, Contains, filter, IsStrictlyIncreasing, length-map, iso_us_of, sync_delay_of, Air, accepted, Setup, framed_calls, Handed, Step, setup_of, source_calls, Airs, steps_of_source, AreSaidLegally, InUnitOrder, IsOfUnit, Answered, all_answered, happened, offered_to, RelayLaw, offered, InRelayOrder, IsOfOffered}
+use Rattle.std.specs.Prelude.{is_none}
 use Rattle.bcast_base.specs.declared.unit.Unit.{Unit as AudioUnit}
-use Rattle.big_info.specs.Time.{iso_us_of, sync_delay_of}
-use Rattle.isoal_base.specs.Air.{Air}
-use Rattle.isoal_framed.specs.Calls.{accepted}
-use Rattle.source_machine.specs.Calls.{Call, Setup, framed_calls}
-use Rattle.unit_outlets.specs.Handed.{Handed}
-use Rattle.scenario_text.specs.declared.step.Step.{Step}
+use Rattle.source_machine.specs.Calls.{Call}
 use Rattle.scenario_text.specs.declared.step.Step.TheVariants as steps
-use Rattle.scenario_history.specs.Source.{setup_of, source_calls}
-use Rattle.source_machine.specs.Airs.{Airs}
-use Rattle.scenario_history.specs.Steps.{steps_of_source}
-use Rattle.scenario_laws.specs.RelayedUnits.Legal.{AreSaidLegally}
-use Rattle.scenario_laws.specs.SourceUnits.{InUnitOrder, IsOfUnit, anchor_in}
-use Rattle.scenario_history.specs.RelayedUnits.{Answered, all_answered, happened, offered_to, passed}
-use Rattle.scenario_laws.specs.RelayedUnits.Laws.{RelayLaw, offered}
-use Rattle.scenario_laws.specs.Relayed.{InRelayOrder, IsOfOffered}
+use Rattle.scenario_laws.specs.SourceUnits.{anchor_in}
+use Rattle.scenario_history.specs.RelayedUnits.{passed}
 
 -- ---- the places of what passes a test
 

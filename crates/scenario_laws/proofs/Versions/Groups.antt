@@ -1,13 +1,7 @@
 -- The group check where a group may have a greater horizon: but for the row of the horizon it finds the same.
-use Rattle.std.proofs.Common.{ℕ, ◌≡◌, ◌⊎◌, ◌≤◌, ltb, cond, Bool, true, false, List, [], ◌∷◌, Option, None, Some, refl, inl, inr, arith}
-use Rattle.std.specs.List.{find}
-use Rattle.std.proofs.lemmas.Bool.{false≢true, le-ltb, ltb-true, lt-ltb}
-use Rattle.big_info.specs.declared.fault.GroupFault.{GroupFault}
+use Rattle.scenario_laws.proofs.Prelude.{ℕ, ◌≡◌, ◌⊎◌, ◌≤◌, ltb, cond, Bool, true, false, List, [], ◌∷◌, Option, None, Some, refl, inl, inr, arith, find, false≢true, le-ltb, ltb-true, lt-ltb, GroupFault, BigInfo, faults, has_fault, horizon_of}
 use Rattle.big_info.specs.declared.fault.GroupFault.TheVariants as faults_of
-use Rattle.big_info.specs.declared.info.BigInfo.{BigInfo}
-use Rattle.big_info.specs.Faults.{faults}
-use Rattle.big_info.specs.Rows.{first_fault, has_fault}
-use Rattle.big_info.specs.Schedule.{horizon_of}
+use Rattle.big_info.specs.Rows.{first_fault}
 
 -- the fault isn't the horizon of the group
 abbrev pub IsNear : GroupFault → Type 0

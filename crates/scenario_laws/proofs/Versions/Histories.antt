@@ -1,17 +1,12 @@
 -- The history of a sink whose groups may have a greater horizon: what it has, what its links bring and what it prints are the
 -- same, where no train was answered `BadGroup 11` (Basic Audio Profile 1.0, section 6.5; Broadcast Audio Scan Service 1.0,
 -- section 3). Lists of steps and of calls have the newest first.
-use Rattle.std.proofs.Common.{ℕ, zero, suc, ◌≡◌, ◌≤◌, List, [], ◌∷◌, length, Option, None, Some, refl, ◌∙◌, ap, arith}
-use Rattle.std.specs.Prelude.{option_map, slice_get}
-use Rattle.delegator_history.specs.Snapshots.{Snapshot}
-use Rattle.delegator_history.specs.States.{Answered, Step, answered, done_by, snapshot_in, snapshot_of, train_heard, written}
+use Rattle.scenario_laws.proofs.Prelude.{ℕ, zero, suc, ◌≡◌, ◌≤◌, List, [], ◌∷◌, length, Option, None, Some, refl, ◌∙◌, ap, arith, option_map, slice_get, Snapshot, done_by, snapshot_of, train_heard, written, outcome_by, step_by, writes_waiting, drained, repeated, notified_and_read, notified_out, Acts, acts_by, acts_of, notices_waiting, reads_waiting, waiting_of}
+use Rattle.delegator_history.specs.States.{Answered, Step, answered, snapshot_in}
 use Rattle.delegator_history.specs.Steps.{Done}
-use Rattle.delegator_history.specs.Trains.{Setup, outcome_by}
+use Rattle.delegator_history.specs.Trains.{Setup}
 use Rattle.sink_history.specs.Calls as links
-use Rattle.sink_history.specs.Calls.{Call, step_by, steps_of, with_step, writes_waiting}
-use Rattle.sink_history.specs.Drains.{drained, repeated, notified_and_read, notified_out}
-use Rattle.sink_history.specs.Links.{Acts, acts_by, acts_of, notices_waiting, reads_waiting}
-use Rattle.assistant_machine.specs.Links.{waiting_of}
+use Rattle.sink_history.specs.Calls.{Call, steps_of, with_step}
 use Rattle.scenario_laws.proofs.Versions.Trains.{BringsNear, brought_same, with_horizon}
 
 -- ---- what it has

@@ -1,39 +1,15 @@
 -- A train that a source announces isn't answered `BadGroup 11`: its group passed the group check of the version that its sinks
 -- are of too (Basic Audio Profile 1.0, section 6.5; Core 5.2, volume 6 part B, section 4.4.6). Lists of steps have the newest
 -- first; where a list is called `own` its steps are those of one source.
-use Rattle.std.proofs.Common.{ℕ, ◌≡◌, ◌≤◌, ◌-◌, ◌*◌, ◌/◌, ◌==◌, not, cond, Bool, true, false, List, [], ◌∷◌, Option, None, Some, Ok, refl}
-use Rattle.std.proofs.Common.{sym, ◌∙◌, ap, ap₂, subst}
-use Rattle.std.specs.Prelude.{unwrap_or}
-use Rattle.std.proofs.lemmas.Bool.{eqb-true, false≢true, ltb-false, not-false}
-use Rattle.std.proofs.lemmas.Option.{same_Some}
-use Rattle.delegator_history.specs.Octets.{MayAnnounce, train_of}
+use Rattle.scenario_laws.proofs.Prelude.{ℕ, ◌≡◌, ◌≤◌, ◌-◌, ◌*◌, ◌/◌, ◌==◌, not, cond, Bool, true, false, List, [], ◌∷◌, Option, None, Some, Ok, refl, sym, ◌∙◌, ap, ap₂, subst, unwrap_or, eqb-true, false≢true, ltb-false, not-false, same_Some, MayAnnounce, train_of, IsTrain, Tells, TellsInfo, Endpoint, Horizon, BigInfo, info_of, NoFault, Settings, big_info_in, found_in, without_cipher, next_anchor_of, next_of, Step, BaseTooLong, made_of, own_train, horizon_in, base_of, is_base_too_long, group_refusal, refusal_of, source_refusal, refuse_if, checked_info, cipher_of, group_of, identity_of, is_sending, is_started, no_group, setup_of, Airs, source_calls, chosen_of, chosen_steps, is_of_source, is_unbegun_at, stage_of, steps_of_source, version_of, announced_of, calls_made, source_at, snapshot_in}
 use Rattle.big_info.proofs.Citable.{info_read}
 use Rattle.announcement_train.specs.declared.train.Train.{Train}
-use Rattle.announcement_train.specs.Layout.{IsTrain}
-use Rattle.announcement_train.specs.Told.{Tells, TellsInfo, numbers_of}
-use Rattle.base_grammar.specs.Layout.{Endpoint}
-use Rattle.big_info.specs.declared.fault.GroupFault.TheVariants.{Horizon}
-use Rattle.big_info.specs.declared.info.BigInfo.{BigInfo}
-use Rattle.big_info.specs.Reading.{info_of}
-use Rattle.big_info.specs.Rows.{NoFault, first_fault}
+use Rattle.announcement_train.specs.Told.{numbers_of}
+use Rattle.big_info.specs.Rows.{first_fault}
 use Rattle.big_info.specs.Schedule.{horizon_of as group_horizon}
-use Rattle.delegator_history.specs.Trains.{Settings, Setup, Train as Heard, big_info_in, found_in}
+use Rattle.delegator_history.specs.Trains.{Setup, Train as Heard}
 use Rattle.ltv_codec.specs.Values.{first_of}
-use Rattle.source_machine.specs.Ciphers.{without_cipher}
-use Rattle.source_machine.specs.Calls.{next_anchor_of, next_of}
-use Rattle.scenario_text.specs.declared.step.Step.{Step}
 use Rattle.scenario_text.specs.declared.step.Step.TheVariants as steps
-use Rattle.transcript_text.specs.declared.refusal.Refusal.TheVariants.{BaseTooLong}
-use Rattle.sink_history.specs.History.{made_of, own_train, horizon_in}
-use Rattle.scenario_history.specs.Bases.{base_of, is_base_too_long}
-use Rattle.scenario_history.specs.Refusals.{group_refusal, refusal_of, source_refusal}
-use Rattle.sink_history.specs.Refusals.{refuse_if}
-use Rattle.scenario_history.specs.Source.{checked_info, cipher_of, group_of, identity_of, is_sending, is_started, no_group, setup_of}
-use Rattle.source_machine.specs.Airs.{Airs}
-use Rattle.scenario_history.specs.Source.{source_calls}
-use Rattle.scenario_history.specs.Steps.{chosen_of, chosen_steps, is_of_source, is_unbegun_at, stage_of, steps_of_source, version_of}
-use Rattle.scenario_history.specs.Worlds.{announced_of, calls_made, source_at}
-use Rattle.sink_history.specs.Output.{snapshot_in}
 use Rattle.scenario_laws.proofs.Citable.{Lawful, Legal, Permitted, bounds_in, lawful, may_announce, may_be_sent, neither, permitted, sends}
 use Rattle.scenario_laws.proofs.Citable.{settled}
 use Rattle.scenario_laws.proofs.Versions.Groups.{within_near}

@@ -1,14 +1,9 @@
 -- The sinks of a scenario in version 2: their history is the same, where no train was answered `BadGroup 11` (Basic Audio Profile
 -- 1.0, section 6.5). Lists of steps and of calls have the newest first.
-use Rattle.std.proofs.Common.{ℕ, ◌≡◌, ◌≤◌, ◌==◌, cond, Bool, true, false, List, [], ◌∷◌, Option, None, Some, refl, ◌∙◌, ap₂, arith}
-use Rattle.std.proofs.lemmas.Bool.{eqb-true}
-use Rattle.delegator_history.specs.Trains.{Settings}
-use Rattle.sink_history.specs.Calls.{Call, born}
-use Rattle.scenario_text.specs.declared.step.Step.{Step}
+use Rattle.scenario_laws.proofs.Prelude.{ℕ, ◌≡◌, ◌≤◌, ◌==◌, cond, Bool, true, false, List, [], ◌∷◌, Option, None, Some, refl, ◌∙◌, ap₂, arith, eqb-true, Settings, born, Step, Source, calls_after, calls_at, calls_by, made_by, made_of, named_by, train_by, calls_made, source_at, the_world}
+use Rattle.sink_history.specs.Calls.{Call}
 use Rattle.scenario_text.specs.declared.step.Step.TheVariants as steps
-use Rattle.sink_history.specs.History.{Source, horizon_of, calls_after, calls_at, calls_by, made_by, made_of, named_by}
-use Rattle.sink_history.specs.Moves.{train_by}
-use Rattle.scenario_history.specs.Worlds.{calls_made, source_at, the_world}
+use Rattle.sink_history.specs.History.{horizon_of}
 use Rattle.scenario_laws.proofs.Versions.Histories.{AreQuietCalls, drained_same, quiet_drained, quiet_served}
 use Rattle.scenario_laws.proofs.Versions.Printed.{HearsNear, IsQuietHistory, made_with_horizon}
 use Rattle.scenario_laws.proofs.Versions.Seconds.{at_second, same, second, seconds, sink_grows}

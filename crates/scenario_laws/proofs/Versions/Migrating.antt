@@ -1,30 +1,14 @@
 -- The migration law, over the airs of each stream by its framing: a text and the text in version 2.
-use Rattle.std.proofs.Common.{ℕ, ◌≡◌, ◌⊎◌, ◌+◌, nat_eq, cond, leb, Bool, true, false, List, [], ◌∷◌, ◌++◌, length, reverse, Option, None, arith}
-use Rattle.std.proofs.Common.{Some, refl, sym, ◌∙◌, ap, ap₂, subst, inl, inr}
+use Rattle.scenario_laws.proofs.Prelude.{ℕ, ◌≡◌, ◌⊎◌, ◌+◌, nat_eq, cond, leb, Bool, true, false, List, [], ◌∷◌, ◌++◌, length, reverse, Option, None, arith, Some, refl, sym, ◌∙◌, ap, ap₂, subst, inl, inr, append-nil, TextLine, plain, too_long, line_limit, line_of, Account, Accepted, End, Rules, accepted_of, accepted_unless, end_unless, out, out_unless, refused, through, reverse_onto, is_blank, airs_of, Step, Refusal, LineTooLong, a_step, nothing, unsaid, output_said, refusal_said, said_in, steps_of, with_said, has_relay, is_over, is_unbegun_at, stage_of, version_of, end_after, has_end, last_end_after, last_line_after, out_of, transcript_end, transcript_of, units_of, EndsLasting, IsLastingText, NonePrintsHorizon}
 use Rattle.std.specs.Fmt.{digits as numerals}
-use Rattle.std.proofs.lemmas.List.{append-nil}
-use Rattle.bcast_io.specs.TextLines.{TextLine, plain, too_long, line_limit, line_of}
 use Rattle.bcast_io.specs.TextLines.{lines_of as text_lines}
-use Rattle.unit_outlets.specs.Account.{Account}
-use Rattle.scenario_history.specs.Runs.{Accepted, End, Rules, accepted_of, accepted_unless, end_of, end_unless, out, out_unless}
-use Rattle.scenario_history.specs.Runs.{refused, through}
-use Rattle.scenario_history.proofs.Citable.{reverse_onto}
-use Rattle.scenario_text.specs.Migrated.{is_blank, migrated}
-use Rattle.source_machine.specs.Airs.{airs_of}
+use Rattle.scenario_history.specs.Runs.{end_of}
+use Rattle.scenario_text.specs.Migrated.{migrated}
 use Rattle.scenario_words.specs.Reading.{decimal_in}
 use Rattle.scenario_text.specs.Steps.{read_of, step_of}
 use Rattle.scenario_text.specs.Table.{first_row_of, row_of}
-use Rattle.scenario_text.specs.declared.step.Step.{Step}
 use Rattle.scenario_text.specs.declared.step.Step.TheVariants as steps
-use Rattle.transcript_text.specs.declared.refusal.Refusal.{Refusal}
-use Rattle.transcript_text.specs.declared.refusal.Refusal.TheVariants.{LineTooLong}
-use Rattle.scenario_history.specs.Lines.{a_step, nothing, unsaid, output_said, refusal_said, said_after, said_in, said_of}
-use Rattle.scenario_history.specs.Lines.{steps_of, with_said}
-use Rattle.scenario_history.specs.Relays.{has_relay}
-use Rattle.scenario_history.specs.Steps.{is_over, is_unbegun_at, stage_of, version_of}
-use Rattle.scenario_history.specs.Transcript.{end_after, has_end, last_end_after, last_line_after, out_of, transcript_end, transcript_of}
-use Rattle.scenario_history.specs.Transcript.{units_of}
-use Rattle.scenario_laws.specs.Versions.{EndsLasting, IsLastingText, NonePrintsHorizon}
+use Rattle.scenario_history.specs.Lines.{said_after, said_of}
 use Rattle.scenario_laws.proofs.Versions.Lived.{AreCalm}
 use Rattle.scenario_laws.proofs.Versions.Runs.{Begins, Its, Laws, RunAlike, RunsAlike, Stands, run_alike}
 use Rattle.scenario_laws.proofs.Versions.Seconds.{seconds}

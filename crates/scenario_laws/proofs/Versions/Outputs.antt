@@ -1,23 +1,9 @@
 -- What the steps of a scenario in version 2 hand up and print: the same, where no train was answered `BadGroup 11`. Lists of
 -- steps have the newest first; where a list is called `own` its steps are those of one source.
-use Rattle.std.proofs.Common.{ℕ, ◌≡◌, false, List, [], ◌∷◌, ◌++◌, Option, None, Some, refl, sym, ◌∙◌, ap, ap₂, arith}
-use Rattle.std.specs.List.{concat}
-use Rattle.unit_outlets.specs.Account.{Account}
+use Rattle.scenario_laws.proofs.Prelude.{ℕ, ◌≡◌, false, List, [], ◌∷◌, ◌++◌, Option, None, Some, refl, sym, ◌∙◌, ap, ap₂, arith, concat, Account, airs_of, Step, control_line, Settings, Source, named_by, train_by, printed_at, printed_where, SinkUnit, closing_at, handed_by, handed_up, close_lines, output_of, sink_lines, stale_lines, sums_of, has_relay, end_pdu, open_event, stale_in, chosen_of, chosen_steps, steps_of_source, the_world}
 use Rattle.sink_history.specs.Calls.{Call}
-use Rattle.source_machine.specs.Airs.{airs_of}
-use Rattle.scenario_text.specs.declared.step.Step.{Step}
 use Rattle.scenario_text.specs.declared.step.Step.TheVariants as steps
-use Rattle.transcript_text.specs.Lines.{control_line}
-use Rattle.delegator_history.specs.Trains.{Settings}
-use Rattle.sink_history.specs.History.{Source, named_by}
-use Rattle.sink_history.specs.Moves.{train_by}
-use Rattle.sink_history.specs.Output.{printed_at, printed_where}
-use Rattle.scenario_history.specs.Boxes.{SinkUnit, closing, closing_at, handed_by, handed_up}
-use Rattle.scenario_history.specs.Output.{close_lines, output_of, sink_lines, stale_lines, sums_of}
-use Rattle.scenario_history.specs.Relays.{has_relay}
-use Rattle.scenario_history.specs.Source.{end_pdu, open_event, stale_in}
-use Rattle.scenario_history.specs.Steps.{chosen_of, chosen_steps, steps_of_source}
-use Rattle.scenario_history.specs.Worlds.{the_world}
+use Rattle.scenario_history.specs.Boxes.{closing}
 use Rattle.scenario_laws.proofs.RelayedUnits.Citable.{plain_close, plain_end, flat_same}
 use Rattle.scenario_laws.proofs.Versions.Lived.{AreCalm, AreWider, IsCalm, QuietHistory, is_quiet, history_same, made_wider, quiet_history, source_same}
 use Rattle.scenario_laws.proofs.Versions.Printed.{printed_same}

@@ -1,15 +1,8 @@
 -- The migration law over any airs that meet the relation of their framing, one for the text and one for the text in version 2.
-use Rattle.std.proofs.Common.{ℕ, ◌≡◌, true, List, ◌∷◌, ◌∙◌, subst, arith}
-use Rattle.bcast_io.specs.TextLines.{TextLine, lines_of}
-use Rattle.unit_outlets.specs.Account.{Account}
-use Rattle.scenario_history.specs.Runs.{Accepted}
+use Rattle.scenario_laws.proofs.Prelude.{ℕ, ◌≡◌, true, List, ◌∷◌, ◌∙◌, subst, arith, TextLine, Account, Accepted, airs_of, Airs, MeetAirs, rules_of, steps_of, transcript_end, transcript_of, units_of, EndsLasting, IsLastingText, MigrationLaw, PrintsHorizon}
+use Rattle.bcast_io.specs.TextLines.{lines_of}
 use Rattle.scenario_text.specs.Migrated.{migrated}
-use Rattle.source_machine.specs.Airs.{airs_of, Airs}
 use Rattle.scenario_text.specs.declared.step.Step.TheVariants as steps
-use Rattle.scenario_history.specs.Airs.{MeetAirs}
-use Rattle.scenario_history.specs.Lines.{rules_of, steps_of}
-use Rattle.scenario_history.specs.Transcript.{transcript_end, transcript_of, units_of}
-use Rattle.scenario_laws.specs.Versions.{EndsLasting, IsLastingText, MigrationLaw, PrintsHorizon}
 use Rattle.scenario_laws.proofs.Versions.Migrating.{LinesAlike, text_alike}
 use Rattle.scenario_laws.proofs.Versions.Runs.{Laws}
 

@@ -1,33 +1,16 @@
 -- What a sink prints whose groups may have a greater horizon, and why a step that names it is refused: the same, where no
 -- train was answered `BadGroup 11` (Basic Audio Profile 1.0, section 6.5; Broadcast Audio Scan Service 1.0, section 3). Lists
 -- of calls have the newest first.
-use Rattle.std.proofs.Common.{ℕ, zero, suc, ◌≡◌, ◌≤◌, List, [], ◌∷◌, ◌++◌, length, Option, None, Some, refl, ◌∙◌, ap}
-use Rattle.std.specs.Prelude.{codes, decimal, is_none, map, nat_lt, option_map, slice_get}
-use Rattle.std.specs.List.{flat_map, range_with_len}
-use Rattle.std.specs.Option.{option_or}
+use Rattle.scenario_laws.proofs.Prelude.{ℕ, zero, suc, ◌≡◌, ◌≤◌, List, [], ◌∷◌, ◌++◌, length, Option, None, Some, refl, ◌∙◌, ap, codes, decimal, map, nat_lt, option_map, slice_get, flat_map, range_with_len, option_or, Snapshot, Settings, Train, outcome_by, state_at, value, writes_waiting, repeated, served_out, notified_out, Acts, acts_of, delivered, language, notices_waiting, reads_waiting, reads_of, view_of, waiting_of, Step, NothingWaiting, RecordsTooLong, Label, control_words, on_link, reply_line, sink_line, value_line, Source, record_of, train_by, drain_lines, heard_line, if_there, printed_of, read_line, read_lines, serve_line, serve_lines, show_lines, snapshot_in, tell_line, tell_lines, view_lines, link_named, link_twice, no_link, no_notice, no_read, no_record_room, nothing_waits, refuse_if, refused_by}
+use Rattle.std.specs.Prelude.{is_none}
 use Rattle.pacs_records.specs.Layout.{greatest_value, value as records_value}
 use Rattle.delegator_history.specs.Controls as controls
-use Rattle.delegator_history.specs.Snapshots.{Snapshot}
-use Rattle.delegator_history.specs.Trains.{Settings, Train, outcome_by}
-use Rattle.delegator_history.specs.Values.{state_at, value}
 use Rattle.delegator_history.specs.Writes.{reply_of}
 use Rattle.delegator_history.specs.declared.notice.Notice.{Notice}
 use Rattle.sink_history.specs.Calls as links
-use Rattle.sink_history.specs.Calls.{Call, steps_of, writes_waiting}
-use Rattle.sink_history.specs.Drains.{repeated, served_out, notified_out}
-use Rattle.sink_history.specs.Links.{Acts, acts_of, delivered, language, notices_waiting, reads_waiting}
-use Rattle.assistant_machine.specs.Links.{reads_of, view_of, waiting_of}
-use Rattle.scenario_text.specs.declared.step.Step.{Step}
+use Rattle.sink_history.specs.Calls.{Call, steps_of}
 use Rattle.scenario_text.specs.declared.step.Step.TheVariants as steps
-use Rattle.transcript_text.specs.declared.refusal.Refusal.TheVariants.{NothingWaiting, RecordsTooLong}
-use Rattle.transcript_text.specs.SinkLines.{Label, control_words, on_link, plain, reply_line, sink_line, value_line}
-use Rattle.sink_history.specs.History.{Source, record_of}
-use Rattle.sink_history.specs.Moves.{train_by}
-use Rattle.sink_history.specs.Output.{drain_lines, heard_line, if_there, printed_of, read_line, read_lines}
-use Rattle.sink_history.specs.Output.{serve_line, serve_lines}
-use Rattle.sink_history.specs.Output.{show_lines, snapshot_in, tell_line, tell_lines, view_lines}
-use Rattle.sink_history.specs.Refusals.{link_named, link_twice, no_link, no_notice, no_read, no_record_room, nothing_waits, refuse_if}
-use Rattle.sink_history.specs.Refusals.{refused_by}
+use Rattle.transcript_text.specs.SinkLines.{plain}
 use Rattle.scenario_laws.proofs.Versions.Histories.{AreQuietCalls, acts_same, quiet_reads, quiet_serves, quiet_tells}
 use Rattle.scenario_laws.proofs.Versions.Histories.{snapshot_same, told_same}
 use Rattle.scenario_laws.proofs.Versions.Trains.{BringsNear, brought_same, with_horizon}

@@ -1,22 +1,13 @@
 -- A line that version 1 of the scenario language reads, version 2 reads as the same step: each row of version 1 stands in
 -- version 2, where a sink has up to eight slots.
-use Rattle.std.proofs.Common.{ℕ, ◌≡◌, ◌⊎◌, ◌≤◌, ◌&&◌, cond, leb, Bool, true, false, List, [], ◌∷◌, Option, None, Some, Result, Ok}
-use Rattle.std.proofs.Common.{Err, refl, sym, ap, subst, inl, inr, arith}
-use Rattle.std.specs.Prelude.{bytes_eq, nat_eq}
-use Rattle.std.proofs.lemmas.Bool.{le-leb, leb-true}
-use Rattle.bcast_io.specs.TextLines.{TextLine}
-use Rattle.bcast_base.specs.Tries.{◌>>=◌}
-use Rattle.scenario_words.specs.declared.fault.LineFault.{LineFault}
+use Rattle.scenario_laws.proofs.Prelude.{ℕ, ◌≡◌, ◌⊎◌, ◌≤◌, ◌&&◌, cond, leb, Bool, true, false, List, [], ◌∷◌, Option, None, Some, Result, Ok, Err, refl, sym, ap, subst, inl, inr, arith, bytes_eq, nat_eq, le-leb, leb-true, TextLine, ◌>>=◌, LineFault, at_known, at_row, Row, event_rows, first_rows, link_row_of_2, link_rows, row_in, rows_of_2, sink_row, sink_rows, source_rows, tuned_row, drop_row, stop_row, end_row, Step, BadLine, unsaid, said_by, said_in}
 use Rattle.scenario_words.specs.declared.fault.LineFault.TheVariants.{BadLine as Misfit, Memory as NoMemory}
 use Rattle.scenario_words.specs.Reading.{Left, decimal_in, next_of, taken}
-use Rattle.scenario_text.specs.Steps.{at_known, at_row, read_of, step_of}
-use Rattle.scenario_text.specs.Table.{Row, event_rows, first_row_of, first_rows, link_row_of, link_row_of_2, link_rows, row_in}
-use Rattle.scenario_text.specs.Table.{row_of, row_of_2, rows_of_2}
-use Rattle.scenario_text.specs.Table.{sink_row, sink_row_of, sink_rows, source_row_of, source_rows}
-use Rattle.scenario_text.specs.Table.{tuned_row, drop_row, stop_row, end_row}
-use Rattle.scenario_text.specs.declared.step.Step.{Step}
-use Rattle.transcript_text.specs.declared.refusal.Refusal.TheVariants.{BadLine}
-use Rattle.scenario_history.specs.Lines.{Said, unsaid, said_by, said_in}
+use Rattle.scenario_text.specs.Steps.{read_of, step_of}
+use Rattle.scenario_text.specs.Table.{first_row_of, link_row_of}
+use Rattle.scenario_text.specs.Table.{row_of, row_of_2}
+use Rattle.scenario_text.specs.Table.{sink_row_of, source_row_of}
+use Rattle.scenario_history.specs.Lines.{Said}
 use Rattle.scenario_laws.proofs.Versions.Seconds.{IsLater}
 
 -- ---- what is read twice

@@ -1,23 +1,12 @@
 -- The receivers of the sinks of a scenario in version 2: the calls that each took are the same, where no train was answered
 -- `BadGroup 11` (Core 5.2, volume 6 part B, section 4.4.6). Lists of steps and calls have the newest first; where a list is
 -- called `own` its steps are those of one source.
-use Rattle.std.proofs.Common.{ℕ, zero, suc, ◌≡◌, ◌==◌, cond, Bool, true, List, [], ◌∷◌, Option, None, Some, refl, ◌∙◌, ap, arith}
-use Rattle.std.proofs.Common.{ap₂}
-use Rattle.std.proofs.lemmas.Bool.{eqb-true}
-use Rattle.delegator_machine.specs.Groups.{with_step}
-use Rattle.delegator_history.specs.Trains.{Settings, Train, outcome_by}
+use Rattle.scenario_laws.proofs.Prelude.{ℕ, zero, suc, ◌≡◌, ◌==◌, cond, Bool, true, List, [], ◌∷◌, Option, None, Some, refl, ◌∙◌, ap, arith, ap₂, eqb-true, with_step, Settings, Train, outcome_by, airs_of, Step, Source, made_of, named_by, follows, follows_by, big_sync_of, received_by, source_by, train_by, snapshot_in, heard_on_air, sink_calls, source_after, source_of, ticked_by, with_sink_call, calls_made, source_at}
 use Rattle.group_sink.specs.Calls.{Call as SinkCall}
 use Rattle.sink_history.specs.Calls.{Call}
-use Rattle.source_machine.specs.Airs.{airs_of}
-use Rattle.scenario_text.specs.declared.step.Step.{Step}
 use Rattle.scenario_text.specs.declared.step.Step.TheVariants as steps
-use Rattle.sink_history.specs.History.{Source, made_of, named_by}
-use Rattle.sink_history.specs.Moves.{follows, follows_by, big_sync_of, received_by, source_by, train_by}
-use Rattle.sink_history.specs.Output.{snapshot_in}
-use Rattle.scenario_history.specs.Sinks.{heard_on_air, moved, sink_calls, source_after, source_of}
+use Rattle.scenario_history.specs.Sinks.{moved}
 use Rattle.scenario_history.specs.Sinks.{sourced}
-use Rattle.scenario_history.specs.Sinks.{ticked_by, with_sink_call}
-use Rattle.scenario_history.specs.Worlds.{calls_made, source_at}
 use Rattle.scenario_laws.proofs.Versions.Lived.{AreCalm, AreWider, IsCalm, IsWider, QuietHistory, after_same, is_quiet, history_same, made_wider, quiet_history}
 use Rattle.scenario_laws.proofs.Versions.Lived.{source_same}
 use Rattle.scenario_laws.proofs.Versions.Histories.{AreQuietCalls}

@@ -1,34 +1,11 @@
 -- Why a step of a scenario in version 2 is refused: for the reason of version 1, but where that is BadLine, `BadGroup 11` or
 -- TimeOrder. Lists of steps have the newest first; where a list is called `own` its steps are those of one source.
-use Rattle.std.proofs.Common.{ℕ, ◌≡◌, ◌⊎◌, ◌≤◌, ◌||◌, ◌&&◌, not, cond, ltb, Bool, true, false, List, [], ◌∷◌, Option, None, Some, arith}
-use Rattle.std.proofs.Common.{refl, sym, subst, ◌∙◌, ap, ap₂, inl, inr}
-use Rattle.std.specs.Option.{option_map, option_or}
-use Rattle.big_info.specs.declared.info.BigInfo.{BigInfo}
+use Rattle.scenario_laws.proofs.Prelude.{ℕ, ◌≡◌, ◌⊎◌, ◌≤◌, ◌||◌, ◌&&◌, not, cond, ltb, Bool, true, false, List, [], ◌∷◌, Option, None, Some, arith, refl, sym, subst, ◌∙◌, ap, ap₂, inl, inr, option_map, option_or, BigInfo, Air, airs_of, Setup, give_fault, UnitFault, Step, Refusal, AfterEnd, Order, Settings, named_by, refused_at, refused_where, refuse_if, box_after, box_of, give_refusal, group_refusal, is_out_of_order, own_refusal, refusal_of, sink_refusal, source_refusal, twin_refusal, setup_of, source_calls, chosen_steps, is_over, version_of, the_world, IsLasting}
 use Rattle.big_info.specs.Rows.{first_fault}
-use Rattle.isoal_base.specs.Air.{Air}
-use Rattle.source_machine.specs.Airs.{airs_of}
-use Rattle.source_machine.specs.Calls.{Setup, Call}
-use Rattle.source_machine.specs.Faults.{give_fault}
-use Rattle.source_machine.specs.UnitFaults.{UnitFault}
+use Rattle.source_machine.specs.Calls.{Call}
 use Rattle.source_machine.specs.UnitFaults as give_faults
 use Rattle.sink_history.specs.Calls as links
-use Rattle.scenario_text.specs.declared.step.Step.{Step}
 use Rattle.scenario_text.specs.declared.step.Step.TheVariants as steps
-use Rattle.transcript_text.specs.declared.refusal.Refusal.{Refusal}
-use Rattle.transcript_text.specs.declared.refusal.Refusal.TheVariants.{AfterEnd}
-use Rattle.transcript_text.specs.declared.refusal.Refusal.TheVariants.{Order}
-use Rattle.delegator_history.specs.Trains.{Settings}
-use Rattle.sink_history.specs.History.{named_by}
-use Rattle.sink_history.specs.Refusals.{refused_at, refused_where, refuse_if}
-use Rattle.scenario_history.specs.Boxes.{box_after, box_of}
-use Rattle.scenario_history.specs.Refusals.{give_refusal, group_refusal}
-use Rattle.scenario_history.specs.Refusals.{is_out_of_order}
-use Rattle.scenario_history.specs.Refusals.{own_refusal, refusal_of, sink_refusal}
-use Rattle.scenario_history.specs.Refusals.{source_refusal, twin_refusal}
-use Rattle.scenario_history.specs.Source.{setup_of, source_calls}
-use Rattle.scenario_history.specs.Steps.{chosen_steps, is_over, version_of}
-use Rattle.scenario_history.specs.Worlds.{the_world}
-use Rattle.scenario_laws.specs.Versions.{IsLasting}
 use Rattle.scenario_laws.proofs.Versions.Groups.{first_same, near_or_horizon}
 use Rattle.scenario_laws.proofs.Versions.Lived.{AreCalm, AreWider, QuietHistory, is_quiet, history_same, made_wider, quiet_history}
 use Rattle.scenario_laws.proofs.Versions.Printed.{refused_same}

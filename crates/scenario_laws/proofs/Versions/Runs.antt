@@ -1,38 +1,12 @@
 -- A run over the lines behind `scenario 1` and behind `scenario 2`: it brings the same, where the run in version 1 isn't refused
 -- for BadLine, `BadGroup 11` or TimeOrder, and no `train` step in it prints `BadGroup 11`. Histories have the newest line first.
-use Rattle.std.proofs.Common.{ℕ, suc, ◌≡◌, ◌⊎◌, ◌+◌, nat_eq, false, List, [], ◌∷◌, ◌++◌, length, reverse, Option, None, Some, refl, arith}
-use Rattle.std.proofs.Common.{sym, ◌∙◌, ap, ap₂, subst, inl, inr}
-use Rattle.std.specs.List.{concat}
-use Rattle.std.proofs.lemmas.Bool.{false≢true}
-use Rattle.std.proofs.lemmas.List.{append-nil}
-use Rattle.std.proofs.lemmas.Option.{none-some, same_Some}
-use Rattle.bcast_io.specs.TextLines.{TextLine}
-use Rattle.unit_outlets.specs.Account.{Account}
-use Rattle.big_info.specs.declared.fault.GroupFault.TheVariants.{Horizon}
-use Rattle.delegator_history.specs.Trains.{Settings, Train, answer_of, outcome_by}
+use Rattle.scenario_laws.proofs.Prelude.{ℕ, suc, ◌≡◌, ◌⊎◌, ◌+◌, nat_eq, false, List, [], ◌∷◌, ◌++◌, length, reverse, Option, None, Some, refl, arith, sym, ◌∙◌, ap, ap₂, subst, inl, inr, concat, false≢true, append-nil, none-some, same_Some, TextLine, Account, Horizon, Settings, Train, answer_of, outcome_by, Accepted, End, Rules, accepted_of, accepted_unless, end_unless, number_after, out, out_unless, refused, reverse_onto, airs_of, Step, refusal_line, Refusal, BadLine, sink_line, train_words, given_train, made_of, printed_where, snapshot_in, handed_up, a_step, nothing, unsaid, output_said, refusal_said, rules_of, said_in, steps_of, with_said, is_misplaced, refusal_of, has_relay, is_over, is_unbegun_at, stage_after, stage_of, version_of, calls_made, source_at, EndsLasting, NonePrintsHorizon, PrintsHorizon, horizon_line}
 use Rattle.delegator_history.specs.declared.train_heard.TrainHeard.TheVariants.{BadGroup as Refused}
-use Rattle.scenario_history.specs.Runs.{Accepted, End, Rules, accepted_of, accepted_unless, end_of, end_unless, number_after, out, out_unless}
-use Rattle.scenario_history.specs.Runs.{refused}
-use Rattle.scenario_history.proofs.Citable.{reverse_onto}
-use Rattle.source_machine.specs.Airs.{airs_of}
-use Rattle.scenario_text.specs.declared.step.Step.{Step}
+use Rattle.scenario_history.specs.Runs.{end_of}
 use Rattle.scenario_text.specs.declared.step.Step.TheVariants as steps
-use Rattle.transcript_text.specs.Lines.{refusal_line}
-use Rattle.transcript_text.specs.declared.refusal.Refusal.{Refusal}
-use Rattle.transcript_text.specs.declared.refusal.Refusal.TheVariants.{BadLine}
-use Rattle.transcript_text.specs.SinkLines.{sink_line, train_words}
-use Rattle.sink_history.specs.History.{given_train, made_of}
-use Rattle.sink_history.specs.Output.{printed_where, snapshot_in}
-use Rattle.scenario_history.specs.Boxes.{handed_up}
-use Rattle.scenario_history.specs.Lines.{Said, a_step, nothing, unsaid, output_said, refusal_said, rules_of, said_after, said_in, said_of}
-use Rattle.scenario_history.specs.Lines.{steps_of, with_said}
-use Rattle.scenario_history.specs.Refusals.{is_misplaced, refusal_of}
-use Rattle.scenario_history.specs.Relays.{has_relay}
+use Rattle.scenario_history.specs.Lines.{Said, said_after, said_of}
 use Rattle.scenario_laws.proofs.RelayedUnits.Citable.{SaidNever, line_passes, none_relayed, nothing_else, plain_after, says_no_relay}
-use Rattle.scenario_history.specs.Steps.{is_over, is_unbegun_at, stage_after, stage_of, version_of}
-use Rattle.scenario_history.specs.Worlds.{calls_made, source_at}
 use Rattle.scenario_laws.proofs.Citable.{Legal, LinesInRange, legal, permitted}
-use Rattle.scenario_laws.specs.Versions.{EndsLasting, NonePrintsHorizon, PrintsHorizon, horizon_line}
 use Rattle.scenario_laws.proofs.Versions.Lived.{AreCalm, IsCalm}
 use Rattle.scenario_laws.proofs.Versions.Outputs.{handed_up_same, output_same}
 use Rattle.scenario_laws.proofs.Versions.Printed.{HearsNear}

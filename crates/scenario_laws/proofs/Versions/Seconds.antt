@@ -1,22 +1,11 @@
 -- The steps of a scenario in version 2: `scenario 2` stands for `scenario`. What the steps say that isn't said of the version
 -- stays. Lists of steps have the newest first.
-use Rattle.std.proofs.Common.{ℕ, ◌≡◌, ◌⊎◌, ◌≤◌, ◌==◌, ◌||◌, ◌&&◌, cond, Bool, true, false, List, [], ◌∷◌, Option, refl, sym}
-use Rattle.std.proofs.Common.{◌∙◌, ap, inl, inr, arith}
-use Rattle.std.specs.Prelude.{unwrap_or}
-use Rattle.std.specs.Option.{option_or}
+use Rattle.scenario_laws.proofs.Prelude.{ℕ, ◌≡◌, ◌⊎◌, ◌≤◌, ◌==◌, ◌||◌, ◌&&◌, cond, Bool, true, false, List, [], ◌∷◌, Option, refl, sym, ◌∙◌, ap, inl, inr, arith, unwrap_or, option_or, Step, horizon_in, version_given, base_lines, with_base_line, cipher_given, cipher_of, group_given, group_of, ident_of, identity_given, is_ahead_in, phase_given, source_calls, start_given, start_of, with_source_call, Stage, unbegun, running, chosen_given, is_common, is_of_source, is_over, is_source_line, is_over_at, is_unbegun_at, last_given, sinks_made, sinks_made_by, stage_after, stage_of, steps_of_source, version_at, version_of}
 use Rattle.delegator_history.specs.LastGiven.{last_given as last_of}
-use Rattle.scenario_text.specs.declared.step.Step.{Step}
 use Rattle.scenario_text.specs.declared.step.Step.TheVariants as steps
-use Rattle.sink_history.specs.History.{horizon_in, horizon_of, version_given}
-use Rattle.scenario_history.specs.Bases.{base_lines, with_base_line}
-use Rattle.scenario_history.specs.Source.{cipher_given, cipher_of, group_given, group_of, ident_of, identity_given, is_ahead_in}
-use Rattle.scenario_history.specs.Source.{phase_given, source_calls}
-use Rattle.scenario_history.specs.Source.{start_given, start_of, with_source_call}
-use Rattle.scenario_history.specs.Steps.{Stage, unbegun, running, over, chosen_given, is_common, is_of_source}
-use Rattle.scenario_history.specs.Steps.{is_over, is_source_line}
-use Rattle.scenario_history.specs.Steps.{is_over_at, is_unbegun_at, last_given, sinks_made, sinks_made_by, stage_after, stage_of}
+use Rattle.sink_history.specs.History.{horizon_of}
+use Rattle.scenario_history.specs.Steps.{over}
 use Rattle.scenario_laws.proofs.Sources.{horizon_greatest}
-use Rattle.scenario_history.specs.Steps.{steps_of_source, version_at, version_of}
 
 abbrev pub second : Step → Step
 second (steps.Scenario version) = steps.Scenario 2

@@ -1,17 +1,8 @@
 -- A source of a scenario in version 2: what it sends is the same (Core 5.2, volume 6 part B, section 4.4.6, and part G, section
 -- 2). Where a list is called `own` its steps are those of one source, the newest first.
-use Rattle.std.proofs.Common.{ℕ, ◌≡◌, Bool, List, [], ◌∷◌, refl, ap}
-use Rattle.std.proofs.Common.{ap₂}
-use Rattle.std.specs.Prelude.{map, unwrap_or}
-use Rattle.std.specs.List.{range_with_len}
-use Rattle.source_machine.specs.Airs.{air_after, air_of, airs_of, pdu_of, stale_of}
-use Rattle.source_machine.specs.Calls.{Setup, Call, give, event as perform, framed_calls}
+use Rattle.scenario_laws.proofs.Prelude.{ℕ, ◌≡◌, Bool, List, [], ◌∷◌, refl, ap, ap₂, map, unwrap_or, range_with_len, air_after, air_of, airs_of, pdu_of, stale_of, Setup, give, framed_calls, Step, is_ahead_in, pdu_in, setup_of, source_calls, stale_in, version_of}
+use Rattle.source_machine.specs.Calls.{Call, event as perform}
 use Rattle.source_machine.specs.Calls.{stream_calls}
-use Rattle.scenario_text.specs.declared.step.Step.{Step}
-use Rattle.scenario_history.specs.Source.{is_ahead_in}
-use Rattle.scenario_history.specs.Source.{pdu_in, setup_of}
-use Rattle.scenario_history.specs.Source.{source_calls, stale_in}
-use Rattle.scenario_history.specs.Steps.{version_of}
 use Rattle.scenario_laws.proofs.Versions.Seconds.{calls_same, seconds}
 use Rattle.scenario_laws.proofs.Versions.Seconds.{same}
 

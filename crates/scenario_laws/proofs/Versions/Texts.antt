@@ -1,17 +1,12 @@
 -- The lines of a text in version 2: those of the text, but that `scenario 2` stands for `scenario 1` behind empty lines and
 -- comments. Both have the same number of octets, so that the limit of a text cuts both alike.
-use Rattle.std.proofs.Common.{ℕ, suc, ◌≡◌, ◌⊎◌, ◌≤◌, ◌<◌, ◌+◌, ◌==◌, cond, eqb, Bool, true, false, List, [], ◌∷◌, ◌++◌, length, refl}
-use Rattle.std.proofs.Common.{sym, ◌∙◌, ap, ap₂, subst, append_assoc, inl, inr, arith}
-use Rattle.std.specs.Prelude.{codes}
-use Rattle.std.specs.List.{AllByRecursion}
-use Rattle.std.proofs.lemmas.Bool.{cases_lt, le-leb, lt-leb}
-use Rattle.std.proofs.lemmas.List.{append-nil}
+use Rattle.scenario_laws.proofs.Prelude.{ℕ, suc, ◌≡◌, ◌⊎◌, ◌≤◌, ◌<◌, ◌+◌, ◌==◌, cond, eqb, Bool, true, false, List, [], ◌∷◌, ◌++◌, length, refl, sym, ◌∙◌, ap, ap₂, subst, append_assoc, inl, inr, arith, codes, AllByRecursion, cases_lt, le-leb, lt-leb, append-nil, TextLine, plain, line_of, newline, text_limit, is_blank, migrated_line, migrated_lines}
 use Rattle.std.proofs.lemmas.Slice.Eq.{bytes_eq-Decides}
-use Rattle.bcast_io.specs.TextLines.{TextLine, plain, past, line_of, lines_from, newline, text_limit}
+use Rattle.bcast_io.specs.TextLines.{past, lines_from}
 use Rattle.bcast_io.specs.TextLines.{lines_of as text_lines}
 use Rattle.scenario_words.specs.Joined.{onto_first}
 use Rattle.scenario_text.specs.MigratedLines.{behind, lines_of, text_of}
-use Rattle.scenario_text.specs.Migrated.{is_blank, migrated, migrated_line, migrated_lines}
+use Rattle.scenario_text.specs.Migrated.{migrated}
 use Rattle.scenario_text.proofs.Citable.{text_again}
 
 abbrev pub first_version : List ℕ

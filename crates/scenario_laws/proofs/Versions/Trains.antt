@@ -1,23 +1,14 @@
 -- The outcome of a train at a sink whose groups may have a greater horizon: what it brought, where it wasn't answered
 -- `BadGroup 11` (Basic Audio Profile 1.0, section 6.5).
-use Rattle.std.proofs.Common.{ℕ, ◌≡◌, ◌⊎◌, ◌≤◌, cond, Bool, true, false, List, Option, None, Some, Result, Ok, Err, refl, ◌∙◌, ap, inl, inr, arith}
+use Rattle.scenario_laws.proofs.Prelude.{ℕ, ◌≡◌, ◌⊎◌, ◌≤◌, cond, Bool, true, false, List, Option, None, Some, Result, Ok, Err, refl, ◌∙◌, ap, inl, inr, arith, Endpoint, GroupFault, Horizon, BigInfo, info_of, TrainHeard, Snapshot, TrainOutcome, Train, ignored, answer_of, big_info_in, outcome_by, by_base, by_big_info, by_broadcast_id, by_endpoint, by_group, by_info, by_slot}
 use Rattle.base_grammar.specs.AdReading.{broadcast_id_of}
-use Rattle.base_grammar.specs.Layout.{Endpoint}
 use Rattle.base_grammar.specs.declared.fault.BaseFault.{BaseFault}
 use Rattle.bass_operations.specs.declared.wishes.Wish.{Wish}
 use Rattle.big_info.specs.declared.big_fault.BigFault.{BigFault}
-use Rattle.big_info.specs.declared.fault.GroupFault.{GroupFault}
-use Rattle.big_info.specs.declared.fault.GroupFault.TheVariants.{Horizon}
-use Rattle.big_info.specs.declared.info.BigInfo.{BigInfo}
-use Rattle.big_info.specs.Reading.{info_of}
 use Rattle.big_info.specs.Rows.{first_fault}
 use Rattle.pacs_records.specs.declared.capability.Capability.{Capability}
-use Rattle.delegator_history.specs.declared.train_heard.TrainHeard.{TrainHeard}
 use Rattle.delegator_history.specs.declared.train_heard.TrainHeard.TheVariants as answers
-use Rattle.delegator_history.specs.Snapshots.{Snapshot}
-use Rattle.delegator_history.specs.Trains.{TrainOutcome, Setup, Train, ignored, answer_of, big_info_in}
-use Rattle.delegator_history.specs.Trains.{outcome_by, by_base, by_big_info}
-use Rattle.delegator_history.specs.Trains.{by_broadcast_id, by_endpoint, by_group, by_info, by_slot}
+use Rattle.delegator_history.specs.Trains.{Setup}
 use Rattle.scenario_laws.proofs.Versions.Groups.{FoundNear, IsNear, first_same}
 
 -- the limits of a sink, but for the greatest horizon of a group

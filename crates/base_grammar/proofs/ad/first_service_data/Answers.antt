@@ -1,4 +1,4 @@
-use Rattle.std.proofs.Common.{arith}
+use Rattle.base_grammar.proofs.Prelude.{arith}
 use Rattle.base_grammar.proofs.Services.{unfound_first, unfound_found, unfound_next, unfound_none}
 use Rattle.base_grammar.proofs.ad.first_service_data.Goals as goal
 

@@ -1,4 +1,4 @@
-use Rattle.std.proofs.Common.{length}
+use Rattle.base_grammar.proofs.Prelude.{length}
 use Rattle.base_grammar.proofs.Services.{Unfound}
 use Rattle.base_grammar.proofs.ad.first_service_data.Given as goal
 

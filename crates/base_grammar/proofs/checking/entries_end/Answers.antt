@@ -1,4 +1,4 @@
-use Rattle.std.proofs.lemmas.Result.{err_from_is_err_and}
+use Rattle.base_grammar.proofs.Prelude.{err_from_is_err_and}
 use Rattle.base_grammar.proofs.Checks.{entries_failed, entries_next, entries_passed}
 use Rattle.base_grammar.proofs.checking.entries_end.Goals as goal
 

@@ -1,5 +1,4 @@
-use Rattle.std.proofs.Common.{ap, sym, ◌∙◌, ℕ, eqb}
-use Rattle.base_grammar.specs.Draft.{is_empty_last}
+use Rattle.base_grammar.proofs.Prelude.{ap, sym, ◌∙◌, ℕ, eqb, is_empty_last}
 use Rattle.base_grammar.proofs.Drafts.{last_at}
 use Rattle.base_grammar.proofs.draft_steps.is_last_empty.Goals as goal
 

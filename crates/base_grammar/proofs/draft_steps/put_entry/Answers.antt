@@ -1,4 +1,4 @@
-use Rattle.std.proofs.Common.{ap, sym, ◌∙◌, ◌++◌, ◌∷◌, [], ℕ, eqb}
+use Rattle.base_grammar.proofs.Prelude.{ap, sym, ◌∙◌, ◌++◌, ◌∷◌, [], ℕ, eqb}
 use Rattle.base_grammar.proofs.Drafts.{last_set}
 use Rattle.base_grammar.proofs.draft_steps.put_entry.Goals as goal
 

@@ -1,5 +1,4 @@
-use Rattle.std.proofs.Common.{sym, ◌==◌}
-use Rattle.base_grammar.specs.Layout.{EntryFits, SubgroupFits, is_lc3}
+use Rattle.base_grammar.proofs.Prelude.{sym, ◌==◌, EntryFits, SubgroupFits, is_lc3}
 use Rattle.base_grammar.proofs.Places.{fits_at, found_fits}
 use Rattle.base_grammar.proofs.effective.effective_in.Goals as goal
 

@@ -1,5 +1,4 @@
-use Rattle.std.proofs.Common.{◌≡◌, drop}
-use Rattle.base_grammar.specs.Effective.{effective_from}
+use Rattle.base_grammar.proofs.Prelude.{◌≡◌, drop, effective_from}
 use Rattle.base_grammar.proofs.effective.effective_in.Given as goal
 
 abbrev pub invariant-loop-place : goal.invariant-loop-place

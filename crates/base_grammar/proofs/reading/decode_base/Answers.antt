@@ -1,6 +1,4 @@
-use Rattle.std.proofs.Common.{arith, subst}
-use Rattle.bcast_base.specs.Tries.{Answers}
-use Rattle.base_grammar.specs.Reading.{told}
+use Rattle.base_grammar.proofs.Prelude.{arith, subst, Answers, told}
 use Rattle.base_grammar.proofs.Again.{base_again, found_base}
 use Rattle.base_grammar.proofs.Firsts.{found_fault}
 use Rattle.base_grammar.proofs.reading.decode_base.Goals as goal

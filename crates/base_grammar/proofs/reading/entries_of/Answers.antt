@@ -1,4 +1,4 @@
-use Rattle.base_grammar.specs.Layout.{indices}
+use Rattle.base_grammar.proofs.Prelude.{indices}
 use Rattle.base_grammar.proofs.Loops.{entering_next, entering_failed, entering_done}
 use Rattle.base_grammar.proofs.reading.entries_of.Goals as goal
 

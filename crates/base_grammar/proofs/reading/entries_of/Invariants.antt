@@ -1,4 +1,4 @@
-use Rattle.base_grammar.specs.Layout.{indices}
+use Rattle.base_grammar.proofs.Prelude.{indices}
 use Rattle.base_grammar.proofs.Loops.{Entering}
 use Rattle.base_grammar.proofs.reading.entries_of.Given as goal
 

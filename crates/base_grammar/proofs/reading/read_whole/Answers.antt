@@ -1,5 +1,4 @@
-use Rattle.std.proofs.Common.{arith}
-use Rattle.base_grammar.specs.Layout.{endpoint}
+use Rattle.base_grammar.proofs.Prelude.{arith, endpoint}
 use Rattle.base_grammar.proofs.Again.{base_takes}
 use Rattle.base_grammar.proofs.reading.read_whole.Goals as goal
 

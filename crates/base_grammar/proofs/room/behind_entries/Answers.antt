@@ -1,4 +1,4 @@
-use Rattle.base_grammar.specs.Layout.{entry}
+use Rattle.base_grammar.proofs.Prelude.{entry}
 use Rattle.base_grammar.proofs.Sizes.{no_room, none_if}
 use Rattle.base_grammar.proofs.room.behind_entries.Goals as goal
 

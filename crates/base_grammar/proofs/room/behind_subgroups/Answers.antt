@@ -1,4 +1,4 @@
-use Rattle.base_grammar.specs.Layout.{subgroup}
+use Rattle.base_grammar.proofs.Prelude.{subgroup}
 use Rattle.base_grammar.proofs.Sizes.{no_room, none_if}
 use Rattle.base_grammar.proofs.room.behind_subgroups.Goals as goal
 

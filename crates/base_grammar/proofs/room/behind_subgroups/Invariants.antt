@@ -1,6 +1,4 @@
-use Rattle.std.proofs.Common.{◌≡◌, ◌+◌, length, take}
-use Rattle.std.specs.List.{flat_map}
-use Rattle.base_grammar.specs.Layout.{subgroup}
+use Rattle.base_grammar.proofs.Prelude.{◌≡◌, ◌+◌, length, take, flat_map, subgroup}
 use Rattle.base_grammar.proofs.room.behind_subgroups.Given as goal
 
 abbrev pub invariant-loop-subgroup : goal.invariant-loop-subgroup

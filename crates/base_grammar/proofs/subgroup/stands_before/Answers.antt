@@ -1,4 +1,4 @@
-use Rattle.std.proofs.Common.{◌||◌, ◌∙◌, ap, sym, Bool}
+use Rattle.base_grammar.proofs.Prelude.{◌||◌, ◌∙◌, ap, sym, Bool}
 use Rattle.base_grammar.proofs.Indices.{in_entries, stands-both}
 use Rattle.base_grammar.proofs.subgroup.stands_before.Goals as goal
 

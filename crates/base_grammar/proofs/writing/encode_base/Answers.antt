@@ -1,5 +1,4 @@
-use Rattle.std.proofs.Common.{arith}
-use Rattle.base_grammar.specs.Layout.{subgroup}
+use Rattle.base_grammar.proofs.Prelude.{arith, subgroup}
 use Rattle.base_grammar.proofs.Sizes.{length-encoding, subgroups_few, item_small}
 use Rattle.base_grammar.proofs.writing.encode_base.Goals as goal
 

@@ -1,7 +1,4 @@
-use Rattle.std.proofs.Common.{◌≡◌, ◌++◌, ◌∷◌, [], length, take}
-use Rattle.std.specs.List.{flat_map}
-use Rattle.bcast_base.specs.Encoding.{number}
-use Rattle.base_grammar.specs.Layout.{subgroup}
+use Rattle.base_grammar.proofs.Prelude.{◌≡◌, ◌++◌, ◌∷◌, [], length, take, flat_map, number, subgroup}
 use Rattle.base_grammar.proofs.writing.encode_base.Given as goal
 
 abbrev pub invariant-loop-subgroup : goal.invariant-loop-subgroup

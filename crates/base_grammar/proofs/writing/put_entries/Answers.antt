@@ -1,5 +1,4 @@
-use Rattle.std.proofs.Common.{arith, ◌≤◌, length}
-use Rattle.base_grammar.specs.Layout.{entry}
+use Rattle.base_grammar.proofs.Prelude.{arith, ◌≤◌, length, entry}
 use Rattle.base_grammar.proofs.Sizes.{item_small}
 use Rattle.base_grammar.proofs.writing.put_entries.Goals as goal
 

@@ -1,4 +1,4 @@
-use Rattle.std.proofs.Common.{arith}
+use Rattle.base_grammar.proofs.Prelude.{arith}
 use Rattle.base_grammar.proofs.Sizes.{length-subgroup, entries_few}
 use Rattle.base_grammar.proofs.writing.put_subgroup.Goals as goal
 

@@ -1,6 +1,4 @@
-use Rattle.std.proofs.Common.{arith, subst}
-use Rattle.bcast_base.specs.Tries.{Answers}
-use Rattle.bass_operations.specs.Reading.{told}
+use Rattle.bass_operations.proofs.Prelude.{arith, subst, Answers, told}
 use Rattle.bass_operations.proofs.Causes.{gave_operation, gave_metadata, gave_fault}
 use Rattle.bass_operations.proofs.Judged.{is_read}
 use Rattle.bass_operations.proofs.reading.decode_operation.Goals as goal

@@ -1,5 +1,4 @@
-use Rattle.std.proofs.Common.{arith, sym, ◌∙◌}
-use Rattle.std.proofs.lemmas.Result.{err_from_is_err_and}
+use Rattle.bass_operations.proofs.Prelude.{arith, sym, ◌∙◌, err_from_is_err_and}
 use Rattle.bass_operations.proofs.Read.{add_no_head, add_no_wishes, add_head_fault, add_wishes_fault, add_is_operation, add_wants, add_done, add_tail}
 use Rattle.bass_operations.proofs.reading.read_add.Goals as goal
 

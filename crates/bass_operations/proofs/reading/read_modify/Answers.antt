@@ -1,5 +1,4 @@
-use Rattle.std.proofs.Common.{arith, sym, ◌∙◌}
-use Rattle.std.proofs.lemmas.Result.{err_from_is_err_and}
+use Rattle.bass_operations.proofs.Prelude.{arith, sym, ◌∙◌, err_from_is_err_and}
 use Rattle.bass_operations.proofs.Read.{modify_no_head, modify_no_wishes, modify_head_fault, modify_wishes_fault, modify_is_operation, modify_wants, modify_done, modify_tail, reserved, unreserved}
 use Rattle.bass_operations.proofs.reading.read_modify.Goals as goal
 

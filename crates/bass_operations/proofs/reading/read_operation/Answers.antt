@@ -1,4 +1,4 @@
-use Rattle.std.proofs.Common.{sym, ◌∙◌}
+use Rattle.bass_operations.proofs.Prelude.{sym, ◌∙◌}
 use Rattle.bass_operations.proofs.Opcodes.{stopped, started, code_given, remove_given}
 use Rattle.bass_operations.proofs.reading.read_operation.Goals as goal
 

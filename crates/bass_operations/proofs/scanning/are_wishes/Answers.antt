@@ -1,5 +1,4 @@
-use Rattle.std.proofs.Common.{◌∙◌}
-use Rattle.bcast_base.specs.Subgroups.{Subgroup}
+use Rattle.bass_operations.proofs.Prelude.{◌∙◌, Subgroup}
 use Rattle.bass_operations.proofs.Loops.{are_next, are_short, are_end}
 use Rattle.bass_operations.proofs.scanning.are_wishes.Goals as goal
 

@@ -1,4 +1,4 @@
-use Rattle.std.proofs.Common.{◌≡◌, ◌-◌, is_some}
+use Rattle.bass_operations.proofs.Prelude.{◌≡◌, ◌-◌, is_some}
 use Rattle.bass_operations.specs.Reading.{wishes_in}
 use Rattle.bass_operations.proofs.scanning.are_wishes.Given as goal
 

@@ -1,4 +1,4 @@
-use Rattle.std.proofs.Common.{◌-◌, ◌+◌, arith}
+use Rattle.bass_operations.proofs.Prelude.{◌-◌, ◌+◌, arith}
 use Rattle.bass_operations.proofs.Loops.{twice_few, twice_here, twice_next, twice_end}
 use Rattle.bass_operations.proofs.scanning.named_twice.Goals as goal
 

@@ -1,7 +1,4 @@
-use Rattle.std.proofs.Common.{◌≡◌, ◌++◌, ◌∷◌, [], arith}
-use Rattle.std.proofs.lemmas.List.{length-append}
-use Rattle.bcast_base.specs.Subgroups.{Subgroup}
-use Rattle.bass_operations.specs.Reading.{wish_of}
+use Rattle.bass_operations.proofs.Prelude.{◌≡◌, ◌++◌, ◌∷◌, [], arith, length-append, Subgroup, wish_of}
 use Rattle.bass_operations.proofs.Loops.{read_next, read_never, read_end}
 use Rattle.bass_operations.proofs.scanning.read_wishes.Goals as goal
 

@@ -1,4 +1,4 @@
-use Rattle.std.proofs.Common.{◌≡◌, ◌-◌, length}
+use Rattle.bass_operations.proofs.Prelude.{◌≡◌, ◌-◌, length}
 use Rattle.bass_operations.specs.Reading.{wishes_in}
 use Rattle.bass_operations.proofs.Loops.{with_prefix}
 use Rattle.bass_operations.proofs.scanning.read_wishes.Given as goal

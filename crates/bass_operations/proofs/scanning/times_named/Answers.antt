@@ -1,5 +1,4 @@
-use Rattle.std.proofs.Common.{arith, sym, ◌∙◌, true, false}
-use Rattle.bcast_base.specs.Subgroups.{Subgroup}
+use Rattle.bass_operations.proofs.Prelude.{arith, sym, ◌∙◌, true, false, Subgroup}
 use Rattle.bass_operations.proofs.Loops.{named_next, named_short, named_end}
 use Rattle.bass_operations.proofs.scanning.times_named.Goals as goal
 use Rattle.bass_operations.proofs.scanning.times_named.Goals.{then-names, else-names}

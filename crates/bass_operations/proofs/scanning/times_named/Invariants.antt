@@ -1,4 +1,4 @@
-use Rattle.std.proofs.Common.{◌≡◌, ◌+◌, ◌-◌, ◌≤◌}
+use Rattle.bass_operations.proofs.Prelude.{◌≡◌, ◌+◌, ◌-◌, ◌≤◌}
 use Rattle.bass_operations.specs.Scanning.{named_in}
 use Rattle.bass_operations.proofs.scanning.times_named.Given as goal
 

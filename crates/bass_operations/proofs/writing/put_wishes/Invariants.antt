@@ -1,6 +1,4 @@
-use Rattle.std.proofs.Common.{◌≡◌, ◌++◌, ◌<◌, ◌^◌, take}
-use Rattle.std.specs.List.{flat_map, AllByRecursion}
-use Rattle.bcast_base.specs.Layout.{laid}
+use Rattle.bass_operations.proofs.Prelude.{◌≡◌, ◌++◌, ◌<◌, ◌^◌, take, flat_map, AllByRecursion, laid}
 use Rattle.bass_operations.proofs.Encoded.{wish_fields}
 use Rattle.bass_operations.proofs.writing.put_wishes.Given as goal
 

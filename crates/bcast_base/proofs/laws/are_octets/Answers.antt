@@ -1,4 +1,4 @@
-use Rattle.std.proofs.Common.{arith}
+use Rattle.bcast_base.proofs.Prelude.{arith}
 use Rattle.bcast_base.proofs.laws.are_octets.Goals as goal
 
 pub returns : goal.returns

@@ -1,4 +1,4 @@
-use Rattle.std.proofs.Common.{◌<◌, ◌+◌, ◌*◌, ◌-◌, length, arith, ap, ◌∙◌}
+use Rattle.bcast_base.proofs.Prelude.{◌<◌, ◌+◌, ◌*◌, ◌-◌, length, arith, ap, ◌∙◌}
 use Rattle.bcast_base.proofs.Places.{one_more_read, small_read, fits_read}
 use Rattle.bcast_base.proofs.numbers.read_le.Goals as goal
 

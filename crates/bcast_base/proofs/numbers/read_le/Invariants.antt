@@ -1,5 +1,4 @@
-use Rattle.std.proofs.Common.{◌≡◌, ◌<◌, ◌-◌, ◌*◌, ◌^◌, length, drop}
-use Rattle.bcast_base.specs.Numbers.{sum_from}
+use Rattle.bcast_base.proofs.Prelude.{◌≡◌, ◌<◌, ◌-◌, ◌*◌, ◌^◌, length, drop, sum_from}
 use Rattle.bcast_base.proofs.numbers.read_le.Given as goal
 
 -- the last octets are read, as many as there were turns

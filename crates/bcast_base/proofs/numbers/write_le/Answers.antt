@@ -1,4 +1,4 @@
-use Rattle.std.proofs.Common.{◌<◌, length, bit_and, arith}
+use Rattle.bcast_base.proofs.Prelude.{◌<◌, length, bit_and, arith}
 use Rattle.bcast_base.proofs.Places.{one_more_written, same_length_rest}
 use Rattle.bcast_base.proofs.numbers.write_le.Goals as goal
 

@@ -1,5 +1,4 @@
-use Rattle.std.proofs.Common.{◌≡◌, ◌<◌, ◌-◌, ◌*◌, ◌^◌, ◌+◌, length, take}
-use Rattle.bcast_base.specs.Numbers.{sum_from}
+use Rattle.bcast_base.proofs.Prelude.{◌≡◌, ◌<◌, ◌-◌, ◌*◌, ◌^◌, ◌+◌, length, take, sum_from}
 use Rattle.bcast_base.proofs.numbers.write_le.Given as goal
 
 -- the first octets are written, and what is left stands above them

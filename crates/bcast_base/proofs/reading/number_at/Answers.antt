@@ -1,4 +1,4 @@
-use Rattle.std.proofs.Common.{arith}
+use Rattle.bcast_base.proofs.Prelude.{arith}
 use Rattle.bcast_base.proofs.Fields.{octets_below}
 use Rattle.bcast_base.proofs.reading.number_at.Goals as goal
 

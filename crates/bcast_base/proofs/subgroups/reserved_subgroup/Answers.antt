@@ -1,5 +1,4 @@
-use Rattle.std.proofs.Common.{arith, ◌∙◌, sym}
-use Rattle.bcast_base.specs.Subgroups.{Subgroup}
+use Rattle.bcast_base.proofs.Prelude.{arith, ◌∙◌, sym, Subgroup}
 use Rattle.bcast_base.proofs.Groups.{unreserved_next, reserved_here, unreserved_short, unreserved_end, subgroup_shorter}
 use Rattle.bcast_base.proofs.subgroups.reserved_subgroup.Goals as goal
 

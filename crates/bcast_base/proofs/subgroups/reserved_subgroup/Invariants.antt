@@ -1,4 +1,4 @@
-use Rattle.std.proofs.Common.{◌≡◌, ◌≤◌, ◌-◌, length}
+use Rattle.bcast_base.proofs.Prelude.{◌≡◌, ◌≤◌, ◌-◌, length}
 use Rattle.bcast_base.specs.Subgroups.{reserved_in}
 use Rattle.bcast_base.proofs.subgroups.reserved_subgroup.Given as goal
 

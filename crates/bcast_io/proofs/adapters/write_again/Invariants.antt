@@ -1,4 +1,4 @@
-use Rattle.std.specs.Io.KnownBytes.{Keeps}
+use Rattle.bcast_io.proofs.Prelude.{Keeps}
 use Rattle.bcast_io.proofs.adapters.write_again.Given as goal
 
 abbrev pub invariant-turns : goal.invariant-turns

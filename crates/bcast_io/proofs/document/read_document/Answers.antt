@@ -1,4 +1,4 @@
-use Rattle.std.proofs.Common.{length, ap, arith}
+use Rattle.bcast_io.proofs.Prelude.{length, ap, arith}
 use Rattle.bcast_io.proofs.Readings.{part_read, reads_at}
 use Rattle.bcast_io.proofs.document.read_document.Goals as goal
 

@@ -1,6 +1,4 @@
-use Rattle.std.proofs.Common.{◌≡◌, ◌≤◌, ◌+◌, ◌-◌, length}
-use Rattle.std.specs.Io.KnownBytes.{Consumes}
-use Rattle.bcast_io.specs.Documents.{document_limit}
+use Rattle.bcast_io.proofs.Prelude.{◌≡◌, ◌≤◌, ◌+◌, ◌-◌, length, Consumes, document_limit}
 use Rattle.bcast_io.proofs.document.read_document.Given as goal
 
 abbrev pub invariant-pieces : goal.invariant-pieces

@@ -1,6 +1,5 @@
-use Rattle.std.proofs.Common.{rules}
+use Rattle.bcast_io.proofs.Prelude.{rules, take_rest}
 use Rattle.std.proofs.lemmas.Result.{err_from_is_err_and}
-use Rattle.std.proofs.lemmas.List.{take_rest}
 use Rattle.bcast_io.proofs.Transfers.{Appends-kept, Appends-more, AppendsPrefix-cut, AppendsShort-cut}
 use Rattle.bcast_io.proofs.whole.write_whole.Goals as goal
 

@@ -1,4 +1,4 @@
-use Rattle.std.proofs.Common.{◌∙◌}
+use Rattle.big_info.proofs.Prelude.{◌∙◌}
 use Rattle.big_info.proofs.Cuts.{is_exact, info_read}
 use Rattle.big_info.proofs.decode.decode_big_info.Goals as goal
 

@@ -1,4 +1,4 @@
-use Rattle.std.proofs.Common.{arith}
+use Rattle.big_info.proofs.Prelude.{arith}
 use Rattle.big_info.proofs.Sums.{sum_from-more}
 use Rattle.big_info.proofs.Words.{interval, counts, time, unit, channels, payloads}
 use Rattle.big_info.proofs.decode.read_fields.Goals as goal

@@ -1,7 +1,4 @@
-use Rattle.std.proofs.Common.{◌≡◌, ◌≤◌, ◌-◌, ℕ, List, length, take, drop, arith, subst, sym, Option, Some, slice_index}
-use Rattle.std.proofs.lemmas.List.{drop_all, take_all, length-drop}
-use Rattle.big_info.specs.declared.info.Cipher.{Cipher}
-use Rattle.big_info.specs.Layout.{CipherIs}
+use Rattle.big_info.proofs.Prelude.{◌≡◌, ◌≤◌, ◌-◌, ℕ, List, length, take, drop, arith, subst, sym, Option, Some, slice_index, drop_all, take_all, length-drop, Cipher, CipherIs}
 use Rattle.big_info.proofs.decode.read_info.Goals as goal
 use Rattle.big_info.proofs.decode.read_info.Goals.{in-33, in-57}
 

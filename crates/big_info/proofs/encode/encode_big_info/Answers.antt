@@ -1,7 +1,4 @@
-use Rattle.std.proofs.Common.{◌≡◌, ℕ, List, length, take, drop, arith, ◌∙◌, subst, sym, length-take}
-use Rattle.std.proofs.lemmas.List.{drop_all, take_all}
-use Rattle.bcast_base.specs.Numbers.{Le}
-use Rattle.big_info.specs.Layout.{Encodes, CipherIs, number_of}
+use Rattle.big_info.proofs.Prelude.{◌≡◌, ℕ, List, length, take, drop, arith, ◌∙◌, subst, sym, length-take, drop_all, take_all, Le, Encodes, CipherIs, number_of}
 use Rattle.big_info.proofs.encode.encode_big_info.Goals as goal
 
 pub returns-in-None-clause-layout : goal.returns-in-None-clause-layout

@@ -1,6 +1,4 @@
-use Rattle.std.proofs.Common.{◌≡◌, ◌≤◌, length, arith, ◌∙◌, sym}
-use Rattle.std.proofs.lemmas.Slice.{take-put_mid_below}
-use borrow.Rule.Slice.PartMut.{put_mid}
+use Rattle.big_info.proofs.Prelude.{◌≡◌, ◌≤◌, length, arith, ◌∙◌, sym, take-put_mid_below, put_mid}
 use Rattle.big_info.proofs.Ciphers.{cipher_behind, long_before}
 use Rattle.big_info.proofs.encode.write_cipher.Goals as goal
 

@@ -1,4 +1,4 @@
-use Rattle.std.proofs.Common.{arith, ◌∙◌}
+use Rattle.big_info.proofs.Prelude.{arith, ◌∙◌}
 use Rattle.big_info.proofs.Ciphers.{drop_later}
 use Rattle.big_info.proofs.encode.write_fields.Goals as goal
 

@@ -1,7 +1,6 @@
-use Rattle.std.proofs.Common.{refl}
+use Rattle.big_info.proofs.Prelude.{refl, NoFault}
 use Rattle.big_info.proofs.BoundsOf.{bounds_of}
 use Rattle.big_info.proofs.Order.{first_found, none_found, no_fault_within}
-use Rattle.big_info.specs.Rows.{NoFault}
 use Rattle.big_info.proofs.group.check_group_within.Goals as goal
 
 -- No fault holds within the limits, so none within the widest, and the numbers keep to their bounds.

@@ -1,4 +1,4 @@
-use Rattle.std.proofs.Common.{arith}
+use Rattle.big_info.proofs.Prelude.{arith}
 use Rattle.big_info.proofs.Order.{no_fault}
 use Rattle.big_info.proofs.group.first.Goals as goal
 

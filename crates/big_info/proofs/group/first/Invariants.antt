@@ -1,5 +1,4 @@
-use Rattle.std.proofs.Common.{◌≡◌}
-use Rattle.big_info.specs.Faults.{faults}
+use Rattle.big_info.proofs.Prelude.{◌≡◌, faults}
 use Rattle.big_info.proofs.Order.{NoneOfFirst}
 use Rattle.big_info.proofs.group.first.Given as goal
 

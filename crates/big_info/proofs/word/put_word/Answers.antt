@@ -1,6 +1,4 @@
-use Rattle.std.proofs.Common.{◌≡◌, ◌≤◌, ◌+◌, ◌-◌, ◌*◌, ◌^◌, length, take, drop, arith, ◌∙◌, sym, ap, ℕ, length-take-le, length-take}
-use Rattle.std.proofs.lemmas.Slice.{take-put_mid, drop-put_mid}
-use Rattle.bcast_base.specs.Numbers.{sum_from}
+use Rattle.big_info.proofs.Prelude.{◌≡◌, ◌≤◌, ◌+◌, ◌-◌, ◌*◌, ◌^◌, length, take, drop, arith, ◌∙◌, sym, ap, ℕ, length-take-le, length-take, take-put_mid, drop-put_mid, sum_from}
 use Rattle.big_info.proofs.Sums.{sum_from-join}
 use Rattle.big_info.proofs.word.put_word.Goals as goal
 

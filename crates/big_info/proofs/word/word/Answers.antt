@@ -1,5 +1,4 @@
-use Rattle.std.proofs.Common.{◌≡◌, ◌≤◌, ◌<◌, ◌+◌, ◌-◌, ◌*◌, ◌^◌, take, drop, arith, ◌∙◌, sym, ap, ℕ, subst, length}
-use Rattle.bcast_base.specs.Numbers.{sum_from}
+use Rattle.big_info.proofs.Prelude.{◌≡◌, ◌≤◌, ◌<◌, ◌+◌, ◌-◌, ◌*◌, ◌^◌, take, drop, arith, ◌∙◌, sym, ap, ℕ, subst, length, sum_from}
 use Rattle.big_info.proofs.Sums.{sum_from-word, sum_from-part}
 use Rattle.big_info.proofs.word.word.Goals as goal
 

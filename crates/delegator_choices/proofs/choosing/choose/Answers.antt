@@ -1,6 +1,4 @@
-use Rattle.std.proofs.Common.{◌+◌, ◌<◌, ◌^◌, ℕ, List, take, sym, subst, refl, arith}
-use Rattle.std.proofs.lemmas.Nat.{pow_pos}
-use Rattle.delegator_history.specs.Trains.{candidates}
+use Rattle.delegator_choices.proofs.Prelude.{◌+◌, ◌<◌, ◌^◌, ℕ, List, take, sym, subst, refl, arith, pow_pos, candidates}
 use Rattle.delegator_choices.proofs.Candidates.{candidates_next, candidates_of, candidates_small, left_at, part_of, past_subgroups, past_wishes}
 use Rattle.delegator_choices.proofs.Taken.{chooses_next, set_below, taken_below}
 use Rattle.delegator_choices.proofs.choosing.choose.Goals as goal

@@ -1,6 +1,4 @@
-use Rattle.std.proofs.Common.{◌∙◌}
-use Rattle.std.specs.Prelude.{◌==◌}
-use Rattle.std.specs.List.{list_any}
+use Rattle.delegator_choices.proofs.Prelude.{◌∙◌, ◌==◌, list_any}
 use Rattle.delegator_choices.proofs.Candidates.{entry_stands}
 use Rattle.delegator_choices.proofs.choosing.has_stream.Goals as goal
 

@@ -1,5 +1,4 @@
-use Rattle.std.proofs.Common.{◌≡◌, ◌+◌, ◌∙◌, Bool, true, false, List, ℕ, ap, sym, subst, arith}
-use Rattle.delegator_choices.specs.State.Choices.{Leads, is_chosen, left_of, with_one}
+use Rattle.delegator_choices.proofs.Prelude.{◌≡◌, ◌+◌, ◌∙◌, Bool, true, false, List, ℕ, ap, sym, subst, arith, Leads, is_chosen, left_of, with_one}
 use Rattle.delegator_choices.proofs.Taken.{leads_with, left_no, left_yes}
 use Rattle.delegator_choices.proofs.choosing.take_index.Goals as goal
 

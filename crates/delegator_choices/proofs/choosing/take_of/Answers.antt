@@ -1,5 +1,4 @@
-use Rattle.std.proofs.Common.{List, ℕ, subst, arith}
-use Rattle.delegator_choices.specs.State.Choices.{Leads, chosen_of}
+use Rattle.delegator_choices.proofs.Prelude.{List, ℕ, subst, arith, Leads, chosen_of}
 use Rattle.delegator_choices.proofs.Candidates.{left_none}
 use Rattle.delegator_choices.proofs.Taken.{leads_end}
 use Rattle.delegator_choices.proofs.choosing.take_of.Goals as goal

@@ -1,5 +1,4 @@
-use Rattle.std.proofs.Common.{◌≤◌}
-use Rattle.delegator_choices.specs.State.Choices.{Leads, chosen_of, left_of}
+use Rattle.delegator_choices.proofs.Prelude.{◌≤◌, Leads, chosen_of, left_of}
 use Rattle.delegator_choices.proofs.choosing.take_of.Given as goal
 
 abbrev pub invariant-indices : goal.invariant-indices

@@ -1,5 +1,4 @@
-use Rattle.std.proofs.Common.{◌≡◌, drop}
-use Rattle.delegator_history.specs.Writes.{slot_where}
+use Rattle.delegator_choices.proofs.Prelude.{◌≡◌, drop, slot_where}
 use Rattle.delegator_choices.specs.State.Slots.{meets}
 use Rattle.delegator_choices.proofs.search.find_in.Given as goal
 

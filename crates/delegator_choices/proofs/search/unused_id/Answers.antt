@@ -1,4 +1,4 @@
-use Rattle.std.proofs.Common.{◌≡◌, ◌∙◌, sym, arith}
+use Rattle.delegator_choices.proofs.Prelude.{◌≡◌, ◌∙◌, sym, arith}
 use Rattle.delegator_choices.proofs.Slots.{unused_free, unused_last, unused_used}
 use Rattle.delegator_choices.proofs.search.unused_id.Goals as goal
 

@@ -1,5 +1,5 @@
-use Rattle.std.proofs.Common.{◌≡◌, ◌-◌}
-use Rattle.delegator_history.specs.Writes.{least_unused, unused_from}
+use Rattle.delegator_choices.proofs.Prelude.{◌≡◌, ◌-◌, least_unused}
+use Rattle.delegator_history.specs.Writes.{unused_from}
 use Rattle.delegator_choices.proofs.search.unused_id.Given as goal
 
 abbrev pub invariant-ids : goal.invariant-ids

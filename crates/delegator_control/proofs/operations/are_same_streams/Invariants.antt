@@ -1,5 +1,4 @@
-use Rattle.std.proofs.Common.{◌≡◌, drop}
-use Rattle.delegator_history.specs.Steps.{same_streams}
+use Rattle.delegator_control.proofs.Prelude.{◌≡◌, drop, same_streams}
 use Rattle.delegator_control.proofs.operations.are_same_streams.Given as goal
 
 abbrev pub invariant-wishes : goal.invariant-wishes

@@ -1,8 +1,6 @@
-use Rattle.std.proofs.Common.{◌≡◌, ◌-◌, ◌++◌, ◌∙◌, List, Some, length, slice_get, suc, true, false, ap, sym, subst, arith}
-use Rattle.std.specs.Prelude.{not}
+use Rattle.delegator_control.proofs.Prelude.{◌≡◌, ◌-◌, ◌++◌, ◌∙◌, List, Some, length, slice_get, suc, true, false, ap, sym, subst, arith, not, Wish}
 use Rattle.std.proofs.lemmas.Slice.Eq.{ends_is}
 use Rattle.std.proofs.lemmas.Bool.Decides.{Decides-eqb}
-use Rattle.bass_operations.specs.declared.wishes.Wish.{Wish}
 use Rattle.delegator_control.proofs.Encoded.{ends_so}
 use Rattle.delegator_control.proofs.values.ends_otherwise.Goals as goal
 

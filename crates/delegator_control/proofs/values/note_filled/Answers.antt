@@ -1,6 +1,4 @@
-use Rattle.std.proofs.Common.{◌++◌, ◌∙◌, ap, sym}
-use Rattle.std.proofs.lemmas.Result.{on_ok_weaker}
-use Rattle.delegator_control.specs.State.Statuses.{status_seen}
+use Rattle.delegator_control.proofs.Prelude.{◌++◌, ◌∙◌, ap, sym, on_ok_weaker, status_seen}
 use Rattle.delegator_control.proofs.Apart.{one, synced_anew}
 use Rattle.delegator_control.proofs.values.note_filled.Goals as goal
 

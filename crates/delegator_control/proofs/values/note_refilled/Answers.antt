@@ -1,8 +1,4 @@
-use Rattle.std.proofs.Common.{◌++◌, ◌∙◌, ap, sym}
-use Rattle.std.proofs.lemmas.Result.{on_ok_weaker}
-use Rattle.receive_state.specs.Layout.{encoding}
-use Rattle.delegator_history.specs.Values.{received}
-use Rattle.delegator_control.specs.State.Statuses.{status_seen}
+use Rattle.delegator_control.proofs.Prelude.{◌++◌, ◌∙◌, ap, sym, on_ok_weaker, encoding, received, status_seen}
 use Rattle.delegator_control.proofs.Apart.{told}
 use Rattle.delegator_control.proofs.values.note_refilled.Goals as goal
 

@@ -1,6 +1,4 @@
-use Rattle.std.proofs.Common.{◌+◌, ◌++◌, ◌<◌, ◌∙◌, ap, sym, subst, drop, length, append_assoc}
-use Rattle.bcast_base.specs.Subgroups.{subgroup}
-use Rattle.delegator_control.specs.State.Statuses.{groups_laid}
+use Rattle.delegator_control.proofs.Prelude.{◌+◌, ◌++◌, ◌<◌, ◌∙◌, ap, sym, subst, drop, length, append_assoc, subgroup, groups_laid}
 use Rattle.delegator_control.proofs.Encoded.{metadata_at, one_laid}
 use Rattle.delegator_control.proofs.values.put_group.Goals as goal
 

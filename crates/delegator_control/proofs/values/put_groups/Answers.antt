@@ -1,4 +1,4 @@
-use Rattle.std.proofs.Common.{◌∙◌}
+use Rattle.delegator_control.proofs.Prelude.{◌∙◌}
 use Rattle.delegator_control.proofs.values.put_groups.Goals as goal
 
 pub subgroups-preserved : goal.subgroups-preserved

@@ -1,5 +1,4 @@
-use Rattle.std.proofs.Common.{◌≡◌, ◌++◌, drop}
-use Rattle.delegator_control.specs.State.Statuses.{groups_laid}
+use Rattle.delegator_control.proofs.Prelude.{◌≡◌, ◌++◌, drop, groups_laid}
 use Rattle.delegator_control.proofs.values.put_groups.Given as goal
 
 abbrev pub invariant-subgroups : goal.invariant-subgroups

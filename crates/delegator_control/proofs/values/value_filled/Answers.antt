@@ -1,8 +1,4 @@
-use Rattle.std.proofs.Common.{◌≡◌, ◌++◌, ◌∙◌, ap, length}
-use Rattle.bcast_base.specs.Layout.{laid}
-use Rattle.receive_state.specs.Layout.{fields_of, prefix_fields}
-use Rattle.delegator_history.specs.Values.{received}
-use Rattle.delegator_control.specs.State.Statuses.{groups_laid, status_seen}
+use Rattle.delegator_control.proofs.Prelude.{◌≡◌, ◌++◌, ◌∙◌, ap, length, laid, fields_of, prefix_fields, received, groups_laid, status_seen}
 use Rattle.delegator_control.proofs.Encoded.{in_two}
 use Rattle.delegator_control.proofs.values.value_filled.Goals as goal
 

@@ -1,6 +1,4 @@
-use Rattle.std.proofs.Common.{ap}
-use Rattle.delegator_history.specs.Announced.{heard_as}
-use Rattle.delegator_history.specs.Trains.{big_sync_in}
+use Rattle.delegator_history.proofs.Prelude.{ap, heard_as, big_sync_in}
 use Rattle.delegator_history.proofs.TrainOutcome.{what_is_carried}
 use Rattle.delegator_history.proofs.BigSyncs.{on_its_group}
 use Rattle.delegator_history.proofs.announced_laws.a_sink_is_put_where_its_source_is.Goals as goal

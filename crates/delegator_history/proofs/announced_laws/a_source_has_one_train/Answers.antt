@@ -1,4 +1,4 @@
-use Rattle.std.proofs.Common.{refl}
+use Rattle.delegator_history.proofs.Prelude.{refl}
 use Rattle.bcast_base.specs.Encoding.{number}
 use Rattle.delegator_history.proofs.Octets.{train_is, train_only}
 use Rattle.delegator_history.proofs.announced_laws.a_source_has_one_train.Goals as goal

@@ -1,4 +1,4 @@
-use Rattle.delegator_history.specs.Snapshots.{entry_at}
+use Rattle.delegator_history.proofs.Prelude.{entry_at}
 use Rattle.delegator_history.proofs.Bits.{bits_on}
 use Rattle.delegator_history.proofs.laws.bits_stand_on_the_group.Goals as goal
 

@@ -1,6 +1,5 @@
-use Rattle.std.proofs.Common.{◌∙◌, sym}
+use Rattle.delegator_machine.proofs.Prelude.{◌∙◌, sym, fresh_on}
 use Rattle.std.proofs.lemmas.Option.{same_Some}
-use Rattle.group_sink.specs.State.Steps.{fresh_on}
 use Rattle.delegator_machine.proofs.train.join.Goals as goal
 
 pub returns-in-Some-clause-some : goal.returns-in-Some-clause-some

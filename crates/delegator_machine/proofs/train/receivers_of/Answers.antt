@@ -1,7 +1,4 @@
-use Rattle.std.proofs.Common.{Some, ap, ◌∙◌, option_copied, option_map, sym}
-use Rattle.sync_reference.specs.BigSync.{BigSync}
-use Rattle.group_sink.specs.State.Steps.{fresh_on}
-use Rattle.delegator_machine.specs.Groups.{by_numbers}
+use Rattle.delegator_machine.proofs.Prelude.{Some, ap, ◌∙◌, option_copied, option_map, sym, BigSync, fresh_on, by_numbers}
 use Rattle.delegator_machine.proofs.train.receivers_of.Goals as goal
 
 pub returns-clause-made : goal.returns-clause-made

@@ -1,4 +1,4 @@
-use Rattle.explain_command.specs.Rows.{told_at}
+use Rattle.explain_command.proofs.Prelude.{told_at}
 use Rattle.explain_command.proofs.Telling.{keeps_then}
 use Rattle.explain_command.proofs.document.refuse.Goals as goal
 

@@ -1,4 +1,4 @@
-use Rattle.explain_command.specs.Rows.{lines_at, told_at}
+use Rattle.explain_command.proofs.Prelude.{lines_at, told_at}
 use Rattle.explain_command.proofs.explain.explain.Goals as goal
 
 pub returns-clause-told : goal.returns-clause-told

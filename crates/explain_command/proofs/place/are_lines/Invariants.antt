@@ -1,6 +1,4 @@
-use Rattle.std.proofs.Common.{◌≡◌, ◌++◌, drop, take}
-use Rattle.explain_command.specs.declared.place.Place.TheVariants.{Start}
-use Rattle.explain_command.specs.Rows.{lines_told}
+use Rattle.explain_command.proofs.Prelude.{◌≡◌, ◌++◌, drop, take, Start, lines_told}
 use Rattle.explain_command.proofs.place.are_lines.Given as goal
 
 abbrev pub invariant-loop-octet : goal.invariant-loop-octet

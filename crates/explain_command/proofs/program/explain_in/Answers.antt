@@ -1,7 +1,4 @@
-use Rattle.std.proofs.Common.{map, refl, sym, subst}
-use Rattle.explain_command.specs.Rows.{lines_at}
-use Rattle.explain_command.specs.Told.{told_world}
-use Rattle.explain_command.specs.ToldIn.{ToldIn}
+use Rattle.explain_command.proofs.Prelude.{map, refl, sym, subst, lines_at, told_world, ToldIn}
 use Rattle.explain_command.specs.declared.program.Form.{Form}
 use Rattle.explain_command.specs.declared.status.Status.TheVariants.{Ended}
 use Rattle.explain_command.proofs.program.explain_in.Goals as goal

@@ -1,11 +1,6 @@
+use Rattle.explain_command.proofs.Prelude.{◌≡◌, ◌∷◌, ◌++◌, ◌∙◌, List, [], true, None, ap, map, refl, replicate, subst, arith, map-append, replicate_more, Account, fresh, lines_at, told_world, ToldIn}
 use denote.Param.Object.{read_made}
-use Rattle.std.proofs.Common.{◌≡◌, ◌∷◌, ◌++◌, ◌∙◌, List, [], true, None, ap, map, refl, replicate, subst, arith}
-use Rattle.std.proofs.lemmas.List.{map-append, replicate_more}
-use Rattle.unit_outlets.specs.Account.{Account, fresh}
 use Rattle.explain_command.specs.Boxes.{fresh_boxes}
-use Rattle.explain_command.specs.Rows.{lines_at}
-use Rattle.explain_command.specs.Told.{told_world}
-use Rattle.explain_command.specs.ToldIn.{ToldIn}
 use Rattle.explain_command.proofs.program.explain_with_tallies.OwnLists.{own-1, at-1-1}
 use Rattle.explain_command.proofs.program.explain_with_tallies.Goals as goal
 

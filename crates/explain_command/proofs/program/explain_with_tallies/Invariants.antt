@@ -1,5 +1,4 @@
-use Rattle.std.proofs.Common.{◌≡◌, true, None, map, replicate}
-use Rattle.unit_outlets.specs.Account.{fresh}
+use Rattle.explain_command.proofs.Prelude.{◌≡◌, true, None, map, replicate, fresh}
 use Rattle.explain_command.proofs.program.explain_with_tallies.OwnLists.{own-1}
 use Rattle.explain_command.proofs.program.explain_with_tallies.Given as goal
 

@@ -1,7 +1,4 @@
-use Rattle.std.proofs.Common.{◌≡◌, ◌++◌, length, map, take, drop}
-use Rattle.std.specs.List.{flat_map}
-use Rattle.unit_outlets.specs.Handed.{Caused, HandsOver}
-use Rattle.group_sink.specs.State.Steps.{owed_by, tick_at}
+use Rattle.group_sink.proofs.Prelude.{◌≡◌, ◌++◌, length, map, take, drop, flat_map, Caused, HandsOver, owed_by, tick_at}
 use Rattle.group_sink.proofs.group_receivers.close_all.Given as goal
 
 abbrev pub invariant-streams : goal.invariant-streams

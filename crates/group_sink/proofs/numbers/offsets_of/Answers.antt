@@ -1,5 +1,4 @@
-use Rattle.std.proofs.Common.{length-set, ◌∙◌, arith}
-use Rattle.radio_schedule.specs.PayloadNumber.{payload_number}
+use Rattle.group_sink.proofs.Prelude.{length-set, ◌∙◌, arith, payload_number}
 use Rattle.group_sink.proofs.Offsets.{entry_set}
 use Rattle.group_sink.proofs.numbers.offsets_of.Goals as goal
 

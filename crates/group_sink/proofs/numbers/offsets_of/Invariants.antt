@@ -1,5 +1,4 @@
-use Rattle.std.proofs.Common.{ℕ, ◌≡◌, ◌<◌, length, get_or}
-use Rattle.radio_schedule.specs.PayloadNumber.{payload_number}
+use Rattle.group_sink.proofs.Prelude.{ℕ, ◌≡◌, ◌<◌, length, get_or, payload_number}
 use Rattle.group_sink.proofs.numbers.offsets_of.Given as goal
 
 abbrev pub invariant-subevents : goal.invariant-subevents

@@ -1,8 +1,6 @@
 use Rattle.iso_pdu.proofs.Controls.{terminate-is, control_of-layout}
 use Rattle.iso_pdu.proofs.PdusRead.{read_of-pdu}
-use Rattle.iso_pdu.specs.Control.{terminate}
-use Rattle.iso_pdu.specs.Layout.{control}
-use Rattle.iso_pdu.specs.declared.control.Control.TheVariants.{Terminate}
+use Rattle.iso_pdu.proofs.Prelude.{terminate, control, Terminate}
 use Rattle.iso_pdu.proofs.control.write_terminate.Goals as goal
 
 pub returns-clause-payload : goal.returns-clause-payload

@@ -1,4 +1,4 @@
-use Rattle.std.proofs.Common.{◌≡◌, ◌+◌, ◌-◌, length, arith, refl}
+use Rattle.iso_pdu.proofs.Prelude.{◌≡◌, ◌+◌, ◌-◌, length, arith, refl}
 use Rattle.iso_pdu.proofs.Packs.{written_anew}
 use Rattle.iso_pdu.proofs.framed_pdu.put_segment.Goals as goal
 

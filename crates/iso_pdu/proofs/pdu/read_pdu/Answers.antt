@@ -1,9 +1,5 @@
-use Rattle.std.proofs.Common.{◌≡◌, ◌+◌, ◌≤◌, ℕ, List, length, Result, Ok, Err}
-use Rattle.std.specs.Prelude.{MatchResult, IfOk, IfErr}
-use Rattle.iso_pdu.specs.declared.fault.PduFault.{PduFault}
+use Rattle.iso_pdu.proofs.Prelude.{◌≡◌, ◌+◌, ◌≤◌, ℕ, List, length, Result, Ok, Err, MatchResult, IfOk, IfErr, PduFault, FaultIs, PduIs, HasAtMost}
 use Rattle.iso_pdu.specs.declared.pdu.Pdu.{Pdu}
-use Rattle.iso_pdu.specs.Faults.{FaultIs}
-use Rattle.iso_pdu.specs.Layout.{PduIs, HasAtMost}
 use Rattle.iso_pdu.specs.Reading.{read_of}
 use Rattle.iso_pdu.specs.State.Views.{content_of}
 use Rattle.iso_pdu.proofs.PdusRead.{read_of-encoded, read_of-fault, pdu_long}

@@ -1,6 +1,4 @@
-use Rattle.std.proofs.Common.{◌≡◌, ◌≤◌, ◌+◌, ◌-◌, ◌∷◌, length, take, [], set, arith, ◌∙◌, refl}
-use Rattle.std.proofs.lemmas.Slice.{take-put_mid, drop-put_mid}
-use Rattle.std.proofs.lemmas.List.{length-set, drop-set-lt}
+use Rattle.iso_pdu.proofs.Prelude.{◌≡◌, ◌≤◌, ◌+◌, ◌-◌, ◌∷◌, length, take, [], set, arith, ◌∙◌, refl, take-put_mid, drop-put_mid, length-set, drop-set-lt}
 use Rattle.iso_pdu.proofs.Lists.{take-set_two}
 use Rattle.iso_pdu.proofs.pdu.write_payload.Goals as goal
 

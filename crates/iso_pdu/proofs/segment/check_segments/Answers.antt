@@ -1,6 +1,5 @@
-use Rattle.std.proofs.Common.{◌≤◌, length, drop, arith, ◌∙◌, sym}
+use Rattle.iso_pdu.proofs.Prelude.{◌≤◌, length, drop, arith, ◌∙◌, sym, length-drop}
 use Rattle.iso_pdu.proofs.PartsRead.{result_err-nothing}
-use Rattle.std.proofs.lemmas.List.{length-drop}
 use Rattle.iso_pdu.proofs.segment.check_segments.Goals as goal
 
 pub returns : goal.returns

@@ -1,6 +1,5 @@
-use Rattle.std.proofs.Common.{◌≡◌, ◌≤◌, ◌-◌, length, drop}
-use Rattle.std.specs.Result.{result_err}
-use Rattle.iso_pdu.specs.Reading.{parts_from, parts_of}
+use Rattle.iso_pdu.proofs.Prelude.{◌≡◌, ◌≤◌, ◌-◌, length, drop, result_err, parts_of}
+use Rattle.iso_pdu.specs.Reading.{parts_from}
 use Rattle.iso_pdu.proofs.segment.check_segments.Given as goal
 
 abbrev pub invariant-segments : goal.invariant-segments

@@ -1,5 +1,4 @@
-use Rattle.std.proofs.Common.{◌<◌, ◌^◌, take, arith}
-use Rattle.bcast_base.specs.Numbers.{sum_from}
+use Rattle.iso_pdu.proofs.Prelude.{◌<◌, ◌^◌, take, arith, sum_from}
 use Rattle.iso_pdu.proofs.Lists.{sum_three_below}
 use Rattle.iso_pdu.proofs.segment.read_offset.Goals as goal
 

@@ -1,5 +1,4 @@
-use Rattle.std.proofs.Common.{◌-◌, length, arith, get_or, sym, ◌∙◌, ap, ℕ}
-use Rattle.iso_pdu.specs.Reading.{fault_at}
+use Rattle.iso_pdu.proofs.Prelude.{◌-◌, length, arith, get_or, sym, ◌∙◌, ap, ℕ, fault_at}
 use Rattle.iso_pdu.proofs.PartsRead.{result_err-alone, result_err-fault, passed}
 use Rattle.iso_pdu.proofs.segment.segment_len.Goals as goal
 

@@ -1,4 +1,4 @@
-use Rattle.std.proofs.Common.{lit<, lit≤, arith}
+use Rattle.isoal_framed.proofs.Prelude.{lit<, lit≤, arith}
 use Rattle.isoal_framed.proofs.Packings.{comes_known, comes_nothing}
 use Rattle.isoal_framed.proofs.air_laws.worked_events.Goals as goal
 

@@ -1,13 +1,4 @@
-use Rattle.std.proofs.Common.{◌≡◌, ◌<◌, ◌+◌, ◌-◌, ◌∙◌, sym, ap, subst, length, take, drop, get_or, None, Ok, vec_len, arith}
-use Rattle.std.specs.List.{flat_map}
-use Rattle.std.proofs.lemmas.List.{length-map}
-use Rattle.isoal_base.specs.Hearing.{read_as}
-use Rattle.isoal_framed.specs.Tokens.{segmented, tokens_of}
-use Rattle.isoal_framed.specs.State.Buffers.{run_in}
-use Rattle.isoal_framed.specs.State.Joining.{hands, run_after}
-use Rattle.isoal_framed.specs.State.Places.{entry_in, kept_of}
-use Rattle.isoal_framed.specs.State.Streams.{stay_of}
-use Rattle.isoal_framed.specs.State.Windows.{HandsOn}
+use Rattle.isoal_framed.proofs.Prelude.{◌≡◌, ◌<◌, ◌+◌, ◌-◌, ◌∙◌, sym, ap, subst, length, take, drop, get_or, None, Ok, vec_len, arith, flat_map, length-map, read_as, segmented, tokens_of, run_in, hands, run_after, entry_in, kept_of, stay_of, HandsOn}
 use Rattle.isoal_framed.proofs.Rings.{turned_more, first_left, left_more}
 use Rattle.isoal_framed.proofs.Walks.{walked_more}
 use Rattle.isoal_framed.proofs.close.take_places.Goals as goal

@@ -1,9 +1,4 @@
-use Rattle.std.proofs.Common.{◌≡◌, ◌-◌, ◌++◌, length, take, drop, replicate, None, Ok, vec_len}
-use Rattle.std.specs.List.{flat_map}
-use Rattle.isoal_framed.specs.Tokens.{tokens_of}
-use Rattle.isoal_framed.specs.State.Buffers.{run_in}
-use Rattle.isoal_framed.specs.State.Places.{kept_of}
-use Rattle.isoal_framed.specs.State.Streams.{stay_of}
+use Rattle.isoal_framed.proofs.Prelude.{◌≡◌, ◌-◌, ◌++◌, length, take, drop, replicate, None, Ok, vec_len, flat_map, tokens_of, run_in, kept_of, stay_of}
 use Rattle.isoal_framed.proofs.Walks.{Walked}
 use Rattle.isoal_framed.proofs.close.take_places.Given as goal
 

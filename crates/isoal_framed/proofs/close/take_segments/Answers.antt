@@ -1,4 +1,4 @@
-use Rattle.std.proofs.Common.{arith}
+use Rattle.isoal_framed.proofs.Prelude.{arith}
 use Rattle.isoal_framed.proofs.Walks.{walked_token}
 use Rattle.isoal_framed.proofs.close.take_segments.Goals as goal
 

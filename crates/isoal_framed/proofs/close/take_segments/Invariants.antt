@@ -1,7 +1,4 @@
-use Rattle.std.proofs.Common.{◌≡◌, map, vec_len}
-use Rattle.isoal_framed.specs.Tokens.{token_of}
-use Rattle.isoal_framed.specs.State.Buffers.{run_in}
-use Rattle.isoal_framed.specs.State.Streams.{stay_of}
+use Rattle.isoal_framed.proofs.Prelude.{◌≡◌, map, vec_len, token_of, run_in, stay_of}
 use Rattle.isoal_framed.proofs.Walks.{Walked}
 use Rattle.isoal_framed.proofs.close.take_segments.Given as goal
 

@@ -1,4 +1,4 @@
-use Rattle.std.proofs.Common.{◌≡◌, drop}
+use Rattle.isoal_framed.proofs.Prelude.{◌≡◌, drop}
 use Rattle.isoal_framed.proofs.framed_out.pop_units.Given as goal
 
 abbrev pub invariant-units : goal.invariant-units

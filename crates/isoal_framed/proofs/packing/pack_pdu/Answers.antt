@@ -1,8 +1,4 @@
-use Rattle.std.proofs.Common.{◌≡◌, List, length, length-append, ◌∙◌, ap, subst, true, false, arith}
-use Rattle.std.proofs.lemmas.Result.{on_ok_weaker}
-use Rattle.isoal_framed.specs.Air.{pdus_ended}
-use Rattle.isoal_framed.specs.Places.{Act}
-use Rattle.isoal_framed.specs.State.Packings.{Placed}
+use Rattle.isoal_framed.proofs.Prelude.{◌≡◌, List, length, length-append, ◌∙◌, ap, subst, true, false, arith, on_ok_weaker, pdus_ended, Act, Placed}
 use Rattle.isoal_framed.proofs.Packings.{At, goes_on_is, ended_is}
 use Rattle.isoal_framed.proofs.packing.pack_pdu.Goals as goal
 

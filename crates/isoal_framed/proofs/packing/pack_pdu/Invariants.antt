@@ -1,9 +1,4 @@
-use Rattle.std.proofs.Common.{ℕ, ◌≡◌, ◌≤◌, ◌+◌, ◌-◌, List, [], length, drop}
-use Rattle.iso_pdu.specs.State.Packing.{room_in}
-use Rattle.isoal_framed.specs.Air.{pdus_ended}
-use Rattle.isoal_framed.specs.Calls.{Timed}
-use Rattle.isoal_framed.specs.Places.{Act, done}
-use Rattle.isoal_framed.specs.State.Senders.{Going, IsPartly}
+use Rattle.isoal_framed.proofs.Prelude.{ℕ, ◌≡◌, ◌≤◌, ◌+◌, ◌-◌, List, [], length, drop, room_in, pdus_ended, Timed, Act, done, Going, IsPartly}
 use Rattle.isoal_framed.proofs.Packings.{At}
 use Rattle.isoal_framed.proofs.packing.pack_pdu.Given as goal
 

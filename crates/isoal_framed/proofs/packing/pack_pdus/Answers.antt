@@ -1,7 +1,4 @@
-use Rattle.std.proofs.Common.{◌≡◌, ◌∙◌, ◌∷◌, [], List, inr, refl, arith}
-use Rattle.isoal_framed.specs.Air.{pdus_ended}
-use Rattle.isoal_framed.specs.Places.{Act, ends}
-use Rattle.isoal_framed.specs.State.Senders.{Going}
+use Rattle.isoal_framed.proofs.Prelude.{◌≡◌, ◌∙◌, ◌∷◌, [], List, inr, refl, arith, pdus_ended, Act, ends, Going}
 use Rattle.isoal_framed.proofs.Packings.{EndsWhole}
 use Rattle.isoal_framed.proofs.packing.pack_pdus.Goals as goal
 

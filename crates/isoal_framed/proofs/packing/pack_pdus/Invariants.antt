@@ -1,8 +1,4 @@
-use Rattle.std.proofs.Common.{◌≡◌, ◌≤◌, List, [], length, drop}
-use Rattle.isoal_framed.specs.Air.{pdus_ended}
-use Rattle.isoal_framed.specs.Calls.{Timed}
-use Rattle.isoal_framed.specs.Places.{Act, done}
-use Rattle.isoal_framed.specs.State.Senders.{Going, IsPartly}
+use Rattle.isoal_framed.proofs.Prelude.{◌≡◌, ◌≤◌, List, [], length, drop, pdus_ended, Timed, Act, done, Going, IsPartly}
 use Rattle.isoal_framed.proofs.Packings.{EndsWhole}
 use Rattle.isoal_framed.proofs.packing.pack_pdus.Given as goal
 

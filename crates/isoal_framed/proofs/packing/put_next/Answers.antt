@@ -1,4 +1,4 @@
-use Rattle.std.proofs.Common.{sym, arith}
+use Rattle.isoal_framed.proofs.Prelude.{sym, arith}
 use Rattle.isoal_framed.proofs.Packings.{placed_by, partly_at, partly_left, part_left, part_within}
 use Rattle.isoal_framed.proofs.packing.put_next.Goals as goal
 

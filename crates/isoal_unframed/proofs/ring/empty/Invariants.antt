@@ -1,5 +1,4 @@
-use Rattle.std.proofs.Common.{◌≡◌, take, replicate}
-use Rattle.isoal_unframed.specs.declared.cell.Cell.TheVariants.{Empty}
+use Rattle.isoal_unframed.proofs.Prelude.{◌≡◌, take, replicate, Empty}
 use Rattle.isoal_unframed.proofs.ring.empty.Given as goal
 
 abbrev pub invariant-loop-cell : goal.invariant-loop-cell

@@ -1,5 +1,4 @@
-use Rattle.std.proofs.Common.{◌≤◌, ◌∙◌, arith}
-use Rattle.isoal_unframed.specs.declared.cell.Cell.TheVariants.{Fragment}
+use Rattle.isoal_unframed.proofs.Prelude.{◌≤◌, ◌∙◌, arith, Fragment}
 use Rattle.isoal_unframed.proofs.Kept.{gather_more, cell_fits, place_room}
 use Rattle.isoal_unframed.proofs.ring.gather.Goals as goal
 

@@ -1,6 +1,4 @@
-use Rattle.std.proofs.Common.{◌≡◌, ◌≤◌, ◌*◌, take, drop}
-use Rattle.isoal_unframed.specs.State.Cells.{kept_in}
-use Rattle.isoal_unframed.specs.Units.{unit_after, unit_of}
+use Rattle.isoal_unframed.proofs.Prelude.{◌≡◌, ◌≤◌, ◌*◌, take, drop, kept_in, unit_after, unit_of}
 use Rattle.isoal_unframed.proofs.ring.gather.Given as goal
 
 abbrev pub invariant-places : goal.invariant-places

@@ -1,5 +1,4 @@
-use Rattle.std.proofs.Common.{◌≡◌, ◌≤◌, ◌+◌, ◌-◌, drop}
-use Rattle.isoal_unframed.specs.State.Cells.{held_cells}
+use Rattle.isoal_unframed.proofs.Prelude.{◌≡◌, ◌≤◌, ◌+◌, ◌-◌, drop, held_cells}
 use Rattle.isoal_unframed.proofs.ring.held.Given as goal
 
 abbrev pub invariant-places : goal.invariant-places

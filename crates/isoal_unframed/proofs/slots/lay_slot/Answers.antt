@@ -1,6 +1,4 @@
-use Rattle.std.proofs.Common.{◌≡◌, ◌+◌, ◌-◌, ◌∷◌, ◌++◌, [], suc, List, ℕ, take, option_copied, arith, ap, sym, ◌∙◌}
-use Rattle.std.proofs.lemmas.List.{append_assoc}
-use Rattle.isoal_unframed.specs.State.Sender.{slot_pdus}
+use Rattle.isoal_unframed.proofs.Prelude.{◌≡◌, ◌+◌, ◌-◌, ◌∷◌, ◌++◌, [], suc, List, ℕ, take, option_copied, arith, ap, sym, ◌∙◌, append_assoc, slot_pdus}
 use Rattle.isoal_unframed.proofs.slots.lay_slot.Goals as goal
 
 pub places-preserved : goal.places-preserved

@@ -1,5 +1,4 @@
-use Rattle.std.proofs.Common.{◌≡◌, ◌-◌, ◌++◌, option_copied}
-use Rattle.isoal_unframed.specs.State.Sender.{slot_pdus}
+use Rattle.isoal_unframed.proofs.Prelude.{◌≡◌, ◌-◌, ◌++◌, option_copied, slot_pdus}
 use Rattle.isoal_unframed.proofs.slots.lay_slot.Given as goal
 
 -- what was laid, and what is left to lay, make up the slot

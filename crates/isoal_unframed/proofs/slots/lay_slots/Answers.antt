@@ -1,8 +1,5 @@
-use Rattle.std.proofs.Common.{◌≡◌, ◌+◌, ◌++◌, suc, arith, ap, sym, ◌∙◌, refl}
-use Rattle.std.specs.List.{slice_get}
-use Rattle.big_info.specs.Schedule.{per_unit_of}
+use Rattle.isoal_unframed.proofs.Prelude.{◌≡◌, ◌+◌, ◌++◌, suc, arith, ap, sym, ◌∙◌, refl, slice_get, per_unit_of, slot_pdus}
 use Rattle.isoal_unframed.proofs.Rows.{flat_map_one_more}
-use Rattle.isoal_unframed.specs.State.Sender.{slot_pdus}
 use Rattle.isoal_unframed.proofs.slots.lay_slots.Goals as goal
 
 pub slots-preserved : goal.slots-preserved

@@ -1,7 +1,4 @@
-use Rattle.std.proofs.Common.{◌≡◌}
-use Rattle.std.specs.List.{flat_map, range_with_len, slice_get}
-use Rattle.big_info.specs.Schedule.{per_unit_of}
-use Rattle.isoal_unframed.specs.State.Sender.{slot_pdus}
+use Rattle.isoal_unframed.proofs.Prelude.{◌≡◌, flat_map, range_with_len, slice_get, per_unit_of, slot_pdus}
 use Rattle.isoal_unframed.proofs.slots.lay_slots.Given as goal
 
 abbrev pub invariant-slots : goal.invariant-slots

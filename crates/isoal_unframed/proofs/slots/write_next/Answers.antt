@@ -1,4 +1,4 @@
-use Rattle.std.proofs.Common.{arith}
+use Rattle.isoal_unframed.proofs.Prelude.{arith}
 use Rattle.isoal_unframed.proofs.SlotSteps.{begins_long, begins_none, begins_short}
 use Rattle.isoal_unframed.proofs.slots.write_next.Goals as goal
 

@@ -1,5 +1,4 @@
-use Rattle.std.proofs.Common.{ap, drop, ◌∙◌}
-use Rattle.std.proofs.lemmas.List.{drop-drop}
+use Rattle.isoal_unframed.proofs.Prelude.{ap, drop, ◌∙◌, drop-drop}
 use Rattle.isoal_unframed.proofs.unframed_out.pop_units.Goals as goal
 
 pub units-preserved : goal.units-preserved

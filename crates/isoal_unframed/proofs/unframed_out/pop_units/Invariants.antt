@@ -1,4 +1,4 @@
-use Rattle.std.proofs.Common.{◌≡◌, drop}
+use Rattle.isoal_unframed.proofs.Prelude.{◌≡◌, drop}
 use Rattle.isoal_unframed.proofs.unframed_out.pop_units.Given as goal
 
 abbrev pub invariant-units : goal.invariant-units

@@ -1,6 +1,4 @@
-use Rattle.std.proofs.Common.{◌∙◌, ◌-◌, ◌≡◌, ◌<◌, true, false, length, subst, sym}
-use Rattle.isoal_base.specs.Stays.{window_of}
-use Rattle.isoal_unframed.specs.State.Rings.{kept_of}
+use Rattle.isoal_unframed.proofs.Prelude.{◌∙◌, ◌-◌, ◌≡◌, ◌<◌, true, false, length, subst, sym, window_of, kept_of}
 use Rattle.isoal_unframed.proofs.Kept.{length-kept}
 use Rattle.isoal_unframed.proofs.Windows.{is_placed}
 use Rattle.isoal_unframed.proofs.window.answer_at.Goals as goal

@@ -1,10 +1,4 @@
-use Rattle.std.proofs.Common.{refl, ◌∙◌, ◌+◌, ◌≤◌, ◌≡◌, ◌++◌, subst, vec_len, take, drop, arith}
-use Rattle.isoal_unframed.specs.State.Streams.{stay_of}
-use Rattle.big_info.specs.Schedule.{per_unit_of}
-use Rattle.isoal_unframed.specs.Units.{unit_of}
-use Rattle.isoal_unframed.specs.State.Windows.{handed_of, owed_of}
-use Rattle.unit_outlets.specs.Handed.{HandsOver}
-use Rattle.isoal_unframed.specs.State.Rings.{kept_of}
+use Rattle.isoal_unframed.proofs.Prelude.{refl, ◌∙◌, ◌+◌, ◌≤◌, ◌≡◌, ◌++◌, subst, vec_len, take, drop, arith, stay_of, per_unit_of, unit_of, handed_of, owed_of, HandsOver, kept_of}
 use Rattle.isoal_unframed.proofs.Places.{places_fit}
 use Rattle.isoal_unframed.proofs.Windows.{place_at_most}
 use Rattle.isoal_unframed.proofs.Handing.{prefix_more, behind_more, owed_more, owed_stops, owed_all}

@@ -1,7 +1,4 @@
-use Rattle.std.proofs.Common.{◌≡◌, ◌+◌, ◌*◌, ◌++◌, take, drop, vec_len}
-use Rattle.isoal_unframed.specs.State.Rings.{kept_of}
-use Rattle.isoal_unframed.specs.State.Streams.{stay_of}
-use Rattle.isoal_unframed.specs.State.Windows.{owed_of}
+use Rattle.isoal_unframed.proofs.Prelude.{◌≡◌, ◌+◌, ◌*◌, ◌++◌, take, drop, vec_len, kept_of, stay_of, owed_of}
 use Rattle.isoal_unframed.proofs.window.hand_event.Given as goal
 
 abbrev pub invariant-slots : goal.invariant-slots

@@ -1,5 +1,4 @@
-use Rattle.std.proofs.Common.{arith}
-use Rattle.std.proofs.lemmas.List.{drop-drop}
+use Rattle.isoal_unframed.proofs.Prelude.{arith, drop-drop}
 use Rattle.isoal_unframed.proofs.Places.{places_fit}
 use Rattle.isoal_unframed.proofs.Windows.{place_at_most, sum_more}
 use Rattle.isoal_unframed.proofs.window.held.Goals as goal

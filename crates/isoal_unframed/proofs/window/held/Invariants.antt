@@ -1,8 +1,4 @@
-use Rattle.std.proofs.Common.{◌≡◌, ◌≤◌, ◌+◌, ◌*◌, map, drop}
-use Rattle.std.specs.List.{range_with_len, sum}
-use Rattle.isoal_unframed.specs.State.Rings.{kept_of}
-use Rattle.isoal_unframed.specs.State.Streams.{stay_of}
-use Rattle.isoal_unframed.specs.State.Windows.{held_at}
+use Rattle.isoal_unframed.proofs.Prelude.{◌≡◌, ◌≤◌, ◌+◌, ◌*◌, map, drop, range_with_len, sum, kept_of, stay_of, held_at}
 use Rattle.isoal_unframed.proofs.window.held.Given as goal
 
 abbrev pub invariant-slots : goal.invariant-slots

@@ -1,6 +1,4 @@
-use Rattle.std.proofs.Common.{◌∙◌, ◌-◌, ◌≡◌, ◌<◌, true, false, length, subst, sym, arith}
-use Rattle.isoal_base.specs.Stays.{window_of}
-use Rattle.isoal_unframed.specs.State.Rings.{kept_of}
+use Rattle.isoal_unframed.proofs.Prelude.{◌∙◌, ◌-◌, ◌≡◌, ◌<◌, true, false, length, subst, sym, arith, window_of, kept_of}
 use Rattle.isoal_unframed.proofs.Kept.{length-kept}
 use Rattle.isoal_unframed.proofs.Windows.{is_placed, is_put}
 use Rattle.isoal_unframed.proofs.window.keep.Goals as goal

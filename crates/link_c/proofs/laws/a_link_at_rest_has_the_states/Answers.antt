@@ -1,10 +1,6 @@
-use Rattle.std.proofs.Common.{◌≡◌, ℕ, false, Option, Some, None, ap, sym, ◌∙◌, ◌<◌}
-use Rattle.std.specs.Prelude.{slice_get}
+use Rattle.link_c.proofs.Prelude.{◌≡◌, ℕ, false, Option, Some, None, ap, sym, ◌∙◌, ◌<◌, slice_get, Acts, calls_of, language, reads_kept, views_kept, LinkStandsIn, LinkMachine}
 use Rattle.assistant_machine.specs.Links.{Agrees, NoneWaits, value_of}
 use Rattle.assistant_machine.specs.Views as views
-use Rattle.link_c.specs.Agreement.{Acts, calls_of, language, reads_kept, views_kept}
-use Rattle.link_c.specs.Links.{LinkStandsIn}
-use Rattle.link_c.specs.declared.machine.LinkMachine.{LinkMachine}
 use Rattle.link_c.proofs.Agreeing.{same_view, same_wait}
 use Rattle.link_c.proofs.laws.a_link_at_rest_has_the_states.Goals as goal
 

@@ -1,7 +1,4 @@
-use Rattle.std.proofs.Common.{subst}
-use Rattle.std.specs.Prelude.{Result, Ok, Err}
-use Rattle.assistant_machine.specs.declared.fault.NoticeFault.{NoticeFault}
-use Rattle.link_c.specs.Links.{LinkStandsIn}
+use Rattle.link_c.proofs.Prelude.{subst, Result, Ok, Err, NoticeFault, LinkStandsIn}
 use Rattle.link_c.proofs.link.vm_link_answer_read.Goals as goal
 
 abbrev Taken : Result (Unit {0}) NoticeFault → Type 0

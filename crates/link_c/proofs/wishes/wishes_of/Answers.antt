@@ -1,7 +1,7 @@
-use Rattle.std.proofs.Common.{◌≡◌, ◌+◌, ◌++◌, ◌∷◌, [], ℕ, List, get_or, drop, sym, ◌∙◌, arith, length-append}
+use Rattle.link_c.proofs.Prelude.{◌≡◌, ◌+◌, ◌++◌, ◌∷◌, [], ℕ, List, get_or, sym, ◌∙◌, arith, length-append, Wish, wish}
+use Rattle.std.proofs.Common.{drop}
 use Rattle.std.proofs.lemmas.List.{at_drop_all, at_drop_more}
-use Rattle.bass_operations.specs.declared.wishes.Wish.{Wish}
-use Rattle.link_c.specs.Wishes.{wish, wishes_in}
+use Rattle.link_c.specs.Wishes.{wishes_in}
 use Rattle.link_c.proofs.Wished.{one_more, read_end, read_never, read_next, read_past, with_prefix}
 use Rattle.link_c.proofs.wishes.wishes_of.Goals as goal
 

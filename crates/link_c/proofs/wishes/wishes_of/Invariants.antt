@@ -1,5 +1,5 @@
-use Rattle.std.proofs.Common.{◌≡◌, length, drop}
-use Rattle.bass_operations.specs.Layout.{MetadataFits}
+use Rattle.link_c.proofs.Prelude.{◌≡◌, length, MetadataFits}
+use Rattle.std.proofs.Common.{drop}
 use Rattle.link_c.specs.Wishes.{wishes_in}
 use Rattle.link_c.proofs.Wished.{with_prefix}
 use Rattle.link_c.proofs.wishes.wishes_of.Given as goal

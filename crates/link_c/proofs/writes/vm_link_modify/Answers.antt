@@ -1,6 +1,4 @@
-use Rattle.std.proofs.Common.{◌≡◌, true, refl, sym, ◌∙◌}
-use Rattle.std.proofs.lemmas.Bool.{le-ltb}
-use Rattle.link_c.specs.Wishes.{are_free}
+use Rattle.link_c.proofs.Prelude.{◌≡◌, true, refl, sym, ◌∙◌, le-ltb, are_free}
 use Rattle.link_c.proofs.Free.{read_free}
 use Rattle.link_c.proofs.writes.vm_link_modify.Goals as goal
 

@@ -1,4 +1,4 @@
-use Rattle.std.proofs.Common.{arith}
+use Rattle.ltv_codec.proofs.Prelude.{arith}
 use Rattle.ltv_codec.proofs.Loops.{checked_list, checked_are, checked_cut}
 use Rattle.ltv_codec.proofs.reading.check_ltvs.Goals as goal
 

@@ -1,4 +1,4 @@
-use Rattle.std.proofs.Common.{sym}
+use Rattle.ltv_codec.proofs.Prelude.{sym}
 use Rattle.ltv_codec.proofs.Loops.{ended, unread_next, unread_none}
 use Rattle.ltv_codec.proofs.reading.check_structures.Goals as goal
 

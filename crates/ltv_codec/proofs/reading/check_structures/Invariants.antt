@@ -1,4 +1,4 @@
-use Rattle.std.proofs.Common.{length}
+use Rattle.ltv_codec.proofs.Prelude.{length}
 use Rattle.ltv_codec.proofs.Loops.{Unread}
 use Rattle.ltv_codec.proofs.reading.check_structures.Given as goal
 

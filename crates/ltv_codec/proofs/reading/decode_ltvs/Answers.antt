@@ -1,6 +1,4 @@
-use Rattle.std.proofs.Common.{arith, subst}
-use Rattle.bcast_base.specs.Tries.{Answers}
-use Rattle.ltv_codec.specs.Reading.{told}
+use Rattle.ltv_codec.proofs.Prelude.{arith, subst, Answers, told}
 use Rattle.ltv_codec.proofs.Lists.{list_read}
 use Rattle.ltv_codec.proofs.Loops.{decoded_list, decoded_cut}
 use Rattle.ltv_codec.proofs.reading.decode_ltvs.Goals as goal

@@ -1,4 +1,4 @@
-use Rattle.std.proofs.Common.{length}
+use Rattle.ltv_codec.proofs.Prelude.{length}
 use Rattle.ltv_codec.proofs.Loops.{Undecoded}
 use Rattle.ltv_codec.proofs.reading.own_structures.Given as goal
 

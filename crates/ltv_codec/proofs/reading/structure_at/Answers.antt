@@ -1,4 +1,4 @@
-use Rattle.std.proofs.Common.{arith}
+use Rattle.ltv_codec.proofs.Prelude.{arith}
 use Rattle.ltv_codec.proofs.Lists.{is_short}
 use Rattle.ltv_codec.proofs.Loops.{empty_body, full_body}
 use Rattle.ltv_codec.proofs.reading.structure_at.Goals as goal

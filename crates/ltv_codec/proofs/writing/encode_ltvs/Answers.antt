@@ -1,4 +1,4 @@
-use Rattle.std.proofs.Common.{arith}
+use Rattle.ltv_codec.proofs.Prelude.{arith}
 use Rattle.ltv_codec.proofs.Loops.{fits_at, all_encoded}
 use Rattle.ltv_codec.proofs.writing.encode_ltvs.Goals as goal
 

@@ -1,5 +1,4 @@
-use Rattle.std.proofs.Common.{◌≡◌, take}
-use Rattle.ltv_codec.specs.Layout.{encoding}
+use Rattle.ltv_codec.proofs.Prelude.{◌≡◌, take, encoding}
 use Rattle.ltv_codec.proofs.writing.encode_ltvs.Given as goal
 
 abbrev pub invariant-loop-ltv : goal.invariant-loop-ltv

@@ -1,5 +1,4 @@
-use Rattle.std.proofs.Common.{◌≡◌, drop}
-use Rattle.pacs_records.specs.Reasons.{last_reason, not_taken}
+use Rattle.pacs_records.proofs.Prelude.{◌≡◌, drop, last_reason, not_taken}
 use Rattle.pacs_records.proofs.matching.first_that_fits.Given as goal
 
 abbrev pub invariant-loop-entry : goal.invariant-loop-entry

@@ -1,4 +1,4 @@
-use Rattle.std.proofs.Common.{arith}
+use Rattle.pacs_records.proofs.Prelude.{arith}
 use Rattle.pacs_records.proofs.Fields.{is_value, only_value}
 use Rattle.pacs_records.proofs.Stops.{is_fault}
 use Rattle.pacs_records.proofs.reading.decode_pacs.Goals as goal

@@ -1,7 +1,5 @@
-use Rattle.std.proofs.Common.{arith, ap, refl}
-use Rattle.std.proofs.Common.{length}
+use Rattle.pacs_records.proofs.Prelude.{arith, ap, refl, length, err_from_is_err_and}
 use Rattle.pacs_records.proofs.Fields.{value_takes}
-use Rattle.std.proofs.lemmas.Result.{err_from_is_err_and}
 use Rattle.pacs_records.proofs.Whole.{refused, not_wanting}
 use Rattle.pacs_records.proofs.reading.decode_records.Goals as goal
 

@@ -1,5 +1,4 @@
-use Rattle.std.proofs.Common.{◌≡◌, ◌++◌, ◌∷◌, [], ◌∙◌, ap}
-use Rattle.pacs_records.specs.declared.record.PacRecord.{PacRecord}
+use Rattle.pacs_records.proofs.Prelude.{◌≡◌, ◌++◌, ◌∷◌, [], ◌∙◌, ap, PacRecord}
 use Rattle.pacs_records.specs.Reading.{records_in}
 use Rattle.pacs_records.proofs.Loop.{never_fails, goes_on, list_done}
 use Rattle.pacs_records.proofs.reading.own_records.Goals as goal

@@ -1,4 +1,4 @@
-use Rattle.std.proofs.Common.{◌-◌}
+use Rattle.pacs_records.proofs.Prelude.{◌-◌}
 use Rattle.pacs_records.specs.Reading.{records_in}
 use Rattle.pacs_records.proofs.Loop.{SoFar}
 use Rattle.pacs_records.proofs.reading.own_records.Given as goal

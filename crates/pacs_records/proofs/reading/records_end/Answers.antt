@@ -1,5 +1,5 @@
-use Rattle.std.proofs.lemmas.Result.{err_from_is_err_and}
-use Rattle.pacs_records.specs.Reading.{records_in, rest_of}
+use Rattle.pacs_records.proofs.Prelude.{err_from_is_err_and, rest_of}
+use Rattle.pacs_records.specs.Reading.{records_in}
 use Rattle.pacs_records.proofs.Loop.{left_next, left_failed, left_done}
 use Rattle.pacs_records.proofs.reading.records_end.Goals as goal
 

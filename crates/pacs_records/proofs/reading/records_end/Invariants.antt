@@ -1,5 +1,5 @@
-use Rattle.std.proofs.Common.{◌-◌}
-use Rattle.pacs_records.specs.Reading.{records_in, rest_of}
+use Rattle.pacs_records.proofs.Prelude.{◌-◌, rest_of}
+use Rattle.pacs_records.specs.Reading.{records_in}
 use Rattle.pacs_records.proofs.Loop.{Left}
 use Rattle.pacs_records.proofs.reading.records_end.Given as goal
 

@@ -1,4 +1,4 @@
-use Rattle.std.proofs.Common.{arith}
+use Rattle.pacs_records.proofs.Prelude.{arith}
 use Rattle.pacs_records.proofs.Fields.{few}
 use Rattle.pacs_records.proofs.writing.encode_pacs.Goals as goal
 

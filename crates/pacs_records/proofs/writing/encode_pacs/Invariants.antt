@@ -1,6 +1,4 @@
-use Rattle.std.proofs.Common.{◌≡◌, ◌∷◌, length, take}
-use Rattle.std.specs.List.{flat_map}
-use Rattle.pacs_records.specs.Layout.{encoded}
+use Rattle.pacs_records.proofs.Prelude.{◌≡◌, ◌∷◌, length, take, flat_map, encoded}
 use Rattle.pacs_records.proofs.writing.encode_pacs.Given as goal
 
 abbrev pub invariant-loop-entry : goal.invariant-loop-entry

@@ -1,4 +1,4 @@
-use Rattle.std.proofs.Common.{◌≡◌, ◌-◌, ◌≤◌, length}
+use Rattle.receive_state.proofs.Prelude.{◌≡◌, ◌-◌, ◌≤◌, length}
 use Rattle.receive_state.specs.Reading.{end_in}
 use Rattle.receive_state.proofs.groups.groups_end.Given as goal
 

@@ -1,6 +1,4 @@
-use Rattle.std.proofs.Common.{◌≡◌, ◌++◌, ◌∷◌, []}
-use Rattle.bcast_base.specs.Subgroups.{Subgroup}
-use Rattle.receive_state.specs.Reading.{state_of_group}
+use Rattle.receive_state.proofs.Prelude.{◌≡◌, ◌++◌, ◌∷◌, [], Subgroup, state_of_group}
 use Rattle.receive_state.proofs.Loops.{read_next, read_never, read_end}
 use Rattle.receive_state.proofs.groups.read_groups.Goals as goal
 

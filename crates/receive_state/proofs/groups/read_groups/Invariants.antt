@@ -1,5 +1,4 @@
-use Rattle.std.proofs.Common.{◌≡◌, ◌-◌}
-use Rattle.receive_state.specs.Reading.{groups_of}
+use Rattle.receive_state.proofs.Prelude.{◌≡◌, ◌-◌, groups_of}
 use Rattle.receive_state.proofs.Loops.{with_prefix}
 use Rattle.receive_state.proofs.groups.read_groups.Given as goal
 

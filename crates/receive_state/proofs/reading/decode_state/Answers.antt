@@ -1,5 +1,4 @@
-use Rattle.std.proofs.Common.{arith, subst}
-use Rattle.bcast_base.specs.Tries.{Answers}
+use Rattle.receive_state.proofs.Prelude.{arith, subst, Answers}
 use Rattle.receive_state.specs.Reading.{told}
 use Rattle.receive_state.proofs.CutStates.{gave_fault}
 use Rattle.receive_state.proofs.Judged.{is_read, gave_state}

@@ -1,6 +1,4 @@
-use Rattle.std.proofs.Common.{[], arith, sym, ◌∙◌}
-use Rattle.std.proofs.lemmas.Result.{err_from_is_err_and}
-use Rattle.receive_state.specs.Layout.{StateFields}
+use Rattle.receive_state.proofs.Prelude.{[], arith, sym, ◌∙◌, err_from_is_err_and, StateFields}
 use Rattle.receive_state.proofs.Read.{are_whole, is_read, reserved_group, trailing, is_value, is_done, has_group}
 use Rattle.receive_state.proofs.reading.read_state.Goals as goal
 

@@ -1,8 +1,4 @@
-use Rattle.std.proofs.Common.{◌≡◌, ◌++◌, take, map}
-use Rattle.std.specs.List.{flat_map, AllByRecursion}
-use Rattle.bcast_base.specs.Layout.{laid}
-use Rattle.bcast_base.specs.Subgroups.{Fits, subgroup_fields}
-use Rattle.receive_state.specs.Layout.{group_of}
+use Rattle.receive_state.proofs.Prelude.{◌≡◌, ◌++◌, take, map, flat_map, AllByRecursion, laid, Fits, subgroup_fields, group_of}
 use Rattle.receive_state.proofs.writing.put_groups.Given as goal
 
 abbrev pub invariant-loop-group : goal.invariant-loop-group

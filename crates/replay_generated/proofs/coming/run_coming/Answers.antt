@@ -1,6 +1,4 @@
-use Rattle.std.proofs.Common.{subst}
-use Rattle.replay_generated.specs.State.Comings.{IsComing}
-use Rattle.replay_generated.specs.declared.coming.Coming.{Coming}
+use Rattle.replay_generated.proofs.Prelude.{subst, IsComing, Coming}
 use Rattle.replay_generated.proofs.coming.run_coming.Goals as goal
 
 pub returns-in-Said-clause-meets : goal.returns-in-Said-clause-meets

@@ -1,9 +1,5 @@
-use Rattle.std.proofs.Common.{map, subst}
-use Rattle.scenario_history.specs.Runs.{through, refused}
-use Rattle.replay_generated.specs.Generated.{lines_made}
-use Rattle.replay_generated.specs.State.Between.{Ran}
+use Rattle.replay_generated.proofs.Prelude.{map, subst, through, refused, lines_made, Ran, Ending}
 use Rattle.replay_generated.specs.declared.outcome.Outcome.TheVariants as outcomes
-use Rattle.replay_generated.specs.declared.running.Ending.{Ending}
 use Rattle.replay_generated.proofs.Promising.{failed_ends, memory_ends, put_ends}
 use Rattle.replay_generated.proofs.generated.run.Goals as goal
 

@@ -1,8 +1,5 @@
-use Rattle.std.proofs.Common.{map}
-use Rattle.source_machine.specs.Airs.{airs_of}
-use Rattle.replay_generated.specs.Generated.{lines_made}
+use Rattle.replay_generated.proofs.Prelude.{map, airs_of, lines_made, unassigned_run}
 use Rattle.replay_generated.proofs.Promising.{run_promises}
-use Rattle.replay_steps.proofs.Citable.{unassigned_run}
 use Rattle.replay_generated.proofs.generated.run_generated.Goals as goal
 
 pub returns-clause-generated : goal.returns-clause-generated

@@ -1,5 +1,4 @@
-use Rattle.std.proofs.Common.{◌∙◌, ap, Err}
-use Rattle.bcast_io.specs.TextLines.{plain}
+use Rattle.replay_generated.proofs.Prelude.{◌∙◌, ap, Err, plain}
 use Rattle.replay_generated.proofs.Runs.{line_failed, line_memory, line_ran, line_refused}
 use Rattle.replay_generated.proofs.running.run_line.Goals as goal
 

@@ -1,11 +1,7 @@
-use Rattle.std.proofs.Common.{◌+◌, ◌∙◌, ap, sym, map, refl, subst, arith, length, Ok}
-use Rattle.scenario_lines.specs.Generated.{generated_lines}
-use Rattle.replay_generated.specs.Generated.{lines_made}
-use Rattle.replay_generated.specs.State.Comings.{IsComing}
+use Rattle.replay_generated.proofs.Prelude.{◌+◌, ◌∙◌, ap, sym, map, refl, subst, arith, length, Ok, generated_lines, lines_made, IsComing, none_run}
 use Rattle.replay_generated.proofs.Comings.{one_comes}
 use Rattle.replay_generated.proofs.EndLines.{made_end}
 use Rattle.replay_generated.proofs.GeneratedText.{generated_count, generated_read}
-use Rattle.replay_steps.proofs.Citable.{none_run}
 use Rattle.replay_generated.proofs.Runs.{none_taken, running_none, runs_on, runs_out, runs_through, stops_here, unassigned_here, unassigned_out}
 use Rattle.replay_generated.proofs.running.run_lines.Goals as goal
 

@@ -1,5 +1,4 @@
-use Rattle.std.proofs.Common.{◌+◌, ◌≤◌, map, length}
-use Rattle.replay_generated.specs.Generated.{lines_made}
+use Rattle.replay_generated.proofs.Prelude.{◌+◌, ◌≤◌, map, length, lines_made}
 use Rattle.replay_generated.proofs.Runs.{Running}
 use Rattle.replay_generated.proofs.running.run_lines.Given as goal
 

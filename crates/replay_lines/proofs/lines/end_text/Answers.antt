@@ -1,4 +1,4 @@
-use Rattle.std.proofs.Common.{◌∙◌, sym}
+use Rattle.replay_lines.proofs.Prelude.{◌∙◌, sym}
 use Rattle.replay_lines.proofs.Endings.{ends_done, ends_no_end}
 use Rattle.replay_lines.proofs.lines.end_text.Goals as goal
 

@@ -1,9 +1,6 @@
-use Rattle.std.proofs.Common.{◌∷◌, inl, inr, map}
-use Rattle.source_machine.specs.Airs.{airs_of}
-use Rattle.bcast_io.specs.TextLines.{plain}
+use Rattle.replay_lines.proofs.Prelude.{◌∷◌, inl, inr, map, airs_of, plain, Listened, listened}
 use Rattle.replay_lines.proofs.Hearing.{broken_before, failed_told, run_kept, step_told, wanted_told}
 use Rattle.replay_lines.proofs.Listening.{has_run, told_at, told_before}
-use Rattle.replay_lines.specs.Tellings.{Listened, listened}
 use Rattle.replay_lines.proofs.lines.hear_step.Goals as goal
 
 pub returns-in-Ok-clause-runs : goal.returns-in-Ok-clause-runs

@@ -1,4 +1,4 @@
-use Rattle.std.proofs.Common.{ap}
+use Rattle.replay_lines.proofs.Prelude.{ap}
 use Rattle.replay_lines.proofs.ReadingOn.{next_is, next_within}
 use Rattle.replay_lines.proofs.lines.read_next.Goals as goal
 

@@ -1,13 +1,10 @@
-use Rattle.std.proofs.Common.{◌∙◌, ◌∷◌, Some, ap, map, Ok}
-use Rattle.bcast_io.specs.TextLines.{past, plain, too_long}
-use Rattle.source_machine.specs.Airs.{airs_of}
+use Rattle.replay_lines.proofs.Prelude.{◌∙◌, ◌∷◌, Some, ap, map, Ok, past, plain, too_long, airs_of, listened, tellings}
 use Rattle.replay_lines.proofs.Endings.{ends_faulted}
 use Rattle.replay_lines.proofs.Hearing.{ended_told}
 use Rattle.replay_lines.proofs.LineSteps.{next_at, line_past, line_long, line_read, line_comes, line_ahead, step_line}
 use Rattle.replay_lines.specs.declared.ending.Ending.TheVariants as endings
 use Rattle.replay_lines.proofs.Listening.{has_kept, told_at, told_line, told_text}
 use Rattle.replay_lines.proofs.ReadingOn.{comes_of}
-use Rattle.replay_lines.specs.Tellings.{listened, tellings}
 use Rattle.replay_lines.proofs.lines.run_line.Goals as goal
 
 pub returns-in-Err-clause-runs : goal.returns-in-Err-clause-runs

@@ -1,14 +1,10 @@
-use Rattle.std.proofs.Common.{◌+◌, ◌∙◌, inr, true, map, refl, arith}
-use Rattle.bcast_io.specs.TextLines.{lines_of}
-use Rattle.replay_steps.proofs.Citable.{none_run}
-use Rattle.source_machine.specs.Airs.{airs_of}
+use Rattle.replay_lines.proofs.Prelude.{◌+◌, ◌∙◌, inr, true, map, refl, arith, lines_of, none_run, airs_of, listened}
 use Rattle.replay_lines.proofs.Endings.{ends_at_once}
 use Rattle.replay_lines.proofs.Hearing.{wanted_told}
 use Rattle.replay_lines.proofs.ReadingOn.{none_within}
 use Rattle.replay_lines.proofs.LineSteps.{running_none, bound_none, running_more, running_ends}
 use Rattle.replay_lines.proofs.Listening.{has_none, telling_ends, telling_more, telling_none}
 use Rattle.replay_lines.proofs.Unassigned.{unassigned_at}
-use Rattle.replay_lines.specs.Tellings.{listened}
 use Rattle.replay_lines.proofs.lines.run_lines.Goals as goal
 
 pub returns-in_default-clause-ended : goal.returns-in_default-clause-ended

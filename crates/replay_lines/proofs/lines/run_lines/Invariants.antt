@@ -1,9 +1,6 @@
-use Rattle.std.proofs.Common.{◌≡◌, ◌+◌, ◌≤◌, map}
-use Rattle.bcast_io.specs.TextLines.{text_limit}
-use Rattle.bcast_io.specs.State.Reading.{lines_left}
+use Rattle.replay_lines.proofs.Prelude.{◌≡◌, ◌+◌, ◌≤◌, map, text_limit, lines_left, listened}
 use Rattle.replay_lines.proofs.LineSteps.{Running}
 use Rattle.replay_lines.proofs.Listening.{TellingOn}
-use Rattle.replay_lines.specs.Tellings.{listened}
 use Rattle.replay_lines.proofs.lines.run_lines.Given as goal
 
 abbrev pub invariant-lines : goal.invariant-lines

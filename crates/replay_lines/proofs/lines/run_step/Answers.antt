@@ -1,5 +1,4 @@
-use Rattle.std.proofs.Common.{◌∙◌, ap, Err}
-use Rattle.bcast_io.specs.TextLines.{plain}
+use Rattle.replay_lines.proofs.Prelude.{◌∙◌, ap, Err, plain}
 use Rattle.replay_lines.proofs.LineSteps.{run_ok, run_refused, run_failed, run_faulted, run_memory}
 use Rattle.replay_lines.proofs.lines.run_step.Goals as goal
 

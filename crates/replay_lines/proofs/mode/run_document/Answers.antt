@@ -1,8 +1,4 @@
-use Rattle.std.proofs.Common.{◌∙◌, refl, ap, sym, subst, map, Some, Err}
-use Rattle.replay_steps.specs.Unassigned.{UnassignedBy}
-use Rattle.scenario_toml.specs.Document.{meaning_of}
-use Rattle.replay_lines.specs.declared.cause.Cause.TheVariants.{BadToml, BadDocument}
-use Rattle.replay_lines.specs.Standing.{refused_for, stands_for, standing_by, lines_over}
+use Rattle.replay_lines.proofs.Prelude.{◌∙◌, refl, ap, sym, subst, map, Some, Err, UnassignedBy, meaning_of, BadToml, BadDocument, refused_for, stands_for, standing_by, lines_over}
 use Rattle.replay_lines.proofs.DocumentPromises.{runs_as, runs_text, wanting_at_once}
 use Rattle.replay_lines.proofs.mode.run_document.Goals as goal
 

@@ -1,12 +1,8 @@
-use Rattle.std.proofs.Common.{◌∙◌, refl, ap, sym, subst, map, Ok, Err}
+use Rattle.replay_lines.proofs.Prelude.{◌∙◌, refl, ap, sym, subst, map, Ok, Err, UnassignedBy, world_of, meaning_of, standing_by, lines_over}
 use Rattle.bcast_io.specs.declared.document.Document.TheVariants.{Whole, TooLong}
 use Rattle.bcast_io.specs.declared.piece.Unread.TheVariants.{Failed, Memory}
-use Rattle.replay_steps.specs.Unassigned.{UnassignedBy}
-use Rattle.replay_lines.specs.World.{world_of}
 use Rattle.replay_lines.specs.declared.ending.Ending.TheVariants as endings
-use Rattle.scenario_toml.specs.Document.{meaning_of}
 use Rattle.replay_lines.specs.declared.cause.Cause.TheVariants as causes
-use Rattle.replay_lines.specs.Standing.{standing_by, lines_over}
 use Rattle.replay_lines.proofs.DocumentPromises.{ran_unfailed, read_at, read_toml}
 use Rattle.replay_lines.proofs.Reading.{document_told, whole_is}
 use Rattle.replay_lines.proofs.Refusing.{refused_toml}

@@ -1,5 +1,4 @@
-use Rattle.std.proofs.Common.{[], refl, arith}
-use Rattle.bcast_io.proofs.Citable.{Consumes-nothing}
+use Rattle.replay_lines.proofs.Prelude.{[], refl, arith, Consumes-nothing}
 use Rattle.replay_lines.specs.declared.ending.Ending.TheVariants as endings
 use Rattle.replay_lines.proofs.Unread.{laws_of, wanting_toml}
 use Rattle.replay_lines.proofs.mode.want_of_memory_before_a_document.Goals as goal

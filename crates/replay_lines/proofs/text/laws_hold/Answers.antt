@@ -1,6 +1,4 @@
-use Rattle.std.proofs.Common.{length}
-use Rattle.source_machine.specs.Airs.{airs_of}
-use Rattle.scenario_history.specs.Lines.{said_after, steps_of}
+use Rattle.replay_lines.proofs.Prelude.{length, airs_of, said_after, steps_of}
 use Rattle.replay_lines.proofs.OtherAirs.{answered_alike}
 use Rattle.replay_lines.proofs.text.laws_hold.Goals as goal
 

@@ -1,7 +1,4 @@
-use Rattle.std.proofs.Common.{true, map}
-use Rattle.bcast_io.specs.TextLines.{lines_of}
-use Rattle.replay_steps.proofs.Citable.{unassigned_run}
-use Rattle.replay_lines.specs.World.{world_of}
+use Rattle.replay_lines.proofs.Prelude.{true, map, lines_of, unassigned_run, world_of}
 use Rattle.replay_lines.proofs.Hearing.{heard_run}
 use Rattle.replay_lines.proofs.text.run_heard.Goals as goal
 

@@ -1,8 +1,4 @@
-use Rattle.std.proofs.Common.{◌≡◌, ℕ, ◌*◌, ◌∙◌, ap, subst, arith}
-use Rattle.scenario_history.specs.Steps.{chosen_steps}
-use Rattle.scenario_history.specs.Source.{setup_of}
-use Rattle.scenario_sinks.specs.State.Standing.{SinksStand}
-use Rattle.replay_steps.specs.Airing.{histories_on_air}
+use Rattle.replay_steps.proofs.Prelude.{◌≡◌, ℕ, ◌*◌, ◌∙◌, ap, subst, arith, chosen_steps, setup_of, SinksStand, histories_on_air}
 use Rattle.replay_steps.proofs.Airing.{air_begins, air_ends}
 use Rattle.replay_steps.proofs.air_steps.hear_all.Goals as goal
 

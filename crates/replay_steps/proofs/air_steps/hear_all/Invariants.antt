@@ -1,10 +1,4 @@
-use Rattle.std.proofs.Common.{List, ◌≤◌, ◌-◌}
-use Rattle.scenario_text.specs.declared.step.Step.{Step}
-use Rattle.scenario_sources.specs.State.Standing.{SourcesStand}
-use Rattle.scenario_sinks.specs.State.Standing.{SinksStand}
-use Rattle.replay_steps.specs.Airing.{OnAir, histories_on_air}
-use Rattle.replay_steps.specs.Machines.{histories_of}
-use Rattle.replay_steps.specs.Positions.{IsPosition}
+use Rattle.replay_steps.proofs.Prelude.{List, ◌≤◌, ◌-◌, Step, SourcesStand, SinksStand, OnAir, histories_on_air, histories_of, IsPosition}
 use Rattle.replay_steps.proofs.air_steps.hear_all.Given as goal
 
 abbrev pub invariant-positions : goal.invariant-positions

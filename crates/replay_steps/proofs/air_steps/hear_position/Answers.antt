@@ -1,8 +1,4 @@
-use Rattle.std.proofs.Common.{◌+◌, true, false, List, ◌∙◌, ap, arith}
-use Rattle.big_info.specs.declared.info.BigInfo.{BigInfo}
-use Rattle.scenario_text.specs.declared.step.Step.{Step}
-use Rattle.scenario_history.specs.Steps.{chosen_steps}
-use Rattle.scenario_history.specs.Source.{setup_of}
+use Rattle.replay_steps.proofs.Prelude.{◌+◌, true, false, List, ◌∙◌, ap, arith, BigInfo, Step, chosen_steps, setup_of}
 use Rattle.replay_steps.proofs.Airing.{heard_next, lost_at, lost_next, no_place_there, position_within}
 use Rattle.replay_steps.proofs.Positions.{position_as}
 use Rattle.replay_steps.proofs.air_steps.hear_position.Goals as goal

@@ -1,5 +1,4 @@
-use Rattle.std.proofs.Common.{◌++◌, ◌∙◌, ap}
-use Rattle.transcript_text.specs.Lines.{dropped_line}
+use Rattle.replay_steps.proofs.Prelude.{◌++◌, ◌∙◌, ap, dropped_line}
 use Rattle.replay_steps.proofs.relay_steps.drop_unit.Goals as goal
 
 pub returns-in-Ok : goal.returns-in-Ok

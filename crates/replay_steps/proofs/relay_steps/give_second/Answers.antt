@@ -1,4 +1,4 @@
-use Rattle.scenario_history.specs.Steps.{version_of}
+use Rattle.replay_steps.proofs.Prelude.{version_of}
 use Rattle.replay_steps.proofs.Offering.{gives_second}
 use Rattle.replay_steps.proofs.relay_steps.give_second.Goals as goal
 

@@ -1,5 +1,4 @@
-use Rattle.std.proofs.Common.{map, sym, ◌∙◌}
-use Rattle.scenario_sinks.specs.State.Gathering.{handed_of}
+use Rattle.replay_steps.proofs.Prelude.{map, sym, ◌∙◌, handed_of}
 use Rattle.replay_steps.proofs.Offering.{offers_nowhere, offers_where}
 use Rattle.replay_steps.proofs.relay_steps.offer_all.Goals as goal
 

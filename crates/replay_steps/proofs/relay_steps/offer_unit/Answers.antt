@@ -1,8 +1,5 @@
-use Rattle.std.proofs.Common.{◌≡◌, ◌∙◌, Err, ap, subst, sym}
+use Rattle.replay_steps.proofs.Prelude.{◌≡◌, ◌∙◌, Err, ap, subst, sym, Stop, relay_histories, GivesSecond}
 use Rattle.scenario_sinks.specs.declared.route.Route.{Route}
-use Rattle.transcript_text.specs.declared.stop.Stop.{Stop}
-use Rattle.replay_steps.specs.Machines.{relay_histories}
-use Rattle.replay_steps.specs.Relaying.{GivesSecond}
 use Rattle.replay_steps.proofs.Offering.{routes_after_relays, offer_of, offers_dropped, offers_lost, offers_other, offers_taken}
 use Rattle.replay_steps.proofs.relay_steps.offer_unit.Goals as goal
 

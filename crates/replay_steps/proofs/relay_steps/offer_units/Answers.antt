@@ -1,7 +1,4 @@
-use Rattle.std.proofs.Common.{[], ◌∷◌, map, take, Some, sym, append-nil}
-use Rattle.source_machine.specs.Airs.{airs_of}
-use Rattle.scenario_history.specs.RelayedUnits.{after_offers, offered_of}
-use Rattle.scenario_sinks.specs.State.Gathering.{handed_of}
+use Rattle.replay_steps.proofs.Prelude.{[], ◌∷◌, map, take, Some, sym, append-nil, airs_of, after_offers, offered_of, handed_of}
 use Rattle.replay_steps.proofs.Offering.{offers_all, offers_more, offers_stopped}
 use Rattle.replay_steps.proofs.relay_steps.offer_units.Goals as goal
 

@@ -1,12 +1,4 @@
-use Rattle.std.proofs.Common.{◌≡◌, List, map, take, Some, Ok}
-use Rattle.scenario_text.specs.declared.step.Step.{Step}
-use Rattle.scenario_history.specs.RelayedUnits.{offered_of}
-use Rattle.scenario_history.specs.Relays.{Route}
-use Rattle.scenario_sinks.specs.State.RelaysStand.{RelaysStand}
-use Rattle.scenario_sinks.specs.State.Gathering.{handed_of}
-use Rattle.scenario_sources.specs.State.Standing.{SourcesStand}
-use Rattle.replay_steps.specs.Machines.{lent, relay_histories}
-use Rattle.replay_steps.specs.Relaying.{OffersMeet}
+use Rattle.replay_steps.proofs.Prelude.{◌≡◌, List, map, take, Some, Ok, Step, offered_of, Route, RelaysStand, handed_of, SourcesStand, lent, relay_histories, OffersMeet}
 use Rattle.replay_steps.proofs.relay_steps.offer_units.Given as goal
 
 abbrev pub invariant-units : goal.invariant-units

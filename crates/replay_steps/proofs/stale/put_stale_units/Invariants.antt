@@ -1,5 +1,4 @@
-use Rattle.std.proofs.Common.{◌≡◌, ◌++◌, take}
-use Rattle.scenario_history.specs.Output.{stale_lines}
+use Rattle.replay_steps.proofs.Prelude.{◌≡◌, ◌++◌, take, stale_lines}
 use Rattle.replay_steps.proofs.stale.put_stale_units.Given as goal
 
 abbrev pub invariant-units : goal.invariant-units

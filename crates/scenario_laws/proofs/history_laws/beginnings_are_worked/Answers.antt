@@ -1,15 +1,4 @@
-use Rattle.std.proofs.Common.{ℕ, zero, suc, ◌≡◌, ◌<◌, ◌+◌, ◌/◌, Bool, List, [], ◌∷◌, ◌++◌, length, map, Option, None, Some}
-use Rattle.std.proofs.Common.{refl, sym, ◌∙◌, ap, arith, inl, inr}
-use Rattle.std.specs.Prelude.{slice_get, slice_index_or}
-use Rattle.std.proofs.lemmas.Bool.{cases_eq, ne_eqb}
-use Rattle.std.proofs.lemmas.Option.{none-some, same_Some}
-use Rattle.iso_pdu.specs.Layout.{framed}
-use Rattle.iso_pdu.specs.Encoding.{pdu}
-use Rattle.isoal_framed.specs.Sends.{Sends}
-use Rattle.isoal_framed.specs.Struck.{Sent, carried, parts_at}
-use Rattle.source_machine.specs.Calls.{framed_calls}
-use Rattle.scenario_laws.specs.OrderRows.{its_air, its_calls, its_setup}
-use Rattle.scenario_laws.specs.SourceUnits.{by_payload}
+use Rattle.scenario_laws.proofs.Prelude.{ℕ, zero, suc, ◌≡◌, ◌<◌, ◌+◌, ◌/◌, Bool, List, [], ◌∷◌, ◌++◌, length, map, Option, None, Some, refl, sym, ◌∙◌, ap, arith, inl, inr, slice_get, slice_index_or, cases_eq, ne_eqb, none-some, same_Some, framed, pdu, Sends, Sent, carried, parts_at, framed_calls, its_air, its_calls, its_setup, by_payload}
 use Rattle.scenario_laws.proofs.history_laws.beginnings_are_worked.Goals as goal
 
 -- no number before the first carries anything

@@ -1,12 +1,5 @@
-use Rattle.std.proofs.Common.{ℕ, zero, suc, ◌≡◌, ◌+◌, List, [], ◌∷◌, map, Some, refl, arith}
-use Rattle.std.specs.Prelude.{slice_get}
-use Rattle.std.specs.List.{AllZip}
-use Rattle.std.specs.List.Sorted.{IsStrictlyIncreasing}
-use Rattle.std.proofs.lemmas.Option.{none-some, same_Some}
+use Rattle.scenario_laws.proofs.Prelude.{ℕ, zero, suc, ◌≡◌, ◌+◌, List, [], ◌∷◌, map, Some, refl, arith, slice_get, AllZip, IsStrictlyIncreasing, none-some, same_Some, Handed, lost, valid, equal_units, handed_both, its_setup, IsOfFirst, UnitPlace}
 use Rattle.bcast_base.specs.declared.unit.Unit.{Unit as AudioUnit}
-use Rattle.unit_outlets.specs.Handed.{Handed, lost, valid}
-use Rattle.scenario_laws.specs.OrderRows.{equal_units, handed_both, its_setup}
-use Rattle.scenario_laws.specs.Relayed.{IsOfFirst, UnitPlace}
 use Rattle.scenario_laws.proofs.relay_laws.relayed_units_are_worked.Goals as goal
 
 abbrev octets_of : Handed → List ℕ

@@ -1,4 +1,4 @@
-use Rattle.scenario_text.specs.Written.{line_of}
+use Rattle.scenario_lines.proofs.Prelude.{line_of}
 use Rattle.scenario_lines.proofs.Said.{its_line, it_fits}
 use Rattle.scenario_lines.proofs.laws.a_step_has_a_line_where_it_fits.Goals as goal
 

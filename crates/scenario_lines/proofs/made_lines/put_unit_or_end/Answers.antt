@@ -1,4 +1,4 @@
-use Rattle.std.proofs.Common.{◌≡◌, ◌∙◌, ◌++◌, ap, List, ℕ, codes}
+use Rattle.scenario_lines.proofs.Prelude.{◌≡◌, ◌∙◌, ◌++◌, ap, List, ℕ, codes}
 use Rattle.scenario_lines.proofs.NextLines.{end_next, unit_next}
 use Rattle.scenario_lines.proofs.made_lines.put_unit_or_end.Goals as goal
 

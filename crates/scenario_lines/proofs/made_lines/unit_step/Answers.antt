@@ -1,5 +1,4 @@
-use Rattle.std.proofs.Common.{◌≡◌, rules}
-use Rattle.scenario_lines.specs.Generated.{unit_of}
+use Rattle.scenario_lines.proofs.Prelude.{◌≡◌, rules, unit_of}
 use Rattle.scenario_lines.proofs.MadeSteps.{unit_said}
 use Rattle.scenario_lines.proofs.made_lines.unit_step.Goals as goal
 

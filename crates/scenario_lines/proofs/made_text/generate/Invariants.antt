@@ -1,5 +1,4 @@
-use Rattle.std.proofs.Common.{◌≡◌, ◌++◌, length}
-use Rattle.scenario_lines.specs.Generated.{generated, text_of}
+use Rattle.scenario_lines.proofs.Prelude.{◌≡◌, ◌++◌, length, generated, text_of}
 use Rattle.scenario_lines.proofs.made_text.generate.Given as goal
 
 abbrev pub invariant-lines : goal.invariant-lines

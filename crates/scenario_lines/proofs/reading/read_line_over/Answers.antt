@@ -1,4 +1,4 @@
-use Rattle.scenario_text.proofs.Citable.{is_in_range, is_found, is_read, is_blank, result_misfit}
+use Rattle.scenario_lines.proofs.Prelude.{is_in_range, is_found, is_read, is_blank, result_misfit}
 use Rattle.scenario_lines.proofs.reading.read_line_over.Goals as goal
 
 pub returns-clause-in_range : goal.returns-clause-in_range

@@ -1,4 +1,4 @@
-use Rattle.std.proofs.Common.{arith}
+use Rattle.scenario_lines.proofs.Prelude.{arith}
 use Rattle.scenario_lines.proofs.Putting.{stream_put, streams_put}
 use Rattle.scenario_lines.proofs.streams.put_streams.Goals as goal
 

@@ -1,4 +1,4 @@
-use Rattle.std.proofs.Common.{ℕ, List, ◌++◌, ap, sym, ◌∙◌, arith}
+use Rattle.scenario_lines.proofs.Prelude.{ℕ, List, ◌++◌, ap, sym, ◌∙◌, arith}
 use Rattle.scenario_lines.proofs.Putting.{got_item, item_put, value_alone, values_in_turn, written_values}
 use Rattle.scenario_lines.proofs.values.put_values.Goals as goal
 

@@ -1,4 +1,4 @@
-use Rattle.std.proofs.Common.{arith}
+use Rattle.scenario_lines.proofs.Prelude.{arith}
 use Rattle.scenario_lines.proofs.Putting.{item_put, items_put, wishes_in_turn, written_wishes}
 use Rattle.scenario_lines.proofs.wishes.put_wishes.Goals as goal
 

@@ -1,4 +1,4 @@
-use Rattle.std.proofs.Common.{◌∙◌}
+use Rattle.scenario_sink.proofs.Prelude.{◌∙◌}
 use Rattle.scenario_sink.proofs.Lent.{asked_so, its_own}
 use Rattle.scenario_sink.proofs.on_link.next_read.Goals as goal
 

@@ -1,4 +1,4 @@
-use Rattle.std.proofs.Common.{◌≡◌, refl, sym, subst, ◌∙◌}
+use Rattle.scenario_sink.proofs.Prelude.{◌≡◌, refl, sym, subst, ◌∙◌}
 use Rattle.assistant_machine.specs.State.Assistants.{StandsFor}
 use Rattle.scenario_sink.proofs.Lent.{its_own}
 use Rattle.scenario_sink.proofs.Results.{on_ok}

@@ -1,4 +1,4 @@
-use Rattle.std.proofs.Common.{◌∙◌}
+use Rattle.scenario_sink.proofs.Prelude.{◌∙◌}
 use Rattle.scenario_sink.proofs.Lent.{its_own, sent_so}
 use Rattle.scenario_sink.proofs.on_link.take_write.Goals as goal
 

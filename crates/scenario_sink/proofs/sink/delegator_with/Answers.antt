@@ -1,7 +1,4 @@
-use Rattle.std.proofs.Common.{[], sym, subst}
-use Rattle.delegator_machine.specs.State.Halves.{StandsFor}
-use Rattle.delegator_history.specs.Trains.{Setup}
-use Rattle.scenario_sink.specs.State.Untold.{its_mtu}
+use Rattle.scenario_sink.proofs.Prelude.{[], sym, subst, StandsFor, Setup, its_mtu}
 use Rattle.scenario_sink.proofs.sink.delegator_with.Goals as goal
 
 pub returns : goal.returns

@@ -1,4 +1,4 @@
-use Rattle.std.proofs.Common.{arith, refl}
+use Rattle.scenario_sinks.proofs.Prelude.{arith, refl}
 use Rattle.scenario_sinks.proofs.Beyonds.{beyond_next, beyond_found, beyond_none}
 use Rattle.scenario_sinks.proofs.beyond.is_beyond.Goals as goal
 

@@ -1,4 +1,4 @@
-use Rattle.std.proofs.Common.{◌≡◌, false}
+use Rattle.scenario_sinks.proofs.Prelude.{◌≡◌, false}
 use Rattle.scenario_sinks.proofs.Beyonds.{some_beyond}
 use Rattle.scenario_sinks.proofs.beyond.is_beyond.Given as goal
 

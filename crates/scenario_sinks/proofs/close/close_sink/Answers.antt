@@ -1,4 +1,4 @@
-use Rattle.std.proofs.Common.{sym, ◌∙◌}
+use Rattle.scenario_sinks.proofs.Prelude.{sym, ◌∙◌}
 use Rattle.scenario_sinks.proofs.Closings.{not_both, sink_closes, sink_rests, sink_rests_held}
 use Rattle.scenario_sinks.proofs.close.close_sink.Goals as goal
 

@@ -1,4 +1,4 @@
-use Rattle.std.proofs.Common.{◌∙◌, ◌-◌, ◌<◌, arith}
+use Rattle.scenario_sinks.proofs.Prelude.{◌∙◌, ◌-◌, ◌<◌, arith}
 use Rattle.scenario_sinks.proofs.Closings.{between_next_at, between_ends, between_over, entries_next, entry_here, one_ends, one_next, one_over}
 use Rattle.scenario_sinks.proofs.Unassigned.{unassigned_more}
 use Rattle.scenario_sinks.proofs.close.close_sinks.Goals as goal

@@ -1,8 +1,4 @@
-use Rattle.std.proofs.Common.{◌≡◌, ◌+◌, [], map, true, false}
-use Rattle.scenario_sinks.specs.Histories.{Histories}
-use Rattle.scenario_sinks.specs.State.Standing.{EntriesAre}
-use Rattle.scenario_sinks.specs.State.Between.{Between, EntriesFrom, OneBetween}
-use Rattle.scenario_sinks.specs.Unassigned.{UnassignedSame}
+use Rattle.scenario_sinks.proofs.Prelude.{◌≡◌, ◌+◌, [], map, true, false, Histories, EntriesAre, Between, EntriesFrom, OneBetween, UnassignedSame}
 use Rattle.scenario_sinks.proofs.close.close_sinks.Given as goal
 
 abbrev pub invariant-sinks : goal.invariant-sinks

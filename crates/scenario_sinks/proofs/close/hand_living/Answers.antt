@@ -1,9 +1,7 @@
-use Rattle.std.proofs.Common.{ap, refl, sym, map, Some, arith}
+use Rattle.scenario_sinks.proofs.Prelude.{ap, refl, sym, map, Some, arith, handed_of, histories_of}
 use Rattle.bcast_base.specs.Counts.{Rose}
-use Rattle.scenario_sinks.specs.State.Gathering.{handed_of}
 use Rattle.scenario_sinks.proofs.Closings.{gathered_are, sink_hands}
 use Rattle.scenario_sinks.proofs.Entries.{sink_in}
-use Rattle.scenario_sinks.specs.State.Standing.{histories_of}
 use Rattle.scenario_sinks.proofs.close.hand_living.Goals as goal
 
 -- what gathers units has no faults of its own

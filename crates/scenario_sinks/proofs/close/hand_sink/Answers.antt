@@ -1,9 +1,7 @@
-use Rattle.std.proofs.Common.{ap, refl, sym, ◌∙◌}
-use Rattle.scenario_history.specs.Sinks.{is_of}
+use Rattle.scenario_sinks.proofs.Prelude.{ap, refl, sym, ◌∙◌, is_of, histories_of}
 use Rattle.scenario_sinks.proofs.Closings.{sink_left}
 use Rattle.scenario_sinks.proofs.Entries.{entry_of, sink_in}
 use Rattle.scenario_sinks.proofs.Unassigned.{all_but}
-use Rattle.scenario_sinks.specs.State.Standing.{histories_of}
 use Rattle.scenario_sinks.proofs.close.hand_sink.Goals as goal
 
 pub returns-then-not-is_of-clause-hands : goal.returns-then-not-is_of-clause-hands

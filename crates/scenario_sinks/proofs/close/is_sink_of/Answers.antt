@@ -1,6 +1,5 @@
-use Rattle.std.proofs.Common.{◌∙◌}
+use Rattle.scenario_sinks.proofs.Prelude.{◌∙◌, histories_of}
 use Rattle.scenario_sinks.proofs.Entries.{no_sink_of, sink_in, sink_of}
-use Rattle.scenario_sinks.specs.State.Standing.{histories_of}
 use Rattle.scenario_sinks.proofs.close.is_sink_of.Goals as goal
 
 pub returns-in-Some : goal.returns-in-Some

@@ -1,6 +1,5 @@
-use Rattle.scenario_text.specs.declared.step.Step.TheVariants.{Announce}
+use Rattle.scenario_sinks.proofs.Prelude.{Announce, histories_of}
 use Rattle.scenario_sinks.proofs.Entries.{entry_ran, sink_in}
-use Rattle.scenario_sinks.specs.State.Standing.{histories_of}
 use Rattle.scenario_sinks.proofs.entry.announce_entry.Goals as goal
 
 pub returns : goal.returns

@@ -1,5 +1,5 @@
 use Rattle.scenario_sinks.proofs.Entries.{entry_answers, none_answers, other_answers, sink_in}
-use Rattle.scenario_sinks.specs.State.Standing.{histories_of}
+use Rattle.scenario_sinks.proofs.Prelude.{histories_of}
 use Rattle.scenario_sinks.proofs.entry.answer_entry.Goals as goal
 
 pub returns-in_default : goal.returns-in_default

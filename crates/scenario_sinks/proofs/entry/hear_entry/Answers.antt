@@ -1,5 +1,5 @@
 use Rattle.scenario_sinks.proofs.Entries.{entry_heard, entry_passed, sink_in}
-use Rattle.scenario_sinks.specs.State.Standing.{histories_of}
+use Rattle.scenario_sinks.proofs.Prelude.{histories_of}
 use Rattle.scenario_sinks.proofs.entry.hear_entry.Goals as goal
 
 pub returns-then-not-is_of : goal.returns-then-not-is_of

@@ -1,5 +1,5 @@
 use Rattle.scenario_sinks.proofs.Entries.{entry_ran, sink_in}
-use Rattle.scenario_sinks.specs.State.Standing.{histories_of}
+use Rattle.scenario_sinks.proofs.Prelude.{histories_of}
 use Rattle.scenario_sinks.proofs.entry.run_entry.Goals as goal
 
 pub returns : goal.returns

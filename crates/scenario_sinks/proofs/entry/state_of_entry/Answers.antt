@@ -1,8 +1,7 @@
-use Rattle.std.proofs.Common.{◌≡◌, subst, sym}
+use Rattle.scenario_sinks.proofs.Prelude.{◌≡◌, subst, sym, histories_of}
 use Rattle.std.specs.Prelude.{IfOk}
 use Rattle.sink_history.specs.Output.{state_where}
 use Rattle.scenario_sinks.proofs.Entries.{sink_in}
-use Rattle.scenario_sinks.specs.State.Standing.{histories_of}
 use Rattle.scenario_sinks.proofs.entry.state_of_entry.Goals as goal
 
 pub returns-in-Some : goal.returns-in-Some

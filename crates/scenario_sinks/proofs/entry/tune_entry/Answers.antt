@@ -1,8 +1,6 @@
-use Rattle.std.proofs.Common.{◌∙◌, ap}
-use Rattle.sync_reference.specs.BigSync.{BigSync}
+use Rattle.scenario_sinks.proofs.Prelude.{◌∙◌, ap, BigSync, histories_of}
 use Rattle.scenario_history.specs.Refusals.{has_beyond}
 use Rattle.scenario_sinks.proofs.Entries.{entry_tuned, sink_in}
-use Rattle.scenario_sinks.specs.State.Standing.{histories_of}
 use Rattle.scenario_sinks.proofs.entry.tune_entry.Goals as goal
 
 pub returns : goal.returns

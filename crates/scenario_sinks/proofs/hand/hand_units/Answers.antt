@@ -1,4 +1,4 @@
-use Rattle.std.proofs.Common.{Ok, ◌∙◌}
+use Rattle.scenario_sinks.proofs.Prelude.{Ok, ◌∙◌}
 use Rattle.scenario_sinks.proofs.Handings.{hands_more, hands_ends}
 use Rattle.scenario_sinks.proofs.hand.hand_units.Goals as goal
 

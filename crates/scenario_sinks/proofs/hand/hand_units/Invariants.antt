@@ -1,8 +1,4 @@
-use Rattle.std.proofs.Common.{◌≡◌, ◌++◌, map, take}
-use Rattle.unit_outlets.specs.Took.{OthersSame}
-use Rattle.scenario_history.specs.Boxes.{accounts_after}
-use Rattle.scenario_history.specs.Output.{unit_lines}
-use Rattle.scenario_sinks.specs.State.Gathering.{handed_of, units_for}
+use Rattle.scenario_sinks.proofs.Prelude.{◌≡◌, ◌++◌, map, take, OthersSame, accounts_after, unit_lines, handed_of, units_for}
 use Rattle.scenario_sinks.proofs.hand.hand_units.Given as goal
 
 abbrev pub invariant-units : goal.invariant-units

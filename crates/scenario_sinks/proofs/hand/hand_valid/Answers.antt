@@ -1,6 +1,4 @@
-use Rattle.std.proofs.Common.{refl, [], ◌∷◌}
-use Rattle.unit_outlets.specs.Handed.{valid}
-use Rattle.scenario_sinks.specs.State.Gathering.{units_for}
+use Rattle.scenario_sinks.proofs.Prelude.{refl, [], ◌∷◌, valid, units_for}
 use Rattle.scenario_sinks.proofs.Handings.{hands_valid}
 use Rattle.scenario_sinks.proofs.hand.hand_valid.Goals as goal
 

@@ -1,4 +1,4 @@
-use Rattle.std.proofs.Common.{◌∙◌, ap, Err}
+use Rattle.scenario_sinks.proofs.Prelude.{◌∙◌, ap, Err}
 use Rattle.scenario_sinks.proofs.Handings.{box_wanted}
 use Rattle.scenario_sinks.proofs.hand.put_in_box.Goals as goal
 

@@ -1,4 +1,4 @@
-use Rattle.std.proofs.Common.{◌≡◌, replicate, None}
+use Rattle.scenario_sinks.proofs.Prelude.{◌≡◌, replicate, None}
 use Rattle.scenario_sinks.proofs.sinks.no_sinks.Given as goal
 
 abbrev pub invariant-sinks : goal.invariant-sinks

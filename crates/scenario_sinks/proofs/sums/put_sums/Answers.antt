@@ -1,4 +1,4 @@
-use Rattle.std.proofs.Common.{arith}
+use Rattle.scenario_sinks.proofs.Prelude.{arith}
 use Rattle.scenario_sinks.proofs.Entries.{entry_read}
 use Rattle.scenario_sinks.proofs.SumLaws.{sums_all, sums_next}
 use Rattle.scenario_sinks.proofs.sums.put_sums.Goals as goal

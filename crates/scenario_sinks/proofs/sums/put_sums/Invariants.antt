@@ -1,8 +1,4 @@
-use Rattle.std.proofs.Common.{◌≡◌, ◌++◌, map}
-use Rattle.std.specs.List.{range_with_len}
-use Rattle.scenario_sinks.specs.Histories.{Histories}
-use Rattle.scenario_sinks.specs.State.Standing.{EntriesAre}
-use Rattle.scenario_sinks.specs.Sums.{sums_where}
+use Rattle.scenario_sinks.proofs.Prelude.{◌≡◌, ◌++◌, map, range_with_len, Histories, EntriesAre, sums_where}
 use Rattle.scenario_sinks.proofs.sums.put_sums.Given as goal
 
 abbrev pub invariant-sinks : goal.invariant-sinks

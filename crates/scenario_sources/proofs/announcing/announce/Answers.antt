@@ -1,6 +1,5 @@
-use Rattle.std.proofs.Common.{subst}
+use Rattle.scenario_sources.proofs.Prelude.{subst, source_calls}
 use Rattle.bcast_base.specs.Encoding.{IsOctets}
-use Rattle.scenario_history.specs.Source.{source_calls}
 use Rattle.scenario_sources.proofs.Trains.{announces, announces_no_more}
 use Rattle.scenario_sources.proofs.announcing.announce.Goals as goal
 

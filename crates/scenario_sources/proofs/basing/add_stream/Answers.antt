@@ -1,5 +1,4 @@
-use Rattle.std.proofs.Common.{refl, arith}
-use Rattle.ltv_codec.proofs.Citable.{are_read}
+use Rattle.scenario_sources.proofs.Prelude.{refl, arith, are_read}
 use Rattle.scenario_sources.proofs.Drafts.{adds, adds_beyond, adds_early, adds_not, list_for, some_then}
 use Rattle.scenario_sources.proofs.basing.add_stream.Goals as goal
 

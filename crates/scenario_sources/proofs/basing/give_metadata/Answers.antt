@@ -1,5 +1,4 @@
-use Rattle.std.proofs.Common.{refl, arith}
-use Rattle.ltv_codec.proofs.Citable.{are_read}
+use Rattle.scenario_sources.proofs.Prelude.{refl, arith, are_read}
 use Rattle.scenario_sources.proofs.Drafts.{gives_metadata, gives_no_metadata}
 use Rattle.scenario_sources.proofs.basing.give_metadata.Goals as goal
 

@@ -1,4 +1,4 @@
-use Rattle.std.proofs.Common.{ap, ◌∙◌, not}
+use Rattle.scenario_sources.proofs.Prelude.{ap, ◌∙◌, not}
 use Rattle.scenario_sources.proofs.Drafts.{missing_is}
 use Rattle.scenario_sources.proofs.basing.has_subgroup.Goals as goal
 

@@ -1,4 +1,4 @@
-use Rattle.std.proofs.Common.{◌∙◌}
+use Rattle.scenario_sources.proofs.Prelude.{◌∙◌}
 use Rattle.scenario_sources.proofs.Drafts.{bare_is}
 use Rattle.scenario_sources.proofs.basing.is_last_bare.Goals as goal
 

@@ -1,5 +1,4 @@
-use Rattle.std.proofs.Common.{refl, arith}
-use Rattle.ltv_codec.proofs.Citable.{are_read}
+use Rattle.scenario_sources.proofs.Prelude.{refl, arith, are_read}
 use Rattle.scenario_sources.proofs.Drafts.{opens, opens_not}
 use Rattle.scenario_sources.proofs.basing.open_subgroup.Goals as goal
 

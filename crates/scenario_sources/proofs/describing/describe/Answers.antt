@@ -1,4 +1,4 @@
-use Rattle.std.proofs.Common.{refl}
+use Rattle.scenario_sources.proofs.Prelude.{refl}
 use Rattle.scenario_sources.proofs.Phasing.{describes}
 use Rattle.scenario_sources.proofs.describing.describe.Goals as goal
 

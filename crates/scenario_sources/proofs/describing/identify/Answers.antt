@@ -1,4 +1,4 @@
-use Rattle.std.proofs.Common.{refl, sym, ◌∙◌}
+use Rattle.scenario_sources.proofs.Prelude.{refl, sym, ◌∙◌}
 use Rattle.scenario_sources.proofs.Phasing.{identifies}
 use Rattle.scenario_sources.proofs.describing.identify.Goals as goal
 

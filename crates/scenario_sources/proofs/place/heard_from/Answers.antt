@@ -1,6 +1,4 @@
-use Rattle.source_machine.specs.Airs.{airs_of}
-use Rattle.source_machine.proofs.Citable.{airs_exist}
-use Rattle.scenario_history.specs.Source.{source_calls}
+use Rattle.scenario_sources.proofs.Prelude.{airs_of, airs_exist, source_calls}
 use Rattle.scenario_sources.proofs.Phasing.{heard}
 use Rattle.scenario_sources.proofs.place.heard_from.Goals as goal
 

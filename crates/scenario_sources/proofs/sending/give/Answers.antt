@@ -1,4 +1,4 @@
-use Rattle.std.proofs.Common.{refl, sym, ◌∙◌}
+use Rattle.scenario_sources.proofs.Prelude.{refl, sym, ◌∙◌}
 use Rattle.scenario_sources.proofs.Phasing.{coded, gives, none_of}
 use Rattle.scenario_sources.proofs.sending.give.Goals as goal
 

@@ -1,5 +1,4 @@
-use Rattle.source_machine.specs.Airs.{airs_of}
-use Rattle.source_machine.proofs.Citable.{airs_exist}
+use Rattle.scenario_sources.proofs.Prelude.{airs_of, airs_exist}
 use Rattle.scenario_sources.proofs.Phasing.{gives_not}
 use Rattle.scenario_sources.proofs.sending.give_to.Goals as goal
 

@@ -1,10 +1,6 @@
-use Rattle.std.proofs.Common.{◌≡◌, ◌∷◌, ◌∙◌, ap, sym, refl, is_some, false}
-use Rattle.source_machine.specs.Airs.{airs_of}
-use Rattle.source_machine.specs.Calls.{event}
+use Rattle.scenario_sources.proofs.Prelude.{◌≡◌, ◌∷◌, ◌∙◌, ap, sym, refl, is_some, false, airs_of, event, airs_exist, is_ciphered, source_calls}
 use Rattle.source_machine.specs.Faults.{event_fault}
-use Rattle.source_machine.proofs.Citable.{airs_exist}
 use Rattle.scenario_history.specs.Refusals.{counter_ends}
-use Rattle.scenario_history.specs.Source.{is_ciphered, source_calls}
 use Rattle.scenario_sources.proofs.Phasing.{closed_is, coded, left_out, none_of}
 use Rattle.scenario_sources.proofs.sending.perform.Goals as goal
 

@@ -1,5 +1,4 @@
-use Rattle.std.proofs.Common.{refl, sym, ◌∙◌}
-use Rattle.scenario_history.specs.Source.{source_calls}
+use Rattle.scenario_sources.proofs.Prelude.{refl, sym, ◌∙◌, source_calls}
 use Rattle.scenario_sources.proofs.Phasing.{coded, relays_not}
 use Rattle.scenario_sources.proofs.sending.relayed_in.Goals as goal
 

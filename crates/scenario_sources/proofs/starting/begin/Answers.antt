@@ -1,5 +1,4 @@
-use Rattle.std.proofs.Common.{◌≡◌, true, refl, subst, sym}
-use Rattle.scenario_sources.specs.State.Phases.{PhaseIs, is_described}
+use Rattle.scenario_sources.proofs.Prelude.{◌≡◌, true, refl, subst, sym, PhaseIs, is_described}
 use Rattle.scenario_sources.proofs.Starts.{begin_stops, is_not_other}
 use Rattle.scenario_sources.proofs.starting.begin.Goals as goal
 

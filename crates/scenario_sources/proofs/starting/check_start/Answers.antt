@@ -1,4 +1,4 @@
-use Rattle.std.proofs.Common.{◌≤◌, arith}
+use Rattle.scenario_sources.proofs.Prelude.{◌≤◌, arith}
 use Rattle.scenario_sources.proofs.Starts.{identity_is, may_start_plain, may_start_said, start_bad, start_bare, start_long}
 use Rattle.scenario_sources.proofs.starting.check_start.Goals as goal
 

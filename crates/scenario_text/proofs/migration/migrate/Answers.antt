@@ -1,5 +1,4 @@
-use Rattle.std.proofs.Common.{◌++◌, ◌∷◌, [], List, ℕ, ap, sym, ◌∙◌}
-use Rattle.scenario_text.specs.MigratedLines.{text_after}
+use Rattle.scenario_text.proofs.Prelude.{◌++◌, ◌∷◌, [], List, ℕ, ap, sym, ◌∙◌, text_after}
 use Rattle.scenario_text.proofs.MigratedLines.{ends_first, ends_blank, goes_on}
 use Rattle.scenario_text.proofs.migration.migrate.Goals as goal
 

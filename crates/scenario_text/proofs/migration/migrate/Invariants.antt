@@ -1,4 +1,4 @@
-use Rattle.std.proofs.Common.{◌≡◌, ◌++◌, length}
+use Rattle.scenario_text.proofs.Prelude.{◌≡◌, ◌++◌, length}
 use Rattle.scenario_text.specs.Migrated.{migrated}
 use Rattle.scenario_text.proofs.migration.migrate.Given as goal
 

@@ -1,4 +1,4 @@
-use Rattle.std.proofs.Common.{◌≡◌, IfOk, ◌∙◌, sym, subst}
+use Rattle.scenario_toml.proofs.Prelude.{◌≡◌, IfOk, ◌∙◌, sym, subst}
 use Rattle.std.proofs.lemmas.Bool.{false≢true}
 use Rattle.scenario_toml.specs.Document.{lines}
 use Rattle.scenario_toml.proofs.Growing.{means, means_nothing}

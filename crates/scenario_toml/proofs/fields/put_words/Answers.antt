@@ -1,4 +1,4 @@
-use Rattle.std.proofs.Common.{◌∙◌}
+use Rattle.scenario_toml.proofs.Prelude.{◌∙◌}
 use Rattle.scenario_toml.proofs.Growing.{words_goes}
 use Rattle.scenario_toml.proofs.fields.put_words.Goals as goal
 

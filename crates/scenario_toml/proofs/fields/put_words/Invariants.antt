@@ -1,8 +1,4 @@
-use Rattle.std.proofs.Common.{◌≡◌, drop, map}
-use Rattle.toml.specs.View.{table_view}
-use Rattle.scenario_toml.specs.Parts.{after}
-use Rattle.scenario_toml.specs.Words.{words}
-use Rattle.scenario_toml.specs.State.Fields.{field_of}
+use Rattle.scenario_toml.proofs.Prelude.{◌≡◌, drop, map, table_view, after, words, field_of}
 use Rattle.scenario_toml.proofs.fields.put_words.Given as goal
 
 abbrev pub invariant-keys : goal.invariant-keys

@@ -1,6 +1,4 @@
-use Rattle.std.proofs.Common.{◌≡◌, drop}
-use Rattle.toml.specs.View.{items_view}
-use Rattle.scenario_toml.specs.Parts.{after, each}
+use Rattle.scenario_toml.proofs.Prelude.{◌≡◌, drop, items_view, after, each}
 use Rattle.scenario_toml.proofs.parts.put_each.Given as goal
 
 abbrev pub invariant-values : goal.invariant-values

@@ -1,4 +1,4 @@
-use Rattle.std.proofs.Common.{◌≡◌, ◌==◌, drop}
+use Rattle.scenario_toml.proofs.Prelude.{◌≡◌, ◌==◌, drop}
 use Rattle.std.specs.List.{list_any}
 use Rattle.bcast_io.specs.TextLines.{newline}
 use Rattle.scenario_toml.proofs.rows.ends_a_line.Given as goal

@@ -1,6 +1,5 @@
-use Rattle.std.proofs.Common.{◌≡◌, drop}
+use Rattle.scenario_toml.proofs.Prelude.{◌≡◌, drop, texts_of}
 use Rattle.scenario_toml.specs.Tables.{is_among}
-use Rattle.scenario_toml.specs.State.Fields.{texts_of}
 use Rattle.scenario_toml.proofs.tables.is_among.Given as goal
 
 abbrev pub invariant-others : goal.invariant-others

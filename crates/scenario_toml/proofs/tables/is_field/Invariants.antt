@@ -1,6 +1,5 @@
-use Rattle.std.proofs.Common.{◌≡◌, drop, map}
+use Rattle.scenario_toml.proofs.Prelude.{◌≡◌, drop, map, field_of}
 use Rattle.scenario_toml.specs.Tables.{is_field}
-use Rattle.scenario_toml.specs.State.Fields.{field_of}
 use Rattle.scenario_toml.proofs.tables.is_field.Given as goal
 
 abbrev pub invariant-fields : goal.invariant-fields

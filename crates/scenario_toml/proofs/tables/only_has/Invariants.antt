@@ -1,7 +1,5 @@
-use Rattle.std.proofs.Common.{◌≡◌, map}
-use Rattle.toml.specs.View.{members_view}
+use Rattle.scenario_toml.proofs.Prelude.{◌≡◌, map, members_view, field_of, texts_of}
 use Rattle.scenario_toml.specs.Tables.{only_has}
-use Rattle.scenario_toml.specs.State.Fields.{field_of, texts_of}
 use Rattle.scenario_toml.proofs.tables.only_has.Given as goal
 
 abbrev pub invariant-members : goal.invariant-members

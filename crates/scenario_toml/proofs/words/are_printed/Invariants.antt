@@ -1,6 +1,5 @@
-use Rattle.std.proofs.Common.{◌≡◌, drop}
+use Rattle.scenario_toml.proofs.Prelude.{◌≡◌, drop, is_printed}
 use Rattle.std.specs.List.{list_all}
-use Rattle.scenario_toml.specs.Words.{is_printed}
 use Rattle.scenario_toml.proofs.words.are_printed.Given as goal
 
 abbrev pub invariant-octets : goal.invariant-octets

@@ -1,4 +1,4 @@
-use Rattle.std.proofs.Common.{◌≡◌, length, arith, add-one, ap}
+use Rattle.scenario_words.proofs.Prelude.{◌≡◌, length, arith, add-one, ap}
 use Rattle.scenario_words.proofs.WishWords.{next_octets, one_short}
 use Rattle.scenario_words.proofs.cursor.octets_of_wishes.Goals as goal
 

@@ -1,5 +1,4 @@
-use Rattle.std.proofs.Common.{◌≡◌, ◌≤◌, ◌*◌, take}
-use Rattle.scenario_words.specs.Places.{wishes_octets}
+use Rattle.scenario_words.proofs.Prelude.{◌≡◌, ◌≤◌, ◌*◌, take, wishes_octets}
 use Rattle.scenario_words.proofs.cursor.octets_of_wishes.Given as goal
 
 abbrev pub invariant-wishes : goal.invariant-wishes

@@ -1,6 +1,4 @@
-use Rattle.std.proofs.Common.{◌≡◌, ◌<◌, ◌∙◌, sym, length, arith, true, eqb-true, below_more, get_or}
-use Rattle.std.specs.Int.{IsInRange}
-use Rattle.std.proofs.lemmas.Bool.{eqb-false}
+use Rattle.scenario_words.proofs.Prelude.{◌≡◌, ◌<◌, ◌∙◌, sym, length, arith, true, eqb-true, below_more, get_or, IsInRange, eqb-false}
 use Rattle.scenario_words.proofs.Decimals.{no_decimal_is_empty, no_leading_zero, more_value, no_further, is_decimal}
 use Rattle.scenario_words.proofs.decimal.decimal.Goals as goal
 

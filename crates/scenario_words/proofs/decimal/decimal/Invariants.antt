@@ -1,6 +1,4 @@
-use Rattle.std.proofs.Common.{◌≡◌, ℕ, ◌<◌, ◌^◌, get_or, take}
-use Rattle.std.specs.Int.{IsInRange}
-use Rattle.std.specs.Str.Parse.{digits_value}
+use Rattle.scenario_words.proofs.Prelude.{◌≡◌, ℕ, ◌<◌, ◌^◌, get_or, take, IsInRange, digits_value}
 use Rattle.scenario_words.proofs.decimal.decimal.Given as goal
 
 abbrev pub invariant-loop-digit : goal.invariant-loop-digit

@@ -1,4 +1,4 @@
-use Rattle.std.proofs.Common.{arith}
+use Rattle.scenario_words.proofs.Prelude.{arith}
 use Rattle.scenario_words.proofs.DigitPairs.{one_digit_more, all_digits}
 use Rattle.scenario_words.proofs.digits.are_digits.Goals as goal
 

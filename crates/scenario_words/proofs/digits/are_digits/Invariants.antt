@@ -1,6 +1,4 @@
-use Rattle.std.proofs.Common.{◌≡◌, take}
-use Rattle.std.specs.List.{list_all}
-use Rattle.hex.specs.Hex.{is_hex_digit}
+use Rattle.scenario_words.proofs.Prelude.{◌≡◌, take, list_all, is_hex_digit}
 use Rattle.scenario_words.proofs.digits.are_digits.Given as goal
 
 abbrev pub invariant-digits : goal.invariant-digits

@@ -1,4 +1,4 @@
-use Rattle.std.proofs.Common.{arith, ◌+◌, ◌*◌}
+use Rattle.scenario_words.proofs.Prelude.{arith, ◌+◌, ◌*◌}
 use Rattle.scenario_words.proofs.DigitPairs.{all_pairs, is_digit_at, octets_at, one_pair_more}
 use Rattle.scenario_words.proofs.digits.decode.Goals as goal
 

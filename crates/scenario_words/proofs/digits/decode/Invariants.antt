@@ -1,6 +1,5 @@
-use Rattle.std.proofs.Common.{◌≡◌, ◌*◌, take, drop}
+use Rattle.scenario_words.proofs.Prelude.{◌≡◌, ◌*◌, take, drop, prepend}
 use Rattle.hex.specs.Hex.{decode_pairs}
-use Rattle.hex.proofs.Pairs.{prepend}
 use Rattle.scenario_words.proofs.digits.decode.Given as goal
 
 abbrev pub invariant-pairs : goal.invariant-pairs

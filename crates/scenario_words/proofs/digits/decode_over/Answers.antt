@@ -1,4 +1,4 @@
-use Rattle.std.proofs.Common.{arith, ◌≡◌, ◌%◌, length, sym, eqb-true, ◌∙◌}
+use Rattle.scenario_words.proofs.Prelude.{arith, ◌≡◌, ◌%◌, length, sym, eqb-true, ◌∙◌}
 use Rattle.scenario_words.proofs.DigitChunks.{all_read, piece_read}
 use Rattle.scenario_words.proofs.digits.decode_over.Goals as goal
 

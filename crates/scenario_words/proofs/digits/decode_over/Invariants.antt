@@ -1,4 +1,4 @@
-use Rattle.std.proofs.Common.{length}
+use Rattle.scenario_words.proofs.Prelude.{length}
 use Rattle.scenario_words.proofs.DigitChunks.{ReadTo}
 use Rattle.scenario_words.proofs.digits.decode_over.Given as goal
 

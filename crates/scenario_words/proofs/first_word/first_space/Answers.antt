@@ -1,5 +1,4 @@
-use Rattle.std.proofs.Common.{refl, arith}
-use Rattle.std.proofs.lemmas.Bool.{eq-eqb}
+use Rattle.scenario_words.proofs.Prelude.{refl, arith, eq-eqb}
 use Rattle.scenario_words.proofs.Splitting.{none_behind, some_behind, no_more}
 use Rattle.scenario_words.proofs.first_word.first_space.Goals as goal
 

@@ -1,4 +1,4 @@
-use Rattle.std.proofs.Common.{◌≡◌, ◌≤◌, ◌<◌, ℕ, true, nat_eq, get_or}
+use Rattle.scenario_words.proofs.Prelude.{◌≡◌, ◌≤◌, ◌<◌, ℕ, true, nat_eq, get_or}
 use Rattle.scenario_words.proofs.first_word.first_space.Given as goal
 
 abbrev pub invariant-near : goal.invariant-near

@@ -1,5 +1,4 @@
-use Rattle.std.proofs.Common.{◌+◌, add-one}
-use Rattle.std.proofs.lemmas.List.{take_rest}
+use Rattle.scenario_words.proofs.Prelude.{◌+◌, add-one, take_rest}
 use Rattle.scenario_words.proofs.Splitting.{no_space, first_space}
 use Rattle.scenario_words.proofs.first_word.split_word.Goals as goal
 

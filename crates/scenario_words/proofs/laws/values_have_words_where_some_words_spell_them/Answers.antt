@@ -1,9 +1,4 @@
-use Rattle.std.proofs.Common.{ℕ, List, [], refl, subst}
-use Rattle.std.proofs.lemmas.List.{append-nil}
-use Rattle.scenario_words.specs.Places.{Place, PlaceValue, one, perhaps, rising, wishes}
-use Rattle.scenario_words.specs.Spelling.{Spells}
-use Rattle.scenario_words.specs.ValueFitting.{HasWords}
-use Rattle.scenario_words.specs.ValueWords.{words_for}
+use Rattle.scenario_words.proofs.Prelude.{ℕ, List, [], refl, subst, append-nil, Place, PlaceValue, one, perhaps, rising, wishes, Spells, HasWords, words_for}
 use Rattle.scenario_words.proofs.Places.{EndsAt, words_fit, words_spelled}
 use Rattle.scenario_words.proofs.laws.values_have_words_where_some_words_spell_them.Goals as goal
 

@@ -1,5 +1,5 @@
-use Rattle.std.proofs.Common.{map}
-use Rattle.scenario_words.specs.Joined.{joined, behind}
+use Rattle.scenario_words.proofs.Prelude.{map, joined}
+use Rattle.scenario_words.specs.Joined.{behind}
 use Rattle.scenario_words.specs.PrintedWords.{spelled}
 use Rattle.scenario_words.proofs.Putting.{space_put, word_put, word_prefix, prefix_of_first, on_err}
 use Rattle.scenario_words.proofs.printed_line.put_words.Goals as goal

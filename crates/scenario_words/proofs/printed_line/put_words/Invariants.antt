@@ -1,6 +1,5 @@
-use Rattle.std.proofs.Common.{map, drop, ◌++◌}
-use Rattle.scenario_words.specs.Prefixes.{PutUpTo}
-use Rattle.scenario_words.specs.Joined.{joined, behind}
+use Rattle.scenario_words.proofs.Prelude.{map, drop, ◌++◌, PutUpTo, joined}
+use Rattle.scenario_words.specs.Joined.{behind}
 use Rattle.scenario_words.specs.PrintedWords.{spelled}
 use Rattle.scenario_words.proofs.printed_line.put_words.Given as goal
 

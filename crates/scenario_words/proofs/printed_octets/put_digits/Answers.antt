@@ -1,5 +1,4 @@
-use Rattle.std.proofs.Common.{◌++◌, sym, eqb-true}
-use Rattle.hex.specs.Hex.{encode_lower}
+use Rattle.scenario_words.proofs.Prelude.{◌++◌, sym, eqb-true, encode_lower}
 use Rattle.scenario_words.proofs.Putting.{put_more, regrouped, encode_split, digits_put}
 use Rattle.scenario_words.proofs.printed_octets.put_digits.Goals as goal
 

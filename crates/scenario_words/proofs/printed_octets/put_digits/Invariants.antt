@@ -1,6 +1,4 @@
-use Rattle.std.proofs.Common.{length, ◌++◌}
-use Rattle.hex.specs.Hex.{encode_lower}
-use Rattle.scenario_words.specs.Prefixes.{PutUpTo}
+use Rattle.scenario_words.proofs.Prelude.{length, ◌++◌, encode_lower, PutUpTo}
 use Rattle.scenario_words.proofs.printed_octets.put_digits.Given as goal
 
 abbrev pub invariant-chunks : goal.invariant-chunks

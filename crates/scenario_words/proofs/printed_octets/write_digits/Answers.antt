@@ -1,6 +1,4 @@
-use Rattle.std.proofs.Common.{◌∙◌, arith}
-use Rattle.hex.specs.Hex.{lower_digits}
-use Rattle.hex.proofs.Pairs.{encode_done}
+use Rattle.scenario_words.proofs.Prelude.{◌∙◌, arith, lower_digits, encode_done}
 use Rattle.scenario_words.proofs.Putting.{pair_put}
 use Rattle.scenario_words.proofs.printed_octets.write_digits.Goals as goal
 

@@ -1,5 +1,5 @@
-use Rattle.std.proofs.Common.{◌≡◌, ◌*◌, ◌++◌, take, drop}
-use Rattle.hex.specs.Hex.{encode_with, lower_digits}
+use Rattle.scenario_words.proofs.Prelude.{◌≡◌, ◌*◌, ◌++◌, take, drop, lower_digits}
+use Rattle.hex.specs.Hex.{encode_with}
 use Rattle.scenario_words.proofs.printed_octets.write_digits.Given as goal
 
 abbrev pub invariant-octets : goal.invariant-octets

@@ -1,4 +1,4 @@
-use Rattle.std.proofs.Common.{sym, arith}
+use Rattle.scenario_words.proofs.Prelude.{sym, arith}
 use Rattle.scenario_words.proofs.OneWord.{too_small, too_great}
 use Rattle.scenario_words.proofs.word.decimal_within.Goals as goal
 

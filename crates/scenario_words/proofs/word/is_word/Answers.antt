@@ -1,4 +1,4 @@
-use Rattle.std.proofs.Common.{arith, sym}
+use Rattle.scenario_words.proofs.Prelude.{arith, sym}
 use Rattle.scenario_words.proofs.SameWords.{other_length, same_octet, other_octet, same_word}
 use Rattle.scenario_words.proofs.word.is_word.Goals as goal
 

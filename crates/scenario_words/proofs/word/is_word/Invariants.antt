@@ -1,5 +1,4 @@
-use Rattle.std.proofs.Common.{◌≡◌, drop}
-use Rattle.std.specs.Prelude.{bytes_eq}
+use Rattle.scenario_words.proofs.Prelude.{◌≡◌, drop, bytes_eq}
 use Rattle.scenario_words.proofs.word.is_word.Given as goal
 
 abbrev pub invariant-octets : goal.invariant-octets

@@ -1,4 +1,4 @@
-use Rattle.std.proofs.Common.{sym, ◌∙◌}
+use Rattle.scenario_words.proofs.Prelude.{sym, ◌∙◌}
 use Rattle.scenario_words.proofs.OneWord.{number_below_width}
 use Rattle.scenario_words.proofs.word.number_of.Goals as goal
 

@@ -1,5 +1,4 @@
-use Rattle.std.proofs.Common.{◌∙◌}
-use Rattle.delegator_machine.specs.Groups.{group_calls}
+use Rattle.sink_c.proofs.Prelude.{◌∙◌, group_calls}
 use Rattle.group_sink.specs.Streams.{stay_on, stream_calls}
 use Rattle.sink_c.proofs.AllHanded.{ends_with}
 use Rattle.sink_c.proofs.laws.units_are_those_of_their_source.Goals as goal

@@ -1,9 +1,6 @@
-use Rattle.std.proofs.Common.{◌∷◌, subst}
+use Rattle.sink_c.proofs.Prelude.{◌∷◌, subst, control, StandsFor, KeptStands}
 use Rattle.delegator_history.specs.States.{record_added}
-use Rattle.delegator_machine.specs.Calls.{control}
-use Rattle.delegator_machine.specs.State.Halves.{StandsFor}
 use Rattle.pacs_records.specs.declared.record.PacRecord.{PacRecord}
-use Rattle.sink_c.specs.Sinks.{KeptStands}
 use Rattle.sink_c.proofs.settings.vm_sink_add_pac.Goals as goal
 
 -- the entry is the record of what was passed

@@ -1,10 +1,6 @@
-use Rattle.std.proofs.Common.{◌≡◌, ◌≤◌, ◌<◌, ◌↔◌, ℕ, List, true}
+use Rattle.sink_c.proofs.Prelude.{◌≡◌, ◌≤◌, ◌<◌, ◌↔◌, ℕ, List, true, Setup, Call, group_calls, Stands, is_taken}
 use Rattle.bcast_base.specs.Bis.{Has}
-use Rattle.delegator_history.specs.Trains.{Setup}
-use Rattle.delegator_machine.specs.Calls.{Call}
-use Rattle.delegator_machine.specs.Groups.{group_calls}
 use Rattle.group_sink.specs.Calls.{place}
-use Rattle.sink_c.specs.Sinks.{Stands, is_taken}
 use Rattle.sink_c.proofs.streams.vm_sink_streams.Given as goal
 
 -- the set has the streams below the index that are taken, and no others

@@ -1,11 +1,7 @@
-use Rattle.std.proofs.Common.{ℕ, ◌≡◌, ◌∷◌, ◌∙◌, subst}
+use Rattle.sink_c.proofs.Prelude.{ℕ, ◌≡◌, ◌∷◌, ◌∙◌, subst, control, StandsFor, BigSync, KeptStands}
 use Rattle.big_info.specs.declared.info.BigInfo.{BigInfo}
 use Rattle.c_values.specs.Infos.{big_info}
 use Rattle.delegator_history.specs.States.{sync_to_group}
-use Rattle.delegator_machine.specs.Calls.{control}
-use Rattle.delegator_machine.specs.State.Halves.{StandsFor}
-use Rattle.sync_reference.specs.BigSync.{BigSync}
-use Rattle.sink_c.specs.Sinks.{KeptStands}
 use Rattle.sink_c.proofs.tune.vm_sink_tune.Goals as goal
 
 -- the group that was checked is that of C's struct, and the set has the bits that C gave

@@ -1,8 +1,4 @@
-use Rattle.std.proofs.Common.{◌∷◌, ◌++◌, length, take, arith, ap, append_assoc, subst, sym, ◌∙◌}
-use Rattle.c_values.specs.Kept.{Brought, HasRoom}
-use Rattle.delegator_machine.specs.Groups.{group_calls}
-use Rattle.group_sink.specs.Handing.{handed_at}
-use Rattle.sink_c.specs.Sinks.{KeptStands, all_handed, room_kept, units_kept}
+use Rattle.sink_c.proofs.Prelude.{◌∷◌, ◌++◌, length, take, arith, ap, append_assoc, subst, sym, ◌∙◌, Brought, HasRoom, group_calls, handed_at, KeptStands, all_handed, room_kept, units_kept}
 use Rattle.sink_c.proofs.Handing.{brought_by}
 use Rattle.sink_c.proofs.units.vm_sink_tick.Goals as goal
 

@@ -1,4 +1,4 @@
-use Rattle.std.proofs.Common.{refl}
+use Rattle.sink_history.proofs.Prelude.{refl}
 use Rattle.sink_history.proofs.Opened.{operations, lives}
 use Rattle.sink_history.proofs.laws.worked_writes.Goals as goal
 

@@ -1,4 +1,4 @@
-use Rattle.source_machine.specs.Ciphers.{without_cipher}
+use Rattle.source_machine.proofs.Prelude.{without_cipher}
 use Rattle.source_machine.proofs.Ciphers.{is_checked, none_holds}
 use Rattle.source_machine.proofs.checking.plain_group.Goals as goal
 

@@ -1,13 +1,5 @@
-use Rattle.std.proofs.Common.{◌≡◌, ◌<◌, ◌≤◌, ◌-◌, ◌*◌, ◌/◌, Some, subst, sym, ap, ◌∙◌}
-use Rattle.std.specs.Option.{option_and_then}
-use Rattle.big_info.specs.declared.info.BigInfo.{BigInfo}
-use Rattle.big_info.specs.Schedule.{group_count}
-use Rattle.isoal_base.specs.Air.{pdu_at}
-use Rattle.isoal_unframed.specs.Air.{laid_u, unframed_air}
+use Rattle.source_machine.proofs.Prelude.{◌≡◌, ◌<◌, ◌≤◌, ◌-◌, ◌*◌, ◌/◌, Some, subst, sym, ap, ◌∙◌, option_and_then, BigInfo, group_count, pdu_at, laid_u, unframed_air, payload_number, pdu_of, framed_calls, stream_calls}
 use Rattle.isoal_unframed.specs.Calls.{events as laid_events}
-use Rattle.radio_schedule.specs.PayloadNumber.{payload_number}
-use Rattle.source_machine.specs.Airs.{pdu_of}
-use Rattle.source_machine.specs.Calls.{framed_calls, stream_calls}
 use Rattle.source_machine.proofs.Framings.{air_at, airs_only, plain_air}
 use Rattle.source_machine.proofs.AirLaws.{is_checked}
 use Rattle.source_machine.proofs.Payloads.{carried_is_laid, number_counted}

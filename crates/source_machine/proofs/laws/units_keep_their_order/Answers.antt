@@ -1,13 +1,6 @@
-use Rattle.std.proofs.Common.{ℕ, ◌≡◌, ◌≤◌, ◌-◌, Some, length, arith, sym, subst, ap, ◌∙◌}
-use Rattle.std.specs.List.{slice_get}
-use Rattle.std.specs.Option.{option_map}
-use Rattle.std.proofs.lemmas.Option.{slice_get-map}
-use Rattle.big_info.specs.declared.info.BigInfo.{BigInfo}
-use Rattle.isoal_framed.specs.Calls.{Timed, accepted}
-use Rattle.isoal_framed.specs.Air.{IsFramedAir}
+use Rattle.source_machine.proofs.Prelude.{ℕ, ◌≡◌, ◌≤◌, ◌-◌, Some, length, arith, sym, subst, ap, ◌∙◌, slice_get, option_map, slice_get-map, BigInfo, Timed, IsFramedAir, air_of, place_of, framed_calls, stream_calls}
+use Rattle.isoal_framed.specs.Calls.{accepted}
 use Rattle.isoal_framed.specs.Sends.{Sends}
-use Rattle.source_machine.specs.Airs.{air_of, place_of}
-use Rattle.source_machine.specs.Calls.{framed_calls, stream_calls}
 use Rattle.source_machine.proofs.AirLaws.{is_checked}
 use Rattle.source_machine.proofs.FramedCalls.{timed_octets}
 use Rattle.source_machine.proofs.Framings.{air_at, airs_only, framed_one}

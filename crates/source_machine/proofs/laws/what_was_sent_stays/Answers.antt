@@ -1,5 +1,4 @@
-use Rattle.std.proofs.Common.{◌∙◌, ap, sym, ◌++◌}
-use Rattle.source_machine.specs.Airs.{pdu_of}
+use Rattle.source_machine.proofs.Prelude.{◌∙◌, ap, sym, ◌++◌, pdu_of}
 use Rattle.source_machine.proofs.Framings.{airs_only}
 use Rattle.source_machine.proofs.AirLaws.{is_checked}
 use Rattle.source_machine.proofs.Payloads.{sent_stays}

@@ -1,5 +1,4 @@
-use Rattle.std.proofs.Common.{arith, refl, sym}
-use Rattle.source_machine.specs.State.Streams.{Grows, Lays}
+use Rattle.source_machine.proofs.Prelude.{arith, refl, sym, Grows, Lays}
 use Rattle.source_machine.proofs.LaidEvents.{all_tell, all_tell_none, grows_none}
 use Rattle.source_machine.proofs.Lists.{each_done, on_err, rest_same, zip_all, zip_broken}
 use Rattle.source_machine.proofs.stream.lay_each.Goals as goal

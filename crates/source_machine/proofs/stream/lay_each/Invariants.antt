@@ -1,6 +1,4 @@
-use Rattle.std.proofs.Common.{◌≡◌, ◌<◌, ◌≤◌, ℕ, get_or}
-use Rattle.source_machine.specs.State.Sources.{Stream}
-use Rattle.source_machine.specs.State.Streams.{AllTell, Lays}
+use Rattle.source_machine.proofs.Prelude.{◌≡◌, ◌<◌, ◌≤◌, ℕ, get_or, Stream, AllTell, Lays}
 use Rattle.source_machine.proofs.stream.lay_each.Given as goal
 
 abbrev pub invariant-streams : goal.invariant-streams

@@ -1,4 +1,4 @@
-use Rattle.std.proofs.Common.{◌≡◌, ◌+◌}
+use Rattle.source_machine.proofs.Prelude.{◌≡◌, ◌+◌}
 use Rattle.source_machine.proofs.Standing.{one_more_stream}
 use Rattle.source_machine.proofs.stream.new_streams.Goals as goal
 

@@ -1,5 +1,4 @@
-use Rattle.std.proofs.Common.{ℕ, ◌≡◌, ◌<◌, ◌+◌, [], length, get_or}
-use Rattle.source_machine.specs.State.Sources.{Stream, StreamStands}
+use Rattle.source_machine.proofs.Prelude.{ℕ, ◌≡◌, ◌<◌, ◌+◌, [], length, get_or, Stream, StreamStands}
 use Rattle.source_machine.proofs.stream.new_streams.Given as goal
 
 abbrev pub invariant-streams : goal.invariant-streams

@@ -1,6 +1,4 @@
-use Rattle.std.proofs.Common.{◌<◌, ◌/◌, arith, sym, subst}
-use Rattle.std.proofs.Math.Nat.{div-lt_iff_lt-mul}
-use Rattle.source_machine.specs.State.Streams.{IsLaid, sent_at}
+use Rattle.source_machine.proofs.Prelude.{◌<◌, ◌/◌, arith, sym, subst, div-lt_iff_lt-mul, IsLaid, sent_at}
 use Rattle.source_machine.proofs.Sending.{one_more, sent_here}
 use Rattle.source_machine.proofs.stream.sent_pdus.Goals as goal
 

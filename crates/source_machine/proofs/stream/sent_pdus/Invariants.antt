@@ -1,6 +1,4 @@
-use Rattle.std.proofs.Common.{◌≡◌, Some, map}
-use Rattle.std.specs.List.{range_with_len}
-use Rattle.source_machine.specs.State.Streams.{sent_at}
+use Rattle.source_machine.proofs.Prelude.{◌≡◌, Some, map, range_with_len, sent_at}
 use Rattle.source_machine.proofs.stream.sent_pdus.Given as goal
 
 abbrev pub invariant-places : goal.invariant-places

@@ -1,5 +1,4 @@
-use Rattle.std.proofs.Common.{◌≡◌, ◌++◌, take}
-use Rattle.source_machine.specs.Airs.{stale_on}
+use Rattle.source_machine.proofs.Prelude.{◌≡◌, ◌++◌, take, stale_on}
 use Rattle.source_machine.proofs.stream.tell_stale.Given as goal
 
 abbrev pub invariant-times : goal.invariant-times

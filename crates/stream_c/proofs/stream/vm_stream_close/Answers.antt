@@ -1,7 +1,4 @@
-use Rattle.std.proofs.Common.{◌++◌, length, take, arith, ap, subst, sym, ◌∙◌}
-use Rattle.c_values.specs.Kept.{Brought, HasRoom}
-use Rattle.group_sink.specs.Handing.{units_at_close}
-use Rattle.stream_c.specs.Streams.{KeptStands, room_kept, units_kept}
+use Rattle.stream_c.proofs.Prelude.{◌++◌, length, take, arith, ap, subst, sym, ◌∙◌, Brought, HasRoom, units_at_close, KeptStands, room_kept, units_kept}
 use Rattle.stream_c.proofs.Handing.{brought_by}
 use Rattle.stream_c.proofs.stream.vm_stream_close.Goals as goal
 

@@ -1,5 +1,4 @@
-use Rattle.std.proofs.Common.{subst}
-use Rattle.stream_c.specs.Streams.{KeptStands}
+use Rattle.stream_c.proofs.Prelude.{subst, KeptStands}
 use Rattle.stream_c.proofs.stream.vm_stream_hear.Goals as goal
 
 pub returns-clause-stands : goal.returns-clause-stands

@@ -1,6 +1,4 @@
-use Rattle.std.proofs.Common.{◌∙◌, ap, subst}
-use Rattle.std.specs.Prelude.{is_some}
-use Rattle.base_grammar.specs.Layout.{IsBase}
+use Rattle.base_grammar.proofs.Prelude.{◌∙◌, ap, subst, is_some, IsBase}
 use Rattle.base_grammar.proofs.Places.{effective_found, effective_present, effective_only}
 use Rattle.base_grammar.proofs.base.Base.effective.Goals as goal
 

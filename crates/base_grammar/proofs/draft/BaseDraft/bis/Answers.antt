@@ -1,7 +1,4 @@
-use Rattle.std.proofs.Common.{subst, sym}
-use Rattle.std.specs.Option.{ForSome}
-use Rattle.base_grammar.specs.Draft.{last_of}
-use Rattle.base_grammar.specs.Layout.{Endpoint, IsConfig, is_lc3}
+use Rattle.base_grammar.proofs.Prelude.{subst, sym, ForSome, last_of, Endpoint, IsConfig, is_lc3}
 use Rattle.base_grammar.proofs.Drafts.{with_entry_keeps}
 use Rattle.base_grammar.proofs.draft.BaseDraft.bis.Goals as goal
 

@@ -1,6 +1,4 @@
-use Rattle.std.proofs.Common.{subst, sym, ◌∙◌, ◌≡◌}
-use Rattle.base_grammar.specs.Draft.{finish_fault}
-use Rattle.base_grammar.specs.Layout.{Endpoint, endpoint}
+use Rattle.base_grammar.proofs.Prelude.{subst, sym, ◌∙◌, ◌≡◌, finish_fault, Endpoint, endpoint}
 use Rattle.base_grammar.proofs.Drafts.{finish_is}
 use Rattle.base_grammar.proofs.draft.BaseDraft.check.Goals as goal
 

@@ -1,6 +1,4 @@
-use Rattle.std.proofs.Common.{subst, sym, ◌∙◌, ◌≡◌, None, refl}
-use Rattle.base_grammar.specs.Draft.{finish_fault}
-use Rattle.base_grammar.specs.Layout.{Endpoint, endpoint}
+use Rattle.base_grammar.proofs.Prelude.{subst, sym, ◌∙◌, ◌≡◌, None, refl, finish_fault, Endpoint, endpoint}
 use Rattle.base_grammar.proofs.Drafts.{draft_done, finish_is}
 use Rattle.base_grammar.proofs.draft.BaseDraft.finish.Goals as goal
 

@@ -1,4 +1,4 @@
-use Rattle.std.proofs.Common.{rules, ◌∙◌}
+use Rattle.bcast_io.proofs.Prelude.{rules, ◌∙◌}
 use Rattle.bcast_io.proofs.Slices.{kept_prefix}
 use Rattle.bcast_io.proofs.line_buffer.LineBuffer.append.Goals as goal
 

@@ -1,4 +1,4 @@
-use Rattle.std.proofs.Common.{arith, length, ap, ◌∙◌, ◌≡◌, ◌<◌, refl}
+use Rattle.bcast_io.proofs.Prelude.{arith, length, ap, ◌∙◌, ◌≡◌, ◌<◌, refl}
 use Rattle.bcast_io.proofs.ReadingLaws.{Ends-line}
 use Rattle.bcast_io.proofs.line_reader.LineReader.last_line.Goals as goal
 

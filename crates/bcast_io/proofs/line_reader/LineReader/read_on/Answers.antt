@@ -1,4 +1,4 @@
-use Rattle.std.proofs.Common.{◌∙◌, []}
+use Rattle.bcast_io.proofs.Prelude.{◌∙◌, []}
 use Rattle.bcast_io.proofs.ReadingLaws.{Answers-then, Answers-found, Answers-ends, Took-of, Took-then}
 use Rattle.bcast_io.proofs.line_reader.LineReader.read_on.Goals as goal
 

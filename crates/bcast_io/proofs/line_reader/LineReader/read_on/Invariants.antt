@@ -1,6 +1,4 @@
-use Rattle.std.proofs.Common.{◌≡◌, ◌≤◌, ◌-◌, [], false}
-use Rattle.bcast_io.specs.TextLines.{text_limit}
-use Rattle.bcast_io.specs.State.Reading.{Took}
+use Rattle.bcast_io.proofs.Prelude.{◌≡◌, ◌≤◌, ◌-◌, [], false, text_limit, Took}
 use Rattle.bcast_io.proofs.line_reader.LineReader.read_on.Given as goal
 
 abbrev pub invariant-reads : goal.invariant-reads

@@ -1,5 +1,4 @@
-use Rattle.std.proofs.Common.{sym, ◌∙◌}
-use Rattle.std.proofs.lemmas.List.{nil_from_length}
+use Rattle.bcast_io.proofs.Prelude.{sym, ◌∙◌, nil_from_length}
 use Rattle.bcast_io.proofs.ReadingLaws.{Finds-whole}
 use Rattle.bcast_io.proofs.line_reader.LineReader.take_line.Goals as goal
 

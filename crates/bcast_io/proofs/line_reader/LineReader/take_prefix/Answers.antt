@@ -1,5 +1,4 @@
-use Rattle.std.proofs.Common.{arith, length, length-drop, ap, sym, ◌∙◌, ◌<◌, ◌≡◌}
-use Rattle.std.proofs.lemmas.Bool.{eqb-false}
+use Rattle.bcast_io.proofs.Prelude.{arith, length, length-drop, ap, sym, ◌∙◌, ◌<◌, ◌≡◌, eqb-false}
 use Rattle.bcast_io.proofs.ReadingLaws.{Reads-prefix}
 use Rattle.bcast_io.proofs.line_reader.LineReader.take_prefix.Goals as goal
 

@@ -1,4 +1,4 @@
-use Rattle.std.proofs.Common.{arith, length, ◌+◌, ◌≤◌, length-take, ◌-◌, drop, ap}
+use Rattle.bcast_io.proofs.Prelude.{arith, length, ◌+◌, ◌≤◌, length-take, ◌-◌, drop, ap}
 use Rattle.bcast_io.proofs.Slices.{part-drop}
 use Rattle.bcast_io.proofs.read_ahead.ReadAhead.pass_line.Goals as goal
 

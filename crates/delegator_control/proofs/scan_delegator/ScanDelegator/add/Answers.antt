@@ -1,12 +1,5 @@
-use Rattle.std.proofs.Common.{ℕ, ◌≡◌, ◌<◌, ◌∙◌, ap, sym, subst, Option, Some}
-use Rattle.std.specs.Prelude.{IfSome}
-use Rattle.bass_operations.specs.declared.operation.Operation.TheVariants.{Add}
+use Rattle.delegator_control.proofs.Prelude.{ℕ, ◌≡◌, ◌<◌, ◌∙◌, ap, sym, subst, Option, Some, IfSome, Add, empty_slot, entry_of, Machine, machine, value_at, Stay, written_value}
 use Rattle.delegator_history.specs.declared.replies.Cause.TheVariants as causes
-use Rattle.delegator_history.specs.Writes.{empty_slot, entry_of}
-use Rattle.delegator_control.specs.State.Machines.{Machine, machine}
-use Rattle.delegator_history.specs.Values.{value_at}
-use Rattle.delegator_control.specs.declared.place.Move.TheVariants.{Stay}
-use Rattle.delegator_control.specs.State.Written.{written_value}
 use Rattle.delegator_control.proofs.Serving.{refused, add_known, add_full, add_refused, add_accepted, puts_no, puts_yes, same_rest}
 use Rattle.delegator_control.proofs.scan_delegator.ScanDelegator.add.Goals as goal
 

@@ -1,9 +1,4 @@
-use Rattle.std.proofs.Common.{◌≡◌, ◌++◌, ◌∷◌, [], ◌∙◌, List, refl}
-use Rattle.std.proofs.lemmas.Result.{on_ok_weaker}
-use Rattle.pacs_records.specs.declared.record.PacRecord.{PacRecord}
-use Rattle.delegator_history.specs.States.{record_added}
-use Rattle.delegator_history.specs.Steps.{recorded}
-use Rattle.delegator_control.specs.State.Machines.{Machine, machine, moved}
+use Rattle.delegator_control.proofs.Prelude.{◌≡◌, ◌++◌, ◌∷◌, [], ◌∙◌, List, refl, on_ok_weaker, PacRecord, record_added, recorded, Machine, machine, moved}
 use Rattle.delegator_control.proofs.Standing.{moved_setting, stands_done}
 use Rattle.delegator_control.proofs.scan_delegator.ScanDelegator.add_pac.Goals as goal
 

@@ -1,10 +1,5 @@
-use Rattle.std.proofs.Common.{ap}
-use Rattle.std.proofs.lemmas.Result.{on_err_weaker}
-use Rattle.std.specs.Prelude.{is_ok}
-use Rattle.base_grammar.specs.Reading.{base_of, told}
-use Rattle.delegator_history.specs.Trains.{base_in}
-use Rattle.delegator_control.specs.State.Brings.{train_of}
-use Rattle.delegator_control.specs.State.Machines.{machine}
+use Rattle.delegator_control.proofs.Prelude.{ap, on_err_weaker, is_ok, base_of, base_in, train_of, machine}
+use Rattle.base_grammar.specs.Reading.{told}
 use Rattle.delegator_control.proofs.Wanting.{is_read, of_base, on_any_err}
 use Rattle.delegator_control.proofs.scan_delegator.ScanDelegator.bring_base.Goals as goal
 

@@ -1,9 +1,4 @@
-use Rattle.std.proofs.Common.{◌+◌, ◌/◌, ◌∙◌, List, ℕ, ap, sym}
-use Rattle.std.specs.Prelude.{◌==◌}
-use Rattle.big_info.specs.declared.info.BigInfo.{BigInfo}
-use Rattle.delegator_history.specs.Trains.{first_candidates, offset_of, taken}
-use Rattle.delegator_history.proofs.Citable.{none_set}
-use Rattle.delegator_control.specs.State.Brings.{train_of}
+use Rattle.delegator_control.proofs.Prelude.{◌+◌, ◌/◌, ◌∙◌, List, ℕ, ap, sym, ◌==◌, BigInfo, first_candidates, offset_of, taken, none_set, train_of}
 use Rattle.delegator_control.proofs.Followed.{by_none, by_some}
 use Rattle.delegator_control.proofs.scan_delegator.ScanDelegator.bring_group.Goals as goal
 

@@ -1,4 +1,4 @@
-use Rattle.std.proofs.Common.{◌∙◌, sym}
+use Rattle.delegator_control.proofs.Prelude.{◌∙◌, sym}
 use Rattle.delegator_control.proofs.Followed.{found_filled}
 use Rattle.delegator_control.proofs.scan_delegator.ScanDelegator.bring_train.Goals as goal
 

@@ -1,7 +1,5 @@
-use Rattle.std.proofs.Common.{refl}
-use Rattle.std.proofs.lemmas.Result.{on_ok_weaker}
+use Rattle.delegator_control.proofs.Prelude.{refl, on_ok_weaker, machine}
 use Rattle.delegator_history.specs.States.{control_heard}
-use Rattle.delegator_control.specs.State.Machines.{machine}
 use Rattle.delegator_control.proofs.Standing.{stands_done}
 use Rattle.delegator_control.proofs.scan_delegator.ScanDelegator.control.Goals as goal
 

@@ -1,8 +1,4 @@
-use Rattle.std.proofs.Common.{◌∙◌, ap, refl}
-use Rattle.std.proofs.lemmas.Result.{on_ok_weaker}
-use Rattle.delegator_history.specs.States.{train_heard}
-use Rattle.delegator_history.specs.Trains.{done_by_outcome}
-use Rattle.delegator_control.specs.State.Machines.{machine, moved}
+use Rattle.delegator_control.proofs.Prelude.{◌∙◌, ap, refl, on_ok_weaker, train_heard, done_by_outcome, machine, moved}
 use Rattle.delegator_control.proofs.Standing.{stands_done}
 use Rattle.delegator_control.proofs.scan_delegator.ScanDelegator.follow.Goals as goal
 

@@ -1,7 +1,5 @@
-use Rattle.std.proofs.Common.{◌<◌, ◌∙◌, ap, sym, subst}
-use Rattle.delegator_history.specs.Trains.{done_by_outcome}
+use Rattle.delegator_control.proofs.Prelude.{◌<◌, ◌∙◌, ap, sym, subst, done_by_outcome, Machine, machine, moved}
 use Rattle.delegator_choices.specs.State.Brings.{outcome_of}
-use Rattle.delegator_control.specs.State.Machines.{Machine, machine, moved}
 use Rattle.delegator_control.proofs.Followed.{IsNear, is_near, slot_of_outcome}
 use Rattle.delegator_control.proofs.Standing.{moved_nothing}
 use Rattle.delegator_control.proofs.scan_delegator.ScanDelegator.follow_outcome.Goals as goal

@@ -1,8 +1,4 @@
-use Rattle.std.proofs.Common.{◌∙◌, ap, sym, None}
-use Rattle.delegator_history.specs.Snapshots.{Snapshot, slot_of}
-use Rattle.delegator_history.specs.Steps.{placed}
-use Rattle.delegator_control.specs.State.Machines.{Machine, machine}
-use Rattle.delegator_control.specs.State.Places.{place_by}
+use Rattle.delegator_control.proofs.Prelude.{◌∙◌, ap, sym, None, Snapshot, slot_of, placed, Machine, machine, place_by}
 use Rattle.delegator_control.proofs.Changes.{moves_below}
 use Rattle.delegator_control.proofs.scan_delegator.ScanDelegator.go.Goals as goal
 

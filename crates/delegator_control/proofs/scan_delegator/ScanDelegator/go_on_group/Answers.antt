@@ -1,8 +1,4 @@
-use Rattle.std.proofs.Common.{◌≡◌, ◌<◌, ◌∙◌, ap, sym, subst, refl, true, Some}
-use Rattle.std.proofs.lemmas.Option.{same_Some}
-use Rattle.delegator_history.specs.Snapshots.{Snapshot, on_group, slot_of}
-use Rattle.delegator_history.specs.Steps.{joined}
-use Rattle.delegator_control.specs.State.Machines.{Machine, machine}
+use Rattle.delegator_control.proofs.Prelude.{◌≡◌, ◌<◌, ◌∙◌, ap, sym, subst, refl, true, Some, same_Some, Snapshot, on_group, slot_of, joined, Machine, machine}
 use Rattle.delegator_control.proofs.Followed.{group_status, near_itself, went_to}
 use Rattle.delegator_control.proofs.scan_delegator.ScanDelegator.go_on_group.Goals as goal
 

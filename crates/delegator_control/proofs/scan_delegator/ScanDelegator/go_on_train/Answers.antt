@@ -1,8 +1,4 @@
-use Rattle.std.proofs.Common.{◌≡◌, ◌<◌, ◌∙◌, ap, sym, subst, true, []}
-use Rattle.std.proofs.lemmas.Option.{same_Some}
-use Rattle.delegator_history.specs.Snapshots.{Snapshot, on_train, slot_of}
-use Rattle.delegator_history.specs.Steps.{followed}
-use Rattle.delegator_control.specs.State.Machines.{Machine, machine}
+use Rattle.delegator_control.proofs.Prelude.{◌≡◌, ◌<◌, ◌∙◌, ap, sym, subst, true, [], same_Some, Snapshot, on_train, slot_of, followed, Machine, machine}
 use Rattle.delegator_control.proofs.Followed.{near_itself, stands_at, train_status, went_to}
 use Rattle.delegator_control.proofs.scan_delegator.ScanDelegator.go_on_train.Goals as goal
 

@@ -1,7 +1,4 @@
-use Rattle.std.proofs.Common.{refl}
-use Rattle.std.proofs.lemmas.Result.{on_ok_weaker}
-use Rattle.delegator_history.specs.States.{train_lost}
-use Rattle.delegator_control.specs.State.Machines.{machine}
+use Rattle.delegator_control.proofs.Prelude.{refl, on_ok_weaker, train_lost, machine}
 use Rattle.delegator_control.proofs.Standing.{stands_done}
 use Rattle.delegator_control.proofs.scan_delegator.ScanDelegator.lost.Goals as goal
 

@@ -1,8 +1,5 @@
-use Rattle.std.proofs.Common.{ℕ, ◌<◌, ◌∙◌, sym, subst, Option}
-use Rattle.std.specs.Prelude.{IfSome}
-use Rattle.bass_operations.specs.declared.operation.Operation.TheVariants.{Modify}
+use Rattle.delegator_control.proofs.Prelude.{ℕ, ◌<◌, ◌∙◌, sym, subst, Option, IfSome, Modify, Machine, machine}
 use Rattle.delegator_history.specs.declared.replies.Cause.TheVariants as causes
-use Rattle.delegator_control.specs.State.Machines.{Machine, machine}
 use Rattle.delegator_control.proofs.Serving.{refused, modify_unknown}
 use Rattle.delegator_control.proofs.scan_delegator.ScanDelegator.modify.Goals as goal
 

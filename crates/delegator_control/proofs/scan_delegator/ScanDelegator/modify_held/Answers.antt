@@ -1,13 +1,5 @@
-use Rattle.std.proofs.Common.{◌≡◌, ◌<◌, ◌∙◌, length, get_or, ap, sym, subst, Some, None}
-use Rattle.std.proofs.lemmas.List.{get_or_read_under}
-use Rattle.delegator_history.specs.Snapshots.{Snapshot, entry_at, slot_of}
-use Rattle.delegator_history.specs.Steps.{modified, place_given, placed}
-use Rattle.delegator_history.specs.Values.{value_at}
+use Rattle.delegator_control.proofs.Prelude.{◌≡◌, ◌<◌, ◌∙◌, length, get_or, ap, sym, subst, Some, None, get_or_read_under, Snapshot, entry_at, slot_of, modified, place_given, placed, value_at, held_slot, Machine, machine, place_by, written_value}
 use Rattle.delegator_choices.specs.State.Slots.{entry}
-use Rattle.delegator_choices.proofs.Citable.{held_slot}
-use Rattle.delegator_control.specs.State.Machines.{Machine, machine}
-use Rattle.delegator_control.specs.State.Places.{place_by}
-use Rattle.delegator_control.specs.State.Written.{written_value}
 use Rattle.delegator_control.proofs.Changes.{moves_below, none_some}
 use Rattle.delegator_control.proofs.Serving.{wanted_by, modify_refused, modify_accepted, puts_no, puts_yes, same_rest}
 use Rattle.delegator_control.proofs.scan_delegator.ScanDelegator.modify_held.Goals as goal

@@ -1,6 +1,4 @@
-use Rattle.std.proofs.Common.{◌∷◌, sym, subst}
-use Rattle.delegator_history.specs.States.{notified}
-use Rattle.delegator_control.specs.State.Machines.{machine, StandsFor}
+use Rattle.delegator_control.proofs.Prelude.{◌∷◌, sym, subst, notified, machine, StandsFor}
 use Rattle.delegator_control.proofs.Standing.{stands_told}
 use Rattle.delegator_control.proofs.scan_delegator.ScanDelegator.next_notice.Goals as goal
 

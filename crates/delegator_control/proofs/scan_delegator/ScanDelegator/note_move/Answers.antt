@@ -1,10 +1,5 @@
-use Rattle.std.proofs.Common.{◌≡◌, ◌<◌, ◌++◌, ◌∙◌, ap, sym, subst, None, Some}
-use Rattle.std.proofs.lemmas.Result.{on_ok_weaker}
-use Rattle.std.proofs.lemmas.List.{append-nil}
-use Rattle.delegator_history.specs.Snapshots.{slot_of}
-use Rattle.delegator_control.specs.State.Machines.{Machine, machine}
+use Rattle.delegator_control.proofs.Prelude.{◌≡◌, ◌<◌, ◌++◌, ◌∙◌, ap, sym, subst, None, Some, on_ok_weaker, append-nil, slot_of, Machine, machine, status_seen}
 use Rattle.delegator_control.proofs.Changes.{moved_none, note_done}
-use Rattle.delegator_control.specs.State.Statuses.{status_seen}
 use Rattle.delegator_control.proofs.scan_delegator.ScanDelegator.note_move.Goals as goal
 
 pub returns-in_default-clause-ok : goal.returns-in_default-clause-ok

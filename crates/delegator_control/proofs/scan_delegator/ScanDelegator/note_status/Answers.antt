@@ -1,11 +1,4 @@
-use Rattle.std.proofs.Common.{◌≡◌, ◌<◌, ◌++◌, ◌∙◌, ap, sym, subst, None, get_or}
-use Rattle.std.specs.Prelude.{option_map}
-use Rattle.std.proofs.lemmas.List.{get_or_read_under}
-use Rattle.std.proofs.lemmas.Result.{on_ok_weaker}
-use Rattle.delegator_history.specs.Notices.{change}
-use Rattle.delegator_history.specs.Values.{received, value}
-use Rattle.delegator_control.specs.State.Machines.{Machine, machine}
-use Rattle.delegator_control.specs.State.Statuses.{status_seen}
+use Rattle.delegator_control.proofs.Prelude.{◌≡◌, ◌<◌, ◌++◌, ◌∙◌, ap, sym, subst, None, get_or, option_map, get_or_read_under, on_ok_weaker, change, received, value, Machine, machine, status_seen}
 use Rattle.delegator_control.proofs.scan_delegator.ScanDelegator.note_status.Goals as goal
 
 pub returns-clause-ok : goal.returns-clause-ok

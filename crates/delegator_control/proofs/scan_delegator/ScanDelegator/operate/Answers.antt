@@ -1,9 +1,4 @@
-use Rattle.std.proofs.Common.{refl, sym, subst}
-use Rattle.bass_operations.specs.declared.operation.Operation.{Operation}
-use Rattle.bass_operations.specs.declared.operation.Operation.TheVariants.{ScanStopped, ScanStarted}
-use Rattle.delegator_history.specs.declared.replies.Reply.TheVariants.{Accepted}
-use Rattle.delegator_control.specs.Serving.{Replies}
-use Rattle.delegator_control.specs.State.Machines.{Machine, machine}
+use Rattle.delegator_control.proofs.Prelude.{refl, sym, subst, Operation, ScanStopped, ScanStarted, Accepted, Replies, Machine, machine}
 use Rattle.delegator_control.proofs.Serving.{accepted, code_case}
 use Rattle.delegator_control.proofs.Standing.{moved_nothing}
 use Rattle.delegator_control.proofs.scan_delegator.ScanDelegator.operate.Goals as goal

@@ -1,10 +1,4 @@
-use Rattle.std.proofs.Common.{◌≡◌, ◌<◌, ◌++◌, ◌∙◌, length, set, get_or, ap, sym, subst, refl, Some, None}
-use Rattle.std.specs.Prelude.{nat_lt, option_map}
-use Rattle.std.proofs.lemmas.List.{get_or_read_under}
-use Rattle.receive_state.specs.Layout.{encoding}
-use Rattle.delegator_history.specs.Notices.{change}
-use Rattle.delegator_history.specs.Values.{received, value}
-use Rattle.delegator_control.specs.State.Machines.{Machine, machine}
+use Rattle.delegator_control.proofs.Prelude.{◌≡◌, ◌<◌, ◌++◌, ◌∙◌, length, set, get_or, ap, sym, subst, refl, Some, None, nat_lt, option_map, get_or_read_under, encoding, change, received, value, Machine, machine}
 use Rattle.delegator_control.proofs.scan_delegator.ScanDelegator.put.Goals as goal
 
 pub returns-then-is_too_long-clause-puts : goal.returns-then-is_too_long-clause-puts

@@ -1,9 +1,4 @@
-use Rattle.std.proofs.Common.{◌≡◌, ◌<◌, ◌∙◌, List, ℕ, ap, sym, subst, Option, None, get_or}
-use Rattle.std.specs.Prelude.{option_map, IfOk, IsSome, OnErr}
-use Rattle.std.proofs.lemmas.List.{get_or_read_under}
-use Rattle.delegator_history.specs.Snapshots.{Entry}
-use Rattle.delegator_history.specs.Values.{received, value}
-use Rattle.delegator_control.specs.State.Machines.{Machine, machine}
+use Rattle.delegator_control.proofs.Prelude.{◌≡◌, ◌<◌, ◌∙◌, List, ℕ, ap, sym, subst, Option, None, get_or, option_map, IfOk, IsSome, OnErr, get_or_read_under, Entry, received, value, Machine, machine}
 use Rattle.delegator_control.proofs.scan_delegator.ScanDelegator.read_state.Goals as goal
 
 pub returns-clause-value : goal.returns-clause-value

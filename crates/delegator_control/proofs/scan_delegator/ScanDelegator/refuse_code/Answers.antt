@@ -1,6 +1,4 @@
-use Rattle.std.proofs.Common.{◌∙◌, ap, sym, true, false}
-use Rattle.delegator_history.specs.Writes.{reply_by}
-use Rattle.delegator_control.specs.State.Machines.{machine}
+use Rattle.delegator_control.proofs.Prelude.{◌∙◌, ap, sym, true, false, reply_by, machine}
 use Rattle.delegator_control.proofs.Serving.{code_cause}
 use Rattle.delegator_control.proofs.scan_delegator.ScanDelegator.refuse_code.Goals as goal
 

@@ -1,12 +1,5 @@
-use Rattle.std.proofs.Common.{ℕ, ◌≡◌, ◌<◌, ◌++◌, ◌∙◌, set, ap, sym, subst, refl, Option, Some, None, true, false}
-use Rattle.std.specs.Prelude.{IfSome, is_none}
-use Rattle.std.proofs.lemmas.Result.{err_from_is_err_and}
-use Rattle.bass_operations.specs.declared.operation.Operation.TheVariants.{Remove}
+use Rattle.delegator_control.proofs.Prelude.{ℕ, ◌≡◌, ◌<◌, ◌++◌, ◌∙◌, set, ap, sym, subst, refl, Option, Some, None, true, false, IfSome, is_none, err_from_is_err_and, Remove, slot_with, held_slot, Machine, machine, status_at}
 use Rattle.delegator_history.specs.declared.replies.Cause.TheVariants as causes
-use Rattle.delegator_history.specs.Writes.{slot_with}
-use Rattle.delegator_choices.proofs.Citable.{held_slot}
-use Rattle.delegator_control.specs.State.Machines.{Machine, machine}
-use Rattle.delegator_control.specs.State.Statuses.{status_at}
 use Rattle.delegator_control.proofs.Apart.{emptied, one}
 use Rattle.delegator_control.proofs.Serving.{refused, remove_unknown, remove_synced, remove_accepted}
 use Rattle.delegator_control.proofs.scan_delegator.ScanDelegator.remove.Goals as goal

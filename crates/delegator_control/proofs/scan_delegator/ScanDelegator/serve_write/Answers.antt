@@ -1,5 +1,4 @@
-use Rattle.std.proofs.Common.{◌∙◌, arith, sym}
-use Rattle.delegator_control.specs.State.Machines.{machine}
+use Rattle.delegator_control.proofs.Prelude.{◌∙◌, arith, sym, machine}
 use Rattle.delegator_control.proofs.Wanting.{fault_wants, served_wants}
 use Rattle.delegator_control.proofs.Written.{fault_step}
 use Rattle.delegator_control.proofs.scan_delegator.ScanDelegator.serve_write.Goals as goal

@@ -1,7 +1,4 @@
-use Rattle.std.proofs.Common.{refl}
-use Rattle.delegator_history.specs.States.{contexts_set}
-use Rattle.delegator_history.specs.Steps.{opened}
-use Rattle.delegator_control.specs.State.Machines.{machine}
+use Rattle.delegator_control.proofs.Prelude.{refl, contexts_set, opened, machine}
 use Rattle.delegator_control.proofs.Standing.{moved_setting, stands_done}
 use Rattle.delegator_control.proofs.scan_delegator.ScanDelegator.set_contexts.Goals as goal
 

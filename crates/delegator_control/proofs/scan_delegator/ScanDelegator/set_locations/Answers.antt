@@ -1,7 +1,4 @@
-use Rattle.std.proofs.Common.{refl}
-use Rattle.delegator_history.specs.States.{locations_set}
-use Rattle.delegator_history.specs.Steps.{located}
-use Rattle.delegator_control.specs.State.Machines.{machine}
+use Rattle.delegator_control.proofs.Prelude.{refl, locations_set, located, machine}
 use Rattle.delegator_control.proofs.Standing.{moved_setting, stands_done}
 use Rattle.delegator_control.proofs.scan_delegator.ScanDelegator.set_locations.Goals as goal
 

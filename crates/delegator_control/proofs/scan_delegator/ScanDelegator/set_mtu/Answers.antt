@@ -1,4 +1,4 @@
-use Rattle.delegator_control.specs.State.Machines.{machine}
+use Rattle.delegator_control.proofs.Prelude.{machine}
 use Rattle.delegator_control.proofs.Standing.{stands_mtu}
 use Rattle.delegator_control.proofs.scan_delegator.ScanDelegator.set_mtu.Goals as goal
 

@@ -1,7 +1,4 @@
-use Rattle.std.proofs.Common.{◌≡◌, ◌++◌, ◌∙◌, ap, sym, Some, None}
-use Rattle.delegator_history.specs.Snapshots.{Snapshot, on_group, slot_of}
-use Rattle.delegator_history.specs.Steps.{placed}
-use Rattle.delegator_control.specs.State.Machines.{Machine, machine}
+use Rattle.delegator_control.proofs.Prelude.{◌≡◌, ◌++◌, ◌∙◌, ap, sym, Some, None, Snapshot, on_group, slot_of, placed, Machine, machine}
 use Rattle.delegator_control.proofs.Changes.{none_some, tuned_changes}
 use Rattle.delegator_control.proofs.scan_delegator.ScanDelegator.sync_on_group.Goals as goal
 

@@ -1,7 +1,4 @@
-use Rattle.std.proofs.Common.{refl}
-use Rattle.std.proofs.lemmas.Result.{on_ok_weaker}
-use Rattle.delegator_history.specs.States.{sync_to_group}
-use Rattle.delegator_control.specs.State.Machines.{machine}
+use Rattle.delegator_control.proofs.Prelude.{refl, on_ok_weaker, sync_to_group, machine}
 use Rattle.delegator_control.proofs.Standing.{stands_done}
 use Rattle.delegator_control.proofs.scan_delegator.ScanDelegator.tune.Goals as goal
 

@@ -1,12 +1,5 @@
-use Rattle.std.proofs.Common.{refl, sym, ◌∙◌, ap, subst}
-use Rattle.std.specs.Prelude.{IsSome}
+use Rattle.delegator_machine.proofs.Prelude.{refl, sym, ◌∙◌, ap, subst, IsSome, Snapshot, slot_of, control_heard, on_any_err, Machine, machine, steps_of, Halves, StandsFor}
 use Rattle.delegator_history.specs.Controls.{control_heard as answer_to}
-use Rattle.delegator_history.specs.Snapshots.{Snapshot, slot_of}
-use Rattle.delegator_history.specs.States.{control_heard}
-use Rattle.delegator_control.proofs.Wanting.{on_any_err}
-use Rattle.delegator_control.specs.State.Machines.{Machine, machine}
-use Rattle.delegator_machine.specs.Calls.{steps_of}
-use Rattle.delegator_machine.specs.State.Halves.{Halves, StandsFor}
 use Rattle.delegator_machine.proofs.Standing.{snapshot_is, stands_settled}
 use Rattle.delegator_machine.proofs.delegator.Delegator.control.Goals as goal
 

@@ -1,11 +1,4 @@
-use Rattle.std.proofs.Common.{refl, sym, ap, subst}
-use Rattle.std.specs.Prelude.{IsSome}
-use Rattle.delegator_history.specs.Snapshots.{Snapshot, slot_of}
-use Rattle.delegator_history.specs.States.{train_lost}
-use Rattle.delegator_control.proofs.Wanting.{on_any_err}
-use Rattle.delegator_control.specs.State.Machines.{Machine, machine}
-use Rattle.delegator_machine.specs.Calls.{steps_of}
-use Rattle.delegator_machine.specs.State.Halves.{Halves, StandsFor}
+use Rattle.delegator_machine.proofs.Prelude.{refl, sym, ap, subst, IsSome, Snapshot, slot_of, train_lost, on_any_err, Machine, machine, steps_of, Halves, StandsFor}
 use Rattle.delegator_machine.proofs.Standing.{snapshot_is, stands_settled}
 use Rattle.delegator_machine.proofs.delegator.Delegator.lost.Goals as goal
 

@@ -1,10 +1,6 @@
-use Rattle.std.proofs.Common.{◌∙◌, sym, ap, subst}
-use Rattle.std.specs.Prelude.{IsSome}
+use Rattle.delegator_machine.proofs.Prelude.{◌∙◌, sym, ap, subst, IsSome, Snapshot, entry_at, machine, Halves, StandsFor}
 use Rattle.std.proofs.lemmas.Result.{IfOk-weaker, on_err_weaker}
-use Rattle.delegator_history.specs.Snapshots.{Snapshot, entry_at}
 use Rattle.delegator_history.specs.Values.{value_at}
-use Rattle.delegator_control.specs.State.Machines.{machine}
-use Rattle.delegator_machine.specs.State.Halves.{Halves, StandsFor}
 use Rattle.delegator_machine.proofs.Standing.{snapshot_is}
 use Rattle.delegator_machine.proofs.delegator.Delegator.read_state.Goals as goal
 

@@ -1,15 +1,5 @@
-use Rattle.std.proofs.Common.{◌≡◌, true, Result, Ok, Err, refl, sym, ◌∙◌, ap, subst}
-use Rattle.std.specs.Prelude.{IsOk}
-use Rattle.bass_operations.specs.declared.fault.OpFault.{OpFault}
-use Rattle.bass_operations.specs.declared.operation.Operation.{Operation}
-use Rattle.bass_operations.specs.Reading.{op_of}
-use Rattle.delegator_history.specs.Snapshots.{Snapshot}
-use Rattle.delegator_history.specs.States.{written}
+use Rattle.delegator_machine.proofs.Prelude.{◌≡◌, true, Result, Ok, Err, refl, sym, ◌∙◌, ap, subst, IsOk, OpFault, Operation, op_of, Snapshot, written, Machine, machine, on_any_err, steps_of, Halves, StandsFor}
 use Rattle.delegator_control.specs.Serving.{wants_memory}
-use Rattle.delegator_control.specs.State.Machines.{Machine, machine}
-use Rattle.delegator_control.proofs.Wanting.{on_any_err}
-use Rattle.delegator_machine.specs.Calls.{steps_of}
-use Rattle.delegator_machine.specs.State.Halves.{Halves, StandsFor}
 use Rattle.delegator_machine.proofs.Standing.{snapshot_is, stands_settled}
 use Rattle.delegator_machine.proofs.delegator.Delegator.serve.Goals as goal
 

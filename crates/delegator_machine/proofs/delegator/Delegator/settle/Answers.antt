@@ -1,9 +1,6 @@
-use Rattle.std.proofs.Common.{◌∙◌, sym, ap, subst}
-use Rattle.std.specs.Prelude.{◌&&◌, not, ◌∷◌, if◌then◌else◌}
+use Rattle.delegator_machine.proofs.Prelude.{◌∙◌, sym, ap, subst, ◌&&◌, not, ◌∷◌, if◌then◌else◌, has_group, Halves}
 use Rattle.group_sink.specs.Calls.{leave}
 use Rattle.group_sink.specs.State.Sinks.{StandsFor as SinkStands}
-use Rattle.delegator_control.specs.Groups.{has_group}
-use Rattle.delegator_machine.specs.State.Halves.{Halves}
 use Rattle.delegator_machine.proofs.delegator.Delegator.settle.Goals as goal
 
 pub returns-then-has_left-clause-sink : goal.returns-then-has_left-clause-sink

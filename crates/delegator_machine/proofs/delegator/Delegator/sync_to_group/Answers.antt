@@ -1,14 +1,4 @@
-use Rattle.std.proofs.Common.{◌<◌, ◌∙◌, refl, sym, ap, subst, inl, inr}
-use Rattle.std.specs.Prelude.{IsSome}
-use Rattle.delegator_history.specs.Snapshots.{Snapshot, slot_of}
-use Rattle.delegator_history.specs.States.{sync_to_group}
-use Rattle.sync_reference.specs.BigSync.{BigSync}
-use Rattle.group_sink.specs.State.Steps.{fresh_on}
-use Rattle.delegator_control.proofs.Wanting.{on_any_err}
-use Rattle.delegator_control.specs.State.Machines.{Machine, machine}
-use Rattle.delegator_machine.specs.Calls.{steps_of}
-use Rattle.delegator_machine.specs.Groups.{by_numbers, group_calls}
-use Rattle.delegator_machine.specs.State.Halves.{Halves, StandsFor}
+use Rattle.delegator_machine.proofs.Prelude.{◌<◌, ◌∙◌, refl, sym, ap, subst, inl, inr, IsSome, Snapshot, slot_of, sync_to_group, BigSync, fresh_on, on_any_err, Machine, machine, steps_of, by_numbers, group_calls, Halves, StandsFor}
 use Rattle.delegator_machine.proofs.Standing.{snapshot_is, stands_joined}
 use Rattle.delegator_machine.proofs.delegator.Delegator.sync_to_group.Goals as goal
 

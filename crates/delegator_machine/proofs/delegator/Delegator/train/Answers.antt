@@ -1,11 +1,5 @@
-use Rattle.std.proofs.Common.{◌≡◌, ◌∙◌, option_copied, sym, ap, subst}
-use Rattle.delegator_history.specs.Trains.{Train, outcome_by, done_by_outcome, big_sync_in}
+use Rattle.delegator_machine.proofs.Prelude.{◌≡◌, ◌∙◌, option_copied, sym, ap, subst, Train, outcome_by, done_by_outcome, big_sync_in, is_followed, on_any_err, machine, moved, steps_of, Halves, StandsFor}
 use Rattle.delegator_choices.specs.State.Brings.{outcome_of}
-use Rattle.delegator_control.specs.Following.{is_followed}
-use Rattle.delegator_control.proofs.Wanting.{on_any_err}
-use Rattle.delegator_control.specs.State.Machines.{machine, moved}
-use Rattle.delegator_machine.specs.Calls.{steps_of}
-use Rattle.delegator_machine.specs.State.Halves.{Halves, StandsFor}
 use Rattle.delegator_machine.proofs.Trains.{base_followed, followed_so, joined_followed, stands_trained}
 use Rattle.delegator_machine.proofs.delegator.Delegator.train.Goals as goal
 

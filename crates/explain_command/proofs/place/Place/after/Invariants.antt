@@ -1,5 +1,4 @@
-use Rattle.std.proofs.Common.{◌≡◌, drop}
-use Rattle.explain_command.specs.Rows.{place_after}
+use Rattle.explain_command.proofs.Prelude.{◌≡◌, drop, place_after}
 use Rattle.explain_command.proofs.place.Place.after.Given as goal
 
 abbrev pub invariant-loop-octet : goal.invariant-loop-octet

@@ -1,5 +1,4 @@
-use Rattle.std.proofs.Common.{◌≡◌, drop}
-use Rattle.explain_command.specs.Rows.{lines_told, told}
+use Rattle.explain_command.proofs.Prelude.{◌≡◌, drop, lines_told, told}
 use Rattle.explain_command.proofs.place.Place.is_beside.Given as goal
 
 abbrev pub invariant-loop-octet : goal.invariant-loop-octet

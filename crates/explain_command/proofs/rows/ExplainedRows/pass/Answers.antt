@@ -1,8 +1,4 @@
-use Rattle.std.proofs.Common.{◌≡◌, ◌∙◌, ◌-◌, List, ℕ, refl, sym, subst, drop, length, take, arith}
-use Rattle.std.proofs.lemmas.Result.{err_from_is_err_and}
-use Rattle.std.proofs.lemmas.List.{length-drop, take_all, take_rest}
-use Rattle.std.specs.Io.KnownBytes.{Appends, Keeps}
-use Rattle.explain_command.specs.Rows.{lines_at, lines_told, told_at}
+use Rattle.explain_command.proofs.Prelude.{◌≡◌, ◌∙◌, ◌-◌, List, ℕ, refl, sym, subst, drop, length, take, arith, err_from_is_err_and, length-drop, take_all, take_rest, Appends, Keeps, lines_at, lines_told, told_at}
 use Rattle.explain_command.proofs.Telling.{keeps_then, lines_cut, lines_on, passed_on, silent}
 use Rattle.explain_command.proofs.rows.ExplainedRows.pass.Goals as goal
 

@@ -1,6 +1,4 @@
-use Rattle.std.proofs.Common.{◌≡◌, ◌≤◌, ◌-◌, [], length, take, drop}
-use Rattle.std.specs.Io.KnownBytes.{Appends, Keeps}
-use Rattle.explain_command.specs.Rows.{lines_at, lines_told, place_after, told, told_at}
+use Rattle.explain_command.proofs.Prelude.{◌≡◌, ◌≤◌, ◌-◌, [], length, take, drop, Appends, Keeps, lines_at, lines_told, place_after, told, told_at}
 use Rattle.explain_command.proofs.rows.ExplainedRows.pass.Given as goal
 
 abbrev pub invariant-loop-done : goal.invariant-loop-done

@@ -1,4 +1,4 @@
-use Rattle.std.proofs.Common.{refl}
+use Rattle.explain_command.proofs.Prelude.{refl}
 use Rattle.explain_command.proofs.Telling.{keeps_either}
 use Rattle.explain_command.proofs.rows.ExplainedRows.tell.Goals as goal
 

@@ -1,7 +1,4 @@
-use Rattle.std.proofs.Common.{◌≡◌, drop, refl}
-use Rattle.std.proofs.lemmas.List.{take_rest}
-use Rattle.explain_command.specs.declared.place.Place.TheVariants.{Start}
-use Rattle.explain_command.specs.Rows.{lines_told}
+use Rattle.explain_command.proofs.Prelude.{◌≡◌, drop, refl, take_rest, Start, lines_told}
 use Rattle.explain_command.proofs.Telling.{either_is, row_behind}
 use Rattle.explain_command.proofs.rows.ExplainedRows.tell_line.Goals as goal
 

@@ -1,6 +1,4 @@
-use Rattle.std.proofs.Common.{rules}
-use Rattle.std.proofs.lemmas.Result.{err_from_is_err_and}
-use Rattle.std.proofs.lemmas.List.{take_rest}
+use Rattle.explain_command.proofs.Prelude.{rules, err_from_is_err_and, take_rest}
 use Rattle.explain_command.proofs.Telling.{keeps_then, written_more, written_short}
 use Rattle.explain_command.proofs.rows.ExplainedRows.write_all.Goals as goal
 

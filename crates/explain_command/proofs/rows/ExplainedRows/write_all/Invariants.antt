@@ -1,6 +1,4 @@
-use Rattle.std.proofs.Common.{◌≡◌, ◌≤◌, ◌-◌, length, take}
-use Rattle.std.specs.Io.KnownBytes.{Appends, Keeps}
-use Rattle.explain_command.specs.Rows.{lines_at, told_at}
+use Rattle.explain_command.proofs.Prelude.{◌≡◌, ◌≤◌, ◌-◌, length, take, Appends, Keeps, lines_at, told_at}
 use Rattle.explain_command.proofs.rows.ExplainedRows.write_all.Given as goal
 
 abbrev pub invariant-loop-done : goal.invariant-loop-done

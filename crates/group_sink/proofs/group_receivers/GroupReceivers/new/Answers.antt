@@ -1,8 +1,4 @@
-use Rattle.std.proofs.Common.{ℕ, ◌≡◌, ◌-◌, length, set, cond, Some, None, ◌∙◌, ap, sym, arith}
-use Rattle.group_sink.specs.State.Receivers.{fresh}
-use Rattle.group_sink.specs.State.Steps.{fresh_at}
-use Rattle.group_sink.specs.Streams.{is_in, stay_on}
-use Rattle.group_sink.specs.declared.receiver.Receiver.{Receiver}
+use Rattle.group_sink.proofs.Prelude.{ℕ, ◌≡◌, ◌-◌, length, set, cond, Some, None, ◌∙◌, ap, sym, arith, fresh, fresh_at, is_in, stay_on, Receiver}
 use Rattle.group_sink.proofs.Places.{all_places, all_streams, places_kept, places_more, streams_kept, streams_more}
 use Rattle.group_sink.proofs.group_receivers.GroupReceivers.new.Goals as goal
 

@@ -1,6 +1,4 @@
-use Rattle.std.proofs.Common.{◌≡◌, ◌+◌, ◌≤◌, map, vec_len}
-use Rattle.group_sink.specs.State.Receivers.{fresh}
-use Rattle.group_sink.specs.Streams.{stay_on}
+use Rattle.group_sink.proofs.Prelude.{◌≡◌, ◌+◌, ◌≤◌, map, vec_len, fresh, stay_on}
 use Rattle.group_sink.proofs.Places.{below, places_before}
 use Rattle.group_sink.proofs.group_receivers.GroupReceivers.new.Given as goal
 

@@ -1,6 +1,4 @@
-use Rattle.std.proofs.Common.{◌∷◌, ◌∙◌, Some, subst, sym}
-use Rattle.group_sink.specs.Calls.{hear}
-use Rattle.group_sink.specs.State.Sinks.{StandsFor}
+use Rattle.group_sink.proofs.Prelude.{◌∷◌, ◌∙◌, Some, subst, sym, hear, StandsFor}
 use Rattle.group_sink.proofs.Standing.{some_answers, some_hears}
 use Rattle.group_sink.proofs.group_sink.GroupSink.hear.Goals as goal
 

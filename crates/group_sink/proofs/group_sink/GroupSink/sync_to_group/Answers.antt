@@ -1,6 +1,4 @@
-use Rattle.std.proofs.Common.{◌∷◌, Some, subst, sym}
-use Rattle.group_sink.specs.Calls.{tune}
-use Rattle.group_sink.specs.State.Sinks.{StandsFor}
+use Rattle.group_sink.proofs.Prelude.{◌∷◌, Some, subst, sym, tune, StandsFor}
 use Rattle.group_sink.proofs.Standing.{fresh_stands}
 use Rattle.group_sink.proofs.group_sink.GroupSink.sync_to_group.Goals as goal
 

@@ -1,7 +1,4 @@
-use Rattle.std.proofs.Common.{◌∷◌, ◌∙◌, Some, subst, sym}
-use Rattle.unit_outlets.specs.Handed.{HandsOver}
-use Rattle.group_sink.specs.Calls.{tick}
-use Rattle.group_sink.specs.State.Sinks.{StandsFor}
+use Rattle.group_sink.proofs.Prelude.{◌∷◌, ◌∙◌, Some, subst, sym, HandsOver, tick, StandsFor}
 use Rattle.group_sink.proofs.Standing.{some_hands, some_ticks}
 use Rattle.group_sink.proofs.group_sink.GroupSink.tick.Goals as goal
 

@@ -1,5 +1,4 @@
-use Rattle.std.proofs.Common.{◌∙◌, Some, subst, sym}
-use Rattle.group_sink.specs.State.Sinks.{StandsFor}
+use Rattle.group_sink.proofs.Prelude.{◌∙◌, Some, subst, sym, StandsFor}
 use Rattle.group_sink.proofs.Standing.{some_answers}
 use Rattle.group_sink.proofs.group_sink.GroupSink.would_answer.Goals as goal
 

@@ -1,5 +1,4 @@
-use Rattle.std.proofs.Common.{◌≡◌, ◌<◌, ◌+◌, ◌*◌, get_or, ap, ◌∙◌, arith}
-use Rattle.radio_schedule.specs.PayloadNumber.{payload_number}
+use Rattle.group_sink.proofs.Prelude.{◌≡◌, ◌<◌, ◌+◌, ◌*◌, get_or, ap, ◌∙◌, arith, payload_number}
 use Rattle.group_sink.proofs.Offsets.{no_number, number_at, some_number}
 use Rattle.group_sink.proofs.numbers.Numbers.number.Goals as goal
 

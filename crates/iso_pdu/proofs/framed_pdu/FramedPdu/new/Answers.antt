@@ -1,4 +1,4 @@
-use Rattle.std.proofs.Common.{arith, refl}
+use Rattle.iso_pdu.proofs.Prelude.{arith, refl}
 use Rattle.iso_pdu.specs.Reading.{parts_from}
 use Rattle.iso_pdu.proofs.framed_pdu.FramedPdu.new.Goals as goal
 

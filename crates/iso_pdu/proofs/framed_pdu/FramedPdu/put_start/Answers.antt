@@ -1,4 +1,4 @@
-use Rattle.std.proofs.Common.{◌+◌, length, arith, refl}
+use Rattle.iso_pdu.proofs.Prelude.{◌+◌, length, arith, refl}
 use Rattle.iso_pdu.proofs.Packs.{put_fits, put_start_packed}
 use Rattle.iso_pdu.proofs.framed_pdu.FramedPdu.put_start.Goals as goal
 

@@ -1,6 +1,5 @@
-use Rattle.std.proofs.Common.{◌≡◌, ◌∷◌, [], length, take, drop, set, arith, refl}
-use Rattle.iso_pdu.specs.Reading.{parts_from, parts_in}
-use Rattle.iso_pdu.specs.Encoding.{segments}
+use Rattle.iso_pdu.proofs.Prelude.{◌≡◌, ◌∷◌, [], length, take, drop, set, arith, refl, parts_in, segments}
+use Rattle.iso_pdu.specs.Reading.{parts_from}
 use Rattle.iso_pdu.proofs.Packs.{header_alone}
 use Rattle.iso_pdu.proofs.framed_pdu.FramedPdu.restart.Goals as goal
 

@@ -1,4 +1,4 @@
-use Rattle.std.proofs.Common.{arith}
+use Rattle.iso_pdu.proofs.Prelude.{arith}
 use Rattle.iso_pdu.proofs.Packs.{length-packed}
 use Rattle.iso_pdu.proofs.framed_pdu.FramedPdu.room.Goals as goal
 

@@ -1,7 +1,5 @@
-use Rattle.std.proofs.Common.{◌≡◌, ◌≤◌, ◌+◌, length, arith, refl, ◌∙◌, ap, take, drop, List, ℕ}
-use Rattle.iso_pdu.specs.Layout.{framed}
-use Rattle.iso_pdu.specs.Reading.{read_of, parts_in}
-use Rattle.iso_pdu.specs.Encoding.{segments, pdu}
+use Rattle.iso_pdu.proofs.Prelude.{◌≡◌, ◌≤◌, ◌+◌, length, arith, refl, ◌∙◌, ap, take, drop, List, ℕ, framed, parts_in, segments, pdu}
+use Rattle.iso_pdu.specs.Reading.{read_of}
 use Rattle.iso_pdu.proofs.Packs.{length-packed, payload-packed}
 use Rattle.iso_pdu.proofs.PdusRead.{read_of-pdu}
 use Rattle.iso_pdu.proofs.framed_pdu.FramedPdu.write.Goals as goal

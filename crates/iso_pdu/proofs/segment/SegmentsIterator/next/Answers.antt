@@ -1,5 +1,4 @@
-use Rattle.std.proofs.Common.{◌≡◌, ◌<◌, length, arith, sym, ◌∙◌, [], ap}
-use Rattle.iso_pdu.specs.Reading.{parts_in}
+use Rattle.iso_pdu.proofs.Prelude.{◌≡◌, ◌<◌, length, arith, sym, ◌∙◌, [], ap, parts_in}
 use Rattle.iso_pdu.proofs.PartsRead.{first_of_sound, parts_in-nothing}
 use Rattle.iso_pdu.proofs.segment.SegmentsIterator.next.Goals as goal
 

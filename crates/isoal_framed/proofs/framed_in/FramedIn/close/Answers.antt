@@ -1,4 +1,4 @@
-use Rattle.std.proofs.Common.{arith}
+use Rattle.isoal_framed.proofs.Prelude.{arith}
 use Rattle.isoal_framed.proofs.Closed.{close_stands, close_gains, owed_is}
 use Rattle.isoal_framed.proofs.framed_in.FramedIn.close.Goals as goal
 

@@ -1,4 +1,4 @@
-use Rattle.std.proofs.Common.{arith}
+use Rattle.isoal_framed.proofs.Prelude.{arith}
 use Rattle.isoal_framed.proofs.Closed.{hear_stands, decides_nothing}
 use Rattle.isoal_framed.proofs.framed_in.FramedIn.hear.Goals as goal
 

@@ -1,4 +1,4 @@
-use Rattle.std.proofs.Common.{arith}
+use Rattle.isoal_framed.proofs.Prelude.{arith}
 use Rattle.isoal_framed.proofs.Senders.{accepted_sender}
 use Rattle.isoal_framed.proofs.framed_out.FramedOut.accept.Goals as goal
 

@@ -1,10 +1,5 @@
-use Rattle.std.proofs.Common.{ℕ, ◌≡◌, ◌++◌, ◌∷◌, List, drop}
-use Rattle.std.proofs.lemmas.Result.{IfOk-weaker}
-use Rattle.isoal_base.specs.Air.{laid_in}
-use Rattle.isoal_framed.specs.Air.{IsEvent, event_of}
-use Rattle.isoal_framed.specs.Calls.{lay, accepted}
-use Rattle.isoal_framed.specs.Places.{Act, ends, done, sent}
-use Rattle.isoal_framed.specs.State.Senders.{StandsFor}
+use Rattle.isoal_framed.proofs.Prelude.{ℕ, ◌≡◌, ◌++◌, ◌∷◌, List, drop, IfOk-weaker, laid_in, IsEvent, lay, accepted, Act, ends, done, sent, StandsFor}
+use Rattle.isoal_framed.specs.Air.{event_of}
 use Rattle.isoal_framed.proofs.Senders.{room_between, lay_stands}
 use Rattle.isoal_framed.proofs.framed_out.FramedOut.pack_event.Goals as goal
 

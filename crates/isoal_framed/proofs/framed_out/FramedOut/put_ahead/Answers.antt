@@ -1,5 +1,4 @@
-use Rattle.std.proofs.Common.{arith}
-use Rattle.std.proofs.lemmas.Result.{on_ok_weaker}
+use Rattle.isoal_framed.proofs.Prelude.{arith, on_ok_weaker}
 use Rattle.isoal_framed.proofs.Senders.{accept_stands}
 use Rattle.isoal_framed.proofs.framed_out.FramedOut.put_ahead.Goals as goal
 

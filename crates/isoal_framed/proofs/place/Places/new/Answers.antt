@@ -1,4 +1,4 @@
-use Rattle.std.proofs.Common.{arith}
+use Rattle.isoal_framed.proofs.Prelude.{arith}
 use Rattle.isoal_framed.proofs.Rings.{nothing_read, filled_more, filled_count}
 use Rattle.isoal_framed.proofs.place.Places.new.Goals as goal
 

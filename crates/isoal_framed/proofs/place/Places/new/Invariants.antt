@@ -1,5 +1,4 @@
-use Rattle.std.proofs.Common.{◌≡◌, map, replicate, None}
-use Rattle.isoal_framed.specs.State.Places.{entry_in}
+use Rattle.isoal_framed.proofs.Prelude.{◌≡◌, map, replicate, None, entry_in}
 use Rattle.isoal_framed.proofs.place.Places.new.Given as goal
 
 abbrev pub invariant-places : goal.invariant-places

@@ -1,6 +1,4 @@
-use Rattle.std.proofs.Common.{arith}
-use Rattle.std.proofs.lemmas.List.{map-set}
-use Rattle.isoal_framed.specs.State.Places.{entry_in}
+use Rattle.isoal_framed.proofs.Prelude.{arith, map-set, entry_in}
 use Rattle.isoal_framed.proofs.Rings.{not_there}
 use Rattle.isoal_framed.proofs.place.Places.put.Goals as goal
 

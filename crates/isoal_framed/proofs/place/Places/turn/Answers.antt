@@ -1,4 +1,4 @@
-use Rattle.std.proofs.Common.{arith}
+use Rattle.isoal_framed.proofs.Prelude.{arith}
 use Rattle.isoal_framed.proofs.Rings.{nothing_read, turned}
 use Rattle.isoal_framed.proofs.place.Places.turn.Goals as goal
 

@@ -1,4 +1,4 @@
-use Rattle.std.proofs.Common.{arith}
+use Rattle.isoal_framed.proofs.Prelude.{arith}
 use Rattle.isoal_framed.proofs.Joins.{joined_valid}
 use Rattle.isoal_framed.proofs.undecided.UndecidedRun.go_on.Goals as goal
 

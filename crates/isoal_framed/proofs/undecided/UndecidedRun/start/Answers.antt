@@ -1,4 +1,4 @@
-use Rattle.std.proofs.Common.{arith}
+use Rattle.isoal_framed.proofs.Prelude.{arith}
 use Rattle.isoal_framed.proofs.Handing.{hands_then, caused_then}
 use Rattle.isoal_framed.proofs.Joins.{start_hands}
 use Rattle.isoal_framed.proofs.undecided.UndecidedRun.start.Goals as goal

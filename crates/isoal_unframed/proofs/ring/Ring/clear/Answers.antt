@@ -1,5 +1,4 @@
-use Rattle.std.proofs.Common.{◌-◌, arith}
-use Rattle.std.proofs.lemmas.List.{length-take-le, length-drop, length-replicate}
+use Rattle.isoal_unframed.proofs.Prelude.{◌-◌, arith, length-take-le, length-drop, length-replicate}
 use Rattle.isoal_unframed.proofs.Kept.{kept_cleared}
 use Rattle.isoal_unframed.proofs.Vecs.{mid_is}
 use Rattle.isoal_unframed.proofs.ring.Ring.clear.Goals as goal

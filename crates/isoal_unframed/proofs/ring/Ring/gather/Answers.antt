@@ -1,8 +1,4 @@
-use Rattle.std.proofs.Common.{ap, ◌∙◌, ◌≡◌, ◌≤◌, ◌+◌, ◌-◌, ◌*◌, ◌++◌, length, sym, subst, take, drop, arith}
-use Rattle.std.specs.Vec.{with_items}
-use Rattle.std.proofs.lemmas.List.{length-drop, length-take-le}
-use Rattle.std.proofs.lemmas.Nat.{mul-le}
-use Rattle.std.proofs.Math.Nat.{add-mul}
+use Rattle.isoal_unframed.proofs.Prelude.{ap, ◌∙◌, ◌≡◌, ◌≤◌, ◌+◌, ◌-◌, ◌*◌, ◌++◌, length, sym, subst, take, drop, arith, with_items, length-drop, length-take-le, mul-le, add-mul}
 use Rattle.isoal_unframed.proofs.Kept.{slot_prefix, slot_behind, slot_octets, slot-kept, option_same}
 use Rattle.isoal_unframed.proofs.Vecs.{mid_is}
 use Rattle.isoal_unframed.proofs.ring.Ring.gather.Goals as goal

@@ -1,4 +1,4 @@
-use Rattle.std.proofs.Common.{◌-◌, arith}
+use Rattle.isoal_unframed.proofs.Prelude.{◌-◌, arith}
 use Rattle.isoal_unframed.proofs.Kept.{held_slot}
 use Rattle.isoal_unframed.proofs.ring.Ring.held.Goals as goal
 

@@ -1,5 +1,4 @@
-use Rattle.std.proofs.Common.{arith}
-use Rattle.std.proofs.lemmas.List.{get_or_default}
+use Rattle.isoal_unframed.proofs.Prelude.{arith, get_or_default}
 use Rattle.isoal_unframed.proofs.Kept.{empty_at, full_at}
 use Rattle.isoal_unframed.proofs.ring.Ring.is_empty.Goals as goal
 

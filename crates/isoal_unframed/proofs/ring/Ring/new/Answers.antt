@@ -1,4 +1,4 @@
-use Rattle.std.proofs.Common.{arith}
+use Rattle.isoal_unframed.proofs.Prelude.{arith}
 use Rattle.isoal_unframed.proofs.Kept.{kept_replicate}
 use Rattle.isoal_unframed.proofs.ring.Ring.new.Goals as goal
 

@@ -1,5 +1,4 @@
-use Rattle.std.proofs.Common.{ap, ◌∙◌, ◌≡◌, ◌<◌, ◌≤◌, ◌+◌, ◌-◌, ◌*◌, length, set, sym, refl, subst, Some, arith}
-use Rattle.isoal_unframed.specs.State.Cells.{kept_in, part_of}
+use Rattle.isoal_unframed.proofs.Prelude.{ap, ◌∙◌, ◌≡◌, ◌<◌, ◌≤◌, ◌+◌, ◌-◌, ◌*◌, length, set, sym, refl, subst, Some, arith, kept_in, part_of}
 use Rattle.isoal_unframed.proofs.Kept.{set-kept}
 use Rattle.isoal_unframed.proofs.Places.{slot_fits}
 use Rattle.isoal_unframed.proofs.Vecs.{mid_is}

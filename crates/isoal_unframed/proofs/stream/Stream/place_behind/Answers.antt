@@ -1,4 +1,4 @@
-use Rattle.std.proofs.Common.{arith}
+use Rattle.isoal_unframed.proofs.Prelude.{arith}
 use Rattle.isoal_unframed.proofs.Windows.{first_place, next_place}
 use Rattle.isoal_unframed.proofs.stream.Stream.place_behind.Goals as goal
 

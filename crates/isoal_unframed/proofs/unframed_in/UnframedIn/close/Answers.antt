@@ -1,4 +1,4 @@
-use Rattle.std.proofs.Common.{arith}
+use Rattle.isoal_unframed.proofs.Prelude.{arith}
 use Rattle.isoal_unframed.proofs.Stands.{close_stands, owed_is}
 use Rattle.isoal_unframed.proofs.unframed_in.UnframedIn.close.Goals as goal
 

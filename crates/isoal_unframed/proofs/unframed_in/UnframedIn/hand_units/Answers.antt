@@ -1,4 +1,4 @@
-use Rattle.std.proofs.Common.{arith}
+use Rattle.isoal_unframed.proofs.Prelude.{arith}
 use Rattle.isoal_unframed.proofs.Kept.{length-kept}
 use Rattle.isoal_unframed.proofs.Windows.{place_at_most, place_within, owed-turned, closed_kept}
 use Rattle.isoal_unframed.proofs.unframed_in.UnframedIn.hand_units.Goals as goal

@@ -1,4 +1,4 @@
-use Rattle.std.proofs.Common.{arith}
+use Rattle.isoal_unframed.proofs.Prelude.{arith}
 use Rattle.isoal_unframed.proofs.Stands.{hear_stands}
 use Rattle.isoal_unframed.proofs.unframed_in.UnframedIn.hear.Goals as goal
 

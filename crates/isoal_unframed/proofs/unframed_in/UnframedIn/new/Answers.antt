@@ -1,4 +1,4 @@
-use Rattle.std.proofs.Common.{arith}
+use Rattle.isoal_unframed.proofs.Prelude.{arith}
 use Rattle.isoal_unframed.proofs.Windows.{turned_replicate, place_within}
 use Rattle.isoal_unframed.proofs.unframed_in.UnframedIn.new.Goals as goal
 

@@ -1,8 +1,7 @@
-use Rattle.std.proofs.Common.{arith}
+use Rattle.isoal_unframed.proofs.Prelude.{arith, laid_in}
 use Rattle.std.proofs.lemmas.Result.{IfOk-weaker}
 use Rattle.isoal_unframed.proofs.Airs.{newest_is, stands_lay}
 use Rattle.isoal_unframed.proofs.Events.{event_count}
-use Rattle.isoal_base.specs.Air.{laid_in}
 use Rattle.isoal_unframed.proofs.unframed_out.UnframedOut.lay_event.Goals as goal
 
 pub returns-clause-count : goal.returns-clause-count

@@ -1,4 +1,4 @@
-use Rattle.std.proofs.Common.{arith}
+use Rattle.isoal_unframed.proofs.Prelude.{arith}
 use Rattle.isoal_unframed.proofs.Airs.{laid_event, newest_is, stands_lay}
 use Rattle.isoal_unframed.proofs.Events.{event_count}
 use Rattle.isoal_unframed.proofs.unframed_out.UnframedOut.lay_event_in.Goals as goal

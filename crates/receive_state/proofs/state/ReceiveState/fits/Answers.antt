@@ -1,4 +1,4 @@
-use Rattle.std.proofs.Common.{◌∙◌, sym}
+use Rattle.receive_state.proofs.Prelude.{◌∙◌, sym}
 use Rattle.receive_state.proofs.Fits.{test_tells, test_passes}
 use Rattle.receive_state.proofs.state.ReceiveState.fits.Goals as goal
 

@@ -1,6 +1,5 @@
-use Rattle.std.proofs.Common.{refl}
+use Rattle.replay_steps.proofs.Prelude.{refl, OnAir}
 use Rattle.scenario_text.specs.declared.step.Step.TheVariants.{Air as AirStep}
-use Rattle.replay_steps.specs.Airing.{OnAir}
 use Rattle.replay_steps.proofs.Airing.{air_brings, air_fails, air_meets, reach_fails}
 use Rattle.replay_steps.proofs.machine.Machine.air.Goals as goal
 

@@ -1,6 +1,4 @@
-use Rattle.std.proofs.Common.{length, refl, sym, ◌∙◌}
-use Rattle.scenario_history.specs.Worlds.{source_at}
-use Rattle.replay_steps.specs.Machines.{histories_of}
+use Rattle.replay_steps.proofs.Prelude.{length, refl, sym, ◌∙◌, source_at, histories_of}
 use Rattle.replay_steps.proofs.SinkLines.{announce_early, announce_fails, announce_meets, announce_nowhere}
 use Rattle.replay_steps.proofs.machine.Machine.announce.Goals as goal
 

@@ -1,5 +1,4 @@
-use Rattle.std.proofs.Common.{refl}
-use Rattle.scenario_text.specs.declared.step.Step.TheVariants.{Bis}
+use Rattle.replay_steps.proofs.Prelude.{refl, Bis}
 use Rattle.replay_steps.proofs.Stepping.{sources_meet}
 use Rattle.replay_steps.proofs.machine.Machine.bis.Goals as goal
 

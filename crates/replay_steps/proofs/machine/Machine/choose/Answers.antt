@@ -1,4 +1,4 @@
-use Rattle.std.proofs.Common.{refl}
+use Rattle.replay_steps.proofs.Prelude.{refl}
 use Rattle.replay_steps.proofs.Stepping.{choose_meets}
 use Rattle.replay_steps.proofs.machine.Machine.choose.Goals as goal
 

@@ -1,5 +1,4 @@
-use Rattle.std.proofs.Common.{refl}
-use Rattle.scenario_text.specs.declared.step.Step.TheVariants.{Cipher}
+use Rattle.replay_steps.proofs.Prelude.{refl, Cipher}
 use Rattle.replay_steps.proofs.Stepping.{sources_meet}
 use Rattle.replay_steps.proofs.machine.Machine.cipher.Goals as goal
 

@@ -1,4 +1,4 @@
-use Rattle.std.proofs.Common.{refl, sym, ◌∙◌}
+use Rattle.replay_steps.proofs.Prelude.{refl, sym, ◌∙◌}
 use Rattle.replay_steps.proofs.Closed.{first_closes, none_closes}
 use Rattle.replay_steps.proofs.Idle.{closes_at_once, relays_first}
 use Rattle.replay_steps.proofs.machine.Machine.close.Goals as goal

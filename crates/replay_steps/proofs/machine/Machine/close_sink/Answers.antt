@@ -1,9 +1,4 @@
-use Rattle.std.proofs.Common.{Err, Ok, map}
-use Rattle.scenario_history.specs.Relays.{relay_of}
-use Rattle.scenario_sinks.specs.Closing.{closing_of, handed_all}
-use Rattle.scenario_sinks.specs.Histories.{with_close_at}
-use Rattle.scenario_sinks.specs.State.Gathering.{handed_of}
-use Rattle.replay_steps.specs.Machines.{relay_histories}
+use Rattle.replay_steps.proofs.Prelude.{Err, Ok, map, relay_of, closing_of, handed_all, with_close_at, handed_of, relay_histories}
 use Rattle.replay_steps.proofs.Relaying.{offers_lent, offers_stop, sink_relays, sink_stops}
 use Rattle.replay_steps.proofs.machine.Machine.close_sink.Goals as goal
 

@@ -1,8 +1,4 @@
-use Rattle.std.proofs.Common.{◌∙◌, arith, refl}
-use Rattle.source_machine.specs.Airs.{airs_of}
-use Rattle.scenario_history.specs.RelayedUnits.{after_offers}
-use Rattle.replay_steps.specs.Between.{with_closes_below}
-use Rattle.replay_steps.specs.Relaying.{offers_below}
+use Rattle.replay_steps.proofs.Prelude.{◌∙◌, arith, refl, airs_of, after_offers, with_closes_below, offers_below}
 use Rattle.replay_steps.proofs.Between.{between_next, between_over, between_starts, between_stops, unassigned_next}
 use Rattle.replay_steps.proofs.machine.Machine.close_sinks.Goals as goal
 

@@ -1,9 +1,4 @@
-use Rattle.std.proofs.Common.{◌≡◌, List, map}
-use Rattle.scenario_text.specs.declared.step.Step.{Step}
-use Rattle.scenario_sinks.specs.Histories.{Histories}
-use Rattle.scenario_sinks.specs.Unassigned.{UnassignedSame}
-use Rattle.replay_steps.specs.Between.{FirstBetween}
-use Rattle.replay_steps.specs.Relaying.{ComponentsStand}
+use Rattle.replay_steps.proofs.Prelude.{◌≡◌, List, map, Step, Histories, UnassignedSame, FirstBetween, ComponentsStand}
 use Rattle.replay_steps.proofs.machine.Machine.close_sinks.Given as goal
 
 abbrev pub invariant-sinks : goal.invariant-sinks

@@ -1,5 +1,4 @@
-use Rattle.std.proofs.Common.{refl}
-use Rattle.replay_steps.specs.Machines.{histories_of, relay_histories}
+use Rattle.replay_steps.proofs.Prelude.{refl, histories_of, relay_histories}
 use Rattle.replay_steps.proofs.Ending.{drop_ends, drop_fails}
 use Rattle.replay_steps.proofs.RelayLaws.{dropped_relays}
 use Rattle.replay_steps.proofs.machine.Machine.drop_sink.Goals as goal

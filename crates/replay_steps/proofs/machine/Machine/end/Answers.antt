@@ -1,8 +1,4 @@
-use Rattle.std.proofs.Common.{◌∙◌, ap}
-use Rattle.scenario_sinks.specs.Histories.{with_close}
-use Rattle.replay_steps.specs.Machines.{histories_of}
-use Rattle.replay_steps.specs.Relaying.{ComponentsStand}
-use Rattle.replay_steps.specs.Versions.{number_of, stage_in}
+use Rattle.replay_steps.proofs.Prelude.{◌∙◌, ap, with_close, histories_of, ComponentsStand, number_of, stage_in}
 use Rattle.replay_steps.specs.declared.version.Stage.TheVariants.{Over}
 use Rattle.replay_steps.proofs.Closed.{first_closed}
 use Rattle.replay_steps.proofs.Closing.{not_over}

@@ -1,9 +1,6 @@
-use Rattle.std.proofs.Common.{◌∷◌, ◌++◌, ◌∙◌, List, ap, refl}
+use Rattle.replay_steps.proofs.Prelude.{◌∷◌, ◌++◌, ◌∙◌, List, ap, refl, stale_lines, chosen_of, histories_of}
 use Rattle.source_machine.specs.declared.sent.Stale.{Stale}
-use Rattle.scenario_history.specs.Output.{stale_lines}
 use Rattle.scenario_text.specs.declared.step.Step.TheVariants.{Event as EventStep}
-use Rattle.scenario_history.specs.Steps.{chosen_of}
-use Rattle.replay_steps.specs.Machines.{histories_of}
 use Rattle.replay_steps.proofs.Closing.{close_stops, closed_meets, closed_wants, closes_all, event_closes, event_refused, event_tail, not_over, components_then}
 use Rattle.replay_steps.proofs.Unassigned.{unassigned_in}
 use Rattle.replay_steps.proofs.machine.Machine.event.Goals as goal

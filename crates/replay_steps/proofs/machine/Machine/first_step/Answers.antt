@@ -1,7 +1,4 @@
-use Rattle.std.proofs.Common.{ap, refl}
-use Rattle.scenario_history.specs.Steps.{running}
-use Rattle.scenario_text.specs.declared.step.Step.TheVariants.{Scenario}
-use Rattle.scenario_sources.proofs.Citable.{scenario_begins}
+use Rattle.replay_steps.proofs.Prelude.{ap, refl, running, Scenario, scenario_begins}
 use Rattle.replay_steps.proofs.RelaysStay.{relays_stay}
 use Rattle.replay_steps.proofs.machine.Machine.first_step.Goals as goal
 

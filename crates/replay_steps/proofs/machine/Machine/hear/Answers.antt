@@ -1,6 +1,5 @@
-use Rattle.std.proofs.Common.{refl}
+use Rattle.replay_steps.proofs.Prelude.{refl, histories_of}
 use Rattle.scenario_text.specs.declared.step.Step.TheVariants.{Hear as HearStep}
-use Rattle.replay_steps.specs.Machines.{histories_of}
 use Rattle.replay_steps.proofs.Airing.{hear_brings, hear_meets, place_fails, reach_fails}
 use Rattle.replay_steps.proofs.machine.Machine.hear.Goals as goal
 

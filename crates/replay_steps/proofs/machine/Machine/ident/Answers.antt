@@ -1,4 +1,4 @@
-use Rattle.std.proofs.Common.{refl}
+use Rattle.replay_steps.proofs.Prelude.{refl}
 use Rattle.scenario_text.specs.declared.step.Step.TheVariants.{Ident as IdentStep}
 use Rattle.replay_steps.proofs.Stepping.{sources_meet}
 use Rattle.replay_steps.proofs.machine.Machine.ident.Goals as goal

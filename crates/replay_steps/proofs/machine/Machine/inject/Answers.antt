@@ -1,6 +1,5 @@
-use Rattle.std.proofs.Common.{refl, length}
+use Rattle.replay_steps.proofs.Prelude.{refl, length, histories_of}
 use Rattle.scenario_text.specs.declared.step.Step.TheVariants.{Inject as InjectStep}
-use Rattle.replay_steps.specs.Machines.{histories_of}
 use Rattle.replay_steps.proofs.Airing.{inject_brings, inject_fails, inject_meets, place_fails, quiet_tells, reach_fails}
 use Rattle.replay_steps.proofs.machine.Machine.inject.Goals as goal
 

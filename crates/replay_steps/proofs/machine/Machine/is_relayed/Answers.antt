@@ -1,4 +1,4 @@
-use Rattle.replay_steps.specs.Machines.{relay_histories}
+use Rattle.replay_steps.proofs.Prelude.{relay_histories}
 use Rattle.replay_steps.proofs.RelayLaws.{first_free, is_first, is_second, second_had}
 use Rattle.replay_steps.proofs.machine.Machine.is_relayed.Goals as goal
 

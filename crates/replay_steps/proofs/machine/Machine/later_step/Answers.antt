@@ -1,11 +1,6 @@
-use Rattle.std.proofs.Common.{◌≡◌, Some, refl, sym, ◌∙◌, ap, subst, length, arith}
+use Rattle.replay_steps.proofs.Prelude.{◌≡◌, Some, refl, sym, ◌∙◌, ap, subst, length, arith, Step, named_by, IsSinkLine, Machine, number_of}
 use Rattle.std.proofs.lemmas.Grind.{common_steps}
-use Rattle.scenario_text.specs.declared.step.Step.{Step}
 use Rattle.scenario_text.specs.declared.step.Step.TheVariants.{Unit as UnitStep}
-use Rattle.sink_history.specs.History.{named_by}
-use Rattle.scenario_sink.specs.SinkLines.{IsSinkLine}
-use Rattle.replay_steps.specs.declared.machine.Machine.{Machine}
-use Rattle.replay_steps.specs.Versions.{number_of}
 use Rattle.replay_steps.proofs.SinkLines.{closes_none_by, gives_none_by, nothing_handed_by}
 use Rattle.replay_steps.proofs.StepLaws.{quiet_as, quiet_beside, tells_as, meets_as}
 use Rattle.replay_steps.proofs.machine.Machine.later_step.Goals as goal

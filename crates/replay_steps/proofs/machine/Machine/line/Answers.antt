@@ -1,12 +1,6 @@
-use Rattle.std.proofs.Common.{Err, Ok, Option, refl, ◌∙◌, ap, subst}
-use Rattle.scenario_history.specs.Lines.{steps_of}
-use Rattle.scenario_history.specs.Steps.{version_at}
-use Rattle.scenario_text.specs.Steps.{read_of}
-use Rattle.scenario_text.specs.declared.step.Step.{Step}
+use Rattle.replay_steps.proofs.Prelude.{Err, Ok, Option, refl, ◌∙◌, ap, subst, steps_of, version_at, read_of, Step, airs_of, Machine}
 use Rattle.scenario_words.specs.Reading.{Gives}
 use Rattle.scenario_words.specs.declared.fault.LineFault.{LineFault}
-use Rattle.source_machine.specs.Airs.{airs_of}
-use Rattle.replay_steps.specs.declared.machine.Machine.{Machine}
 use Rattle.replay_steps.proofs.LineLaws.{line_meets, lines_beside, misfit_meets, none_meets, version_said}
 use Rattle.replay_steps.proofs.StepLaws.{stands_beside}
 use Rattle.replay_steps.proofs.machine.Machine.line.Goals as goal

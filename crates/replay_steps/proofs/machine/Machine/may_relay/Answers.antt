@@ -1,5 +1,4 @@
-use Rattle.scenario_sinks.specs.RelayHistories.{is_idle}
-use Rattle.replay_steps.specs.Machines.{relay_histories}
+use Rattle.replay_steps.proofs.Prelude.{is_idle, relay_histories}
 use Rattle.replay_steps.proofs.Idle.{relays_known}
 use Rattle.replay_steps.proofs.machine.Machine.may_relay.Goals as goal
 

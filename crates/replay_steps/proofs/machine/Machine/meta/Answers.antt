@@ -1,5 +1,4 @@
-use Rattle.std.proofs.Common.{refl}
-use Rattle.scenario_text.specs.declared.step.Step.TheVariants.{Meta}
+use Rattle.replay_steps.proofs.Prelude.{refl, Meta}
 use Rattle.replay_steps.proofs.Stepping.{sources_meet}
 use Rattle.replay_steps.proofs.machine.Machine.meta.Goals as goal
 

@@ -1,4 +1,4 @@
-use Rattle.std.proofs.Common.{sym, ap}
+use Rattle.replay_steps.proofs.Prelude.{sym, ap}
 use Rattle.source_machine.specs.declared.setup.Identity.{Identity}
 use Rattle.replay_steps.proofs.machine.Machine.origin.Goals as goal
 

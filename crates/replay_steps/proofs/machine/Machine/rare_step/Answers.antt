@@ -1,6 +1,5 @@
-use Rattle.std.proofs.Common.{refl, sym, ◌∙◌, ap, length}
+use Rattle.replay_steps.proofs.Prelude.{refl, sym, ◌∙◌, ap, length, number_of}
 use Rattle.scenario_text.specs.declared.step.Step.TheVariants.{Bis as BisStep, Inject as InjectStep, Meta as MetaStep, Subgroup as SubgroupStep}
-use Rattle.replay_steps.specs.Versions.{number_of}
 use Rattle.replay_steps.proofs.StepLaws.{boxes_counted, quiet_as, tells_as, meets_as}
 use Rattle.replay_steps.proofs.machine.Machine.rare_step.Goals as goal
 

@@ -1,6 +1,4 @@
-use Rattle.std.proofs.Common.{sym, ◌∙◌, ap}
-use Rattle.big_info.specs.declared.info.BigInfo.{BigInfo}
-use Rattle.replay_steps.specs.Machines.{histories_of}
+use Rattle.replay_steps.proofs.Prelude.{sym, ◌∙◌, ap, BigInfo, histories_of}
 use Rattle.replay_steps.proofs.Airing.{no_sink_there}
 use Rattle.replay_steps.proofs.machine.Machine.reach.Goals as goal
 

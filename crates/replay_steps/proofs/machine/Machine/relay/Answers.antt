@@ -1,7 +1,5 @@
-use Rattle.std.proofs.Common.{refl, sym, ◌∙◌, true, false}
-use Rattle.replay_steps.specs.Machines.{histories_of, relay_histories}
+use Rattle.replay_steps.proofs.Prelude.{refl, sym, ◌∙◌, true, false, histories_of, relay_histories, NoSuchBis, NoSuchSink, Order, RelayTaken}
 use Rattle.replay_steps.proofs.RelayLaws.{beyond_by, may_framed, may_not_first, may_not_second, may_not_unframed, relay_beyond, relay_by, relay_early, relay_fails, relay_meets, relay_nowhere, taken_is}
-use Rattle.transcript_text.specs.declared.refusal.Refusal.TheVariants.{NoSuchBis, NoSuchSink, Order, RelayTaken}
 use Rattle.replay_steps.proofs.machine.Machine.relay.Goals as goal
 
 pub returns-in_default : goal.returns-in_default

@@ -1,7 +1,4 @@
-use Rattle.std.proofs.Common.{refl}
-use Rattle.scenario_history.specs.Lines.{said_of, steps_of}
-use Rattle.scenario_history.specs.Steps.{version_of}
-use Rattle.source_machine.specs.Airs.{airs_of}
+use Rattle.replay_steps.proofs.Prelude.{refl, said_of, steps_of, version_of, airs_of}
 use Rattle.replay_steps.proofs.LineLaws.{line_meets}
 use Rattle.replay_steps.proofs.machine.Machine.say.Goals as goal
 

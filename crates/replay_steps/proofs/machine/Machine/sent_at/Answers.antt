@@ -1,6 +1,4 @@
-use Rattle.scenario_history.specs.Lines.{steps_of}
-use Rattle.scenario_history.specs.Steps.{steps_of_source}
-use Rattle.source_machine.specs.Airs.{airs_of}
+use Rattle.replay_steps.proofs.Prelude.{steps_of, steps_of_source, airs_of}
 use Rattle.replay_steps.proofs.Asked.{has_reason}
 use Rattle.replay_steps.proofs.machine.Machine.sent_at.Goals as goal
 

@@ -1,6 +1,4 @@
-use Rattle.std.proofs.Common.{refl}
-use Rattle.replay_steps.specs.Machines.{histories_of}
-use Rattle.replay_steps.specs.Versions.{number_of}
+use Rattle.replay_steps.proofs.Prelude.{refl, histories_of, number_of}
 use Rattle.replay_steps.proofs.Stepping.{make_meets}
 use Rattle.replay_steps.proofs.machine.Machine.sink.Goals as goal
 

@@ -1,6 +1,4 @@
-use Rattle.std.proofs.Common.{refl}
-use Rattle.scenario_history.specs.Worlds.{source_at}
-use Rattle.replay_steps.specs.Machines.{histories_of}
+use Rattle.replay_steps.proofs.Prelude.{refl, source_at, histories_of}
 use Rattle.replay_steps.proofs.SinkLines.{line_meets}
 use Rattle.replay_steps.proofs.machine.Machine.sink_line.Goals as goal
 

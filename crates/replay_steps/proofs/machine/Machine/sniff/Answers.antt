@@ -1,5 +1,4 @@
-use Rattle.std.proofs.Common.{◌++◌, ◌∙◌, ap, refl, length}
-use Rattle.transcript_text.specs.Lines.{pdu_line}
+use Rattle.replay_steps.proofs.Prelude.{◌++◌, ◌∙◌, ap, refl, length, pdu_line}
 use Rattle.replay_steps.proofs.Airing.{sniff_early, sniff_fails, sniff_meets}
 use Rattle.replay_steps.proofs.machine.Machine.sniff.Goals as goal
 

@@ -1,6 +1,5 @@
-use Rattle.std.proofs.Common.{refl}
+use Rattle.replay_steps.proofs.Prelude.{refl, number_of}
 use Rattle.scenario_text.specs.declared.step.Step.TheVariants.{Start as StartStep}
-use Rattle.replay_steps.specs.Versions.{number_of}
 use Rattle.replay_steps.proofs.Stepping.{sources_meet}
 use Rattle.replay_steps.proofs.machine.Machine.start.Goals as goal
 

@@ -1,6 +1,4 @@
-use Rattle.source_machine.specs.Airs.{airs_of}
-use Rattle.scenario_history.specs.Lines.{steps_of}
-use Rattle.replay_steps.specs.Machines.{histories_of}
+use Rattle.replay_steps.proofs.Prelude.{airs_of, steps_of, histories_of}
 use Rattle.replay_steps.proofs.machine.Machine.state_of.Goals as goal
 
 pub returns : goal.returns

@@ -1,5 +1,4 @@
-use Rattle.std.proofs.Common.{length, sym, ◌∙◌, ap}
-use Rattle.replay_steps.specs.Versions.{stage_in, number_of}
+use Rattle.replay_steps.proofs.Prelude.{length, sym, ◌∙◌, ap, stage_in, number_of}
 use Rattle.replay_steps.proofs.StepLaws.{goes_on_in, first_meets, meets_step, refused_after_end}
 use Rattle.replay_steps.proofs.machine.Machine.step.Goals as goal
 

@@ -1,7 +1,5 @@
-use Rattle.std.proofs.Common.{[], ◌∷◌, refl}
+use Rattle.replay_steps.proofs.Prelude.{[], ◌∷◌, refl, chosen_of, histories_of}
 use Rattle.scenario_text.specs.declared.step.Step.TheVariants.{Stop as StopStep}
-use Rattle.scenario_history.specs.Steps.{chosen_of}
-use Rattle.replay_steps.specs.Machines.{histories_of}
 use Rattle.replay_steps.proofs.Closing.{closes_meet, not_over, components_then, stop_closes, stop_refused}
 use Rattle.replay_steps.proofs.Unassigned.{unassigned_in}
 use Rattle.replay_steps.proofs.machine.Machine.stop.Goals as goal

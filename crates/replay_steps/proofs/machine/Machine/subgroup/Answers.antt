@@ -1,4 +1,4 @@
-use Rattle.std.proofs.Common.{refl}
+use Rattle.replay_steps.proofs.Prelude.{refl}
 use Rattle.scenario_text.specs.declared.step.Step.TheVariants.{Subgroup as SubgroupStep}
 use Rattle.replay_steps.proofs.Stepping.{sources_meet}
 use Rattle.replay_steps.proofs.machine.Machine.subgroup.Goals as goal

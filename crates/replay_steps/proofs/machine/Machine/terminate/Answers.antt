@@ -1,8 +1,5 @@
-use Rattle.std.proofs.Common.{◌∷◌, ◌++◌, ◌∙◌, ap, refl}
+use Rattle.replay_steps.proofs.Prelude.{◌∷◌, ◌++◌, ◌∙◌, ap, refl, control_line, chosen_of, histories_of}
 use Rattle.scenario_text.specs.declared.step.Step.TheVariants.{Terminate as TerminateStep}
-use Rattle.transcript_text.specs.Lines.{control_line}
-use Rattle.scenario_history.specs.Steps.{chosen_of}
-use Rattle.replay_steps.specs.Machines.{histories_of}
 use Rattle.replay_steps.proofs.Closing.{close_stops, closed_meets, closed_wants, closes_all, not_over, components_then, terminate_closes, terminate_refused, terminate_tail}
 use Rattle.replay_steps.proofs.Unassigned.{unassigned_in}
 use Rattle.replay_steps.proofs.machine.Machine.terminate.Goals as goal

@@ -1,5 +1,4 @@
-use Rattle.std.proofs.Common.{refl}
-use Rattle.replay_steps.specs.Machines.{histories_of}
+use Rattle.replay_steps.proofs.Prelude.{refl, histories_of}
 use Rattle.replay_steps.proofs.Stepping.{tuned_early, tuned_meets}
 use Rattle.replay_steps.proofs.machine.Machine.tuned.Goals as goal
 

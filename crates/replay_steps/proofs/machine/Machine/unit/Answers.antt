@@ -1,5 +1,4 @@
-use Rattle.std.proofs.Common.{refl, sym, ◌∙◌}
-use Rattle.replay_steps.specs.Machines.{relay_histories}
+use Rattle.replay_steps.proofs.Prelude.{refl, sym, ◌∙◌, relay_histories}
 use Rattle.replay_steps.proofs.RelayLaws.{beside_relays, given_relays, is_first, is_second, unit_given, unit_refused, unit_relayed}
 use Rattle.replay_steps.proofs.machine.Machine.unit.Goals as goal
 

@@ -1,4 +1,4 @@
-use Rattle.std.proofs.Common.{◌+◌, ◌*◌, arith}
+use Rattle.replay_steps.proofs.Prelude.{◌+◌, ◌*◌, arith}
 use Rattle.replay_steps.proofs.Positions.{next_stream, same_stream}
 use Rattle.replay_steps.proofs.position.Position.next.Goals as goal
 

@@ -1,6 +1,4 @@
-use Rattle.std.proofs.Common.{◌≡◌, ◌∙◌, ◌++◌, sym, ap, List, ℕ}
-use Rattle.scenario_lines.specs.State.Places.{left_at}
-use Rattle.scenario_lines.specs.declared.made_lines.Place.{Place}
+use Rattle.scenario_lines.proofs.Prelude.{◌≡◌, ◌∙◌, ◌++◌, sym, ap, List, ℕ, left_at, Place}
 use Rattle.scenario_lines.proofs.NextLines.{head_next, some_left}
 use Rattle.scenario_lines.proofs.made_lines.Lines.next_line.Goals as goal
 

@@ -1,7 +1,5 @@
-use Rattle.std.proofs.Common.{◌+◌, ◌∙◌, sym, ap, refl, codes}
+use Rattle.scenario_lines.proofs.Prelude.{◌+◌, ◌∙◌, sym, ap, refl, codes, left_at, Place}
 use Rattle.scenario_lines.specs.Generated.{unit_line}
-use Rattle.scenario_lines.specs.State.Places.{left_at}
-use Rattle.scenario_lines.specs.declared.made_lines.Place.{Place}
 use Rattle.scenario_lines.proofs.MadeSteps.{event_says}
 use Rattle.scenario_lines.proofs.NextLines.{unit_next}
 use Rattle.scenario_lines.proofs.made_lines.Lines.next_step.Goals as goal

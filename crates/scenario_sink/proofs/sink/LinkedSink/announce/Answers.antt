@@ -1,9 +1,4 @@
-use Rattle.std.proofs.Common.{◌++◌, ◌∙◌, refl, sym, ap, subst}
-use Rattle.std.proofs.lemmas.Result.{err_from_is_err_and}
-use Rattle.delegator_history.specs.Trains.{answer_of, outcome_by}
-use Rattle.sink_history.specs.Output.{snapshot_in}
-use Rattle.transcript_text.specs.SinkLines.{sink_line, train_line, train_words}
-use Rattle.scenario_sink.specs.State.Stands.{IsSink}
+use Rattle.scenario_sink.proofs.Prelude.{◌++◌, ◌∙◌, refl, sym, ap, subst, err_from_is_err_and, answer_of, outcome_by, snapshot_in, sink_line, train_line, train_words, IsSink}
 use Rattle.scenario_sink.proofs.Printing.{two_put}
 use Rattle.scenario_sink.proofs.Trained.{after_train, announced_train}
 use Rattle.scenario_sink.proofs.sink.LinkedSink.announce.Goals as goal

@@ -1,5 +1,4 @@
-use Rattle.std.proofs.Common.{Err, None, sym, ◌∙◌, ap}
-use Rattle.std.specs.Prelude.{slice_index_or}
+use Rattle.scenario_sink.proofs.Prelude.{Err, None, sym, ◌∙◌, ap, slice_index_or}
 use Rattle.scenario_sink.proofs.Calls.{joins_one}
 use Rattle.scenario_sink.proofs.Joins.{not_twice, twice_refusal, wants_not_twice}
 use Rattle.scenario_sink.proofs.Stands.{unchanged}

@@ -1,5 +1,4 @@
-use Rattle.std.proofs.Common.{refl}
-use Rattle.delegator_history.specs.States.{contexts_set}
+use Rattle.scenario_sink.proofs.Prelude.{refl, contexts_set}
 use Rattle.scenario_sink.proofs.Stands.{sets}
 use Rattle.scenario_sink.proofs.sink.LinkedSink.context.Goals as goal
 

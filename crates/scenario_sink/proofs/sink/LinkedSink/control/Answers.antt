@@ -1,10 +1,6 @@
-use Rattle.std.proofs.Common.{◌++◌, refl, ◌∙◌, ap}
-use Rattle.std.proofs.lemmas.Result.{err_from_is_err_and}
+use Rattle.scenario_sink.proofs.Prelude.{◌++◌, refl, ◌∙◌, ap, err_from_is_err_and, Snapshot, stepped, control_words, sink_line}
 use Rattle.delegator_history.specs.Controls.{control_heard}
-use Rattle.delegator_history.specs.Snapshots.{Snapshot}
 use Rattle.delegator_history.specs.States.{control_heard as controlled}
-use Rattle.sink_history.specs.Calls.{stepped}
-use Rattle.transcript_text.specs.SinkLines.{control_words, sink_line}
 use Rattle.scenario_sink.proofs.Printing.{one_put}
 use Rattle.scenario_sink.proofs.Stands.{steps}
 use Rattle.scenario_sink.proofs.Untold.{its_snapshot}

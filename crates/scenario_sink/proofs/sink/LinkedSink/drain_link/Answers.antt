@@ -1,11 +1,4 @@
-use Rattle.std.proofs.Common.{◌∙◌, List, length, arith}
-use Rattle.std.proofs.lemmas.Result.{err_from_is_err_and}
-use Rattle.sink_history.specs.Calls.{Call, writes_waiting}
-use Rattle.sink_history.specs.Drains.{served_out, notified_out}
-use Rattle.sink_history.specs.Links.{notices_waiting, reads_waiting}
-use Rattle.sink_history.specs.Output.{Lines, read_lines, serve_lines, tell_lines}
-use Rattle.transcript_text.specs.Labels.{label_of}
-use Rattle.scenario_sink.specs.Making.{stayed}
+use Rattle.scenario_sink.proofs.Prelude.{◌∙◌, List, length, arith, err_from_is_err_and, Call, writes_waiting, served_out, notified_out, notices_waiting, reads_waiting, Lines, read_lines, serve_lines, tell_lines, label_of, stayed}
 use Rattle.scenario_sink.proofs.Draining.{all_joined, drain_goes, drain_length, reads_some, serves_some, serving, telling, tells_some}
 use Rattle.scenario_sink.proofs.sink.LinkedSink.drain_link.Goals as goal
 

@@ -1,7 +1,5 @@
-use Rattle.std.proofs.Common.{◌≡◌, ◌++◌, refl, ◌∙◌, ap}
-use Rattle.std.proofs.lemmas.Result.{err_from_is_err_and}
+use Rattle.scenario_sink.proofs.Prelude.{◌≡◌, ◌++◌, refl, ◌∙◌, ap, err_from_is_err_and, forged_line}
 use Rattle.assistant_machine.specs.Answers.{answer_of}
-use Rattle.transcript_text.specs.SinkLines.{forged_line}
 use Rattle.scenario_sink.proofs.Calls.{Here, forges, here, its_answer, its_assistant}
 use Rattle.scenario_sink.proofs.Forging.{its_answer as the_answer}
 use Rattle.scenario_sink.proofs.Printing.{one_put}

@@ -1,7 +1,5 @@
-use Rattle.std.proofs.Common.{◌∙◌, refl, ap}
-use Rattle.delegator_machine.specs.Calls.{hear}
+use Rattle.scenario_sink.proofs.Prelude.{◌∙◌, refl, ap, hear, hearing_of}
 use Rattle.group_sink.specs.Calls as sinks
-use Rattle.group_sink.specs.Hearings.{hearing_of}
 use Rattle.scenario_sink.proofs.Stands.{receives}
 use Rattle.scenario_sink.proofs.sink.LinkedSink.hear.Goals as goal
 

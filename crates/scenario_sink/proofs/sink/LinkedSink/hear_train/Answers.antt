@@ -1,15 +1,4 @@
-use Rattle.std.proofs.Common.{◌∷◌, Some, refl, sym, ◌∙◌, ap, subst}
-use Rattle.std.specs.Prelude.{if◌then◌else◌}
-use Rattle.delegator_history.specs.States.{train_heard}
-use Rattle.delegator_history.specs.Trains.{answer_of, outcome_by}
-use Rattle.delegator_machine.specs.Calls.{control}
-use Rattle.delegator_machine.specs.State.Halves.{StandsFor}
-use Rattle.sink_history.specs.Calls.{stepped}
-use Rattle.sink_history.specs.History.{given_train}
-use Rattle.sink_history.specs.Output.{snapshot_in}
-use Rattle.sink_history.specs.Moves.{follows}
-use Rattle.scenario_sink.specs.Answers.{is_followed}
-use Rattle.scenario_sink.specs.State.Stands.{after_call}
+use Rattle.scenario_sink.proofs.Prelude.{◌∷◌, Some, refl, sym, ◌∙◌, ap, subst, if◌then◌else◌, train_heard, answer_of, outcome_by, control, StandsFor, stepped, given_train, snapshot_in, follows, is_followed, after_call}
 use Rattle.scenario_sink.proofs.Following.{followed_is}
 use Rattle.scenario_sink.proofs.Histories.{of_source}
 use Rattle.scenario_sink.proofs.Stands.{steps}

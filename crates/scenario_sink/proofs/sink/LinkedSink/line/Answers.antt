@@ -1,13 +1,8 @@
-use Rattle.std.proofs.Common.{◌∷◌, ◌<◌, None, refl, sym, ap, subst, ◌∙◌, arith, length}
-use Rattle.std.specs.Option.{option_or}
+use Rattle.scenario_sink.proofs.Prelude.{◌∷◌, ◌<◌, None, refl, sym, ap, subst, ◌∙◌, arith, length, option_or, drained, drain_lines, read_line, serve_line, tell_line, no_notice, plain, Quietly, stayed}
 use Rattle.sink_history.specs.Calls as calls
-use Rattle.sink_history.specs.Drains.{drained}
 use Rattle.scenario_text.specs.Ranges.{IsInRange}
 use Rattle.scenario_text.specs.declared.step.Step.TheVariants as steps
-use Rattle.sink_history.specs.Output.{drain_lines, read_line, serve_line, tell_line}
-use Rattle.sink_history.specs.Refusals.{no_notice, no_read, no_write}
-use Rattle.transcript_text.specs.SinkLines.{plain}
-use Rattle.scenario_sink.specs.Making.{Quietly, stayed}
+use Rattle.sink_history.specs.Refusals.{no_read, no_write}
 use Rattle.scenario_sink.proofs.Arms.{does_so, makes_so}
 use Rattle.scenario_sink.proofs.Histories.{first_joined}
 use Rattle.scenario_sink.proofs.Others.{no_sink_line}

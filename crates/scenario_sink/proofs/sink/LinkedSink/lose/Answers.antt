@@ -1,7 +1,4 @@
-use Rattle.std.proofs.Common.{refl, ◌∙◌}
-use Rattle.std.proofs.lemmas.Result.{err_from_is_err_and}
-use Rattle.delegator_history.specs.States.{train_lost}
-use Rattle.sink_history.specs.Calls.{stepped}
+use Rattle.scenario_sink.proofs.Prelude.{refl, ◌∙◌, err_from_is_err_and, train_lost, stepped}
 use Rattle.scenario_sink.proofs.Printing.{one_put}
 use Rattle.scenario_sink.proofs.Stands.{steps}
 use Rattle.scenario_sink.proofs.sink.LinkedSink.lose.Goals as goal

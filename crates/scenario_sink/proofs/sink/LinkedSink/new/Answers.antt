@@ -1,4 +1,4 @@
-use Rattle.std.proofs.Common.{refl}
+use Rattle.scenario_sink.proofs.Prelude.{refl}
 use Rattle.scenario_sink.proofs.Born.{born_stands}
 use Rattle.scenario_sink.proofs.sink.LinkedSink.new.Goals as goal
 

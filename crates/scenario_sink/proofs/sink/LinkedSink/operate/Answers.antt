@@ -1,8 +1,4 @@
-use Rattle.std.proofs.Common.{◌∷◌, refl, subst}
-use Rattle.std.proofs.lemmas.Result.{err_from_is_err_and}
-use Rattle.sink_history.specs.Calls.{asked}
-use Rattle.scenario_sink.specs.Making.{stayed}
-use Rattle.scenario_sink.specs.State.Stands.{IsSink}
+use Rattle.scenario_sink.proofs.Prelude.{◌∷◌, refl, subst, err_from_is_err_and, asked, stayed, IsSink}
 use Rattle.scenario_sink.proofs.Histories.{first_joined}
 use Rattle.scenario_sink.proofs.sink.LinkedSink.operate.Goals as goal
 

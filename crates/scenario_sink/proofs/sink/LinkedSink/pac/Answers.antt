@@ -1,16 +1,9 @@
-use Rattle.std.proofs.Common.{◌≤◌, ◌∷◌, ◌++◌, [], length, refl, sym, subst}
-use Rattle.bcast_base.specs.Encoding.{IsOctets}
+use Rattle.scenario_sink.proofs.Prelude.{◌≤◌, ◌∷◌, ◌++◌, [], length, refl, sym, subst, IsOctets, Snapshot, record_added, snapshot_of, Halves, greatest_value, record_of, snapshot_in, Stands}
 use Rattle.ltv_codec.proofs.Citable.{are_read}
-use Rattle.delegator_history.specs.Snapshots.{Snapshot}
-use Rattle.delegator_history.specs.States.{record_added, snapshot_of}
 use Rattle.delegator_machine.specs.Calls.{steps_of}
-use Rattle.delegator_machine.specs.State.Halves.{Halves}
-use Rattle.pacs_records.specs.Layout.{greatest_value, value}
+use Rattle.pacs_records.specs.Layout.{value}
 use Rattle.pacs_records.specs.Pushes.{RefusesPush}
 use Rattle.pacs_records.specs.declared.fault.PushFault.TheVariants.{Memory, TooLong}
-use Rattle.sink_history.specs.History.{record_of}
-use Rattle.sink_history.specs.Output.{snapshot_in}
-use Rattle.scenario_sink.specs.State.Stands.{Stands}
 use Rattle.scenario_sink.proofs.Recorded.{has_room, no_room}
 use Rattle.scenario_sink.proofs.Stands.{sets}
 use Rattle.scenario_sink.proofs.Untold.{its_snapshot}

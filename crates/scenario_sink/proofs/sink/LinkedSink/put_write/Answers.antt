@@ -1,5 +1,4 @@
-use Rattle.std.proofs.Common.{subst}
-use Rattle.bcast_base.specs.Encoding.{IsOctets}
+use Rattle.scenario_sink.proofs.Prelude.{subst, IsOctets}
 use Rattle.scenario_sink.proofs.Calls.{Here, asks, here, its_assistant}
 use Rattle.scenario_sink.proofs.Results.{on_ok}
 use Rattle.scenario_sink.proofs.sink.LinkedSink.put_write.Goals as goal

@@ -1,12 +1,5 @@
-use Rattle.std.proofs.Common.{◌≡◌, ◌<◌, ◌∷◌, [], List, ℕ, Some, option_map, slice_get, refl, sym, ◌∙◌, ap, subst, arith}
-use Rattle.std.specs.Prelude.{is_none}
-use Rattle.std.proofs.lemmas.Result.{err_from_is_err_and}
+use Rattle.scenario_sink.proofs.Prelude.{◌≡◌, ◌<◌, ◌∷◌, [], List, ℕ, Some, option_map, slice_get, refl, sym, ◌∙◌, ap, subst, arith, is_none, err_from_is_err_and, value_at, stated, was_read, label_of, value_line, Takes}
 use Rattle.assistant_machine.specs.Calls.{read}
-use Rattle.delegator_history.specs.Values.{value_at}
-use Rattle.sink_history.specs.Output.{stated, was_read}
-use Rattle.transcript_text.specs.Labels.{label_of}
-use Rattle.transcript_text.specs.SinkLines.{value_line}
-use Rattle.scenario_sink.specs.State.Taking.{Takes}
 use Rattle.scenario_sink.proofs.Calls.{Here, here, its_assistant, kept, no_read, reads_one, slot_there, slots_there, which_read}
 use Rattle.scenario_sink.proofs.Shown.{with_value}
 use Rattle.scenario_sink.proofs.Turning.{its_line}

@@ -1,10 +1,5 @@
-use Rattle.std.proofs.Common.{◌∷◌, slice_get, refl, sym, ◌∙◌}
-use Rattle.std.specs.Prelude.{is_none}
-use Rattle.std.proofs.lemmas.Result.{err_from_is_err_and}
+use Rattle.scenario_sink.proofs.Prelude.{◌∷◌, slice_get, refl, sym, ◌∙◌, is_none, err_from_is_err_and, is_joined, writes_waiting, serve_line, label_of}
 use Rattle.sink_history.specs.Calls as calls
-use Rattle.sink_history.specs.Calls.{is_joined, writes_waiting}
-use Rattle.sink_history.specs.Output.{serve_line}
-use Rattle.transcript_text.specs.Labels.{label_of}
 use Rattle.scenario_sink.proofs.Turning.{idle_refusal, no_link, some_wait, turned}
 use Rattle.scenario_sink.proofs.sink.LinkedSink.serve.Goals as goal
 

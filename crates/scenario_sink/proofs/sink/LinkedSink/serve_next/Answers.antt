@@ -1,14 +1,4 @@
-use Rattle.std.proofs.Common.{◌∷◌, Some, option_map, refl, sym, ◌∙◌, ap, slice_get, subst}
-use Rattle.std.specs.Prelude.{is_none}
-use Rattle.std.proofs.lemmas.Result.{err_from_is_err_and}
-use Rattle.delegator_history.specs.States.{written}
-use Rattle.delegator_history.specs.Writes.{reply_of}
-use Rattle.delegator_machine.specs.Calls.{control}
-use Rattle.delegator_machine.specs.State.Halves.{StandsFor}
-use Rattle.sink_history.specs.Calls.{served}
-use Rattle.sink_history.specs.Output.{replied, snapshot_in}
-use Rattle.transcript_text.specs.Labels.{label_of}
-use Rattle.transcript_text.specs.SinkLines.{reply_line}
+use Rattle.scenario_sink.proofs.Prelude.{◌∷◌, Some, option_map, refl, sym, ◌∙◌, ap, slice_get, subst, is_none, err_from_is_err_and, written, reply_of, control, StandsFor, served, replied, snapshot_in, label_of, reply_line}
 use Rattle.scenario_sink.proofs.Calls.{Here, first_write, here, its_assistant, kept, no_write, serves}
 use Rattle.scenario_sink.proofs.Histories.{served_stays}
 use Rattle.scenario_sink.proofs.Turning.{its_line}

@@ -1,5 +1,4 @@
-use Rattle.std.proofs.Common.{◌∙◌, ap}
-use Rattle.delegator_history.specs.Values.{value_at}
+use Rattle.scenario_sink.proofs.Prelude.{◌∙◌, ap, value_at}
 use Rattle.scenario_sink.proofs.Shown.{slot_shown}
 use Rattle.scenario_sink.proofs.Untold.{its_snapshot}
 use Rattle.scenario_sink.proofs.sink.LinkedSink.show_slot.Goals as goal

@@ -1,6 +1,4 @@
-use Rattle.std.proofs.Common.{◌≡◌, ◌++◌, ◌∙◌, refl, ap, arith}
-use Rattle.std.specs.List.{concat, flat_map, range_with_len}
-use Rattle.scenario_sink.specs.Making.{slot_lines}
+use Rattle.scenario_sink.proofs.Prelude.{◌≡◌, ◌++◌, ◌∙◌, refl, ap, arith, concat, flat_map, range_with_len, slot_lines}
 use Rattle.scenario_sink.proofs.Calls.{slots_there}
 use Rattle.scenario_sink.proofs.Printing.{nothing_put, slot_put}
 use Rattle.scenario_sink.proofs.sink.LinkedSink.show_slots.Goals as goal

@@ -1,8 +1,4 @@
-use Rattle.std.proofs.Common.{◌≡◌, ◌≤◌, ◌++◌}
-use Rattle.std.specs.List.{concat, flat_map, range_with_len}
-use Rattle.scenario_sink.specs.Making.{slot_lines}
-use Rattle.scenario_sink.specs.SinkHistory.{SinkHistory}
-use Rattle.scenario_sink.specs.State.Stands.{IsSink}
+use Rattle.scenario_sink.proofs.Prelude.{◌≡◌, ◌≤◌, ◌++◌, concat, flat_map, range_with_len, slot_lines, SinkHistory, IsSink}
 use Rattle.scenario_sink.proofs.sink.LinkedSink.show_slots.Given as goal
 
 abbrev pub invariant-each : goal.invariant-each

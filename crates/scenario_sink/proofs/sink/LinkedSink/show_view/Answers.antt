@@ -1,6 +1,4 @@
-use Rattle.std.proofs.Common.{◌++◌, ◌∷◌, [], ◌∙◌, ap}
-use Rattle.std.specs.Prelude.{codes, decimal}
-use Rattle.transcript_text.specs.SinkLines.{value_line}
+use Rattle.scenario_sink.proofs.Prelude.{◌++◌, ◌∷◌, [], ◌∙◌, ap, codes, decimal, value_line}
 use Rattle.scenario_sink.proofs.Shown.{with_value}
 use Rattle.scenario_sink.proofs.sink.LinkedSink.show_view.Goals as goal
 

@@ -1,8 +1,4 @@
-use Rattle.std.proofs.Common.{◌≡◌, ◌++◌, ◌∷◌, [], ◌∙◌, List, ℕ, map, refl, ap, arith}
-use Rattle.std.specs.List.{concat, range_with_len}
-use Rattle.std.specs.Prelude.{codes, decimal}
-use Rattle.sink_history.specs.Output.{viewed}
-use Rattle.transcript_text.specs.SinkLines.{value_line}
+use Rattle.scenario_sink.proofs.Prelude.{◌≡◌, ◌++◌, ◌∷◌, [], ◌∙◌, List, ℕ, map, refl, ap, arith, concat, range_with_len, codes, decimal, viewed, value_line}
 use Rattle.scenario_sink.proofs.Calls.{slots_there}
 use Rattle.scenario_sink.proofs.Printing.{nothing_put, view_put}
 use Rattle.scenario_sink.proofs.sink.LinkedSink.show_views.Goals as goal

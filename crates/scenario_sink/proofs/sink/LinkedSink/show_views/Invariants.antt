@@ -1,11 +1,4 @@
-use Rattle.std.proofs.Common.{◌≡◌, ◌≤◌, ◌++◌, ◌∷◌, [], true, map}
-use Rattle.std.specs.List.{concat, range_with_len}
-use Rattle.std.specs.Prelude.{codes, decimal}
-use Rattle.sink_history.specs.Calls.{is_joined}
-use Rattle.sink_history.specs.Output.{viewed}
-use Rattle.transcript_text.specs.SinkLines.{value_line}
-use Rattle.scenario_sink.specs.SinkHistory.{SinkHistory}
-use Rattle.scenario_sink.specs.State.Stands.{IsSink}
+use Rattle.scenario_sink.proofs.Prelude.{◌≡◌, ◌≤◌, ◌++◌, ◌∷◌, [], true, map, concat, range_with_len, codes, decimal, is_joined, viewed, value_line, SinkHistory, IsSink}
 use Rattle.scenario_sink.proofs.sink.LinkedSink.show_views.Given as goal
 
 abbrev pub invariant-each : goal.invariant-each

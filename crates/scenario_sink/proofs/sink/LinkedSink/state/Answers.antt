@@ -1,5 +1,4 @@
-use Rattle.std.proofs.Common.{◌∙◌, ap, arith}
-use Rattle.delegator_history.specs.Values.{value_at}
+use Rattle.scenario_sink.proofs.Prelude.{◌∙◌, ap, arith, value_at}
 use Rattle.scenario_sink.proofs.Shown.{there}
 use Rattle.scenario_sink.proofs.Untold.{its_snapshot}
 use Rattle.scenario_sink.proofs.sink.LinkedSink.state.Goals as goal

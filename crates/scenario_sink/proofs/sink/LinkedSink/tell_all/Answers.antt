@@ -1,7 +1,4 @@
-use Rattle.std.proofs.Common.{arith}
-use Rattle.std.proofs.lemmas.Result.{err_from_is_err_and}
-use Rattle.transcript_text.specs.Labels.{label_of}
-use Rattle.scenario_sink.specs.Making.{stayed}
+use Rattle.scenario_sink.proofs.Prelude.{arith, err_from_is_err_and, label_of, stayed}
 use Rattle.scenario_sink.proofs.Draining.{all_done, none_yet, one_again, telling, some_waits}
 use Rattle.scenario_sink.proofs.sink.LinkedSink.tell_all.Goals as goal
 

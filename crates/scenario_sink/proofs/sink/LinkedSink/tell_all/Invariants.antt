@@ -1,8 +1,4 @@
-use Rattle.std.proofs.Common.{◌≡◌, true}
-use Rattle.sink_history.specs.Calls.{is_joined}
-use Rattle.transcript_text.specs.Labels.{label_of}
-use Rattle.scenario_sink.specs.SinkHistory.{SinkHistory}
-use Rattle.scenario_sink.specs.State.Stands.{IsSink}
+use Rattle.scenario_sink.proofs.Prelude.{◌≡◌, true, is_joined, label_of, SinkHistory, IsSink}
 use Rattle.scenario_sink.proofs.Draining.{Repeats, telling}
 use Rattle.scenario_sink.proofs.sink.LinkedSink.tell_all.Given as goal
 

@@ -1,11 +1,5 @@
-use Rattle.std.proofs.Common.{◌∷◌, [], slice_get, refl, ◌∙◌, subst}
-use Rattle.std.proofs.lemmas.Result.{err_from_is_err_and}
+use Rattle.scenario_sink.proofs.Prelude.{◌∷◌, [], slice_get, refl, ◌∙◌, subst, err_from_is_err_and, delivered, notices_waiting, notice_delivered, label_of, value_line, Takes}
 use Rattle.assistant_machine.specs.Calls.{notified}
-use Rattle.sink_history.specs.Links.{delivered, notices_waiting}
-use Rattle.sink_history.specs.Output.{notice_delivered}
-use Rattle.transcript_text.specs.Labels.{label_of}
-use Rattle.transcript_text.specs.SinkLines.{value_line}
-use Rattle.scenario_sink.specs.State.Taking.{Takes}
 use Rattle.scenario_sink.proofs.Calls.{delivers, here, none_taken, tells_of}
 use Rattle.scenario_sink.proofs.Turning.{its_line, none_there, some_there}
 use Rattle.scenario_sink.proofs.sink.LinkedSink.tell_next.Goals as goal

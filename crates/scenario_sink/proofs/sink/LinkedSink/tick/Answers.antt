@@ -1,5 +1,4 @@
-use Rattle.std.proofs.Common.{refl, subst}
-use Rattle.delegator_machine.specs.Calls.{tick}
+use Rattle.scenario_sink.proofs.Prelude.{refl, subst, tick}
 use Rattle.group_sink.specs.Calls as sinks
 use Rattle.group_sink.specs.Handing.{handed_at}
 use Rattle.unit_outlets.specs.Handed.{HandsOver}

@@ -1,8 +1,5 @@
-use Rattle.std.proofs.Common.{Some, refl}
-use Rattle.delegator_history.specs.States.{sync_to_group}
+use Rattle.scenario_sink.proofs.Prelude.{Some, refl, sync_to_group, stepped, after_call}
 use Rattle.sync_reference.specs.BigSync.{BigSync}
-use Rattle.sink_history.specs.Calls.{stepped}
-use Rattle.scenario_sink.specs.State.Stands.{after_call}
 use Rattle.scenario_sink.proofs.Histories.{of_source}
 use Rattle.scenario_sink.proofs.Stands.{steps}
 use Rattle.scenario_sink.proofs.sink.LinkedSink.tune.Goals as goal

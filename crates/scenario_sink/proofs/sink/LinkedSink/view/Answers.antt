@@ -1,8 +1,4 @@
-use Rattle.std.proofs.Common.{◌≡◌, ◌<◌, ◌∙◌, sym, subst, arith, Option, None}
-use Rattle.std.specs.Prelude.{IfOk, slice_index_or}
-use Rattle.assistant_machine.specs.Views.{view_of}
-use Rattle.delegator_history.specs.Values.{value}
-use Rattle.receive_state.specs.declared.state.ReceiveState.{ReceiveState}
+use Rattle.scenario_sink.proofs.Prelude.{◌≡◌, ◌<◌, ◌∙◌, sym, subst, arith, Option, None, IfOk, slice_index_or, view_of, value, ReceiveState}
 use Rattle.scenario_sink.proofs.Calls.{Here, here, its_assistant, its_view, slots_there}
 use Rattle.scenario_sink.proofs.Heard.{views_fit}
 use Rattle.scenario_sink.proofs.Stands.{unchanged}

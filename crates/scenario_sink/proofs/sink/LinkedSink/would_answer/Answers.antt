@@ -1,5 +1,4 @@
-use Rattle.std.proofs.Common.{◌∙◌, ap}
-use Rattle.group_sink.specs.Hearings.{hearing_of}
+use Rattle.scenario_sink.proofs.Prelude.{◌∙◌, ap, hearing_of}
 use Rattle.scenario_sink.proofs.sink.LinkedSink.would_answer.Goals as goal
 
 pub returns : goal.returns

@@ -1,6 +1,4 @@
-use Rattle.std.proofs.Common.{None, sym, ◌∙◌}
-use Rattle.std.proofs.lemmas.Result.{err_from_is_err_and}
-use Rattle.sink_history.specs.Calls.{is_joined}
+use Rattle.scenario_sink.proofs.Prelude.{None, sym, ◌∙◌, err_from_is_err_and, is_joined}
 use Rattle.scenario_sink.proofs.Turning.{no_link, past_link}
 use Rattle.scenario_sink.proofs.sink.LinkedSink.write.Goals as goal
 

@@ -1,4 +1,4 @@
-use Rattle.std.proofs.Common.{◌≡◌, length}
+use Rattle.scenario_sinks.proofs.Prelude.{◌≡◌, length}
 use Rattle.scenario_sinks.proofs.gathered.Gathered.clear.Given as goal
 
 abbrev pub invariant-units : goal.invariant-units

@@ -1,4 +1,4 @@
-use Rattle.std.proofs.Common.{None}
+use Rattle.scenario_sinks.proofs.Prelude.{None}
 use Rattle.scenario_sinks.specs.RelayHistories.{without}
 use Rattle.scenario_sinks.proofs.Routes.{route_set}
 use Rattle.scenario_sinks.proofs.relays.Relays.end.Goals as goal

@@ -1,4 +1,4 @@
-use Rattle.std.proofs.Common.{rules, arith, Some}
+use Rattle.scenario_sinks.proofs.Prelude.{rules, arith, Some}
 use Rattle.scenario_sinks.proofs.Routes.{not_idle, route_set}
 use Rattle.scenario_sinks.proofs.relays.Relays.relay.Goals as goal
 

@@ -1,5 +1,4 @@
-use Rattle.std.proofs.Common.{refl, sym, ◌∙◌, arith}
-use Rattle.scenario_text.specs.declared.step.Step.TheVariants.{Announce}
+use Rattle.scenario_sinks.proofs.Prelude.{refl, sym, ◌∙◌, arith, Announce}
 use Rattle.scenario_sinks.proofs.Entries.{entry_read}
 use Rattle.scenario_sinks.proofs.SinkLines.{ran}
 use Rattle.scenario_sinks.proofs.sinks.Sinks.announce.Goals as goal

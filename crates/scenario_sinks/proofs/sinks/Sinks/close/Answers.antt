@@ -1,5 +1,4 @@
-use Rattle.std.proofs.Common.{refl, sym, ◌∙◌, ap, length}
-use Rattle.std.proofs.lemmas.List.{with_items_is}
+use Rattle.scenario_sinks.proofs.Prelude.{refl, sym, ◌∙◌, ap, length, with_items_is}
 use Rattle.scenario_sinks.proofs.Closings.{all_closed, lent_entries, none_closed}
 use Rattle.scenario_sinks.proofs.sinks.Sinks.close.Goals as goal
 

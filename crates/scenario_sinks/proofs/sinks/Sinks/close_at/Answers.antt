@@ -1,5 +1,4 @@
-use Rattle.std.proofs.Common.{refl, sym, ◌∙◌, ap, length}
-use Rattle.std.proofs.lemmas.List.{with_items_is}
+use Rattle.scenario_sinks.proofs.Prelude.{refl, sym, ◌∙◌, ap, length, with_items_is}
 use Rattle.scenario_sinks.proofs.Closings.{closed_one, lent_entries}
 use Rattle.scenario_sinks.proofs.sinks.Sinks.close_at.Goals as goal
 

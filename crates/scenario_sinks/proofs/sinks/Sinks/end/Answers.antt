@@ -1,4 +1,4 @@
-use Rattle.std.proofs.Common.{refl, sym, ◌∙◌, arith, Some, ap, get_or}
+use Rattle.scenario_sinks.proofs.Prelude.{refl, sym, ◌∙◌, arith, Some, ap, get_or}
 use Rattle.scenario_sinks.proofs.Entries.{entry_read, sink_in}
 use Rattle.scenario_sinks.proofs.OneSink.{ended}
 use Rattle.scenario_sinks.proofs.sinks.Sinks.end.Goals as goal

@@ -1,5 +1,4 @@
-use Rattle.std.proofs.Common.{◌∙◌, ap, map}
-use Rattle.scenario_sinks.specs.State.Gathering.{handed_of}
+use Rattle.scenario_sinks.proofs.Prelude.{◌∙◌, ap, map, handed_of}
 use Rattle.scenario_sinks.proofs.sinks.Sinks.lent.Goals as goal
 
 pub returns : goal.returns

@@ -1,4 +1,4 @@
-use Rattle.std.proofs.Common.{refl, sym, ◌∙◌, arith}
+use Rattle.scenario_sinks.proofs.Prelude.{refl, sym, ◌∙◌, arith}
 use Rattle.scenario_sinks.proofs.Entries.{entry_read}
 use Rattle.scenario_sinks.proofs.SinkLines.{ran}
 use Rattle.scenario_sinks.proofs.sinks.Sinks.line.Goals as goal

@@ -1,4 +1,4 @@
-use Rattle.std.proofs.Common.{sym, ◌∙◌, arith}
+use Rattle.scenario_sinks.proofs.Prelude.{sym, ◌∙◌, arith}
 use Rattle.scenario_sinks.proofs.Entries.{entry_read, lives_in}
 use Rattle.scenario_sinks.proofs.sinks.Sinks.lives.Goals as goal
 

@@ -1,4 +1,4 @@
-use Rattle.std.proofs.Common.{refl, sym, ◌∙◌, arith}
+use Rattle.scenario_sinks.proofs.Prelude.{refl, sym, ◌∙◌, arith}
 use Rattle.scenario_sinks.proofs.OneSink.{made, taken, no_box}
 use Rattle.scenario_sinks.proofs.sinks.Sinks.make.Goals as goal
 

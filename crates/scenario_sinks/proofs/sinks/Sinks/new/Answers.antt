@@ -1,4 +1,4 @@
-use Rattle.std.proofs.Common.{refl}
+use Rattle.scenario_sinks.proofs.Prelude.{refl}
 use Rattle.scenario_sinks.proofs.Entries.{none_made}
 use Rattle.scenario_sinks.proofs.sinks.Sinks.new.Goals as goal
 

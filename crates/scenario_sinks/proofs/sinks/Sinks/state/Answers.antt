@@ -1,4 +1,4 @@
-use Rattle.std.proofs.Common.{sym, ◌∙◌, arith}
+use Rattle.scenario_sinks.proofs.Prelude.{sym, ◌∙◌, arith}
 use Rattle.scenario_sinks.proofs.Entries.{entry_read}
 use Rattle.scenario_sinks.proofs.sinks.Sinks.state.Goals as goal
 

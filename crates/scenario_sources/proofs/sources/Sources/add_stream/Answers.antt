@@ -1,6 +1,4 @@
-use Rattle.std.proofs.Common.{refl, sym, ◌∙◌}
-use Rattle.scenario_text.specs.declared.step.Step.TheVariants.{Bis}
-use Rattle.scenario_history.specs.Steps.{chosen_steps}
+use Rattle.scenario_sources.proofs.Prelude.{refl, sym, ◌∙◌, Bis, chosen_steps}
 use Rattle.scenario_sources.proofs.Lifting.{answers, chosen_read}
 use Rattle.scenario_sources.proofs.sources.Sources.add_stream.Goals as goal
 

@@ -1,6 +1,4 @@
-use Rattle.std.proofs.Common.{refl, sym, ◌∙◌}
-use Rattle.scenario_history.specs.Steps.{chosen_steps}
-use Rattle.scenario_sources.specs.Described.{group_step}
+use Rattle.scenario_sources.proofs.Prelude.{refl, sym, ◌∙◌, chosen_steps, group_step}
 use Rattle.scenario_sources.proofs.Lifting.{answers, chosen_read}
 use Rattle.scenario_sources.proofs.sources.Sources.describe.Goals as goal
 

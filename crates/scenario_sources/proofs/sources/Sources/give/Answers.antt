@@ -1,6 +1,5 @@
-use Rattle.std.proofs.Common.{refl, sym, ◌∙◌}
+use Rattle.scenario_sources.proofs.Prelude.{refl, sym, ◌∙◌, chosen_steps}
 use Rattle.scenario_text.specs.declared.step.Step.TheVariants.{Unit as UnitStep}
-use Rattle.scenario_history.specs.Steps.{chosen_steps}
 use Rattle.scenario_sources.proofs.Lifting.{answers, chosen_read}
 use Rattle.scenario_sources.proofs.sources.Sources.give.Goals as goal
 

@@ -1,6 +1,4 @@
-use Rattle.std.proofs.Common.{refl, sym, ◌∙◌}
-use Rattle.scenario_text.specs.declared.step.Step.TheVariants.{Meta}
-use Rattle.scenario_history.specs.Steps.{chosen_steps}
+use Rattle.scenario_sources.proofs.Prelude.{refl, sym, ◌∙◌, Meta, chosen_steps}
 use Rattle.scenario_sources.proofs.Lifting.{answers, chosen_read}
 use Rattle.scenario_sources.proofs.sources.Sources.give_metadata.Goals as goal
 

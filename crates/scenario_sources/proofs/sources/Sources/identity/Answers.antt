@@ -1,5 +1,4 @@
-use Rattle.std.proofs.Common.{sym, ◌∙◌}
-use Rattle.scenario_history.specs.Steps.{chosen_steps}
+use Rattle.scenario_sources.proofs.Prelude.{sym, ◌∙◌, chosen_steps}
 use Rattle.scenario_sources.proofs.Lifting.{chosen_read}
 use Rattle.scenario_sources.proofs.sources.Sources.identity.Goals as goal
 

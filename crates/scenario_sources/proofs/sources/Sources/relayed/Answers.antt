@@ -1,7 +1,5 @@
-use Rattle.std.proofs.Common.{sym, ◌∙◌}
+use Rattle.scenario_sources.proofs.Prelude.{sym, ◌∙◌, chosen_steps, fault_in}
 use Rattle.scenario_text.specs.declared.step.Step.TheVariants.{Unit as UnitStep}
-use Rattle.scenario_history.specs.Steps.{chosen_steps}
-use Rattle.scenario_sources.specs.Faults.{fault_in}
 use Rattle.scenario_sources.proofs.Lifting.{chosen_read}
 use Rattle.scenario_sources.proofs.Phasing.{lone_relayed}
 use Rattle.scenario_sources.proofs.sources.Sources.relayed.Goals as goal

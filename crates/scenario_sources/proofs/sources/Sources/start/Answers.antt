@@ -1,8 +1,4 @@
-use Rattle.std.proofs.Common.{◌≡◌, ◌-◌, ◌<◌, length, true, refl, sym, subst, ◌∙◌, ap, arith}
-use Rattle.scenario_history.specs.Steps.{chosen_of, chosen_steps, steps_of_source}
-use Rattle.scenario_history.proofs.Citable.{stage_same}
-use Rattle.scenario_text.specs.declared.step.Step.TheVariants.{Start}
-use Rattle.scenario_sources.specs.State.Phases.{is_described}
+use Rattle.scenario_sources.proofs.Prelude.{◌≡◌, ◌-◌, ◌<◌, length, true, refl, sym, subst, ◌∙◌, ap, arith, chosen_of, chosen_steps, steps_of_source, stage_same, Start, is_described}
 use Rattle.scenario_sources.proofs.Lifting.{answers, chosen_read, is_single, phase_read, same_read, start_refused, start_twice, stands_as, twice_is}
 use Rattle.scenario_sources.proofs.sources.Sources.start.Goals as goal
 

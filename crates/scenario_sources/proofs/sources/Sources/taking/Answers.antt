@@ -1,5 +1,4 @@
-use Rattle.std.proofs.Common.{sym, ◌∙◌, arith}
-use Rattle.scenario_history.specs.Steps.{steps_of_source}
+use Rattle.scenario_sources.proofs.Prelude.{sym, ◌∙◌, arith, steps_of_source}
 use Rattle.scenario_sources.proofs.Lifting.{phase_read}
 use Rattle.scenario_sources.proofs.sources.Sources.taking.Goals as goal
 

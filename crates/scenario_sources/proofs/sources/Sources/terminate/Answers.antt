@@ -1,5 +1,4 @@
-use Rattle.std.proofs.Common.{refl, sym, ◌∙◌}
-use Rattle.scenario_history.specs.Steps.{chosen_steps}
+use Rattle.scenario_sources.proofs.Prelude.{refl, sym, ◌∙◌, chosen_steps}
 use Rattle.scenario_sources.proofs.Lifting.{chosen_read, terminates}
 use Rattle.scenario_sources.proofs.sources.Sources.terminate.Goals as goal
 

@@ -1,4 +1,4 @@
-use Rattle.std.proofs.Common.{◌≤◌, ◌<◌, ◌^◌, arith}
+use Rattle.scenario_words.proofs.Prelude.{◌≤◌, ◌<◌, ◌^◌, arith}
 use Rattle.scenario_words.proofs.OneDigit.{number_fits}
 use Rattle.scenario_words.proofs.cursor.Cursor.digit.Goals as goal
 

@@ -1,4 +1,4 @@
-use Rattle.std.proofs.Common.{sym, ◌∙◌}
+use Rattle.scenario_words.proofs.Prelude.{sym, ◌∙◌}
 use Rattle.scenario_words.proofs.MoreWords.{too_many}
 use Rattle.scenario_words.proofs.cursor.Cursor.finish.Goals as goal
 

@@ -1,4 +1,4 @@
-use Rattle.std.proofs.Common.{refl, sym, ◌∙◌}
+use Rattle.scenario_words.proofs.Prelude.{refl, sym, ◌∙◌}
 use Rattle.scenario_words.proofs.LastWord.{last_fits, last_spells}
 use Rattle.scenario_words.proofs.OneWord.{octets_range}
 use Rattle.scenario_words.proofs.cursor.Cursor.last_octets_over.Goals as goal

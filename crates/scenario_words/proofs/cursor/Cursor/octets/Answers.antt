@@ -1,4 +1,4 @@
-use Rattle.std.proofs.Common.{sym, ◌∙◌}
+use Rattle.scenario_words.proofs.Prelude.{sym, ◌∙◌}
 use Rattle.scenario_words.proofs.OneWord.{octets_range}
 use Rattle.scenario_words.proofs.cursor.Cursor.octets.Goals as goal
 

@@ -1,5 +1,4 @@
-use Rattle.std.proofs.Common.{◌≡◌, ◌≢◌, ◌<◌, length, [], true, false, arith}
-use Rattle.std.proofs.lemmas.Result.{err_from_is_err_and}
+use Rattle.scenario_words.proofs.Prelude.{◌≡◌, ◌≢◌, ◌<◌, length, [], true, false, arith, err_from_is_err_and}
 use Rattle.scenario_words.specs.Reading.{wishes_of}
 use Rattle.scenario_words.proofs.Streams.{no_words}
 use Rattle.scenario_words.proofs.WishWords.{wish_read, wish_fails, no_wish, all_wishes, one_longer, metadata_more}

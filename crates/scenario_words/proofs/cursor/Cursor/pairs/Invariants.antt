@@ -1,5 +1,4 @@
-use Rattle.std.proofs.Common.{◌≡◌, ◌≢◌, ◌≤◌, ◌-◌, length, []}
-use Rattle.bass_operations.specs.Layout.{MetadataFits}
+use Rattle.scenario_words.proofs.Prelude.{◌≡◌, ◌≢◌, ◌≤◌, ◌-◌, length, [], MetadataFits}
 use Rattle.scenario_words.specs.Reading.{wishes_of}
 use Rattle.scenario_words.proofs.cursor.Cursor.pairs.Given as goal
 

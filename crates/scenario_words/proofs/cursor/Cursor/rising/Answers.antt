@@ -1,6 +1,4 @@
-use Rattle.std.proofs.Common.{◌≡◌, ◌≢◌, ◌+◌, [], true, false}
-use Rattle.std.proofs.lemmas.Result.{err_from_is_err_and}
-use Rattle.scenario_words.specs.Reading.{rising_of}
+use Rattle.scenario_words.proofs.Prelude.{◌≡◌, ◌≢◌, ◌+◌, [], true, false, err_from_is_err_and, rising_of}
 use Rattle.scenario_words.proofs.Streams.{index_read, index_fails, all_read, no_words}
 use Rattle.scenario_words.proofs.cursor.Cursor.rising.Goals as goal
 

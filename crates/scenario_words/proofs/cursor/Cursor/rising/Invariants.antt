@@ -1,5 +1,5 @@
-use Rattle.std.proofs.Common.{◌≡◌, ◌≤◌, ◌+◌, ◌-◌}
-use Rattle.scenario_words.specs.Reading.{streams_of, rising_of}
+use Rattle.scenario_words.proofs.Prelude.{◌≡◌, ◌≤◌, ◌+◌, ◌-◌, rising_of}
+use Rattle.scenario_words.specs.Reading.{streams_of}
 use Rattle.scenario_words.proofs.cursor.Cursor.rising.Given as goal
 
 abbrev pub invariant-indices : goal.invariant-indices

@@ -1,38 +1,13 @@
 -- `lend` lends what lies in the block, and the handle follows it. Assumes `Logic`.
-use Rattle.std.proofs.Common.{◌≡◌, ℕ, List, [], ◌∷◌, ◌++◌, refl, sym, ap, ◌∙◌, subst}
-use Rattle.std.specs.Prelude.{Some, IsSome}
-use Rattle.std.proofs.raw_atomic.Walks.{proved}
+use Rattle.sink_c.proofs.Prelude.{◌≡◌, ℕ, List, [], ◌∷◌, ◌++◌, refl, sym, ap, ◌∙◌, subst, Some, IsSome, proved, Ura, ent, sep, id⊢, fst∗, never, GName, Fml, ftrue, fsep, fres, flft, named, Val, vptr, fact, tables, Logic, sem, ‵, raw, ◌⊛◌, some, later, at_ret, ◌$◌, ◌∵◌, !, qed, by, done, move, keep, drop, use1, split, split3, join, fsplit, fsplit3, fjoin, fpack, fpick, pick, await, rewrite, suffices, frame, group, enter, of_opd, addr, load, stop, fld, first, blocks, exec, returns, alloc_all, pass_all, free_all, look_at, get, through, sets, sets_last, env, whole, sub, look_in, cell_at, part_at, part_of, mem, lone, Ptr, block_ptr, null_ptr, in_a_block, plain, mut_ref_to, nothing, opens, peeks, heard, no, Struct, Stays, walk_of, says, stay_dropped, Goes-spent_ref, ends_at, Global, ghosts, boxed, owned, SinkMachine}
 use Rattle.std.proofs.VecSteps.Shapes.{after}
-use seplogic.Ra.Ura.{Ura}
 use base.Fraction.{full_share}
-use base.Logic.{ent, sep, id⊢, fst∗, never}
-use base.Fml.{GName, Fml, ftrue, fsep, fres, flft}
 use mir.Raw.{raw as bare}
-use mir.Syntax.{named}
-use mir.Val.{Val, vptr}
-use contract.Monad.{fact}
-use contract.Running.{tables}
-use types.Logic.{Logic, sem}
-use types.Kit.{‵, raw, ◌⊛◌, some, later, at_ret, ◌$◌, ◌∵◌, !, qed, by, done, move, keep, drop, use1, split, split3, join, fsplit, fsplit3, fjoin, fpack, fpick, pick, await, rewrite, suffices, frame, group}
-use types.Run.{enter, of_opd, addr, load, stop, fld, first, blocks, exec, returns}
-use types.ByLocal.{alloc_all, pass_all, free_all, look_at, get, through, sets, sets_last, env}
-use types.Part.{whole, sub, look_in}
 use denote.Follow.{follows, Part, lends_Part}
 use denote.Laws.{shows}
-use denote.Memory.{cell_at, part_at, part_of, mem, lone}
-use denote.RawPtr.{Ptr, block_ptr, null_ptr, in_a_block}
 use denote.Ref.{MutRef, mut_vals, mut_Tells}
-use denote.Signature.{plain, mut_ref_to}
-use denote.Steps.{nothing, opens, peeks, heard}
-use denote.Exit.{no}
-use denote.Struct.Struct.{Struct}
 use denote.Struct.Owning.{shape}
-use denote.Triple.Walked.{Stays, walk_of, says, stay_dropped, Goes-spent_ref, ends_at}
-use Rattle.std_heap.specs.declared.Global.{Global}
-use Rattle.std_heap.specs.contracts.GlobalAllocator.TheImpl.{ghosts}
-use Rattle.sink_c.specs.Owned.{boxed, owned}
 use Rattle.sink_c.specs.Lending.{with_kept}
-use Rattle.sink_c.specs.declared.machine.SinkMachine.{SinkMachine}
 use Rattle.sink_c.specs.contracts.machine.SinkMachine.{the_row as R}
 use Rattle.sink_c.specs.contracts.handle.VmSink.{the_row as B, the_type}
 use Rattle.sink_c.proofs.handle.VmSink.TheLaws.{lowers}

@@ -1,4 +1,4 @@
-use Rattle.std.proofs.Common.{refl}
+use Rattle.source_machine.proofs.Prelude.{refl}
 use Rattle.source_machine.proofs.Standing.{stands_new}
 use Rattle.source_machine.proofs.configured.SourceConfigured.start.Goals as goal
 

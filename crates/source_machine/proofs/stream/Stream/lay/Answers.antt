@@ -1,5 +1,4 @@
-use Rattle.std.proofs.Common.{◌≡◌, ◌+◌, ◌*◌, arith, subst}
-use Rattle.source_machine.specs.State.Streams.{Lays, LaysOne}
+use Rattle.source_machine.proofs.Prelude.{◌≡◌, ◌+◌, ◌*◌, arith, subst, Lays, LaysOne}
 use Rattle.source_machine.proofs.LaidEvents.{lays_none, lays_more, tells_more, tells_none}
 use Rattle.source_machine.proofs.stream.Stream.lay.Goals as goal
 

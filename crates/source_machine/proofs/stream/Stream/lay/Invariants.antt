@@ -1,4 +1,4 @@
-use Rattle.source_machine.specs.State.Streams.{Lays, Tells}
+use Rattle.source_machine.proofs.Prelude.{Lays, Tells}
 use Rattle.source_machine.proofs.stream.Stream.lay.Given as goal
 
 abbrev pub invariant-events : goal.invariant-events

@@ -1,4 +1,4 @@
-use Rattle.std.proofs.Common.{arith}
+use Rattle.source_machine.proofs.Prelude.{arith}
 use Rattle.source_machine.proofs.LaidEvents.{lays_one}
 use Rattle.source_machine.proofs.Lists.{on_ok}
 use Rattle.source_machine.proofs.stream.Stream.lay_one.Goals as goal

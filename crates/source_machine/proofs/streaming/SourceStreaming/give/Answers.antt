@@ -1,6 +1,4 @@
-use Rattle.std.proofs.Common.{◌≡◌, ◌-◌, get_or, arith, subst}
-use Rattle.source_machine.specs.Faults.{of_sender}
-use Rattle.source_machine.specs.State.Senders.{HasTime, PutStops}
+use Rattle.source_machine.proofs.Prelude.{◌≡◌, ◌-◌, get_or, arith, subst, of_sender, HasTime, PutStops}
 use Rattle.source_machine.proofs.AirLaws.{group_is_checked}
 use Rattle.source_machine.proofs.Lists.{on_err_of}
 use Rattle.source_machine.proofs.Refusing.{put_refused, takes_unit}

@@ -1,4 +1,4 @@
-use Rattle.std.proofs.Common.{◌≡◌, ◌-◌, get_or, arith, subst}
+use Rattle.source_machine.proofs.Prelude.{◌≡◌, ◌-◌, get_or, arith, subst}
 use Rattle.source_machine.proofs.AirLaws.{group_is_checked}
 use Rattle.source_machine.proofs.HeardEvents.{heard}
 use Rattle.source_machine.proofs.streaming.SourceStreaming.heard_at.Goals as goal

@@ -1,5 +1,4 @@
-use Rattle.std.proofs.Common.{length, subst}
-use Rattle.source_machine.specs.State.Streams.{AllTell}
+use Rattle.source_machine.proofs.Prelude.{length, subst, AllTell}
 use Rattle.source_machine.proofs.Advances.{source_grown, source_next}
 use Rattle.source_machine.proofs.AirLaws.{group_is_checked}
 use Rattle.source_machine.proofs.Standing.{advances}

@@ -1,7 +1,4 @@
-use Rattle.std.proofs.Common.{◌≡◌, ◌-◌, true, false, sym, ◌∙◌, ap, get_or, arith, subst}
-use Rattle.std.specs.Option.{option_map}
-use Rattle.source_machine.specs.Faults.{answer_of}
-use Rattle.source_machine.specs.State.Senders.{HasTime}
+use Rattle.source_machine.proofs.Prelude.{◌≡◌, ◌-◌, true, false, sym, ◌∙◌, ap, get_or, arith, subst, option_map, answer_of, HasTime}
 use Rattle.source_machine.proofs.Refusing.{fits_then, late_then}
 use Rattle.source_machine.proofs.streaming.SourceStreaming.misfit.Goals as goal
 

@@ -1,4 +1,4 @@
-use Rattle.std.proofs.Common.{◌+◌, arith}
+use Rattle.source_machine.proofs.Prelude.{◌+◌, arith}
 use Rattle.source_machine.proofs.Advances.{anchor_fits}
 use Rattle.source_machine.proofs.streaming.SourceStreaming.next_laying.Goals as goal
 

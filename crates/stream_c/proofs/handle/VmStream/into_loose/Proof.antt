@@ -1,32 +1,9 @@
 -- `into_loose` hands over what the handle owns. Assumes `Logic`.
-use Rattle.std.proofs.Common.{◌≡◌, List, [], ◌∷◌, ◌++◌, refl, ap, ◌∙◌}
-use Rattle.std.specs.Prelude.{Some, IsSome}
+use Rattle.stream_c.proofs.Prelude.{◌≡◌, List, [], ◌∷◌, ◌++◌, refl, ap, ◌∙◌, Some, IsSome, Fn, impl, tnil, dnil, Val, SProp, emp, fst∗, never, WpFn, fact, fact_i, tables, sem, ‵, raw, ◌⊛◌, prop, ◌$◌, ◌∵◌, !, qed, by, move, drop, use0, split, fsplit, fjoin, fpick, regoal, agg, sub, whole, stop, fld, of_opd, no_more, and_then, enter, alloc_all, pass_all, free_all, look_at, get, get_in, sets, lone, RattleType, owns, Ptr, block_ptr, null_ptr, in_a_block, types_at, nothing, heard, alive, Stays, stay_dropped, walk_of, Al, handle_tells, Goes-blank, proved_at, leaves, ghosts, beside, beside_fits, closed, boxed}
 use mir.Raw.{raw as bare}
-use mir.Syntax.{Fn, impl, tnil, dnil}
-use mir.Val.{Val}
-use base.Logic.{SProp, emp, fst∗, never}
-use prog.Wp.{WpFn}
-use contract.Monad.{fact, fact_i}
-use contract.Running.{tables}
-use types.Logic.{sem}
-use types.Kit.{‵, raw, ◌⊛◌, prop, ◌$◌, ◌∵◌, !, qed, by, move, drop, use0, split, fsplit, fjoin, fpick, regoal}
-use types.Part.{agg, sub, whole}
-use types.Run.{stop, fld, of_opd, no_more, and_then, returns, enter}
-use types.ByLocal.{alloc_all, pass_all, free_all, look_at, get, get_in, sets}
-use denote.Memory.{lone}
-use denote.RattleType.{RattleType, owns}
-use denote.RawPtr.{Ptr, block_ptr, null_ptr, in_a_block}
-use denote.Signature.{types_at}
-use denote.Steps.{nothing, heard}
-use denote.Triple.Entry.{alive}
-use denote.Triple.Walked.{Stays, stay_dropped, walk_of}
-use Rattle.core.proofs.alloc.Calls.{Al, handle_tells, Goes-blank}
-use Rattle.std.proofs.raw_atomic.Walks.{proved_at, leaves}
+use types.Run.{returns}
 use Rattle.std_heap.specs.contracts.Global as heap
 use Rattle.std_heap.proofs.Global.TheLaws as heap_laws
-use Rattle.std_heap.specs.contracts.GlobalAllocator.TheImpl.{ghosts}
-use Rattle.c_handles.proofs.Apart.{beside, beside_fits, closed}
-use Rattle.stream_c.specs.Owned.{boxed}
 use Rattle.stream_c.specs.contracts.machine.StreamMachine.{the_row as R}
 use Rattle.stream_c.specs.contracts.handle.VmStream.into_loose.{ended, clauses}
 use Rattle.stream_c.specs.contracts.handle.VmStream.into_loose.Key.{name as #self}

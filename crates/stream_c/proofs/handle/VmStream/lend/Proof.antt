@@ -1,38 +1,15 @@
 -- `lend` lends what lies in the block, and the handle follows it. Assumes `Logic`.
-use Rattle.std.proofs.Common.{◌≡◌, ℕ, List, [], ◌∷◌, refl, sym, ap, ◌∙◌}
-use Rattle.std.specs.Prelude.{IsSome}
-use Rattle.std.proofs.raw_atomic.Walks.{proved}
+use Rattle.stream_c.proofs.Prelude.{◌≡◌, ℕ, List, [], ◌∷◌, refl, sym, ap, ◌∙◌, IsSome, proved, Ura, ent, sep, id⊢, fst∗, never, GName, Fml, ftrue, fsep, flft, named, Val, vptr, fact, tables, Logic, sem, ‵, raw, ◌⊛◌, some, later, at_ret, ◌$◌, ◌∵◌, !, qed, done, move, keep, use1, split, split3, join, fsplit, fsplit3, fjoin, fpack, fpick, pick, await, rewrite, suffices, frame, group, enter, of_opd, addr, load, stop, fld, first, blocks, exec, alloc_all, pass_all, free_all, look_at, get, through, sets, sets_last, env, whole, sub, look_in, cell_at, part_at, part_of, mem, lone, Ptr, block_ptr, null_ptr, in_a_block, plain, mut_ref_to, nothing, opens, peeks, heard, Struct, Stays, walk_of, says, stay_dropped, Goes-spent_ref, ends_at, Global, ghosts, boxed, StreamMachine}
 use Rattle.std.proofs.VecSteps.Shapes.{after}
-use seplogic.Ra.Ura.{Ura}
 use base.Fraction.{full_share}
-use base.Logic.{ent, sep, id⊢, fst∗, never}
-use base.Fml.{GName, Fml, ftrue, fsep, flft}
 use mir.Raw.{raw as bare}
-use mir.Syntax.{named}
-use mir.Val.{Val, vptr}
-use contract.Monad.{fact}
-use contract.Running.{tables}
-use types.Logic.{Logic, sem}
-use types.Kit.{‵, raw, ◌⊛◌, some, later, at_ret, ◌$◌, ◌∵◌, !, qed, done, move, keep, use1, split, split3, join, fsplit, fsplit3, fjoin, fpack, fpick, pick, await, rewrite, suffices, frame, group}
-use types.Run.{enter, of_opd, addr, load, stop, fld, first, blocks, exec, returns}
-use types.ByLocal.{alloc_all, pass_all, free_all, look_at, get, through, sets, sets_last, env}
-use types.Part.{whole, sub, look_in}
+use types.Run.{returns}
 use denote.Follow.{follows, Part, lends_Part}
 use denote.Laws.{shows}
-use denote.Memory.{cell_at, part_at, part_of, mem, lone}
-use denote.RawPtr.{Ptr, block_ptr, null_ptr, in_a_block}
 use denote.Ref.{MutRef, mut_vals, mut_Tells}
-use denote.Signature.{plain, mut_ref_to}
-use denote.Steps.{nothing, opens, peeks, heard}
 use denote.Exit.{no}
-use denote.Struct.Struct.{Struct}
 use denote.Struct.Owning.{shape}
-use denote.Triple.Walked.{Stays, walk_of, says, stay_dropped, Goes-spent_ref, ends_at}
-use Rattle.std_heap.specs.declared.Global.{Global}
-use Rattle.std_heap.specs.contracts.GlobalAllocator.TheImpl.{ghosts}
-use Rattle.stream_c.specs.Owned.{boxed}
 use Rattle.stream_c.specs.Lending.{with_kept}
-use Rattle.stream_c.specs.declared.machine.StreamMachine.{StreamMachine}
 use Rattle.stream_c.specs.contracts.machine.StreamMachine.{the_row as R}
 use Rattle.stream_c.specs.contracts.handle.VmStream.{the_row as B, the_type}
 use Rattle.stream_c.proofs.handle.VmStream.TheLaws.{lowers}

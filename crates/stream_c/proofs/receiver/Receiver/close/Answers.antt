@@ -1,6 +1,4 @@
-use Rattle.std.proofs.Common.{List, subst}
-use Rattle.unit_outlets.specs.Handed.{Handed, HandsOver}
-use Rattle.stream_c.specs.Streams.{FramedStands, PlainStands, StandsBy}
+use Rattle.stream_c.proofs.Prelude.{List, subst, Handed, HandsOver, FramedStands, PlainStands, StandsBy}
 use Rattle.stream_c.proofs.Framings.{framed_units, plain_units}
 use Rattle.stream_c.proofs.receiver.Receiver.close.Goals as goal
 

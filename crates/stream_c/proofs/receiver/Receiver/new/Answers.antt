@@ -1,5 +1,4 @@
-use Rattle.std.proofs.Common.{arith}
-use Rattle.isoal_base.specs.Stays.{Stay}
+use Rattle.stream_c.proofs.Prelude.{arith, Stay}
 use Rattle.stream_c.proofs.Framings.{framed_new, plain_new}
 use Rattle.stream_c.proofs.receiver.Receiver.new.Goals as goal
 

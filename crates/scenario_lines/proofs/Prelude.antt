@@ -1,0 +1,13 @@
+-- What the proofs of this crate use of `std` and of the crates below it, by one import.
+pub use Rattle.std.proofs.Common.{◌≡◌, ◌≤◌, ◌<◌, ◌+◌, ◌-◌, ℕ, zero, suc, Bool, true, false, cond, List, [], ◌∷◌, ◌++◌, drop, length, Some, refl, ap, sym, ◌∙◌, arith, codes, ◌≢◌, nat_eq, map, get_or, decimal, append_assoc, ◌/◌, w16, w32, ◌%◌, None, subst, Result, Ok, Err, ◌==◌, eqb-true, rules}
+pub use Rattle.scenario_lines.specs.Generated.{unit_of, head_lines, generated, text_of}
+pub use Rattle.scenario_lines.specs.State.Places.{left_at}
+pub use Rattle.scenario_lines.specs.declared.made_lines.Place.{Place}
+pub use Rattle.scenario_text.proofs.Citable.{made, nil_octets, cons_octets, all_small, is_word, of_table, takes_all_last, all_unspaced, says, EachRow, of_each_row, is_in_range, is_found, is_read, is_blank, result_misfit}
+pub use Rattle.scenario_text.specs.Lines.{LineIs, Says}
+pub use Rattle.scenario_text.specs.Table.{Row, unit_row, event_row, air_row, Build}
+pub use Rattle.scenario_text.specs.Written.{placed_line, Parts, in_row, parts_of, Fits, line_of, placed_in, PlacedFits}
+pub use Rattle.scenario_text.specs.declared.step.Step.{Step}
+pub use Rattle.scenario_text.specs.declared.step.Step.TheVariants.{Unit, Event, Air, Scenario, Group, Ident, Subgroup, Meta, Bis, Cipher, Start, Sink, Pac, Locate, Context, Tuned, Hear, Inject, Sniff, Announce, Train, Write, Add, Modify, Remove, Code, Serve, Tell, Read, Drain, Show, Lose, Drop, Terminate, Control, Forge, Stop, End, Assist, Apart, AWrite, AServe, ATell, ARead, ADrain, AShow, Source, Relay}
+pub use Rattle.scenario_words.proofs.CitableValues.{is_unspaced, all_words_given, next_item, joined_split, unspaced, words_fit}
+pub use Rattle.scenario_words.specs.Lines.{Values, AllHaveWords, ◌▸◌, all_words}

@@ -1,0 +1,42 @@
+-- What the proofs of this crate use of `std` and of the crates below it, by one import.
+pub use Rattle.std.proofs.Common.{◌≡◌, ℕ, List, [], ◌∷◌, ◌++◌, refl, subst, ◌∙◌, Bool, true, false, Option, Some, None, append_assoc, ap, sym, zero, suc, append-nil, Result, length, take, arith, ◌≤◌, ◌<◌, ◌↔◌}
+pub use Rattle.std.proofs.raw_atomic.Walks.{proved_at, leaves, proved}
+pub use Rattle.std.specs.Prelude.{IsSome, ◌&&◌, not, if◌then◌else◌}
+pub use Rattle.std_heap.specs.contracts.GlobalAllocator.TheImpl.{ghosts}
+pub use Rattle.std_heap.specs.declared.Global.{Global}
+pub use Rattle.c_handles.proofs.Apart.{beside, beside_fits, opened, closed}
+pub use Rattle.c_values.specs.Kept.{Brought, Kept, begun, calls_of, counts_of, HasRoom}
+pub use Rattle.core.proofs.alloc.Calls.{Goes-blank, Al, handle_tells}
+pub use Rattle.delegator_history.specs.Trains.{Setup}
+pub use Rattle.delegator_machine.specs.Calls.{Call, control, hear, tick, steps_of}
+pub use Rattle.delegator_machine.specs.Groups.{group_calls, big_sync_given, with_leave, with_step}
+pub use Rattle.delegator_machine.specs.State.Halves.{StandsFor}
+pub use Rattle.group_sink.specs.Handing.{handed_at, handed_since}
+pub use Rattle.sink_c.specs.Owned.{boxed, owned}
+pub use Rattle.sink_c.specs.Sinks.{all_handed, KeptStands, room_kept, units_kept, Stands, is_taken}
+pub use Rattle.sink_c.specs.contracts.handle.VmSink.of.{ended, clauses}
+pub use Rattle.sink_c.specs.declared.machine.SinkMachine.{SinkMachine}
+pub use Rattle.sync_reference.specs.BigSync.{BigSync}
+pub use Rattle.unit_outlets.specs.Handed.{Handed, Caused, HandsOver}
+pub use base.Fml.{Fml, ftrue, fex, GName, fsep, fres, flft}
+pub use base.Logic.{ent, emp, SProp, id⊢, fst∗, never, sep}
+pub use contract.Monad.{fact, fact_i}
+pub use contract.Running.{tables}
+pub use denote.Exit.{no}
+pub use denote.Memory.{lone, cell_at, part_at, part_of, mem}
+pub use denote.RattleType.{RattleType, owns}
+pub use denote.RawPtr.{Ptr, block_ptr, null_ptr, in_a_block, RawPtr, ptr_val}
+pub use denote.Signature.{plain, types_at, Slot, mut_ref_to}
+pub use denote.Steps.{nothing, heard, opens, peeks}
+pub use denote.Struct.Struct.{Struct}
+pub use denote.Triple.Entry.{alive}
+pub use denote.Triple.Walked.{Stays, stay_dropped, walk_of, says, Goes-spent_ref, ends_at}
+pub use mir.Syntax.{tnil, Fn, ty_ptr, ty_struct, tcons, impl, dnil, named}
+pub use mir.Val.{Val, vptr, vstruct, vcons, vnil, of_list}
+pub use prog.Wp.{WpFn}
+pub use seplogic.Ra.Ura.{Ura}
+pub use types.ByLocal.{alloc_all, pass_all, free_all, look_at, get, get_in, sets, through, sets_last, env}
+pub use types.Kit.{‵, raw, ◌⊛◌, ◌$◌, ◌∵◌, !, qed, by, move, keep, drop, use0, split, fsplit, fjoin, fpack, suffices, fpick, rewrite, Goal, Seq, Item, prop, regoal, some, later, at_ret, done, use1, split3, join, fsplit3, pick, await, frame, group}
+pub use types.Logic.{Logic, sem}
+pub use types.Part.{agg, sub, whole, look_in}
+pub use types.Run.{stop, fld, of_opd, no_more, and_then, returns, enter, addr, load, first, blocks, exec}
