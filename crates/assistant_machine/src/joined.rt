@@ -165,7 +165,7 @@ impl AssistJoined {
         ensures write { IfSome result (λ write. slice_get self.now.writes 0 ≡ Some write.now) }
         ensures none { IfNone result (self.now.writes ≡ []) }
     {
-        Some(self.writes.prefix()?.as_slice())
+        Some(self.writes.front()?.as_slice())
     }
 
     /// Takes a notice of a slot. Where an MTU is set and the value has at least MTU - 3 octets, it may have been cut: a read
