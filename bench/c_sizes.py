@@ -1,19 +1,29 @@
 #!/usr/bin/env python3
 """c_sizes.py [FOLDER]: what the library for C takes, of libvicemint.a in FOLDER, which is build/c where none is named: the size of its code
-by part, the memory of a sink by its kind, and the instructions of a call.
+by part, the stack of its calls, the memory of a sink by its kind, and the instructions of a call.
 
 Sinks are those of c/tests/measure_sink.c: 48_2, which is a frame of 100 octets each 10 ms, sent three times; 2 receive states. `ahead` has
 each frame in the events 15 and 30 before its own too. Memory is counted by memory_counted.c, and `block` is what memory_block.c used, with
-its headers. Instructions are counted by valgrind's callgrind, from entry to return. It needs a C compiler, `size` and `ar`, and
-valgrind for the last table."""
+its headers. The stack is told twice, with the return address of the call: at most, by the frames of the functions that a call may reach,
+without what the back end for memory takes; and as it was measured, by painted stacks under each call of the corpus' scenarios and of tapes of
+the fuzzer, with malloc below. Instructions are counted by valgrind's callgrind, from entry to return. It needs a C compiler, `size`
+and `objdump`, and valgrind for the last table."""
 import os
+import platform
+import random
 import re
 import shutil
 import subprocess
 import sys
 import tempfile
+import typing
+from collections.abc import Iterator
 
 TOP = os.path.dirname(os.path.dirname(os.path.abspath(__file__)))
+sys.dont_write_bytecode = True
+sys.path[:0] = [os.path.join(TOP, '.ci'), os.path.join(TOP, 'tools')]
+from checks.parts import c_logs, c_tapes, scenarios  # noqa: E402
+
 C = os.path.join(TOP, 'c')
 EVENTS = 1000
 KINDS = ('unframed', 'framed', 'ahead')
@@ -38,6 +48,42 @@ def code(archive: str) -> None:
         total = [one + other for one, other in zip(total, sizes)]
         print(f'| {PARTS.get(words[5].removesuffix(".o"), words[5])} | {sizes[0]:,} | {sizes[1]:,} |')
     print(f'| all | {total[0]:,} | {total[1]:,} |\n')
+
+
+class Frame(typing.NamedTuple):
+    """What a function puts on the stack, in octets with its return address, and which functions it calls."""
+    size: int
+    calls: set[str]
+
+
+FUNCTION = re.compile(r'[0-9a-f]+ <(.+)>:')
+RESERVED = re.compile(r'sub +\$0x([0-9a-f]+),%rsp')
+CALLED = re.compile(r'R_X86_64_(?:PLT32|PC32)\s+([^\s+-]+)')
+
+
+def frames(archive: str) -> dict[str, Frame]:
+    """The frames of the functions of an archive, by its code: what is pushed, and what is taken off the stack's pointer."""
+    listing = subprocess.run(['objdump', '-d', '-r', '--no-show-raw-insn', archive], capture_output=True, text=True, check=True).stdout
+    found: dict[str, Frame] = {}
+    name, jumps = '', False
+    for line in listing.splitlines():
+        if begin := FUNCTION.fullmatch(line):
+            name, jumps = begin[1], False
+            found[name] = Frame(8, set())
+            continue
+        if own := RESERVED.search(line):
+            found[name] = found[name]._replace(size=found[name].size + int(own[1], 16))
+        elif re.search(r'\tpush ', line):
+            found[name] = found[name]._replace(size=found[name].size + 8)
+        elif re.search(r'\t(call|jmp) +\*', line):
+            found[name].calls.add('' if 'call' in line else name) if 'call' in line else None
+        elif (to := CALLED.search(line)) and jumps:
+            found[name].calls.add(to[1])
+        elif to := re.search(r'\t(?:call|jmp) .*<([^+>]+)>$', line):
+            if to[1] != name:
+                found[name].calls.add(to[1])
+        jumps = bool(re.search(r'\t(call|j\w+) ', line))
+    return found
 
 
 def told(program: str, sent: bytes) -> dict[str, list[int]]:

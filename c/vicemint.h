@@ -72,8 +72,9 @@ static inline void vm_sink_free(vm_sink_t *sink) { if (sink->at) vm_sink_drop(*s
  * tick takes no memory, and never answers VM_MEMORY, while no more units wait and none is longer. What waits stays. Takes memory; after
  * VM_MEMORY the room is as it was. VM_RANGE. */
 vm_status_t vm_sink_reserve(vm_sink_t *sink, vm_size_t units, vm_size_t octets);
-/* A record of published capabilities (PACS 1.0, section 3.1): 5 octets, and LTV lists of at most 255. Takes memory. VM_LAYOUT,
- * VM_TOO_LONG where all records together would pass 512 octets. */
+/* A record of published capabilities (PACS 1.0, section 3.1): a Codec_ID of 5 octets, capabilities and metadata of at most 255 each; the
+ * metadata, and the capabilities of LC3, are LTV lists. Else VM_LAYOUT. VM_TOO_LONG where all records together would pass 512 octets. Takes
+ * memory. */
 vm_status_t vm_sink_add_pac(vm_sink_t *sink, const uint8_t *codec, vm_size_t codec_count, const uint8_t *caps, vm_size_t caps_count,
                             const uint8_t *metadata, vm_size_t metadata_count);
 void vm_sink_set_locations(vm_sink_t *sink, uint32_t bits);
@@ -86,8 +87,8 @@ vm_status_t vm_sink_write(vm_sink_t *sink, const uint8_t *write, vm_size_t count
 vm_status_t vm_sink_train(vm_sink_t *sink, uint8_t address_type, uint8_t sid, const uint8_t *ext, vm_size_t ext_count, const uint8_t *adv,
                           vm_size_t adv_count, const uint8_t *acad, vm_size_t acad_count, uint64_t now, vm_train_heard_t *heard);
 /* Puts the sink on a group of no slot, for a product that scans by itself: on these streams of the group, which aren't none and are of
- * the group, from an event below 2^39 whose anchor is at most 2^61, with a presentation delay below 2^24. Takes memory. VM_RANGE; VM_GROUP
- * with the row at fault. */
+ * the group, from an event of at most 2^39 whose anchor is at most 2^61, with a presentation delay below 2^24. Takes memory. VM_RANGE where
+ * one of these, or a field of info, is out of its range; VM_GROUP with the row at fault. */
 vm_status_t vm_sink_tune(vm_sink_t *sink, const air_big_info_t *info, uint32_t streams, uint64_t first_event, uint64_t anchor, uint32_t delay,
                          uint8_t *row);
 /* A PDU in a subevent of an event of a stream. VM_RANGE for an event past 2^39 or no BIS of 1 to 31. Takes no memory. */
@@ -100,14 +101,15 @@ vm_status_t vm_sink_control(vm_sink_t *sink, const uint8_t *pdu, vm_size_t count
 vm_status_t vm_sink_lost(vm_sink_t *sink); /* The train is lost. Takes memory where it was that of a slot. */
 /* The streams that the sink is on: bit n for BIS n + 1, none where it is on no group. */
 void vm_sink_streams(vm_sink_t *sink, uint32_t *streams);
-/* All events up to this one, below 2^39 or VM_RANGE, are over: their units wait behind those that wait. Takes memory for the units
- * beyond the room. After VM_MEMORY the events are over too, and a front of the units waits, but not all. */
+/* All events up to this one, below 2^39 or VM_RANGE, are over: the open event of each stream is closed where it is one of them, and its units
+ * wait behind those that wait. It is one event a call, so a tick comes after each. Takes memory for the units beyond the room. After
+ * VM_MEMORY the event is closed too, and a front of the units waits, but not all. */
 vm_status_t vm_sink_tick(vm_sink_t *sink, uint64_t event);
 /* The first unit that waits, its octets at the front of the room. VM_EMPTY; VM_ROOM, where it waits on: 4,095 octets are always enough. */
 vm_status_t vm_sink_next_unit(vm_sink_t *sink, uint8_t *room, vm_size_t room_count, vm_unit_t *unit);
 /* The first notice that waits: its slot, and the value at the front of a room of 512 octets at least, or VM_RANGE. VM_EMPTY. */
 vm_status_t vm_sink_next_notice(vm_sink_t *sink, uint8_t *room, vm_size_t room_count, uint8_t *slot, vm_size_t *count);
-/* The value of a slot. VM_NO_SLOT; VM_ROOM: 512 octets are always enough. Takes memory. */
+/* The value of a slot at the front of the room. VM_NO_SLOT; VM_ROOM: 512 octets are always enough. Takes memory where it is filled. */
 vm_status_t vm_sink_read_state(vm_sink_t *sink, uint8_t slot, uint8_t *room, vm_size_t room_count, vm_size_t *count);
 
 /* ---- an assistant on a link to a server of so many slots (BASS 1.0, section 3) */
@@ -118,9 +120,9 @@ vm_status_t vm_link_new(vm_link_t *link, uint8_t slots); /* Takes memory. */
 void vm_link_drop(vm_link_t link);                       /* use vm_link_free */
 static inline void vm_link_free(vm_link_t *link) { if (link->at) vm_link_drop(*link); link->at = 0; }
 vm_status_t vm_link_set_mtu(vm_link_t *link, uint16_t mtu); /* 23 to 517, or VM_RANGE */
-/* Writes that wait for next_write, oldest first; each takes memory. VM_RANGE where a field has no such value, VM_TOO_LONG where the
- * operation would pass 512 octets. An operation has for each subgroup the streams that are asked for, and metadata: an octet that counts
- * it and so many octets, one subgroup behind the other, or VM_LAYOUT. */
+/* Writes that wait for next_write, oldest first; each takes memory. Of add and modify the first that holds: VM_RANGE where a field has no
+ * such value, VM_TOO_LONG where the operation would pass 512 octets, VM_LAYOUT. An operation has for each subgroup the streams that are
+ * asked for, and metadata: an octet that counts it and so many octets, one subgroup behind the other, or VM_LAYOUT. */
 vm_status_t vm_link_put(vm_link_t *link, const uint8_t *write, vm_size_t count); /* any octets */
 vm_status_t vm_link_scan(vm_link_t *link, bool is_started);                      /* Remote Scan Started or Stopped */
 vm_status_t vm_link_add(vm_link_t *link, uint8_t address_type, const uint8_t *address /* 6 */, uint8_t sid, const uint8_t *broadcast_id /* 3 */,
@@ -140,7 +142,8 @@ void vm_link_ask_all(vm_link_t *link);                       /* A read of each s
 vm_status_t vm_link_next_read(vm_link_t *link, uint8_t *slot); /* The lowest slot of which a read waits. VM_EMPTY */
 /* The value that a read of the slot gave. As notice. */
 vm_status_t vm_link_answer_read(vm_link_t *link, uint8_t slot, const uint8_t *value, vm_size_t count, air_fault_t *fault);
-/* What the assistant has of a slot, as the octets of a receive state: none where the slot is empty. VM_NO_SLOT, VM_ROOM. Takes memory. */
+/* What the assistant has of a slot, as the octets of a receive state: none where the slot is empty. VM_NO_SLOT; VM_ROOM: as many octets as
+ * the longest value of the slot that was handed in are always enough. Takes memory. */
 vm_status_t vm_link_view(vm_link_t *link, uint8_t slot, uint8_t *room, vm_size_t room_count, vm_size_t *count);
 
 /* ---- a source that sends from new on; a product that stops one frees it */
@@ -150,7 +153,8 @@ typedef struct { uint8_t address_type, address[6], sid, broadcast_id[3]; } vm_id
 
 /* Fills a handle that is VM_NONE: the anchor of the first event, below 2^39, is at origin, 3,000 to 2^48. The octets are a BASE. Where
  * times_ahead holds, the time of a framed unit may be past the next anchor. Takes memory, of which give, event and pdu then take little.
- * VM_RANGE; VM_LAYOUT with the fault of the BASE; VM_GROUP with the row of the group check as its number. */
+ * The first that holds: VM_RANGE, also where a field of the BIGInfo doesn't fit its width; VM_LAYOUT with the fault of the BASE; VM_GROUP
+ * with the row of the group check as its number. */
 vm_status_t vm_source_new(vm_source_t *source, const vm_identity_t *identity, const air_big_info_t *info, const uint8_t *base,
                           vm_size_t base_count, uint64_t origin, uint64_t first_event, bool times_ahead, air_fault_t *fault);
 void vm_source_drop(vm_source_t source); /* use vm_source_free */
@@ -180,8 +184,8 @@ void vm_source_terminate(vm_source_t *source, uint8_t reason, uint8_t *into /* 6
 typedef struct { void *at; } vm_stream_t;
 typedef struct { uint64_t first_event, anchor; uint32_t delay; uint8_t bis; } vm_stay_t;
 
-/* Fills a handle that is VM_NONE. first_event is below 2^39, its anchor at most 2^61, the delay below 2^24. Takes memory, of which hear
- * then takes none. VM_RANGE; VM_GROUP with the row at fault. */
+/* Fills a handle that is VM_NONE. first_event and its anchor are at most 2^39 and 2^61, the delay is below 2^24, and bis is a stream of the
+ * group. Takes memory, of which hear then takes none. VM_RANGE; VM_GROUP with the row at fault. */
 vm_status_t vm_stream_new(vm_stream_t *stream, const air_big_info_t *info, const vm_stay_t *stay, uint8_t *row);
 void vm_stream_drop(vm_stream_t stream); /* use vm_stream_free */
 static inline void vm_stream_free(vm_stream_t *stream) { if (stream->at) vm_stream_drop(*stream); stream->at = 0; }
@@ -219,7 +223,8 @@ vm_status_t air_group_check(const air_big_info_t *info, uint8_t *row);
 /* VM_LAYOUT with the fault. Takes memory. */
 vm_status_t air_base_check(const uint8_t *from, vm_size_t count, air_fault_t *fault);
 vm_status_t air_base_streams(const uint8_t *from, vm_size_t count, uint32_t *streams); /* bit n for BIS n + 1 */
-vm_status_t air_base_effective(const uint8_t *from, vm_size_t count, uint8_t bis, air_effective_t *into); /* VM_LAYOUT, VM_RANGE, VM_NO_BIS */
+/* VM_RANGE where bis isn't 1 to 31; VM_LAYOUT; VM_NO_BIS. Takes memory. */
+vm_status_t air_base_effective(const uint8_t *from, vm_size_t count, uint8_t bis, air_effective_t *into);
 vm_status_t air_pac_check(const uint8_t *from, vm_size_t count, air_fault_t *fault);
 /* Whether a device with these records, locations and contexts takes a stream of the BASE. VM_RANGE where bis isn't 1 to 31; VM_LAYOUT;
  * VM_NO_BIS; VM_EMPTY where it doesn't take it, with the first requirement that the last record doesn't meet: 1 codec, 2 frequency,

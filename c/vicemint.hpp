@@ -1,6 +1,6 @@
-// vicemint.hpp: the handles of vicemint.h for C++17. A handle is freed with its object, can be moved and not be copied. Octets are given as
-// a span: std::span where the standard library has it, and else a pointer with a count. No call throws, and none but the library's own takes
-// memory. The comments of vicemint.h hold: what takes memory, each refusal, and what the caller owes.
+// vicemint.hpp: the handles and the layouts of vicemint.h for C++17. A handle is freed with its object, can be moved and not be copied. Octets
+// are given as a span: std::span where the standard library has it, and else a pointer with a count. No call throws, and none but the
+// library's own takes memory. The comments of vicemint.h hold: what takes memory, each refusal, and what the caller owes.
 #ifndef VICEMINT_HPP
 #define VICEMINT_HPP
 #include "vicemint.h"
@@ -8,6 +8,7 @@
 #include <cstddef>
 #include <cstdint>
 #include <optional>
+#include <type_traits>
 #include <utility>
 #if __has_include(<version>)
 #include <version>
@@ -19,30 +20,32 @@
 namespace vicemint {
 
 #ifdef __cpp_lib_span
-using Octets = std::span<const std::uint8_t>;
-using Room = std::span<std::uint8_t>;
+template <typename Item> using Span = std::span<Item>;
 #else
-template <typename Octet> class Span {
+template <typename Item> class Span {
 public:
     constexpr Span() noexcept = default;
-    constexpr Span(Octet *at, std::size_t count) noexcept : at_(at), count_(count) {}
+    constexpr Span(Item *at, std::size_t count) noexcept : at_(at), count_(count) {}
     template <typename Range, typename = decltype(std::declval<Range &>().data())>
     constexpr Span(Range &&range) noexcept : at_(range.data()), count_(range.size()) {}
-    template <std::size_t N> constexpr Span(Octet (&octets)[N]) noexcept : at_(octets), count_(N) {}
-    constexpr Octet *data() const noexcept { return at_; }
+    template <std::size_t N> constexpr Span(Item (&items)[N]) noexcept : at_(items), count_(N) {}
+    constexpr Item *data() const noexcept { return at_; }
     constexpr std::size_t size() const noexcept { return count_; }
-    constexpr Octet *begin() const noexcept { return at_; }
-    constexpr Octet *end() const noexcept { return at_ + count_; }
-    constexpr Octet &operator[](std::size_t place) const noexcept { return at_[place]; }
+    constexpr Item *begin() const noexcept { return at_; }
+    constexpr Item *end() const noexcept { return at_ + count_; }
+    constexpr Item &operator[](std::size_t place) const noexcept { return at_[place]; }
     constexpr Span first(std::size_t count) const noexcept { return { at_, count }; }
 
 private:
-    Octet *at_ = nullptr;
+    Item *at_ = nullptr;
     std::size_t count_ = 0;
 };
+#endif
 using Octets = Span<const std::uint8_t>;
 using Room = Span<std::uint8_t>;
-#endif
+// The streams of each subgroup: bit n for BIS n + 1.
+using Streams = Span<const std::uint32_t>;
+using StreamsRoom = Span<std::uint32_t>;
 
 enum class Status : vm_status_t {
     ok = VM_OK, range = VM_RANGE, memory = VM_MEMORY, room = VM_ROOM, empty = VM_EMPTY, too_long = VM_TOO_LONG, layout = VM_LAYOUT,
@@ -53,15 +56,10 @@ enum class Status : vm_status_t {
 namespace detail {
 inline Status status(vm_status_t of) noexcept { return static_cast<Status>(of); }
 
-// The library wants an address for no octets too.
-inline const std::uint8_t *at(Octets of) noexcept
+// The library wants an address for no items too, at which it neither reads nor writes.
+template <typename Item> inline Item *at(Span<Item> of) noexcept
 {
-    static const std::uint8_t none = 0;
-    return of.size() != 0 ? of.data() : &none;
-}
-inline std::uint8_t *at(Room of) noexcept
-{
-    static thread_local std::uint8_t none = 0;
+    static std::remove_const_t<Item> none = 0;
     return of.size() != 0 ? of.data() : &none;
 }
 
@@ -210,16 +208,15 @@ public:
     Status put(Octets write) noexcept { return detail::status(vm_link_put(get(), detail::at(write), write.size())); }
     Status scan(bool is_started) noexcept { return detail::status(vm_link_scan(get(), is_started)); }
     // For each subgroup the streams that are asked for, and metadata: an octet that counts it and so many octets, one behind the other.
-    Status add(const vm_identity_t &source, std::uint8_t pa_sync, std::uint16_t pa_interval, const std::uint32_t *bis_sync, std::size_t subgroups,
-               Octets metadata) noexcept
+    Status add(const vm_identity_t &source, std::uint8_t pa_sync, std::uint16_t pa_interval, Streams bis_sync, Octets metadata) noexcept
     {
         return detail::status(vm_link_add(get(), source.address_type, source.address, source.sid, source.broadcast_id, pa_sync, pa_interval,
-                                          bis_sync, subgroups, detail::at(metadata), metadata.size()));
+                                          detail::at(bis_sync), bis_sync.size(), detail::at(metadata), metadata.size()));
     }
-    Status modify(std::uint8_t source_id, std::uint8_t pa_sync, std::uint16_t pa_interval, const std::uint32_t *bis_sync, std::size_t subgroups,
-                  Octets metadata) noexcept
+    Status modify(std::uint8_t source_id, std::uint8_t pa_sync, std::uint16_t pa_interval, Streams bis_sync, Octets metadata) noexcept
     {
-        return detail::status(vm_link_modify(get(), source_id, pa_sync, pa_interval, bis_sync, subgroups, detail::at(metadata), metadata.size()));
+        return detail::status(vm_link_modify(get(), source_id, pa_sync, pa_interval, detail::at(bis_sync), bis_sync.size(), detail::at(metadata),
+                                             metadata.size()));
     }
     Status code(std::uint8_t source_id, const std::array<std::uint8_t, 16> &code) noexcept
     {
@@ -346,5 +343,93 @@ public:
     }
 };
 
+// The layouts, with no state. Of Status::layout the fault that a result has is the first one, with its place.
+namespace layouts {
+
+inline Result<air_big_info_t> read_big_info(Octets from) noexcept
+{
+    Result<air_big_info_t> it{};
+    it.status = detail::status(air_big_info_read(detail::at(from), from.size(), &it.value));
+    return it;
+}
+// A room of 57 octets is always enough.
+inline Result<Room> write_big_info(const air_big_info_t &info, Room room) noexcept
+{
+    vm_size_t count = 0;
+    Status status = detail::status(air_big_info_write(&info, detail::at(room), room.size(), &count));
+    return { status, room.first(static_cast<std::size_t>(count)) };
+}
+// Of Status::group the value is the first row at fault.
+inline Result<std::uint8_t> check_group(const air_big_info_t &info) noexcept
+{
+    Result<std::uint8_t> it{};
+    it.status = detail::status(air_group_check(&info, &it.value));
+    return it;
+}
+inline Result<air_fault_t> check_base(Octets from) noexcept
+{
+    Result<air_fault_t> it{};
+    it.status = detail::status(air_base_check(detail::at(from), from.size(), &it.value));
+    return it;
+}
+// Bit n for BIS n + 1.
+inline Result<std::uint32_t> base_streams(Octets from) noexcept
+{
+    Result<std::uint32_t> it{};
+    it.status = detail::status(air_base_streams(detail::at(from), from.size(), &it.value));
+    return it;
+}
+inline Result<air_effective_t> base_effective(Octets from, std::uint8_t bis) noexcept
+{
+    Result<air_effective_t> it{};
+    it.status = detail::status(air_base_effective(detail::at(from), from.size(), bis, &it.value));
+    return it;
+}
+inline Result<air_fault_t> check_pac(Octets from) noexcept
+{
+    Result<air_fault_t> it{};
+    it.status = detail::status(air_pac_check(detail::at(from), from.size(), &it.value));
+    return it;
+}
+// Status::ok where the device takes the stream. Of Status::empty, where it doesn't, the value is the requirement that isn't met.
+inline Result<std::uint8_t> takes(Octets records, std::uint32_t locations, std::uint16_t contexts, Octets base, std::uint8_t bis) noexcept
+{
+    Result<std::uint8_t> it{};
+    it.status = detail::status(air_takes(detail::at(records), records.size(), locations, contexts, detail::at(base), base.size(), bis, &it.value));
+    return it;
+}
+inline Result<air_fault_t> check_pdu(Octets from, std::uint8_t max_pdu) noexcept
+{
+    Result<air_fault_t> it{};
+    it.status = detail::status(air_pdu_check(detail::at(from), from.size(), max_pdu, &it.value));
+    return it;
+}
+inline Result<air_fault_t> check_operation(Octets from) noexcept
+{
+    Result<air_fault_t> it{};
+    it.status = detail::status(air_operation_check(detail::at(from), from.size(), &it.value));
+    return it;
+}
+inline Result<air_fault_t> check_state(Octets from) noexcept
+{
+    Result<air_fault_t> it{};
+    it.status = detail::status(air_state_check(detail::at(from), from.size(), &it.value));
+    return it;
+}
+// A receive state; the streams of its subgroups are at the front of the room.
+struct State {
+    air_state_t it;
+    StreamsRoom bis_sync;
+    air_fault_t fault;
+};
+inline Result<State> read_state(Octets from, StreamsRoom room) noexcept
+{
+    Result<State> it{};
+    it.status = detail::status(air_state_read(detail::at(from), from.size(), &it.value.it, detail::at(room), room.size(), &it.value.fault));
+    it.value.bis_sync = room.first(it ? static_cast<std::size_t>(it.value.it.subgroups) : 0);
+    return it;
+}
+
+} // namespace layouts
 } // namespace vicemint
 #endif

@@ -6,7 +6,7 @@ import subprocess
 import tempfile
 from collections.abc import Callable, Iterator
 
-from checks.parts import c_builds, c_cross, c_drawn, c_logs, c_prototypes, c_tapes, scenarios
+from checks.parts import c_bindings, c_builds, c_cross, c_document, c_drawn, c_logs, c_prototypes, c_tapes, scenarios
 from checks.parts.files import write
 from checks.parts.running import run, side_by_side
 from checks.parts.steps import Faults, step
@@ -14,6 +14,7 @@ from checks.parts.steps import Faults, step
 Log = tuple[str, list[str], list[str]]  # the name of a scenario, its calls, and the lines that they have to write
 MOST_CALLS = 200  # of a scenario in which each call for memory fails
 NO_ROOM, FAILED = 'the tick found no memory', 'the source has failed'
+OF_STREAM = 'a close found no memory'
 
 
 def corpus_logs() -> Iterator[Log]:
@@ -81,7 +82,7 @@ def want_of_memory(program: str, log: Log) -> tuple[int, list[str]]:
         ran = played(program, calls, str(place))
         rows = ran.stdout.decode(errors='replace').splitlines()
         lost = NO_ROOM in rows or FAILED in rows
-        rows = [row for row in rows if row not in (NO_ROOM, FAILED) and not (lost and row.startswith('sum '))]
+        rows = [row for row in rows if row not in (NO_ROOM, FAILED, OF_STREAM) and not (lost and row.startswith('sum '))]
         if ran.returncode or (not is_part(rows, wanted) if lost else rows != wanted):
             told = ran.stderr.decode(errors='replace')[-300:]
             found.append(f'{name}: call {place} of {count} for memory fails: status {ran.returncode}: {told}')
@@ -99,14 +100,17 @@ def compilers(*names: str) -> list[str]:
     return [name for name in names if shutil.which(name)]
 
 
-@step(seconds=900, needs=('cc',), wants=('clang', 'cxx', 'cargo', 'cmake'))
-def check(replay: str, archives: str = '', draws: int = 1000, seconds: int = 120, aarch64: bool = False) -> Faults:
-    """libvicemint.a builds and calls six symbols. vicemint.h has the exports of the crates. The player in C, built by each compiler under
-    sanitizers, writes for the scenarios of the corpus and for drawn ones what replay writes, octet for octet. Where a call for memory
-    fails, the call that says so goes on when it is made again. A fuzzer finds nothing in some seconds of random calls. The example and
-    its likes in C++ and Rust, over CMake and pkg-config, run; with --aarch64 also on an emulated processor of that kind, for which the crates
-    are proved once more."""
+@step(seconds=900, needs=('cc',), wants=('clang', 'cxx', 'cargo', 'cmake', 'aarch64'))
+def check(replay: str, archives: str = '', draws: int = 1000, seconds: int = 120, emulated: int = 300) -> Faults:
+    """libvicemint.a builds and calls six symbols. vicemint.h has the exports of the crates, and C++ and Rust have all of it. The player in C,
+    built by each compiler under sanitizers, writes for the scenarios of the corpus and for drawn ones what replay writes, octet for octet;
+    each stream that a sink is on is played beside it by vm_stream_*, and hands up what the sink does. Where a call for memory fails, the
+    call that says so goes on when it is made again. A fuzzer finds nothing in some seconds of random calls. The example, its likes in C++
+    and Rust, over CMake and pkg-config, and the commands of docs/using-from-c.md run. Some of the scenarios, --emulated of them, and the
+    example are played on an emulated aarch64 too, for which the crates are proved and built once more. --archives names a folder with the
+    static libraries of the crates."""
     yield from c_prototypes.differences()
+    yield from c_bindings.differences()
     with tempfile.TemporaryDirectory() as room:
         try:
             library = c_builds.library(room, archives)
@@ -122,15 +126,27 @@ def check(replay: str, archives: str = '', draws: int = 1000, seconds: int = 120
         for _, found in failing:
             yield from found
         yield from over(library)
-        if aarch64 and c_cross.is_there():
-            yield from tried(functools.partial(c_cross.runs, room))
+        yield from c_document.differences(library)
+        on_other = logs[-emulated:] if emulated and c_cross.is_there() else []
+        yield from played_elsewhere(room, archives, on_other)
         fuzzed = 'no fuzzer'
         if shutil.which('clang'):
             yield from tried(functools.partial(fuzz, library, seconds))
             fuzzed = f'{seconds} s of random calls'
-        rows = sum(len(wanted) for _, _, wanted in logs)
-        return (f'{len(logs)} scenarios with {rows} lines by {len(players)} compilers, {sum(count for count, _ in failing)} calls for memory '
-                f'that fail, {fuzzed}')
+        rows = [row for _, _, wanted in logs for row in wanted]
+        return (f'{len(logs)} scenarios with {len(rows)} lines and {sum(row.startswith("unit ") for row in rows)} units by {len(players)} compilers, '
+                f'{len(on_other)} of them on aarch64, {sum(count for count, _ in failing)} calls for memory that fail, {fuzzed}')
+
+
+def played_elsewhere(room: str, archives: str, logs: list[Log]) -> Iterator[str]:
+    """What differs on another processor."""
+    if logs:
+        try:
+            program = c_cross.player(room, archives)
+        except c_builds.Broken as broken:
+            yield str(broken)
+            return
+        yield from filter(None, side_by_side(functools.partial(difference, program), logs))
 
 
 def fuzz(library: c_builds.Library, seconds: int) -> None:

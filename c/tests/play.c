@@ -4,8 +4,8 @@
  * Each string of octets is given in memory of its very size, so that a sanitizer sees what is read or written past it.
  *
  * With a number as its word, the call for memory of this number fails; 0 is none of them, and then their sum is written to standard error.
- * Whatever answers VM_MEMORY is called again, and has to go on as if nothing had been. Where a tick lost units, or a source has failed,
- * which the header says, a line tells it. */
+ * Whatever answers VM_MEMORY is called again, and has to go on as if nothing had been. Where a tick or a close lost units, or a source has
+ * failed, which the header says, a line tells it. */
 #include "play.h"
 
 static own_sink_t sinks[SINKS];
@@ -102,6 +102,7 @@ static void free_all(void)
     for (unsigned i = 0; i < SINKS; i++) {
         for (unsigned link = 0; link < LINKS; link++)
             part(&sinks[i].places[link]);
+        end_streams(&sinks[i]);
         vm_sink_free(&sinks[i].sink);
     }
     for (unsigned i = 0; i < SOURCES; i++)

@@ -18,9 +18,21 @@ typedef struct waiting { struct waiting *next; uint8_t slot; octets_t value; } w
 /* An assistant on a link of a sink. */
 typedef struct { vm_link_t link; bool is_joined; waiting_t *first; } place_t;
 
-/* A sink with its links; the MTU is 0 where it has none. Valid units of the stream `from` go to the stream `to` of source 1. */
-typedef struct { vm_sink_t sink; place_t places[LINKS]; uint64_t units, octets; uint16_t mtu; uint8_t slots, from, to; } own_sink_t;
+/* A sink with its links, and each stream that it is on alone, of the group of `info`. The MTU is 0 where it has none. Valid units of the
+ * stream `from` go to the stream `to` of source 1. */
+typedef struct {
+    vm_sink_t sink;
+    vm_stream_t streams[STREAMS];
+    air_big_info_t info;
+    place_t places[LINKS];
+    uint64_t units, octets;
+    uint16_t mtu;
+    uint8_t slots, from, to;
+} own_sink_t;
 typedef struct { vm_source_t source; air_big_info_t info; bool is_stopped; } own_source_t;
+
+/* A unit that a sink handed up. */
+typedef struct handed { struct handed *next; vm_unit_t unit; octets_t octets; } handed_t;
 
 /* A call of the log by its words, of which the first is its name. */
 typedef void call_t(char **w);
@@ -44,6 +56,15 @@ void show(const uint8_t *at, vm_size_t count);
 
 own_sink_t *sink_of(const char *word);
 own_source_t *source_of(const char *word);
+
+/* The streams of a sink alone. They begin on the group that it is put on, or by a train that put it on one, from an event on; they hear what
+ * it heard; when an event is over, they hand up what it did; they end with its stay. */
+void begin_streams(own_sink_t *own, const air_big_info_t *info, uint32_t taken, uint64_t event, uint64_t anchor, uint32_t delay);
+void begin_by_train(own_sink_t *own, uint32_t taken, octets_t adv, octets_t acad, uint64_t now);
+void hear_alone(own_sink_t *own, uint64_t event, uint8_t bis, uint8_t subevent, octets_t pdu, vm_heard_t heard);
+void close_alone(own_sink_t *own, uint64_t event, const handed_t *of_sink, bool is_sink_cut);
+void end_where_left(own_sink_t *own);
+void end_streams(own_sink_t *own);
 
 /* What a host does between a sink and its links. */
 void gather(own_sink_t *own);

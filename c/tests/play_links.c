@@ -37,7 +37,7 @@ static void wait_on(place_t *place, uint8_t slot, octets_t value)
     (*end)->value = value;
 }
 
-/* Each notice of the sink waits for each assistant that is there. */
+/* Each notice of the sink waits for each assistant that is there, and the streams end of a group that it has left. */
 void gather(own_sink_t *own)
 {
     octets_t room = room_of(VALUE);
@@ -48,6 +48,7 @@ void gather(own_sink_t *own)
             if (own->places[link].is_joined)
                 wait_on(&own->places[link], slot, copied(room.at, count));
     free(room.at);
+    end_where_left(own);
 }
 
 void join(own_sink_t *own, unsigned link)

@@ -53,8 +53,10 @@ static void run_train(char **w)
     vm_train_heard_t heard = { 0, 0, 0 };
     NEED(vm_sink_train(&own->sink, small(w[2]), small(w[3]), ext.at, ext.count, adv.at, adv.count, acad.at, acad.count, number(w[4]), &heard));
     gather(own);
-    if (heard.answer == VM_TRAIN_ON_GROUP)
+    if (heard.answer == VM_TRAIN_ON_GROUP) {
         is_on(own, heard.streams);
+        begin_by_train(own, heard.streams, adv, acad, number(w[4]));
+    }
     printf("sink %s %s", w[1], TRAIN[heard.answer]);
     if (heard.answer == VM_TRAIN_BAD_GROUP)
         printf(" %u", heard.fault);
@@ -76,6 +78,7 @@ static void run_tune(char **w)
     vm_source_next(&from->source, &event, &anchor);
     NEED(vm_sink_tune(&own->sink, &from->info, (uint32_t)number(w[3]), event, anchor, (uint32_t)number(w[4]), &row));
     is_on(own, (uint32_t)number(w[3]));
+    begin_streams(own, &from->info, (uint32_t)number(w[3]), event, anchor, (uint32_t)number(w[4]));
     gather(own);
 }
 
@@ -87,6 +90,7 @@ static vm_heard_t heard_by(own_sink_t *own, uint64_t event, uint8_t bis, uint8_t
     NEED(vm_sink_hear(&own->sink, event, bis, subevent, pdu.at, pdu.count, &heard));
     if (would.answer != heard.answer || would.fault != heard.fault)
         fail("vm_sink_would_hear", would.answer);
+    hear_alone(own, event, bis, subevent, pdu, heard);
     return heard;
 }
 
@@ -150,46 +154,57 @@ static void hand_on(const char *name, own_sink_t *own, const uint8_t *unit, cons
     printf("relay %s %u dropped %s\n", name, own->from, why);
 }
 
-typedef struct handed { struct handed *next; vm_unit_t it; octets_t octets; } handed_t;
+/* The units that wait. */
+static handed_t *units_of(own_sink_t *own)
+{
+    handed_t *first = NULL, **end = &first;
+    octets_t room = room_of(UNIT);
+    vm_unit_t unit = { 0, 0, 0, false };
+    while (vm_sink_next_unit(&own->sink, room.at, room.count, &unit) == VM_OK) {
+        *end = calloc(1, sizeof **end);
+        if (*end == NULL)
+            fail("calloc", 0);
+        (*end)->unit = unit;
+        (*end)->octets = copied(room.at, unit.count);
+        end = &(*end)->next;
+    }
+    free(room.at);
+    return first;
+}
+
+static void tell_unit(const char *name, own_sink_t *own, const handed_t *it)
+{
+    printf("unit %s %u at %" PRIu64 " ", name, it->unit.bis, it->unit.time);
+    if (!it->unit.is_valid) {
+        puts("lost");
+        return;
+    }
+    printf("valid %" PRIu64 " ", it->unit.count);
+    show(it->octets.at, it->unit.count);
+    own->units++;
+    own->octets += it->unit.count;
+}
 
 static void run_tick(char **w)
 {
     own_sink_t *own = sink_of(w[1]);
-    handed_t *first = NULL, **end = &first;
-    octets_t room = room_of(UNIT);
-    vm_unit_t unit = { 0, 0, 0, false };
     vm_status_t status = vm_sink_tick(&own->sink, number(w[2]));
     if (status == VM_MEMORY)
         puts("the tick found no memory");
     else if (status != VM_OK)
         fail("vm_sink_tick", status);
-    while (vm_sink_next_unit(&own->sink, room.at, room.count, &unit) == VM_OK) {
-        printf("unit %s %u at %" PRIu64 " ", w[1], unit.bis, unit.time);
-        if (!unit.is_valid) {
-            puts("lost");
-            continue;
-        }
-        printf("valid %" PRIu64 " ", unit.count);
-        show(room.at, unit.count);
-        own->units++;
-        own->octets += unit.count;
-        if (unit.bis != own->from)
-            continue;
-        *end = calloc(1, sizeof **end);
-        if (*end == NULL)
-            fail("calloc", 0);
-        (*end)->it = unit;
-        (*end)->octets = copied(room.at, unit.count);
-        end = &(*end)->next;
-    }
+    handed_t *first = units_of(own);
+    close_alone(own, number(w[2]), first, status == VM_MEMORY);
+    for (const handed_t *it = first; it != NULL; it = it->next)
+        tell_unit(w[1], own, it);
     while (first != NULL) {
         handed_t *it = first;
         first = it->next;
-        hand_on(w[1], own, it->octets.at, &it->it);
+        if (it->unit.is_valid && it->unit.bis == own->from)
+            hand_on(w[1], own, it->octets.at, &it->unit);
         free(it->octets.at);
         free(it);
     }
-    free(room.at);
 }
 
 static void run_relay(char **w)
@@ -205,6 +220,7 @@ static void run_drop(char **w)
     printf("sum %s %" PRIu64 " %" PRIu64 "\n", w[1], own->units, own->octets);
     for (unsigned link = 0; link < LINKS; link++)
         part(&own->places[link]);
+    end_streams(own);
     vm_sink_free(&own->sink);
     memset(own, 0, sizeof *own);
 }

@@ -26,9 +26,9 @@ air_big_info_t group()
 bool follows(Sink &sink, Link &link, Source &source, const vm_identity_t &identity)
 {
     std::array<std::uint8_t, 512> room{};
-    const std::uint32_t all = 0xffffffff;
+    const std::array<std::uint32_t, 1> all = { 0xffffffff };
     const std::array<std::uint8_t, 1> no_metadata = { 0 };
-    if (link.add(identity, 2, 0xffff, &all, 1, no_metadata) != Status::ok)
+    if (link.add(identity, 2, 0xffff, all, no_metadata) != Status::ok)
         return false;
     auto write = link.next_write(room);
     auto reply = sink.write(write.value);

@@ -13,7 +13,7 @@ from crate_sums import in_order, listed
 C = os.path.join(TOP, 'c')
 LIMIT = 3600  # seconds for proofs
 BLOCK = 65536  # octets for a source, a sink and a link
-PLAYER = [os.path.join(C, 'tests', f'play{part}.c') for part in ('', '_source', '_sink', '_links')]
+PLAYER = [os.path.join(C, 'tests', f'play{part}.c') for part in ('', '_source', '_sink', '_streams', '_links')]
 FUZZER = [os.path.join(C, 'tests', f'fuzz{part}.c') for part in ('', '_sink', '_link', '_source')]
 EXAMPLE = [os.path.join(C, 'examples', f'{part}.c') for part in ('main', 'source', 'player', 'assistant')]
 WARNED = ['-Wall', '-Wextra', '-Wpedantic', '-Wshadow', '-Werror', '-O1', '-g', f'-I{C}']
@@ -69,10 +69,11 @@ class Library(typing.NamedTuple):
             done([self.compiled(f'stereo_{back_end}', compiler, [*EXAMPLE, memory(back_end)], ['-std=c99', f'-DVM_BLOCK={BLOCK}', *SANITIZED])])
 
     def in_cpp(self, compiler: str, standard: str) -> None:
-        """The test of vicemint.hpp; the back end is of C."""
+        """The tests of vicemint.hpp; the back end is of C."""
         back_end = os.path.join(self.room, 'memory.o')
         done(['cc', '-std=c99', '-O1', f'-I{C}', '-c', '-o', back_end, memory('malloc')])
-        done([self.compiled(f'cpp_{standard}', compiler, [os.path.join(C, 'tests', 'stereo.cpp'), back_end], [f'-std={standard}'])])
+        for name in ('stereo', 'layouts'):
+            done([self.compiled(f'{name}_{standard}', compiler, [os.path.join(C, 'tests', f'{name}.cpp'), back_end], [f'-std={standard}'])])
 
     def in_rust(self) -> None:
         rust = os.path.join(self.room, 'rust')

@@ -46,6 +46,8 @@ TOOLS = {
     'clang': Tool('clang is missing', 'clang', has_any('clang')),
     'cxx': Tool('g++ and clang++ are missing', 'g++', has_any('g++', 'clang++')),
     'cargo': Tool('cargo is missing', 'cargo', has_any('cargo')),
+    'aarch64': Tool('aarch64-linux-gnu-gcc or qemu-aarch64 is missing', 'gcc-aarch64-linux-gnu libc6-dev-arm64-cross qemu-user',
+                    has_all('aarch64-linux-gnu-gcc', 'qemu-aarch64')),
     'cmake': Tool('cmake is missing', 'cmake', has_any('cmake')),
     'lc3': Tool('elc3 and dlc3 are missing', 'liblc3-tools', has_all('elc3', 'dlc3')),
     'mypy': Tool('no python3 here has mypy', 'python3-mypy', lambda: python_with('mypy') is not None),

@@ -1,4 +1,5 @@
-//! The calls and the structs of vicemint.h as they are: of the parts that this crate has safe calls for.
+//! The calls of vicemint.h as they are, and the structs that this crate turns into others.
+use crate::values::{BigInfo, Fault, Heard, Identity, Reply, Stay, Train, TrainHeard};
 use core::ffi::c_void;
 
 /// A handle: one word, null where there is none.
@@ -8,39 +9,6 @@ pub struct Handle {
 }
 
 pub const NONE: Handle = Handle { at: core::ptr::null_mut() };
-
-/// The answer to a write: an error code, 0 where it is accepted, and its cause.
-#[repr(C)]
-#[derive(Clone, Copy, Debug, Default, PartialEq, Eq)]
-pub struct Reply {
-    pub code: u8,
-    pub cause: u8,
-}
-
-/// What a PDU brought, and the number of its fault.
-#[repr(C)]
-#[derive(Clone, Copy, Debug, Default, PartialEq, Eq)]
-pub struct Heard {
-    pub answer: u8,
-    pub fault: u8,
-}
-
-/// What a train brought; bit n of `streams` stands for BIS n + 1.
-#[repr(C)]
-#[derive(Clone, Copy, Debug, Default, PartialEq, Eq)]
-pub struct TrainHeard {
-    pub streams: u32,
-    pub answer: u8,
-    pub fault: u8,
-}
-
-/// A fault of octets, and its place.
-#[repr(C)]
-#[derive(Clone, Copy, Debug, Default, PartialEq, Eq)]
-pub struct Fault {
-    pub place: u64,
-    pub number: u8,
-}
 
 /// A unit with its render time in µs.
 #[repr(C)]
@@ -52,52 +20,39 @@ pub struct Unit {
     pub is_valid: bool,
 }
 
-/// A BIGInfo.
+/// What holds for a stream of a BASE; a value that it hasn't is 0.
 #[repr(C)]
-#[derive(Clone, Copy, Debug, Default, PartialEq, Eq)]
-pub struct BigInfo {
-    pub chm: u64,
-    pub bis_payload_count: u64,
-    pub sub_interval: u32,
-    pub bis_spacing: u32,
-    pub sdu_interval: u32,
-    pub seed_access_address: u32,
-    pub big_offset: u16,
-    pub iso_interval: u16,
-    pub max_sdu: u16,
-    pub base_crc_init: u16,
-    pub big_offset_units: u8,
-    pub num_bis: u8,
-    pub nse: u8,
-    pub bn: u8,
-    pub pto: u8,
-    pub irc: u8,
-    pub max_pdu: u8,
-    pub phy: u8,
-    pub framing: u8,
-    pub is_encrypted: bool,
-    pub giv: [u8; 8],
-    pub gskd: [u8; 16],
+#[derive(Clone, Copy, Default)]
+pub struct Effective {
+    pub subgroup: u64,
+    pub allocation: u32,
+    pub contexts: u16,
+    pub frame_octets: u16,
+    pub frequency: u8,
+    pub duration: u8,
+    pub blocks: u8,
+    pub has_allocation: bool,
+    pub has_contexts: bool,
+    pub has_frame_octets: bool,
+    pub has_frequency: bool,
+    pub has_duration: bool,
+    pub has_blocks: bool,
+    pub codec: [u8; 5],
 }
 
-/// Who a source is.
+/// A receive state but for the bits of its subgroups.
 #[repr(C)]
-#[derive(Clone, Copy, Debug, Default, PartialEq, Eq)]
-pub struct Identity {
+#[derive(Clone, Copy, Default)]
+pub struct State {
+    pub subgroups: u64,
+    pub source_id: u8,
     pub address_type: u8,
     pub address: [u8; 6],
     pub sid: u8,
     pub broadcast_id: [u8; 3],
-}
-
-/// A train in a room: the counts of its parts, one behind the other, and its time in µs.
-#[repr(C)]
-#[derive(Clone, Copy, Debug, Default, PartialEq, Eq)]
-pub struct Train {
-    pub ext: u64,
-    pub adv: u64,
-    pub acad: u64,
-    pub time: u64,
+    pub pa_sync_state: u8,
+    pub encryption: u8,
+    pub bad_code: [u8; 16],
 }
 
 extern "C" {
@@ -125,7 +80,9 @@ extern "C" {
     pub fn vm_link_drop(link: Handle);
     pub fn vm_link_set_mtu(link: *mut Handle, mtu: u16) -> u32;
     pub fn vm_link_put(link: *mut Handle, write: *const u8, count: u64) -> u32;
+    pub fn vm_link_scan(link: *mut Handle, is_started: bool) -> u32;
     pub fn vm_link_add(link: *mut Handle, address_type: u8, address: *const u8, sid: u8, broadcast_id: *const u8, pa_sync: u8, pa_interval: u16, bis_sync: *const u32, subgroups: u64, metadata: *const u8, metadata_count: u64) -> u32;
+    pub fn vm_link_modify(link: *mut Handle, source_id: u8, pa_sync: u8, pa_interval: u16, bis_sync: *const u32, subgroups: u64, metadata: *const u8, metadata_count: u64) -> u32;
     pub fn vm_link_remove(link: *mut Handle, source_id: u8) -> u32;
     pub fn vm_link_code(link: *mut Handle, source_id: u8, code: *const u8) -> u32;
     pub fn vm_link_next_write(link: *mut Handle, room: *mut u8, room_count: u64, count: *mut u64) -> u32;
@@ -144,4 +101,25 @@ extern "C" {
     pub fn vm_source_pdu(source: *mut Handle, back: u8, bis: u8, subevent: u8, room: *mut u8, room_count: u64, count: *mut u64, number: *mut u64) -> u32;
     pub fn vm_source_announce(source: *mut Handle, room: *mut u8, room_count: u64, train: *mut Train) -> u32;
     pub fn vm_source_terminate(source: *mut Handle, reason: u8, into: *mut u8);
+
+    pub fn vm_stream_new(stream: *mut Handle, info: *const BigInfo, stay: *const Stay, row: *mut u8) -> u32;
+    pub fn vm_stream_drop(stream: Handle);
+    pub fn vm_stream_hear(stream: *mut Handle, number: u64, pdu: *const u8, count: u64, heard: *mut Heard);
+    pub fn vm_stream_reserve(stream: *mut Handle, units: u64, octets: u64) -> u32;
+    pub fn vm_stream_close(stream: *mut Handle) -> u32;
+    pub fn vm_stream_open_event(stream: *mut Handle, event: *mut u64);
+    pub fn vm_stream_next_unit(stream: *mut Handle, room: *mut u8, room_count: u64, unit: *mut Unit) -> u32;
+
+    pub fn air_big_info_read(from: *const u8, count: u64, into: *mut BigInfo) -> u32;
+    pub fn air_big_info_write(info: *const BigInfo, room: *mut u8, room_count: u64, count: *mut u64) -> u32;
+    pub fn air_group_check(info: *const BigInfo, row: *mut u8) -> u32;
+    pub fn air_base_check(from: *const u8, count: u64, fault: *mut Fault) -> u32;
+    pub fn air_base_streams(from: *const u8, count: u64, streams: *mut u32) -> u32;
+    pub fn air_base_effective(from: *const u8, count: u64, bis: u8, into: *mut Effective) -> u32;
+    pub fn air_pac_check(from: *const u8, count: u64, fault: *mut Fault) -> u32;
+    pub fn air_takes(records: *const u8, records_count: u64, locations: u32, contexts: u16, base: *const u8, base_count: u64, bis: u8, reason: *mut u8) -> u32;
+    pub fn air_pdu_check(from: *const u8, count: u64, max_pdu: u8, fault: *mut Fault) -> u32;
+    pub fn air_operation_check(from: *const u8, count: u64, fault: *mut Fault) -> u32;
+    pub fn air_state_check(from: *const u8, count: u64, fault: *mut Fault) -> u32;
+    pub fn air_state_read(from: *const u8, count: u64, into: *mut State, bis_sync: *mut u32, bis_sync_room: u64, fault: *mut Fault) -> u32;
 }

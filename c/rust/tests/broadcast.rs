@@ -1,27 +1,9 @@
 //! An assistant puts a sink on a source, the source sends, and what the sink hands up is what was given.
-use vicemint::{BigInfo, Identity, Link, Refusal, Sink, Source};
+mod common;
+use common::{group, sink, source, BASE, IDENTITY};
+use vicemint::{layouts, Link, Refusal, Sink, Source};
 
-const BASE: [u8; 28] = [0x40, 0x9c, 0, 1, 1, 6, 0, 0, 0, 0, 10, 2, 1, 8, 2, 2, 1, 3, 4, 100, 0, 4, 3, 2, 4, 0, 1, 0];
-const CAPS: [u8; 13] = [3, 1, 0x80, 0, 2, 2, 2, 5, 4, 100, 0, 100, 0];
-const IDENTITY: Identity = Identity { address_type: 0, address: [1, 2, 3, 4, 5, 6], sid: 3, broadcast_id: [7, 8, 9] };
 const ON_GROUP: u8 = 10;
-
-fn group() -> BigInfo {
-    BigInfo { iso_interval: 8, num_bis: 1, nse: 1, bn: 1, irc: 1, sdu_interval: 10000, max_sdu: 100, max_pdu: 100, phy: 1, ..BigInfo::default() }
-}
-
-fn sink() -> Sink {
-    let mut sink = Sink::new(1, 1).unwrap();
-    sink.reserve(1, 100).unwrap();
-    sink.add_pac(&[6, 0, 0, 0, 0], &CAPS, &[]).unwrap();
-    sink.set_locations(1);
-    sink.set_contexts(4);
-    sink
-}
-
-fn source() -> Source {
-    Source::new(&IDENTITY, &group(), &BASE, 20000, 0, false).unwrap()
-}
 
 #[test]
 fn a_sink_hands_up_what_was_given() {
@@ -52,6 +34,26 @@ fn a_sink_hands_up_what_was_given() {
         assert_eq!(unit.octets, (!is_lost).then_some(&[event, 7][..]));
         assert_eq!(sink.next_unit(&mut other).unwrap(), None);
     }
+}
+
+#[test]
+fn an_assistant_changes_what_it_asked_for() {
+    let (mut sink, mut link) = (sink(), Link::new(1).unwrap());
+    let (mut room, mut bits) = ([0; 512], [0; 4]);
+    link.scan(true).unwrap();
+    link.add(&IDENTITY, 2, 0xffff, &[1], &[0]).unwrap();
+    link.modify(0, 0, 0xffff, &[0, 0], &[0, 0]).unwrap();
+    link.scan(false).unwrap();
+    for opcode in [1, 2, 3, 0] {
+        let write = link.next_write(&mut room).unwrap().unwrap();
+        assert_eq!((write[0], layouts::check_operation(write)), (opcode, Ok(())));
+        assert_eq!(sink.write(write).unwrap().code, 0);
+    }
+    assert_eq!(link.next_write(&mut room).unwrap(), None);
+    let state = layouts::read_state(sink.read_state(0, &mut room).unwrap(), &mut bits).unwrap().unwrap();
+    assert_eq!((state.source_id, state.address, state.bis_sync), (0, IDENTITY.address, &[0, 0][..]));
+    assert_eq!(link.modify(0, 3, 0xffff, &[0], &[0]), Err(Refusal::Range));
+    assert_eq!(link.modify(0, 0, 0xffff, &[0], &[1]), Err(Refusal::Layout));
 }
 
 #[test]

@@ -15,8 +15,7 @@ pub data BaseLine : Type 0 where
 -- entries that are added before the next one is opened, and the metadata that is given last.
 abbrev pub subgroups_before : List BaseEntry → Option (List ℕ) → List BaseLine → List Subgroup
 subgroups_before entries metadata [] = []
-subgroups_before entries metadata (opens codec config ∷ earlier) =
-    subgroups_before [] None earlier
+subgroups_before entries metadata (opens codec config ∷ earlier) = subgroups_before [] None earlier
     ++ record { codec = codec; config = config; metadata = unwrap_or metadata []; entries = entries } ∷ []
 subgroups_before entries metadata (describes said ∷ earlier) = subgroups_before entries (option_or metadata (Some said)) earlier
 subgroups_before entries metadata (adds bis config ∷ earlier) =

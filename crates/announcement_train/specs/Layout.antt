@@ -17,7 +17,6 @@ use Rattle.announcement_train.specs.declared.train.Train.{Train}
 abbrev pub basic_audio_announcement : ℕ
 basic_audio_announcement = 0x1851
 
--- the AD type of the BIGInfo
 abbrev pub big_info_type : ℕ
 big_info_type = 0x2c
 

@@ -9,7 +9,6 @@ use Rattle.base_grammar.specs.declared.subgroup.Subgroup.{Subgroup}
 abbrev pub plain_entry : ℕ → BaseEntry
 plain_entry bis = record { bis = bis; config = [] }
 
--- the entries of so many streams
 abbrev pub plain_entries : ℕ → List BaseEntry
 plain_entries count = map plain_entry (range_with_len 1 count)
 

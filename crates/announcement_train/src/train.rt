@@ -24,8 +24,7 @@ const BASIC_AUDIO_ANNOUNCEMENT: u16 = 0x1851;
 /// From a train to the anchor that it tells of, in µs.
 const LEAD: u64 = 3_000;
 
-/// What a source announces for an event: when, in µs, and the AD lists of the extended advertising, the periodic
-/// advertising and its ACAD.
+/// What a source announces for an event: when, in µs, and the AD lists of the extended and the periodic advertising and its ACAD.
 #[derive(Drop)]
 pub struct Train {
     pub time: u64,

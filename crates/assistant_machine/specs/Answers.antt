@@ -15,7 +15,6 @@ abbrev pub by_reading : Result (Option ReceiveState) StateFault → Result Notic
 by_reading (Ok state) = Ok View
 by_reading (Err fault) = Err (BadNotice fault)
 
--- the answer to a value of a slot, of so many slots, on a link with this MTU
 abbrev pub answer_of : ℕ → Option ℕ → ℕ → List ℕ → Result NoticeTaken NoticeFault
 answer_of slots mtu slot value =
     if nat_le slots slot then Err NoSuchSlot else (if asks mtu value then Ok ReadWaits else by_reading (state_of value))

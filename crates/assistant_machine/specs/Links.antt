@@ -30,28 +30,24 @@ abbrev pub value_given : {V : Type 0} → ℕ → Act V → Option V
 value_given slot (made at value) = if at == slot then Some value else None
 value_given slot _ = None
 
--- the value of a slot
 abbrev pub value_of : {V : Type 0} → Language V → ℕ → List (Act V) → V
 value_of language slot [] = language.empty
 value_of language slot (act ∷ earlier) = unwrap_or (value_given slot act) (value_of language slot earlier)
 
 -- ---- what waits
 
--- the notices since the link was joined, in order
 abbrev pub notices_of : {V : Type 0} → List (Act V) → List (Notice V)
 notices_of [] = []
 notices_of (made slot value ∷ earlier) = notices_of earlier ++ record { slot = slot; value = value } ∷ []
 notices_of (joined ∷ earlier) = []
 notices_of (_ ∷ earlier) = notices_of earlier
 
--- how many of them were delivered
 abbrev pub delivered_of : {V : Type 0} → List (Act V) → ℕ
 delivered_of [] = 0
 delivered_of (notified ∷ earlier) = suc (delivered_of earlier)
 delivered_of (joined ∷ earlier) = 0
 delivered_of (_ ∷ earlier) = delivered_of earlier
 
--- the notices that wait: those without the ones that were delivered
 abbrev pub waiting_of : {V : Type 0} → List (Act V) → List (Notice V)
 waiting_of acts = drop (delivered_of acts) (notices_of acts)
 
@@ -87,7 +83,6 @@ abbrev pub view_of : {V : Type 0} → Language V → ℕ → List (Act V) → V
 view_of language slot [] = language.empty
 view_of language slot (act ∷ earlier) = unwrap_or (view_given language slot act earlier) (view_of language slot earlier)
 
--- octets for a slot ask for a read of it
 abbrev pub asked_by : {V : Type 0} → Language V → ℕ → ℕ → List ℕ → Option Bool
 asked_by language slot at octets = if_its ((at == slot) && asks language.mtu octets) (Some true)
 
@@ -143,7 +138,6 @@ abbrev pub serve_all : {V : Type 0} → List ℕ → List (Act V) → List (Act 
 serve_all [] acts = acts
 serve_all (slot ∷ slots) acts = serve_all slots (served slot ∷ acts)
 
--- of so many slots those of which a read waits
 abbrev pub reads_of : {V : Type 0} → Language V → ℕ → List (Act V) → List ℕ
 reads_of language slots acts = filter (λ slot. waits_of language slot acts) (range_with_len 0 slots)
 

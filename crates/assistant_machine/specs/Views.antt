@@ -7,7 +7,6 @@ use Rattle.receive_state.specs.declared.fault.StateFault.{StateFault}
 use Rattle.receive_state.specs.declared.state.ReceiveState.{ReceiveState}
 use Rattle.assistant_machine.specs.Calls.{Call, notified, all_asked, asked, read, mtu_of}
 
--- what a slot has, where the octets are a value: a state, or no source
 abbrev pub told_of : Result (Option ReceiveState) StateFault → Option (Option ReceiveState)
 told_of (Ok state) = Some state
 told_of (Err fault) = None

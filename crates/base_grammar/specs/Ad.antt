@@ -33,17 +33,14 @@ service_data_type = 0x16
 abbrev pub broadcast_audio_announcement : ℕ
 broadcast_audio_announcement = 0x1852
 
--- what follows this UUID at the front
 abbrev pub behind_uuid : ℕ → List ℕ → Option (List ℕ)
 behind_uuid uuid [] = None
 behind_uuid uuid (low ∷ []) = None
 behind_uuid uuid (low ∷ high ∷ content) = if sum_from 0 (low ∷ high ∷ []) == uuid then Some content else None
 
--- what a structure has for this UUID
 abbrev pub service_in : ℕ → Ltv → Option (List ℕ)
 service_in uuid ad = if ad.kind == service_data_type then behind_uuid uuid ad.value else None
 
--- the first Service Data of this UUID
 abbrev pub first_service : ℕ → List Ltv → Option (List ℕ)
 first_service uuid [] = None
 first_service uuid (ad ∷ ads) = option_or (service_in uuid ad) (first_service uuid ads)

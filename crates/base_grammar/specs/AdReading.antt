@@ -28,7 +28,6 @@ abbrev pub service_of : ℕ → List ℕ → Option (List ℕ)
 service_of uuid [] = None
 service_of uuid (kind ∷ contents) = if kind == service_data_type then behind_uuid uuid contents else None
 
--- the first 3 octets of what was found
 abbrev pub id_in : Option (List ℕ) → Option (List ℕ)
 id_in None = None
 id_in (Some content) = if nat_lt (length content) 3 then None else Some (take 3 content)
@@ -37,6 +36,5 @@ abbrev pub id_from : Result (List Ltv) ℕ → Option (List ℕ)
 id_from (Ok ads) = id_in (first_service broadcast_audio_announcement ads)
 id_from (Err place) = None
 
--- the Broadcast_ID of an announcement
 abbrev pub broadcast_id_of : List ℕ → Option (List ℕ)
 broadcast_id_of ext = id_from (ads_of ext)

@@ -8,7 +8,6 @@ use Rattle.base_grammar.specs.declared.subgroup.BaseEntry.{BaseEntry}
 use Rattle.base_grammar.specs.declared.subgroup.Subgroup.{Subgroup}
 use Rattle.base_grammar.specs.Layout.{Endpoint, endpoint, indices, stands_in, encoding, AreNew, HasEntry, SubgroupFits}
 
--- the last subgroup
 abbrev pub last_of : List Subgroup → Option Subgroup
 last_of [] = None
 last_of (s ∷ []) = Some s
@@ -48,7 +47,6 @@ with_entry e v = endpoint v.delay (with_last (λ s. record s { entries = s.entri
 
 -- ---- refusals
 
--- the last subgroup has no entry yet
 abbrev pub is_empty_last : Option Subgroup → Bool
 is_empty_last None = false
 is_empty_last (Some s) = length s.entries == 0

@@ -20,7 +20,6 @@ config_of true high low = record {
 }
 config_of false high low = record { frequency = None; duration = None; allocation = None; frame_octets = None; blocks = None }
 
--- what holds for an entry of a subgroup at this place
 abbrev pub values_of : ℕ → Subgroup → BaseEntry → Effective
 values_of place s e = record {
   codec = s.codec;
@@ -39,7 +38,6 @@ pub record IsEffective (v : Endpoint) (bis : ℕ) (effective : Effective) : Type
   pub index : entry.bis ≡ bis
   pub values : effective ≡ values_of effective.subgroup subgroup entry
 
--- the entry of the index
 abbrev pub entry_of : ℕ → List BaseEntry → Option BaseEntry
 entry_of bis entries = find (λ e. e.bis == bis) entries
 
@@ -52,6 +50,5 @@ abbrev pub effective_from : ℕ → ℕ → List Subgroup → Option Effective
 effective_from place bis [] = None
 effective_from place bis (s ∷ subgroups) = or_behind place s (entry_of bis s.entries) (effective_from (place + 1) bis subgroups)
 
--- the values that hold for the index, if it has an entry
 abbrev pub effective_of : Endpoint → ℕ → Option Effective
 effective_of v bis = effective_from 0 bis v.subgroups

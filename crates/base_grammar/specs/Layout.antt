@@ -40,11 +40,9 @@ encoding v = number 3 v.delay ++ (length v.subgroups ∷ flat_map subgroup v.sub
 abbrev pub bis_of : BaseEntry → ℕ
 bis_of e = e.bis
 
--- the indices of the entries, in order
 abbrev pub indices : List Subgroup → List ℕ
 indices subgroups = flat_map (λ s. map bis_of s.entries) subgroups
 
--- the index is one of these
 abbrev pub stands_in : List ℕ → ℕ → Bool
 stands_in before bis = list_any (λ b. b == bis) before
 

@@ -12,11 +12,9 @@ use Rattle.base_grammar.specs.Rows.{subgroups_fault, streams_fault, index_fault,
 
 -- ---- a field
 
--- a field that has to be whole
 abbrev pub field_at : {A : Type 0} → List ℕ → List ℕ → Option A → Result A BaseFault
 field_at whole rest field = needed (Short (place_in whole rest)) field
 
--- what is read, unless it is wrong
 abbrev pub unless : {A : Type 0} → Option BaseFault → A → Result A BaseFault
 unless None x = Ok x
 unless (Some fault) x = Err fault
@@ -28,7 +26,6 @@ run_at whole is_list rest = do
   run ← field_at whole count.1 (octets_in count.0 count.1)
   unless (run_fault (place_in whole count.1) is_list run.0) run
 
--- an index, behind these
 unfoldable pub index_at : List ℕ → List ℕ → List ℕ → Result (ℕ × List ℕ) BaseFault
 index_at whole before rest = do
   bis ← field_at whole rest (octet_in rest)
@@ -82,7 +79,6 @@ count_at whole rest = do
   count ← field_at whole rest (octet_in rest)
   unless (subgroups_fault count.0) count
 
--- nothing stands behind the last field
 abbrev pub ended : {A : Type 0} → List ℕ → List ℕ → A → Result A BaseFault
 ended whole [] x = Ok x
 ended whole (octet ∷ rest) x = Err (Trailing (place_in whole (octet ∷ rest)))
@@ -103,6 +99,5 @@ told fault = Some fault
 abbrev pub wants : BaseFault → Bool
 wants fault = is_none (told fault)
 
--- what octets are read as
 unfoldable pub base_of : List ℕ → Result Endpoint BaseFault
 base_of whole = if nat_lt 252 (length whole) then Err TooLong else fields_of whole

@@ -6,21 +6,17 @@ use Rattle.base_grammar.specs.declared.fault.BaseFault.{BaseFault}
 use Rattle.base_grammar.specs.declared.fault.BaseFault.TheVariants.{NoSubgroup, NoBis, BadIndex, IndexTwice, Ltv}
 use Rattle.base_grammar.specs.Layout.{stands_in}
 
--- Num_Subgroups is at least 1
 abbrev pub subgroups_fault : ℕ → Option BaseFault
 subgroups_fault count = if count == 0 then Some NoSubgroup else None
 
--- Num_BIS is at least 1
 abbrev pub streams_fault : ℕ → ℕ → Option BaseFault
 streams_fault place count = if count == 0 then Some (NoBis place) else None
 
 -- BIS_index is from 1 to 31, and none that stands before
 abbrev pub index_fault : ℕ → List ℕ → ℕ → Option BaseFault
-index_fault place before bis =
-    if nat_lt bis 1 then Some (BadIndex place)
+index_fault place before bis = if nat_lt bis 1 then Some (BadIndex place)
     else if nat_lt 31 bis then Some (BadIndex place)
-    else if stands_in before bis then Some (IndexTwice place)
-    else None
+    else if stands_in before bis then Some (IndexTwice place) else None
 
 -- metadata, and a configuration of LC3, is an LTV list
 abbrev pub run_fault : ℕ → Bool → List ℕ → Option BaseFault

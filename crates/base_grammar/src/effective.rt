@@ -14,8 +14,7 @@ use ltv_codec::{Config, contexts_of};
 pub struct Effective {
     /// The Codec_ID of its subgroup.
     pub codec: [u8; 5],
-    /// The values of its own codec configuration (level 3), and of its subgroup's (level 2) where one is absent there.
-    /// They are all absent where the codec is not LC3.
+    /// Each value of level 3, or of level 2 where it is absent there; all are absent where the codec is not LC3.
     pub config: Config,
     /// The Streaming_Audio_Contexts of its subgroup.
     pub contexts: Option<u16>,

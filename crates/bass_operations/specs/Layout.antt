@@ -12,7 +12,6 @@ use Rattle.bass_operations.specs.declared.operation.Operation.TheVariants.{ScanS
 use Rattle.bass_operations.specs.declared.wishes.Wish.{Wish}
 use Rattle.bass_operations.specs.Twice.{NoneTwice}
 
--- BIS_Sync and metadata
 abbrev pub group_of : Wish → Subgroup
 group_of wish = record { bits = wish.bis_sync; metadata = wish.metadata }
 
@@ -31,7 +30,6 @@ abbrev pub modify_fields : ModifySource → List Field
 modify_fields modify =
     free (octet modify.source_id) ∷ unless (nat_lt 2 modify.pa_sync) (octet modify.pa_sync) ∷ free (number 2 modify.pa_interval) ∷ wishes_fields modify.wishes
 
--- the opcode, and the fields behind it
 abbrev pub fields : Operation → List Field
 fields ScanStopped = free (octet 0) ∷ []
 fields ScanStarted = free (octet 1) ∷ []
@@ -40,11 +38,9 @@ fields (Modify modify) = free (octet 3) ∷ modify_fields modify
 fields (Code source_id code) = free (octet 4) ∷ free (octet source_id) ∷ free code ∷ []
 fields (Remove source_id) = free (octet 5) ∷ free (octet source_id) ∷ []
 
--- the octets of an operation
 abbrev pub encoding : Operation → List ℕ
 encoding op = laid (fields op)
 
--- what is wanted of each subgroup
 abbrev pub wishes_of : Operation → List Wish
 wishes_of ScanStopped = []
 wishes_of ScanStarted = []

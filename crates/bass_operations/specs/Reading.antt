@@ -30,7 +30,6 @@ add_head_in octets = do
   count ← octet_in interval.1
   Some (record { address_type = kind.0; address = address.0; sid = sid.0; broadcast_id = id.0; pa_sync = sync.0; pa_interval = interval.0; wishes = [] }, count.0, count.1)
 
--- the same of a Modify Source
 unfoldable pub modify_head_in : List ℕ → Option (ModifySource × ℕ × List ℕ)
 modify_head_in octets = do
   source ← octet_in octets
@@ -39,7 +38,6 @@ modify_head_in octets = do
   count ← octet_in interval.1
   Some (record { source_id = source.0; pa_sync = sync.0; pa_interval = interval.0; wishes = [] }, count.0, count.1)
 
--- the subgroups are all that follows
 unfoldable pub wishes_in : ℕ → List ℕ → Option (List Wish)
 wishes_in count octets = do
   groups ← whole (subgroups_in count octets)
@@ -68,12 +66,10 @@ remove_in octets = do
   source ← whole (octet_in octets)
   Some (Remove source)
 
--- an operation that has no field
 abbrev pub alone : Operation → List ℕ → Option Operation
 alone op [] = Some op
 alone op (octet ∷ rest) = None
 
--- the operation of an opcode with these octets behind it
 unfoldable pub op_in : ℕ → List ℕ → Option Operation
 op_in zero octets = alone ScanStopped octets
 op_in (suc zero) octets = alone ScanStarted octets
@@ -89,7 +85,6 @@ add_reserved add =
     if nat_lt 1 add.address_type then Some 1
     else (if nat_lt 15 add.sid then Some 8 else (if nat_lt 2 add.pa_sync then Some 12 else None))
 
--- the first fault of the values
 abbrev pub first_fault : Option ℕ → Option ℕ → Option OpFault
 first_fault (Some place) twice = Some (Rfu place)
 first_fault None (Some bis) = Some (BisTwice bis)
@@ -106,7 +101,6 @@ abbrev pub judged : Option Operation → Result Operation OpFault
 judged None = Err Length
 judged (Some op) = answered op (fault_of op)
 
--- what octets are read as
 abbrev pub op_of : List ℕ → Result Operation OpFault
 op_of [] = Err Empty
 op_of (opcode ∷ octets) = if nat_lt 5 opcode then Err Opcode else judged (op_in opcode octets)

@@ -5,11 +5,10 @@ use Rattle.std.specs.Int.{bit_at}
 use Rattle.bcast_base.specs.Subgroups.{all_bits}
 use Rattle.bass_operations.specs.declared.wishes.Wish.{Wish}
 
--- the bit of the stream is set
+-- the bit of the stream is set; in 0xFFFFFFFF, no preference, none is
 abbrev pub has_bit : ℕ → ℕ → Bool
 has_bit bis bits = (bit_at bits (bis - 1) == 1) && not (bits == all_bits)
 
--- in how many subgroups the stream is named
 abbrev pub times_named : ℕ → List Wish → ℕ
 times_named bis wishes = count_by (λ wish. has_bit bis wish.bis_sync) wishes
 

@@ -16,13 +16,11 @@ pub struct AddSource {
     pub wishes: Wishes,
 }
 
-/// Modify Source: the sink is to want other streams of a source that it has.
+/// Modify Source: the sink is to want other streams of a source that it has. The fields are as in `AddSource`.
 #[derive(Drop)]
 pub struct ModifySource {
     pub source_id: u8,
-    /// As in `AddSource`.
     pub pa_sync: u8,
-    /// As in `AddSource`.
     pub pa_interval: u16,
     pub wishes: Wishes,
 }
@@ -30,14 +28,11 @@ pub struct ModifySource {
 /// What a client writes to the Broadcast Audio Scan Control Point (Broadcast Audio Scan Service 1.0, section 3.1.1).
 #[derive(Drop)]
 pub enum Operation {
-    /// Remote Scan Stopped.
     ScanStopped,
-    /// Remote Scan Started.
     ScanStarted,
     Add(AddSource),
     Modify(ModifySource),
     /// Set Broadcast_Code.
     Code { source_id: u8, code: [u8; 16] },
-    /// Remove Source.
     Remove { source_id: u8 },
 }

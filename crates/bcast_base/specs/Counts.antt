@@ -1,7 +1,6 @@
 -- Counts of faults and of wants of memory, which never fall and stop at 2^64 - 1. They are this project's own.
 use Rattle.std.specs.Prelude.{ℕ, ◌+◌, ◌-◌, ◌^◌, ◌≤◌, min}
 
--- a count after one more
 abbrev pub counted : ℕ → ℕ
 counted n = min (n + 1) (2 ^ 64 - 1)
 

@@ -7,7 +7,6 @@ use Rattle.std.specs.Prelude.{ℕ, zero, suc, ◌<◌, ◌/◌, ◌%◌, List, [
 abbrev pub IsOctets : List ℕ → Type 0
 IsOctets octets = (i : ℕ) → get_or octets i 0 < 256
 
--- one octet
 abbrev pub octet : ℕ → List ℕ
 octet value = value ∷ []
 
@@ -16,6 +15,5 @@ unfoldable pub number : ℕ → ℕ → List ℕ
 number zero value = []
 number (suc k) value = (value % 256) ∷ number k (value / 256)
 
--- so many octets behind one that counts them
 abbrev pub counted : List ℕ → List ℕ
 counted octets = length octets ∷ octets

@@ -7,15 +7,12 @@ pub record Field : Type 0 where
   pub octets : List ℕ
   pub reserved : Bool
 
--- a field of any value
 abbrev pub free : List ℕ → Field
 free octets = record { octets = octets; reserved = false }
 
--- a field whose value is reserved where the test says so
 abbrev pub unless : Bool → List ℕ → Field
 unless reserved octets = record { octets = octets; reserved = reserved }
 
--- the octets of the fields, one behind the other
 abbrev pub laid : List Field → List ℕ
 laid fields = flat_map (λ field. field.octets) fields
 
@@ -28,7 +25,7 @@ abbrev pub FirstReserved : ℕ → List Field → Type 0
 FirstReserved place fields =
     (prefix : List Field) × (field : Field) × (back : List Field) × (fields ≡ prefix ++ field ∷ back) × NoneReserved prefix × (field.reserved ≡ true) × (place ≡ length (laid prefix))
 
--- the same as a number, where the fields begin at this place
+-- the place of the first field with a reserved value, of fields that begin at this place
 abbrev pub reserved_from : ℕ → List Field → Option ℕ
 reserved_from place [] = None
 reserved_from place (field ∷ fields) = if field.reserved then Some place else reserved_from (place + length field.octets) fields

@@ -4,20 +4,16 @@ use Rattle.std.specs.Prelude.{ℕ, ◌≡◌, ◌++◌, ◌-◌, List, [], ◌�
 use Rattle.bcast_base.specs.Numbers.{sum_from}
 use Rattle.bcast_base.specs.Encoding.{IsOctets}
 
--- k octets as they are
 abbrev pub octets_in : ℕ → List ℕ → Option (List ℕ × List ℕ)
 octets_in k from = if nat_lt (length from) k then None else Some (take k from, drop k from)
 
--- one octet
 abbrev pub octet_in : List ℕ → Option (ℕ × List ℕ)
 octet_in [] = None
 octet_in (octet ∷ rest) = Some (octet, rest)
 
--- the number that k octets encode
 abbrev pub number_in : ℕ → List ℕ → Option (ℕ × List ℕ)
 number_in k from = if nat_lt (length from) k then None else Some (sum_from 0 (take k from), drop k from)
 
--- so many octets as the first one counts
 abbrev pub counted_in : List ℕ → Option (List ℕ × List ℕ)
 counted_in [] = None
 counted_in (count ∷ rest) = octets_in count rest

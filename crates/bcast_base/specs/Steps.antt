@@ -6,7 +6,6 @@ abbrev pub ◌>>=◌ : {A B : Type 0} → Option A → (A → Option B) → Opti
 (Some x) >>= f = f x
 None >>= f = None
 
--- what was read, where no octet is left
 abbrev pub whole : {A B : Type 0} → Option (A × List B) → Option A
 whole None = None
 whole (Some (x, [])) = Some x

@@ -11,14 +11,12 @@ pub record Subgroup : Type 0 where
   pub bits : ℕ
   pub metadata : List ℕ
 
--- every bit is set
 abbrev pub all_bits : ℕ
 all_bits = 4294967295
 
 abbrev pub is_reserved : ℕ → Bool
 is_reserved bits = nat_lt 2147483647 bits && not (bits == all_bits)
 
--- the bit field, the length of the metadata, and the metadata
 abbrev pub subgroup_fields : Subgroup → List Field
 subgroup_fields group = unless (is_reserved group.bits) (number 4 group.bits) ∷ free (octet (length group.metadata)) ∷ free group.metadata ∷ []
 
@@ -31,14 +29,12 @@ pub record Fits (group : Subgroup) : Type 0 where
   pub bits : group.bits < 2 ^ 32
   pub metadata : length group.metadata < 256
 
--- one subgroup, read from the front
 unfoldable pub subgroup_in : List ℕ → Option (Subgroup × List ℕ)
 subgroup_in octets = do
   bits ← number_in 4 octets
   metadata ← counted_in bits.1
   Some (record { bits = bits.0; metadata = metadata.0 }, metadata.1)
 
--- so many subgroups, one behind the other
 unfoldable pub subgroups_in : ℕ → List ℕ → Option (List Subgroup × List ℕ)
 subgroups_in zero octets = Some ([], octets)
 subgroups_in (suc count) octets = do

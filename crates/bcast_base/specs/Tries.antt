@@ -7,7 +7,6 @@ abbrev pub ◌>>=◌ : {A B E : Type 0} → Result A E → (A → Result B E) �
 (Ok x) >>= f = f x
 (Err fault) >>= f = Err fault
 
--- a field that has to be whole, or this fault
 abbrev pub needed : {A E : Type 0} → E → Option A → Result A E
 needed fault None = Err fault
 needed fault (Some field) = Ok field

@@ -11,7 +11,6 @@ use Rattle.bcast_io.specs.declared.piece.Unread.TheVariants.{Failed, Memory}
 abbrev pub document_limit : ℕ
 document_limit = 1048576
 
--- the document is all octets of the input, and no more than it may have
 pub record ReadWhole (left left' : Option (List ℕ)) (document : List ℕ) : Type 0 where
   pub consumed : Consumes left left' document
   pub at_end : IsAtEnd left'
@@ -23,7 +22,6 @@ pub record ReadPast (left left' : Option (List ℕ)) : Type 0 where
   pub consumed : Consumes left left' octets
   pub long : length octets ≡ document_limit + 1
 
--- a prefix of the input was read, of at most so many octets
 pub record ReadPrefix (most : ℕ) (left left' : Option (List ℕ)) : Type 0 where
   pub octets : List ℕ
   pub consumed : Consumes left left' octets

@@ -2,7 +2,6 @@
 use Rattle.std.specs.Prelude.{ℕ, ◌≡◌, ◌≢◌, ◌+◌, ◌==◌, All, nat_le, Bool, true, false, List, [], ◌∷◌, ◌++◌, length, map, take, if◌then◌else◌}
 use Rattle.std.specs.List.{concat}
 
--- the octet that ends a line
 abbrev pub newline : ℕ
 newline = 10
 
@@ -23,7 +22,6 @@ pub data TextLine : Type 0 where
   too_long : TextLine
   past : TextLine
 
--- the line of these octets
 abbrev pub line_of : List ℕ → TextLine
 line_of octets = if nat_le (length octets) line_limit then plain octets else too_long
 
@@ -37,8 +35,7 @@ last_line true (x ∷ xs) = line_of (x ∷ xs) ∷ []
 -- rest of the text, or a prefix of it, whose last line is not whole yet. A line past the limit of the text is the last.
 unfoldable pub lines_from : Bool → ℕ → List ℕ → List ℕ → List TextLine
 lines_from at_end taken part [] = last_line at_end part
-lines_from at_end taken part (x ∷ xs) =
-    if nat_le text_limit taken then past ∷ []
+lines_from at_end taken part (x ∷ xs) = if nat_le text_limit taken then past ∷ []
     else (if x == newline then line_of part ∷ lines_from at_end (taken + 1) [] xs
     else lines_from at_end (taken + 1) (part ++ x ∷ []) xs)
 

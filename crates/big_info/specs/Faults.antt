@@ -6,8 +6,7 @@ use Rattle.big_info.specs.declared.fault.GroupFault.TheVariants.{RangeIso, Range
 use Rattle.big_info.specs.declared.fault.GroupFault.TheVariants.{UnframedBn, Horizon, SubInterval, SyncDelay, Encrypted}
 
 abbrev pub faults : List GroupFault
-faults =
-    RangeIso ∷ RangeSdu ∷ RangePdu ∷ Bn ∷ NseNotMultiple ∷ Irc ∷ PhyNotSupported ∷ FramedPduSmall ∷ UnframedMultiple ∷
+faults = RangeIso ∷ RangeSdu ∷ RangePdu ∷ Bn ∷ NseNotMultiple ∷ Irc ∷ PhyNotSupported ∷ FramedPduSmall ∷ UnframedMultiple ∷
     UnframedBn ∷ Horizon ∷ SubInterval ∷ SyncDelay ∷ Encrypted ∷ []
 
 abbrev pub number_of : GroupFault → ℕ

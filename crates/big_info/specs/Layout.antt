@@ -8,8 +8,7 @@ use Rattle.big_info.specs.Widths.{FitsWidths}
 
 -- the sum over the fields, of which RFU is none of the info's own
 abbrev pub number_of : BigInfo → ℕ → ℕ
-number_of info rfu =
-    info.big_offset * 2 ^ 0 + info.big_offset_units * 2 ^ 14 + info.iso_interval * 2 ^ 15 + info.num_bis * 2 ^ 27 +
+number_of info rfu = info.big_offset * 2 ^ 0 + info.big_offset_units * 2 ^ 14 + info.iso_interval * 2 ^ 15 + info.num_bis * 2 ^ 27 +
     info.nse * 2 ^ 32 + info.bn * 2 ^ 37 + info.sub_interval * 2 ^ 40 + info.pto * 2 ^ 60 +
     info.bis_spacing * 2 ^ 64 + info.irc * 2 ^ 84 + info.max_pdu * 2 ^ 88 + rfu * 2 ^ 96 +
     info.seed_access_address * 2 ^ 104 + info.sdu_interval * 2 ^ 136 + info.max_sdu * 2 ^ 156 +

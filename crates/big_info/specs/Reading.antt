@@ -11,7 +11,6 @@ use Rattle.big_info.specs.declared.info.Cipher.{Cipher}
 abbrev pub cut : ℕ → ℕ → ℕ → ℕ
 cut number first bits = number / 2 ^ first % 2 ^ bits
 
--- the fields of a number, and this cipher
 abbrev pub info_from : ℕ → Option Cipher → BigInfo
 info_from number cipher = record {
   big_offset = cut number 0 14;
@@ -36,12 +35,9 @@ info_from number cipher = record {
   cipher = cipher;
 }
 
--- GIV and GSKD
 abbrev pub cipher_from : List ℕ → Cipher
 cipher_from octets = record { giv = take 8 octets; gskd = drop 8 octets }
 
--- what octets are read as
 abbrev pub info_of : List ℕ → Result BigInfo BigFault
-info_of octets =
-    if length octets == 33 then Ok (info_from (sum_from 0 (take 33 octets)) None)
+info_of octets = if length octets == 33 then Ok (info_from (sum_from 0 (take 33 octets)) None)
     else (if length octets == 57 then Ok (info_from (sum_from 0 (take 33 octets)) (Some (cipher_from (drop 33 octets)))) else Err Length)

@@ -33,11 +33,9 @@ has_fault greatest info SubInterval = nat_lt 1 info.nse && nat_lt info.sub_inter
 has_fault greatest info SyncDelay = nat_lt (iso_us_of info) (sync_delay_of info)
 has_fault greatest info Encrypted = is_some info.cipher
 
--- the first fault, if there is one
 unfoldable pub first_fault : ℕ → BigInfo → Option GroupFault
 first_fault greatest info = find (has_fault greatest info) faults
 
--- no fault holds
 abbrev pub NoFault : ℕ → BigInfo → Type 0
 NoFault greatest info = (fault : GroupFault) → IsFalse (has_fault greatest info fault)
 

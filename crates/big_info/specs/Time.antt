@@ -12,8 +12,7 @@ mic_octets info = if is_some info.cipher then 4 else 0
 
 -- MPT: the time that the longest PDU takes on the air, at 8 µs an octet on LE 1M and 4 µs on LE 2M
 abbrev pub mpt_of : BigInfo → ℕ
-mpt_of info =
-    if info.phy == 0 then (info.max_pdu + mic_octets info + 10) * 8 else (info.max_pdu + mic_octets info + 11) * 4
+mpt_of info = if info.phy == 0 then (info.max_pdu + mic_octets info + 10) * 8 else (info.max_pdu + mic_octets info + 11) * 4
 
 -- BIG_Sync_Delay: from the anchor of an event to the end of the last PDU of its first copies
 abbrev pub sync_delay_of : BigInfo → ℕ

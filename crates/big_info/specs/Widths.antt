@@ -2,7 +2,6 @@
 use Rattle.std.specs.Prelude.{◌<◌, ◌^◌}
 use Rattle.big_info.specs.declared.info.BigInfo.{BigInfo}
 
--- each field fits its bits
 pub record FitsWidths (info : BigInfo) : Type 0 where
   pub big_offset : info.big_offset < 2 ^ 14
   pub big_offset_units : info.big_offset_units < 2 ^ 1

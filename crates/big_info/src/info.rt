@@ -8,12 +8,9 @@ pub struct Cipher {
     pub gskd: [u8; 16],
 }
 
-/// The fields of a BIGInfo in their order on the air (Core 5.2, volume 6 part B, section 4.4.6.11).
-///
-/// `iso_interval` is in units of 1.25 ms. `sub_interval`, `bis_spacing` and `sdu_interval` are in µs,
-/// `max_pdu` and `max_sdu` in octets. `big_offset` is in units of 30 µs where `big_offset_units` is 0,
-/// else of 300 µs. `phy` is 0 for LE 1M, 1 for LE 2M and 2 for LE Coded; `framing` is 0 for unframed
-/// and 1 for framed.
+/// The fields of a BIGInfo in their order on the air (Core 5.2, volume 6 part B, section 4.4.6.11). `iso_interval` is in units of 1.25 ms,
+/// `big_offset` of 30 µs where `big_offset_units` is 0, else of 300 µs. `sub_interval`, `bis_spacing` and `sdu_interval` are in µs,
+/// `max_pdu` and `max_sdu` in octets. `phy` is 0 for LE 1M, 1 for LE 2M and 2 for LE Coded; `framing` is 0 for unframed and 1 for framed.
 #[derive(Clone, Copy)]
 pub struct BigInfo {
     pub big_offset: u16,

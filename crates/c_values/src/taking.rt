@@ -1,6 +1,7 @@
 //! What C takes out of a sink.
-ghost use Rattle.std.specs.Prelude.{◌≡◌, true, false, ◌∷◌, ◌<◌, ◌≤◌, length, take, IfSome, None, ◌≢◌, []};
-ghost use Rattle.c_values.specs.Kept.{greatest_unit};
+ghost use Rattle.std.specs.Prelude.{◌≡◌, true, false, ◌∷◌, ◌<◌, ◌≤◌, List, length, take, IfSome, None, ◌≢◌, []};
+ghost use Rattle.unit_outlets.specs.Handed.{Handed};
+ghost use Rattle.c_values.specs.Kept.{IsWithin, greatest_unit};
 ghost use Rattle.c_values.specs.Sound.{waiting_as};
 ghost use Rattle.c_values.specs.Statuses.{empty, no_room, ok};
 ghost use Rattle.c_values.specs.Units.{unit_in};
@@ -38,6 +39,9 @@ fn shown(entry: &Entry, room: &mut [u8]) -> Option<VmUnit>
     ensures some { IfSome result (λ unit. unit_in unit room.new ≡ waiting_as entry.now) }
     ensures none { result ≡ None → room.new ≡ room.old }
     ensures fits { length entry.now.octets.items ≤ length room.old → result ≢ None }
+    ensures within { IsWithin (length room.old) (waiting_as entry.now) → result ≢ None }
+    ensures count { IfSome result (λ unit. unit.count ≤ length room.new) }
+    ensures lost { IfSome result (λ unit. unit.is_valid ≡ false → unit.count ≡ 0) }
 {
     if !entry.is_valid {
         return Some(VmUnit {
@@ -66,7 +70,12 @@ impl Units {
         ensures same { result ≢ ok → (self.new ≡ self.old) × (unit.new ≡ unit.old) × (room.new ≡ room.old) }
         ensures room { self.new.room ≡ self.old.room }
         ensures fits { greatest_unit ≤ length room.old → result ≢ no_room }
+        ensures within { (first : Handed) (others : List Handed) → self.old.waiting ≡ first ∷ others → IsWithin (length room.old) first
+            → result ≢ no_room }
         ensures waits { 0 < length self.old.waiting → result ≢ empty }
+        ensures count { result ≡ ok → unit.new.count ≤ length room.new }
+        ensures lost { result ≡ ok → unit.new.is_valid ≡ false → unit.new.count ≡ 0 }
+        ensures either { result ≢ ok → result ≢ empty → result ≡ no_room }
     {
         let Some(entry) = self.entries.first() else {
             return EMPTY;

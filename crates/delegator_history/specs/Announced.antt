@@ -7,13 +7,11 @@ use Rattle.announcement_train.specs.declared.train.Train.{Train as Announced}
 use Rattle.delegator_history.specs.Trains.{Train}
 use Rattle.sync_reference.specs.BigSync.{BigSync}
 
--- a train of a source of this address type and SID, as it is heard
 abbrev pub heard_as : ℕ → ℕ → Announced → Train
 heard_as address_type sid train =
     record { address_type = address_type; sid = sid; ext = train.ext; adv = train.adv; acad = train.acad; now = train.time }
 
--- what a BIGInfo tells of the group and its schedule: all but where it stands before an event, which event that is, and how
--- the PDUs are sent by radio
+-- what a BIGInfo tells of the group and its schedule: all but which event is next and when, and how the PDUs are sent by radio
 abbrev pub numbers_alone : BigInfo → BigInfo
 numbers_alone info = record info {
   big_offset = 0;

@@ -33,6 +33,5 @@ abbrev pub done_heard : ControlHeard → Done
 done_heard Left = left
 done_heard answer = nothing
 
--- what it does
 abbrev pub done_by_control : Place → List ℕ → Done
 done_by_control place octets = done_heard (control_heard place octets)

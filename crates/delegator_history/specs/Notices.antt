@@ -11,11 +11,9 @@ use Rattle.delegator_history.specs.Trains.{Setup}
 use Rattle.delegator_history.specs.Values.{value_at}
 use Rattle.receive_state.specs.Cuts.{cut}
 
--- the notice of a slot whose value changed
 abbrev pub change : ℕ → List ℕ → List ℕ → List Notice
 change slot before after = if bytes_eq before after then [] else record { slot = slot; value = after } ∷ []
 
--- the notices of a step of a sink with so many slots
 abbrev pub changes : ℕ → Snapshot → Snapshot → List Notice
 changes slots before after = flat_map (λ slot. change slot (value_at before slot) (value_at after slot)) (range_with_len 0 slots)
 

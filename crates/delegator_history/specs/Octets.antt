@@ -12,7 +12,6 @@ use Rattle.big_info.specs.Widths.{FitsWidths}
 use Rattle.announcement_train.specs.declared.train.Train.{Train}
 use Rattle.announcement_train.specs.Layout.{announced, basic_audio_announcement, info_ad, lead, service_ad}
 
--- GIV and GSKD
 abbrev pub cipher_octets : Option Cipher → List ℕ
 cipher_octets None = []
 cipher_octets (Some cipher) = cipher.giv ++ cipher.gskd
@@ -21,7 +20,6 @@ cipher_octets (Some cipher) = cipher.giv ++ cipher.gskd
 abbrev pub info_octets : BigInfo → List ℕ
 info_octets info = number 33 (number_of info 0) ++ cipher_octets info.cipher
 
--- the train of a source for the event with this anchor
 abbrev pub train_of : List ℕ → Endpoint → BigInfo → ℕ → ℕ → Train
 train_of broadcast_id base info event anchor = record {
   time = anchor - lead;

@@ -11,7 +11,6 @@ pub record Wanted : Type 0 where
   pub pa_sync : ℕ
   pub wishes : List Wish
 
--- a slot that is filled
 pub record Entry : Type 0 where
   pub source : Source
   pub wanted : Wanted
@@ -25,13 +24,10 @@ pub data Place : Type 0 where
 pub record Snapshot : Type 0 where
   pub slots : List (Option Entry)
   pub place : Place
-  -- of the slot whose train or group the sink is on: a Broadcast_Code is required
-  pub encrypted : Bool
-  -- of the slot whose group the sink is on: the streams that it takes, a number for each subgroup
-  pub taken : List ℕ
+  pub encrypted : Bool  -- of the slot whose train or group the sink is on: a Broadcast_Code is required
+  pub taken : List ℕ  -- of the slot whose group the sink is on: the streams that it takes, a number for each subgroup
   pub capability : Capability
 
--- the slot whose train or group the sink is on
 abbrev pub slot_of : Place → Option ℕ
 slot_of idle = None
 slot_of (on_train slot) = Some slot
@@ -41,16 +37,13 @@ abbrev pub is_slot : Option ℕ → ℕ → Bool
 is_slot None slot = false
 is_slot (Some other) slot = other == slot
 
--- the sink is on the train or the group of this slot
 abbrev pub is_on : Place → ℕ → Bool
 is_on place slot = is_slot (slot_of place) slot
 
--- the sink is on the group of this slot
 abbrev pub is_on_group : Place → ℕ → Bool
 is_on_group idle slot = false
 is_on_group (on_train other) slot = false
 is_on_group (on_group other) slot = is_slot other slot
 
--- what stands in a slot
 abbrev pub entry_at : List (Option Entry) → ℕ → Option Entry
 entry_at slots slot = slice_index_or slots slot None

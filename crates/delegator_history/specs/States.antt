@@ -13,7 +13,6 @@ use Rattle.delegator_history.specs.Trains.{Setup, Train, outcome_by, done_by_out
 use Rattle.sync_reference.specs.BigSync.{BigSync}
 use Rattle.delegator_history.specs.Writes.{done_by_write}
 
--- a call
 pub data Step : Type 0 where
   record_added : (entry : PacRecord) → Step  -- a record of capabilities that found room
   locations_set : (locations : ℕ) → Step
@@ -26,12 +25,10 @@ pub data Step : Type 0 where
   control_heard : (octets : List ℕ) → Step
   notified : Step  -- the next notice was asked for
 
--- a step with what the sink had before it
 pub record Answered : Type 0 where
   pub before : Snapshot
   pub done : Done
 
--- what a step does to what the sink has
 abbrev pub done_by : Setup → Snapshot → Step → Done
 done_by setup snapshot (record_added entry) = recorded entry
 done_by setup snapshot (locations_set locations) = located locations
@@ -46,13 +43,11 @@ done_by setup snapshot notified = nothing
 
 -- ---- a slot
 
--- an accepted Add gives the slot its source, an accepted Remove none
 abbrev pub source_by : ℕ → Done → Option (Option Source)
 source_by slot (added other entry) = if other == slot then Some (Some entry.source) else None
 source_by slot (removed other) = if other == slot then Some None else None
 source_by slot _ = None
 
--- an accepted Add or Modify says what is wanted
 abbrev pub wanted_by : ℕ → Done → Option Wanted
 wanted_by slot (added other entry) = if other == slot then Some entry.wanted else None
 wanted_by slot (modified other wanted) = if other == slot then Some wanted else None
@@ -76,12 +71,10 @@ entry_in steps slot = entry_from (source_in steps slot) (wanted_in steps slot)
 
 -- ---- the place, and what goes with it
 
--- a new sink is idle
 abbrev pub place_in : List Answered → Place
 place_in steps = unwrap_or (last_given (λ step. place_given step.before step.done) steps) idle
 
--- a train of the slot that answered BadGroup or later says whether a Broadcast_Code is required; none is where the sink is
--- neither on the train nor on the group of the slot
+-- a train of the slot that answered BadGroup or later says whether a Broadcast_Code is required; off its train and group none is
 abbrev pub encryption_by : ℕ → Answered → Option Bool
 encryption_by slot step = if is_on (place_after step.before step.done) slot then encryption_given step.done else Some false
 
@@ -92,7 +85,6 @@ abbrev pub encrypted_where : List Answered → Option ℕ → Bool
 encrypted_where steps None = false
 encrypted_where steps (Some slot) = encrypted_in steps slot
 
--- the train that synchronized the sink to the BIG of its slot says which streams are taken
 abbrev pub taken_in : List Answered → Place → List ℕ
 taken_in steps (on_group (Some slot)) = unwrap_or (last_given (λ step. taken_given step.done) steps) []
 taken_in steps _ = []
@@ -133,13 +125,11 @@ snapshot_in slots steps = record {
   capability = capability_in steps;
 }
 
--- each step with what the sink had before it
 unfoldable pub answered : Setup → List Step → List Answered
 answered setup [] = []
 answered setup (step ∷ earlier) =
     let before = snapshot_in setup.slots (answered setup earlier) in
     record { before = before; done = done_by setup before step } ∷ answered setup earlier
 
--- what the sink has after these steps
 abbrev pub snapshot_of : Setup → List Step → Snapshot
 snapshot_of setup steps = snapshot_in setup.slots (answered setup steps)

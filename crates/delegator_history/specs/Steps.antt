@@ -7,7 +7,6 @@ use Rattle.pacs_records.specs.declared.capability.Capability.{Capability}
 use Rattle.pacs_records.specs.declared.record.PacRecord.{PacRecord}
 use Rattle.delegator_history.specs.Snapshots.{Wanted, Entry, Place, idle, on_train, on_group, Snapshot, slot_of, is_on, is_on_group, entry_at}
 
--- what was done by a step
 pub data Done : Type 0 where
   nothing : Done
   added : (slot : ℕ) (entry : Entry) → Done  -- an accepted Add Source
@@ -25,7 +24,6 @@ pub data Done : Type 0 where
 
 -- ---- the place
 
--- the same streams are wanted
 abbrev pub same_streams : List Wish → List Wish → Bool
 same_streams wishes others = bytes_eq (map (λ wish. wish.bis_sync) wishes) (map (λ wish. wish.bis_sync) others)
 
@@ -35,18 +33,15 @@ wishes_at (Some entry) = entry.wanted.wishes
 
 -- the place after a Modify Source of a slot whose train or group the sink is on, where it changes
 abbrev pub place_wanted : Snapshot → ℕ → Wanted → Option Place
-place_wanted snapshot slot wanted =
-    if wanted.pa_sync == 0 then Some idle
+place_wanted snapshot slot wanted = if wanted.pa_sync == 0 then Some idle
     else (if is_on_group snapshot.place slot && not (same_streams wanted.wishes (wishes_at (entry_at snapshot.slots slot))) then Some (on_train slot) else None)
 
--- the place after the group was left
 abbrev pub place_left : Place → Option Place
 place_left idle = None
 place_left (on_train slot) = None
 place_left (on_group None) = Some idle
 place_left (on_group (Some slot)) = Some (on_train slot)
 
--- the place that a step gives the sink, where it gives one
 abbrev pub place_given : Snapshot → Done → Option Place
 place_given snapshot (modified slot wanted) = if is_on snapshot.place slot then place_wanted snapshot slot wanted else None
 place_given snapshot tuned = Some (on_group None)

@@ -26,8 +26,7 @@ use Rattle.delegator_history.specs.Snapshots.{Entry, Place, Snapshot, idle, on_t
 use Rattle.delegator_history.specs.Steps.{Done, nothing, followed, joined, wishes_at}
 use Rattle.delegator_history.specs.Writes.{has, has_source, slot_where}
 
--- what is heard of a train: the data of its extended and its periodic advertising and of its additional controller data,
--- and the time in µs
+-- what is heard of a train: the data of the extended and of the periodic advertising, its ACAD, and the time in µs
 pub record Train : Type 0 where
   pub address_type : ℕ
   pub sid : ℕ
@@ -42,12 +41,10 @@ pub record Setup : Type 0 where
   pub slots : ℕ
   pub horizon : ℕ
 
--- what a sink is made with: its limits, and the MTU of its links, where one is set
 pub record Settings : Type 0 where
   pub setup : Setup
   pub mtu : Option ℕ
 
--- what a train brings, with the slot that it is of
 pub data TrainOutcome : Type 0 where
   ignored : (answer : TrainHeard) → TrainOutcome  -- one of the first four answers
   heard : (slot : ℕ) (answer : TrainHeard) (encrypted : Option Bool) → TrainOutcome  -- NoBase to NoneTaken
@@ -60,7 +57,6 @@ abbrev pub is_candidate : Capability → Endpoint → ℕ → ℕ → Subgroup �
 is_candidate capability base num_bis bits subgroup bis =
     stands_in (map bis_of subgroup.entries) bis && ((bit_at bits (bis - 1) == 1) && (nat_le bis num_bis && is_none (stream_not_taken capability base bis)))
 
--- the candidates of a subgroup, rising
 abbrev pub candidates : Capability → Endpoint → ℕ → ℕ → Subgroup → List ℕ
 candidates capability base num_bis bits subgroup = filter (is_candidate capability base num_bis bits subgroup) (range_with_len 1 31)
 
@@ -80,7 +76,6 @@ first_candidates capability base num_bis room (wish ∷ wishes) (subgroup ∷ su
     take room all ∷ first_candidates capability base num_bis (room - length all) wishes subgroups
 first_candidates capability base num_bis room wishes subgroups = []
 
--- no stream stands in any of them
 abbrev pub are_none : List (List ℕ) → Bool
 are_none lists = length (concat lists) == 0
 
@@ -94,7 +89,6 @@ found_in find (Err place) = None
 abbrev pub base_in : List ℕ → Option (List ℕ)
 base_in adv = found_in (first_service 0x1851) (ads_of adv)
 
--- the structure of the BIGInfo
 abbrev pub big_info_in : List ℕ → Option (List ℕ)
 big_info_in acad = found_in (first_of 0x2C) (ads_of acad)
 
@@ -115,8 +109,7 @@ big_sync_of train base info which = record {
 
 -- a sink takes one stream at least, so there is no candidate exactly where no stream is among the first
 abbrev pub by_streams : ℕ → Train → Endpoint → BigInfo → Bool → List (List ℕ) → TrainOutcome
-by_streams slot train base info encrypted streams =
-    if are_none streams then heard slot answers.NoneTaken (Some encrypted)
+by_streams slot train base info encrypted streams = if are_none streams then heard slot answers.NoneTaken (Some encrypted)
     else taken slot (map (set_with 0) streams) encrypted (big_sync_of train base info (sets_with 0 streams))
 
 abbrev pub by_group : Setup → Capability → List Wish → ℕ → Train → Endpoint → BigInfo → Bool → Option GroupFault → TrainOutcome
@@ -140,7 +133,6 @@ abbrev pub by_base : Setup → Capability → List Wish → ℕ → Train → Op
 by_base setup capability wishes slot train None = heard slot answers.NoBase None
 by_base setup capability wishes slot train (Some octets) = by_endpoint setup capability wishes slot train (base_of octets)
 
--- the sink is elsewhere: on the train or the group of another slot, or on a group of no slot
 abbrev pub is_elsewhere : Place → ℕ → Bool
 is_elsewhere idle slot = false
 is_elsewhere (on_train other) slot = not (other == slot)
@@ -148,12 +140,10 @@ is_elsewhere (on_group other) slot = not (is_on_group (on_group other) slot)
 
 abbrev pub by_slot : Setup → Snapshot → Train → Option ℕ → TrainOutcome
 by_slot setup snapshot train None = ignored answers.NotWanted
-by_slot setup snapshot train (Some slot) =
-    if is_elsewhere snapshot.place slot then ignored answers.OtherTrain
+by_slot setup snapshot train (Some slot) = if is_elsewhere snapshot.place slot then ignored answers.OtherTrain
     else (if is_on_group snapshot.place slot then ignored answers.AlreadyOnGroup
     else by_base setup snapshot.capability (wishes_at (entry_at snapshot.slots slot)) slot train (base_in train.adv))
 
--- the slot has the source, and its train is wanted
 abbrev pub is_wanted : ℕ → ℕ → List ℕ → Option Entry → Bool
 is_wanted address_type sid broadcast_id slot = has_source address_type sid broadcast_id slot && has (λ entry. not (entry.wanted.pa_sync == 0)) slot
 
@@ -161,11 +151,9 @@ abbrev pub by_broadcast_id : Setup → Snapshot → Train → Option (List ℕ) 
 by_broadcast_id setup snapshot train None = ignored answers.NoBroadcastId
 by_broadcast_id setup snapshot train (Some id) = by_slot setup snapshot train (slot_where (is_wanted train.address_type train.sid id) 0 snapshot.slots)
 
--- what a train brings
 abbrev pub outcome_by : Setup → Snapshot → Train → TrainOutcome
 outcome_by setup snapshot train = by_broadcast_id setup snapshot train (broadcast_id_of train.ext)
 
--- the group that it puts the sink on
 abbrev pub big_sync_in : TrainOutcome → Option BigSync
 big_sync_in (ignored answer) = None
 big_sync_in (heard slot answer encrypted) = None
@@ -176,7 +164,6 @@ answer_of (ignored answer) = answer
 answer_of (heard slot answer encrypted) = answer
 answer_of (taken slot bits encrypted big_sync) = answers.OnGroup big_sync.which
 
--- what it does
 abbrev pub done_by_outcome : TrainOutcome → Done
 done_by_outcome (ignored answer) = nothing
 done_by_outcome (heard slot answer encrypted) = followed slot encrypted

@@ -44,11 +44,9 @@ received status entry = record {
   groups = groups_from 0 status.bits entry.wanted.wishes;
 }
 
--- the state of a slot
 abbrev pub state_at : Snapshot → ℕ → Option ReceiveState
 state_at snapshot slot = option_map (received (status_of snapshot.place snapshot.encrypted snapshot.taken slot)) (entry_at snapshot.slots slot)
 
--- the octets of a state
 abbrev pub value : Option ReceiveState → List ℕ
 value None = []
 value (Some state) = encoding state

@@ -25,7 +25,6 @@ abbrev pub slot_where : (Option Entry → Bool) → ℕ → List (Option Entry) 
 slot_where test place [] = None
 slot_where test place (slot ∷ slots) = if test slot then Some place else slot_where test (place + 1) slots
 
--- the slot is filled, and its entry meets the test
 abbrev pub has : (Entry → Bool) → Option Entry → Bool
 has test None = false
 has test (Some entry) = test entry
@@ -33,7 +32,6 @@ has test (Some entry) = test entry
 abbrev pub has_id : ℕ → Option Entry → Bool
 has_id source_id slot = has (λ entry. entry.source.source_id == source_id) slot
 
--- the slot has the source of this address type, SID and Broadcast_ID
 abbrev pub has_source : ℕ → ℕ → List ℕ → Option Entry → Bool
 has_source address_type sid broadcast_id slot = has (λ entry. (entry.source.address_type == address_type) && ((entry.source.sid == sid) && bytes_eq entry.source.broadcast_id broadcast_id)) slot
 
@@ -70,13 +68,11 @@ operated slots (Remove source_id) = removed (unwrap_or (slot_with source_id slot
 
 -- ---- the causes
 
--- the value that an Add or a Modify Source gives a slot
 abbrev pub value_written : Snapshot → Done → List ℕ
 value_written snapshot (added slot entry) = value_at (after (added slot entry) snapshot) slot
 value_written snapshot (modified slot wanted) = value_at (after (modified slot wanted) snapshot) slot
 value_written snapshot done = []
 
--- synchronised, or a bit of a stream is set
 abbrev pub is_synced : Option ReceiveState → Bool
 is_synced None = false
 is_synced (Some state) = (state.pa_sync_state == 2) || list_any (λ group. nat_lt 0 group.bis_sync_state) state.groups
@@ -84,7 +80,6 @@ is_synced (Some state) = (state.pa_sync_state == 2) || list_any (λ group. nat_l
 abbrev pub is_unknown : List (Option Entry) → ℕ → Bool
 is_unknown slots source_id = is_none (slot_with source_id slots)
 
--- the cause holds of an operation
 abbrev pub holds : Snapshot → Operation → Cause → Bool
 holds snapshot (Modify modify) causes.SourceUnknown = is_unknown snapshot.slots modify.source_id
 holds snapshot (Code source_id code) causes.SourceUnknown = is_unknown snapshot.slots source_id
@@ -97,11 +92,9 @@ holds snapshot (Modify modify) causes.ValueTooLong = nat_lt 512 (length (value_w
 holds snapshot (Remove source_id) causes.StillSynced = is_synced (state_at snapshot (unwrap_or (slot_with source_id snapshot.slots) 0))
 holds snapshot _ _ = false
 
--- the causes of an operation, in the order of test
 abbrev pub operation_causes : List Cause
 operation_causes = causes.SourceUnknown ∷ causes.NoDecrypt ∷ causes.Known ∷ causes.NoRoom ∷ causes.ValueTooLong ∷ causes.StillSynced ∷ []
 
--- the causes of octets that are no operation come first
 abbrev pub cause_of_fault : OpFault → Option Cause
 cause_of_fault faults.Empty = Some causes.Empty
 cause_of_fault faults.Opcode = Some causes.Opcode
@@ -114,7 +107,6 @@ abbrev pub cause_read : Snapshot → Result Operation OpFault → Option Cause
 cause_read snapshot (Err fault) = cause_of_fault fault
 cause_read snapshot (Ok op) = find (holds snapshot op) operation_causes
 
--- the first cause that holds
 abbrev pub cause_of : Snapshot → List ℕ → Option Cause
 cause_of snapshot octets = cause_read snapshot (op_of octets)
 
@@ -138,6 +130,5 @@ abbrev pub done_read : Snapshot → Result Operation OpFault → Option Cause �
 done_read snapshot (Ok op) None = operated snapshot.slots op
 done_read snapshot read cause = nothing
 
--- what a write does
 abbrev pub done_by_write : Snapshot → List ℕ → Done
 done_by_write snapshot octets = done_read snapshot (op_of octets) (cause_of snapshot octets)

@@ -23,11 +23,9 @@ by_numbers big_sync = record big_sync { info = numbers_alone big_sync.info }
 
 -- ---- what the receivers take
 
--- the group is left where the sink was on one, and is on none now
 abbrev pub with_leave : Bool → Bool → List sinks.Call → List sinks.Call
 with_leave was is calls = if was && not is then sinks.leave ∷ calls else calls
 
--- a step synchronizes the sink to a BIG, or may take it off one
 abbrev pub with_step : Option BigSync → Snapshot → Snapshot → List sinks.Call → List sinks.Call
 with_step (Some big_sync) before after calls = sinks.tune (by_numbers big_sync) ∷ calls
 with_step None before after calls = with_leave (has_group before.place) (has_group after.place) calls

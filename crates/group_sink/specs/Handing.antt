@@ -11,12 +11,10 @@ use Rattle.group_sink.specs.Calls.{Call, tune, hear, tick, leave, place}
 use Rattle.sync_reference.specs.BigSync.{BigSync}
 use Rattle.group_sink.specs.Streams.{stay_on, stream_calls, streams_of}
 
--- what the next close of a stream hands: of an unframed one the units of the open event, of a framed one those that it
--- decides
+-- what the next close of a stream hands: unframed, the units of the open event; framed, those that it decides
 abbrev pub units_at_close : Stay → List stays.Call → List Handed
 units_at_close stay calls = if stay.info.framing == 0 then units_of stay calls (opened stay calls) else gained stay calls
 
--- the same, where all events up to this one are over
 abbrev pub units_by : ℕ → Stay → List stays.Call → List Handed
 units_by event stay calls = if nat_le (opened stay calls) event then units_at_close stay calls else []
 
@@ -27,7 +25,6 @@ abbrev pub handed_by : ℕ → List Call → Option BigSync → List Handed
 handed_by event calls None = []
 handed_by event calls (Some big_sync) = flat_map (units_on event calls big_sync) (streams_of big_sync.which)
 
--- what a tick with this event hands after these calls
 abbrev pub handed_at : List Call → ℕ → List Handed
 handed_at calls event = handed_by event calls (place calls)
 
@@ -39,11 +36,9 @@ handed_since (hear event bis subevent octets ∷ calls) = handed_since calls
 handed_since (tick event ∷ calls) = handed_since calls ++ handed_at calls event
 handed_since (leave ∷ calls) = []
 
--- the stream of which a unit is handed
 abbrev pub bis_of : Handed → ℕ
 bis_of (valid bis time octets) = bis
 bis_of (lost bis time) = bis
 
--- what is handed of a stream
 abbrev pub of_stream : ℕ → List Handed → List Handed
 of_stream bis entries = filter (λ entry. bis_of entry == bis) entries

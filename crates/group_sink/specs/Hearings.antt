@@ -21,11 +21,9 @@ use Rattle.group_sink.specs.Streams.{is_in, stay_on, number_of, stream_calls}
 abbrev pub entries_of : Stay → List stays.Call → List (Option Content)
 entries_of stay calls = map (heard_in stay calls) (range_with_len (opened stay calls * stay.info.bn) (window_of stay.info))
 
--- and of a framed one
 abbrev pub segments_of : Stay → List stays.Call → List (Option (List Part))
 segments_of stay calls = map (segments_in stay calls) (range_with_len (opened stay calls * stay.info.bn) (window_of stay.info))
 
--- the answer of a stream after these calls, by the framing of its group
 abbrev pub heard_on : Stay → List stays.Call → ℕ → List ℕ → Heard
 heard_on stay calls number octets =
     if stay.info.framing == 0 then answer_of unframed stay.info (opened stay calls) (entries_of stay calls) number octets
@@ -37,11 +35,9 @@ hearing_on stay calls (Some number) octets = hearings.Heard (heard_on stay calls
 
 abbrev pub hearing_at : Option BigSync → List Call → ℕ → ℕ → ℕ → List ℕ → Hearing
 hearing_at None calls event bis subevent octets = hearings.NotOnGroup
-hearing_at (Some big_sync) calls event bis subevent octets =
-    if is_in big_sync.which bis
+hearing_at (Some big_sync) calls event bis subevent octets = if is_in big_sync.which bis
     then hearing_on (stay_on big_sync bis) (stream_calls (stay_on big_sync bis) calls) (number_of big_sync.info event subevent) octets
     else hearings.NotTaken
 
--- the answer after these calls to a PDU in a subevent of an event of a stream
 abbrev pub hearing_of : List Call → ℕ → ℕ → ℕ → List ℕ → Hearing
 hearing_of calls event bis subevent octets = hearing_at (place calls) calls event bis subevent octets

@@ -10,36 +10,24 @@ use Rattle.isoal_base.specs.Stays.{Stay, opened}
 use Rattle.group_sink.specs.Calls.{Call, tune, hear, tick, leave}
 use Rattle.sync_reference.specs.BigSync.{BigSync}
 
--- the stream of this index is in the set
 abbrev pub is_in : ℕ → ℕ → Bool
 is_in set bis = bit_at set (bis - 1) == 1
 
--- the indices of a set, rising
 abbrev pub streams_of : ℕ → List ℕ
 streams_of set = filter (is_in set) (range_with_len 1 31)
 
--- the stay on a stream
 abbrev pub stay_on : BigSync → ℕ → Stay
-stay_on big_sync bis = record {
-  info = big_sync.info;
-  bis = bis;
-  first = big_sync.first;
-  origin = big_sync.anchor;
-  delay = big_sync.delay;
-}
+stay_on big_sync bis = record { info = big_sync.info; bis = bis; first = big_sync.first; origin = big_sync.anchor; delay = big_sync.delay }
 
 -- the payload number of a subevent of an event: none where the group has no such subevent or the number reaches 2^39
 abbrev pub number_of : BigInfo → ℕ → ℕ → Option ℕ
-number_of info event subevent =
-    if nat_lt subevent info.nse && nat_lt (payload_number info event subevent) (2 ^ 39)
+number_of info event subevent = if nat_lt subevent info.nse && nat_lt (payload_number info event subevent) (2 ^ 39)
     then Some (payload_number info event subevent) else None
 
--- a PDU is heard under its payload number, where it has one
 abbrev pub with_hear : Option ℕ → List ℕ → List stays.Call → List stays.Call
 with_hear None octets calls = calls
 with_hear (Some number) octets calls = stays.hear number octets ∷ calls
 
--- the open event is closed where it is at most this event
 abbrev pub with_tick : Stay → ℕ → List stays.Call → List stays.Call
 with_tick stay event calls = if nat_le (opened stay calls) event then stays.close ∷ calls else calls
 
@@ -48,13 +36,11 @@ abbrev pub stream_calls : Stay → List Call → List stays.Call
 stream_calls stay [] = []
 stream_calls stay (tune big_sync ∷ calls) = []
 stream_calls stay (hear event bis subevent octets ∷ calls) =
-    if bis == stay.bis then with_hear (number_of stay.info event subevent) octets (stream_calls stay calls)
-    else stream_calls stay calls
+    if bis == stay.bis then with_hear (number_of stay.info event subevent) octets (stream_calls stay calls) else stream_calls stay calls
 stream_calls stay (tick event ∷ calls) = with_tick stay event (stream_calls stay calls)
 stream_calls stay (leave ∷ calls) = []
 
--- how many events were closed since the sink was synchronized to the BIG, or left it: the ticks that found the open event at most
--- theirs
+-- how many events were closed since the last `tune` or `leave`: the ticks that found the open event at most theirs
 abbrev pub closes : BigSync → List Call → ℕ
 closes big_sync [] = 0
 closes big_sync (tune other ∷ calls) = 0

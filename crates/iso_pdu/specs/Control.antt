@@ -27,7 +27,6 @@ abbrev pub terminate_of : List ℕ → Result Control ControlFault
 terminate_of (reason ∷ low ∷ high ∷ []) = Ok (Terminate reason (low + 256 * high))
 terminate_of _ = Err ControlLength
 
--- what a control payload is read as
 unfoldable pub control_of : List ℕ → Result Control ControlFault
 control_of [] = Err Opcode
 control_of (zero ∷ fields) = if length fields == 7 then Ok ChannelMap else Err ControlLength

@@ -10,14 +10,12 @@ pub data Part : Type 0 where
   start : (offset : ℕ) (complete : Bool) (octets : List ℕ) → Part
   more : (complete : Bool) (octets : List ℕ) → Part
 
--- what a PDU holds
 pub data Content : Type 0 where
   end : (octets : List ℕ) → Content
   fragment : (octets : List ℕ) → Content
   framed : (parts : List Part) → Content
   control : (octets : List ℕ) → Content
 
--- a flag as a bit
 abbrev pub bit : Bool → ℕ
 bit false = 0
 bit true = 1
@@ -43,7 +41,6 @@ SegmentsAre [] payload = payload ≡ []
 SegmentsAre (part ∷ parts) payload =
     (first : List ℕ) × (others : List ℕ) × SegmentIs part first × SegmentsAre parts others × (payload ≡ first ++ others)
 
--- LLID
 abbrev pub llid : Content → ℕ
 llid (end octets) = 0
 llid (fragment octets) = 1

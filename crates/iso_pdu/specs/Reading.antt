@@ -9,23 +9,18 @@ use Rattle.iso_pdu.specs.Layout.{Part, start, more, Content, end, fragment, fram
 
 -- the segment of this header and of the octets that its Length counts
 abbrev pub part_at : ℕ → List ℕ → Part
-part_at header body =
-    if header % 2 == 1 then more (header / 2 % 2 == 1) body
+part_at header body = if header % 2 == 1 then more (header / 2 % 2 == 1) body
     else start (sum_from 0 (take 3 body)) (header / 2 % 2 == 1) (drop 3 body)
 
 -- what is wrong with a segment at this place, of this header and Length, that so many octets follow
 abbrev pub fault_at : ℕ → ℕ → ℕ → ℕ → Option PduFault
-fault_at place header count left =
-    if nat_lt left count then Some (SegmentShort place)
-    else if (header % 2 == 0) && nat_lt count 3 then Some (SegmentNoOffset place)
-    else None
+fault_at place header count left = if nat_lt left count then Some (SegmentShort place)
+    else if (header % 2 == 0) && nat_lt count 3 then Some (SegmentNoOffset place) else None
 
--- a segment, and what is read behind it
 abbrev pub before : Part → Result (List Part) PduFault → Result (List Part) PduFault
 before part (Ok parts) = Ok (part ∷ parts)
 before part (Err fault) = Err fault
 
--- what is read, unless there is a fault
 abbrev pub unless : Option PduFault → Result (List Part) PduFault → Result (List Part) PduFault
 unless None read = read
 unless (Some fault) read = Err fault
@@ -36,8 +31,7 @@ parts_from place (suc inside) (octet ∷ octets) = parts_from (place + 1) inside
 parts_from place (suc inside) [] = Ok []
 parts_from place zero [] = Ok []
 parts_from place zero (header ∷ []) = Err (SegmentShort place)
-parts_from place zero (header ∷ count ∷ octets) =
-    unless (fault_at place header count (length octets))
+parts_from place zero (header ∷ count ∷ octets) = unless (fault_at place header count (length octets))
     (before (part_at header (take count octets)) (parts_from (place + 1) (suc count) (count ∷ octets)))
 
 -- so many octets at the front, which is at this place, are a whole segment: the first fault is that of what follows
@@ -46,7 +40,6 @@ pub record IsPassed (place : ℕ) (octets : List ℕ) (count : ℕ) : Type 0 whe
   pub within : count ≤ length octets
   pub same : result_err (parts_from (place + count) 0 (drop count octets)) ≡ result_err (parts_from place 0 octets)
 
--- the segments of a payload
 abbrev pub parts_of : List ℕ → Result (List Part) PduFault
 parts_of payload = parts_from 0 0 payload
 
@@ -58,7 +51,6 @@ abbrev pub framed_of : Result (List Part) PduFault → Result Content PduFault
 framed_of (Ok parts) = Ok (framed parts)
 framed_of (Err fault) = Err fault
 
--- a payload under its LLID
 abbrev pub content_at : ℕ → List ℕ → Result Content PduFault
 content_at zero payload = Ok (end payload)
 content_at (suc zero) payload = Ok (fragment payload)
@@ -70,5 +62,4 @@ unfoldable pub read_of : ℕ → List ℕ → Result Content PduFault
 read_of max_pdu [] = Err Short
 read_of max_pdu (header ∷ []) = Err Short
 read_of max_pdu (header ∷ count ∷ payload) =
-    if count == length payload then (if nat_lt max_pdu count then Err TooLong else content_at (header % 4) payload)
-    else Err LengthDiffers
+    if count == length payload then (if nat_lt max_pdu count then Err TooLong else content_at (header % 4) payload) else Err LengthDiffers

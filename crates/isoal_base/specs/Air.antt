@@ -23,7 +23,6 @@ pub record Entry : Type 0 where
 abbrev pub Air : Type 0
 Air = List Entry
 
--- an event of an air
 abbrev pub event_at : Air → ℕ → Option Laid
 event_at [] event = None
 event_at (entry ∷ earlier) event = if length earlier == event then Some entry.event else event_at earlier event
@@ -32,7 +31,6 @@ event_at (entry ∷ earlier) event = if length earlier == event then Some entry.
 abbrev pub pdu_at : ℕ → Air → ℕ → Option (List ℕ)
 pdu_at bn air number = option_and_then (λ event. slice_get event.pdus (number % bn)) (event_at air (number / bn))
 
--- how many units of an air have begun: have a slot of their own, have started or were left out
 abbrev pub begun_in : Air → ℕ
 begun_in [] = 0
 begun_in (entry ∷ earlier) = entry.begun

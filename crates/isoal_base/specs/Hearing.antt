@@ -10,7 +10,6 @@ use Rattle.isoal_base.specs.declared.heard.Heard.{Heard}
 use Rattle.isoal_base.specs.declared.heard.Heard.TheVariants.{Malformed, WrongKind, Late, Beyond, Repeat, Kept}
 use Rattle.isoal_base.specs.Stays.{window_of}
 
--- what a framing takes of octets, if they are a PDU of the framing
 abbrev pub taken_of : {A : Type 0} → (Content → Option A) → Result Content PduFault → Option A
 taken_of takes (Ok content) = takes content
 taken_of takes (Err fault) = None
@@ -20,11 +19,9 @@ read_as takes max_pdu octets = taken_of takes (read_of max_pdu octets)
 
 -- the answer to a PDU of the framing, where this event is open and these entries are kept from its first number on
 abbrev pub placing : {A : Type 0} → BigInfo → ℕ → List (Option A) → ℕ → Heard
-placing info event kept number =
-    if nat_lt number (event * info.bn) then Late
+placing info event kept number = if nat_lt number (event * info.bn) then Late
     else if nat_lt number (event * info.bn + window_of info) then
-    (if is_some (slice_index_or kept (number - event * info.bn) None) then Repeat else Kept)
-    else Beyond
+    (if is_some (slice_index_or kept (number - event * info.bn) None) then Repeat else Kept) else Beyond
 
 abbrev pub of_framing : {A : Type 0} → Option A → Heard → Heard
 of_framing None answer = WrongKind
@@ -35,8 +32,7 @@ unless_malformed takes (Err fault) answer = Malformed fault
 unless_malformed takes (Ok content) answer = of_framing (takes content) answer
 
 abbrev pub answer_of : {A : Type 0} → (Content → Option A) → BigInfo → ℕ → List (Option A) → ℕ → List ℕ → Heard
-answer_of takes info event kept number octets =
-    unless_malformed takes (read_of info.max_pdu octets) (placing info event kept number)
+answer_of takes info event kept number octets = unless_malformed takes (read_of info.max_pdu octets) (placing info event kept number)
 
 -- the entries after this answer
 abbrev pub kept_by : {A : Type 0} → Heard → List (Option A) → ℕ → Option A → List (Option A)

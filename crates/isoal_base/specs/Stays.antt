@@ -29,8 +29,7 @@ InWindow stay event number =
     (event ≤ number / stay.info.bn) × (number / stay.info.bn ≤ event + horizon_of stay.info)
 
 abbrev pub is_in_window : Stay → ℕ → ℕ → Bool
-is_in_window stay event number =
-    nat_le event (number / stay.info.bn) && nat_le (number / stay.info.bn) (event + horizon_of stay.info)
+is_in_window stay event number = nat_le event (number / stay.info.bn) && nat_le (number / stay.info.bn) (event + horizon_of stay.info)
 
 -- what a call enters for a payload number while this event is open: what a PDU of that number and of the window is read as
 abbrev pub entry_of : {A : Type 0} → (List ℕ → Option A) → Stay → ℕ → ℕ → Call → Option A
@@ -41,8 +40,7 @@ entry_of read stay event number (hear heard_number octets) =
 -- Heard: what is kept of a payload number, the first entry for it
 abbrev pub heard : {A : Type 0} → (List ℕ → Option A) → Stay → List Call → ℕ → Option A
 heard read stay [] number = None
-heard read stay (call ∷ calls) number =
-    option_or (heard read stay calls number) (entry_of read stay (opened stay calls) number call)
+heard read stay (call ∷ calls) number = option_or (heard read stay calls number) (entry_of read stay (opened stay calls) number call)
 
 -- after these calls a PDU of this number and these octets meets all conditions, and is read as this
 pub record Enters {A : Type 0} (read : List ℕ → Option A) (stay : Stay) (number : ℕ) (part : A) (octets : List ℕ) (earlier : List Call) : Type 0 where

@@ -15,7 +15,6 @@ AllCome max_pdu units anchor earlier [] = Unit {0}
 AllCome max_pdu units anchor earlier (act ∷ acts) =
     AllCome max_pdu units anchor earlier acts × Comes (place_of max_pdu units anchor (acts ++ earlier)) act
 
--- how many PDUs end
 abbrev pub pdus_ended : List Act → ℕ
 pdus_ended [] = 0
 pdus_ended (carries count complete ∷ acts) = pdus_ended acts
@@ -27,11 +26,9 @@ pub record IsEvent (info : BigInfo) (units : List Timed) (anchor : ℕ) (earlier
   pub come : AllCome info.max_pdu units anchor earlier (ends ∷ acts)
   pub all : pdus_ended (ends ∷ acts) ≡ info.bn
 
--- the segment of an act
 abbrev pub part_of : ℕ → ℕ → Option Timed → ℕ → Bool → Part
 part_of anchor sent None count complete = more complete []
-part_of anchor sent (Some unit) count complete =
-    if sent == 0 then start (anchor - unit.time) complete (take count unit.octets)
+part_of anchor sent (Some unit) count complete = if sent == 0 then start (anchor - unit.time) complete (take count unit.octets)
     else more complete (take count (drop sent unit.octets))
 
 abbrev pub time_in : Option Timed → List ℕ
@@ -41,21 +38,17 @@ time_in (Some unit) = unit.time ∷ []
 -- the segments of the PDU that hasn't ended
 abbrev pub open_parts : List Timed → ℕ → List Act → List Act → List Part
 open_parts units anchor earlier [] = []
-open_parts units anchor earlier (carries count complete ∷ acts) =
-    open_parts units anchor earlier acts
+open_parts units anchor earlier (carries count complete ∷ acts) = open_parts units anchor earlier acts
     ++ part_of anchor (sent (acts ++ earlier)) (slice_get units (done (acts ++ earlier))) count complete ∷ []
 open_parts units anchor earlier (leaves_out ∷ acts) = open_parts units anchor earlier acts
 open_parts units anchor earlier (ends ∷ acts) = []
 
--- the PDUs that have ended
 abbrev pub pdus_of : List Timed → ℕ → List Act → List Act → List (List ℕ)
 pdus_of units anchor earlier [] = []
 pdus_of units anchor earlier (carries count complete ∷ acts) = pdus_of units anchor earlier acts
 pdus_of units anchor earlier (leaves_out ∷ acts) = pdus_of units anchor earlier acts
-pdus_of units anchor earlier (ends ∷ acts) =
-    pdus_of units anchor earlier acts ++ pdu (framed (open_parts units anchor earlier acts)) ∷ []
+pdus_of units anchor earlier (ends ∷ acts) = pdus_of units anchor earlier acts ++ pdu (framed (open_parts units anchor earlier acts)) ∷ []
 
--- the times of the units left out
 abbrev pub stale_of : List Timed → List Act → List Act → List ℕ
 stale_of units earlier [] = []
 stale_of units earlier (carries count complete ∷ acts) = stale_of units earlier acts

@@ -7,17 +7,14 @@ pub data Call : Type 0 where
   accept : (time : ℕ) (octets : List ℕ) → Call
   lay : (anchor : ℕ) → Call
 
--- a unit with its time
 abbrev pub Timed : Type 0
 Timed = AudioUnit
 
--- the units accepted, in the order of acceptance
 abbrev pub accepted : List Call → List Timed
 accepted [] = []
 accepted (accept time octets ∷ earlier) = accepted earlier ++ record { time = time; octets = octets } ∷ []
 accepted (lay anchor ∷ earlier) = accepted earlier
 
--- the time of the last one
 abbrev pub last_time : List Call → Option ℕ
 last_time [] = None
 last_time (accept time octets ∷ earlier) = Some time
@@ -28,7 +25,6 @@ pub record Laying : Type 0 where
   pub anchor : ℕ
   pub units : ℕ
 
--- the events laid, in order
 abbrev pub layings_of : List Call → List Laying
 layings_of [] = []
 layings_of (accept time octets ∷ earlier) = layings_of earlier

@@ -9,20 +9,16 @@ use Rattle.isoal_base.specs.Hearing.{read_as}
 use Rattle.isoal_framed.specs.Tokens.{Token, segmented, tokens_of}
 use Rattle.isoal_framed.specs.Units.{Run, units, undecided_run}
 
--- Heard, for a framed stream
 abbrev pub heard_in : Stay → List Call → ℕ → Option (List Part)
 heard_in stay calls number = heard (read_as segmented stay.info.max_pdu) stay calls number
 
--- the tokens of an event, in the order of its numbers
 abbrev pub event_tokens : Stay → List Call → ℕ → List Token
 event_tokens stay calls event =
     flat_map (λ number. tokens_of stay event (heard_in stay calls number)) (range_with_len (event * stay.info.bn) stay.info.bn)
 
--- the tokens of the closed events
 abbrev pub closed_tokens : Stay → List Call → List Token
 closed_tokens stay calls = flat_map (event_tokens stay calls) (range_with_len stay.first (opened stay calls - stay.first))
 
--- the units that are decided by the closed events
 abbrev pub decided : Stay → List Call → List Handed
 decided stay calls = units stay.info.max_sdu stay.bis (closed_tokens stay calls)
 

@@ -20,7 +20,6 @@ pub record IsTimed (bn : ℕ) (laid : List Laying) (number : ℕ) (accepted : Ti
   pub ready : accepted.time ≤ laying.anchor
   pub offset : unit.offset ≡ laying.anchor - accepted.time
 
--- it is this accepted unit, which has this number
 pub record IsOf (bn : ℕ) (laid : List Laying) (number : ℕ) (accepted : Timed) (unit : Sent) : Type 0 where
   pub octets : unit.whole ≡ true → octets_in unit.segments ≡ accepted.octets
   pub timed : IsTimed bn laid number accepted unit
@@ -32,11 +31,9 @@ AreOf bn laid number [] (unit ∷ units) = ⊥
 AreOf bn laid number (first ∷ accepted) (unit ∷ units) =
     (IsOf bn laid number first unit × AreOf bn laid (number + 1) accepted units) ⊎ AreOf bn laid (number + 1) accepted (unit ∷ units)
 
--- the PDUs of each event are those of these units at its numbers
 abbrev pub EventsAre : BigInfo → Air → List Sent → Type 0
 EventsAre info [] units = Unit {0}
-EventsAre info (entry ∷ earlier) units =
-    EventsAre info earlier units
+EventsAre info (entry ∷ earlier) units = EventsAre info earlier units
     × (entry.event.pdus ≡ map (λ number. pdu (framed (parts_at units number))) (range_with_len (length earlier * info.bn) info.bn))
 
 pub record Sends (info : BigInfo) (calls : List Call) (air : Air) (units : List Sent) : Type 0 where

@@ -37,7 +37,6 @@ carried from offset [] whole number = []
 carried from offset (octets ∷ segments) whole number =
     if from == number then part_with offset (whole && is_last segments) octets ∷ [] else carried (from + 1) None segments whole number
 
--- the segments in the PDU of a number: those of each unit, in order
 abbrev pub parts_at : List Sent → ℕ → List Part
 parts_at units number = flat_map (λ unit. carried unit.first (Some unit.offset) unit.segments unit.whole number) units
 
@@ -49,7 +48,6 @@ InOrder from laid (unit ∷ units) =
     (from ≤ unit.first) × (1 ≤ length unit.segments) × (unit.whole ≡ false → (units ≡ []) × (laid ≤ behind unit))
     × InOrder (behind unit - 1) laid units
 
--- none has more than Max_SDU octets
 abbrev pub Fit : ℕ → List Sent → Type 0
 Fit max_sdu units = AllByRecursion (λ unit. length (octets_in unit.segments) ≤ max_sdu) units
 
@@ -65,7 +63,6 @@ is_heard stay calls number = is_some (heard_in stay calls number)
 abbrev pub closed_end : Stay → List Call → ℕ
 closed_end stay calls = opened stay calls * stay.info.bn
 
--- the first of a unit's numbers that isn't heard
 abbrev pub first_missing : (ℕ → Bool) → ℕ → List (List ℕ) → Option ℕ
 first_missing heard number [] = None
 first_missing heard number (octets ∷ segments) = if heard number then first_missing heard (number + 1) segments else Some number
@@ -73,16 +70,13 @@ first_missing heard number (octets ∷ segments) = if heard number then first_mi
 -- the entry of a unit whose start is heard: valid where it is wholly laid, all numbers that carry it are heard and their
 -- events are closed; lost where the first that isn't heard has a closed event; else none yet
 abbrev pub entry_by : Stay → ℕ → Sent → Option ℕ → List Handed
-entry_by stay closed unit None =
-    if unit.whole && nat_lt (behind unit - 1) closed then
-    valid stay.bis (time_of stay (unit.first / stay.info.bn) unit.offset) (octets_in unit.segments) ∷ []
-    else []
+entry_by stay closed unit None = if unit.whole && nat_lt (behind unit - 1) closed then
+    valid stay.bis (time_of stay (unit.first / stay.info.bn) unit.offset) (octets_in unit.segments) ∷ [] else []
 entry_by stay closed unit (Some number) =
     if nat_lt number closed then lost stay.bis (time_of stay (unit.first / stay.info.bn) unit.offset) ∷ [] else []
 
 abbrev pub entry_of : Stay → (ℕ → Bool) → ℕ → Sent → List Handed
-entry_of stay heard closed unit =
-    if heard unit.first then entry_by stay closed unit (first_missing heard unit.first unit.segments) else []
+entry_of stay heard closed unit = if heard unit.first then entry_by stay closed unit (first_missing heard unit.first unit.segments) else []
 
 -- Struck: the entries of the units, in order
 abbrev pub struck : Stay → List Sent → List Call → List Handed

@@ -6,7 +6,6 @@ use Rattle.iso_pdu.specs.Layout.{Part, start, more, Content, end, fragment, fram
 use Rattle.sync_reference.specs.Reference.{anchor_of, framed_reference_of, render_of}
 use Rattle.isoal_base.specs.Stays.{Stay}
 
--- what a framed stream takes: segments
 abbrev pub segmented : Content → Option (List Part)
 segmented (end octets) = None
 segmented (fragment octets) = None
@@ -27,7 +26,6 @@ abbrev pub token_of : Stay → ℕ → Part → Token
 token_of stay event (start offset complete octets) = starts (time_of stay event offset) complete octets
 token_of stay event (more complete octets) = goes_on complete octets
 
--- the tokens of a number of this event, by what is kept of it
 abbrev pub tokens_of : Stay → ℕ → Option (List Part) → List Token
 tokens_of stay event None = missing ∷ []
 tokens_of stay event (Some parts) = map (token_of stay event) parts

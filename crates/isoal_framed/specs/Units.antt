@@ -7,7 +7,6 @@ use Rattle.std.specs.Option.{option_or}
 use Rattle.unit_outlets.specs.Handed.{Handed, valid, lost}
 use Rattle.isoal_framed.specs.Tokens.{Token, starts, goes_on, missing}
 
--- a token of a run
 pub record Piece : Type 0 where
   pub complete : Bool
   pub octets : List ℕ
@@ -70,20 +69,16 @@ FateIs max_sdu run followed (undecided octets) =
 -- the same from left to right, behind a prefix that is read already
 abbrev pub fate_after : ℕ → List ℕ → List Piece → Bool → Fate
 fate_after max_sdu prefix [] followed = if followed then broken else undecided prefix
-fate_after max_sdu prefix (piece ∷ run) followed =
-    if nat_le (length (prefix ++ piece.octets)) max_sdu then
-    (if piece.complete then whole (prefix ++ piece.octets) else fate_after max_sdu (prefix ++ piece.octets) run followed)
-    else broken
+fate_after max_sdu prefix (piece ∷ run) followed = if nat_le (length (prefix ++ piece.octets)) max_sdu then
+    (if piece.complete then whole (prefix ++ piece.octets) else fate_after max_sdu (prefix ++ piece.octets) run followed) else broken
 
 abbrev pub fate_of : ℕ → List Piece → Bool → Fate
 fate_of max_sdu run followed = fate_after max_sdu [] run followed
 
--- the fate of a start of this flag and these octets, in front of these tokens
 abbrev pub fate_at : ℕ → Bool → List ℕ → List Token → Fate
 fate_at max_sdu complete octets tokens =
     fate_of max_sdu (record { complete = complete; octets = octets } ∷ run_on tokens) (is_followed tokens)
 
--- what is handed of a start
 abbrev pub handed_of : ℕ → ℕ → Fate → List Handed
 handed_of bis time (whole octets) = valid bis time octets ∷ []
 handed_of bis time broken = lost bis time ∷ []

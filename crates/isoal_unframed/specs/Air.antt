@@ -16,20 +16,15 @@ before_event (lay ∷ earlier) event = if events earlier == event then earlier e
 
 -- the unit of a slot of an event: slots take the accepted units in order, from the first that has none
 abbrev pub unit_at : BigInfo → List Call → ℕ → ℕ → Option (List ℕ)
-unit_at info calls event slot =
-    slice_get (accepted (before_event calls event)) (begun info (before_event calls event) + slot)
+unit_at info calls event slot = slice_get (accepted (before_event calls event)) (begun info (before_event calls event) + slot)
 
 -- LaidU: the PDU of a payload number
 abbrev pub laid_u : BigInfo → List Call → ℕ → List ℕ
 laid_u info calls number =
     pdu (laid info.max_pdu (unit_at info calls (number / info.bn) (number % info.bn / per_unit_of info)) (number % info.bn % per_unit_of info))
 
--- the event that a lay after these calls lays
 abbrev pub next_event : BigInfo → List Call → Laid
-next_event info calls = record {
-  pdus = map (laid_u info (lay ∷ calls)) (range_with_len (events calls * info.bn) info.bn);
-  stale = [];
-}
+next_event info calls = record { pdus = map (laid_u info (lay ∷ calls)) (range_with_len (events calls * info.bn) info.bn); stale = [] }
 
 abbrev pub unframed_air : BigInfo → List Call → Air
 unframed_air info [] = []

@@ -4,18 +4,15 @@ use Rattle.std.specs.Prelude.{ℕ, ◌+◌, min, zero, suc, List, [], ◌∷◌,
 use Rattle.big_info.specs.declared.info.BigInfo.{BigInfo}
 use Rattle.big_info.specs.Schedule.{per_event_of}
 
--- a unit is accepted, or the next event is laid
 pub data Call : Type 0 where
   accept : (octets : List ℕ) → Call
   lay : Call
 
--- the units accepted, in the order of acceptance
 abbrev pub accepted : List Call → List (List ℕ)
 accepted [] = []
 accepted (accept octets ∷ earlier) = accepted earlier ++ octets ∷ []
 accepted (lay ∷ earlier) = accepted earlier
 
--- how many events were laid
 abbrev pub events : List Call → ℕ
 events [] = 0
 events (accept octets ∷ earlier) = events earlier
@@ -27,7 +24,6 @@ begun info [] = 0
 begun info (accept octets ∷ earlier) = begun info earlier
 begun info (lay ∷ earlier) = min (length (accepted earlier)) (begun info earlier + per_event_of info)
 
--- `count` events laid one behind the other
 abbrev pub lays : ℕ → List Call → List Call
 lays zero calls = calls
 lays (suc count) calls = lay ∷ lays count calls

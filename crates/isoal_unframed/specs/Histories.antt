@@ -10,7 +10,6 @@ use Rattle.isoal_base.specs.Hearing.{read_as}
 use Rattle.isoal_unframed.specs.Units.{unframed, unit_of}
 use Rattle.isoal_unframed.specs.State.Windows.{handed_of, time_of}
 
--- Heard, for an unframed stream
 abbrev pub heard_in : Stay → List Call → ℕ → Option Content
 heard_in stay calls number = heard (read_as unframed stay.info.max_pdu) stay calls number
 
@@ -18,12 +17,10 @@ heard_in stay calls number = heard (read_as unframed stay.info.max_pdu) stay cal
 abbrev pub numbers_of : Stay → ℕ → ℕ → List ℕ
 numbers_of stay event slot = range_with_len (event * stay.info.bn + slot * per_unit_of stay.info) (per_unit_of stay.info)
 
--- the unit of a slot, with its time, by what these calls heard
 abbrev pub unit_at : Stay → List Call → ℕ → ℕ → Handed
 unit_at stay calls event slot =
     handed_of stay.bis (time_of stay event slot) (unit_of stay.info.max_sdu (map (heard_in stay calls) (numbers_of stay event slot)))
 
--- the units of an event, in order
 abbrev pub units_of : Stay → List Call → ℕ → List Handed
 units_of stay calls event = map (unit_at stay calls event) (range_with_len 0 (per_event_of stay.info))
 

@@ -10,12 +10,9 @@ fragments_of max_pdu unit = max 1 (div_ceil (length unit) max_pdu)
 
 -- the PDU at place r, from 0, of the slot of this unit
 abbrev pub laid_unit : ℕ → List ℕ → ℕ → Content
-laid_unit max_pdu unit r =
-    if nat_lt (r + 1) (fragments_of max_pdu unit) then fragment (take max_pdu (drop (r * max_pdu) unit))
-    else if r + 1 == fragments_of max_pdu unit then end (drop (r * max_pdu) unit)
-    else fragment []
+laid_unit max_pdu unit r = if nat_lt (r + 1) (fragments_of max_pdu unit) then fragment (take max_pdu (drop (r * max_pdu) unit))
+    else if r + 1 == fragments_of max_pdu unit then end (drop (r * max_pdu) unit) else fragment []
 
--- the PDU at place r, from 0, of a slot that has this unit or none
 abbrev pub laid : ℕ → Option (List ℕ) → ℕ → Content
 laid max_pdu None r = fragment []
 laid max_pdu (Some unit) r = laid_unit max_pdu unit r

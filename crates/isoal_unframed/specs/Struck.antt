@@ -34,19 +34,16 @@ pub record Carried (stay : Stay) (slots : Slots) (calls : List Call) (event slot
   pub heard_all : (r : ℕ) → r < fragments_of stay.info.max_pdu unit
       → (content : Content) × (heard_in stay calls (event * stay.info.bn + slot * per_unit_of stay.info + r) ≡ Some content)
 
--- the entry of a slot: its unit, valid, where it is carried, else lost
 abbrev pub IsStruck : Stay → Slots → List Call → ℕ → ℕ → Handed → Type 0
 IsStruck stay slots calls event slot (valid bis time octets) =
     (bis ≡ stay.bis) × (time ≡ time_of stay event slot) × Carried stay slots calls event slot octets
 IsStruck stay slots calls event slot (lost bis time) =
     (bis ≡ stay.bis) × (time ≡ time_of stay event slot) × ((unit : List ℕ) → ¬ Carried stay slots calls event slot unit)
 
--- a slot of an event
 pub record Place : Type 0 where
   pub event : ℕ
   pub slot : ℕ
 
--- the slots of the closed events, in order
 abbrev pub closed_slots : Stay → List Call → List Place
 closed_slots stay [] = []
 closed_slots stay (hear number octets ∷ calls) = closed_slots stay calls

@@ -4,7 +4,6 @@ use Rattle.std.specs.Prelude.{ℕ, ◌+◌, ◌-◌, ◌≤◌, ◌≡◌, nat_l
 use Rattle.std.specs.List.{concat}
 use Rattle.iso_pdu.specs.Layout.{Content, end, fragment, framed, control}
 
--- what an unframed stream takes: fragments and ends
 abbrev pub unframed : Content → Option Content
 unframed (end octets) = Some (end octets)
 unframed (fragment octets) = Some (fragment octets)

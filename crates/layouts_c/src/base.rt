@@ -4,7 +4,7 @@ ghost use Rattle.base_grammar.specs.Effective.{effective_of};
 ghost use Rattle.base_grammar.specs.Layout.{Endpoint, indices, stands_in};
 ghost use Rattle.base_grammar.specs.Reading.{base_of};
 ghost use Rattle.bcast_base.specs.Bis.{Has};
-ghost use Rattle.c_values.specs.Statuses.{empty, layout, no_bis, ok, range};
+ghost use Rattle.c_values.specs.Statuses.{empty, layout, memory, no_bis, ok, range};
 ghost use Rattle.layouts_c.specs.Bases.{IsToldOf, RefusedAs, capability, effective_c};
 ghost use Rattle.pacs_records.specs.Match.{TakesStream, number};
 ghost use Rattle.pacs_records.specs.Reading.{value_in};
@@ -68,10 +68,12 @@ pub extern "C" fn air_base_effective(
 ) -> u32
     ensures found { (base : Endpoint) → base_of from.now ≡ Ok base → result ≡ ok → IsToldOf (effective_of base bis) into.new }
     ensures none { (base : Endpoint) → base_of from.now ≡ Ok base → result ≡ no_bis → effective_of base bis ≡ None }
-    ensures is_base { result ≡ ok → IsOk (base_of from.now) }
+    ensures is_base { result ≢ range → result ≢ layout → result ≢ memory → IsOk (base_of from.now) }
     ensures layout { IsOk (base_of from.now) → result ≢ layout }
     ensures same { result ≢ ok → into.new ≡ into.old }
     ensures in_range { 1 ≤ bis → bis ≤ 31 → result ≢ range }
+    ensures bounds { result ≢ range → (1 ≤ bis) × (bis ≤ 31) }
+    ensures either { result ≢ ok → result ≢ range → result ≢ layout → result ≢ no_bis → result ≡ memory }
 {
     let Some(bis) = Bis::new(bis) else {
         return RANGE;
@@ -129,6 +131,7 @@ pub extern "C" fn air_base_streams(alloc: Global, from: &[u8], streams: &mut u32
     ensures is_base { result ≡ ok → IsOk (base_of from.now) }
     ensures layout { IsOk (base_of from.now) → result ≢ layout }
     ensures same { result ≢ ok → streams.new ≡ streams.old }
+    ensures either { result ≢ ok → result ≢ layout → result ≡ memory }
 {
     match decode_base(alloc, from) {
         Ok(base) => {
@@ -170,8 +173,7 @@ fn taking(
     ensures refused { result ≡ empty → RefusedAs (capability entries locations contexts) base.now bis reason.new }
     ensures none { result ≡ no_bis → stands_in (indices base.now.subgroups) bis ≡ false }
     ensures same { result ≢ empty → reason.new ≡ reason.old }
-    ensures layout { result ≢ layout }
-    ensures range { result ≢ range }
+    ensures either { result ≢ ok → result ≢ empty → result ≡ no_bis }
 {
     if !has_stream(base, bis) {
         return NO_BIS;
@@ -207,11 +209,13 @@ pub extern "C" fn air_takes(
     ensures refused { (list : List PacRecord) (it : Endpoint) → value_in records.now ≡ Ok list → base_of base.now ≡ Ok it → result ≡ empty
         → RefusedAs (capability list locations contexts) it bis reason.new }
     ensures none { (it : Endpoint) → base_of base.now ≡ Ok it → result ≡ no_bis → stands_in (indices it.subgroups) bis ≡ false }
-    ensures are_records { result ≡ ok → IsOk (value_in records.now) }
-    ensures is_base { result ≡ ok → IsOk (base_of base.now) }
+    ensures are_records { result ≢ range → result ≢ layout → result ≢ memory → IsOk (value_in records.now) }
+    ensures is_base { result ≢ range → result ≢ layout → result ≢ memory → IsOk (base_of base.now) }
     ensures layout { IsOk (value_in records.now) → IsOk (base_of base.now) → result ≢ layout }
     ensures same { result ≢ empty → reason.new ≡ reason.old }
     ensures in_range { 1 ≤ bis → bis ≤ 31 → result ≢ range }
+    ensures bounds { result ≢ range → (1 ≤ bis) × (bis ≤ 31) }
+    ensures either { result ≢ ok → result ≢ range → result ≢ layout → result ≢ no_bis → result ≢ empty → result ≡ memory }
 {
     let Some(bis) = Bis::new(bis) else {
         return RANGE;

@@ -1,5 +1,5 @@
 //! A BIGInfo, and the check of its group.
-ghost use Rattle.std.specs.Prelude.{◌≡◌, ◌≢◌, ◌≤◌, length, take};
+ghost use Rattle.std.specs.Prelude.{◌≡◌, ◌≢◌, ◌≤◌, length, take, IsSome, None};
 ghost use Rattle.big_info.specs.Layout.{Encodes, octet_count};
 ghost use Rattle.big_info.specs.Reading.{info_of};
 ghost use Rattle.big_info.specs.Rows.{first_fault};
@@ -30,10 +30,12 @@ pub extern "C" fn air_big_info_read(from: &[u8], into: &mut AirBigInfo) -> u32
 #[unsafe(no_mangle)]
 pub extern "C" fn air_big_info_write(info: &AirBigInfo, room: &mut [u8], count: &mut usize) -> u32
     ensures written { result ≡ ok → Encodes (big_info info.now) 0 (take count.new room.new) }
+    ensures count { result ≡ ok → count.new ≤ length room.new }
     ensures wide { ¬ FitsWidths (big_info info.now) → result ≡ range }
     ensures fits { FitsWidths (big_info info.now) → result ≢ range }
     ensures same { result ≢ ok → (room.new ≡ room.old) × (count.new ≡ count.old) }
     ensures room { octet_count (big_info info.now) ≤ length room.old → result ≢ no_room }
+    ensures either { result ≢ ok → result ≢ range → result ≡ no_room }
 {
     let info = info_in(info);
     if !info.fits() {
@@ -53,10 +55,12 @@ pub extern "C" fn air_big_info_write(info: &AirBigInfo, room: &mut [u8], count: 
 #[unsafe(no_mangle)]
 pub extern "C" fn air_group_check(info: &AirBigInfo, row: &mut u8) -> u32
     ensures row { result ≡ group → row.new ≡ row_of (first_fault 31 (big_info info.now)) }
-    ensures none { result ≡ ok → row_of (first_fault 31 (big_info info.now)) ≡ 0 }
+    ensures some { result ≡ group → IsSome (first_fault 31 (big_info info.now)) }
+    ensures none { result ≡ ok → first_fault 31 (big_info info.now) ≡ None }
     ensures wide { ¬ FitsWidths (big_info info.now) → result ≡ range }
     ensures fits { FitsWidths (big_info info.now) → result ≢ range }
     ensures same { result ≢ group → row.new ≡ row.old }
+    ensures either { result ≢ ok → result ≢ range → result ≡ group }
 {
     let info = info_in(info);
     if !info.fits() {

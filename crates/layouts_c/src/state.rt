@@ -1,7 +1,7 @@
 //! A receive state as a struct of C.
 ghost use Rattle.std.specs.Prelude.{◌≡◌, ◌≢◌, ◌<◌, ◌≤◌, length, take, Ok, Some, None, true, false};
 ghost use Rattle.c_values.specs.Faults.{state_fault_c};
-ghost use Rattle.c_values.specs.Statuses.{empty, no_room, ok};
+ghost use Rattle.c_values.specs.Statuses.{empty, layout, memory, no_room, ok};
 ghost use Rattle.receive_state.specs.Reading.{state_of};
 ghost use Rattle.receive_state.specs.declared.state.ReceiveState.{ReceiveState};
 ghost use Rattle.layouts_c.specs.Checks.{CheckedAs};
@@ -91,6 +91,7 @@ pub extern "C" fn air_state_read(
     ensures none { state_of from.now ≡ Ok None → result ≡ empty }
     ensures some { (state : ReceiveState) → state_of from.now ≡ Ok (Some state) → result ≢ empty }
     ensures same { result ≢ ok → (into.new ≡ into.old) × (bis_sync.new ≡ bis_sync.old) }
+    ensures either { result ≢ ok → result ≢ layout → result ≢ empty → result ≢ no_room → result ≡ memory }
 {
     let state = match decode_state(alloc, from) {
         Ok(Some(state)) => state,

@@ -2,4 +2,5 @@ mod Prelude
 mod Agreeing
 mod Free
 mod Kept
+mod Lengths
 mod Wished

@@ -1,10 +1,11 @@
 -- What C's calls say of the assistant behind a handle.
-use Rattle.std.specs.Prelude.{ℕ, ◌≡◌, ◌≢◌, List, [], Option, Some, None, Result, Ok, Err}
+use Rattle.std.specs.Prelude.{ℕ, ◌≡◌, ◌≢◌, ◌≤◌, List, [], ◌∷◌, length, Option, Some, None, Result, Ok, Err}
 use Rattle.assistant_machine.specs.Answers.{answer_of}
-use Rattle.assistant_machine.specs.Calls.{Call}
+use Rattle.assistant_machine.specs.Calls.{Call, notified, read}
 use Rattle.assistant_machine.specs.declared.fault.NoticeFault.{NoticeFault}
 use Rattle.assistant_machine.specs.declared.fault.NoticeFault.TheVariants as faults
 use Rattle.assistant_machine.specs.declared.fault.NoticeTaken.{NoticeTaken}
+use Rattle.bcast_base.specs.Encoding.{IsOctets}
 use Rattle.c_values.specs.Faults.{state_fault_c}
 use Rattle.c_values.specs.Statuses as statuses
 use Rattle.c_values.specs.declared.fault.AirFault.{AirFault}
@@ -38,3 +39,14 @@ TellsAnswer (Err faults.Memory) status told = ⊥
 -- those for a value of a slot, of so many slots, where a notice is cut to this MTU
 abbrev pub AnswersNotice : ℕ → Option ℕ → ℕ → List ℕ → ℕ → AirFault → Type 0
 AnswersNotice slots mtu slot value status told = TellsAnswer (answer_of slots mtu slot value) status told
+
+-- so many octets at most
+abbrev pub IsWithin : ℕ → List ℕ → Type 0
+IsWithin most value = IsOctets value × (length value ≤ most)
+
+-- each value that was told of a slot or read of it has so many octets at most
+abbrev pub AreWithin : ℕ → ℕ → List Call → Type 0
+AreWithin most slot [] = Unit {0}
+AreWithin most slot (notified at value ∷ earlier) = (at ≡ slot → IsWithin most value) × AreWithin most slot earlier
+AreWithin most slot (read at value ∷ earlier) = (at ≡ slot → IsWithin most value) × AreWithin most slot earlier
+AreWithin most slot (call ∷ earlier) = AreWithin most slot earlier

@@ -1,14 +1,16 @@
 //! The calls of an assistant on a link.
-ghost use Rattle.std.specs.Prelude.{◌≡◌, ◌≢◌, ◌∷◌, ◌++◌, ◌≤◌, [], ℕ, List, take, IfOk, IsSome, None};
+ghost use Rattle.std.specs.Prelude.{◌≡◌, ◌≢◌, ◌∷◌, ◌++◌, ◌≤◌, ◌<◌, [], ℕ, List, length, take, IfOk, IsSome, None};
 ghost use Rattle.assistant_machine.specs.Calls.{Call, all_asked, asked, limited, mtu_of, put as puts, read as gives, notified};
 ghost use Rattle.assistant_machine.specs.State.Assistants.{IsLowest, NoneWaits};
 ghost use Rattle.assistant_machine.specs.Views.{view_of};
-ghost use Rattle.link_c.specs.Agreement.{reads_in};
+ghost use Rattle.link_c.specs.Agreement.{encoded, reads_in};
 ghost use Rattle.bass_operations.specs.Layout.{encoding};
 ghost use Rattle.bass_operations.specs.declared.operation.Operation.TheVariants as operations;
-ghost use Rattle.link_c.specs.Links.{AnswersNotice, LinkStands, writes_in};
-ghost use Rattle.c_values.specs.Statuses.{bad_notice, empty, memory, no_slot, ok};
+ghost use Rattle.link_c.specs.Links.{AnswersNotice, AreWithin, LinkStands, writes_in};
+ghost use Rattle.c_values.specs.Statuses.{bad_notice, empty, memory, no_room, no_slot, ok, range};
+ghost use Rattle.receive_state.specs.Faults.{IsFault};
 ghost use Rattle.receive_state.specs.Layout.{StateIs};
+ghost use Rattle.receive_state.specs.declared.fault.StateFault.TheVariants as faults;
 
 use crate::handle::VmLink;
 use crate::machine::LinkMachine;
@@ -38,6 +40,7 @@ fn made(alloc: Global, slots: u8) -> Result<VmLink, Memory>
 pub extern "C" fn vm_link_new(alloc: Global, link: &mut VmLink, slots: u8) -> u32
     ensures stands { result ≡ ok → LinkStands slots [] link.new }
     ensures same { result ≢ ok → link.new ≡ link.old }
+    ensures either { result ≢ ok → result ≡ memory }
 {
     match made(alloc, slots) {
         Ok(made) => {
@@ -87,6 +90,8 @@ pub extern "C" fn vm_link_notice(
         → AnswersNotice slots (mtu_of calls) slot value.now result fault.new }
     ensures same { result ≢ ok → link.new.kept ≡ link.old.kept }
     ensures quiet { result ≢ bad_notice → fault.new ≡ fault.old }
+    ensures wants { result ≡ memory → IsFault faults.Memory value.now }
+    ensures either { result ≢ ok → result ≢ no_slot → result ≢ bad_notice → result ≡ memory }
 {
     match link.lend().assistant.notice(slot, value) {
         Ok(_) => OK,
@@ -113,6 +118,8 @@ pub extern "C" fn vm_link_answer_read(
     ensures answer { (slots : ℕ) (calls : List Call) → LinkStands slots calls link.old → AnswersNotice slots None slot value.now result fault.new }
     ensures same { result ≢ ok → link.new.kept ≡ link.old.kept }
     ensures quiet { result ≢ bad_notice → fault.new ≡ fault.old }
+    ensures wants { result ≡ memory → IsFault faults.Memory value.now }
+    ensures either { result ≢ ok → result ≢ no_slot → result ≢ bad_notice → result ≡ memory }
 {
     match link.lend().assistant.answer_read(slot, value) {
         Ok(()) => OK,
@@ -142,6 +149,7 @@ pub extern "C" fn vm_link_set_mtu(link: &mut VmLink, mtu: u16) -> u32
         → LinkStands slots (limited mtu ∷ calls) link.new }
     ensures same { result ≢ ok → link.new.kept ≡ link.old.kept }
     ensures in_range { 23 ≤ mtu → mtu ≤ 517 → result ≡ ok }
+    ensures bounds { result ≢ range → (23 ≤ mtu) × (mtu ≤ 517) }
 {
     if mtu < 23 || mtu > 517 {
         return RANGE;
@@ -214,10 +222,17 @@ pub extern "C" fn vm_link_view(
     requires { IsSome link.old.kept }
     ensures view { (slots : ℕ) (calls : List Call) → LinkStands slots calls link.old → result ≡ ok
         → StateIs (view_of slot calls) (take count.new room.new) }
+    ensures count { result ≡ ok → count.new ≤ length room.new }
     ensures none { (slots : ℕ) (calls : List Call) → LinkStands slots calls link.old → result ≡ no_slot → slots ≤ slot }
     ensures slot { (slots : ℕ) (calls : List Call) → LinkStands slots calls link.old → slots ≤ slot → result ≡ no_slot }
     ensures same { link.new.kept ≡ link.old.kept }
     ensures quiet { result ≢ ok → (room.new ≡ room.old) × (count.new ≡ count.old) }
+    ensures room { (slots : ℕ) (calls : List Call) → LinkStands slots calls link.old → result ≡ no_room
+        → length room.old < length (encoded (view_of slot calls)) }
+    ensures enough { (slots : ℕ) (calls : List Call) → LinkStands slots calls link.old → AreWithin (length room.old) slot calls
+        → result ≢ no_room }
+    ensures wants { (slots : ℕ) (calls : List Call) → LinkStands slots calls link.old → result ≡ memory → IsSome (view_of slot calls) }
+    ensures either { result ≢ ok → result ≢ no_slot → result ≢ no_room → result ≡ memory }
 {
     let machine = link.lend();
     if slot >= machine.assistant.slot_count() {

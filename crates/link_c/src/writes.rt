@@ -7,7 +7,7 @@ ghost use Rattle.bass_operations.specs.declared.wishes.Wish.{Wish};
 ghost use Rattle.bcast_base.specs.Layout.{NoneReserved};
 ghost use Rattle.link_c.specs.Links.{LinkStands, writes_in};
 ghost use Rattle.link_c.specs.Wishes.{added, are_free, modified, octet_count, wishes_in};
-ghost use Rattle.c_values.specs.Statuses.{empty, layout, no_room, ok, range, too_long};
+ghost use Rattle.c_values.specs.Statuses.{empty, layout, memory, no_room, ok, range, too_long};
 
 use crate::handle::VmLink;
 use crate::wishes::{are_free, is_short, wishes_of};
@@ -46,11 +46,13 @@ pub extern "C" fn vm_link_add(
     ensures values { (wishes : List Wish) → result ≡ ok → wishes_in bis_sync.now metadata.now ≡ Some wishes
         → NoneReserved (fields (added address_type address.now sid broadcast_id.now pa_sync pa_interval wishes)) }
     ensures laid { result ≡ ok → IsSome (wishes_in bis_sync.now metadata.now) }
-    ensures short { result ≡ ok → octet_count 16 bis_sync.now metadata.now ≤ 512 }
+    ensures short { result ≢ range → result ≢ too_long → octet_count 16 bis_sync.now metadata.now ≤ 512 }
     ensures layout { result ≡ layout → wishes_in bis_sync.now metadata.now ≡ None }
     ensures long { result ≡ too_long → 512 < octet_count 16 bis_sync.now metadata.now }
     ensures in_range { address_type ≤ 1 → sid ≤ 15 → pa_sync ≤ 2 → are_free bis_sync.now ≡ true → result ≢ range }
+    ensures bounds { result ≢ range → (address_type ≤ 1) × (sid ≤ 15) × (pa_sync ≤ 2) × (are_free bis_sync.now ≡ true) }
     ensures same { result ≢ ok → link.new.kept ≡ link.old.kept }
+    ensures either { result ≢ ok → result ≢ range → result ≢ too_long → result ≢ layout → result ≡ memory }
 {
     if address_type > 1 || sid > 15 || pa_sync > 2 || !are_free(bis_sync) {
         return RANGE;
@@ -99,11 +101,13 @@ pub extern "C" fn vm_link_modify(
     ensures values { (wishes : List Wish) → result ≡ ok → wishes_in bis_sync.now metadata.now ≡ Some wishes
         → NoneReserved (fields (modified source_id pa_sync pa_interval wishes)) }
     ensures laid { result ≡ ok → IsSome (wishes_in bis_sync.now metadata.now) }
-    ensures short { result ≡ ok → octet_count 6 bis_sync.now metadata.now ≤ 512 }
+    ensures short { result ≢ range → result ≢ too_long → octet_count 6 bis_sync.now metadata.now ≤ 512 }
     ensures layout { result ≡ layout → wishes_in bis_sync.now metadata.now ≡ None }
     ensures long { result ≡ too_long → 512 < octet_count 6 bis_sync.now metadata.now }
     ensures in_range { pa_sync ≤ 2 → are_free bis_sync.now ≡ true → result ≢ range }
+    ensures bounds { result ≢ range → (pa_sync ≤ 2) × (are_free bis_sync.now ≡ true) }
     ensures same { result ≢ ok → link.new.kept ≡ link.old.kept }
+    ensures either { result ≢ ok → result ≢ range → result ≢ too_long → result ≢ layout → result ≡ memory }
 {
     if pa_sync > 2 || !are_free(bis_sync) {
         return RANGE;
@@ -137,6 +141,7 @@ pub extern "C" fn vm_link_scan(link: &mut VmLink, is_started: bool) -> u32
     ensures stopped { (slots : ℕ) (calls : List Call) → LinkStands slots calls link.old → is_started ≡ false → result ≡ ok
         → LinkStands slots (puts (encoding operations.ScanStopped) ∷ calls) link.new }
     ensures same { result ≢ ok → link.new.kept ≡ link.old.kept }
+    ensures either { result ≢ ok → result ≡ memory }
 {
     let octets = [u8::from(is_started)];
     match link.lend().assistant.raw(&octets) {
@@ -153,6 +158,7 @@ pub extern "C" fn vm_link_next_write(link: &mut VmLink, room: &mut [u8], count: 
     ensures stands { (slots : ℕ) (calls : List Call) → LinkStands slots calls link.old → result ≡ ok
         → LinkStands slots (sent ∷ calls) link.new }
     ensures write { result ≡ ok → writes_in link.old ≡ take count.new room.new ∷ writes_in link.new }
+    ensures count { result ≡ ok → count.new ≤ length room.new }
     ensures none { result ≡ empty → writes_in link.old ≡ [] }
     ensures room { result ≡ no_room → length room.old < length (get_or (writes_in link.old) 0 []) }
     ensures same { result ≢ ok → (link.new.kept ≡ link.old.kept) × (room.new ≡ room.old) × (count.new ≡ count.old) }

@@ -15,12 +15,10 @@ Fits ltv = length ltv.value ≤ 254
 abbrev pub encoding : List Ltv → List ℕ
 encoding ltvs = flat_map structure ltvs
 
--- the octets are this list, one structure after the other
 pub record IsLtvList (ltvs : List Ltv) (octets : List ℕ) : Type 0 where
   pub fit : AllByRecursion Fits ltvs
   pub encoded : octets ≡ encoding ltvs
 
--- the octets are some list
 pub record AreLtvs (octets : List ℕ) : Type 0 where
   pub ltvs : List Ltv
   pub list : IsLtvList ltvs octets

@@ -7,7 +7,6 @@ use Rattle.ltv_codec.specs.declared.fault.LtvFault.{LtvFault}
 use Rattle.ltv_codec.specs.declared.fault.LtvFault.TheVariants as faults
 use Rattle.ltv_codec.specs.declared.ltvs.Ltv.{Ltv}
 
--- a structure, and what is read behind it
 abbrev pub before : Ltv → Result (List Ltv) LtvBad → Result (List Ltv) LtvBad
 before ltv (Ok ltvs) = Ok (ltv ∷ ltvs)
 before ltv (Err bad) = Err bad
@@ -22,19 +21,15 @@ ltvs_from place (suc inside) (octet ∷ octets) = ltvs_from (place + 1) inside o
 ltvs_from place (suc inside) [] = Ok []
 ltvs_from place zero [] = Ok []
 ltvs_from place zero (zero ∷ octets) = Err (ZeroLength place)
-ltvs_from place zero (suc count ∷ octets) =
-    if nat_lt (length octets) (suc count) then Err (Short place)
+ltvs_from place zero (suc count ∷ octets) = if nat_lt (length octets) (suc count) then Err (Short place)
     else before (ltv_at count octets) (ltvs_from (place + 1) (suc count) octets)
 
--- what octets are read as
 abbrev pub ltvs_of : List ℕ → Result (List Ltv) LtvBad
 ltvs_of octets = ltvs_from 0 0 octets
 
--- the list of octets that are one
 abbrev pub ltvs_in : List ℕ → List Ltv
 ltvs_in octets = result_unwrap_or (ltvs_of octets) []
 
--- what is wrong with the octets
 abbrev pub bad_of : List ℕ → Option LtvBad
 bad_of octets = result_err (ltvs_of octets)
 

@@ -7,7 +7,6 @@ use Rattle.bcast_base.specs.Numbers.{sum_from}
 use Rattle.ltv_codec.specs.declared.ltvs.Ltv.{Ltv}
 use Rattle.ltv_codec.specs.Reading.{ltvs_in}
 
--- the value of the first structure of the type
 abbrev pub first_of : ℕ → List Ltv → Option (List ℕ)
 first_of kind [] = None
 first_of kind (ltv ∷ ltvs) = if ltv.kind == kind then Some ltv.value else first_of kind ltvs
@@ -17,19 +16,15 @@ abbrev pub sized : ℕ → Option (List ℕ) → Option (List ℕ)
 sized len None = None
 sized len (Some value) = if length value == len then Some value else None
 
--- the first value of this type in an LTV list
 abbrev pub first_in : ℕ → List ℕ → Option (List ℕ)
 first_in kind octets = first_of kind (ltvs_in octets)
 
--- the value of a type whose value has so many octets
 abbrev pub value_in : ℕ → ℕ → List ℕ → Option (List ℕ)
 value_in kind len octets = sized len (first_in kind octets)
 
--- the same as a number
 abbrev pub number_in : ℕ → ℕ → List ℕ → Option ℕ
 number_in kind len octets = option_map (sum_from 0) (value_in kind len octets)
 
--- the first one where present, else the second
 abbrev pub or_else : Option ℕ → Option ℕ → Option ℕ
 or_else (Some value) other = Some value
 or_else None other = other

@@ -12,11 +12,9 @@ use Rattle.pacs_records.specs.declared.record.PacRecord.{PacRecord}
 abbrev pub greatest_value : ℕ
 greatest_value = 512
 
--- the fields of a record
 abbrev pub encoded : PacRecord → List ℕ
 encoded entry = entry.codec ++ counted entry.caps ++ counted entry.metadata
 
--- each field meets its row
 pub record Fits (entry : PacRecord) : Type 0 where
   pub codec : length entry.codec ≡ 5
   pub caps_count : length entry.caps < 256
@@ -24,11 +22,9 @@ pub record Fits (entry : PacRecord) : Type 0 where
   pub caps : entry.codec ≡ lc3 → AreLtvs entry.caps
   pub metadata : AreLtvs entry.metadata
 
--- the number of records, and the records
 abbrev pub value : List PacRecord → List ℕ
 value records = length records ∷ flat_map encoded records
 
--- records that have a value
 pub record AreRecords (records : List PacRecord) : Type 0 where
   pub fit : AllByRecursion Fits records
   pub size : length (value records) ≤ greatest_value

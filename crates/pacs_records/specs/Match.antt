@@ -24,7 +24,6 @@ Has set k = bit_at set k ≡ 1
 abbrev pub ShareBit : ℕ → ℕ → Type 0
 ShareBit a b = (k : ℕ) × Has a k × Has b k
 
--- the capabilities of octets that are an LTV list
 abbrev pub caps_in : List ℕ → Caps
 caps_in octets = record {
   frequencies = number_in supported_sampling_frequencies 2 octets;

@@ -15,7 +15,6 @@ use Rattle.pacs_records.specs.declared.record.PacRecord.{PacRecord}
 use Rattle.base_grammar.specs.Layout.{is_lc3, Endpoint}
 use Rattle.pacs_records.specs.Match.{caps_in, channel_count}
 
--- a value that meets a test is present
 abbrev pub present : Option ℕ → (ℕ → Bool) → Bool
 present None test = false
 present (Some value) test = test value
@@ -44,7 +43,6 @@ location_met config locations = (unwrap_or config.allocation 0 == 0) || ((locati
 abbrev pub context_met : Option ℕ → ℕ → Bool
 context_met contexts available = not (bit_and (unwrap_or contexts 1) available == 0)
 
--- the requirements of LC3
 abbrev pub lc3_met : Caps → Capability → Effective → NotTaken → Bool
 lc3_met caps capability effective Codec = true
 lc3_met caps capability effective Frequency = frequency_met effective.config caps
@@ -55,11 +53,9 @@ lc3_met caps capability effective FramesPerSdu = frames_met effective.config cap
 lc3_met caps capability effective Location = location_met effective.config capability.locations
 lc3_met caps capability effective Context = context_met effective.contexts capability.contexts
 
--- the requirements behind the first, in order
 abbrev pub lc3_reasons : List NotTaken
 lc3_reasons = Frequency ∷ Duration ∷ FrameOctets ∷ Channels ∷ FramesPerSdu ∷ Location ∷ Context ∷ []
 
--- the first of them that is not met
 abbrev pub lc3_reason : Caps → Capability → Effective → Option NotTaken
 lc3_reason caps capability effective = find (λ reason. not (lc3_met caps capability effective reason)) lc3_reasons
 
@@ -74,10 +70,8 @@ abbrev pub last_reason : NotTaken → List PacRecord → Capability → Effectiv
 last_reason told [] capability effective = Some told
 last_reason told (entry ∷ entries) capability effective = option_and_then (λ reason. last_reason reason entries capability effective) (reason_of entry capability effective)
 
--- why the stream is not taken
 abbrev pub not_taken : Capability → Effective → Option NotTaken
 not_taken capability effective = last_reason Codec capability.entries capability effective
 
--- why the stream of this index is not taken
 abbrev pub stream_not_taken : Capability → Endpoint → ℕ → Option NotTaken
 stream_not_taken capability base bis = option_and_then (not_taken capability) (effective_of base bis)

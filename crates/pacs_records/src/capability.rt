@@ -1,7 +1,6 @@
 use crate::records::Records;
 
-/// What a sink can take (Published Audio Capabilities Service 1.0): its records, the audio locations that it has
-/// (section 3.2), and the contexts that are available (section 3.5).
+/// What a sink can take (Published Audio Capabilities Service 1.0): records, locations (section 3.2), available contexts (section 3.5).
 #[derive(Drop)]
 pub struct Capability {
     pub entries: Records,

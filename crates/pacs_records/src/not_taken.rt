@@ -1,5 +1,4 @@
-/// Why a sink does not take a stream: the first requirement that is not met, in this order. For a codec other than LC3
-/// the first alone is tested.
+/// Why a sink does not take a stream: the first requirement that is not met, in this order. Of other codecs than LC3 the first alone.
 #[derive(Clone, Copy, Debug, PartialEq, Eq)]
 pub enum NotTaken {
     /// The codecs are the same.

@@ -9,8 +9,7 @@ ahead_of info group = if nat_lt group info.irc then 0 else info.pto * (group - i
 
 -- the number of the payload in a subevent, from 0, of an event
 abbrev pub payload_number : BigInfo → ℕ → ℕ → ℕ
-payload_number info event subevent =
-    (event + ahead_of info (subevent / info.bn)) * info.bn + subevent % info.bn
+payload_number info event subevent = (event + ahead_of info (subevent / info.bn)) * info.bn + subevent % info.bn
 
 -- the numbers that an event's subevents may carry: those of this event and of the H events after it
 pub record InWindow (info : BigInfo) (event number : ℕ) : Type 0 where

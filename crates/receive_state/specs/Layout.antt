@@ -28,7 +28,6 @@ prefix_fields s count =
     free (octet s.source_id) ∷ unless (nat_lt 1 s.address_type) (octet s.address_type) ∷ free s.address ∷ unless (nat_lt 15 s.sid) (octet s.sid) ∷ free s.broadcast_id ∷
     unless (nat_lt 4 s.pa_sync_state) (octet s.pa_sync_state) ∷ unless (nat_lt 3 s.encryption) (octet s.encryption) ∷ free s.bad_code ∷ free (octet count) ∷ []
 
--- the same, and the subgroups
 abbrev pub fields : StateFields → List Field
 fields s = prefix_fields s (length s.groups) ++ flat_map subgroup_fields s.groups
 
@@ -58,11 +57,9 @@ code_of keys.CodeRequired = []
 code_of keys.Decrypting = []
 code_of (keys.BadCode code) = code
 
--- BIS_Sync_State and metadata
 abbrev pub group_of : GroupState → Subgroup
 group_of group = record { bits = group.bis_sync_state; metadata = group.metadata }
 
--- the values of the fields of a state
 abbrev pub fields_of : ReceiveState → StateFields
 fields_of state = record {
   source_id = state.source_id;
@@ -76,7 +73,6 @@ fields_of state = record {
   groups = map group_of state.groups;
 }
 
--- the octets of a state
 abbrev pub encoding : ReceiveState → List ℕ
 encoding state = laid (fields (fields_of state))
 

@@ -33,7 +33,6 @@ head_in whole = do
   count ← field_in whole octet_in code.1
   Ok (record source.0 { pa_sync_state = sync.0; encryption = encryption.0; bad_code = code.0 }, count.0, count.1)
 
--- the octets behind a subgroup
 abbrev pub group_end_in : List ℕ → List ℕ → Result (List ℕ) ℕ
 group_end_in whole octets = do
   bits ← field_in whole (octets_in 4) octets
@@ -41,14 +40,12 @@ group_end_in whole octets = do
   metadata ← field_in whole (octets_in count.0) count.1
   Ok metadata.1
 
--- the octets behind so many subgroups
 unfoldable pub end_in : List ℕ → ℕ → List ℕ → Result (List ℕ) ℕ
 end_in whole zero octets = Ok octets
 end_in whole (suc count) octets = do
   rest ← group_end_in whole octets
   end_in whole count rest
 
--- the subgroups themselves, where they are whole
 abbrev pub subgroups_of : Option (List Subgroup × List ℕ) → List Subgroup
 subgroups_of None = []
 subgroups_of (Some read) = read.0
@@ -70,7 +67,6 @@ encryption_of (suc zero) code = keys.CodeRequired
 encryption_of (suc (suc zero)) code = keys.Decrypting
 encryption_of (suc (suc (suc number))) code = keys.BadCode code
 
--- the state of these fields
 abbrev pub state_from : StateFields → ReceiveState
 state_from s = record {
   source_id = s.source_id;
@@ -89,7 +85,6 @@ reserved_head address_type sid pa_sync_state encryption =
     if nat_lt 1 address_type then Some 1
     else (if nat_lt 15 sid then Some 8 else (if nat_lt 4 pa_sync_state then Some 12 else (if nat_lt 3 encryption then Some 13 else None)))
 
--- the first fault of the values, and of the octets that are left
 abbrev pub first_fault : Option ℕ → ℕ → List ℕ → Option StateFault
 first_fault (Some place) end rest = Some (faults.Rfu place)
 first_fault None end [] = None
@@ -114,7 +109,6 @@ abbrev pub lifted : Result ReceiveState StateFault → Result (Option ReceiveSta
 lifted (Ok state) = Ok (Some state)
 lifted (Err fault) = Err fault
 
--- what octets are read as
 abbrev pub state_of : List ℕ → Result (Option ReceiveState) StateFault
 state_of [] = Ok None
 state_of (octet ∷ rest) = lifted (judged_of (octet ∷ rest))

@@ -19,19 +19,13 @@ IsNone modes.Toml = ⊥
 IsNone (modes.Generate seed events) = ⊥
 IsNone _ = Unit {0}
 
--- what is promised of a call by what its words mean
 pub record PromisedIn (mode : Mode) (old new : World) (status : Status) : Type 0 where
-  -- Words that mean replay: the scenario of the source is run.
   pub replay : mode ≡ modes.Replay → FromText old new status
-  -- Words that mean migration: the text of the source is written in version 2.
   pub migrated : mode ≡ modes.Migrate → Migrated old new status
-  -- Words that mean a document: the lines that the document of the source stands for are run.
   pub document : mode ≡ modes.Toml → FromDocument old new status
-  -- Words that mean generation: the scenario of the generator is run, and its summary written.
   pub generated : (seed events : ℕ) → mode ≡ modes.Generate seed events → Generated seed events old new status
   -- All other words are Usage. Where memory ran out before they were read, the status is Memory; nothing happened then either.
   pub usage : IsNone mode → ((status ≡ statuses.Usage) ⊎ (status ≡ statuses.Memory)) × (new ≡ old)
 
--- the same by the words, each as its octets
 abbrev pub PromisedFor : List (List ℕ) → World → World → Status → Type 0
 PromisedFor words old new status = PromisedIn (mode_of words) old new status

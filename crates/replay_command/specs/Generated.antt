@@ -13,6 +13,5 @@ pub record Generated (seed events : ℕ) (old new : World) (status : Status) : T
   pub told : status ≡ status_after outcome
   -- By that: the summary was written, or a prefix of it, or nothing, and the boxes took what the run handed up.
   pub run : GeneratedRun seed events outcome old.boxes new.boxes old.taken new.taken old.writes new.writes
-  -- The source isn't read.
   pub left : new.left ≡ old.left
   pub reads : new.reads ≡ old.reads

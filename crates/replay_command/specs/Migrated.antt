@@ -22,17 +22,12 @@ pub record Migrated (old new : World) (status : Status) : Type 0 where
   -- WriteFault: the sink counted a fault, and a prefix of the text in version 2, or of the line of the refusal, was written.
   pub write_fault : status ≡ statuses.WriteFault → Rose old.writes new.writes × WroteShort old.left new.left old.taken new.taken
   -- Memory: such a prefix was written, or nothing where memory ran out before all was read.
-  pub memory : status ≡ statuses.Memory
-      → RanOut old.left new.left old.taken new.taken ⊎ WrotePrefix old.left new.left old.taken new.taken
-  -- Usage and OutletFault don't come.
+  pub memory : status ≡ statuses.Memory → RanOut old.left new.left old.taken new.taken ⊎ WrotePrefix old.left new.left old.taken new.taken
   pub no_usage : status ≢ statuses.Usage
   pub no_outlet_fault : status ≢ statuses.OutletFault
-  -- The source's count stays with each status but ReadFault.
   pub no_read_fault : status ≢ statuses.ReadFault → new.reads ≡ old.reads
-  -- The sink's count stays with each status but WriteFault.
   pub no_write_fault : status ≢ statuses.WriteFault → new.writes ≡ old.writes
   -- A text that the source tells is Done only where it has at most 67,108,864 octets, and Refused only where it has more.
   pub within : (text : List ℕ) → old.left ≡ Some text → status ≡ statuses.Done → length text ≤ text_limit
   pub too_long : (text : List ℕ) → old.left ≡ Some text → (line : ℕ) (reason : Refusal) → status ≡ statuses.Refused line reason → IsTooLong text line
-  -- No box is called.
   pub boxes : new.boxes ≡ old.boxes

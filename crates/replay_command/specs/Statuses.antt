@@ -30,7 +30,6 @@ text_of WriteFault = Some (codes "write fault")
 text_of OutletFault = Some (codes "outlet fault")
 text_of Memory = Some (codes "no memory")
 
--- the status of the run of a text
 abbrev pub status_at : Ending → Status
 status_at endings.Done = Done
 status_at (endings.Refused line reason) = Refused line reason
@@ -52,7 +51,6 @@ status_of ends.ReadFault = ReadFault
 status_of ends.WriteFault = WriteFault
 status_of ends.Memory = Memory
 
--- the status of a generated run
 abbrev pub status_after : Outcome → Status
 status_after outcomes.Done = Done
 status_after (outcomes.Refused line reason) = Refused line reason

@@ -34,24 +34,8 @@ use unit_outlets::Outlet;
 /// `OutletFault` come only where the count of the source, of the sink or of a box rose. After `Memory` a prefix of the transcript was
 /// written.
 ///
-/// On each link of a living sink over which no notice was forged since it was joined, a slot for which neither a notice nor a
-/// read waits has its state as the assistant's view (Broadcast Audio Scan Service 1.0, section 3.2). Once the waiting notices of
-/// the link are delivered and its waiting reads are served, all views are the states. On a link but 0 that holds whatever the
-/// other links do: they change nothing of it but through the states of the slots, and a link that is joined begins anew.
-///
-/// A text in which no `train` step prints `BadGroup 11`, and whose transcript has no refusal or a refusal other than BadLine,
-/// `BadGroup 11` and TimeOrder, brings the same in version 2, as `--migrate` writes it: the same transcript, and the same units to
-/// the boxes.
-///
-/// A sink that no line under the other source puts on a train or a group hands up, has, answers and tells what it would without the
-/// other sinks and without the lines of the other source, in a scenario of which no line is refused and none is `relay`.
-///
-/// In a scenario of which no line is refused and one is `relay N B B2`, what source 1 accepts on B2 is what sink N hands up of B, valid,
-/// behind this line and before its `drop`, without exactly the units that have a `dropped` line. What a sink of source 1 hands up of
-/// B2 is, in order and each at most once, of units that source 0 accepted on B and that sink N handed up, with their octets where it
-/// is valid, and later than sink N handed them up by the delay of the group, SDU_Interval, ISO_Interval and Presentation_Delay of
-/// source 1 (Core 5.2, volume 6 part G, section 3.2); it is so where no PDU was injected into either sink and no train was given to
-/// it by its octets.
+/// The record `Promised` has what holds of the scenario besides: of the units, their order and their times, of links, of version 2, of a
+/// sink without all others, and of relays.
 pub fn replay<S: ByteSource, K: ByteSink>(
     alloc: Global,
     words: &Words,

@@ -21,7 +21,6 @@ pub enum Status {
     WriteFault,
     /// The box of a sink failed.
     OutletFault,
-    /// Memory ran out.
     Memory,
 }
 

@@ -22,15 +22,12 @@ use Rattle.scenario_sinks.specs.Handing.{BoxFails}
 use Rattle.replay_generated.specs.declared.outcome.Outcome.{Outcome}
 use Rattle.replay_generated.specs.declared.outcome.Outcome.TheVariants as outcomes
 
--- the lines of the generated text
 abbrev pub lines_made : ℕ → ℕ → List TextLine
 lines_made seed events = lines_of true (generated seed events)
 
--- the summary of the transcript of these lines
 abbrev pub summary_in : Airs → List Account → ℕ → List TextLine → List ℕ
 summary_in airs starts events lines = summary events (transcript_of airs starts lines)
 
--- the transcript ends so, its summary was written, and the boxes took its units
 pub record Summed (airs : Airs) (starts ends : List Account) (events : ℕ) (lines : List TextLine) (kept kept' : Option (List ℕ)) (end : End Refusal) : Type 0 where
   pub ends_so : transcript_end airs starts lines ≡ end
   pub written : Appends kept kept' (summary_in airs starts events lines)
@@ -56,7 +53,6 @@ pub record BoxFailed (airs : Airs) (starts ends : List Account) (lines : List Te
   pub told : List ℕ
   pub fails : BoxFails (handed_on airs earlier line) [] told accounts ends
 
--- what a run of these lines did that ended so
 abbrev pub EndedOver : Airs → ℕ → List TextLine → Outcome → List Account → List Account → Option (List ℕ) → Option (List ℕ) → Type 0
 EndedOver airs events lines outcomes.Done starts ends kept kept' = Summed airs starts ends events lines kept kept' through
 EndedOver airs events lines (outcomes.Refused line reason) starts ends kept kept' = Summed airs starts ends events lines kept kept' (refused line reason)
@@ -64,12 +60,10 @@ EndedOver airs events lines outcomes.OutletFault starts ends kept kept' = BoxFai
 EndedOver airs events lines outcomes.WriteFault starts ends kept kept' = CutShort airs starts ends events lines kept kept'
 EndedOver airs events lines outcomes.Memory starts ends kept kept' = CutShort airs starts ends events lines kept kept'
 
--- whichever airs of the source that meet the relation of its framing the scenario is taken over
 abbrev pub Did : ℕ → ℕ → Outcome → List Account → List Account → Option (List ℕ) → Option (List ℕ) → Type 0
 Did seed events outcome starts ends kept kept' =
     (airs : Airs) → MeetAirs airs → EndedOver airs events (lines_made seed events) outcome starts ends kept kept'
 
--- the run ended by itself
 abbrev pub IsDoneOrMemory : Outcome → Type 0
 IsDoneOrMemory outcomes.Done = Unit {0}
 IsDoneOrMemory outcomes.Memory = Unit {0}
@@ -88,7 +82,6 @@ pub record GeneratedRun (seed events : ℕ) (outcome : Outcome) (starts ends : L
   pub write_fault : outcome ≡ outcomes.WriteFault → Rose faults faults' × Did seed events outcomes.WriteFault starts ends kept kept'
   -- Memory: a prefix of the summary was written.
   pub memory : outcome ≡ outcomes.Memory → Did seed events outcomes.Memory starts ends kept kept'
-  -- The sink's count stays with each outcome but WriteFault.
   pub no_write_fault : outcome ≢ outcomes.WriteFault → faults' ≡ faults
   -- Each box's count stays with each outcome but OutletFault, with which that of one box changes.
   pub no_outlet_fault : outcome ≢ outcomes.OutletFault → CountsStay starts ends

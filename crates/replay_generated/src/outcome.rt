@@ -11,6 +11,5 @@ pub enum Outcome {
     OutletFault,
     /// The sink failed.
     WriteFault,
-    /// Memory ran out.
     Memory,
 }

@@ -18,7 +18,6 @@ use Rattle.replay_lines.specs.declared.cause.Cause.{Cause}
 use Rattle.replay_lines.specs.declared.cause.Cause.TheVariants.{TooLong}
 use Rattle.replay_lines.specs.Standing.{Standing, refused_for, standing_of, lines_over, transcript_over, end_over, units_over}
 
--- the input was read to its end, and is a document that stands for this
 pub record WholeIs (left left' : Option (List ℕ)) (standing : Standing) : Type 0 where
   pub document : List ℕ
   pub read : ReadWhole left left' document
@@ -29,7 +28,6 @@ abbrev pub DocumentIs : Option (List ℕ) → Option (List ℕ) → Standing →
 DocumentIs left left' (refused_for TooLong) = ReadPast left left'
 DocumentIs left left' standing = WholeIs left left' standing
 
--- Done and Refused: the transcript of the document ends so and was written, and the boxes took its units
 pub record TomlWritten (airs : Airs) (starts ends : List Account) (left left' kept kept' : Option (List ℕ))
     (end : Result (End Refusal) Cause) : Type 0 where
   pub standing : Standing
@@ -38,8 +36,7 @@ pub record TomlWritten (airs : Airs) (starts ends : List Account) (left left' ke
   pub written : Appends kept kept' (transcript_over airs starts standing)
   pub boxes : Took starts ends (units_over airs starts standing)
 
--- These lines before one were run, and none is refused; the box of a unit that this line hands up failed and counted it. What
--- those lines bring was written, and then a prefix of what this one prints before the line of the unit, and not all of that.
+-- `FaultCut` of these lines
 pub record FaultCutIn (airs : Airs) (starts ends : List Account) (kept kept' : Option (List ℕ)) (lines : List TextLine) : Type 0 where
   pub earlier : List TextLine
   pub line : TextLine
@@ -54,14 +51,12 @@ pub record FaultCutIn (airs : Airs) (starts ends : List Account) (kept kept' : O
   pub written : Appends kept between (out_of airs starts (reverse earlier))
   pub cut : AppendsShort between kept' told
 
--- the same of the lines that the document stands for
 pub record TomlFaultCut (airs : Airs) (starts ends : List Account) (left left' kept kept' : Option (List ℕ)) : Type 0 where
   pub standing : Standing
   pub document : DocumentIs left left' standing
   pub cut : FaultCutIn airs starts ends kept kept' (lines_over standing)
 
--- WriteFault and Memory: a prefix of the transcript of the document was written, and the boxes took a prefix of its units; or one of
--- them failed, and what comes before its unit wasn't written whole
+-- `Broken` of the lines that the document stands for
 pub record TomlCut (airs : Airs) (starts ends : List Account) (left left' kept kept' : Option (List ℕ)) : Type 0 where
   pub standing : Standing
   pub document : DocumentIs left left' standing
@@ -74,8 +69,7 @@ pub record TomlUnread (most : ℕ) (starts ends : List Account) (left left' kept
   pub written : Keeps kept kept'
   pub boxes : ends ≡ starts
 
--- OutletFault: the lines before one were run, and none is refused; the box of a unit that this line hands up failed. What those lines
--- bring was written, and then what this one prints before the line of the unit.
+-- `OutletFaulted` of the lines that the document stands for, which was read whole
 pub record TomlOutlet (airs : Airs) (starts ends : List Account) (left left' kept kept' : Option (List ℕ)) : Type 0 where
   pub standing : Standing
   pub document : DocumentIs left left' standing

@@ -12,7 +12,6 @@ use Rattle.replay_lines.specs.declared.ending.Ending.{Ending}
 use Rattle.replay_lines.specs.declared.ending.Ending.TheVariants as endings
 use Rattle.replay_lines.specs.Replayed.{Done, RefusedAt, ReadFaulted, Broken, OutletFaulted, ReadsAhead, WriteCut}
 
--- what a run did that ended so
 abbrev pub Ended : Airs → Ending → List Account → List Account → Option (List ℕ) → Option (List ℕ) → Option (List ℕ) → Option (List ℕ) → Type 0
 Ended airs endings.Done starts ends left left' kept kept' = Done airs starts ends left left' kept kept'
 Ended airs (endings.Refused line reason) starts ends left left' kept kept' =
@@ -46,8 +45,7 @@ IsCut endings.WriteFault = Unit {0}
 IsCut endings.Memory = Unit {0}
 IsCut _ = ⊥
 
--- At most so many octets were read past the end of the line of a refusal other than NoEnd, and past that in whose octets
--- a write was cut. What an outlet fault says of the line of its unit has the same.
+-- what was read past the line of a refusal other than NoEnd, or past that in which a write was cut; an outlet fault has the same itself
 abbrev pub AheadOf : Airs → Ending → List Account → List Account → Option (List ℕ) → Option (List ℕ) → Option (List ℕ) → Option (List ℕ) → Type 0
 AheadOf airs (endings.Refused line reason) starts ends left left' kept kept' = reason ≢ NoEnd → ReadsAhead left left' line
 AheadOf airs endings.WriteFault starts ends left left' kept kept' = WriteCut airs starts ends left left' kept kept'
@@ -58,12 +56,10 @@ abbrev pub NoneFailed : List Account → List Account → Type 0
 NoneFailed starts ends =
     (box : ℕ) (before after : Account) → slice_get starts box ≡ Some before → slice_get ends box ≡ Some after → ¬ Rose before.faults after.faults
 
--- each box has room for the valid units of a text
 abbrev pub RoomForText : Airs → List Account → List ℕ → Type 0
 RoomForText airs starts text = RoomFor starts (units_of airs starts (lines_of true text))
 
--- Which endings come for this text, by what became of the counts of the source (`read`), of the sink (`write`) and of the
--- boxes, and by the room of the boxes.
+-- which endings come for this text, by the counts of the source (`read`), of the sink (`write`) and of the boxes, and by their room
 pub record Complete (airs : Airs) (text : List ℕ) (starts ends : List Account) (read read' write write' : ℕ) (ending : Ending) : Type 0 where
   pub through_all : transcript_end airs starts (lines_of true text) ≡ through
       → ¬ Rose read read' → ¬ Rose write write' → NoneFailed starts ends → IsDoneOrMemory ending

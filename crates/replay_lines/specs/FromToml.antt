@@ -30,27 +30,22 @@ use Rattle.replay_lines.specs.Standing.{Standing, standing_of, transcript_over, 
 abbrev pub TomlEnding : Type 0
 TomlEnding = Result Ending Cause
 
--- the transcript was written to its end, or to its refusal
 abbrev pub WasWhole : TomlEnding → Type 0
 WasWhole (Ok ending) = IsWhole ending
 WasWhole (Err cause) = Unit {0}
 
--- writing was cut short, or memory ran out
 abbrev pub WasCut : TomlEnding → Type 0
 WasCut (Ok ending) = IsCut ending
 WasCut (Err cause) = ⊥
 
--- the run ended by itself, with no refusal
 abbrev pub WasThrough : TomlEnding → Type 0
 WasThrough (Ok ending) = IsDoneOrMemory ending
 WasThrough (Err cause) = ⊥
 
--- no fault of the outside came
 abbrev pub WasNoFault : TomlEnding → Type 0
 WasNoFault (Ok ending) = IsNoFault ending
 WasNoFault (Err cause) = Unit {0}
 
--- whichever airs of the sources that meet the relation of their framing the document is taken over
 abbrev pub Written : Result (End Refusal) Cause → World → World → Type 0
 Written end old new = (airs : Airs) → MeetAirs airs → TomlWritten airs old.boxes new.boxes old.left new.left old.taken new.taken end
 
@@ -60,8 +55,7 @@ Cut old new = (airs : Airs) → MeetAirs airs → TomlCut airs old.boxes new.box
 abbrev pub Unread : ℕ → World → World → Type 0
 Unread most old new = TomlUnread most old.boxes new.boxes old.left new.left old.taken new.taken
 
--- Which endings come for a document that stands for this, by what became of the counts of the source (`read`), of the sink (`write`)
--- and of the boxes, and by the room of the boxes.
+-- `Complete` of the lines that the document stands for
 pub record TomlComplete (airs : Airs) (standing : Standing) (starts ends : List Account) (read read' write write' : ℕ)
     (result : TomlEnding) : Type 0 where
   pub through_all : end_over airs starts standing ≡ Ok through
@@ -104,9 +98,7 @@ pub record FromToml (old new : World) (result : TomlEnding) : Type 0 where
       → TomlOutlet airs old.boxes new.boxes old.left new.left old.taken new.taken
   -- Memory: a prefix of the transcript of the document was written, or nothing where memory ran out before a line was run.
   pub memory : result ≡ Ok endings.Memory → Unread (document_limit + 1) old new ⊎ Cut old new
-  -- The source's count stays with each ending but ReadFault.
   pub no_read_fault : result ≢ Ok endings.ReadFault → new.reads ≡ old.reads
-  -- The sink's count stays with each ending but WriteFault.
   pub no_write_fault : result ≢ Ok endings.WriteFault → new.writes ≡ old.writes
   -- Each box's count stays with each ending but OutletFault; or it is WriteFault or Memory, and what comes before the unit that a
   -- box refused wasn't written whole. The count of at most one box changes.

@@ -22,7 +22,6 @@ use Rattle.scenario_laws.specs.Versions.{MigrationLaw}
 use Rattle.scenario_laws.specs.Relayed.{RelayLinesLaw, RelayedUnitsLaw}
 use Rattle.replay_lines.specs.World.{World}
 
--- between these worlds a run read, wrote and handed to the boxes what this ending says
 abbrev pub DidOver : Airs → Ending → World → World → Type 0
 DidOver airs ending old new = Ended airs ending old.boxes new.boxes old.left new.left old.taken new.taken
 
@@ -43,9 +42,7 @@ pub record Promised (old new : World) (ending : Ending) : Type 0 where
   pub outlet_fault : ending ≡ endings.OutletFault → Did endings.OutletFault old new
   -- Memory: a prefix of what the lines read bring was written.
   pub memory : ending ≡ endings.Memory → Did endings.Memory old new
-  -- The source's count stays with each ending but ReadFault.
   pub no_read_fault : ending ≢ endings.ReadFault → new.reads ≡ old.reads
-  -- The sink's count stays with each ending but WriteFault.
   pub no_write_fault : ending ≢ endings.WriteFault → new.writes ≡ old.writes
   -- Each box's count stays with each ending but OutletFault; or the ending is WriteFault or Memory, and what comes before the
   -- unit that a box refused wasn't written whole. The count of at most one box changes.
@@ -71,38 +68,29 @@ pub record Promised (old new : World) (ending : Ending) : Type 0 where
   pub units_law : UnitsLaw old.boxes
   -- The units of a sink to which no train was given by its octets are in the order of the source, and each comes at most once.
   pub order_law : OrderLaw old.boxes
-  -- What two sinks, to which no train was given by its octets, hand up of one source is rendered at the same µs, whichever streams they
-  -- take: of an unframed group where it is for one slot of one event, at the event's anchor, BIG_Sync_Delay, SDU_Interval for each slot
-  -- before it and Presentation_Delay; of a framed one, where no PDU was injected, where it is of units with one time, at that time,
-  -- BIG_Sync_Delay, SDU_Interval, ISO_Interval and Presentation_Delay (Core 5.2, volume 6 part G, section 3.2).
+  -- What two sinks, to which no train was given by its octets, hand up of one source for one slot of one event, or, without injected
+  -- PDUs, of framed units with one time, is rendered at the same µs on all streams (Core 5.2, volume 6 part G, section 3.2).
   pub moment_law : MomentLaw old.boxes
-  -- Such a sink hands up a slot of an event by the anchor of the source's next event: so no later than it is rendered, where
-  -- BIG_Sync_Delay and Presentation_Delay are together no less than ISO_Interval. A framed unit it hands up by the close of the event
-  -- of the unit's last PDU: so no later than it is rendered, where that event's anchor is no more than BIG_Sync_Delay, SDU_Interval and
-  -- Presentation_Delay past the unit's time.
+  -- Such a sink hands up each unit no later than it is rendered, where the delays are long enough.
   pub in_time_law : InTimeLaw old.boxes
   -- In a text with further `hear` and `air` lines, or with an `air` line that loses nothing in the place of one that loses some, such a
   -- sink, into which no PDU was injected, hands up each valid unit of its streams too, with its octets and its time.
   pub hearing_law : AllHearingLaw old.boxes
-  -- On each link of a living sink over which no notice was forged since it was joined, a slot for which neither a notice nor a
-  -- read waits has its state as the assistant's view; once the waiting notices are delivered and the waiting reads are served,
-  -- all views are the states (Broadcast Audio Scan Service 1.0, section 3.2).
+  -- On each link of a living sink over which no notice was forged since it was joined, the assistant's views agree with the states of the
+  -- slots (Broadcast Audio Scan Service 1.0, section 3.2).
   pub agreement_law : AgreementLaw
   -- On each link but 0 the same holds whatever the other links do: they change nothing of it but through the states of the slots,
   -- and a link that is joined begins anew.
   pub links_law : LinksLaw
-  -- A text in which no `train` step prints `BadGroup 11`, and whose transcript has no refusal or a refusal other than BadLine,
-  -- `BadGroup 11` and TimeOrder, has the same transcript in version 2, with the same end, and hands the boxes the same units.
+  -- A text of which no `train` prints `BadGroup 11`, and that isn't refused by it, by BadLine or by TimeOrder, is the same in version 2.
   pub migration_law : MigrationLaw old.boxes
-  -- Where no step under the other source synchronizes a sink to a train or a BIG, and no line is `relay`, all that the sink hands up, has,
-  -- answers and is asked, and all that its assistants know, is what it would be without the other sinks and without the lines of the
-  -- other source.
+  -- Where no step under the other source synchronizes a sink to a train or a BIG, and no line is `relay`, all of the sink and of its
+  -- assistants is what it would be without the other sinks and without the lines of the other source.
   pub isolation_law : IsolationLaw old.boxes
   -- Where a line is `relay N B B2`, what source 1 accepted on B2 is what sink N handed up of B, valid, at closes of source 0 behind this
   -- line and before its `drop`, without exactly the units that have a `dropped` line, in order and with octets and times.
   pub relay_law : RelayLinesLaw old.boxes
-  -- Where a line is `relay N B B2`, no PDU was injected into sink N and no train given to it by its octets, nor into a sink M since it
-  -- was made, what M handed up of B2 of source 1 is, in order, of units that source 0 accepted on B and that N handed up, at most one of
-  -- each; a valid one has the unit's octets, and each is rendered later than N handed the unit up by the group's delay, SDU_Interval,
-  -- ISO_Interval and Presentation_Delay of source 1 (Core 5.2, volume 6 part G, section 3.2).
+  -- So what a sink M of source 1 handed up of B2 is, in order, of units that source 0 accepted on B and that N handed up, at most one of
+  -- each, where nothing was injected into N or M; a valid one has the unit's octets, and each is rendered later by the delays of source 1
+  -- (Core 5.2, volume 6 part G, section 3.2).
   pub relayed_units_law : RelayedUnitsLaw old.boxes

@@ -31,7 +31,6 @@ pub record Comes (left left' : Option (List ℕ)) (earlier : List TextLine) (lin
   pub lines : (at_end : Bool) (more : List ℕ) → MayFollow over at_end more
       → (later : List TextLine) × (lines_of at_end (text ++ more) ≡ reverse earlier ++ line ∷ later)
 
--- Done: the text was read to its end, its transcript has no refusal and was written, and the boxes took its units
 pub record Done (airs : Airs) (starts ends : List Account) (left left' kept kept' : Option (List ℕ)) : Type 0 where
   pub text : List ℕ
   pub read : TextRead left left' text true
@@ -39,8 +38,7 @@ pub record Done (airs : Airs) (starts ends : List Account) (left left' kept kept
   pub written : Appends kept kept' (transcript_of airs starts (lines_of true text))
   pub boxes : Took starts ends (units_of airs starts (lines_of true text))
 
--- Refused: the transcript ends with this refusal at this line whatever follows the octets read, and was written. NoEnd
--- comes only at the end of the input.
+-- NoEnd comes only at the end of the input
 pub record RefusedAt (airs : Airs) (starts ends : List Account) (left left' kept kept' : Option (List ℕ)) (line : ℕ) (reason : Refusal) : Type 0 where
   pub text : List ℕ
   pub over : Bool
@@ -54,7 +52,6 @@ pub record RefusedAt (airs : Airs) (starts ends : List Account) (left left' kept
   pub handed : (at_end : Bool) (more : List ℕ) → MayFollow over at_end more → units_of airs starts (lines_of at_end (text ++ more)) ≡ units
   pub boxes : Took starts ends units
 
--- ReadFault: what the whole lines read bring was written, and none of them is refused
 pub record ReadFaulted (airs : Airs) (starts ends : List Account) (left left' kept kept' : Option (List ℕ)) : Type 0 where
   pub text : List ℕ
   pub read : TextRead left left' text false
@@ -67,7 +64,6 @@ abbrev pub brought_by : Airs → Bool → List Account → List ℕ → List ℕ
 brought_by airs true starts text = transcript_of airs starts (lines_of true text)
 brought_by airs false starts text = out_of airs starts (lines_of false text)
 
--- the boxes took a prefix of the units of these lines
 pub record BoxesCut (airs : Airs) (starts ends : List Account) (lines : List TextLine) : Type 0 where
   pub done : List SinkUnit
   pub rest : List SinkUnit
@@ -95,8 +91,7 @@ pub record FaultCut (airs : Airs) (starts ends : List Account) (left left' kept 
   pub written : Appends kept between (out_of airs starts (reverse earlier))
   pub cut : AppendsShort between kept' told
 
--- WriteFault and Memory: a prefix of what the lines read bring was written, and the boxes took a prefix of their units; or one
--- of them failed, and what comes before its unit wasn't written whole
+-- WriteFault and Memory: a prefix of what the lines read bring was written, and the boxes took a prefix of their units, or one failed
 pub record Broken (airs : Airs) (starts ends : List Account) (left left' kept kept' : Option (List ℕ)) : Type 0 where
   pub text : List ℕ
   pub over : Bool
@@ -104,8 +99,7 @@ pub record Broken (airs : Airs) (starts ends : List Account) (left left' kept ke
   pub written : AppendsPrefix kept kept' (brought_by airs over starts text)
   pub boxes : BoxesCut airs starts ends (lines_of over text) ⊎ FaultCut airs starts ends left left' kept kept'
 
--- At most so many octets were read past the end of this line, from 1: but for the last ones, the octets that a run took
--- from its source hold no more lines.
+-- At most 65,536 octets were read past the end of this line, from 1: without them the octets that a run took hold no more lines.
 pub record ReadsAhead (left left' : Option (List ℕ)) (line : ℕ) : Type 0 where
   pub upto : List ℕ
   pub ahead : List ℕ
@@ -113,7 +107,6 @@ pub record ReadsAhead (left left' : Option (List ℕ)) (line : ℕ) : Type 0 whe
   pub least : length ahead ≤ 65536
   pub within : length (lines_of true upto) ≤ line
 
--- a run took at most so many octets from its source
 pub record ReadsAtMost (left left' : Option (List ℕ)) (most : ℕ) : Type 0 where
   pub octets : List ℕ
   pub consumed : Consumes left left' octets
@@ -123,9 +116,8 @@ pub record ReadsAtMost (left left' : Option (List ℕ)) (most : ℕ) : Type 0 wh
 abbrev pub read_limit : ℕ
 read_limit = text_limit + 65536
 
--- OutletFault: the lines before one were run, and none is refused; the box of a unit that this line hands up failed. What those
--- lines bring was written, and then what this one prints before the line of the unit. No octet was read but for those that follow
--- the line in one read ahead.
+-- OutletFault: the lines before one were run, and none is refused; the box of a unit that this line hands up failed. What comes before the
+-- line of that unit was written. No octet was read but for those that follow the line in one read ahead.
 pub record OutletFaulted (airs : Airs) (starts ends : List Account) (left left' kept kept' : Option (List ℕ)) : Type 0 where
   pub earlier : List TextLine
   pub line : TextLine
@@ -138,8 +130,7 @@ pub record OutletFaulted (airs : Airs) (starts ends : List Account) (left left' 
   pub fails : LineFails airs starts earlier line (out_of airs starts (reverse earlier)) told accounts ends
   pub written : Appends kept kept' told
 
--- The boxes took a prefix of these units, and then one of them may have failed at the next unit and counted it. Nothing is said of what
--- was printed.
+-- The boxes took a prefix of these units, and then one may have failed at the next one and counted it. What was printed isn't said.
 abbrev pub TookPrefix : List SinkUnit → List Account → List Account → Type 0
 TookPrefix units before after = CutShort units before after ⊎ ((told : List ℕ) × BoxFails units [] told before after)
 
@@ -179,8 +170,7 @@ pub record NoEndCut (airs : Airs) (starts ends : List Account) (left left' kept 
   pub not_before : length (out_of airs starts (lines_of true text)) ≤ length prefix
   pub boxes : Took starts ends (units_of airs starts (lines_of true text))
 
--- WriteFault: what was written ends within what a line brings, and at most so many octets were read past the end of that
--- line; or it ends within the line of NoEnd
+-- WriteFault: what was written ends within what a line brings, past which no more is read than `ReadsAhead`, or within the line of NoEnd
 abbrev pub WriteCut : Airs → List Account → List Account → Option (List ℕ) → Option (List ℕ) → Option (List ℕ) → Option (List ℕ) → Type 0
 WriteCut airs starts ends left left' kept kept' =
     ((line : ℕ) × CutAt airs starts ends left left' kept kept' line × ReadsAhead left left' line) ⊎ NoEndCut airs starts ends left left' kept kept'

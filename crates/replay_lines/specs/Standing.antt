@@ -20,7 +20,6 @@ pub data Standing : Type 0 where
   refused_for : Cause → Standing
   stands_for : List ℕ → Standing
 
--- of a document that is not too long
 abbrev pub standing_by : Meaning → Standing
 standing_by no_toml = refused_for BadToml
 standing_by no_form = refused_for BadDocument
@@ -32,7 +31,6 @@ standing_of document = if nat_lt document_limit (length document) then refused_f
 
 -- ---- what its run brings
 
--- the refusal of the scenario language
 abbrev pub reason_of : Cause → Refusal
 reason_of TooLong = refusals.TextTooLong
 reason_of BadToml = refusals.BadToml
@@ -42,7 +40,6 @@ reason_of BadDocument = refusals.BadDocument
 abbrev pub cause_line : Cause → List ℕ
 cause_line cause = refusal_line 0 (reason_of cause)
 
--- the lines that are run
 abbrev pub lines_over : Standing → List TextLine
 lines_over (refused_for cause) = []
 lines_over (stands_for octets) = lines_of true octets
@@ -52,11 +49,9 @@ abbrev pub transcript_over : Airs → List Account → Standing → List ℕ
 transcript_over airs starts (refused_for cause) = cause_line cause
 transcript_over airs starts (stands_for octets) = transcript_of airs starts (lines_of true octets)
 
--- how it ends: with the refusal of the document, or as the transcript of the lines does
 abbrev pub end_over : Airs → List Account → Standing → Result (End Refusal) Cause
 end_over airs starts (refused_for cause) = Err cause
 end_over airs starts (stands_for octets) = Ok (transcript_end airs starts (lines_of true octets))
 
--- the units that the lines hand up, in order
 abbrev pub units_over : Airs → List Account → Standing → List SinkUnit
 units_over airs starts standing = units_of airs starts (lines_over standing)

@@ -13,6 +13,5 @@ pub enum Ending {
     WriteFault,
     /// The box of a sink failed.
     OutletFault,
-    /// Memory ran out.
     Memory,
 }

@@ -11,39 +11,32 @@ use Rattle.replay_migration.specs.TextRead.{ReadWhole, ReadPast, ReadPart, piece
 use Rattle.replay_migration.specs.declared.migration.Migration.{Migration}
 use Rattle.replay_migration.specs.declared.migration.Migration.TheVariants as ends
 
--- the line of the refusal of a text that is too long
 abbrev pub too_long_line : ℕ → List ℕ
 too_long_line line = refusal_line line TextTooLong
 
--- the text was read to its end, and was written in version 2
 pub record WroteText (left left' kept kept' : Option (List ℕ)) : Type 0 where
   pub text : List ℕ
   pub read : ReadWhole left left' text
   pub written : Appends kept kept' (migrated text)
 
--- the line of this number holds the octet past the limit of a text, and the line of its refusal alone was written
 pub record WroteRefusal (left left' kept kept' : Option (List ℕ)) (line : ℕ) : Type 0 where
   pub read : ReadPast left left' line
   pub written : Appends kept kept' (too_long_line line)
 
--- no octet past the limit of a text was read, and nothing was written
 pub record WroteNothing (left left' kept kept' : Option (List ℕ)) : Type 0 where
   pub read : ReadPart left left' text_limit
   pub written : Keeps kept kept'
 
--- these octets are the text in version 2, which was read to its end
 pub record IsText (left left' : Option (List ℕ)) (octets : List ℕ) : Type 0 where
   pub text : List ℕ
   pub read : ReadWhole left left' text
   pub are : octets ≡ migrated text
 
--- these octets are the line of the refusal of a text that has the octet past the limit
 pub record IsRefusal (left left' : Option (List ℕ)) (octets : List ℕ) : Type 0 where
   pub line : ℕ
   pub read : ReadPast left left' line
   pub are : octets ≡ too_long_line line
 
--- these octets are due for the text of the source
 abbrev pub IsDue : Option (List ℕ) → Option (List ℕ) → List ℕ → Type 0
 IsDue left left' octets = IsText left left' octets ⊎ IsRefusal left left' octets
 
@@ -53,7 +46,6 @@ pub record WroteShort (left left' kept kept' : Option (List ℕ)) : Type 0 where
   pub due : IsDue left left' octets
   pub written : AppendsShort kept kept' octets
 
--- a prefix of what is due was written
 pub record WrotePrefix (left left' kept kept' : Option (List ℕ)) : Type 0 where
   pub octets : List ℕ
   pub due : IsDue left left' octets

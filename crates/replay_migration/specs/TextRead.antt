@@ -8,7 +8,6 @@ use Rattle.bcast_io.specs.TextLines.{TextLine, past, lines_of, text_limit}
 abbrev pub piece_limit : ℕ
 piece_limit = 65536
 
--- the whole text was read, and it has no more octets than a text may have
 pub record ReadWhole (left left' : Option (List ℕ)) (text : List ℕ) : Type 0 where
   pub consumed : Consumes left left' text
   pub at_end : IsAtEnd left'
@@ -25,15 +24,13 @@ pub record IsTooLong (text : List ℕ) (line : ℕ) : Type 0 where
   pub long : text_limit < length text
   pub lines : (at_end : Bool) (more : List ℕ) → LastIsPast (lines_of at_end (text ++ more)) line
 
--- so much of a text was read that it is too long, in the line of this number, and nothing after the read that gave the
--- octet past the limit
+-- so much of a text was read that it is too long, in the line of this number, and nothing after the read that showed it
 pub record ReadPast (left left' : Option (List ℕ)) (line : ℕ) : Type 0 where
   pub text : List ℕ
   pub consumed : Consumes left left' text
   pub too_long : IsTooLong text line
   pub least : length text ≤ text_limit + piece_limit
 
--- a prefix of a text was read, of no more octets than these
 pub record ReadPart (left left' : Option (List ℕ)) (most : ℕ) : Type 0 where
   pub text : List ℕ
   pub consumed : Consumes left left' text

@@ -9,8 +9,7 @@ use Rattle.scenario_history.specs.Boxes.{SinkUnit, accounts_after}
 use Rattle.scenario_history.specs.RelayedUnits.{Answered}
 use Rattle.scenario_history.specs.Output.{first_lines, unit_lines}
 
--- what became of the units that relays offered before a unit of a close is handed up: those of the sinks below, and all of them once
--- source 1 is closed
+-- what became of the units that relays offered before a unit of a close: those of the sinks below, and all once source 1 is closed
 abbrev pub answered_before : SinkUnit → List Answered → List Answered
 answered_before unit answers = if unit.source == 0 then filter (λ answer. nat_lt answer.offer.sink unit.sink) answers else answers
 
@@ -18,8 +17,7 @@ answered_before unit answers = if unit.source == 0 then filter (λ answer. nat_l
 abbrev pub printed_before : List Answered → List SinkUnit → SinkUnit → List ℕ
 printed_before answers done unit = first_lines done (answered_before unit answers) ++ unit_lines (filter (λ other. other.source == 1) done)
 
--- The units before one went to their boxes, what the close prints before its line was printed, and the box of that one failed and
--- counted it.
+-- The units before one went to their boxes, what the close prints before its line was printed, and its box failed and counted it.
 pub record CloseFails (units : List SinkUnit) (answers : List Answered) (output text told : List ℕ) (old new : List Account) : Type 0 where
   pub done : List SinkUnit
   pub unit : SinkUnit

@@ -6,7 +6,7 @@ use Rattle.source_machine.specs.Airs.{airs_of, Airs}
 use Rattle.scenario_text.specs.declared.step.Step.{Step}
 use Rattle.transcript_text.specs.declared.refusal.Refusal.{Refusal}
 use Rattle.scenario_history.specs.RelayedUnits.{Answered, answered_by}
-use Rattle.scenario_history.specs.Lines.{Said, a_step, nothing, unsaid, rules_of, said_after, steps_of, handed_on}
+use Rattle.scenario_history.specs.Lines.{Said, a_step, rules_of, said_after, steps_of, handed_on}
 use Rattle.replay_steps.specs.declared.machine.Machine.{Machine}
 use Rattle.transcript_text.specs.declared.stop.Stop.{Stop}
 use Rattle.replay_steps.specs.Machines.{Stands}
@@ -23,13 +23,10 @@ refusal_at starts lines line = (rules_of airs_of starts).refusal lines line
 abbrev pub output_at : List Account → List TextLine → TextLine → List ℕ
 output_at starts lines line = (rules_of airs_of starts).output lines line
 
--- what becomes of the units that relays offer before the step that a line says
 abbrev pub answered_said : Airs → List Step → Said → List Answered
 answered_said airs steps (a_step step) = answered_by airs steps step
-answered_said airs steps nothing = []
-answered_said airs steps (unsaid reason) = []
+answered_said airs steps _ = []
 
--- and by the line after these
 abbrev pub answered_on : Airs → List TextLine → TextLine → List Answered
 answered_on airs lines line = answered_said airs (steps_of airs lines) (said_after lines line)
 

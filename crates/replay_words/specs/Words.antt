@@ -45,7 +45,6 @@ asked false true None None = Toml
 asked false false (Some seed) (Some events) = generating (decimal_in 0 2147483647 seed) (decimal_in 1 100000 events)
 asked _ _ _ _ = Usage
 
--- what words ask for that are taken, by the values of the options and flags
 abbrev pub asked_of : List Row → Mode
 asked_of rows = asked (is_yes (first_of (codes "migrate") rows)) (is_yes (first_of (codes "toml") rows)) (first_of (codes "seed") rows) (first_of (codes "events") rows)
 
@@ -53,7 +52,6 @@ asked_of rows = asked (is_yes (first_of (codes "migrate") rows)) (is_yes (first_
 unfoldable pub mode_by_command : List Text → Mode
 mode_by_command words = if is_empty (fault_of the_command words) then asked_of (matches_of the_command words) else Usage
 
--- no words mean that the scenario of the source is run
 abbrev pub mode_of : List Text → Mode
 mode_of [] = Replay
 mode_of (word ∷ words) = mode_by_command (word ∷ words)

@@ -29,8 +29,7 @@ pub enum Mode {
     Migrate,
     /// The source gives a scenario as a TOML document.
     Toml,
-    /// The scenario of the generator is run, and its summary written: with a seed up to 2,147,483,647, and 1 to 100,000
-    /// events.
+    /// The scenario of the generator is run, and its summary written: a seed up to 2,147,483,647, and 1 to 100,000 events.
     Generate { seed: u32, events: u32 },
     /// Nothing that there is.
     Usage,

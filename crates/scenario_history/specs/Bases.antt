@@ -16,7 +16,6 @@ with_base_line (Meta metadata) lines = describes metadata ∷ lines
 with_base_line (Bis bis config) lines = adds bis config ∷ lines
 with_base_line _ lines = lines
 
--- the lines of the BASE
 abbrev pub base_lines : List Step → List BaseLine
 base_lines [] = []
 base_lines (step ∷ earlier) = with_base_line step (base_lines earlier)
@@ -24,15 +23,12 @@ base_lines (step ∷ earlier) = with_base_line step (base_lines earlier)
 abbrev pub subgroups_of : List Step → List Subgroup
 subgroups_of steps = subgroups_in (base_lines steps)
 
--- there is a subgroup
 abbrev pub has_subgroup : List Step → Bool
 has_subgroup steps = is_some (last_of (subgroups_of steps))
 
--- the last subgroup has no `bis`
 abbrev pub is_last_bare : List Step → Bool
 is_last_bare steps = is_empty_last (last_of (subgroups_of steps))
 
--- a `bis` of this index stands
 abbrev pub has_bis : List Step → ℕ → Bool
 has_bis steps bis = stands_in (indices (subgroups_of steps)) bis
 
@@ -44,6 +40,5 @@ base_from group (subgroup ∷ others) = endpoint group.delay (subgroup ∷ other
 abbrev pub base_of : List Step → Endpoint
 base_of steps = base_from (unwrap_or (group_of steps) no_group) (subgroups_of steps)
 
--- it has more than 252 octets
 abbrev pub is_base_too_long : List Step → Bool
 is_base_too_long steps = nat_lt 252 (length (encoding (base_of steps)))

@@ -14,11 +14,9 @@ use Rattle.scenario_history.specs.Source.{open_event}
 use Rattle.source_machine.specs.Airs.{Airs}
 use Rattle.scenario_history.specs.Sinks.{is_of, sink_calls, source_of}
 
--- how many sinks may live
 abbrev pub most_sinks : ℕ
 most_sinks = 8
 
--- the numbers that sinks have
 unfoldable pub sink_numbers : List ℕ
 sink_numbers = range_with_len 0 most_sinks
 
@@ -39,12 +37,10 @@ pub record SinkUnit : Type 0 where
   pub box : ℕ
   pub unit : Handed
 
--- what a sink with a box or none hands up after these calls as an event of a source is closed, by rising stream and then
--- in order
+-- what a sink with a box or none hands up after these calls as an event of a source closes, by rising stream and then in order
 abbrev pub closing_in : ℕ → ℕ → ℕ → List Call → Option ℕ → List SinkUnit
 closing_in s event n calls None = []
-closing_in s event n calls (Some box) =
-    map (λ unit. record { source = s; sink = n; box = box; unit = unit }) (handed_at calls event)
+closing_in s event n calls (Some box) = map (λ unit. record { source = s; sink = n; box = box; unit = unit }) (handed_at calls event)
 
 -- the same of a sink of this source or of none: as an event of source `s` is closed, only its sinks hand something up
 abbrev pub closing_by : ℕ → ℕ → ℕ → List Call → Option ℕ → Option ℕ → List SinkUnit
@@ -63,7 +59,6 @@ closing airs s steps = closing_at airs s steps (open_event (steps_of_source s st
 abbrev pub closing_both : Airs → List Step → List SinkUnit
 closing_both airs steps = closing airs 0 steps ++ closing airs 1 steps
 
--- what the step after these hands up
 abbrev pub handed_by : Airs → List Step → Step → List SinkUnit
 handed_by airs earlier Event = closing airs (chosen_of earlier) earlier
 handed_by airs earlier Stop = closing airs (chosen_of earlier) earlier
@@ -71,26 +66,22 @@ handed_by airs earlier (Terminate reason) = closing airs (chosen_of earlier) ear
 handed_by airs earlier End = closing_both airs earlier
 handed_by airs earlier _ = []
 
--- all that was handed up, in order
 abbrev pub handed_up : Airs → List Step → List SinkUnit
 handed_up airs [] = []
 handed_up airs (step ∷ earlier) = handed_up airs earlier ++ handed_by airs earlier step
 
 -- ---- the boxes
 
--- no box stands at this place
 abbrev pub no_account : Account
 no_account = fresh false 0 None
 
 abbrev pub account_at : List Account → ℕ → Account
 account_at accounts box = slice_index_or accounts box no_account
 
--- a valid unit goes to a box
 abbrev pub with_handed : List Account → ℕ → Handed → List Account
 with_handed accounts box (valid bis time octets) = slice_set accounts box (with_unit octets (account_at accounts box))
 with_handed accounts box (lost bis time) = accounts
 
--- the boxes after these units, each valid one of which went to the box of its sink
 abbrev pub accounts_after : List Account → List SinkUnit → List Account
 accounts_after accounts [] = accounts
 accounts_after accounts (unit ∷ units) = accounts_after (with_handed accounts unit.box unit.unit) units
@@ -101,18 +92,15 @@ abbrev pub onto_valid : Bool → Handed → List (List ℕ) → List (List ℕ)
 onto_valid is_its (valid bis time octets) units = if is_its then octets ∷ units else units
 onto_valid is_its (lost bis time) units = units
 
--- the octets of the valid units that go to a box, in order
 abbrev pub valid_for : ℕ → List SinkUnit → List (List ℕ)
 valid_for box [] = []
 valid_for box (unit ∷ units) = onto_valid (unit.box == box) unit.unit (valid_for box units)
 
--- the units that a box keeps after these: the newest, up to the greatest number
 abbrev pub kept_with : ℕ → List (List ℕ) → Option (List (List ℕ)) → Option (List (List ℕ))
 kept_with greatest [] kept = kept
 kept_with greatest (unit ∷ units) None = None
 kept_with greatest (unit ∷ units) (Some kept) = Some (keep_last greatest (kept ++ unit ∷ units))
 
--- an account with these units: its sums grow by their number and their octets
 abbrev pub with_units : Account → List (List ℕ) → Account
 with_units account units = record account {
   units = account.units + length units;
@@ -125,12 +113,10 @@ abbrev pub Took : List Account → List Account → List SinkUnit → Type 0
 Took starts ends units =
     (box : ℕ) → slice_get ends box ≡ option_map (λ account. with_units account (valid_for box units)) (slice_get starts box)
 
--- the sums of an account hold in 64 bits
 abbrev pub Holds : Account → Type 0
 Holds account = (account.units < 2 ^ 64) × (account.octets < 2 ^ 64)
 
 -- each box is sound, and its sums hold what it has at the start and the valid units of its sink among these
 abbrev pub RoomFor : List Account → List SinkUnit → Type 0
-RoomFor starts units =
-    (box : ℕ) (account : Account) → slice_get starts box ≡ Some account
+RoomFor starts units = (box : ℕ) (account : Account) → slice_get starts box ≡ Some account
     → IsTrue account.is_sound × Holds (with_units account (valid_for box units))

@@ -36,8 +36,7 @@ said_in version past = unsaid TextTooLong
 
 abbrev pub with_said : Said → List Step → List Step
 with_said (a_step step) steps = step ∷ steps
-with_said nothing steps = steps
-with_said (unsaid reason) steps = steps
+with_said _ steps = steps
 
 -- what the lines say: their steps, each read in the version of those before it
 abbrev pub said_of : List TextLine → List Step
@@ -48,7 +47,6 @@ said_of (line ∷ earlier) = with_said (said_in (version_of (said_of earlier)) l
 abbrev pub steps_of : Airs → List TextLine → List Step
 steps_of airs lines = happened airs (said_of lines)
 
--- what the line after these says
 abbrev pub said_after : List TextLine → TextLine → Said
 said_after lines line = said_in (version_of (said_of lines)) line
 
@@ -59,10 +57,8 @@ refusal_said airs boxes steps (unsaid reason) = Some reason
 
 abbrev pub output_said : Airs → List Account → List Step → Said → List ℕ
 output_said airs starts steps (a_step step) = output_of airs starts steps step
-output_said airs starts steps nothing = []
-output_said airs starts steps (unsaid reason) = []
+output_said airs starts steps _ = []
 
--- the rules of a scenario with these boxes
 abbrev pub rules_of : Airs → List Account → Rules TextLine Refusal
 rules_of airs starts = record {
   refusal = λ lines line. refusal_said airs (length starts) (steps_of airs lines) (said_after lines line);
@@ -72,9 +68,7 @@ rules_of airs starts = record {
 
 abbrev pub handed_said : Airs → List Step → Said → List SinkUnit
 handed_said airs steps (a_step step) = handed_by airs steps step
-handed_said airs steps nothing = []
-handed_said airs steps (unsaid reason) = []
+handed_said airs steps _ = []
 
--- what the line after these hands up
 abbrev pub handed_on : Airs → List TextLine → TextLine → List SinkUnit
 handed_on airs lines line = handed_said airs (steps_of airs lines) (said_after lines line)

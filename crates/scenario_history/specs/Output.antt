@@ -28,24 +28,19 @@ unit_line unit = handed_line unit.sink unit.unit
 abbrev pub unit_lines : List SinkUnit → List ℕ
 unit_lines units = flat_map unit_line units
 
--- the line of a unit that was offered, where source 1 didn't take it
 abbrev pub answer_line : Offer → Option Refusal → List ℕ
 answer_line offer None = []
 answer_line offer (Some reason) = dropped_line offer.sink offer.route.bis reason
 
--- the lines of the units that a sink offered and that source 1 didn't take
 abbrev pub dropped_lines : ℕ → List Answered → List ℕ
 dropped_lines n answers = flat_map (λ answer. answer_line answer.offer answer.reason) (filter (λ answer. answer.offer.sink == n) answers)
 
--- what sinks hand up of source 0, and what becomes of the units that relays offer of it: by rising sink, its units and then those that
--- source 1 didn't take
+-- by rising sink: what it hands up of source 0, and then the units that its relay offers and source 1 doesn't take
 abbrev pub first_lines : List SinkUnit → List Answered → List ℕ
 first_lines units answers = flat_map (λ n. flat_map (handed_line n) (handed_of 0 n units) ++ dropped_lines n answers) sink_numbers
 
--- what is printed as the step after these closes the open event of the chosen source
 abbrev pub close_lines : Airs → List Step → Step → List ℕ
-close_lines airs steps step =
-    if chosen_of steps == 0 then first_lines (closing airs 0 steps) (answered_by airs steps step)
+close_lines airs steps step = if chosen_of steps == 0 then first_lines (closing airs 0 steps) (answered_by airs steps step)
     else unit_lines (closing airs (chosen_of steps) steps)
 
 abbrev pub stale_lines : List Stale → List ℕ
@@ -60,18 +55,14 @@ abbrev pub sum_if : List Account → List SinkUnit → ℕ → Option ℕ → Li
 sum_if starts units n None = []
 sum_if starts units n (Some box) = sum_of starts units n box
 
--- the sums of the living sinks, by rising number
 abbrev pub sums_of : List Account → List SinkUnit → List Step → List ℕ
 sums_of starts units steps = flat_map (λ n. sum_if starts units n (box_of n steps)) sink_numbers
 
--- what a sink makes of a PDU that is injected in the place of one of the chosen source: a sink that isn't of this source is
--- on no group of it
+-- what a sink makes of a PDU that is injected in the place of one of the chosen source: on no group, where it isn't of this source
 abbrev pub injected_hearing : Airs → List Step → ℕ → ℕ → ℕ → ℕ → List ℕ → Hearing
-injected_hearing airs steps sink back bis subevent octets =
-    if is_of (chosen_of steps) (source_of sink steps)
+injected_hearing airs steps sink back bis subevent octets = if is_of (chosen_of steps) (source_of sink steps)
     then hearing_of (sink_calls airs sink steps) (event_back (chosen_steps steps) back) bis subevent octets else NotOnGroup
 
--- what a step after these prints of the sink that it names and of the assistants on its links
 abbrev pub sink_lines : List Step → Step → List ℕ
 sink_lines steps step = concat (printed the_world steps step)
 
@@ -81,8 +72,7 @@ output_of airs starts steps Event = close_lines airs steps Event ++ stale_lines 
 output_of airs starts steps Stop = close_lines airs steps Stop
 output_of airs starts steps (Terminate reason) =
     close_lines airs steps (Terminate reason) ++ control_line (end_pdu (chosen_steps steps) reason)
-output_of airs starts steps End =
-    first_lines (closing airs 0 steps) (answered_by airs steps End)
+output_of airs starts steps End = first_lines (closing airs 0 steps) (answered_by airs steps End)
     ++ (unit_lines (closing airs 1 steps) ++ sums_of starts (handed_up airs steps ++ closing_both airs steps) steps)
 output_of airs starts steps (Drop sink) = sum_if starts (handed_up airs steps) sink (box_of sink steps)
 output_of airs starts steps (Inject sink back bis subevent octets) =

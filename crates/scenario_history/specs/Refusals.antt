@@ -39,17 +39,12 @@ abbrev pub is_misplaced : Stage → Step → Bool
 is_misplaced stage (Scenario version) = not (is_unbegun_at stage)
 is_misplaced stage _ = is_unbegun_at stage
 
--- A source line stands in the wrong phase of its source, of which these are the steps: `group` stands once, before `start`;
--- `subgroup` after `group`, before `start`, and not while the last subgroup has no `bis`; `ident` and `cipher` after `group`,
--- before `start`, each once; `meta` and `bis` after a `subgroup`, before `start`; `start` once, after `group`, and not while
--- the last subgroup has no `bis`; `tuned`, `unit` and `event` between `start` and `stop` or `terminate`, without `cipher`;
--- `announce`, `stop` and `terminate` between `start` and `stop` or `terminate`; `hear`, `air`, `inject` and `sniff` after
--- `start`, without `cipher`. All others have no phase of their own.
+-- A source line stands in the wrong phase of its source, whose steps these are. No `subgroup` and no `start` comes while the last subgroup
+-- has no `bis`; no unit is taken and nothing is heard of a source with `cipher`. All other lines have no phase of their own.
 abbrev pub is_out_of_phase : List Step → Step → Bool
 is_out_of_phase own (Group framing origin delay iso sdu max_sdu max_pdu num_bis bn nse irc pto sub spacing phy) =
     not (is_absent_at (phase_of own))
-is_out_of_phase own (Ident address_type address sid broadcast_id) =
-    not (is_described_at (phase_of own)) || is_some (ident_of own)
+is_out_of_phase own (Ident address_type address sid broadcast_id) = not (is_described_at (phase_of own)) || is_some (ident_of own)
 is_out_of_phase own (Subgroup codec config) = not (is_described_at (phase_of own)) || is_last_bare own
 is_out_of_phase own (Meta metadata) = not (is_described_at (phase_of own)) || not (has_subgroup own)
 is_out_of_phase own (Bis bis config) = not (is_described_at (phase_of own)) || not (has_subgroup own)
@@ -67,7 +62,6 @@ is_out_of_phase own (Inject sink back bis subevent octets) = not (is_heard own)
 is_out_of_phase own (Sniff back bis subevent) = not (is_heard own)
 is_out_of_phase own _ = false
 
--- the step stands in the wrong phase of the scenario, or of the source that it means
 abbrev pub is_out_of_order : List Step → Step → Bool
 is_out_of_order steps step = is_misplaced (stage_of steps) step || is_out_of_phase (chosen_steps steps) step
 
@@ -93,7 +87,6 @@ air_refusal NoStreamThere = NoSuchBis
 air_refusal NoSubeventThere = NoSuchSubevent
 air_refusal NotKept = NotOnAir
 
--- the place on the air of a source is none
 abbrev pub no_place : List Step → ℕ → ℕ → ℕ → Option Refusal
 no_place own back bis subevent = option_map air_refusal (air_fault (setup_of own) (source_calls own) back bis subevent)
 
@@ -105,44 +98,35 @@ abbrev pub train_ends : Option AnnounceFault → Option Refusal
 train_ends None = None
 train_ends (Some fault) = Some CounterEnds
 
--- an index of the set is above those of a group with so many streams
 unfoldable pub has_beyond : ℕ → ℕ → Bool
 has_beyond num_bis which = list_any (λ bis. nat_lt num_bis bis) (streams_of which)
 
--- the source beside the chosen one was started, also where it was stopped since, with the chosen one's address type, SID and
--- Broadcast_ID
+-- the other source was started, also where it was stopped since, with the address type, SID and Broadcast_ID of the chosen one
 abbrev pub is_ident_twice : List Step → Bool
-is_ident_twice steps =
-    is_started (steps_of_source (other_of (chosen_of steps)) steps)
+is_ident_twice steps = is_started (steps_of_source (other_of (chosen_of steps)) steps)
     && are_twins (identity_of (chosen_steps steps)) (identity_of (steps_of_source (other_of (chosen_of steps)) steps))
 
 -- ---- a `relay` line
 
 -- both sources were started, neither was stopped or terminated or is encrypted, and source 1 is framed
 abbrev pub may_relay : List Step → Bool
-may_relay steps =
-    takes_units (steps_of_source 0 steps)
+may_relay steps = takes_units (steps_of_source 0 steps)
     && (takes_units (steps_of_source 1 steps) && ((setup_of (steps_of_source 1 steps)).info.framing == 1))
 
--- source 0 has no stream `bis`, or source 1 no stream `to`
 abbrev pub is_relay_beyond : List Step → (bis to : ℕ) → Bool
 is_relay_beyond steps bis to =
     nat_lt (setup_of (steps_of_source 0 steps)).info.num_bis bis || nat_lt (setup_of (steps_of_source 1 steps)).info.num_bis to
 
--- the step of a source gives it a unit of this stream
 abbrev pub gives_on : ℕ → Step → Bool
 gives_on bis (Unit stream time octets) = stream == bis
 gives_on bis _ = false
 
--- the sink has a relay, or the stream of source 1 has had a relay or a unit
 abbrev pub is_relay_taken : List Step → (sink to : ℕ) → Bool
-is_relay_taken steps sink to =
-    is_some (relay_of sink steps) || (had_relay to steps || list_any (gives_on to) (steps_of_source 1 steps))
+is_relay_taken steps sink to = is_some (relay_of sink steps) || (had_relay to steps || list_any (gives_on to) (steps_of_source 1 steps))
 
 -- the first reason that holds of a `relay` line, whichever source is chosen
 abbrev pub relay_refusal : List Step → (sink bis to : ℕ) → Option Refusal
-relay_refusal steps sink bis to =
-    option_or (refuse_if (not (may_relay steps)) Order)
+relay_refusal steps sink bis to = option_or (refuse_if (not (may_relay steps)) Order)
     (option_or (no_sink sink steps)
     (option_or (refuse_if (is_relay_beyond steps bis to) NoSuchBis) (refuse_if (is_relay_taken steps sink to) RelayTaken)))
 
@@ -160,8 +144,7 @@ sink_refusal boxes steps (Inject sink back bis subevent octets) = no_sink sink s
 sink_refusal boxes steps (Relay sink bis to) = None
 sink_refusal boxes steps step = refusal_of_sink the_world steps step
 
--- what is refused of a step in the right phase by what its source is, in a scenario of this version: the steps here are
--- those of the source
+-- what is refused of a step in the right phase by what its source is: these are the source's steps, in a scenario of this version
 abbrev pub source_refusal : Airs → ℕ → List Step → Step → Option Refusal
 source_refusal airs version own (Bis bis config) =
     refuse_if (nat_lt (unwrap_or (group_of own) no_group).info.num_bis bis || has_bis own bis) NoSuchBis
@@ -184,16 +167,12 @@ twin_refusal steps (Start first) = refuse_if (is_ident_twice steps) IdentTwice
 twin_refusal steps (Relay sink bis to) = relay_refusal steps sink bis to
 twin_refusal steps _ = None
 
--- what is refused of a step that stands in the right phase, where there are so many boxes
 abbrev pub own_refusal : Airs → ℕ → List Step → Step → Option Refusal
-own_refusal airs boxes steps step =
-    option_or (sink_refusal boxes steps step)
+own_refusal airs boxes steps step = option_or (sink_refusal boxes steps step)
     (option_or (source_refusal airs (version_of steps) (chosen_steps steps) step) (twin_refusal steps step))
 
--- the first reason that holds of a step that doesn't follow `end`
 abbrev pub phase_refusal : Airs → ℕ → List Step → Step → Option Refusal
-phase_refusal airs boxes steps step =
-    option_or (refuse_if (is_out_of_order steps step) Order) (own_refusal airs boxes steps step)
+phase_refusal airs boxes steps step = option_or (refuse_if (is_out_of_order steps step) Order) (own_refusal airs boxes steps step)
 
 -- the first reason that holds of a step, be it that of a line or of a relayed unit to source 1
 abbrev pub refusal_of : Airs → ℕ → List Step → Step → Option Refusal
@@ -201,7 +180,6 @@ refusal_of airs boxes steps step = option_or (refuse_if (is_over steps) AfterEnd
 
 -- ---- the steps of lines
 
--- a step gives source 1 a unit of a stream that has had a relay
 abbrev pub is_relayed : List Step → Step → Bool
 is_relayed steps (Unit bis time octets) = (chosen_of steps == 1) && had_relay bis steps
 is_relayed steps _ = false

@@ -26,12 +26,10 @@ pub record Offer : Type 0 where
   pub route : Route
   pub unit : AudioUnit
 
--- a valid unit of a stream, with the time that is printed of it
 abbrev pub valid_on : ℕ → Handed → List AudioUnit
 valid_on bis (valid stream time octets) = if stream == bis then record { time = time; octets = octets } ∷ [] else []
 valid_on bis (lost stream time) = []
 
--- the valid units of a stream among these
 abbrev pub units_on : ℕ → List Handed → List AudioUnit
 units_on bis units = flat_map (valid_on bis) units
 
@@ -40,7 +38,6 @@ abbrev pub offered_of : ℕ → Option Route → List Handed → List Offer
 offered_of n None units = []
 offered_of n (Some route) units = map (λ unit. record { sink = n; route = route; unit = unit }) (units_on route.bis units)
 
--- the units of a sink and a source among these
 abbrev pub handed_of : ℕ → ℕ → List SinkUnit → List Handed
 handed_of s n units = map (λ unit. unit.unit) (filter (λ unit. (unit.source == s) && (unit.sink == n)) units)
 
@@ -56,17 +53,14 @@ closes_first steps (Terminate reason) = chosen_of steps == 0
 closes_first steps End = true
 closes_first steps _ = false
 
--- what is offered before the step after these
 abbrev pub offers_before : Airs → List Step → Step → List Offer
 offers_before airs steps step = if closes_first steps step then offers_at airs steps else []
 
 -- ---- what source 1 takes of it
 
--- why source 1 doesn't take a unit that is offered after these steps, where it doesn't: it has stopped, or a `unit` line would be
--- refused
+-- why source 1 doesn't take a unit that is offered after these steps: it has stopped, or a `unit` line would be refused
 abbrev pub dropped_for : Airs → Offer → List Step → Option Refusal
-dropped_for airs offer steps =
-    option_or (refuse_if (not (takes_units (steps_of_source 1 steps))) Order)
+dropped_for airs offer steps = option_or (refuse_if (not (takes_units (steps_of_source 1 steps))) Order)
     (source_refusal airs (version_of steps) (steps_of_source 1 steps) (UnitLine offer.route.to (Some offer.unit.time) offer.unit.octets))
 
 -- the unit is given to source 1, and the source that was chosen is chosen again
@@ -74,26 +68,21 @@ abbrev pub with_relayed_unit : Offer → List Step → List Step
 with_relayed_unit offer steps =
     Source (chosen_of steps) ∷ UnitLine offer.route.to (Some offer.unit.time) offer.unit.octets ∷ Source 1 ∷ steps
 
--- a unit that is dropped for a reason changes nothing
 abbrev pub with_relayed_unit_unless : Option Refusal → Offer → List Step → List Step
 with_relayed_unit_unless None offer steps = with_relayed_unit offer steps
 with_relayed_unit_unless (Some reason) offer steps = steps
 
--- the steps once a unit was offered
 abbrev pub after_offer : Airs → Offer → List Step → List Step
 after_offer airs offer steps = with_relayed_unit_unless (dropped_for airs offer steps) offer steps
 
--- the steps once these units were offered, one behind the other
 abbrev pub after_offers : Airs → List Offer → List Step → List Step
 after_offers airs [] steps = steps
 after_offers airs (offer ∷ offers) steps = after_offers airs offers (after_offer airs offer steps)
 
--- a unit that was offered, and why source 1 didn't take it, where it didn't
 pub record Answered : Type 0 where
   pub offer : Offer
   pub reason : Option Refusal
 
--- what becomes of these units as they are offered, each after the units before it
 abbrev pub answered : Airs → List Offer → List Step → List Answered
 answered airs [] steps = []
 answered airs (offer ∷ offers) steps =
@@ -101,7 +90,6 @@ answered airs (offer ∷ offers) steps =
 
 -- ---- what happens
 
--- the relayed units before the step after these
 abbrev pub with_relayed_units : Airs → List Step → Step → List Step
 with_relayed_units airs steps step = after_offers airs (offers_before airs steps step) steps
 
@@ -110,19 +98,15 @@ abbrev pub happened : Airs → List Step → List Step
 happened airs [] = []
 happened airs (step ∷ earlier) = step ∷ with_relayed_units airs (happened airs earlier) step
 
--- what becomes of the units that are offered before the step after these
 abbrev pub answered_by : Airs → List Step → Step → List Answered
 answered_by airs steps step = answered airs (offers_before airs steps step) steps
 
--- what becomes of all units that relays offer by these steps of lines, in order
 abbrev pub all_answered : Airs → List Step → List Answered
 all_answered airs [] = []
 all_answered airs (step ∷ earlier) = all_answered airs earlier ++ answered_by airs (happened airs earlier) step
 
--- of units that were offered those to a stream of source 1
 abbrev pub offered_to : ℕ → List Answered → List Answered
 offered_to bis units = filter (λ answer. answer.offer.route.to == bis) units
 
--- the units without those that were dropped
 abbrev pub passed : List Answered → List AudioUnit
 passed units = map (λ answer. answer.offer.unit) (filter (λ answer. is_none answer.reason) units)

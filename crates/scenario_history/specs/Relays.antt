@@ -11,17 +11,14 @@ pub record Route : Type 0 where
   pub bis : ℕ
   pub to : ℕ
 
--- `relay` gives a sink its relay, and `drop` takes it
 abbrev pub relay_given : ℕ → Step → Option (Option Route)
 relay_given n (Relay sink bis to) = if sink == n then Some (Some (record { bis = bis; to = to })) else None
 relay_given n (Drop sink) = if sink == n then Some None else None
 relay_given n _ = None
 
--- the relay of the sink of this number, where it has one
 abbrev pub relay_of : ℕ → List Step → Option Route
 relay_of n steps = unwrap_or (last_given (relay_given n) steps) None
 
--- the step makes a relay to this stream of source 1
 abbrev pub relays_to : ℕ → Step → Bool
 relays_to bis (Relay sink from to) = to == bis
 relays_to bis _ = false
@@ -30,11 +27,9 @@ relays_to bis _ = false
 abbrev pub had_relay : ℕ → List Step → Bool
 had_relay bis steps = list_any (relays_to bis) steps
 
--- the step is a `relay` line
 abbrev pub makes_relay : Step → Bool
 makes_relay (Relay sink bis to) = true
 makes_relay _ = false
 
--- there was a `relay` line
 abbrev pub has_relay : List Step → Bool
 has_relay steps = list_any makes_relay steps

@@ -2,8 +2,7 @@
 -- refusal. The lines of a run so far are its history, the newest first. Runs are this project's own.
 use Rattle.std.specs.Prelude.{ℕ, ◌+◌, ◌≡◌, List, [], ◌∷◌, ◌++◌, length, Option, None, Some}
 
--- what fixes a run: why a line is refused after a history, what it brings where it isn't, and the line of a refusal by its
--- number and its reason
+-- what fixes a run: why a line is refused after a history, what else it brings, and the line of a refusal by number and reason
 pub record Rules (L R : Type 0) : Type 0 where
   pub refusal : List L → L → Option R
   pub output : List L → L → List ℕ
@@ -14,7 +13,6 @@ pub data End (R : Type 0) : Type 0 where
   through : End R
   refused : (line : ℕ) (reason : R) → End R
 
--- the number of the line that comes after a history
 abbrev pub number_after : {L : Type 0} → List L → ℕ
 number_after history = length history + 1
 
@@ -32,11 +30,9 @@ abbrev pub end_unless : {L R : Type 0} → List L → Option R → End R → End
 end_unless history (Some reason) end = refused (number_after history) reason
 end_unless history None end = end
 
--- how the run over these lines ends
 abbrev pub end_of : {L R : Type 0} → Rules L R → List L → List L → End R
 end_of rules history [] = through
-end_of rules history (line ∷ lines) =
-    end_unless history (rules.refusal history line) (end_of rules (line ∷ history) lines)
+end_of rules history (line ∷ lines) = end_unless history (rules.refusal history line) (end_of rules (line ∷ history) lines)
 
 -- the octets that a history brought
 abbrev pub brought : {L R : Type 0} → Rules L R → List L → List ℕ
@@ -55,5 +51,4 @@ accepted_unless history None all = all
 -- the history and those of these lines that come before the first refusal, the newest first
 abbrev pub accepted_of : {L R : Type 0} → Rules L R → List L → List L → List L
 accepted_of rules history [] = history
-accepted_of rules history (line ∷ lines) =
-    accepted_unless history (rules.refusal history line) (accepted_of rules (line ∷ history) lines)
+accepted_of rules history (line ∷ lines) = accepted_unless history (rules.refusal history line) (accepted_of rules (line ∷ history) lines)

@@ -33,14 +33,12 @@ abbrev pub source_of : ℕ → List Step → Option ℕ
 source_of n [] = None
 source_of n (step ∷ earlier) = source_after n step earlier (source_of n earlier)
 
--- a sink of this source, or of none, is of source `s`
 abbrev pub is_of : ℕ → Option ℕ → Bool
 is_of s None = false
 is_of s (Some source) = source == s
 
 -- ---- what a sink hears
 
--- a place on the air: the stream and the subevent
 pub record Position : Type 0 where
   pub bis : ℕ
   pub subevent : ℕ
@@ -57,7 +55,6 @@ count_of info event position = (event * info.num_bis + (position.bis - 1)) * inf
 abbrev pub is_lost : BigInfo → ℕ → ℕ → Position → Bool
 is_lost info event lose position = nat_lt 0 lose && (count_of info event position % lose == lose - 1)
 
--- a sink hears the PDU at a position of an event
 abbrev pub hear_at : Airs → List Step → ℕ → Position → Call
 hear_at airs own event position = hear event position.bis position.subevent (pdu_in airs own event position.bis position.subevent)
 
@@ -72,7 +69,6 @@ heard_on_air airs own lose (suc i) calls =
     unless_lost (is_lost (setup_of own).info (event_back own 0) lose (position_at (setup_of own).info i))
     (hear_at airs own (event_back own 0) (position_at (setup_of own).info i)) (heard_on_air airs own lose i calls)
 
--- how many positions an event has
 abbrev pub positions_of : List Step → ℕ
 positions_of own = (setup_of own).info.num_bis * (setup_of own).info.nse
 
@@ -86,11 +82,9 @@ abbrev pub ticked : Option ℕ → List Call → List Call
 ticked None calls = calls
 ticked (Some event) calls = tick event ∷ calls
 
--- the event is closed by sinks of its source alone
 abbrev pub ticked_if : Bool → Option ℕ → List Call → List Call
 ticked_if is_its last_open calls = if is_its then ticked last_open calls else calls
 
--- the open event of a source is closed
 abbrev pub ticked_by : ℕ → ℕ → List Step → List Call → List Call
 ticked_by s n earlier calls = ticked_if (is_of s (source_of n earlier)) (open_event (steps_of_source s earlier)) calls
 
@@ -106,12 +100,10 @@ with_sink_call airs n (Sink sink streams slots mtu) earlier calls = if sink == n
 with_sink_call airs n (Drop sink) earlier calls = if sink == n then [] else calls
 with_sink_call airs n (Tuned sink which) earlier calls =
     if sink == n then tune (big_sync_on (chosen_steps earlier) which) ∷ calls else calls
-with_sink_call airs n (Hear sink back bis subevent) earlier calls =
-    if reaches sink n earlier
+with_sink_call airs n (Hear sink back bis subevent) earlier calls = if reaches sink n earlier
     then hear_at airs (chosen_steps earlier) (event_back (chosen_steps earlier) back) (record { bis = bis; subevent = subevent }) ∷ calls
     else calls
-with_sink_call airs n (Air sink lose) earlier calls =
-    if reaches sink n earlier
+with_sink_call airs n (Air sink lose) earlier calls = if reaches sink n earlier
     then heard_on_air airs (chosen_steps earlier) lose (positions_of (chosen_steps earlier)) calls else calls
 with_sink_call airs n (Inject sink back bis subevent octets) earlier calls =
     if reaches sink n earlier then hear (event_back (chosen_steps earlier) back) bis subevent octets ∷ calls else calls
@@ -121,7 +113,6 @@ with_sink_call airs n (Terminate reason) earlier calls = ticked_by (chosen_of ea
 with_sink_call airs n End earlier calls = ticked_by 1 n earlier (ticked_by 0 n earlier calls)
 with_sink_call airs n line earlier calls = moved n (named_by line) line earlier calls
 
--- the calls of the receivers of the sink of this number since it was made
 abbrev pub sink_calls : Airs → ℕ → List Step → List Call
 sink_calls airs n [] = []
 sink_calls airs n (step ∷ earlier) = with_sink_call airs n step earlier (sink_calls airs n earlier)

@@ -68,7 +68,6 @@ abbrev pub start_given : Step → Option ℕ
 start_given (Start first) = Some first
 start_given _ = None
 
--- the first event of the source, where it was started
 abbrev pub start_of : List Step → Option ℕ
 start_of steps = last_given start_given steps
 
@@ -77,7 +76,6 @@ identity_given (Ident address_type address sid broadcast_id) =
     Some (record { address_type = address_type; address = address; sid = sid; broadcast_id = broadcast_id })
 identity_given _ = None
 
--- what `ident` says, where it was said
 abbrev pub ident_of : List Step → Option Identity
 ident_of steps = last_given identity_given steps
 
@@ -92,7 +90,6 @@ abbrev pub cipher_given : Step → Option Cipher
 cipher_given (CipherLine giv gskd) = Some (record { giv = giv; gskd = gskd })
 cipher_given _ = None
 
--- what `cipher` says, where it was said
 abbrev pub cipher_of : List Step → Option Cipher
 cipher_of steps = last_given cipher_given steps
 
@@ -125,21 +122,15 @@ phase_of steps = unwrap_or (last_given phase_given steps) absent
 
 abbrev pub is_absent_at : Phase → Bool
 is_absent_at absent = true
-is_absent_at described = false
-is_absent_at sending = false
-is_absent_at stopped = false
+is_absent_at _ = false
 
 abbrev pub is_described_at : Phase → Bool
-is_described_at absent = false
 is_described_at described = true
-is_described_at sending = false
-is_described_at stopped = false
+is_described_at _ = false
 
 abbrev pub is_sending_at : Phase → Bool
-is_sending_at absent = false
-is_sending_at described = false
 is_sending_at sending = true
-is_sending_at stopped = false
+is_sending_at _ = false
 
 abbrev pub was_started_at : Phase → Bool
 was_started_at absent = false
@@ -147,19 +138,15 @@ was_started_at described = false
 was_started_at sending = true
 was_started_at stopped = true
 
--- the source is between its start and its stop or `terminate`
 abbrev pub is_sending : List Step → Bool
 is_sending steps = is_sending_at (phase_of steps)
 
--- the source was started
 abbrev pub is_started : List Step → Bool
 is_started steps = was_started_at (phase_of steps)
 
--- it takes units and performs events: it is between its start and its end, and its group isn't encrypted
 abbrev pub takes_units : List Step → Bool
 takes_units steps = is_sending steps && not (is_ciphered steps)
 
--- its events may be heard: it was started, and its group isn't encrypted
 abbrev pub is_heard : List Step → Bool
 is_heard steps = is_started steps && not (is_ciphered steps)
 
@@ -172,7 +159,6 @@ setup_from group first ahead = record { info = group.info; origin = group.origin
 abbrev pub is_ahead_in : ℕ → Bool
 is_ahead_in version = version == 2
 
--- what fixes the source, once it was started
 abbrev pub setup_of : List Step → Setup
 setup_of steps = setup_from (unwrap_or (group_of steps) no_group) (unwrap_or (start_of steps) 0) (is_ahead_in (version_of steps))
 
@@ -181,12 +167,10 @@ with_source_call (Unit bis time octets) calls = give bis time octets ∷ calls
 with_source_call Event calls = perform ∷ calls
 with_source_call _ calls = calls
 
--- the calls that the source took
 abbrev pub source_calls : List Step → List Call
 source_calls [] = []
 source_calls (step ∷ earlier) = with_source_call step (source_calls earlier)
 
--- how many events were performed
 abbrev pub performed : List Step → ℕ
 performed steps = events (source_calls steps)
 
@@ -194,22 +178,17 @@ performed steps = events (source_calls steps)
 abbrev pub event_back : List Step → ℕ → ℕ
 event_back steps back = next_of (setup_of steps) (source_calls steps) - 1 - back
 
--- the PDU of a stream and a subevent in an event that was performed
 abbrev pub pdu_in : Airs → List Step → ℕ → ℕ → ℕ → List ℕ
 pdu_in airs steps event bis subevent =
     unwrap_or (pdu_of (setup_of steps) (airs (setup_of steps) (source_calls steps)) event bis subevent) []
 
--- the PDU that ends the group for a reason, at the next event (Core 5.2, volume 6 part B, section 2.6.3): its Instant is the
--- low 16 bits of that event
+-- the PDU that ends the group at the next event: Instant is the low 16 bits of that (Core 5.2, volume 6 part B, section 2.6.3)
 abbrev pub end_pdu : List Step → ℕ → List ℕ
 end_pdu steps reason = pdu (control (terminate reason (next_of (setup_of steps) (source_calls steps) % 2 ^ 16)))
 
--- the units that the streams leave out as stale in the event performed after these steps
 abbrev pub stale_in : Airs → List Step → List Stale
 stale_in airs steps = stale_of (setup_of steps) (source_calls steps) (airs (setup_of steps) (perform ∷ source_calls steps))
 
--- the event that is open: the last one performed, until it is closed by the next one, by `stop`, by `terminate`
--- or by `end`
+-- the open event: the last one performed, until the next one, `stop`, `terminate` or `end` closes it
 abbrev pub open_event : List Step → Option ℕ
-open_event steps =
-    if not (is_sending steps) || is_over steps || (performed steps == 0) then None else Some (event_back steps 0)
+open_event steps = if not (is_sending steps) || is_over steps || (performed steps == 0) then None else Some (event_back steps 0)

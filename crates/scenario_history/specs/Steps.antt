@@ -6,7 +6,6 @@ use Rattle.scenario_text.specs.declared.step.Step.{Step}
 use Rattle.scenario_text.specs.declared.step.Step.TheVariants.{Scenario, Group, Ident, Subgroup, Meta, Bis, Cipher, Start, Sink, Tuned, Unit, Event, Hear, Air}
 use Rattle.scenario_text.specs.declared.step.Step.TheVariants.{Inject, Sniff, Announce, Train, Source, Stop, Terminate, End}
 
--- what the last step that gives something gives
 abbrev pub last_given : {A : Type 0} → (Step → Option A) → List Step → Option A
 last_given gives [] = None
 last_given gives (step ∷ earlier) = option_or (gives step) (last_given gives earlier)
@@ -19,7 +18,6 @@ pub data Stage : Type 0 where
   running : (version : ℕ) → Stage
   over : (version : ℕ) → Stage
 
--- a scenario has the version of its first step, and 1 before it
 abbrev pub version_at : Stage → ℕ
 version_at unbegun = 1
 version_at (running version) = version
@@ -39,19 +37,16 @@ version_of steps = version_at (stage_of steps)
 
 abbrev pub is_unbegun_at : Stage → Bool
 is_unbegun_at unbegun = true
-is_unbegun_at (running version) = false
-is_unbegun_at (over version) = false
+is_unbegun_at _ = false
 
 -- no `scenario` step was made
 abbrev pub is_unbegun : List Step → Bool
 is_unbegun steps = is_unbegun_at (stage_of steps)
 
 abbrev pub is_over_at : Stage → Bool
-is_over_at unbegun = false
-is_over_at (running version) = false
 is_over_at (over version) = true
+is_over_at _ = false
 
--- the scenario ended
 abbrev pub is_over : List Step → Bool
 is_over steps = is_over_at (stage_of steps)
 
@@ -65,7 +60,6 @@ chosen_given _ = None
 abbrev pub chosen_of : List Step → ℕ
 chosen_of steps = unwrap_or (last_given chosen_given steps) 0
 
--- the source beside this one
 abbrev pub other_of : ℕ → ℕ
 other_of s = 1 - s
 
@@ -97,17 +91,14 @@ is_source_line Stop = true
 is_source_line (Terminate reason) = true
 is_source_line _ = false
 
--- the step after these says something of a source
 abbrev pub is_of_source : ℕ → List Step → Step → Bool
 is_of_source s earlier step = is_common step || (is_source_line step && (chosen_of earlier == s))
 
 -- the steps that say something of a source: all that is said of a source is taken of these
 abbrev pub steps_of_source : ℕ → List Step → List Step
 steps_of_source s [] = []
-steps_of_source s (step ∷ earlier) =
-    if is_of_source s earlier step then step ∷ steps_of_source s earlier else steps_of_source s earlier
+steps_of_source s (step ∷ earlier) = if is_of_source s earlier step then step ∷ steps_of_source s earlier else steps_of_source s earlier
 
--- the steps of the source that a source line means after these steps
 abbrev pub chosen_steps : List Step → List Step
 chosen_steps steps = steps_of_source (chosen_of steps) steps
 

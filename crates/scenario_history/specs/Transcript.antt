@@ -18,7 +18,6 @@ out_of airs starts lines = out (rules_of airs starts) [] lines
 abbrev pub end_after : Airs → List Account → List TextLine → End Refusal
 end_after airs starts lines = end_of (rules_of airs starts) [] lines
 
--- the line of NoEnd, where it follows
 abbrev pub last_line_after : End Refusal → Bool → ℕ → List ℕ
 last_line_after (refused line reason) over number = []
 last_line_after through over number = if over then [] else refusal_line number NoEnd
@@ -27,7 +26,6 @@ abbrev pub last_end_after : End Refusal → Bool → ℕ → End Refusal
 last_end_after (refused line reason) over number = refused line reason
 last_end_after through over number = if over then through else refused number NoEnd
 
--- the lines have `end`
 abbrev pub has_end : List TextLine → Bool
 has_end lines = is_over (said_of (reverse lines))
 

@@ -13,10 +13,8 @@ use Rattle.scenario_history.specs.Steps.{chosen_of, chosen_steps}
 use Rattle.scenario_history.specs.Source.{checked_info, identity_of, setup_of, source_calls}
 use Rattle.scenario_history.specs.Bases.{base_of}
 
--- the train for the next event
 abbrev pub announced_of : List Step → Train
-announced_of own =
-    train_of (identity_of own).broadcast_id (base_of own) (checked_info own) (next_of (setup_of own) (source_calls own))
+announced_of own = train_of (identity_of own).broadcast_id (base_of own) (checked_info own) (next_of (setup_of own) (source_calls own))
     (next_anchor_of (setup_of own) (source_calls own))
 
 -- the group from the next event on, for a sink on these streams
@@ -29,7 +27,6 @@ big_sync_on own which = record {
   delay = (setup_of own).delay;
 }
 
--- the source that a line after these steps means
 abbrev pub source_at : List Step → Source
 source_at steps = record {
   number = chosen_of steps;
@@ -39,7 +36,6 @@ source_at steps = record {
   big_sync = λ which. big_sync_on (chosen_steps steps) which;
 }
 
--- what lies outside of the sinks
 abbrev pub the_world : World
 the_world = record { source = source_at }
 

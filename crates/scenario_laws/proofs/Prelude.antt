@@ -75,10 +75,10 @@ pub use Rattle.scenario_history.specs.Boxes.{closing_both, handed_up, SinkUnit, 
 pub use Rattle.scenario_history.specs.Lines.{a_step, nothing, unsaid, said_by, said_in, steps_of, with_said, refusal_said, rules_of, output_said, handed_said}
 pub use Rattle.scenario_history.specs.Output.{close_lines, first_lines, output_of, sums_of, unit_lines, stale_lines, injected_hearing, sink_lines}
 pub use Rattle.scenario_history.specs.Refusals.{line_refusal, refusal_of, group_refusal, give_refusal, no_sink, is_misplaced, is_out_of_phase, source_refusal, gives_on, is_relayed, train_ends, counter_ends, air_refusal, no_place, is_out_of_order, own_refusal, sink_refusal, twin_refusal, is_relay_beyond, is_relay_taken, may_relay, relay_refusal, relayed_or}
-pub use Rattle.scenario_history.specs.RelayedUnits.{happened, answered_by, handed_of, Answered, Offer, after_offer, after_offers, closes_first, dropped_for, offered_of, offers_at, with_relayed_unit_unless, with_relayed_units, offers_before, units_on, all_answered, offered_to, with_relayed_unit}
+pub use Rattle.scenario_history.specs.RelayedUnits.{happened, answered_by, handed_of, handed_of as of_sink, Answered, Offer, after_offer, after_offers, closes_first, dropped_for, offered_of, offers_at, with_relayed_unit_unless, with_relayed_units, offers_before, units_on, all_answered, offered_to, with_relayed_unit}
 pub use Rattle.scenario_history.specs.Relays.{has_relay, makes_relay, relay_of, had_relay, relay_given, relays_to, Route}
 pub use Rattle.scenario_history.specs.Runs.{Accepted, End, accepted_of, accepted_unless, end_unless, out, out_unless, Rules, refused, number_after, through}
-pub use Rattle.scenario_history.specs.Sinks.{sink_calls, source_after, source_of, with_sink_call, is_of, ticked, ticked_if, heard_on_air, reaches, positions_of, unless_lost, Position, hear_at, ticked_by, position_at, is_lost}
+pub use Rattle.scenario_history.specs.Sinks.{sink_calls, source_after, source_of, with_sink_call, is_of, is_of as is_sink, ticked, ticked_if, heard_on_air, reaches, positions_of, unless_lost, Position, hear_at, ticked_by, position_at, is_lost}
 pub use Rattle.scenario_history.specs.Source.{is_started, setup_of, source_calls, is_ahead_in, no_group, setup_from, stale_in, open_event, event_back, is_ciphered, is_sending, performed, takes_units, Phase, checked_info, cipher_of, group_of, identity_of, is_absent_at, is_described_at, is_sending_at, GroupLine, phase_of, start_of, was_started_at, pdu_in, absent, cipher_given, end_pdu, group_given, ident_of, identity_given, no_identity, phase_given, start_given, with_source_call, info_with, described, sending, stopped}
 pub use Rattle.scenario_history.specs.Steps.{chosen_of, chosen_steps, steps_of_source, version_at, is_of_source, is_over, is_over_at, sinks_made, is_common, is_source_line, is_unbegun_at, stage_of, version_of, chosen_given, last_given, sinks_made_by, Stage, stage_after, unbegun, running, is_unbegun}
 pub use Rattle.scenario_history.specs.Transcript.{end_after, out_of, transcript_end, transcript_of, units_of, has_end, last_end_after, last_line_after}
@@ -86,9 +86,9 @@ pub use Rattle.scenario_history.specs.Worlds.{calls_made, source_at, big_sync_on
 pub use Rattle.scenario_laws.specs.HearingLaw.{IsHeardMore, LosesNothing, no_steps, both_made, hear_more, air_more, none_lost, HearingLaw, HearingLinesLaw, AllHearingLaw, AllHearingLinesLaw, AllPlacesLaw}
 pub use Rattle.scenario_laws.specs.HearingMore.{HearsMore, StandIn, no_calls, both_take, more_hears, no_units, both_have, other_has, DecidedHearing, FramedHearing, HandedHearing, UnframedHearing, entry_in}
 pub use Rattle.scenario_laws.specs.Isolation.{units_by, lines_by, lines_of, puts, unit_lines_by, IsIsolated, IsSameHistory, IsolationLaw, NoOtherPuts, kept_lines}
-pub use Rattle.scenario_laws.specs.Laws.{is_tuned, any_since, given_since_made, injected_since, is_given, is_injected, is_made, IsFramedStruck, IsStayStruck, UnitsLaw, calls_on, Closed, closed_by, closed_in, closed_since, handed_since, of_sink, shown_since, air_in, slots_closed, closed_at, SegmentPlace, OrderLaw, StepsInOrder, steps_before, slots_in, InStartOrder, IsOfStart, StaysInOrder, brings_to, AreInOrder, IsBefore}
+pub use Rattle.scenario_laws.specs.Laws.{is_tuned, any_since, given_since_made, injected_since, is_given, is_injected, is_made, IsFramedStruck, IsStayStruck, UnitsLaw, calls_on, Closed, closed_by, closed_in, closed_since, handed_since, shown_since, air_in, slots_closed, closed_at, SegmentPlace, OrderLaw, StepsInOrder, steps_before, slots_in, InStartOrder, IsOfStart, StaysInOrder, brings_to, AreInOrder, IsBefore}
 pub use Rattle.scenario_laws.specs.Moments.{AreAtTimes, IsAtTime, moment_of_time, IsTaker, IsAtMoments, IsAtSlot, IsForSlot, IsForTime, IsOneMoment, MomentLaw, accepted_in, moment_of_slot, slots_since}
-pub use Rattle.scenario_laws.specs.Only.{is_other, sink_in, chooses, is_kept, is_sink, only}
+pub use Rattle.scenario_laws.specs.Only.{is_other, sink_in, chooses, is_kept, only}
 pub use Rattle.scenario_laws.specs.OrderRows.{its_setup, equal_units, handed_both, its_air, its_calls}
 pub use Rattle.scenario_laws.specs.Relayed.{IsOfFirst, UnitPlace, EndsWith, InRelayOrder, IsOfOffered, injected_till_last_offer, InFirstOrder, RelayedUnits}
 pub use Rattle.scenario_laws.specs.RelayedUnits.Laws.{handed_on, is_route, offered, RelayLaw, accepted_on, IsLeft, NoneRelayed, DroppedLaw, PrintsUnits, PassesAtOnce}

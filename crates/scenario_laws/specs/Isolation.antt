@@ -30,8 +30,7 @@ use Rattle.scenario_laws.specs.Only.{is_kept, only}
 
 -- ---- what the law needs
 
--- sink `n` follows the train that a step after these hands it: the answer isn't one of NoBroadcastId, NotWanted, OtherTrain and
--- AlreadyOnGroup
+-- sink `n` follows the train that a step after these hands it: it answers none of NoBroadcastId, NotWanted, OtherTrain, AlreadyOnGroup
 abbrev pub is_followed : ℕ → List Step → Step → Bool
 is_followed n earlier step = follows_by (source_at earlier) (train_by (source_at earlier) step) (made_of n earlier) (calls_made n earlier)
 
@@ -49,11 +48,9 @@ NoOtherPuts s n (step ∷ earlier) = NoOtherPuts s n earlier × (chosen_of earli
 
 -- ---- what is handed up and printed
 
--- the units of a sink, valid and lost, without the boxes that they go to
 abbrev pub units_by : ℕ → List SinkUnit → List Handed
 units_by n units = map (λ unit. unit.unit) (filter (λ unit. unit.sink == n) units)
 
--- the lines of its units
 abbrev pub unit_lines_by : ℕ → List SinkUnit → List ℕ
 unit_lines_by n units = flat_map (handed_line n) (units_by n units)
 
@@ -68,7 +65,6 @@ lines_by airs n earlier End = unit_lines_by n (closing_both airs earlier)
 lines_by airs n earlier (Drop sink) = []
 lines_by airs n earlier step = output_of airs [] earlier step
 
--- what all steps print so, in order
 abbrev pub lines_of : Airs → ℕ → List Step → List ℕ
 lines_of airs n [] = []
 lines_of airs n (step ∷ earlier) = lines_of airs n earlier ++ lines_by airs n earlier step
@@ -81,8 +77,7 @@ kept_lines airs s n (step ∷ earlier) =
 
 -- ---- the law
 
--- two histories of one sink come to the same: it has the same slots, place, encryption, streams and capability, and the same receive
--- states; and on each link the same is joined, waits and is known: writes with the reply to the first, notices, reads, and views
+-- two histories of one sink come to the same: it stands alike, and on each link the same is joined, waits and is known
 pub record IsSameHistory (made : Settings) (calls others : List Call) : Type 0 where
   pub snapshot : snapshot_in made calls ≡ snapshot_in made others
   pub states : (slot : ℕ) → state made.setup slot calls ≡ state made.setup slot others
@@ -93,10 +88,8 @@ pub record IsSameHistory (made : Settings) (calls others : List Call) : Type 0 w
   pub reads : (link slot : ℕ) → read_waits made.setup made.mtu link slot calls ≡ read_waits made.setup made.mtu link slot others
   pub views : (link slot : ℕ) → view made.setup made.mtu link slot calls ≡ view made.setup made.mtu link slot others
 
--- sink `n` after these steps, and after only those that are kept for it and source `s`: it lives with the same limits and is of the
--- same source; its receivers took the same groups, PDUs and closes; it handed up the same units, valid and lost, each with its time,
--- and its box, whichever that is, took the same since the sink was made; it and the assistants on its links stand alike; and what the
--- kept steps print of it, of its assistants and of the source is the same
+-- sink `n` after these steps, and after only those that are kept for it and source `s`, has the same limits, source, calls of its receivers
+-- and units; its box, whichever that is, took the same; its histories come to the same; and the kept steps print the same of it
 pub record IsIsolated (airs : Airs) (s n : ℕ) (steps : List Step) : Type 0 where
   pub made : made_of n steps ≡ made_of n (only s n steps)
   pub source : source_of n steps ≡ source_of n (only s n steps)

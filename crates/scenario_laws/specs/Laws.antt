@@ -2,7 +2,7 @@
 -- that it handed up, and the units that the source accepted (Core 5.2, volume 6 part G, sections 2.1 and 3.2). Lists of
 -- steps have the newest first; lists of events, of slots and of units have the oldest first.
 use Rattle.std.specs.Prelude.{ℕ, ◌+◌, ◌-◌, ◌/◌, ◌<◌, ◌≤◌, ◌≡◌, ◌⊎◌, ◌==◌, ◌&&◌, ◌||◌, nat_le, Bool, false, List, [], ◌∷◌, ◌++◌, map, Option, None, Some, slice_get, unwrap_or, if◌then◌else◌}
-use Rattle.std.specs.List.{AllZip, Contains, filter, flat_map, list_any, range_with_len}
+use Rattle.std.specs.List.{AllZip, Contains, flat_map, list_any, range_with_len}
 use Rattle.std.specs.List.Sorted.{IsStrictlyIncreasing}
 use Rattle.big_info.specs.Schedule.{per_event_of}
 use Rattle.bcast_io.specs.TextLines.{TextLine}
@@ -33,6 +33,7 @@ use Rattle.scenario_history.specs.Airs.{MeetAirs}
 use Rattle.scenario_history.specs.Sinks.{is_of, sink_calls, source_of}
 use Rattle.scenario_history.specs.Boxes.{SinkUnit, handed_by}
 use Rattle.scenario_history.specs.Lines.{rules_of, steps_of}
+use Rattle.scenario_history.specs.RelayedUnits.{handed_of}
 use Rattle.scenario_laws.specs.RelayedUnits.Legal.{AreLegal}
 use Rattle.scenario_laws.specs.SourceUnits.{AreSent, InSourceOrder, InUnitOrder, IsOfSlot, anchor_in, time_in, valid_in, whole_stay}
 
@@ -44,23 +45,19 @@ is_injected n (Inject sink back bis subevent octets) = sink == n
 is_injected n (Train sink time ext adv acad) = sink == n
 is_injected n _ = false
 
--- a train is given to it by its octets
 abbrev pub is_given : ℕ → Step → Bool
 is_given n (Train sink time ext adv acad) = sink == n
 is_given n _ = false
 
--- a train that the line hands the sink that it names synchronizes it to a BIG
 abbrev pub brings_to : ℕ → ℕ → Step → List Step → Bool
 brings_to n sink step earlier = (sink == n) && brings_by (source_at earlier) step (made_of n earlier) (calls_made n earlier)
 
--- the sink is synchronized to a BIG: by `tuned`, or by a train that is taken
 abbrev pub is_tuned : ℕ → List Step → Step → Bool
 is_tuned n earlier (Tuned sink which) = sink == n
 is_tuned n earlier (Announce sink) = brings_to n sink (Announce sink) earlier
 is_tuned n earlier (Train sink time ext adv acad) = brings_to n sink (Train sink time ext adv acad) earlier
 is_tuned n earlier _ = false
 
--- the sink is made
 abbrev pub is_made : ℕ → List Step → Step → Bool
 is_made n earlier (Sink sink streams slots mtu) = sink == n
 is_made n earlier _ = false
@@ -74,40 +71,31 @@ any_since begins is_one (step ∷ earlier) = if begins earlier step then is_one 
 abbrev pub injected_since : (List Step → Step → Bool) → ℕ → List Step → Bool
 injected_since begins n steps = any_since begins (is_injected n) steps
 
--- a train was given to the sink by its octets, since it was made
 abbrev pub given_since_made : ℕ → List Step → Bool
 given_since_made n steps = any_since (is_made n) (is_given n) steps
 
 -- ---- what a sink handed up
 
--- all that was handed up since the last step that begins
 abbrev pub handed_since : (List Step → Step → Bool) → Airs → List Step → List SinkUnit
 handed_since begins airs [] = []
 handed_since begins airs (step ∷ earlier) =
     if begins earlier step then [] else handed_since begins airs earlier ++ handed_by airs earlier step
 
--- the units that a sink handed up of a source
-abbrev pub of_sink : ℕ → ℕ → List SinkUnit → List Handed
-of_sink s n units = map (λ unit. unit.unit) (filter (λ unit. (unit.source == s) && (unit.sink == n)) units)
-
 -- what the sink handed up on a stream of a source since the last step that begins
 abbrev pub shown_since : (List Step → Step → Bool) → Airs → ℕ → ℕ → ℕ → List Step → List Handed
-shown_since begins airs s n bis steps = of_stream bis (of_sink s n (handed_since begins airs steps))
+shown_since begins airs s n bis steps = of_stream bis (handed_of s n (handed_since begins airs steps))
 
 -- ---- one stay
 
--- what the stay on a stream took since the sink was synchronized to its BIG
 abbrev pub calls_on : Airs → List Step → ℕ → BigSync → ℕ → List stays.Call
 calls_on airs steps n tuning bis = stream_calls (stay_on tuning bis) (sink_calls airs n steps)
 
--- the steps before the last step that begins
 abbrev pub steps_before : (List Step → Step → Bool) → List Step → List Step
 steps_before begins [] = []
 steps_before begins (step ∷ earlier) = if begins earlier step then earlier else steps_before begins earlier
 
--- The stay is on the group of the source: the numbers of its group and its presentation delay are the source's, and its
--- streams are some of the source's. Its first event was the source's next one as the stay began and has the anchor that it has
--- by the source's own, and its open event is at most the source's next one. So the times of the stay are by the source's anchors.
+-- The stay is on the source's group: it has its numbers, its delay and some of its streams. It began with the source's next event, at its
+-- anchor by the source's own, and its open event is at most the source's next one. So its times are by the source's anchors.
 pub record IsOfSource (airs : Airs) (steps : List Step) (s n : ℕ) (tuning : BigSync) : Type 0 where
   pub info : tuning.info ≡ (setup_of (steps_of_source s steps)).info
   pub delay : tuning.delay ≡ (setup_of (steps_of_source s steps)).delay
@@ -116,13 +104,10 @@ pub record IsOfSource (airs : Airs) (steps : List Step) (s n : ℕ) (tuning : Bi
   pub anchor : tuning.anchor ≡ anchor_in (setup_of (steps_of_source s steps)) tuning.first
   pub open_is : tuning.first + closes tuning (sink_calls airs n steps) ≤ next_of (setup_of (steps_of_source s steps)) (source_calls (steps_of_source s steps))
 
--- the air of a stream of a source
 abbrev pub air_in : Airs → List Step → ℕ → Air
 air_in airs own bis = unwrap_or (slice_get (airs (setup_of own) (source_calls own)) (bis - 1)) []
 
--- in a stay on a framed stream: the air of the source sends units, and what the sink handed up on the stream since it was put
--- on its group is struck over them: one entry for each unit whose start was heard, in order: valid where it is wholly laid and
--- all numbers that carry it were heard before their events closed, lost where the first that wasn't is closed
+-- in a stay on a framed stream the air of the source sends units, and what the sink handed up on it in the stay is struck over them
 pub record IsFramedStruck (airs : Airs) (steps : List Step) (s n : ℕ) (tuning : BigSync) (bis : ℕ) : Type 0 where
   pub some : (units : List Sent)
       × AreSent (setup_of (steps_of_source s steps)) (source_calls (steps_of_source s steps)) bis (air_in airs (steps_of_source s steps) bis) units
@@ -130,9 +115,8 @@ pub record IsFramedStruck (airs : Airs) (steps : List Step) (s n : ℕ) (tuning 
       → AreSent (setup_of (steps_of_source s steps)) (source_calls (steps_of_source s steps)) bis (air_in airs (steps_of_source s steps) bis) units
       → shown_since (is_tuned n) airs s n bis steps ≡ struck (stay_on tuning bis) units (calls_on airs steps n tuning bis)
 
--- the stay is on the source's group, and what the sink handed up on the stream since it was put there is struck, by the
--- framing of the group. Unframed: over the slots of the source: one entry for each slot of each event that was closed in the
--- stay, in order: the source's unit of the slot, valid, where the slot has one and all numbers that carry it are heard, else lost
+-- the stay is on the source's group, and what the sink handed up on the stream in it is struck, by the framing of the group: over the
+-- source's slots of each event that was closed in the stay, or over the units that the source's air sends
 pub record IsStayStruck (airs : Airs) (steps : List Step) (s n : ℕ) (tuning : BigSync) (bis : ℕ) : Type 0 where
   pub of_source : IsOfSource airs steps s n tuning
   pub unframed : (setup_of (steps_of_source s steps)).info.framing ≡ 0
@@ -140,10 +124,9 @@ pub record IsStayStruck (airs : Airs) (steps : List Step) (s n : ℕ) (tuning : 
       (calls_on airs steps n tuning bis) (shown_since (is_tuned n) airs s n bis steps)
   pub framed : (setup_of (steps_of_source s steps)).info.framing ≡ 1 → IsFramedStruck airs steps s n tuning bis
 
--- The units law: of a scenario of which no line was refused, where a sink is on a group, of source `s`, by `tuned` or by what a
--- source announced, and since then no PDU was injected into it and no train was given to it by its octets, the stay is on the
--- group of the source, by the source's anchors, and what the sink handed up since on a stream that it takes is struck. It holds
--- after each step, so at the end of each stay too.
+-- The units law: of a scenario of which no line was refused, where a sink is on a group of source `s`, and since it was put there no PDU
+-- was injected into it and no train was given to it by its octets, the stay is on the group of the source, and what the sink handed up
+-- since on a stream that it takes is struck. It holds after each step, so at the end of each stay too.
 abbrev pub UnitsLaw : List Account → Type 0
 UnitsLaw starts = (airs : Airs) → MeetAirs airs → (lines : List TextLine) → Accepted (rules_of airs starts) lines
     → (s : ℕ) → (n : ℕ) → (bis : ℕ) → (tuning : BigSync) → place (sink_calls airs n (steps_of airs lines)) ≡ Some tuning
@@ -160,8 +143,7 @@ pub record Closed : Type 0 where
 -- the open event of the sink, where it is at most this event
 abbrev pub closed_in : Option BigSync → List Call → ℕ → List Closed
 closed_in None calls event = []
-closed_in (Some tuning) calls event =
-    if nat_le (tuning.first + closes tuning calls) event
+closed_in (Some tuning) calls event = if nat_le (tuning.first + closes tuning calls) event
     then record { event = tuning.first + closes tuning calls; which = tuning.which } ∷ [] else []
 
 abbrev pub closed_at : List Call → Option ℕ → List Closed
@@ -171,12 +153,10 @@ closed_at calls (Some event) = closed_in (place calls) calls event
 abbrev pub closed_if : Bool → List Call → Option ℕ → List Closed
 closed_if is_its calls last_open = if is_its then closed_at calls last_open else []
 
--- what the sink closes as the open event of a source is closed
 abbrev pub closed_with : Airs → ℕ → ℕ → List Step → List Closed
 closed_with airs s n earlier =
     closed_if (is_of s (source_of n earlier)) (sink_calls airs n earlier) (open_event (steps_of_source s earlier))
 
--- what the sink closes of a source by the step after these
 abbrev pub closed_by : Airs → ℕ → ℕ → List Step → Step → List Closed
 closed_by airs s n earlier Event = if chosen_of earlier == s then closed_with airs s n earlier else []
 closed_by airs s n earlier Stop = if chosen_of earlier == s then closed_with airs s n earlier else []
@@ -190,10 +170,8 @@ closed_since airs s n [] = []
 closed_since airs s n (step ∷ earlier) =
     if is_made n earlier step then [] else closed_since airs s n earlier ++ closed_by airs s n earlier step
 
--- the slots of a stream in these events, where the stream was taken
 abbrev pub slots_in : Setup → ℕ → Closed → List Place
-slots_in setup bis closed =
-    if is_in closed.which bis
+slots_in setup bis closed = if is_in closed.which bis
     then map (λ slot. record { event = closed.event; slot = slot }) (range_with_len 0 (per_event_of setup.info)) else []
 
 abbrev pub slots_closed : Setup → ℕ → List Closed → List Place
@@ -234,9 +212,8 @@ pub record IsStartHeard (airs : Airs) (steps : List Step) (s n bis : ℕ) (at : 
   pub is_start : slice_get parts at.segment ≡ Some (start offset complete octets)
   pub closed : at.number < closed_end (stay_on tuning bis) (calls_on airs made n tuning bis)
 
--- the entry is of the stream and of a start that the sink heard, whose number is one of an event that was performed: its time is
--- by that event's anchor, by the source's own, less the TimeOffset of the start, by the synchronization reference of a framed
--- unit, which is never below 0, and the presentation delay
+-- the entry is of the stream and of a start that the sink heard, whose number is of an event that was performed: its time is the framed
+-- one by that event's anchor, by the source's own, and the TimeOffset of the start
 pub record IsOfStart (airs : Airs) (steps : List Step) (s n bis : ℕ) (at : SegmentPlace) (entry : Handed) : Type 0 where
   pub offset : ℕ
   pub heard : IsStartHeard airs steps s n bis at offset
@@ -247,7 +224,6 @@ pub record IsOfStart (airs : Airs) (steps : List Step) (s n bis : ℕ) (at : Seg
   pub stream : bis_of entry ≡ bis
   pub time_is : time_in entry ≡ start_time (whole_stay (setup_of (steps_of_source s steps)) bis) event offset
 
--- there are starts that stand in order such that the entries are, in order, of them
 pub record InStartOrder (airs : Airs) (steps : List Step) (s n bis : ℕ) (entries : List Handed) : Type 0 where
   pub places : List SegmentPlace
   pub order : AreInOrder places
@@ -255,14 +231,10 @@ pub record InStartOrder (airs : Airs) (steps : List Step) (s n bis : ℕ) (entri
 
 -- ---- all stays with a source
 
--- Over all stays of a sink with one and the same source: the events of it that the sink closed since it was made rise, so
--- that none is closed twice. What it handed up on an unframed stream of it is one entry for each slot of each of these events
--- that it took the stream in, in order, at the slot's time by the source's anchors; on a framed stream its entries are, in
--- order, of starts that it heard in these stays, each at most once, at the time by the source's anchor of the event of the
--- start's payload number and the start's TimeOffset. And where no PDU was injected into the sink, its valid units of an unframed
--- stream are, in order, units that the source accepted on the stream, each at most once and the own one of its slot; and its
--- entries of a framed stream are, in order, of such units, each at most once and accepted before the event of its first payload number
--- was laid: each at the time by the source's anchor of that event and its TimeOffset, and the valid ones with the unit's octets
+-- Over all stays of a sink with one source: the events of it that the sink closed since it was made rise, so that none is closed twice. On
+-- an unframed stream it handed up one entry for each slot of each of these events, in order and at the slot's time; on a framed one its
+-- entries are, in order, of starts that it heard, each at most once, at the framed time. Where no PDU was injected, its valid units of an
+-- unframed stream, and its entries of a framed one, are in order of units that the source accepted, each at most once.
 pub record StaysInOrder (airs : Airs) (steps : List Step) (s n : ℕ) : Type 0 where
   pub rising : IsStrictlyIncreasing (map (λ (closed : Closed). closed.event) (closed_since airs s n steps))
   pub slots : (bis : ℕ) → n ≤ 7 → 1 ≤ bis → bis ≤ 31 → (setup_of (steps_of_source s steps)).info.framing ≡ 0

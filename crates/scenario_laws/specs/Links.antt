@@ -10,9 +10,8 @@ use Rattle.scenario_history.specs.Lines.{steps_of}
 use Rattle.source_machine.specs.Airs.{Airs}
 use Rattle.scenario_history.specs.Worlds.{calls_made}
 
--- a slot of a sink with this history, and what the assistant on a link knows of it: where neither a notice nor a read of the slot
--- waits there, its view is the slot's state; and so is the view that follows when all waiting notices are delivered in order and
--- then all waiting reads are served
+-- where neither a notice nor a read of the slot waits on the link, the assistant's view is the slot's state; and so is the view once all
+-- waiting notices are delivered in order and then all waiting reads are served
 pub record Agrees (made : Settings) (link slot : ℕ) (calls : List Call) : Type 0 where
   pub at_rest : NoneNotifies made.setup made.mtu link slot calls → read_waits made.setup made.mtu link slot calls ≡ false
       → view made.setup made.mtu link slot calls ≡ state made.setup slot calls
@@ -25,13 +24,11 @@ AgreementLaw = (airs : Airs) (lines : List TextLine) (n link slot : ℕ) (made :
     → slot < made.setup.slots
     → is_forged link (calls_made n (steps_of airs lines)) ≡ false → Agrees made link slot (calls_made n (steps_of airs lines))
 
--- The links law: the same holds of each link that came after link 0, whatever comes over link 0. What happens on another link
--- changes nothing of this one but through the states of the slots, and a link that is joined, however often it parted, begins
--- anew.
+-- The links law: the same holds of each link that came after link 0, whatever comes over link 0. Another link changes nothing of this one
+-- but through the states of the slots, and a link that is joined, however often it parted, begins anew.
 pub record LinksLaw : Type 0 where
   pub agrees : (airs : Airs) (lines : List TextLine) (n link slot : ℕ) (made : Settings) → made_of n (steps_of airs lines) ≡ Some made
-      → slot < made.setup.slots
-      → link ≢ 0 → Agrees made link slot (calls_made n (steps_of airs lines))
+      → slot < made.setup.slots → link ≢ 0 → Agrees made link slot (calls_made n (steps_of airs lines))
   pub apart : (made : Settings) (link : ℕ) (call : Call) (calls : List Call) → IsApart link call
       → LeavesLink made.setup made.mtu link call calls
   pub anew : (made : Settings) (link : ℕ) (calls : List Call) → IsAnew made.setup made.mtu link calls

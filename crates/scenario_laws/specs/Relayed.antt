@@ -26,8 +26,7 @@ use Rattle.scenario_laws.specs.RelayedUnits.Legal.{AreSaidLegally}
 use Rattle.scenario_laws.specs.Laws.{injected_since, is_made, shown_since}
 use Rattle.scenario_laws.specs.SourceUnits.{time_in}
 
--- from the unit time of a framed unit to the time at which it is rendered: the group's transport delay, SDU_Interval, ISO_Interval
--- and Presentation_Delay of its source
+-- from the unit time of a framed unit to the time at which it is rendered, in µs
 abbrev pub time_to_render : Setup → ℕ
 time_to_render setup = sync_delay_of setup.info + setup.info.sdu_interval + iso_us_of setup.info + setup.delay
 
@@ -53,14 +52,13 @@ pub record EndsWith (all last : List AudioUnit) : Type 0 where
 
 -- ---- the units of both sources
 
--- which unit an entry is of: its number among those that source 0 accepted on a stream, and its place among those that the relaying
--- sink handed up
+-- a unit by its number among those that source 0 accepted on a stream, and its place among those that the relaying sink handed up
 pub record UnitPlace : Type 0 where
   pub number : ℕ
   pub place : ℕ
 
--- The entry is of this unit, of those with these octets that source 0 accepted on a stream and of these that the relaying sink handed
--- up: it is rendered so much later than the time at which that sink handed it up, and if it is valid it has its octets.
+-- The entry is of this unit, of those with these octets that source 0 accepted on a stream and of these that the relaying sink handed up:
+-- it is rendered so much later than the time at which it was handed up there, and if it is valid it has its octets.
 pub record IsOfFirst (given : List (List ℕ)) (handed : List AudioUnit) (setup : Setup) (to : ℕ) (at : UnitPlace) (entry : Handed)
     : Type 0 where
   pub unit : AudioUnit
@@ -70,8 +68,7 @@ pub record IsOfFirst (given : List (List ℕ)) (handed : List AudioUnit) (setup 
   pub time_is : time_in entry ≡ unit.time + time_to_render setup
   pub valid_is : (stream : ℕ) → (time : ℕ) → (octets : List ℕ) → entry ≡ valid stream time octets → octets ≡ unit.octets
 
--- there are units such that the entries are, in order, of these: their numbers rise, and so do their places, so that no entry is of a
--- unit that another is of
+-- the entries are, in order, of units whose numbers rise, and so do their places: so no two entries are of one unit
 pub record InFirstOrder (given : List (List ℕ)) (handed : List AudioUnit) (setup : Setup) (to : ℕ) (entries : List Handed) : Type 0 where
   pub units : List UnitPlace
   pub numbers_rise : IsStrictlyIncreasing (map (λ at. at.number) units)
@@ -101,9 +98,7 @@ RelayedUnits boxes = (airs : Airs) → MeetAirs airs → (said : List Step) → 
 
 -- ---- the lines of a text
 
--- The relay law: of a scenario of which no line was refused and one is `relay N B B2`, what source 1 accepted on B2 is what sink N
--- handed up of B, valid, at closes of source 0 behind this line and before its `drop`, without exactly the units that have a `dropped`
--- line, in order and with octets and times. It holds after each line.
+-- The relay law: after each line of a scenario of which none was refused, `IsRelayed` holds of each `relay N B B2` line in it.
 abbrev pub RelayLinesLaw : List Account → Type 0
 RelayLinesLaw starts = (airs : Airs) → (lines : List TextLine) → Accepted (rules_of airs starts) lines
     → (n : ℕ) → (bis : ℕ) → (to : ℕ) → Contains (said_of lines) (Relay n bis to) → IsRelayed airs (said_of lines) n bis to

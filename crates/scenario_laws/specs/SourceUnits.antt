@@ -33,13 +33,7 @@ time_in (lost bis time) = time
 
 -- the stay that begins with the source's first event
 abbrev pub whole_stay : Setup → ℕ → Stay
-whole_stay setup bis = record {
-  info = setup.info;
-  bis = bis;
-  first = setup.first;
-  origin = setup.origin;
-  delay = setup.delay;
-}
+whole_stay setup bis = record { info = setup.info; bis = bis; first = setup.first; origin = setup.origin; delay = setup.delay }
 
 -- the anchor of an event, in µs
 abbrev pub anchor_in : Setup → ℕ → ℕ
@@ -47,12 +41,10 @@ anchor_in setup event = anchor_of setup.origin setup.first event (iso_us_of setu
 
 -- ---- unframed streams
 
--- the unit is of the stream and has the time of the slot: its synchronization reference and the presentation delay
 abbrev pub IsOfSlot : Setup → ℕ → Place → Handed → Type 0
 IsOfSlot setup bis at unit = (bis_of unit ≡ bis) × (time_in unit ≡ slot_time (whole_stay setup bis) at.event at.slot)
 
--- the unit of this number among those that the source accepted on the stream, valid, with its octets, at the time of its
--- slot in an event that was performed: the slot's own unit, which was accepted before the step that laid the event
+-- the unit of this number among those that the source accepted on the stream, valid, at the time of its own slot in a performed event
 pub record IsGiven (setup : Setup) (calls : List Call) (bis number : ℕ) (unit : Handed) : Type 0 where
   pub event : ℕ
   pub slot : ℕ
@@ -65,7 +57,6 @@ pub record IsGiven (setup : Setup) (calls : List Call) (bis number : ℕ) (unit 
   pub accepted : slice_get (given bis calls) number ≡ Some octets
   pub unit_is : unit ≡ valid bis (slot_time (whole_stay setup bis) event slot) octets
 
--- there are rising numbers such that the units are, in order, those of these numbers that the source accepted
 pub record InSourceOrder (setup : Setup) (calls : List Call) (bis : ℕ) (units : List Handed) : Type 0 where
   pub numbers : List ℕ
   pub rising : IsStrictlyIncreasing numbers
@@ -73,8 +64,7 @@ pub record InSourceOrder (setup : Setup) (calls : List Call) (bis : ℕ) (units 
 
 -- ---- framed streams
 
--- a sent unit whose first number counts from the first PDU of the air, by payload numbers: those of the source's first
--- event come first in the air
+-- a sent unit by payload numbers: in the air its numbers count from 0, the first of the source's first event
 abbrev pub by_payload : Setup → Sent → Sent
 by_payload setup unit = record {
   first = setup.first * setup.info.bn + unit.first;
@@ -89,8 +79,7 @@ pub record AreSent (setup : Setup) (calls : List Call) (bis : ℕ) (air : Air) (
   pub sends : Sends setup.info (framed_calls setup bis calls) air in_air
   pub numbered : units ≡ map (by_payload setup) in_air
 
--- the air sends the unit that has this number among those that the source accepted on the stream: this is one of the units that it
--- sends, by payload numbers
+-- the air sends this unit, by payload numbers, as the one of this number among those that the source accepted on the stream
 pub record IsSentAs (setup : Setup) (calls : List Call) (bis : ℕ) (air : Air) (number : ℕ) (given : Timed) (sent : Sent) : Type 0 where
   pub units : List Sent
   pub are_sent : AreSent setup calls bis air units
@@ -100,10 +89,8 @@ pub record IsSentAs (setup : Setup) (calls : List Call) (bis : ℕ) (air : Air) 
   pub numbered : sent ≡ by_payload setup in_air
   pub is_of : IsOf setup.info.bn (layings_of (framed_calls setup bis calls)) number given in_air
 
--- the entry is of the unit of this number among those that the source accepted on the stream, which the air sends: the first payload
--- number that carries it is of an event that was performed, and the unit was accepted before the step that laid that event: its time
--- is by that event's anchor, less the TimeOffset from the unit's own time to the anchor, by the synchronization reference of a framed
--- unit, which is never below 0, and the presentation delay; if it is valid it has the unit's octets
+-- the entry is of the unit of this number among those that the source accepted on the stream, which the air sends from a performed event
+-- on that was laid after it was accepted: it has the framed time by that event's anchor and the TimeOffset to it, and if valid its octets
 pub record IsOfUnit (setup : Setup) (calls : List Call) (bis : ℕ) (air : Air) (number : ℕ) (entry : Handed) : Type 0 where
   pub unit : Timed
   pub sent : Sent
@@ -121,7 +108,6 @@ pub record IsOfUnit (setup : Setup) (calls : List Call) (bis : ℕ) (air : Air) 
   pub time_is : time_in entry ≡ start_time (whole_stay setup bis) event (anchor_in setup event - unit.time)
   pub valid_is : (stream : ℕ) → (time : ℕ) → (octets : List ℕ) → entry ≡ valid stream time octets → octets ≡ unit.octets
 
--- there are rising numbers such that the entries are, in order, of the units of these numbers that the source accepted
 pub record InUnitOrder (setup : Setup) (calls : List Call) (bis : ℕ) (air : Air) (entries : List Handed) : Type 0 where
   pub numbers : List ℕ
   pub rising : IsStrictlyIncreasing numbers

@@ -48,15 +48,13 @@ IsLasting (BadGroup Horizon) = ⊥
 IsLasting TimeOrder = ⊥
 IsLasting _ = Unit {0}
 
--- no refusal, or such a one
 abbrev pub EndsLasting : End Refusal → Type 0
 EndsLasting through = Unit {0}
 EndsLasting (refused line reason) = IsLasting reason
 
 -- ---- the law
 
--- a text in which no `train` step prints `BadGroup 11`, and whose transcript has no refusal or a refusal other than BadLine,
--- `BadGroup 11` and TimeOrder
+-- a text in which no `train` step prints `BadGroup 11`, and whose transcript has no refusal or a lasting one
 pub record IsLastingText (airs : Airs) (starts : List Account) (text : List ℕ) : Type 0 where
   pub trains : NonePrintsHorizon airs starts (lines_of true text)
   pub end : EndsLasting (transcript_end airs starts (lines_of true text))
@@ -67,9 +65,7 @@ pub record BringsTheSame (airs others : Airs) (starts : List Account) (text othe
   pub end : transcript_end others starts (lines_of true other) ≡ transcript_end airs starts (lines_of true text)
   pub units : units_of others starts (lines_of true other) ≡ units_of airs starts (lines_of true text)
 
--- The migration law: for a text in which no `train` step prints `BadGroup 11`, and whose transcript has no refusal or a refusal
--- other than BadLine, `BadGroup 11` and TimeOrder, the transcript of `Migrated` is the same, and so are its end and the units
--- that the boxes take. Each of the two may be taken over airs of its own.
+-- The migration law: a lasting text brings the same in version 2. Each of the two may be taken over airs of its own.
 abbrev pub MigrationLaw : List Account → Type 0
 MigrationLaw starts = (airs : Airs) → (others : Airs) → MeetAirs airs → MeetAirs others → (text : List ℕ) → IsLastingText airs starts text
     → BringsTheSame airs others starts text (migrated text)

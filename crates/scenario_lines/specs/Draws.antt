@@ -1,7 +1,6 @@
 -- The numbers that the generator draws, one after the other: a linear congruential generator, which is this project's own.
 use Rattle.std.specs.Prelude.{ℕ, ◌+◌, ◌*◌, ◌/◌, ◌%◌}
 
--- the state that a draw sets
 abbrev pub next_state : ℕ → ℕ
 next_state state = (state * 1103515245 + 12345) % 2147483648
 

@@ -9,15 +9,12 @@ use Rattle.scenario_lines.specs.Draws.{next_state, drawn}
 abbrev pub unit_of : ℕ → List ℕ
 unit_of x = replicate 100 (x % 256)
 
--- unit x is given on a stream
 unfoldable pub unit_line : ℕ → ℕ → List ℕ
 unit_line bis x = joined (codes "unit") (decimal bis ∷ codes "-" ∷ digits (unit_of x) ∷ [])
 
--- a sink hears the last event, but for the last of each `lose` PDUs
 unfoldable pub air_line : ℕ → ℕ → List ℕ
 air_line sink lose = joined (codes "air") (decimal sink ∷ decimal lose ∷ [])
 
--- the lines of the group, of the sinks and of the start
 abbrev pub head_lines : List (List ℕ)
 head_lines =
     codes "scenario 1" ∷ codes "group unframed 20000 40000 8 10000 100 100 2 1 3 2 1 600 1800 1" ∷ codes "sink 0 1 1" ∷ codes "sink 1 1 1"
@@ -31,11 +28,9 @@ lines_from state x (suc count) =
     let second = next_state first in
     unit_line 1 (x + 1) ∷ unit_line 2 (x + 1) ∷ codes "event" ∷ air_line 0 (drawn first) ∷ air_line 1 (drawn second) ∷ lines_from second (x + 1) count
 
--- all lines
 abbrev pub generated_lines : ℕ → ℕ → List (List ℕ)
 generated_lines seed events = head_lines ++ (unit_line 1 0 ∷ unit_line 2 0 ∷ lines_from seed 0 events)
 
--- the text of lines, each with its end
 abbrev pub text_of : List (List ℕ) → List ℕ
 text_of [] = []
 text_of (line ∷ lines) = line ++ 10 ∷ text_of lines

@@ -2,11 +2,9 @@
 use Rattle.std.specs.Prelude.{ℕ, ◌≡◌, ◌≢◌, List, Option, option_map, slice_get}
 use Rattle.unit_outlets.specs.Account.{Account}
 
--- the count of the box at a place, where one is
 abbrev pub faults_at : List Account → ℕ → Option ℕ
 faults_at accounts box = option_map (λ account. account.faults) (slice_get accounts box)
 
--- each box has the count that it had
 abbrev pub CountsStay : List Account → List Account → Type 0
 CountsStay old new = (box : ℕ) → faults_at new box ≡ faults_at old box
 

@@ -29,7 +29,6 @@ BoxTakes place octets old new (Err (Refused reason)) = ⊥
 BoxTakes place octets old new (Err OutletFault) = TookAt place octets old new (Err Failed)
 BoxTakes place octets old new (Err Memory) = new ≡ old
 
--- A prefix of the units went to their boxes.
 pub record CutShort (units : List SinkUnit) (old new : List Account) : Type 0 where
   pub done : List SinkUnit
   pub rest : List SinkUnit

@@ -3,7 +3,6 @@
 use Rattle.std.specs.Prelude.{ℕ, Bool, true, List, [], ◌∷◌, ◌==◌, if◌then◌else◌, codes, bytes_eq}
 use Rattle.scenario_text.specs.MigratedLines.{lines_of, text_of}
 
--- the line is empty, or begins with `#`
 abbrev pub is_blank : List ℕ → Bool
 is_blank [] = true
 is_blank (octet ∷ line) = octet == 35

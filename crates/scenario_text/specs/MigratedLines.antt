@@ -4,7 +4,6 @@ use Rattle.std.specs.Prelude.{ℕ, List, [], ◌∷◌, ◌++◌, ◌+◌, ◌==
 use Rattle.std.specs.Borrow.{Bor}
 use Rattle.scenario_words.specs.Joined.{onto_first}
 
--- the octet that ends a line
 abbrev pub newline : ℕ
 newline = 10
 
@@ -12,12 +11,10 @@ abbrev pub lines_of : List ℕ → List (List ℕ)
 lines_of [] = [] ∷ []
 lines_of (octet ∷ text) = if octet == newline then [] ∷ lines_of text else onto_first octet (lines_of text)
 
--- lines, each behind the end of the one before
 abbrev pub behind : List (List ℕ) → List ℕ
 behind [] = []
 behind (line ∷ lines) = newline ∷ (line ++ behind lines)
 
--- the text of lines
 abbrev pub text_of : List (List ℕ) → List ℕ
 text_of [] = []
 text_of (line ∷ lines) = line ++ behind lines

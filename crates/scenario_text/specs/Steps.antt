@@ -10,7 +10,6 @@ use Rattle.scenario_text.specs.declared.step.Step.{Step}
 use Rattle.scenario_text.specs.Table.{Build, Row, row_of}
 use Rattle.scenario_text.specs.Lines.{comment}
 
--- the step of the words at these places
 abbrev pub built_at : (places : List Place) → Build places → Left → Result (Step × Left) LineFault
 built_at [] step left = Ok (step, left)
 built_at (place ∷ places) build left = at_place place left >>= λ value. built_at places (build value.0) value.1
@@ -36,5 +35,4 @@ step_of version line = next any_word (record { words = words_of line; read = 0 }
 -- what a line of a scenario of this version reads as: a step, None for a line that says no step, or its fault
 unfoldable pub read_of : ℕ → List ℕ → Result (Option Step) LineFault
 read_of version [] = Ok None
-read_of version (octet ∷ line) =
-    if octet == comment then Ok None else step_of version (octet ∷ line) >>= λ step. Ok (Some step)
+read_of version (octet ∷ line) = if octet == comment then Ok None else step_of version (octet ∷ line) >>= λ step. Ok (Some step)

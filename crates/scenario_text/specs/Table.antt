@@ -56,15 +56,10 @@ exactly count = one (octets_exactly count)
 abbrev pub octets : ℕ → Place
 octets most = one (octets_up_to most)
 
--- the most receive states of a sink
 abbrev pub most_slots : ℕ → ℕ
 most_slots version = if version == 2 then 8 else 4
 
--- the most octets of an operation, and those of an Add Source and of a Modify Source before their subgroups (Broadcast
--- Audio Scan Service 1.0, sections 3.1.1.4 and 3.1.1.5)
-abbrev pub most_of_operation : ℕ
-most_of_operation = 512
-
+-- the octets before the subgroups, of 512 of an operation (Broadcast Audio Scan Service 1.0, sections 3.1.1.4 and 3.1.1.5)
 abbrev pub before_add : ℕ
 before_add = 16
 
@@ -133,8 +128,7 @@ abbrev pub event_rows : List Row
 event_rows = unit_row ∷ event_row ∷ hear_row ∷ air_row ∷ inject_row ∷ sniff_row ∷ []
 
 abbrev pub first_rows : ℕ → List Row
-first_rows version =
-    scenario_row ∷ group_row ∷ start_row ∷ sink_row version ∷ tuned_row ∷ drop_row ∷ stop_row ∷ end_row ∷ []
+first_rows version = scenario_row ∷ group_row ∷ start_row ∷ sink_row version ∷ tuned_row ∷ drop_row ∷ stop_row ∷ end_row ∷ []
 
 -- ---- the lines of a source
 
@@ -194,7 +188,7 @@ write_row = record { first = codes "write"; places = sink ∷ octets 512 ∷ [];
 abbrev pub add_row : Row
 add_row = record {
   first = codes "add";
-  places = sink ∷ one (between 0 1) ∷ exactly 6 ∷ one (between 0 15) ∷ exactly 3 ∷ one (between 0 2) ∷ one (between 0 65535) ∷ wishes (most_of_operation - before_add) ∷ [];
+  places = sink ∷ one (between 0 1) ∷ exactly 6 ∷ one (between 0 15) ∷ exactly 3 ∷ one (between 0 2) ∷ one (between 0 65535) ∷ wishes (512 - before_add) ∷ [];
   build = λ n address_type address sid broadcast_id pa_sync pa_interval groups.
       Add n (record {
         address_type = address_type;
@@ -210,7 +204,7 @@ add_row = record {
 abbrev pub modify_row : Row
 modify_row = record {
   first = codes "modify";
-  places = sink ∷ octet ∷ one (between 0 2) ∷ one (between 0 65535) ∷ wishes (most_of_operation - before_modify) ∷ [];
+  places = sink ∷ octet ∷ one (between 0 2) ∷ one (between 0 65535) ∷ wishes (512 - before_modify) ∷ [];
   build = λ n source_id pa_sync pa_interval groups.
       Modify n (record { source_id = source_id; pa_sync = pa_sync; pa_interval = pa_interval; wishes = groups });
 }

@@ -28,8 +28,7 @@ pub enum Step {
         spacing: u32,
         phy: u8,
     },
-    /// Who the source is: address type 0 public or 1 random, address, advertising set and Broadcast_ID, with the octets
-    /// of both in the order in which they are sent.
+    /// Who the source is: address type 0 public or 1 random, advertising set, and octets in the order in which they are sent.
     Ident {
         address_type: u8,
         address: [u8; 6],
@@ -104,8 +103,7 @@ pub enum Step {
         bis: Bis,
         subevent: u8,
     },
-    /// Hands a sink all PDUs of the last event but those that are lost: none where `lose` is 0, else of each `lose`
-    /// PDUs the last.
+    /// Hands a sink all PDUs of the last event but the lost ones: none where `lose` is 0, else of each `lose` PDUs the last.
     Air {
         sink: u8,
         lose: u8,

@@ -11,39 +11,32 @@ use Rattle.scenario_toml.specs.Parts.{both, required, where_given, items_of}
 use Rattle.scenario_toml.specs.Words.{Field, text, number, field, words, spaced_text, spaced_number}
 use Rattle.scenario_toml.specs.Tables.{table_with, only_has, line}
 
--- the lines of an array of such values
 abbrev pub rows : (Data → Option (List ℕ)) → Data → Option (List ℕ)
 rows part value = items_of part (as_array value)
 
--- `group`: all keys are required
 abbrev pub group_fields : List Field
-group_fields =
-    text (codes "framing") ∷ number (codes "origin") ∷ number (codes "delay") ∷ number (codes "iso") ∷ number (codes "sdu")
+group_fields = text (codes "framing") ∷ number (codes "origin") ∷ number (codes "delay") ∷ number (codes "iso") ∷ number (codes "sdu")
     ∷ number (codes "max_sdu") ∷ number (codes "max_pdu") ∷ number (codes "num_bis") ∷ number (codes "bn") ∷ number (codes "nse")
     ∷ number (codes "irc") ∷ number (codes "pto") ∷ number (codes "sub") ∷ number (codes "spacing") ∷ number (codes "phy") ∷ []
 
 unfoldable pub group_line : Data → Option (List ℕ)
 group_line = table_with group_fields [] (λ group. line (codes "group") (words group_fields group))
 
--- `ident`: all keys are required
 abbrev pub ident_fields : List Field
 ident_fields = number (codes "type") ∷ text (codes "address") ∷ number (codes "sid") ∷ text (codes "id") ∷ []
 
 unfoldable pub ident_line : Data → Option (List ℕ)
 ident_line = table_with ident_fields [] (λ ident. line (codes "ident") (words ident_fields ident))
 
--- a table of `bis`: both keys are required
 abbrev pub bis_fields : List Field
 bis_fields = number (codes "index") ∷ text (codes "config") ∷ []
 
 unfoldable pub bis_line : Data → Option (List ℕ)
 bis_line = table_with bis_fields [] (λ bis. line (codes "bis") (words bis_fields bis))
 
--- `meta` of a subgroup
 abbrev pub meta_line : Data → Option (List ℕ)
 meta_line metadata = line (codes "meta") (spaced_text metadata)
 
--- a table of `subgroups`: `codec` and `config` are required
 abbrev pub subgroup_fields : List Field
 subgroup_fields = text (codes "codec") ∷ text (codes "config") ∷ []
 
@@ -56,31 +49,25 @@ subgroup_lines = table_with subgroup_fields subgroup_others (λ subgroup.
     (both (where_given meta_line (get_member (codes "meta") subgroup))
     (where_given (rows bis_line) (get_member (codes "bis") subgroup))))
 
--- the number of a sink, which is the first word of each of its lines
 abbrev pub sink_number : Members → Option (List ℕ)
 sink_number sink = field (number (codes "number")) sink
 
--- a table of `pacs` of a sink: all keys are required
 abbrev pub pac_fields : List Field
 pac_fields = text (codes "codec") ∷ text (codes "caps") ∷ text (codes "meta") ∷ []
 
 unfoldable pub pac_line : Members → Data → Option (List ℕ)
 pac_line sink = table_with pac_fields [] (λ pac. line (codes "pac") (both (sink_number sink) (words pac_fields pac)))
 
--- `locations` of a sink
 abbrev pub locate_line : Members → Data → Option (List ℕ)
 locate_line sink locations = line (codes "locate") (both (sink_number sink) (spaced_text locations))
 
--- two texts, and nothing else
 abbrev pub two_texts : Option Items → Option (List ℕ)
 two_texts (Some (item first (item second no_items))) = both (spaced_text first) (spaced_text second)
 two_texts _ = None
 
--- `contexts` of a sink: an array of two texts
 abbrev pub context_line : Members → Data → Option (List ℕ)
 context_line sink contexts = line (codes "context") (both (sink_number sink) (two_texts (as_array contexts)))
 
--- a table of `sinks`: `number`, `streams` and `slots` are required
 abbrev pub sink_fields : List Field
 sink_fields = number (codes "number") ∷ number (codes "streams") ∷ number (codes "slots") ∷ []
 
@@ -100,7 +87,6 @@ sink_lines = table_with sink_fields sink_others (λ sink.
     (both (where_given (locate_line sink) (get_member (codes "locations") sink))
     (where_given (context_line sink) (get_member (codes "contexts") sink)))))
 
--- a text of `steps`: any octets but the one that ends a line
 abbrev pub step_text : Option (List ℕ) → Option (List ℕ)
 step_text None = None
 step_text (Some octets) = if list_any (λ octet. octet == newline) octets then None else Some octets
@@ -108,7 +94,6 @@ step_text (Some octets) = if list_any (λ octet. octet == newline) octets then N
 unfoldable pub step_line : Data → Option (List ℕ)
 step_line step = both (step_text (as_str step)) (Some (newline ∷ []))
 
--- the whole document: `version` and `steps` are required
 abbrev pub document_fields : List Field
 document_fields = number (codes "version") ∷ []
 
@@ -116,8 +101,7 @@ abbrev pub document_others : List (List ℕ)
 document_others = codes "group" ∷ codes "ident" ∷ codes "subgroups" ∷ codes "sinks" ∷ codes "steps" ∷ []
 
 unfoldable pub lines_in : Members → Option (List ℕ)
-lines_in document =
-    both (line (codes "scenario") (words document_fields document))
+lines_in document = both (line (codes "scenario") (words document_fields document))
     (both (where_given group_line (get_member (codes "group") document))
     (both (where_given ident_line (get_member (codes "ident") document))
     (both (where_given (rows subgroup_lines) (get_member (codes "subgroups") document))
@@ -134,7 +118,6 @@ abbrev pub meaning_in_form : Option (List ℕ) → Meaning
 meaning_in_form None = no_form
 meaning_in_form (Some octets) = lines octets
 
--- of the members of a document
 abbrev pub meaning_in_keys : Members → Meaning
 meaning_in_keys members = meaning_in_form (if only_has document_fields document_others members then lines_in members else None)
 

@@ -3,32 +3,26 @@
 use Rattle.std.specs.Prelude.{ℕ, List, [], ◌++◌, Option, None, Some}
 use Rattle.toml.specs.Data.{Data, Items, no_items, item}
 
--- so many octets, and then those
 abbrev pub after : List ℕ → Option (List ℕ) → Option (List ℕ)
 after prefix None = None
 after prefix (Some back) = Some (prefix ++ back)
 
--- one part and then another
 abbrev pub both : Option (List ℕ) → Option (List ℕ) → Option (List ℕ)
 both None back = None
 both (Some prefix) back = after prefix back
 
--- a part for each item of an array, in order
 abbrev pub each : (Data → Option (List ℕ)) → Items → Option (List ℕ)
 each part no_items = Some []
 each part (item value items) = both (part value) (each part items)
 
--- the part of a value that has to be there
 abbrev pub required : (Data → Option (List ℕ)) → Option Data → Option (List ℕ)
 required part None = None
 required part (Some value) = part value
 
--- the part of a value that may be missing
 abbrev pub where_given : (Data → Option (List ℕ)) → Option Data → Option (List ℕ)
 where_given part None = Some []
 where_given part (Some value) = part value
 
--- a part for each item of a value, which is an array
 abbrev pub items_of : (Data → Option (List ℕ)) → Option Items → Option (List ℕ)
 items_of part None = None
 items_of part (Some items) = each part items

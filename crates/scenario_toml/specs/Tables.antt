@@ -7,36 +7,29 @@ use Rattle.toml.specs.Data.{Data, as_table, Members, no_members, member}
 use Rattle.scenario_toml.specs.Parts.{both}
 use Rattle.scenario_toml.specs.Words.{Field, key_of}
 
--- a key that is among those of fields, or among these
 abbrev pub is_field : List Field → List ℕ → Bool
 is_field fields key = list_any (λ known. bytes_eq (key_of known) key) fields
 
 abbrev pub is_among : List (List ℕ) → List ℕ → Bool
 is_among others key = list_any (λ known. bytes_eq known key) others
 
--- a key that a table may have
 abbrev pub is_known : List Field → List (List ℕ) → List ℕ → Bool
 is_known fields others key = is_field fields key || is_among others key
 
--- no key but those
 abbrev pub only_has : List Field → List (List ℕ) → Members → Bool
 only_has fields others no_members = true
 only_has fields others (member key value members) = is_known fields others key && only_has fields others members
 
--- members with no other keys
 abbrev pub with_keys : List Field → List (List ℕ) → Option Members → Option Members
 with_keys fields others None = None
 with_keys fields others (Some members) = if only_has fields others members then Some members else None
 
--- what the members of a table stand for
 abbrev pub of_members : (Members → Option (List ℕ)) → Option Members → Option (List ℕ)
 of_members part None = None
 of_members part (Some members) = part members
 
--- what a value stands for that is a table with no other keys than these
 abbrev pub table_with : List Field → List (List ℕ) → (Members → Option (List ℕ)) → Data → Option (List ℕ)
 table_with fields others part value = of_members part (with_keys fields others (as_table value))
 
--- a line: its first word, and the others, each behind a space
 abbrev pub line : List ℕ → Option (List ℕ) → Option (List ℕ)
 line first others = both (Some first) (both others (Some (newline ∷ [])))

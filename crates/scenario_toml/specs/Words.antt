@@ -7,32 +7,26 @@ use Rattle.scenario_words.specs.Joined.{space}
 use Rattle.toml.specs.Data.{Data, as_str, as_integer, Members, get_member}
 use Rattle.scenario_toml.specs.Parts.{after, both, required}
 
--- an octet from 0x21 to 0x7E
 abbrev pub is_printed : ℕ → Bool
 is_printed octet = nat_le 0x21 octet && nat_le octet 0x7E
 
--- one octet or more, each printed
 abbrev pub is_word : List ℕ → Bool
 is_word octets = not (length octets == 0) && list_all is_printed octets
 
--- a text that is a word
 abbrev pub text_word : Option (List ℕ) → Option (List ℕ)
 text_word None = None
 text_word (Some octets) = if is_word octets then Some octets else None
 
--- an integer in decimal, with `-` where it is negative
 abbrev pub number_word : Option ℤ → Option (List ℕ)
 number_word None = None
 number_word (Some number) = Some (signed_decimal number)
 
--- a text behind a space, and an integer behind a space
 abbrev pub spaced_text : Data → Option (List ℕ)
 spaced_text value = after (space ∷ []) (text_word (as_str value))
 
 abbrev pub spaced_number : Data → Option (List ℕ)
 spaced_number value = after (space ∷ []) (number_word (as_integer value))
 
--- a key at which a text stands, or an integer
 pub data Field : Type 0 where
   text : List ℕ → Field
   number : List ℕ → Field
@@ -46,7 +40,6 @@ abbrev pub field : Field → Members → Option (List ℕ)
 field (text key) table = required spaced_text (get_member key table)
 field (number key) table = required spaced_number (get_member key table)
 
--- the words of keys, each behind a space
 abbrev pub words : List Field → Members → Option (List ℕ)
 words [] table = Some []
 words (first ∷ others) table = both (field first table) (words others table)

@@ -2,31 +2,20 @@
 use Rattle.std.specs.Prelude.{ℕ, ◌+◌, List, [], ◌∷◌, length, Option}
 use Rattle.bass_operations.specs.declared.wishes.Wish.{Wish}
 
--- a place of one word
 pub data WordPlace : Type 0 where
-  -- a decimal from a least to a greatest number
-  between : ℕ → ℕ → WordPlace
-  -- `unframed` for 0, or `framed` for 1
-  framing_word : WordPlace
-  -- `-`, or a decimal of at most this number
-  time_up_to : ℕ → WordPlace
-  -- octets as pairs of hexadecimal digits of either case, or `-` for none: at most so many
-  octets_up_to : ℕ → WordPlace
-  -- exactly so many octets as pairs of hexadecimal digits
-  octets_exactly : ℕ → WordPlace
-  -- a number in so many octets, the least octet first
-  number_in_octets : ℕ → WordPlace
-  -- an LTV list of at most so many octets
-  list_up_to : ℕ → WordPlace
+  between : ℕ → ℕ → WordPlace  -- a decimal from a least to a greatest number
+  framing_word : WordPlace  -- `unframed` for 0, or `framed` for 1
+  time_up_to : ℕ → WordPlace  -- `-`, or a decimal of at most this number
+  octets_up_to : ℕ → WordPlace  -- octets as pairs of hexadecimal digits of either case, or `-` for none: at most so many
+  octets_exactly : ℕ → WordPlace  -- exactly so many octets as pairs of hexadecimal digits
+  number_in_octets : ℕ → WordPlace  -- a number in so many octets, the least octet first
+  list_up_to : ℕ → WordPlace  -- an LTV list of at most so many octets
 
 pub data Place : Type 0 where
   one : WordPlace → Place
-  -- as the last place: a decimal from a least to a greatest number, or no word
-  perhaps : ℕ → ℕ → Place
-  -- as the last place: one word or more, decimals from 1 to 31 of which each is above the one before
-  rising : Place
-  -- as the last place: 0 to 31 pairs of words, each with 4 octets of BIS_Sync and at most 255 octets of metadata, which
-  -- make at most so many octets of an operation
+  perhaps : ℕ → ℕ → Place  -- as the last place: a decimal from a least to a greatest number, or no word
+  rising : Place  -- as the last place: one word or more, decimals from 1 to 31 of which each is above the one before
+  -- as the last place: 0 to 31 pairs of words, 4 octets of BIS_Sync and at most 255 of metadata, and at most so many octets in all
   wishes : ℕ → Place
 
 abbrev pub WordValue : WordPlace → Type 0
@@ -38,7 +27,6 @@ WordValue (octets_exactly count) = List ℕ
 WordValue (number_in_octets count) = ℕ
 WordValue (list_up_to most) = List ℕ
 
--- what stands at a place: for `rising` a set of streams
 abbrev pub PlaceValue : Place → Type 0
 PlaceValue (one place) = WordValue place
 PlaceValue (perhaps least greatest) = Option ℕ
@@ -49,8 +37,7 @@ PlaceValue (wishes most) = List Wish
 abbrev pub most_wishes : ℕ
 most_wishes = 31
 
--- the octets of these subgroups in an operation: each has 4 octets of BIS_Sync, one octet that counts its metadata, and the
--- metadata (Broadcast Audio Scan Service 1.0, section 3.1.1.4)
+-- in an operation a subgroup is 4 octets of BIS_Sync, a count and metadata (Broadcast Audio Scan Service 1.0, section 3.1.1.4)
 abbrev pub wishes_octets : List Wish → ℕ
 wishes_octets [] = 0
 wishes_octets (wish ∷ others) = 5 + length wish.metadata + wishes_octets others

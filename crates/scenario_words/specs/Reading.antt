@@ -51,7 +51,6 @@ SpellsNext (Err fault) = ⊥
 
 -- ---- one word
 
--- any word
 abbrev pub any_word : List ℕ → Option (List ℕ)
 any_word word = Some word
 
@@ -62,8 +61,7 @@ decimal_in least greatest word =
     if bytes_eq word (decimal n) && (nat_le least n && nat_le n greatest) then Some n else None
 
 unfoldable pub framing_in : List ℕ → Option ℕ
-framing_in word =
-    if bytes_eq word (codes "unframed") then Some 0 else if bytes_eq word (codes "framed") then Some 1 else None
+framing_in word = if bytes_eq word (codes "unframed") then Some 0 else if bytes_eq word (codes "framed") then Some 1 else None
 
 abbrev pub timed : Option ℕ → Option (Option ℕ)
 timed None = None
@@ -91,7 +89,6 @@ abbrev pub numbered : Option (List ℕ) → Option ℕ
 numbered None = None
 numbered (Some octets) = Some (sum_from 0 octets)
 
--- the number in so many octets
 unfoldable pub number_in : ℕ → List ℕ → Option ℕ
 number_in count word = numbered (exact_in count word)
 
@@ -99,11 +96,9 @@ abbrev pub listed : Option (List ℕ) → Option (List ℕ)
 listed None = None
 listed (Some octets) = if is_none (bad_of octets) then Some octets else None
 
--- octets that are an LTV list
 unfoldable pub list_in : ℕ → List ℕ → Option (List ℕ)
 list_in most word = listed (octets_in most word)
 
--- the value of a word at its place, where it fits
 abbrev pub word_in : (place : WordPlace) → List ℕ → Option (WordValue place)
 word_in (between least greatest) word = decimal_in least greatest word
 word_in framing_word word = framing_in word
@@ -115,7 +110,6 @@ word_in (list_up_to most) word = list_in most word
 
 -- ---- the words that are left
 
--- a word that fits is read, and one that doesn't has the number of words before it
 abbrev pub taken : {X : Type 0} → ℕ → List (List ℕ) → Option X → Result (X × Left) LineFault
 taken read words None = Err (BadLine read)
 taken read words (Some x) = Ok (x, record { words = words; read = read + 1 })
@@ -127,17 +121,14 @@ next_of fits read (word ∷ words) = taken read words (fits word)
 abbrev pub next : {X : Type 0} → (List ℕ → Option X) → Left → Result (X × Left) LineFault
 next fits left = next_of fits left.read left.words
 
--- the number of the last place, where a word is left
 abbrev pub perhaps_of : ℕ → ℕ → ℕ → List (List ℕ) → Result (Option ℕ × Left) LineFault
 perhaps_of least greatest read [] = Ok (None, record { words = []; read = read })
-perhaps_of least greatest read (word ∷ words) =
-    taken read words (decimal_in least greatest word) >>= λ n. Ok (Some n.0, n.1)
+perhaps_of least greatest read (word ∷ words) = taken read words (decimal_in least greatest word) >>= λ n. Ok (Some n.0, n.1)
 
 -- a set of streams with one more: bit i - 1 stands for index i
 abbrev pub with_stream : ℕ → ℕ → ℕ
 with_stream set index = bit_or set (2 ^ (index - 1))
 
--- the set of the streams that these words name, with those of the words before
 unfoldable pub streams_of : ℕ → ℕ → ℕ → List (List ℕ) → Result (ℕ × Left) LineFault
 streams_of set least read [] = Ok (set, record { words = []; read = read })
 streams_of set least read (word ∷ words) =
@@ -146,7 +137,6 @@ streams_of set least read (word ∷ words) =
 abbrev pub rising_of : Left → Result (ℕ × Left) LineFault
 rising_of left = next (decimal_in 1 31) left >>= λ n. streams_of (with_stream 0 n.0) (n.0 + 1) n.1.read n.1.words
 
--- a pair of words
 abbrev pub wish_of : Left → Result (Wish × Left) LineFault
 wish_of left = do
   bits ← next (number_in 4) left
@@ -157,8 +147,7 @@ wish_of left = do
 unfoldable pub wishes_of : List Wish → ℕ → ℕ → List (List ℕ) → Result (List Wish × Left) LineFault
 wishes_of before zero read words = Ok (before, record { words = words; read = read })
 wishes_of before (suc more) read [] = Ok (before, record { words = []; read = read })
-wishes_of before (suc more) read (word ∷ words) =
-    wish_of (record { words = word ∷ words; read = read })
+wishes_of before (suc more) read (word ∷ words) = wish_of (record { words = word ∷ words; read = read })
     >>= λ wish. wishes_of (before ++ wish.0 ∷ []) more wish.1.read wish.1.words
 
 -- together they make at most so many octets; else the number is that of the words read
@@ -174,7 +163,6 @@ at_place (perhaps least greatest) left = perhaps_of least greatest left.read lef
 at_place rising left = rising_of left
 at_place (wishes most) left = all_wishes_of most left
 
--- no word is left
 abbrev pub ended : ℕ → List (List ℕ) → Result (Unit {0}) LineFault
 ended read [] = Ok tt
 ended read (word ∷ words) = Err (BadLine read)

@@ -17,7 +17,6 @@ pub enum LineFault {
     /// The word of this number, from 0, is the first that doesn't fit its place. Where the line has too many words
     /// it is the first word too many; where one is missing it is the number of words in the line.
     BadLine { word: u64 },
-    /// Memory ran out.
     Memory,
 }
 

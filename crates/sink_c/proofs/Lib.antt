@@ -2,3 +2,5 @@ mod Prelude
 mod AllHanded
 mod Handing
 mod Kept
+mod Lengths
+mod Ranges

@@ -1,12 +1,11 @@
 //! What a device says of a sink: its records, locations, contexts and MTU.
-ghost use Rattle.std.specs.Prelude.{◌≤◌, ◌≡◌, ◌≢◌, ◌∷◌, ◌<◌, List, length, IfOk, IfErr, IsSome};
-ghost use Rattle.base_grammar.specs.Layout.{lc3};
-ghost use Rattle.ltv_codec.specs.Layout.{AreLtvs};
-ghost use Rattle.delegator_history.specs.States.{contexts_set, locations_set, mtu_set, record_added};
+ghost use Rattle.std.specs.Prelude.{◌≤◌, ◌≡◌, ◌≢◌, ◌∷◌, ◌++◌, ◌<◌, [], List, length, IfOk, IfErr, IsSome, OnOk};
+ghost use Rattle.pacs_records.specs.Layout.{Fits, greatest_value, value};
+ghost use Rattle.delegator_history.specs.States.{contexts_set, locations_set, mtu_set, record_added, snapshot_of};
 ghost use Rattle.delegator_history.specs.Trains.{Setup};
-ghost use Rattle.delegator_machine.specs.Calls.{Call, control};
+ghost use Rattle.delegator_machine.specs.Calls.{Call, control, steps_of};
 ghost use Rattle.sink_c.specs.Sinks.{Stands, room_in, waiting_in};
-ghost use Rattle.c_values.specs.Statuses.{ok};
+ghost use Rattle.c_values.specs.Statuses.{layout, memory, ok, range, too_long};
 
 use crate::handle::VmSink;
 use base_grammar::is_lc3_codec;
@@ -18,9 +17,10 @@ use std::alloc::Global;
 
 /// A record from octets, where they have the layout.
 fn record_of(alloc: Global, codec: &[u8], caps: &[u8], metadata: &[u8]) -> Result<PacRecord, u32>
-    ensures fits { IfOk result (λ entry. (length entry.caps < 256) × (length entry.metadata < 256) × (entry.codec ≡ lc3 → AreLtvs entry.caps) × AreLtvs entry.metadata) }
     ensures record { IfOk result (λ entry. entry ≡ record { codec = codec.now; caps = caps.now; metadata = metadata.now }) }
-    ensures err { IfErr result (λ status. status ≢ ok) }
+    ensures fits { OnOk result (Fits (record { codec = codec.now; caps = caps.now; metadata = metadata.now })) }
+    ensures layout { IfErr result (λ status. status ≡ layout → ¬ Fits (record { codec = codec.now; caps = caps.now; metadata = metadata.now })) }
+    ensures memory { IfErr result (λ status. status ≢ layout → (status ≡ memory) × Fits (record { codec = codec.now; caps = caps.now; metadata = metadata.now })) }
 {
     let Ok(codec) = <[u8; 5]>::try_from(codec) else {
         return Err(LAYOUT);
@@ -62,6 +62,13 @@ pub extern "C" fn vm_sink_add_pac(
     ensures units { waiting_in sink.new ≡ waiting_in sink.old }
     ensures room { room_in sink.new ≡ room_in sink.old }
     ensures same { result ≢ ok → sink.new.kept ≡ sink.old.kept }
+    ensures layout { Fits (record { codec = codec.now; caps = caps.now; metadata = metadata.now }) → result ≢ layout }
+    ensures fits { result ≢ layout → Fits (record { codec = codec.now; caps = caps.now; metadata = metadata.now }) }
+    ensures long { (setup : Setup) (calls : List Call) → Stands setup calls sink.old → result ≡ too_long
+        → greatest_value < length (value ((snapshot_of setup (steps_of calls)).capability.entries ++ record { codec = codec.now; caps = caps.now; metadata = metadata.now } ∷ [])) }
+    ensures short { (setup : Setup) (calls : List Call) → Stands setup calls sink.old → result ≡ ok
+        → length (value ((snapshot_of setup (steps_of calls)).capability.entries ++ record { codec = codec.now; caps = caps.now; metadata = metadata.now } ∷ [])) ≤ greatest_value }
+    ensures either { result ≢ ok → result ≢ layout → result ≢ too_long → result ≡ memory }
 {
     let entry = match record_of(alloc, codec, caps, metadata) {
         Ok(entry) => entry,
@@ -108,6 +115,8 @@ pub extern "C" fn vm_sink_set_mtu(sink: &mut VmSink, mtu: u16) -> u32
     ensures room { room_in sink.new ≡ room_in sink.old }
     ensures same { result ≢ ok → sink.new.kept ≡ sink.old.kept }
     ensures in_range { 23 ≤ mtu → mtu ≤ 517 → result ≡ ok }
+    ensures bounds { result ≢ range → (23 ≤ mtu) × (mtu ≤ 517) }
+    ensures either { result ≢ ok → result ≡ range }
 {
     if mtu < 23 || mtu > 517 {
         return RANGE;

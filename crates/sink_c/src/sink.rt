@@ -1,6 +1,11 @@
 //! The calls of a sink.
-ghost use Rattle.std.specs.Prelude.{◌≡◌, ◌≢◌, ◌∷◌, ◌++◌, ◌≤◌, ◌<◌, ◌^◌, [], List, length, take, IfOk, IsSome, Some, None};
+ghost use Rattle.std.specs.Prelude.{◌≡◌, ◌≢◌, ◌∷◌, ◌++◌, ◌≤◌, ◌<◌, ◌^◌, [], List, length, take, IfOk, IsSome, Some, None, true};
+ghost use Rattle.bass_operations.specs.Reading.{op_of};
+ghost use Rattle.delegator_control.specs.Following.{is_followed};
+ghost use Rattle.delegator_control.specs.Serving.{wants_memory};
 ghost use Rattle.delegator_history.specs.Controls.{control_heard};
+ghost use Rattle.delegator_history.specs.declared.train_heard.ControlHeard.TheVariants.{Left};
+ghost use Rattle.delegator_history.specs.Snapshots.{entry_at, slot_of};
 ghost use Rattle.delegator_history.specs.States.{control_heard as controlled, snapshot_of, notified, train_heard, train_lost, written};
 ghost use Rattle.delegator_history.specs.Trains.{Setup, Train, answer_of, outcome_by};
 ghost use Rattle.delegator_history.specs.Writes.{reply_of};
@@ -9,9 +14,9 @@ ghost use Rattle.delegator_machine.specs.Groups.{group_calls};
 ghost use Rattle.delegator_machine.specs.Trains.{train_of};
 ghost use Rattle.delegator_history.specs.Values.{value_at};
 ghost use Rattle.group_sink.specs.Hearings.{hearing_of};
-ghost use Rattle.c_values.specs.Numbers.{control_c, heard_c, reply_c, train_c};
+ghost use Rattle.c_values.specs.Numbers.{control_c, heard_c, reply_c, streams_c, train_c};
 ghost use Rattle.sink_c.specs.Sinks.{Stands, notices_of, room_in, waiting_in};
-ghost use Rattle.c_values.specs.Statuses.{empty, ok, range, no_slot, memory};
+ghost use Rattle.c_values.specs.Statuses.{empty, ok, range, no_room, no_slot, memory};
 
 use crate::handle::VmSink;
 use crate::machine::SinkMachine;
@@ -52,6 +57,8 @@ pub extern "C" fn vm_sink_new(alloc: Global, sink: &mut VmSink, streams: u8, slo
     ensures units { result ≡ ok → (waiting_in sink.new ≡ []) × (room_in sink.new ≡ record { units = 0; octets = 0 }) }
     ensures same { result ≢ ok → sink.new ≡ sink.old }
     ensures in_range { 1 ≤ streams → streams ≤ 31 → 1 ≤ slots → slots ≤ 8 → result ≢ range }
+    ensures bounds { result ≢ range → (1 ≤ streams) × (streams ≤ 31) × (1 ≤ slots) × (slots ≤ 8) }
+    ensures either { result ≢ ok → result ≢ range → result ≡ memory }
 {
     if streams < 1 || streams > 31 || slots < 1 || slots > 8 {
         return RANGE;
@@ -85,6 +92,8 @@ pub extern "C" fn vm_sink_write(sink: &mut VmSink, write: &[u8], reply: &mut VmR
     ensures room { room_in sink.new ≡ room_in sink.old }
     ensures same { result ≢ ok → (sink.new.kept ≡ sink.old.kept) × (reply.new ≡ reply.old) }
     ensures either { result ≢ ok → result ≡ memory }
+    ensures wants { (setup : Setup) (calls : List Call) → Stands setup calls sink.old → result ≡ memory
+        → wants_memory (snapshot_of setup (steps_of calls)) (op_of write.now) ≡ true }
 {
     match sink.lend().delegator.serve(write) {
         Ok(answer) => {
@@ -117,11 +126,18 @@ pub extern "C" fn vm_sink_train(
     ensures fault { let train : Train = train_of address_type sid ext.now adv.now acad.now now in
         (setup : Setup) (calls : List Call) → Stands setup calls sink.old → result ≡ ok
         → heard.new.fault ≡ (train_c (answer_of (outcome_by setup (snapshot_of setup (steps_of calls)) train))).1 }
+    ensures streams { let train : Train = train_of address_type sid ext.now adv.now acad.now now in
+        (setup : Setup) (calls : List Call) → Stands setup calls sink.old → result ≡ ok
+        → heard.new.streams ≡ streams_c (answer_of (outcome_by setup (snapshot_of setup (steps_of calls)) train)) }
     ensures units { waiting_in sink.new ≡ waiting_in sink.old }
     ensures room { room_in sink.new ≡ room_in sink.old }
     ensures same { result ≢ ok → (sink.new.kept ≡ sink.old.kept) × (heard.new ≡ heard.old) }
     ensures in_range { now ≤ 2 ^ 61 → result ≢ range }
+    ensures bounds { result ≢ range → now ≤ 2 ^ 61 }
     ensures either { result ≢ ok → result ≢ range → result ≡ memory }
+    ensures wants { let train : Train = train_of address_type sid ext.now adv.now acad.now now in
+        (setup : Setup) (calls : List Call) → Stands setup calls sink.old → result ≡ memory
+        → is_followed (outcome_by setup (snapshot_of setup (steps_of calls)) train) ≡ true }
 {
     if now > 1 << 61 {
         return RANGE;
@@ -158,6 +174,8 @@ pub extern "C" fn vm_sink_hear(
     ensures room { room_in sink.new ≡ room_in sink.old }
     ensures same { result ≢ ok → (sink.new.kept ≡ sink.old.kept) × (heard.new ≡ heard.old) }
     ensures in_range { event ≤ 2 ^ 39 → 1 ≤ bis → bis ≤ 31 → result ≡ ok }
+    ensures bounds { result ≢ range → (event ≤ 2 ^ 39) × (1 ≤ bis) × (bis ≤ 31) }
+    ensures either { result ≢ ok → result ≡ range }
 {
     if event > 1 << 39 {
         return RANGE;
@@ -182,6 +200,9 @@ pub extern "C" fn vm_sink_control(sink: &mut VmSink, pdu: &[u8], heard: &mut VmH
     ensures room { room_in sink.new ≡ room_in sink.old }
     ensures same { result ≢ ok → (sink.new.kept ≡ sink.old.kept) × (heard.new ≡ heard.old) }
     ensures either { result ≢ ok → result ≡ memory }
+    ensures wants { (setup : Setup) (calls : List Call) → Stands setup calls sink.old → result ≡ memory
+        → (control_heard (snapshot_of setup (steps_of calls)).place pdu.now ≡ Left)
+        × IsSome (slot_of (snapshot_of setup (steps_of calls)).place) }
 {
     match sink.lend().delegator.control(pdu) {
         Ok(answer) => {
@@ -202,6 +223,8 @@ pub extern "C" fn vm_sink_lost(sink: &mut VmSink) -> u32
     ensures room { room_in sink.new ≡ room_in sink.old }
     ensures same { result ≢ ok → sink.new.kept ≡ sink.old.kept }
     ensures either { result ≢ ok → result ≡ memory }
+    ensures wants { (setup : Setup) (calls : List Call) → Stands setup calls sink.old → result ≡ memory
+        → IsSome (slot_of (snapshot_of setup (steps_of calls)).place) }
 {
     match sink.lend().delegator.lost() {
         Ok(()) => OK,
@@ -228,7 +251,11 @@ pub extern "C" fn vm_sink_next_notice(
     ensures units { waiting_in sink.new ≡ waiting_in sink.old }
     ensures room { room_in sink.new ≡ room_in sink.old }
     ensures same { result ≡ range → sink.new.kept ≡ sink.old.kept }
+    ensures quiet { result ≢ ok → (room.new ≡ room.old) × (slot.new ≡ slot.old) × (count.new ≡ count.old) }
+    ensures count { result ≡ ok → count.new ≤ length room.new }
     ensures in_range { 512 ≤ length room.old → result ≢ range }
+    ensures bounds { result ≢ range → 512 ≤ length room.old }
+    ensures either { (setup : Setup) (calls : List Call) → Stands setup calls sink.old → result ≢ ok → result ≢ range → result ≡ empty }
 {
     if room.len() < 512 {
         return RANGE;
@@ -261,6 +288,8 @@ pub extern "C" fn vm_sink_would_hear(
     ensures kept { sink.new.kept ≡ sink.old.kept }
     ensures same { result ≢ ok → heard.new ≡ heard.old }
     ensures in_range { event ≤ 2 ^ 39 → 1 ≤ bis → bis ≤ 31 → result ≡ ok }
+    ensures bounds { result ≢ range → (event ≤ 2 ^ 39) × (1 ≤ bis) × (bis ≤ 31) }
+    ensures either { result ≢ ok → result ≡ range }
 {
     if event > 1 << 39 {
         return RANGE;
@@ -290,6 +319,14 @@ pub extern "C" fn vm_sink_read_state(
     ensures value { (setup : Setup) (calls : List Call) → Stands setup calls sink.old → result ≡ ok
         → take count.new room.new ≡ value_at (snapshot_of setup (steps_of calls)) slot }
     ensures kept { sink.new.kept ≡ sink.old.kept }
+    ensures quiet { result ≢ ok → (room.new ≡ room.old) × (count.new ≡ count.old) }
+    ensures count { result ≡ ok → count.new ≤ length room.new }
+    ensures fits { (setup : Setup) (calls : List Call) → Stands setup calls sink.old
+        → length (value_at (snapshot_of setup (steps_of calls)) slot) ≤ length room.old → result ≢ no_room }
+    ensures enough { (setup : Setup) (calls : List Call) → Stands setup calls sink.old → 512 ≤ length room.old → result ≢ no_room }
+    ensures either { result ≢ ok → result ≢ no_slot → result ≢ no_room → result ≡ memory }
+    ensures wants { (setup : Setup) (calls : List Call) → Stands setup calls sink.old → result ≡ memory
+        → IsSome (entry_at (snapshot_of setup (steps_of calls)).slots slot) }
 {
     let machine = sink.lend();
     if slot >= machine.delegator.slot_count() {

@@ -1,11 +1,11 @@
 //! The units that a sink hands up.
-ghost use Rattle.std.specs.Prelude.{◌≡◌, ◌≢◌, ◌∷◌, ◌++◌, ◌≤◌, ◌<◌, ◌^◌, [], ℕ, List, length, take, IsSome};
+ghost use Rattle.std.specs.Prelude.{◌≡◌, ◌≢◌, ◌∷◌, ◌++◌, ◌≤◌, ◌<◌, ◌^◌, [], ℕ, List, length, take, IsSome, false};
 ghost use Rattle.delegator_history.specs.Trains.{Setup};
 ghost use Rattle.delegator_machine.specs.Calls.{Call, tick};
 ghost use Rattle.delegator_machine.specs.Groups.{group_calls};
 ghost use Rattle.group_sink.specs.Handing.{handed_at};
 ghost use Rattle.unit_outlets.specs.Handed.{Handed};
-ghost use Rattle.c_values.specs.Kept.{HasRoom, greatest_unit};
+ghost use Rattle.c_values.specs.Kept.{HasRoom, IsWithin, greatest_unit};
 ghost use Rattle.c_values.specs.Statuses.{empty, memory, no_room, ok, range};
 ghost use Rattle.c_values.specs.Units.{unit_in};
 ghost use Rattle.sink_c.specs.Sinks.{Stands, all_handed, room_in, waiting_in};
@@ -24,6 +24,8 @@ pub extern "C" fn vm_sink_reserve(sink: &mut VmSink, units: usize, octets: usize
     ensures room { result ≡ ok → room_in sink.new ≡ record { units = units; octets = octets } }
     ensures same { result ≢ ok → sink.new.kept ≡ sink.old.kept }
     ensures in_range { 1 ≤ units → units ≤ 1024 → 1 ≤ octets → octets ≤ greatest_unit → result ≢ range }
+    ensures bounds { result ≢ range → (1 ≤ units) × (units ≤ 1024) × (1 ≤ octets) × (octets ≤ greatest_unit) }
+    ensures either { result ≢ ok → result ≢ range → result ≡ memory }
 {
     if units < 1 || units > 1024 || octets < 1 || octets > 4095 {
         return RANGE;
@@ -53,6 +55,7 @@ pub extern "C" fn vm_sink_tick(sink: &mut VmSink, event: u64) -> u32
     ensures room { (setup : Setup) (calls : List Call) → Stands setup calls sink.old → room_in sink.new ≡ room_in sink.old }
     ensures same { result ≡ range → sink.new.kept ≡ sink.old.kept }
     ensures in_range { event < 2 ^ 39 → result ≢ range }
+    ensures bounds { result ≢ range → event < 2 ^ 39 }
     ensures either { result ≢ ok → result ≢ range → result ≡ memory }
 {
     if event >= 1 << 39 {
@@ -81,7 +84,12 @@ pub extern "C" fn vm_sink_next_unit(sink: &mut VmSink, room: &mut [u8], unit: &m
     ensures same { result ≢ ok → (sink.new.kept ≡ sink.old.kept) × (unit.new ≡ unit.old) × (room.new ≡ room.old) }
     ensures room { room_in sink.new ≡ room_in sink.old }
     ensures enough { greatest_unit ≤ length room.old → result ≢ no_room }
+    ensures within { (first : Handed) (others : List Handed) → waiting_in sink.old ≡ first ∷ others → IsWithin (length room.old) first
+        → result ≢ no_room }
     ensures waits { waiting_in sink.old ≢ [] → result ≢ empty }
+    ensures count { result ≡ ok → unit.new.count ≤ length room.new }
+    ensures lost { result ≡ ok → unit.new.is_valid ≡ false → unit.new.count ≡ 0 }
+    ensures either { result ≢ ok → result ≢ empty → result ≡ no_room }
 {
     sink.lend().units.take_into(room, unit)
 }

@@ -15,7 +15,6 @@ pub data Call : Type 0 where
   read : (link : ℕ) → Call  -- of its reads that wait the one of the lowest slot is served
   forged : (slot : ℕ) (octets : List ℕ) → Call  -- over link 0 a notice comes that the delegator did not send
 
--- the calls of a new sink: its MTU is set where it has one
 abbrev pub born : Option ℕ → List Call
 born None = []
 born (Some mtu) = stepped (mtu_set mtu) ∷ []
@@ -33,7 +32,7 @@ is_joined link calls = unwrap_or (last_given (joining_by link) calls) (link == 0
 
 -- ---- the writes of a link
 
--- those since the link was joined
+-- the writes of a link since it was joined
 abbrev pub writes : ℕ → List Call → List (List ℕ)
 writes link [] = []
 writes link (joined at ∷ earlier) = if at == link then [] else writes link earlier
@@ -47,7 +46,6 @@ served_of link (joined at ∷ earlier) = if at == link then 0 else served_of lin
 served_of link (served at ∷ earlier) = if at == link then min (served_of link earlier + 1) (length (writes link earlier)) else served_of link earlier
 served_of link (_ ∷ earlier) = served_of link earlier
 
--- those that wait
 abbrev pub writes_waiting : ℕ → List Call → List (List ℕ)
 writes_waiting link calls = drop (served_of link calls) (writes link calls)
 

@@ -6,7 +6,6 @@ use Rattle.delegator_history.specs.Trains.{Setup}
 use Rattle.sink_history.specs.Calls.{Call, stepped, joined, parted, asked, served, notified, read, forged, steps_of, writes_waiting}
 use Rattle.sink_history.specs.Links.{acts_of, notices_waiting, read_waits, reads_waiting, view}
 
--- the call stands so many times
 abbrev pub repeated : ℕ → Call → List Call → List Call
 repeated zero call calls = calls
 repeated (suc count) call calls = call ∷ repeated count call calls
@@ -20,7 +19,6 @@ notified_out setup mtu link calls = repeated (length (notices_waiting setup mtu 
 abbrev pub read_out : Setup → Option ℕ → ℕ → List Call → List Call
 read_out setup mtu link calls = repeated (length (reads_waiting setup mtu link calls)) (read link) calls
 
--- the notices and then the reads
 abbrev pub notified_and_read : Setup → Option ℕ → ℕ → List Call → List Call
 notified_and_read setup mtu link calls = read_out setup mtu link (notified_out setup mtu link calls)
 
@@ -33,7 +31,6 @@ pub record IsDrained (setup : Setup) (mtu : Option ℕ) (link : ℕ) (calls : Li
   pub notices : notices_waiting setup mtu link calls ≡ []
   pub reads : reads_waiting setup mtu link calls ≡ []
 
--- no notice of the slot waits
 abbrev pub NoneNotifies : Setup → Option ℕ → ℕ → ℕ → List Call → Type 0
 NoneNotifies setup mtu link slot calls = AllByRecursion (λ notice. (notice.slot == slot) ≡ false) (notices_waiting setup mtu link calls)
 
@@ -48,7 +45,6 @@ IsApart link (notified at) = at ≢ link
 IsApart link (read at) = at ≢ link
 IsApart link (forged slot octets) = 0 ≢ link
 
--- the call changes nothing on the link, nor of the delegator
 pub record LeavesLink (setup : Setup) (mtu : Option ℕ) (link : ℕ) (call : Call) (calls : List Call) : Type 0 where
   pub acts : acts_of setup mtu link (call ∷ calls) ≡ acts_of setup mtu link calls
   pub writes : writes_waiting link (call ∷ calls) ≡ writes_waiting link calls

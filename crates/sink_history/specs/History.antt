@@ -19,8 +19,7 @@ use Rattle.scenario_text.specs.declared.step.Step.TheVariants as steps
 
 -- ---- what lies outside of the sinks
 
--- the source that a line means: its number, its address type and SID, the train that it announces for its next event, and its
--- group from that event on, for a sink on these streams
+-- the source that a line means, the train for its next event, and its group from that event on for a sink on these streams
 pub record Source : Type 0 where
   pub number : ℕ
   pub address_type : ℕ
@@ -28,7 +27,6 @@ pub record Source : Type 0 where
   pub announced : Announced
   pub big_sync : ℕ → BigSync
 
--- the source that a line after these steps means
 pub record World : Type 0 where
   pub source : List Step → Source
 
@@ -42,7 +40,6 @@ version_given _ = None
 abbrev pub horizon_in : ℕ → ℕ
 horizon_in version = if version == 2 then 31 else 15
 
--- a scenario has the version of its first step
 abbrev pub horizon_of : List Step → ℕ
 horizon_of earlier = horizon_in (unwrap_or (last_given version_given earlier) 1)
 
@@ -60,19 +57,16 @@ made_of n (step ∷ earlier) = made_by n step earlier (made_of n earlier)
 
 -- ---- the lines that name it
 
--- a train that is given by its octets, with the address type and the SID of the source
 abbrev pub given_train : Source → (time : ℕ) → (ext adv acad : List ℕ) → Train
 given_train source time ext adv acad =
     record { address_type = source.address_type; sid = source.sid; ext = ext; adv = adv; acad = acad; now = time }
 
--- the train of the source for its next event
 abbrev pub own_train : Source → Train
 own_train source = heard_as source.address_type source.sid source.announced
 
 abbrev pub record_of : (codec caps metadata : List ℕ) → PacRecord
 record_of codec caps metadata = record { codec = codec; caps = caps; metadata = metadata }
 
--- the link is drained, of a sink that lives
 abbrev pub with_drain : Option Settings → ℕ → List Call → List Call
 with_drain None link calls = calls
 with_drain (Some made) link calls = drained made.setup made.mtu link calls

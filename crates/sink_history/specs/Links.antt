@@ -16,7 +16,6 @@ use Rattle.delegator_history.specs.Trains.{Setup}
 use Rattle.delegator_history.specs.Values.{state_at, value}
 use Rattle.sink_history.specs.Calls.{Call, stepped, joined, served, notified, read, forged, steps_of}
 
--- the value of a slot is a state or no source
 abbrev pub language : Option ℕ → Language (Option ReceiveState)
 language mtu = record { encode = value; reading = reading_of; empty = None; mtu = mtu }
 
@@ -29,21 +28,17 @@ Told = links.Notice (Option ReceiveState)
 
 -- ---- what happens on a link
 
--- each slot that is to be told of got the state that it has now
 abbrev pub made_all : Snapshot → List Notice → Acts → Acts
 made_all now [] acts = acts
 made_all now (notice ∷ notices) acts = made_all now notices (links.made notice.slot (state_at now notice.slot) ∷ acts)
 
--- what steps of the delegator change
 abbrev pub changed : Setup → List Step → List Step → Acts → Acts
 changed setup before now acts = made_all (snapshot_of setup now) (changes setup.slots (snapshot_of setup before) (snapshot_of setup now)) acts
 
--- the first notice is delivered, where one waits
 abbrev pub notified_first : List Told → Acts → Acts
 notified_first [] acts = acts
 notified_first (notice ∷ rest) acts = links.notified ∷ acts
 
--- the first read is served, where one waits
 abbrev pub read_first : List ℕ → Acts → Acts
 read_first [] acts = acts
 read_first (slot ∷ rest) acts = links.served slot ∷ acts
@@ -64,28 +59,22 @@ acts_of setup mtu link (call ∷ earlier) = acts_by setup mtu link call (steps_o
 
 -- ---- what waits on it, and what its assistant knows
 
--- the notices since it was joined, without those that were delivered
 abbrev pub notices_waiting : Setup → Option ℕ → ℕ → List Call → List Told
 notices_waiting setup mtu link calls = waiting_of (acts_of setup mtu link calls)
 
--- what is delivered of a notice
 abbrev pub delivered : Option ℕ → Told → Notice
 delivered mtu notice = record { slot = notice.slot; value = cut mtu (value notice.value) }
 
--- a read of the slot waits: a value that may have been cut came for it, or a link other than 0 was joined, and no read of it
--- was served since
+-- a read of the slot waits: a value for it may have been cut, or a link but 0 was joined, and no read of it was served since
 abbrev pub read_waits : Setup → Option ℕ → ℕ → ℕ → List Call → Bool
 read_waits setup mtu link slot calls = waits_of (language mtu) slot (acts_of setup mtu link calls)
 
--- the slots of which a read waits, rising
 abbrev pub reads_waiting : Setup → Option ℕ → ℕ → List Call → List ℕ
 reads_waiting setup mtu link calls = reads_of (language mtu) setup.slots (acts_of setup mtu link calls)
 
--- the last value of the slot that told or was read since it was joined
 abbrev pub view : Setup → Option ℕ → ℕ → ℕ → List Call → Option ReceiveState
 view setup mtu link slot calls = view_of (language mtu) slot (acts_of setup mtu link calls)
 
--- the state of a slot
 abbrev pub state : Setup → ℕ → List Call → Option ReceiveState
 state setup slot calls = state_at (snapshot_of setup (steps_of calls)) slot
 
@@ -96,6 +85,6 @@ forging_by link (forged slot octets) = if link == 0 then Some true else None
 forging_by link (joined at) = if at == link then Some false else None
 forging_by link _ = None
 
--- one came over the link since it was joined
+-- a notice was forged over the link since it was joined
 abbrev pub is_forged : ℕ → List Call → Bool
 is_forged link calls = unwrap_or (last_given (forging_by link) calls) false

@@ -12,7 +12,6 @@ use Rattle.scenario_text.specs.declared.step.Step.TheVariants as steps
 use Rattle.sink_history.specs.History.{Source, given_train, own_train}
 use Rattle.sink_history.specs.Output.{snapshot_in}
 
--- the train that a line hands a sink, where it hands one
 abbrev pub train_by : Source → Step → Option Train
 train_by source (steps.Announce sink) = Some (own_train source)
 train_by source (steps.Train sink time ext adv acad) = Some (given_train source time ext adv acad)
@@ -30,14 +29,12 @@ received_by source line None before after calls = calls
 received_by source line (Some made) before after calls =
     with_step (big_sync_of made (snapshot_in made before) (train_by source line)) (snapshot_in made before) (snapshot_in made after) calls
 
--- the line synchronizes the sink to a BIG
 abbrev pub brings_by : Source → Step → Option Settings → List Call → Bool
 brings_by source line None before = false
 brings_by source line (Some made) before = is_some (big_sync_of made (snapshot_in made before) (train_by source line))
 
 -- ---- the source that it is of then
 
--- the sink follows the train, or is on its group
 abbrev pub follows : TrainOutcome → Bool
 follows (ignored answer) = false
 follows (heard slot answer encrypted) = true

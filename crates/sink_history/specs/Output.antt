@@ -20,21 +20,17 @@ use Rattle.scenario_text.specs.declared.step.Step.TheVariants as steps
 use Rattle.transcript_text.specs.SinkLines.{Label, control_words, forged_line, on_link, plain, reply_line, sink_line, train_line, train_words, value_line}
 use Rattle.sink_history.specs.History.{Source, World, given_train, history_of, made_of, named_by, own_train}
 
--- what the sink has
 abbrev pub snapshot_in : Settings → List Call → Snapshot
 snapshot_in made calls = snapshot_of made.setup (steps_of calls)
 
 -- ---- one call on a link
 
--- the reply to the first write that waits
 abbrev pub replied : Settings → ℕ → List Call → Option Reply
 replied made link calls = option_map (reply_of (snapshot_in made calls)) (slice_get (writes_waiting link calls) 0)
 
--- the first notice that waits, cut to the MTU
 abbrev pub notice_delivered : Settings → ℕ → List Call → Option Notice
 notice_delivered made link calls = option_map (delivered made.mtu) (slice_get (notices_waiting made.setup made.mtu link calls) 0)
 
--- a slot with the octets of its state
 abbrev pub stated : Settings → List Call → ℕ → Notice
 stated made calls slot = record { slot = slot; value = value (state made.setup slot calls) }
 
@@ -47,11 +43,9 @@ state_where (Some made) calls slot = if nat_lt slot made.setup.slots then Some (
 abbrev pub was_read : Settings → ℕ → List Call → Option Notice
 was_read made link calls = option_map (stated made calls) (slice_get (reads_waiting made.setup made.mtu link calls) 0)
 
--- lines in order
 abbrev pub Lines : Type 0
 Lines = List (List ℕ)
 
--- the line of what there is
 abbrev pub if_there : {A : Type 0} → (A → List ℕ) → Option A → Lines
 if_there line None = []
 if_there line (Some what) = line what ∷ []
@@ -92,13 +86,11 @@ drain_lines label made link calls =
 
 -- ---- states and views, by rising slot
 
--- a slot with the octets of its view on a link
 abbrev pub viewed : Settings → ℕ → List Call → ℕ → Notice
 viewed made link calls slot = record { slot = slot; value = value (view made.setup made.mtu link slot calls) }
 
 abbrev pub show_lines : ℕ → Settings → List Call → Lines
-show_lines sink made calls =
-    flat_map (λ slot. value_line (codes "state") (decimal sink ∷ []) (stated made calls slot)
+show_lines sink made calls = flat_map (λ slot. value_line (codes "state") (decimal sink ∷ []) (stated made calls slot)
     ∷ value_line (codes "view") (decimal sink ∷ []) (viewed made 0 calls slot) ∷ []) (range_with_len 0 made.setup.slots)
 
 abbrev pub view_lines : (sink link : ℕ) → Settings → List Call → Lines
@@ -119,15 +111,12 @@ printed_of source (steps.Tell sink) made calls = tell_line (plain sink) made 0 c
 printed_of source (steps.Read sink) made calls = read_line (plain sink) made 0 calls
 printed_of source (steps.Drain sink) made calls = drain_lines (plain sink) made 0 calls
 printed_of source (steps.Show sink) made calls = show_lines sink made calls
-printed_of source (steps.Forge sink slot octets) made calls =
-    forged_line sink (forged_answer made.setup.slots made.mtu slot octets) ∷ []
+printed_of source (steps.Forge sink slot octets) made calls = forged_line sink (forged_answer made.setup.slots made.mtu slot octets) ∷ []
 printed_of source (steps.Lose sink) made calls = sink_line sink (codes "Idle" ∷ []) ∷ []
 printed_of source (steps.Control sink octets) made calls =
     sink_line sink (control_words (controls.control_heard (snapshot_in made calls).place octets)) ∷ []
-printed_of source (steps.Announce sink) made calls =
-    train_line sink source.announced ∷ heard_line sink made calls (own_train source) ∷ []
-printed_of source (steps.Train sink time ext adv acad) made calls =
-    heard_line sink made calls (given_train source time ext adv acad) ∷ []
+printed_of source (steps.Announce sink) made calls = train_line sink source.announced ∷ heard_line sink made calls (own_train source) ∷ []
+printed_of source (steps.Train sink time ext adv acad) made calls = heard_line sink made calls (given_train source time ext adv acad) ∷ []
 printed_of source (steps.AServe sink link) made calls = serve_line (on_link sink link) made link calls
 printed_of source (steps.ATell sink link) made calls = tell_line (on_link sink link) made link calls
 printed_of source (steps.ARead sink link) made calls = read_line (on_link sink link) made link calls
@@ -135,7 +124,6 @@ printed_of source (steps.ADrain sink link) made calls = drain_lines (on_link sin
 printed_of source (steps.AShow sink link) made calls = view_lines sink link made calls
 printed_of source _ made calls = []
 
--- the same of a sink that lives or not
 abbrev pub printed_where : Source → Step → Option Settings → List Call → Lines
 printed_where source line None calls = []
 printed_where source line (Some made) calls = printed_of source line made calls
@@ -144,7 +132,6 @@ abbrev pub printed_at : World → List Step → Step → Option ℕ → Lines
 printed_at world earlier line None = []
 printed_at world earlier line (Some n) = printed_where (world.source earlier) line (made_of n earlier) (history_of world n earlier)
 
--- what a step after these prints of the sink that it names
 abbrev pub printed : World → List Step → Step → Lines
 printed world earlier step = printed_at world earlier step (named_by step)
 

@@ -57,7 +57,6 @@ nothing_waits made calls (steps.ATell sink link) = no_notice made link calls
 nothing_waits made calls (steps.ARead sink link) = no_read made link calls
 nothing_waits made calls _ = None
 
--- the value of the records, with this one behind them, is too long
 abbrev pub no_record_room : Settings → List Call → Step → Option Refusal
 no_record_room made calls (steps.Pac sink codec caps metadata) =
     refuse_if (nat_lt greatest_value (length (value ((snapshot_in made calls).capability.entries ++ record_of codec caps metadata ∷ [])))) RecordsTooLong
@@ -66,8 +65,7 @@ no_record_room made calls _ = None
 -- ---- the first that holds
 
 abbrev pub refused_by : Step → Settings → List Call → Option Refusal
-refused_by step made calls =
-    option_or (no_link calls (link_named step))
+refused_by step made calls = option_or (no_link calls (link_named step))
     (option_or (link_twice calls step) (option_or (nothing_waits made calls step) (no_record_room made calls step)))
 
 abbrev pub refused_where : Step → Option Settings → List Call → Option Refusal
@@ -78,7 +76,6 @@ abbrev pub refused_at : World → List Step → Step → Option ℕ → Option R
 refused_at world earlier line None = None
 refused_at world earlier line (Some n) = refused_where line (made_of n earlier) (history_of world n earlier)
 
--- why a step after these is refused
 abbrev pub refusal_of : World → List Step → Step → Option Refusal
 refusal_of world earlier step = refused_at world earlier step (named_by step)
 

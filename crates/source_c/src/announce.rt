@@ -1,7 +1,8 @@
 //! What a source announces of itself.
-ghost use Rattle.std.specs.Prelude.{◌≡◌, ◌≢◌, ◌≤◌, ◌+◌, ◌++◌, List, length, take, IfSome, IsSome, IfNone};
+ghost use Rattle.std.specs.Prelude.{◌≡◌, ◌≢◌, ◌≤◌, ◌<◌, ◌+◌, ◌++◌, List, length, take, IfSome, IsSome, IfNone, None};
 ghost use Rattle.announcement_train.specs.Layout.{IsTrain};
 ghost use Rattle.announcement_train.specs.Told.{Tells};
+ghost use Rattle.announcement_train.specs.declared.train.Train.{Train};
 ghost use Rattle.c_values.specs.Statuses.{memory, no_room, ok};
 ghost use Rattle.source_machine.specs.Calls.{Call, next_anchor_of, next_of};
 ghost use Rattle.source_machine.specs.Faults.{announce_fault};
@@ -36,6 +37,7 @@ fn put_behind(at: usize, part: &[u8], room: &mut [u8])
 fn put_train(train: &Train, room: &mut [u8]) -> Option<VmTrain>
     requires { IsShort train.now }
     ensures some { IfSome result (λ told. train_in told room.new ≡ train.now) }
+    ensures counts { IfSome result (λ told. told.ext + told.adv + told.acad ≤ length room.new) }
     ensures none { IfNone result (room.new ≡ room.old) }
     ensures fits { length train.now.ext + length train.now.adv + length train.now.acad ≤ length room.old → IsSome result }
 {
@@ -73,9 +75,15 @@ pub extern "C" fn vm_source_announce(
     ensures told { (it : Source) (calls : List Call) → Stands it calls source.old → result ≡ ok
         → Tells (train_in train.new room.new) it.identity.broadcast_id it.base (group_of it) (next_of it.setup calls)
         (next_anchor_of it.setup calls) }
+    ensures counts { result ≡ ok → train.new.ext + train.new.adv + train.new.acad ≤ length room.new }
     ensures answer { (it : Source) (calls : List Call) → Stands it calls source.old → result ≢ memory → result ≢ no_room
         → result ≡ announced_c (announce_fault it.setup calls) }
     ensures room { 512 ≤ length room.old → result ≢ no_room }
+    ensures announced { (it : Source) (calls : List Call) → Stands it calls source.old → result ≡ no_room
+        → announce_fault it.setup calls ≡ None }
+    ensures short { (it : Source) (calls : List Call) → Stands it calls source.old → result ≡ no_room
+        → (made : Train) × IsTrain it.identity.broadcast_id it.base (group_of it) (next_of it.setup calls) (next_anchor_of it.setup calls) made
+        × (length room.old < length made.ext + length made.adv + length made.acad) }
     ensures same { source.new.kept ≡ source.old.kept }
     ensures quiet { result ≢ ok → (room.new ≡ room.old) × (train.new ≡ train.old) }
 {

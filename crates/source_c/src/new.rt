@@ -1,10 +1,11 @@
 //! A source is made and freed.
-ghost use Rattle.std.specs.Prelude.{◌≡◌, ◌≢◌, ◌≤◌, ◌<◌, ◌^◌, [], IfOk, IfErr, IsSome, Ok};
+ghost use Rattle.std.specs.Prelude.{◌≡◌, ◌≢◌, ◌≤◌, ◌<◌, ◌^◌, [], IfOk, IfErr, IsOk, IsSome, OnOk, Ok};
 ghost use Rattle.base_grammar.specs.Layout.{Endpoint};
 ghost use Rattle.base_grammar.specs.Reading.{base_of};
 ghost use Rattle.big_info.specs.Widths.{FitsWidths};
 ghost use Rattle.c_values.specs.Infos.{big_info};
 ghost use Rattle.c_values.specs.Statuses.{group, layout, memory, ok, range};
+ghost use Rattle.source_machine.specs.Ciphers.{MayBeSent};
 ghost use Rattle.source_c.specs.Sources.{Holds, Stands, source_c, stale_in};
 ghost use Rattle.source_c.specs.Starts.{IsBadBase, IsBadGroup, StartFails, Starts};
 
@@ -46,6 +47,7 @@ fn started(
     requires greatest { setup.origin ≤ 2 ^ 48 }
     requires first { first_event < 2 ^ 39 }
     ensures source { IfOk result (λ source. Starts setup ahead first_event source) }
+    ensures sent { OnOk result (MayBeSent 31 setup.info) }
     ensures group { IfErr result (λ fault. StartFails setup.info fault) }
 {
     let limits = Limits { horizon: 31, ahead };
@@ -100,6 +102,11 @@ pub extern "C" fn vm_source_new(
     ensures quiet { result ≢ layout → result ≢ group → fault.new ≡ fault.old }
     ensures in_range { FitsWidths (big_info info.now) → 3000 ≤ origin → origin ≤ 2 ^ 48 → first_event < 2 ^ 39
         → result ≢ range }
+    ensures bounds { result ≢ range
+        → FitsWidths (big_info info.now) × (3000 ≤ origin) × (origin ≤ 2 ^ 48) × (first_event < 2 ^ 39) }
+    ensures is_base { result ≢ range → result ≢ layout → result ≢ memory → IsOk (base_of base.now) }
+    ensures sent { result ≡ ok → MayBeSent 31 (big_info info.now) }
+    ensures either { result ≢ ok → result ≢ range → result ≢ layout → result ≢ group → result ≡ memory }
 {
     let info = info_in(info);
     if origin < 3000 || origin > 1 << 48 || first_event >= 1 << 39 || !info.fits() {

@@ -1,5 +1,5 @@
 //! The calls of a source.
-ghost use Rattle.std.specs.Prelude.{◌≡◌, ◌≢◌, ◌∷◌, ◌≤◌, ◌<◌, ◌^◌, ◌-◌, ◌%◌, [], List, take, IsSome, Some, None};
+ghost use Rattle.std.specs.Prelude.{◌≡◌, ◌≢◌, ◌∷◌, ◌≤◌, ◌<◌, ◌^◌, ◌-◌, ◌%◌, [], List, length, take, IsSome, IsSomeAnd, Some, None};
 ghost use Rattle.c_values.specs.Statuses.{ok, range, memory, encrypted, no_room, empty};
 ghost use Rattle.isoal_base.specs.Air.{Air};
 ghost use Rattle.radio_schedule.specs.PayloadNumber.{payload_number};
@@ -40,7 +40,10 @@ pub extern "C" fn vm_source_give(
     ensures same { result ≢ ok → source.new.kept ≡ source.old.kept }
     ensures stale { stale_in source.new ≡ stale_in source.old }
     ensures in_range { 1 ≤ bis → bis ≤ 31 → result ≢ range }
+    ensures bounds { result ≢ range → (1 ≤ bis) × (bis ≤ 31) }
     ensures sends { (it : Source) (calls : List Call) → Stands it calls source.old → it.cipher ≡ None → result ≢ encrypted }
+    ensures ciphered { (it : Source) (calls : List Call) → Stands it calls source.old → IsSome it.cipher → result ≢ range
+        → result ≡ encrypted }
 {
     let Some(bis) = Bis::new(bis) else {
         return RANGE;
@@ -85,6 +88,7 @@ pub extern "C" fn vm_source_event(source: &mut VmSource) -> u32
         → result ≡ ended_c (event_fault it.setup calls) }
     ensures same { result ≢ ok → result ≢ memory → source.new.kept ≡ source.old.kept }
     ensures sends { (it : Source) (calls : List Call) → Stands it calls source.old → it.cipher ≡ None → result ≢ encrypted }
+    ensures ciphered { (it : Source) (calls : List Call) → Stands it calls source.old → IsSome it.cipher → result ≡ encrypted }
 {
     let machine = source.lend();
     if machine.source.is_ciphered() {
@@ -149,6 +153,7 @@ pub extern "C" fn vm_source_pdu(
     requires { IsSome source.old.kept }
     ensures pdu { (it : Source) (calls : List Call) (airs : List Air) → Stands it calls source.old → AreAirs it.setup calls airs
         → result ≡ ok → pdu_of it.setup airs (next_of it.setup calls - 1 - back) bis subevent ≡ Some (take count.new room.new) }
+    ensures count { result ≡ ok → count.new ≤ length room.new }
     ensures number { (it : Source) (calls : List Call) (airs : List Air) → Stands it calls source.old → AreAirs it.setup calls airs
         → result ≡ ok → number.new ≡ payload_number it.setup.info (next_of it.setup calls - 1 - back) subevent }
     ensures answer { (it : Source) (calls : List Call) (airs : List Air) → Stands it calls source.old → AreAirs it.setup calls airs
@@ -156,6 +161,13 @@ pub extern "C" fn vm_source_pdu(
     ensures same { source.new.kept ≡ source.old.kept }
     ensures quiet { result ≢ ok → (room.new ≡ room.old) × (count.new ≡ count.old) × (number.new ≡ number.old) }
     ensures in_range { back ≤ 31 → 1 ≤ bis → bis ≤ 31 → result ≢ range }
+    ensures bounds { result ≢ range → (back ≤ 31) × (1 ≤ bis) × (bis ≤ 31) }
+    ensures heard { (it : Source) (calls : List Call) → Stands it calls source.old → result ≡ no_room
+        → air_fault it.setup calls back bis subevent ≡ None }
+    ensures room { (it : Source) (calls : List Call) (airs : List Air) → Stands it calls source.old → AreAirs it.setup calls airs
+        → result ≡ no_room
+        → IsSomeAnd (pdu_of it.setup airs (next_of it.setup calls - 1 - back) bis subevent) (λ pdu. length room.old < length pdu) }
+    ensures enough { (it : Source) (calls : List Call) → Stands it calls source.old → 253 ≤ length room.old → result ≢ no_room }
 {
     if back > 31 {
         return RANGE;

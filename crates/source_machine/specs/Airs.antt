@@ -20,12 +20,10 @@ use Rattle.source_machine.specs.declared.sent.Stale.{Stale}
 abbrev pub Airs : Type 0
 Airs = Setup → List Call → List Air
 
--- the air of a stream after these calls, by the framing of the group
 pub record IsAir (setup : Setup) (calls : List Call) (bis : ℕ) (air : Air) : Type 0 where
   pub unframed : setup.info.framing ≡ 0 → air ≡ unframed_air setup.info (stream_calls setup.info bis calls)
   pub framed : setup.info.framing ≡ 1 → IsFramedAir setup.info (framed_calls setup bis calls) air
 
--- the airs of the streams, by rising index
 abbrev pub AreAirs : Setup → List Call → List Air → Type 0
 AreAirs setup calls airs = AllZip (IsAir setup calls) (range_with_len 1 setup.info.num_bis) airs
 
@@ -40,8 +38,7 @@ air_of setup calls bis = air_after setup.info (stream_calls setup.info bis calls
 abbrev pub airs_of : Setup → List Call → List Air
 airs_of setup calls = map (air_of setup calls) (range_with_len 1 setup.info.num_bis)
 
--- the PDU of a stream that a subevent, from 0, of an event carries: the one at its payload number, where the events of an
--- air count from the source's first event as 0
+-- the PDU of a stream that a subevent, from 0, of an event carries; in an air the source's first event counts as 0
 abbrev pub pdu_of : Setup → List Air → ℕ → ℕ → ℕ → Option (List ℕ)
 pdu_of setup airs event bis subevent =
     option_and_then (λ air. pdu_at setup.info.bn air (payload_number setup.info (event - setup.first) subevent)) (slice_get airs (bis - 1))
@@ -58,12 +55,10 @@ stale_in zero air = []
 stale_in (suc count) [] = []
 stale_in (suc count) (entry ∷ earlier) = stale_in count earlier ++ entry.event.stale
 
--- the units of a stream that were left out, by their times
 abbrev pub stale_on : ℕ → List ℕ → List Stale
 stale_on bis times = map (λ time. record { bis = bis; time = time }) times
 
--- what an event after these calls tells of its airs: the units that were left out of the events laid with it, by rising
--- index and in order
+-- the units that were left out of the events laid with an event after these calls, by rising index and in order
 abbrev pub stale_of : Setup → List Call → List Air → List Stale
 stale_of setup earlier airs =
     flat_map (λ bis. stale_on bis (stale_in (laid_with setup.info earlier) (unwrap_or (slice_get airs (bis - 1)) [])))
@@ -75,8 +70,7 @@ slots_of setup calls bis event slot = unit_at setup.info (stream_calls setup.inf
 
 -- which of the units accepted on its stream takes a slot of an event, from 0
 abbrev pub place_of : Setup → List Call → ℕ → ℕ → ℕ → ℕ
-place_of setup calls bis event slot =
-    begun setup.info (before_event (stream_calls setup.info bis calls) (event - setup.first)) + slot
+place_of setup calls bis event slot = begun setup.info (before_event (stream_calls setup.info bis calls) (event - setup.first)) + slot
 
 -- what a stream sends at a payload number
 abbrev pub content_at : Setup → List Call → ℕ → ℕ → Content

@@ -8,8 +8,7 @@ use Rattle.sync_reference.specs.Reference.{anchor_of}
 use Rattle.isoal_unframed.specs.Calls.{Call as StreamCall, accept, lays}
 use Rattle.isoal_framed.specs.Calls.{Call as FramedCall, accept as accept_timed, lay as lay_at, last_time}
 
--- what fixes a source: its group, the anchor in µs of its first event, the presentation delay in µs, its first event, and
--- whether the time of a framed unit may be past the next anchor
+-- `origin` is the anchor of event `first` and `delay` Presentation_Delay, in µs; `ahead`: a framed time may be past the next anchor
 pub record Setup : Type 0 where
   pub info : BigInfo
   pub origin : ℕ
@@ -17,18 +16,15 @@ pub record Setup : Type 0 where
   pub first : ℕ
   pub ahead : Bool
 
--- a unit is accepted, or the next event is performed
 pub data Call : Type 0 where
   give : (bis : ℕ) (time : Option ℕ) (octets : List ℕ) → Call
   event : Call
 
--- how many events were performed
 abbrev pub events : List Call → ℕ
 events [] = 0
 events (give bis time octets ∷ earlier) = events earlier
 events (event ∷ earlier) = suc (events earlier)
 
--- the next event
 abbrev pub next_of : Setup → List Call → ℕ
 next_of setup calls = setup.first + events calls
 
@@ -40,18 +36,15 @@ last_of setup calls = if events calls == 0 then None else Some (next_of setup ca
 abbrev pub next_anchor_of : Setup → List Call → ℕ
 next_anchor_of setup calls = anchor_of setup.origin setup.first (next_of setup calls) (iso_us_of setup.info)
 
--- the units accepted on a stream, in the order of acceptance
 abbrev pub given : ℕ → List Call → List (List ℕ)
 given bis [] = []
 given bis (give stream time octets ∷ earlier) = if stream == bis then given bis earlier ++ octets ∷ [] else given bis earlier
 given bis (event ∷ earlier) = given bis earlier
 
--- how many events are laid as an event is performed after these calls: with the first one the H events behind it, with
--- each later one the next that isn't laid
+-- how many events are laid with one that is performed after these calls: the first one and the H behind it, then the next one
 abbrev pub laid_with : BigInfo → List Call → ℕ
 laid_with info earlier = if events earlier == 0 then horizon_of info + 1 else 1
 
--- how many events are laid already
 abbrev pub laid_before : BigInfo → List Call → ℕ
 laid_before info earlier = if events earlier == 0 then 0 else events earlier + horizon_of info
 
@@ -80,6 +73,5 @@ framed_calls setup bis (event ∷ earlier) =
     framed_lays (lay_anchor setup (laid_before setup.info earlier)) (iso_us_of setup.info) (laid_with setup.info earlier)
     (framed_calls setup bis earlier)
 
--- the time of the last unit accepted on a stream of a framed group
 abbrev pub last_time_of : Setup → ℕ → List Call → Option ℕ
 last_time_of setup bis calls = last_time (framed_calls setup bis calls)

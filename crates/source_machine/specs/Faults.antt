@@ -28,13 +28,11 @@ abbrev pub ConfigureFails : ℕ → BigInfo → ConfigureFault → Type 0
 ConfigureFails horizon info (configure_faults.BadGroup fault) = IsBadFor horizon info fault
 ConfigureFails horizon info configure_faults.Memory = ⊥
 
--- a time is above the last one, where there is one
 abbrev pub is_above : Option ℕ → ℕ → Bool
 is_above None time = true
 is_above (Some last) time = nat_lt last time
 
--- the time of a framed unit is there, above that of the last unit accepted on its stream, and, unless times may be ahead,
--- not past the next anchor
+-- a framed unit has a time, above that of the last one accepted on its stream, and not past the next anchor unless it may be ahead
 abbrev pub is_in_time : Setup → List Call → ℕ → Option ℕ → Bool
 is_in_time setup calls bis None = false
 is_in_time setup calls bis (Some time) =
@@ -44,11 +42,8 @@ is_in_time setup calls bis (Some time) =
 abbrev pub has_its_time : Setup → List Call → ℕ → Option ℕ → Bool
 has_its_time setup calls bis time = if setup.info.framing == 0 then is_none time else is_in_time setup calls bis time
 
--- why a unit is refused: the group has no such stream, the unit has more than Max_SDU octets, it hasn't the time that its
--- framing wants, 16 units of the stream wait
 abbrev pub give_fault : Setup → List Call → List Air → ℕ → Option ℕ → List ℕ → Option UnitFault
-give_fault setup calls airs bis time octets =
-    if nat_lt setup.info.num_bis bis then Some unit_faults.NoSuchBis
+give_fault setup calls airs bis time octets = if nat_lt setup.info.num_bis bis then Some unit_faults.NoSuchBis
     else (if nat_lt setup.info.max_sdu (length octets) then Some unit_faults.UnitTooLong
     else (if not (has_its_time setup calls bis time) then Some unit_faults.TimeOrder
     else (if nat_le 16 (waiting_of calls airs bis) then Some unit_faults.Backlog else None)))
@@ -60,20 +55,16 @@ misfit_of setup calls bis time octets =
     else (if nat_lt setup.info.max_sdu (length octets) then Some unit_faults.UnitTooLong
     else (if not (has_its_time setup calls bis time) then Some unit_faults.TimeOrder else None))
 
--- why the next event is refused: payload numbers of it or of the H events behind it would pass 2^39
 abbrev pub event_fault : Setup → List Call → Option EventFault
 event_fault setup calls =
     if nat_lt (2 ^ 39) ((next_of setup calls + horizon_of setup.info + 1) * setup.info.bn) then Some event_faults.CounterEnds else None
 
--- why the next event isn't announced: its payload count would be 2^39 or more
 abbrev pub announce_fault : Setup → List Call → Option AnnounceFault
 announce_fault setup calls = if nat_le (2 ^ 39) (next_of setup calls * setup.info.bn) then Some announce_faults.CounterEnds else None
 
--- why nothing is heard at a place: the group has no such stream, no such subevent, or fewer than back + 1 events were
--- performed
+-- why nothing is heard at a place: no such stream, no such subevent, or fewer than back + 1 events were performed
 abbrev pub air_fault : Setup → List Call → ℕ → ℕ → ℕ → Option AirFault
-air_fault setup calls back bis subevent =
-    if nat_lt setup.info.num_bis bis then Some NoStream
+air_fault setup calls back bis subevent = if nat_lt setup.info.num_bis bis then Some NoStream
     else (if nat_le setup.info.nse subevent then Some NoSuchSubevent
     else (if nat_le (events calls) back then Some NotOnAir else None))
 

@@ -12,7 +12,6 @@ use isoal_base::PutFault;
 pub enum ConfigureFault {
     /// The first row of the group check that holds, where that is not Encrypted.
     BadGroup(GroupFault),
-    /// Memory ran out.
     Memory,
 }
 
@@ -28,7 +27,6 @@ pub enum GiveFault {
     TimeOrder,
     /// 16 units of the stream wait.
     Backlog,
-    /// Memory ran out.
     Memory,
 }
 
@@ -37,7 +35,6 @@ pub enum GiveFault {
 pub enum EventFault {
     /// The payload numbers of the event and of those laid with it would pass 2^39.
     CounterEnds,
-    /// Memory ran out.
     Memory,
 }
 
@@ -46,7 +43,6 @@ pub enum EventFault {
 pub enum AnnounceFault {
     /// The payload count of the event, which is its number × BN, would be 2^39 or more.
     CounterEnds,
-    /// Memory ran out.
     Memory,
 }
 

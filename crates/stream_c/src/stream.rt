@@ -1,9 +1,9 @@
 //! The calls of a stream.
-ghost use Rattle.std.specs.Prelude.{◌≡◌, ◌≢◌, ◌≤◌, ◌<◌, ◌^◌, ◌∷◌, ◌++◌, [], ℕ, List, length, take, IfOk, IsSome};
+ghost use Rattle.std.specs.Prelude.{◌≡◌, ◌≢◌, ◌≤◌, ◌<◌, ◌^◌, ◌∷◌, ◌++◌, [], ℕ, List, length, take, IfOk, IsSome, None, false};
 ghost use Rattle.big_info.specs.Rows.{first_fault};
 ghost use Rattle.big_info.specs.Widths.{FitsWidths};
 ghost use Rattle.c_values.specs.Infos.{big_info, row_of};
-ghost use Rattle.c_values.specs.Kept.{HasRoom, greatest_unit};
+ghost use Rattle.c_values.specs.Kept.{HasRoom, IsWithin, greatest_unit};
 ghost use Rattle.c_values.specs.Numbers.{kept_c};
 ghost use Rattle.c_values.specs.Statuses.{counter_ends, empty, group, memory, no_room, ok, range};
 ghost use Rattle.c_values.specs.Units.{unit_in};
@@ -67,6 +67,12 @@ pub extern "C" fn vm_stream_new(
     ensures quiet { result ≢ group → row.new ≡ row.old }
     ensures in_range { FitsWidths (big_info info.now) → 1 ≤ stay.now.bis → stay.now.bis ≤ info.now.num_bis → stay.now.first_event ≤ 2 ^ 39
         → stay.now.anchor ≤ 2 ^ 61 → stay.now.delay < 2 ^ 24 → result ≢ range }
+    ensures bounds { result ≢ range → FitsWidths (big_info info.now) × (stay.now.first_event ≤ 2 ^ 39) × (stay.now.anchor ≤ 2 ^ 61)
+        × (stay.now.delay < 2 ^ 24) }
+    ensures stream { result ≢ range → result ≢ group → (1 ≤ stay.now.bis) × (stay.now.bis ≤ info.now.num_bis) }
+    ensures fault { result ≡ group → IsSome (first_fault 31 (big_info info.now)) }
+    ensures sound { result ≢ range → result ≢ group → first_fault 31 (big_info info.now) ≡ None }
+    ensures either { result ≢ ok → result ≢ range → result ≢ group → result ≡ memory }
 {
     let read = info_in(info);
     if stay.first_event > 1 << 39
@@ -143,6 +149,8 @@ pub extern "C" fn vm_stream_reserve(stream: &mut VmStream, units: usize, octets:
     ensures room { result ≡ ok → room_in stream.new ≡ record { units = units; octets = octets } }
     ensures same { result ≢ ok → stream.new.kept ≡ stream.old.kept }
     ensures in_range { 1 ≤ units → units ≤ 1024 → 1 ≤ octets → octets ≤ greatest_unit → result ≢ range }
+    ensures bounds { result ≢ range → (1 ≤ units) × (units ≤ 1024) × (1 ≤ octets) × (octets ≤ greatest_unit) }
+    ensures either { result ≢ ok → result ≢ range → result ≡ memory }
 {
     if units < 1 || units > 1024 || octets < 1 || octets > 4095 {
         return RANGE;
@@ -170,6 +178,7 @@ pub extern "C" fn vm_stream_close(stream: &mut VmStream) -> u32
     ensures room { (stay : Stay) (calls : List Call) → Stands stay calls stream.old → room_in stream.new ≡ room_in stream.old }
     ensures same { result ≡ counter_ends → stream.new.kept ≡ stream.old.kept }
     ensures ends { (stay : Stay) (calls : List Call) → Stands stay calls stream.old → opened stay calls < 2 ^ 39 → result ≢ counter_ends }
+    ensures bounds { (stay : Stay) (calls : List Call) → Stands stay calls stream.old → result ≢ counter_ends → opened stay calls < 2 ^ 39 }
     ensures either { result ≢ ok → result ≢ counter_ends → result ≡ memory }
 {
     let machine = stream.lend();
@@ -201,7 +210,12 @@ pub extern "C" fn vm_stream_next_unit(
     ensures same { result ≢ ok → (stream.new.kept ≡ stream.old.kept) × (unit.new ≡ unit.old) × (room.new ≡ room.old) }
     ensures room { room_in stream.new ≡ room_in stream.old }
     ensures enough { greatest_unit ≤ length room.old → result ≢ no_room }
+    ensures within { (first : Handed) (others : List Handed) → waiting_in stream.old ≡ first ∷ others → IsWithin (length room.old) first
+        → result ≢ no_room }
     ensures waits { waiting_in stream.old ≢ [] → result ≢ empty }
+    ensures count { result ≡ ok → unit.new.count ≤ length room.new }
+    ensures lost { result ≡ ok → unit.new.is_valid ≡ false → unit.new.count ≡ 0 }
+    ensures either { result ≢ ok → result ≢ empty → result ≡ no_room }
 {
     stream.lend().units.take_into(room, unit)
 }

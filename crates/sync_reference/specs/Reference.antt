@@ -13,8 +13,7 @@ unframed_reference_of info anchor slot = anchor + sync_delay_of info + slot * in
 
 -- the reference of a unit that starts with this TimeOffset in the framed event with this anchor; 0 where it would be less
 abbrev pub framed_reference_of : BigInfo → ℕ → ℕ → ℕ
-framed_reference_of info anchor time_offset =
-    anchor + sync_delay_of info + info.sdu_interval + iso_us_of info - time_offset
+framed_reference_of info anchor time_offset = anchor + sync_delay_of info + info.sdu_interval + iso_us_of info - time_offset
 
 -- when a unit is rendered, by its reference and Presentation_Delay
 abbrev pub render_of : ℕ → ℕ → ℕ

@@ -15,39 +15,31 @@ use Rattle.transcript_text.specs.declared.refusal.Refusal.TheVariants.{IdentTwic
 use Rattle.transcript_text.specs.declared.refusal.Refusal.TheVariants.{TimeOrder, RelayTaken, Relayed, Backlog, NoSuchSubevent, NotOnAir}
 use Rattle.transcript_text.specs.declared.refusal.Refusal.TheVariants.{CounterEnds, NothingWaiting, RecordsTooLong, NoEnd, BadToml, BadDocument}
 
--- the octet that ends a line
 abbrev pub newline : ℕ
 newline = 10
 
--- the line of a first word and others
 abbrev pub line_of : List ℕ → List (List ℕ) → List ℕ
 line_of first words = joined first words ++ newline ∷ []
 
 -- ---- units, PDUs and sums
 
 abbrev pub valid_line : (sink bis time : ℕ) → List ℕ → List ℕ
-valid_line sink bis time octets =
-    line_of (codes "unit")
+valid_line sink bis time octets = line_of (codes "unit")
     (decimal sink ∷ decimal bis ∷ codes "at" ∷ decimal time ∷ codes "valid" ∷ decimal (length octets) ∷ digits octets ∷ [])
 
 abbrev pub lost_line : (sink bis time : ℕ) → List ℕ
-lost_line sink bis time =
-    line_of (codes "unit") (decimal sink ∷ decimal bis ∷ codes "at" ∷ decimal time ∷ codes "lost" ∷ [])
+lost_line sink bis time = line_of (codes "unit") (decimal sink ∷ decimal bis ∷ codes "at" ∷ decimal time ∷ codes "lost" ∷ [])
 
--- the line of what a sink handed up
 abbrev pub handed_line : ℕ → Handed → List ℕ
 handed_line sink (valid bis time octets) = valid_line sink bis time octets
 handed_line sink (lost bis time) = lost_line sink bis time
 
 abbrev pub pdu_line : (event bis subevent : ℕ) → List ℕ → List ℕ
-pdu_line event bis subevent octets =
-    line_of (codes "pdu") (decimal event ∷ decimal bis ∷ decimal subevent ∷ digits octets ∷ [])
+pdu_line event bis subevent octets = line_of (codes "pdu") (decimal event ∷ decimal bis ∷ decimal subevent ∷ digits octets ∷ [])
 
--- the line of a unit that a framed stream left out
 abbrev pub stale_line : (bis time : ℕ) → List ℕ
 stale_line bis time = line_of (codes "stale") (decimal bis ∷ decimal time ∷ [])
 
--- the line of the PDU that ends a group
 abbrev pub control_line : List ℕ → List ℕ
 control_line octets = line_of (codes "control") (digits octets ∷ [])
 
@@ -74,7 +66,6 @@ hearing_name (Heard Beyond) = codes "Beyond"
 hearing_name (Heard Repeat) = codes "Repeat"
 hearing_name (Heard Kept) = codes "Kept"
 
--- the number of the fault, where the PDU is malformed
 abbrev pub hearing_number : Hearing → Option ℕ
 hearing_number (Heard (Malformed fault)) = Some (number_of fault)
 hearing_number _ = None
@@ -118,18 +109,14 @@ refusal_number (BadGroup fault) = Some (place_of fault)
 refusal_number _ = None
 
 abbrev pub refusal_line : ℕ → Refusal → List ℕ
-refusal_line line reason =
-    named_line (codes "line") (decimal line ++ codes ":") (refusal_name reason) (refusal_number reason)
+refusal_line line reason = named_line (codes "line") (decimal line ++ codes ":") (refusal_name reason) (refusal_number reason)
 
 -- ---- units that a relay offers
 
--- why a unit that a relay offers isn't taken, by why a `unit` line of it would be refused: a source that doesn't stream refuses the
--- line as Order, and drops the unit as NotStreaming
+-- a source that doesn't stream refuses a `unit` line as Order, and drops a unit that a relay offers as NotStreaming
 abbrev pub dropped_name : Refusal → List ℕ
 dropped_name Order = codes "NotStreaming"
 dropped_name reason = refusal_name reason
 
--- the line of a unit that the relay of a sink offers of a stream and that isn't taken
 abbrev pub dropped_line : (sink bis : ℕ) → Refusal → List ℕ
-dropped_line sink bis reason =
-    line_of (codes "relay") (decimal sink ∷ decimal bis ∷ codes "dropped" ∷ dropped_name reason ∷ [])
+dropped_line sink bis reason = line_of (codes "relay") (decimal sink ∷ decimal bis ∷ codes "dropped" ∷ dropped_name reason ∷ [])

@@ -72,7 +72,6 @@ bad_number (state_faults.Rfu place) = 2
 bad_number (state_faults.Trailing place) = 3
 bad_number state_faults.Memory = 0
 
--- what a forged notice is answered
 abbrev pub forged_words : Result NoticeTaken NoticeFault → List (List ℕ)
 forged_words (Ok taken) = codes "ok" ∷ []
 forged_words (Err notice_faults.NoSuchSlot) = codes "NoSuchSlot" ∷ []
@@ -88,7 +87,6 @@ forged_line sink answer = line_of (codes "forged") (decimal sink ∷ forged_word
 abbrev pub indices_from : (set index more : ℕ) → List ℕ
 indices_from set index more = filter (λ bis. bit_at set (bis - 1) == 1) (range_with_len index more)
 
--- the indices of a set, rising
 abbrev pub indices_of : ℕ → List ℕ
 indices_of set = indices_from set 1 31
 
@@ -114,11 +112,9 @@ control_words controls.ControlLength = codes "ControlLength" ∷ []
 control_words controls.MapIgnored = codes "MapIgnored" ∷ []
 control_words controls.Left = codes "Left" ∷ []
 
--- what becomes of a sink
 abbrev pub sink_line : ℕ → List (List ℕ) → List ℕ
 sink_line sink words = line_of (codes "sink") (decimal sink ∷ words)
 
--- what a source announces to a sink
 abbrev pub train_line : ℕ → Announced → List ℕ
 train_line sink train =
     line_of (codes "train") (decimal sink ∷ decimal train.time ∷ digits train.ext ∷ digits train.adv ∷ digits train.acad ∷ [])

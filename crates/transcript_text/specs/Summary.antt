@@ -9,11 +9,9 @@ use Rattle.transcript_text.specs.declared.counts.Counts.{Counts}
 
 -- ---- the lines that count
 
--- the line of a unit
 abbrev pub begins_unit : List ℕ → Bool
 begins_unit line = starts_with nat_eq line (codes "unit ")
 
--- the last word is `lost`
 abbrev pub ends_lost : List ℕ → Bool
 ends_lost line = ends_with nat_eq line (codes " lost" ++ newline ∷ [])
 
@@ -21,11 +19,9 @@ ends_lost line = ends_with nat_eq line (codes " lost" ++ newline ∷ [])
 abbrev pub is_valid_line : List ℕ → Bool
 is_valid_line line = begins_unit line && not (ends_lost line)
 
--- the line of a lost unit
 abbrev pub is_lost_line : List ℕ → Bool
 is_lost_line line = begins_unit line && ends_lost line
 
--- the line of the sums of a sink
 abbrev pub is_sum_line : List ℕ → Bool
 is_sum_line line = starts_with nat_eq line (codes "sum ")
 
@@ -34,7 +30,6 @@ is_sum_line line = starts_with nat_eq line (codes "sum ")
 abbrev pub none_counted : Counts
 none_counted = record { valid = 0; lost = 0; sums = [] }
 
--- with these lines beside
 abbrev pub with_lines : Counts → List (List ℕ) → Counts
 with_lines counts lines = record {
   valid = counts.valid + length (filter is_valid_line lines);
@@ -50,16 +45,13 @@ with_line counts line = record {
   sums = counts.sums ++ cond (is_sum_line line) line [];
 }
 
--- what the lines of a transcript say
 abbrev pub counts_of : List ℕ → Counts
 counts_of text = with_lines none_counted (lines_of text)
 
 -- ---- the summary
 
--- the summary of a run of so many events, of what its transcript says
 abbrev pub summary_of : ℕ → Counts → List ℕ
-summary_of events counts =
-    joined (codes "events") (decimal events ∷ [])
+summary_of events counts = joined (codes "events") (decimal events ∷ [])
     ++ newline ∷ (joined (codes "units") (decimal counts.valid ∷ codes "lost" ∷ decimal counts.lost ∷ []) ++ newline ∷ counts.sums)
 
 -- Summary: `events E`, then `units V lost L` with the numbers of valid and lost unit lines of the transcript, then its `sum` lines

@@ -10,21 +10,16 @@ pub record Account : Type 0 where
   pub greatest : ℕ  -- the greatest number of units that it keeps
   pub kept : Option (List (List ℕ))  -- the units that it keeps, oldest first, where it tells them
 
--- a box that took nothing yet
 abbrev pub fresh : Bool → ℕ → Option (List (List ℕ)) → Account
-fresh is_sound greatest kept =
-    record { units = 0; octets = 0; faults = 0; is_sound = is_sound; greatest = greatest; kept = kept }
+fresh is_sound greatest kept = record { units = 0; octets = 0; faults = 0; is_sound = is_sound; greatest = greatest; kept = kept }
 
 -- the units kept after one more: the newest, up to the greatest number
 abbrev pub kept_after : ℕ → List ℕ → Option (List (List ℕ)) → Option (List (List ℕ))
 kept_after greatest unit None = None
 kept_after greatest unit (Some units) = Some (keep_last greatest (units ++ unit ∷ []))
 
--- the account once a unit of these octets was taken
 abbrev pub with_unit : List ℕ → Account → Account
-with_unit unit a =
-    record a { units = a.units + 1; octets = a.octets + length unit; kept = kept_after a.greatest unit a.kept }
+with_unit unit a = record a { units = a.units + 1; octets = a.octets + length unit; kept = kept_after a.greatest unit a.kept }
 
--- both sums hold one more unit of these octets
 abbrev pub Fits : List ℕ → Account → Type 0
 Fits unit a = (a.units + 1 < 2 ^ 64) × (a.octets + length unit < 2 ^ 64)

@@ -8,8 +8,7 @@ use Rattle.unit_outlets.specs.declared.fault.OutletFault.TheVariants.{Failed, Me
 
 -- the box counted a fault and all else is as before; a sound box had no room in its sums
 abbrev pub Faulted : List ℕ → Account → Account → Type 0
-Faulted unit old new =
-    Rose old.faults new.faults × (new ≡ record old { faults = new.faults }) × (IsTrue old.is_sound → ¬ Fits unit old)
+Faulted unit old new = Rose old.faults new.faults × (new ≡ record old { faults = new.faults }) × (IsTrue old.is_sound → ¬ Fits unit old)
 
 -- a box whose sums have no room for the unit counts a fault: it neither takes it nor wants memory
 abbrev pub Took : List ℕ → Account → Account → Result (Unit {0}) OutletFault → Type 0
@@ -18,8 +17,7 @@ Took unit old new (Err Failed) = Faulted unit old new
 Took unit old new (Err Memory) = Fits unit old × (new ≡ old)
 
 -- the box at this place took the unit or refused it, and each other box is as before
-pub record TookAt
-    (place : ℕ) (unit : List ℕ) (old new : List Account) (result : Result (Unit {0}) OutletFault) : Type 0 where
+pub record TookAt (place : ℕ) (unit : List ℕ) (old new : List Account) (result : Result (Unit {0}) OutletFault) : Type 0 where
   pub before : Account
   pub after : Account
   pub here : slice_get old place ≡ Some before

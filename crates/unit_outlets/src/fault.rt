@@ -32,7 +32,6 @@ impl Error for TakerFault {}
 pub enum OutletFault {
     /// A counted fault.
     Failed,
-    /// Want of memory.
     Memory,
 }
 

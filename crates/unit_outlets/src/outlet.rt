@@ -9,10 +9,8 @@ pub trait Outlet: Drop {
     /// Its sums, its count of faults, and where it tells them the units that it keeps.
     ghost account: { Self → Account };
 
-    /// Puts a unit into the box.
-    ///
-    /// `Failed` is counted, and comes in each case where a sum would pass 2^64 - 1; from a sound box it comes in no
-    /// other. A refusal leaves the sums and the units kept.
+    /// Puts a unit into the box. `Failed` is counted, and comes in each case where a sum would pass 2^64 - 1; from a sound box it comes
+    /// in no other. A refusal leaves the sums and the units kept.
     fn take(&mut self, octets: &[u8]) -> Result<(), OutletFault>
         ensures { Took octets.now (account self.old) (account self.new) result };
 

@@ -41,7 +41,6 @@ time_of stay event slot =
 abbrev pub slot_in : Stay → List (Option Content) → ℕ → List (Option Content)
 slot_in stay kept slot = take (per_unit_of stay.info) (drop (slot * per_unit_of stay.info) kept)
 
--- a unit, or that it is lost
 abbrev pub handed_of : ℕ → ℕ → Option (List ℕ) → Handed
 handed_of bis time (Some octets) = valid bis time octets
 handed_of bis time None = lost bis time

@@ -77,8 +77,7 @@ DroppedLaw boxes = (airs : Airs) → (said : List Step) → (step : Step) → Ar
 
 -- the units that source 1 accepted on a stream, each with its time, in order
 abbrev pub accepted_on : ℕ → List Step → List AudioUnit
-accepted_on bis steps =
-    accepted (framed_calls (setup_of (steps_of_source 1 steps)) bis (source_calls (steps_of_source 1 steps)))
+accepted_on bis steps = accepted (framed_calls (setup_of (steps_of_source 1 steps)) bis (source_calls (steps_of_source 1 steps)))
 
 -- What source 1 accepts on a stream by the relayed units before a step is what was offered to it before that step, without the units that
 -- were dropped, in order and with octets and times.
@@ -86,7 +85,6 @@ abbrev pub PassesAtOnce : Type 0
 PassesAtOnce = (airs : Airs) → (steps : List Step) → (step : Step) → (to : ℕ)
     → accepted_on to (with_relayed_units airs steps step) ≡ accepted_on to steps ++ passed (offered_to to (answered_by airs steps step))
 
--- the relay of a sink hands the units of this stream on to that one
 abbrev pub is_route : (bis to : ℕ) → Option Route → Bool
 is_route bis to None = false
 is_route bis to (Some route) = (route.bis == bis) && (route.to == to)
@@ -95,12 +93,10 @@ is_route bis to (Some route) = (route.bis == bis) && (route.to == to)
 abbrev pub handed_on : Airs → (n bis : ℕ) → List Step → Step → List AudioUnit
 handed_on airs n bis steps step = units_on bis (handed_of 0 n (handed_by airs (with_relayed_units airs steps step) step))
 
--- Offered: the valid units of stream `bis` that sink `n` handed up at closes of source 0 while its relay went to stream `to`, each
--- with its printed time
+-- Offered, with printed times: the valid units of stream `bis` that sink `n` handed up at closes of source 0 while its relay went to `to`
 abbrev pub offered : Airs → (n bis to : ℕ) → List Step → List AudioUnit
 offered airs n bis to [] = []
-offered airs n bis to (step ∷ earlier) =
-    offered airs n bis to earlier
+offered airs n bis to (step ∷ earlier) = offered airs n bis to earlier
     ++ (if is_route bis to (relay_of n (happened airs earlier)) then handed_on airs n bis (happened airs earlier) step else [])
 
 -- What source 1 accepted on stream `to` is, in order and with octets and times, what was offered to it without the units that were

@@ -4,17 +4,17 @@ use Rattle.scenario_words.proofs.digits.decode.Goals as goal
 
 pub joined-requires-clause-first : goal.joined-requires-clause-first
 joined-requires-clause-first c =
-    let octets = octets_at c.args.word.now c.as_chunks.result.0.now c.pairs.i c.from_le_bytes.result c.as_chunks.ensures.prefix (omega arith) (λ k. (c.type_inv.word k).fits) c.from_le_bytes.ensures in
+    let octets = octets_at c.args.word.now c.as_chunks.result.0.now c.pairs.i c.from_le_bytes.result c.as_chunks.ensures.front (omega arith) (λ k. (c.type_inv.word k).fits) c.from_le_bytes.ensures in
     rw octets.0 (is_digit_at c.args.word.now (2 * c.pairs.i) c.requires.digits (omega arith))
 
 pub joined-requires-clause-second : goal.joined-requires-clause-second
 joined-requires-clause-second c =
-    let octets = octets_at c.args.word.now c.as_chunks.result.0.now c.pairs.i c.from_le_bytes.result c.as_chunks.ensures.prefix (omega arith) (λ k. (c.type_inv.word k).fits) c.from_le_bytes.ensures in
+    let octets = octets_at c.args.word.now c.as_chunks.result.0.now c.pairs.i c.from_le_bytes.result c.as_chunks.ensures.front (omega arith) (λ k. (c.type_inv.word k).fits) c.from_le_bytes.ensures in
     rw octets.1 (is_digit_at c.args.word.now (2 * c.pairs.i + 1) c.requires.digits (omega arith))
 
 pub pairs-preserved : goal.pairs-preserved
 pairs-preserved c =
-    let octets = octets_at c.args.word.now c.as_chunks.result.0.now c.pairs.i c.from_le_bytes.result c.as_chunks.ensures.prefix (omega arith) (λ k. (c.type_inv.word k).fits) c.from_le_bytes.ensures in
+    let octets = octets_at c.args.word.now c.as_chunks.result.0.now c.pairs.i c.from_le_bytes.result c.as_chunks.ensures.front (omega arith) (λ k. (c.type_inv.word k).fits) c.from_le_bytes.ensures in
     one_pair_more c.args.word.now c.pairs.octets c.pairs.i c.joined.result c.requires.digits (omega arith) (omega arith)
     (rw (octets.0, octets.1) at c.joined.ensures) c.pairs.invariant
 
