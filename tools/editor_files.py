@@ -4,15 +4,12 @@
 vicemint.vim and vicemint-detect.vim are for Vim, vicemint.tmLanguage.json for editors that take TextMate grammars; replay.bash and
 explain.bash complete words in bash, _replay and _explain in zsh. The first words of lines and the words of the command line are those
 of the tables of docs/scenario-language.md."""
-import argparse
 import json
-import os
 import re
-import subprocess
 import sys
 
 sys.dont_write_bytecode = True
-from man_pages import LANGUAGE, TOP, PageFault, of_document, row  # noqa: E402
+from man_pages import LANGUAGE, PageFault, of_document, row, write_files  # noqa: E402
 
 EXPLAIN_WORDS = ['--toml']
 VIM = r'''" Vim syntax file: scenarios of Vicemint. It is written by tools/editor_files.py.
@@ -115,29 +112,8 @@ def files() -> dict[str, str]:
     return made
 
 
-def words_of(words: list[str] | None) -> argparse.Namespace:
-    parser = argparse.ArgumentParser(prog='editor_files.py', description='Writes what editors and shells know the language by.',
-                                     allow_abbrev=False)
-    parser.add_argument('--version', action='store_true', help='prints the version of the repository')
-    parser.add_argument('folder', nargs='?', help='where the files are written')
-    asked = parser.parse_args(words)
-    if not asked.folder and not asked.version:
-        parser.error('a folder has to be named')
-    return asked
-
-
 def main(words: list[str] | None = None) -> int:
-    asked = words_of(words)
-    if asked.version:
-        return subprocess.run([os.path.join(TOP, 'tools', 'version')], check=False).returncode
-    try:
-        for name, text in files().items():
-            with open(os.path.join(asked.folder, name), 'w', encoding='utf-8') as file:
-                file.write(text)
-    except (OSError, PageFault) as fault:
-        print(f'editor_files: {fault}', file=sys.stderr)
-        return 1
-    return 0
+    return write_files('editor_files', 'Writes what editors and shells know the language by.', files, words)
 
 
 if __name__ == '__main__':

@@ -172,29 +172,34 @@ def pages() -> dict[str, str]:
     return {f'{name}.{PAGES[name].number}': page(name, version) for name in PAGES}
 
 
-def words_of(words: list[str] | None) -> argparse.Namespace:
-    parser = argparse.ArgumentParser(prog='man_pages.py', allow_abbrev=False,
-                                     description='Writes the man pages replay.1, explain.1 and scenario.5 of what docs/ says.')
+def folder_of(name: str, what: str, words: list[str] | None) -> str | None:
+    """The folder that the words of a command line name, or nothing where they ask for the version."""
+    parser = argparse.ArgumentParser(prog=f'{name}.py', description=what, allow_abbrev=False)
     parser.add_argument('--version', action='store_true', help='prints the version of the repository')
-    parser.add_argument('folder', nargs='?', help='where they are written')
+    parser.add_argument('folder', nargs='?', help='where the files are written')
     asked = parser.parse_args(words)
     if not asked.folder and not asked.version:
         parser.error('a folder has to be named')
-    return asked
+    return None if asked.version else asked.folder
+
+
+def write_files(name: str, what: str, made: typing.Callable[[], dict[str, str]], words: list[str] | None) -> int:
+    """A program that writes files into the folder that its words name, and how it ends."""
+    folder = folder_of(name, what, words)
+    if folder is None:
+        return subprocess.run([os.path.join(TOP, 'tools', 'version')], check=False).returncode
+    try:
+        for file_name, text in made().items():
+            with open(os.path.join(folder, file_name), 'w', encoding='utf-8') as file:
+                file.write(text)
+    except (OSError, PageFault) as fault:
+        print(f'{name}: {fault}', file=sys.stderr)
+        return 1
+    return 0
 
 
 def main(words: list[str] | None = None) -> int:
-    asked = words_of(words)
-    if asked.version:
-        return subprocess.run([os.path.join(TOP, 'tools', 'version')], check=False).returncode
-    try:
-        for name, text in pages().items():
-            with open(os.path.join(asked.folder, name), 'w', encoding='utf-8') as file:
-                file.write(text)
-    except (OSError, PageFault) as fault:
-        print(f'man_pages: {fault}', file=sys.stderr)
-        return 1
-    return 0
+    return write_files('man_pages', 'Writes the man pages replay.1, explain.1 and scenario.5 of what docs/ says.', pages, words)
 
 
 if __name__ == '__main__':

@@ -7,6 +7,7 @@ stands in checks/parts/. Put its name into STEPS below, where it should run, and
 import argparse
 import importlib
 import os
+import signal
 import subprocess
 import sys
 import textwrap
@@ -134,6 +135,7 @@ def main(words: list[str]) -> int:
     elif words == ['--version']:
         return subprocess.run([os.path.join(TOP, 'tools', 'version')], check=False).returncode
     elif words == ['--list']:
+        signal.signal(signal.SIGPIPE, signal.SIG_DFL)
         tell_steps()
     else:
         print(f'{"" if words[0].startswith("-") else f"there is no step {words[0]}; "}{USAGE}', file=sys.stderr)
