@@ -43,6 +43,7 @@ abbrev pub said_of : List TextLine → List Step
 said_of [] = []
 said_of (line ∷ earlier) = with_said (said_in (version_of (said_of earlier)) line) (said_of earlier)
 
+-- what happens by the lines: their steps, and the relayed units among them
 abbrev pub steps_of : Airs → List TextLine → List Step
 steps_of airs lines = happened airs (said_of lines)
 

@@ -69,6 +69,7 @@ abbrev pub lines_of : Airs → ℕ → List Step → List ℕ
 lines_of airs n [] = []
 lines_of airs n (step ∷ earlier) = lines_of airs n earlier ++ lines_by airs n earlier step
 
+-- what those of them print so that are kept for the sink and the source, each after all steps before it
 abbrev pub kept_lines : Airs → ℕ → ℕ → List Step → List ℕ
 kept_lines airs s n [] = []
 kept_lines airs s n (step ∷ earlier) =

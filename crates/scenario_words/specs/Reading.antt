@@ -15,6 +15,7 @@ use Rattle.scenario_words.specs.declared.fault.Misfit.{Misfit}
 use Rattle.scenario_words.specs.Places.{WordPlace, between, framing_word, time_up_to, octets_up_to, octets_exactly, number_in_octets, list_up_to, Place, one}
 use Rattle.scenario_words.specs.Places.{perhaps, rising, wishes, WordValue, PlaceValue, most_wishes, wishes_octets}
 
+-- the words that are left of a line, and how many were read before
 pub record Left : Type 0 where
   pub words : List (List ℕ)
   pub read : ℕ

@@ -13,6 +13,7 @@ pub record Account : Type 0 where
 abbrev pub fresh : Bool → ℕ → Option (List (List ℕ)) → Account
 fresh is_sound greatest kept = record { units = 0; octets = 0; faults = 0; is_sound = is_sound; greatest = greatest; kept = kept }
 
+-- the units kept after one more: the newest, up to the greatest number
 abbrev pub kept_after : ℕ → List ℕ → Option (List (List ℕ)) → Option (List (List ℕ))
 kept_after greatest unit None = None
 kept_after greatest unit (Some units) = Some (keep_last greatest (units ++ unit ∷ []))
