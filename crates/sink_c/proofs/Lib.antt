@@ -3,4 +3,5 @@ mod AllHanded
 mod Handing
 mod Kept
 mod Lengths
+mod NoFault
 mod Ranges
