@@ -107,7 +107,7 @@ abbrev AreShort : List (Option Entry) → Type 0
 AreShort slots = AllByRecursion IsShort slots
 
 empty_short : IsShort None
-unfolding IsShort, weight
+unfolding IsShort weight
 empty_short = omega arith
 
 written_short : (snapshot : Snapshot) (slot : ℕ) → length (value_at snapshot slot) ≤ 512 → IsShort (entry_at snapshot.slots slot)

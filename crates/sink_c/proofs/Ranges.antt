@@ -1,6 +1,6 @@
 -- When bits of streams are those of a group of so many streams.
 use Rattle.sink_c.proofs.Prelude.{◌≡◌, ◌<◌, ◌≤◌, ℕ, subst, arith}
-use Rattle.std.proofs.Common.{◌/◌, ◌%◌, ◌*◌, ◌^◌, ◌⊎◌, inl, inr}
+use Rattle.std.proofs.Common.{◌+◌, ◌/◌, ◌%◌, ◌*◌, ◌^◌, ◌⊎◌, inl, inr}
 use Rattle.std.proofs.lemmas.Bool.{cases_lt}
 use Rattle.std.proofs.lemmas.Nat.{div-add-mod', div_below, mod_below, pow_below, pow_pos}
 
@@ -20,4 +20,6 @@ of_any_group streams n few below = go (cases_lt n 31)
   where
     go : (n < 31) ⊎ (31 ≤ n) → streams < 2 ^ 31
     go (inl less) = omega (arith, below, pow_below n 31 less)
-    go (inr more) = subst (λ k. streams < 2 ^ k) (omega (arith, few, more)) below
+    go (inr more) =
+        let all : n ≡ 31 = omega (arith, few, more) in
+        subst (λ k. streams < 2 ^ k) all below
