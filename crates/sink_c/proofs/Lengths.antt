@@ -143,9 +143,9 @@ two_rows true long none = absurd cc
 two_rows false true none = absurd cc
 two_rows false false none = refl
 
-placed_slots : (place : Option Place) (encryption : Option Bool) (taken : Option (List ℕ)) (snapshot : Snapshot) → (placed place encryption taken snapshot).slots ≡ snapshot.slots
-placed_slots None encryption taken snapshot = refl
-placed_slots (Some place) encryption taken snapshot = refl
+placed_slots : (place : Option Place) (encryption : Option Bool) (streams : Option (List ℕ)) (snapshot : Snapshot) → (placed place encryption streams snapshot).slots ≡ snapshot.slots
+placed_slots None encryption streams snapshot = refl
+placed_slots (Some place) encryption streams snapshot = refl
 
 after_slots : (done : Done) (snapshot : Snapshot) → (after done snapshot).slots ≡ slots_after done snapshot.slots
 after_slots done snapshot = placed_slots (place_given snapshot done) (encryption_given done) (taken_given done) _

@@ -11,7 +11,7 @@ none_above streams n few = omega (arith, div_below streams (2 ^ n) 1 (pow_pos n)
 pub of_group : (streams n : ℕ) → streams / 2 ^ n ≡ 0 → streams < 2 ^ n
 of_group streams n none =
     let rest : streams / 2 ^ n * 2 ^ n + streams % 2 ^ n ≡ streams = div-add-mod' streams (2 ^ n) in
-    let zero : streams / 2 ^ n * 2 ^ n ≡ 0 = rw none in
+    let zero : streams / 2 ^ n * 2 ^ n ≡ 0 = rw none (omega arith) in
     omega (arith, rest, zero, mod_below streams (2 ^ n) (pow_pos n))
 
 -- the streams of a group are streams
