@@ -8,6 +8,7 @@ its headers. The stack is told twice, with the return address of the call: at mo
 without what the back end for memory takes; and as it was measured, by painted stacks under each call of the corpus' scenarios and of tapes of
 the fuzzer, with malloc below. Instructions are counted by valgrind's callgrind, from entry to return. It needs a C compiler, `size`
 and `objdump`, and valgrind for the last table."""
+import contextlib
 import os
 import platform
 import random
@@ -22,7 +23,9 @@ from collections.abc import Iterator
 TOP = os.path.dirname(os.path.dirname(os.path.abspath(__file__)))
 sys.dont_write_bytecode = True
 sys.path[:0] = [os.path.join(TOP, '.ci'), os.path.join(TOP, 'tools')]
-from checks.parts import c_logs, c_tapes, scenarios  # noqa: E402
+from checks.parts import c_builds, c_logs, c_tapes, scenarios  # noqa: E402
+from checks.parts.c_prototypes import declared  # noqa: E402
+from checks.parts.files import text_of  # noqa: E402
 
 C = os.path.join(TOP, 'c')
 EVENTS = 1000
@@ -51,39 +54,115 @@ def code(archive: str) -> None:
 
 
 class Frame(typing.NamedTuple):
-    """What a function puts on the stack, in octets with its return address, and which functions it calls."""
+    """What a function puts on the stack, in octets with its return address, and which functions it calls or jumps to."""
     size: int
-    calls: set[str]
+    calls: frozenset[str]
 
 
+MEMBER = re.compile(r'\S+: +file format \S+')
 FUNCTION = re.compile(r'[0-9a-f]+ <(.+)>:')
-RESERVED = re.compile(r'sub +\$0x([0-9a-f]+),%rsp')
-CALLED = re.compile(r'R_X86_64_(?:PLT32|PC32)\s+([^\s+-]+)')
+TAKEN = re.compile(r'\tsub +\$0x([0-9a-f]+),%rsp')
+ALIGNED = re.compile(r'\tand +\$0xf+([0-9a-f]0),%rsp')
+GOES = re.compile(r'\t(call|j\w+) +')
+TO = re.compile(r'R_X86_64_(?:PLT32|PC32)\s+(\S+?)(?:[+-]0x[0-9a-f]+)?$|\t(?:call|j\w+) +[0-9a-f]+ <([^+>]+)>$')
 
 
-def frames(archive: str) -> dict[str, Frame]:
-    """The frames of the functions of an archive, by its code: what is pushed, and what is taken off the stack's pointer."""
-    listing = subprocess.run(['objdump', '-d', '-r', '--no-show-raw-insn', archive], capture_output=True, text=True, check=True).stdout
-    found: dict[str, Frame] = {}
-    name, jumps = '', False
-    for line in listing.splitlines():
-        if begin := FUNCTION.fullmatch(line):
-            name, jumps = begin[1], False
-            found[name] = Frame(8, set())
-            continue
-        if own := RESERVED.search(line):
-            found[name] = found[name]._replace(size=found[name].size + int(own[1], 16))
-        elif re.search(r'\tpush ', line):
-            found[name] = found[name]._replace(size=found[name].size + 8)
-        elif re.search(r'\t(call|jmp) +\*', line):
-            found[name].calls.add('' if 'call' in line else name) if 'call' in line else None
-        elif (to := CALLED.search(line)) and jumps:
-            found[name].calls.add(to[1])
-        elif to := re.search(r'\t(?:call|jmp) .*<([^+>]+)>$', line):
-            if to[1] != name:
-                found[name].calls.add(to[1])
-        jumps = bool(re.search(r'\t(call|j\w+) ', line))
-    return found
+def frames(archive: str) -> list[dict[str, Frame]]:
+    """The frames of the functions of each member of an archive, by their code: what is pushed, and what is taken off the pointer of the
+    stack."""
+    words = ['objdump', '--disassemble', '--reloc', '--no-show-raw-insn', archive]
+    members: list[dict[str, Frame]] = []
+    name = goes = ''
+    for line in subprocess.run(words, capture_output=True, text=True, check=True).stdout.splitlines():
+        if MEMBER.fullmatch(line):
+            members.append({})
+            name = ''
+        elif begins := FUNCTION.fullmatch(line):
+            name = begins[1]
+            members[-1][name] = Frame(8, frozenset())
+        elif name:
+            is_behind = 'R_X86_64' in line  # a relocation stands in the line behind what goes there
+            how = goes if is_behind else how_it_goes(line)
+            members[-1][name] = with_line(members[-1][name], line, '' if how == 'call' else name, bool(how))
+            goes = '' if is_behind else how
+    return members
+
+
+def how_it_goes(line: str) -> str:
+    """Whether a line of code calls or jumps, and how."""
+    goes = GOES.search(line)
+    if goes and line[goes.end()] == '*' and goes[1] == 'call':
+        raise ValueError(f'a call by a pointer, so nothing bounds the stack: {line}')
+    return goes[1] if goes else ''
+
+
+def with_line(frame: Frame, line: str, own: str, goes: bool) -> Frame:
+    """A frame with what a line of its function's code adds. A jump within the function adds nothing."""
+    if taken := TAKEN.search(line):
+        return frame._replace(size=frame.size + int(taken[1], 16))
+    if aligned := ALIGNED.search(line):
+        return frame._replace(size=frame.size + 0x100 - int(aligned[1], 16))
+    if '\tpush ' in line:
+        return frame._replace(size=frame.size + 8)
+    to = TO.search(line) if goes else None
+    name = (to[1] or to[2]) if to else own
+    if name.startswith('.'):
+        raise ValueError(f'a place in a section, and no function: {line}')
+    return frame if name == own else frame._replace(calls=frame.calls | {name})
+
+
+def deepest(name: str, member: dict[str, Frame], above: tuple[str, ...] = ()) -> int:
+    """The most octets of stack under a function; what the member calls from outside takes none."""
+    if name in above:
+        raise ValueError(f'{name} calls itself, so nothing bounds its stack')
+    it = member.get(name, Frame(0, frozenset()))
+    return it.size + max((deepest(to, member, (*above, name)) for to in it.calls), default=0)
+
+
+def measured_stack(room: str, archive: str, calls: list[str]) -> dict[str, int]:
+    """The most octets under each call that the scenarios of the corpus and the fuzzer's tapes make."""
+    with open(os.path.join(room, 'calls.h'), 'w', encoding='ascii') as file:
+        file.writelines(f'CALL({number}, {name})\n' for number, name in enumerate(calls))
+    own = [f'{C}/tests/measure_stack.{kind}' for kind in ('S', 'c')] + [f'{C}/memory_counted.c', archive]
+    flags = ['-O2', f'-I{C}', f'-I{room}', *(f'-Wl,--wrap={name}' for name in calls)]
+    runs: list[tuple[list[str], bytes]] = []
+    play, tapes = os.path.join(room, 'play'), os.path.join(room, 'tapes')
+    subprocess.run(['cc', *flags, '-o', play, *c_builds.PLAYER, *own], check=True)
+    subprocess.run(['cc', *flags, '-o', tapes, f'{C}/tests/measure_tapes.c', *c_builds.FUZZER, *own], check=True)
+    for it in scenarios.plain_runs():
+        with contextlib.suppress(c_logs.Unfit):
+            runs.append(([play], '\n'.join([*c_logs.log_of(it.steps)[0], '']).encode()))
+    runs.append(([tapes, *taped(room)], b''))
+    most = dict.fromkeys(calls, 0)
+    for words, sent in runs:
+        for line in subprocess.run(words, input=sent, capture_output=True, check=True).stderr.decode().splitlines():
+            name, octets = line.split()
+            most[name] = max(most[name], int(octets))
+    return most
+
+
+def taped(room: str) -> Iterator[str]:
+    """Files with the tapes that the fuzzer begins with, each once as it is and often with random octets behind it."""
+    r = random.Random(1)
+    for number, tape in enumerate(c_tapes.tapes(2000)):
+        path = os.path.join(room, f'tape{number}')
+        with open(path, 'wb') as file:
+            file.write(tape + (r.randbytes(2000) if number % 4 else b''))
+        yield path
+
+
+def stack(room: str, archive: str) -> None:
+    """Prints the stack of the calls of each part: the deepest by the code, and the deepest as it was measured."""
+    calls = list(declared(text_of(os.path.join(C, 'vicemint.h'))))
+    by_code = {name: deepest(name, member) for member in frames(archive) for name in calls if name in member}
+    measured = measured_stack(room, archive, calls) if platform.machine() == 'x86_64' else dict.fromkeys(calls, 0)
+    print('| Calls | Deepest by the code | Octets | Deepest as measured | Octets |\n|---|---|---|---|---|')
+    for part in ('vm_sink', 'vm_link', 'vm_source', 'vm_stream', 'air'):
+        own = [name for name in calls if name.startswith(part)]
+        most, seen = max(own, key=by_code.__getitem__), max(own, key=measured.__getitem__)
+        print(f'| `{part}_*` | `{most}` | {by_code[most]:,} | `{seen}` | {measured[seen]:,} |')
+    unseen = [name for name in calls if not measured[name]]
+    print(f'not measured: {", ".join(unseen)}\n' if unseen else '')
 
 
 def told(program: str, sent: bytes) -> dict[str, list[int]]:
@@ -142,6 +221,7 @@ def main() -> int:
         return 2
     with tempfile.TemporaryDirectory() as room:
         code(archive)
+        stack(room, archive)
         sent = sinks(room, archive)
         if shutil.which('valgrind'):
             calls(room, archive, sent)

@@ -1,10 +1,10 @@
 #!/bin/sh
 # build.sh [OUT [ARCHIVES]]: builds libvicemint.a, a pkg-config file and the example into the folder OUT, which is build/c where none is
 # named, and runs the example. The folder ARCHIVES has a static library for each crate; without it they are proved and built here, which
-# takes the kit, and half an hour where nothing is proved yet.
+# takes the kit, and half an hour where nothing is proved yet. CC, CFLAGS, AR, RANLIB and NM name other tools, and RUN what runs the example.
 set -eu
 case "${1-}" in
-    -h | --help) sed -n '2,4s/^# //p' "$0"; exit 0 ;;
+    -h | --help) sed -n '2,5s/^# //p' "$0"; exit 0 ;;
     -*) echo "usage: build.sh [OUT [ARCHIVES]]" >&2; exit 2 ;;
 esac
 [ $# -le 2 ] || { echo "usage: build.sh [OUT [ARCHIVES]]" >&2; exit 2; }
@@ -42,4 +42,5 @@ echo "$out/libvicemint.a has $(echo "$defined" | wc -l) calls"
 command -v "${CC:-cc}" >/dev/null || { echo "build.sh: no C compiler, so the example is not built" >&2; exit 0; }
 # shellcheck disable=SC2086 # words of a command line
 "${CC:-cc}" -std=c99 -O2 ${CFLAGS-} -I"$c" -o "$out/stereo" "$c"/examples/*.c "$c/memory_malloc.c" "$out/libvicemint.a"
-"$out/stereo"
+# shellcheck disable=SC2086 # words of a command line
+${RUN-} "$out/stereo"

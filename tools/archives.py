@@ -4,9 +4,13 @@
 archives.py OUT           proves what isn't proved yet of the crates below them, side by side, as ./prove does, and writes a static
                           library libCRATE.a for each crate into the folder OUT
 archives.py --built OUT   takes the crates below as they were built, which `rt ci` has just proved in this checkout
+archives.py .. --target TRIPLE OUT
+                          the same for another processor: aarch64-unknown-linux-gnu
 
 A static library is proved each time, over the libraries of the crates below it, in a minute or two.
 """
+import concurrent.futures
+import functools
 import os
 import subprocess
 import sys
@@ -17,8 +21,9 @@ from crate_sums import SPEAKER, TOP, Kept, in_order, listed  # noqa: E402
 from kit_rt import kit, say, stop_where_tested  # noqa: E402
 
 CRATES = ('sink_c', 'link_c', 'source_c', 'stream_c', 'layouts_c')
-USAGE = 'usage: archives.py [--built] OUT'
+USAGE = 'usage: archives.py [--built] [--target TRIPLE] OUT'
 MISUSED, UNPROVED, LIMIT = 2, 1, 3600
+SIDE_BY_SIDE = 3  # so many proofs at once, each of which takes some 1.2 GB
 
 
 def words_of(crate: str, out: str, target: str = '') -> list[str]:
@@ -37,10 +42,10 @@ def words_of(crate: str, out: str, target: str = '') -> list[str]:
     return [*words, *(['--target', target, '--backend', 'llvm'] if target else []), '-o', out]
 
 
-def archive(crate: str, folder: str) -> bool:
+def archive(crate: str, folder: str, target: str) -> bool:
     """Proves a crate and writes its static library: whether it did."""
-    say(f'proving and building {crate}')
-    words = words_of(crate, os.path.join(os.path.abspath(folder), f'lib{crate}.a'))
+    say(f'proving and building {crate}{f" for {target}" if target else ""}')
+    words = words_of(crate, os.path.join(os.path.abspath(folder), f'lib{crate}.a'), target)
     ran = subprocess.run(words, cwd=f'{TOP}/crates/{crate}', capture_output=True, text=True, errors='replace', timeout=LIMIT, check=False)
     if ran.returncode:
         print('\n'.join((ran.stdout + ran.stderr).splitlines()[-20:]), file=sys.stderr)
@@ -55,7 +60,9 @@ def main(words: list[str]) -> int:
     if words == ['--version']:
         return tell_version()
     is_built = words[:1] == ['--built']
-    left = words[is_built:]
+    left, target = words[is_built:], ''
+    if left[:1] == ['--target'] and len(left) > 1:
+        target, left = left[1], left[2:]
     if len(left) != 1 or left[0].startswith('-'):
         print(USAGE, file=sys.stderr)
         return MISUSED
@@ -67,7 +74,9 @@ def main(words: list[str]) -> int:
         if not proved(lower, path, Kept(lines, below, version)):
             return UNPROVED
     os.makedirs(left[0], exist_ok=True)
-    return 0 if all(archive(crate, left[0]) for crate in CRATES) else UNPROVED
+    with concurrent.futures.ThreadPoolExecutor(min(SIDE_BY_SIDE, os.cpu_count() or 1)) as pool:
+        made = list(pool.map(functools.partial(archive, folder=left[0], target=target), CRATES))
+    return 0 if all(made) else UNPROVED
 
 
 if __name__ == '__main__':

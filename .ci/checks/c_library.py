@@ -102,13 +102,13 @@ def compilers(*names: str) -> list[str]:
 
 @step(seconds=900, needs=('cc',), wants=('clang', 'cxx', 'cargo', 'cmake', 'aarch64'))
 def check(replay: str, archives: str = '', draws: int = 1000, seconds: int = 120, emulated: int = 300) -> Faults:
-    """libvicemint.a builds and calls six symbols. vicemint.h has the exports of the crates, and C++ and Rust have all of it. The player in C,
-    built by each compiler under sanitizers, writes for the scenarios of the corpus and for drawn ones what replay writes, octet for octet;
-    each stream that a sink is on is played beside it by vm_stream_*, and hands up what the sink does. Where a call for memory fails, the
-    call that says so goes on when it is made again. A fuzzer finds nothing in some seconds of random calls. The example, its likes in C++
-    and Rust, over CMake and pkg-config, and the commands of docs/using-from-c.md run. Some of the scenarios, --emulated of them, and the
-    example are played on an emulated aarch64 too, for which the crates are proved and built once more. --archives names a folder with the
-    static libraries of the crates."""
+    """libvicemint.a builds and calls six symbols. vicemint.h has the exports of the crates, and C++ and Rust have all of it. The player in
+    C, built by each compiler under sanitizers, writes for the scenarios of the corpus and for drawn ones what replay writes, octet for
+    octet; each stream that a sink is on is played beside it by vm_stream_*, and hands up what the sink does. Where a call for memory fails,
+    the call that says so goes on when it is made again. A fuzzer finds nothing in some seconds of random calls. The example, its likes in
+    C++ and Rust, over CMake and pkg-config, and the commands of docs/using-from-c.md run. Some of the scenarios, --emulated of them, and
+    the example are played on an emulated aarch64 too, for which the crates are proved and built once more. --archives names a folder with
+    the static libraries of the crates."""
     yield from c_prototypes.differences()
     yield from c_bindings.differences()
     with tempfile.TemporaryDirectory() as room:
@@ -134,8 +134,9 @@ def check(replay: str, archives: str = '', draws: int = 1000, seconds: int = 120
             yield from tried(functools.partial(fuzz, library, seconds))
             fuzzed = f'{seconds} s of random calls'
         rows = [row for _, _, wanted in logs for row in wanted]
-        return (f'{len(logs)} scenarios with {len(rows)} lines and {sum(row.startswith("unit ") for row in rows)} units by {len(players)} compilers, '
-                f'{len(on_other)} of them on aarch64, {sum(count for count, _ in failing)} calls for memory that fail, {fuzzed}')
+        units = sum(row.startswith('unit ') for row in rows)
+        return (f'{len(logs)} scenarios with {len(rows)} lines, of them {units} units, by {len(players)} compilers, {len(on_other)} scenarios on '
+                f'aarch64, {sum(count for count, _ in failing)} calls for memory that fail, {fuzzed}')
 
 
 def played_elsewhere(room: str, archives: str, logs: list[Log]) -> Iterator[str]:

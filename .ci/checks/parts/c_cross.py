@@ -1,49 +1,45 @@
 """The library for C for another processor, which is emulated."""
 import os
 import shutil
-import subprocess
 
-import archives as static
 from checks import TOP
 from checks.parts import c_builds
 from checks.parts.files import write
 
 AARCH64 = 'aarch64-unknown-linux-gnu'
-LIMIT = 3600  # seconds for the proof of a crate
-COMPILER, RUNNER = 'aarch64-linux-gnu-gcc', 'qemu-aarch64'
+PREFIX, RUNNER = 'aarch64-linux-gnu-', 'qemu-aarch64'
+TOOLS = {'CC': 'gcc', 'AR': 'ar', 'RANLIB': 'ranlib', 'NM': 'nm'}
+FLAGS = ['-std=c99', '-O2', '-static', f'-I{c_builds.C}', f'-DVM_BLOCK={c_builds.BLOCK}']
 
 
 def is_there() -> bool:
-    return all(map(shutil.which, (COMPILER, RUNNER)))
+    return all(map(shutil.which, (f'{PREFIX}gcc', RUNNER)))
 
 
-def archives(room: str, folder: str) -> list[str]:
-    """The static libraries of the crates for that processor: those of the folder, where it has them. Else each crate is proved once more over
-    the crates below it, as they were built."""
-    made = [os.path.join(folder, f'lib{crate}_aarch64.a') for crate in static.CRATES]
-    if folder and all(map(os.path.isfile, made)):
-        return made
-    made = [os.path.join(room, f'lib{crate}_aarch64.a') for crate in static.CRATES]
-    for crate, path in zip(static.CRATES, made, strict=True):
-        words = static.words_of(crate, path, AARCH64)
-        ran = subprocess.run(words, cwd=f'{TOP}/crates/{crate}', capture_output=True, text=True, timeout=LIMIT, check=False)
-        if ran.returncode:
-            raise c_builds.Broken(f'{crate} for aarch64: {(ran.stdout + ran.stderr)[-800:]}')
-    return made
+def library(room: str, archives: str) -> str:
+    """The library for that processor, as c/build.sh makes it, which runs the example there. Where the folder of archives has none in its
+    folder `aarch64`, the crates are proved once more, over those below them as they were built."""
+    own = os.path.join(archives, 'aarch64') if archives else ''
+    if not os.path.isdir(own):
+        own = os.path.join(room, 'aarch64_archives')
+        c_builds.done([os.path.join(TOP, 'tools', 'archives.py'), '--built', '--target', AARCH64, own], c_builds.LIMIT)
+    folder = os.path.join(room, 'aarch64')
+    named = {name: PREFIX + tool for name, tool in TOOLS.items()}
+    c_builds.done([os.path.join(c_builds.C, 'build.sh'), folder, own], c_builds.LIMIT, **named, CFLAGS='-static', RUN=RUNNER)
+    return os.path.join(folder, 'libvicemint.a')
 
 
-def emulated(room: str, name: str, files: list[str], made: list[str]) -> str:
+def emulated(room: str, name: str, files: list[str], archive: str) -> str:
     """A program for that processor, as one that runs here."""
-    program = os.path.join(room, name)
-    c_builds.done([COMPILER, '-std=c99', '-O2', '-static', f'-I{c_builds.C}', f'-DVM_BLOCK={c_builds.BLOCK}', '-o', f'{program}_aarch64', *files, *made])
-    write(program, f'#!/bin/sh\nexec {RUNNER} {program}_aarch64 "$@"\n')
+    program = os.path.join(room, f'{name}_aarch64')
+    c_builds.done([f'{PREFIX}gcc', *FLAGS, '-o', f'{program}.elf', *files, archive])
+    write(program, f'#!/bin/sh\nexec {RUNNER} {program}.elf "$@"\n')
     os.chmod(program, 0o755)
     return program
 
 
-def player(room: str, folder: str) -> str:
-    """The player on that processor. The example runs there too, over two back ends."""
-    made = archives(room, folder)
-    for back_end in ('malloc', 'block'):
-        c_builds.done([emulated(room, f'stereo_{back_end}', [*c_builds.EXAMPLE, c_builds.memory(back_end)], made)])
-    return emulated(room, 'play', [*c_builds.PLAYER, c_builds.memory('counted')], made)
+def player(room: str, archives: str) -> str:
+    """The player on that processor. The example runs there over a static block too."""
+    archive = library(room, archives)
+    c_builds.done([emulated(room, 'stereo_block', [*c_builds.EXAMPLE, c_builds.memory('block')], archive)])
+    return emulated(room, 'play', [*c_builds.PLAYER, c_builds.memory('counted')], archive)
