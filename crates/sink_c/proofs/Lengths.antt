@@ -20,10 +20,10 @@ use Rattle.bcast_base.specs.Layout.{Field, laid}
 use Rattle.bcast_base.specs.Subgroups.{Subgroup, subgroup_fields}
 use Rattle.delegator_history.proofs.Citable.{snapshot_goes_on}
 use Rattle.delegator_history.specs.Controls.{control_heard, done_heard}
-use Rattle.delegator_history.specs.Notices.{change, changes, delivered, handed_out, mtu_in, notices, waiting}
+use Rattle.delegator_history.specs.Notices.{change, delivered, handed_out, mtu_in, notices, waiting}
 use Rattle.delegator_history.specs.Snapshots.{Entry, Place, Snapshot, Wanted, entry_at}
 use Rattle.delegator_history.specs.States as states
-use Rattle.delegator_history.specs.States.{Answered, Step, answered, done_by, entry_in, snapshot_of}
+use Rattle.delegator_history.specs.States.{Step, answered, done_by, entry_in, snapshot_of}
 use Rattle.delegator_history.specs.Steps.{Done, after, encryption_given, place_given, placed, slots_after, taken_given, wanting}
 use Rattle.delegator_history.specs.Trains.{TrainOutcome, done_by_outcome, heard, ignored, outcome_by, taken}
 use Rattle.delegator_history.specs.Values.{Status, encryption_of, groups_from, received, status_of, value, value_at}

@@ -1,5 +1,5 @@
 //! The calls of a sink.
-ghost use Rattle.std.specs.Prelude.{◌≡◌, ◌≢◌, ◌∷◌, ◌++◌, ◌≤◌, ◌<◌, ◌^◌, [], List, length, take, IfOk, IsSome, Some, None, true};
+ghost use Rattle.std.specs.Prelude.{◌≡◌, ◌≢◌, ◌∷◌, ◌≤◌, ◌<◌, ◌^◌, [], List, length, take, IfOk, IsSome, Some, None, true};
 ghost use Rattle.bass_operations.specs.Reading.{op_of};
 ghost use Rattle.delegator_control.specs.Following.{is_followed};
 ghost use Rattle.delegator_control.specs.Serving.{wants_memory};

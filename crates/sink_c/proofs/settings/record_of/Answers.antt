@@ -1,6 +1,5 @@
 use Rattle.sink_c.proofs.Prelude.{◌≡◌, arith, ◌∙◌}
 use Rattle.ltv_codec.proofs.Citable.{reads}
-use Rattle.ltv_codec.specs.Reading.{bad_of}
 use Rattle.pacs_records.proofs.Fields.{is_lc3-true}
 use Rattle.sink_c.proofs.NoFault.{no_fault}
 use Rattle.sink_c.proofs.settings.record_of.Goals as goal

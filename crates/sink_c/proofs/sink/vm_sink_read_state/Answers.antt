@@ -1,4 +1,4 @@
-use Rattle.sink_c.proofs.Prelude.{◌≡◌, ◌≤◌, length, true, false, ap, subst, ◌∙◌, arith, steps_of, KeptStands}
+use Rattle.sink_c.proofs.Prelude.{◌≡◌, ◌≤◌, length, true, false, ap, subst, arith, steps_of, KeptStands}
 use Rattle.delegator_history.specs.States.{snapshot_of}
 use Rattle.delegator_history.specs.Values.{value_at}
 use Rattle.sink_c.proofs.Lengths.{value_short}
