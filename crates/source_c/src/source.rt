@@ -162,8 +162,8 @@ pub extern "C" fn vm_source_pdu(
     ensures quiet { result ≢ ok → (room.new ≡ room.old) × (count.new ≡ count.old) × (number.new ≡ number.old) }
     ensures in_range { back ≤ 31 → 1 ≤ bis → bis ≤ 31 → result ≢ range }
     ensures bounds { result ≢ range → (back ≤ 31) × (1 ≤ bis) × (bis ≤ 31) }
-    ensures heard { (it : Source) (calls : List Call) → Stands it calls source.old → result ≡ no_room
-        → air_fault it.setup calls back bis subevent ≡ None }
+    ensures heard { (it : Source) (calls : List Call) (airs : List Air) → Stands it calls source.old → AreAirs it.setup calls airs
+        → result ≡ no_room → air_fault it.setup calls back bis subevent ≡ None }
     ensures room { (it : Source) (calls : List Call) (airs : List Air) → Stands it calls source.old → AreAirs it.setup calls airs
         → result ≡ no_room
         → IsSomeAnd (pdu_of it.setup airs (next_of it.setup calls - 1 - back) bis subevent) (λ pdu. length room.old < length pdu) }
