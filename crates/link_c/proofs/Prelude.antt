@@ -22,7 +22,7 @@ pub use base.Fml.{Fml, ftrue, fex, GName, fsep, flft}
 pub use base.Logic.{ent, emp, SProp, id⊢, fst∗, never, sep}
 pub use contract.Monad.{fact, fact_i}
 pub use contract.Running.{tables}
-pub use denote.Memory.{lone, cell_at, part_at, part_of, mem}
+pub use denote.Memory.{lone, cell_at, part_at, mem}
 pub use denote.RattleType.{RattleType, owns}
 pub use denote.RawPtr.{Ptr, block_ptr, null_ptr, in_a_block, RawPtr, ptr_val}
 pub use denote.Signature.{plain, types_at, Slot, mut_ref_to}

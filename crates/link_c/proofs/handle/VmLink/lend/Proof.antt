@@ -1,11 +1,12 @@
 -- `lend` lends what lies in the block, and the handle follows it. Assumes `Logic`.
-use Rattle.link_c.proofs.Prelude.{◌≡◌, ℕ, List, [], ◌∷◌, refl, sym, ap, ◌∙◌, IsSome, proved, Ura, ent, sep, id⊢, fst∗, never, GName, Fml, ftrue, fsep, flft, named, Val, vptr, fact, tables, Logic, sem, ‵, raw, ◌⊛◌, some, later, at_ret, ◌$◌, ◌∵◌, !, qed, done, move, keep, use1, split, split3, join, fsplit, fsplit3, fjoin, fpack, fpick, pick, await, rewrite, suffices, frame, group, enter, of_opd, addr, load, stop, fld, first, blocks, exec, alloc_all, pass_all, free_all, look_at, get, through, sets, sets_last, env, whole, sub, look_in, cell_at, part_at, part_of, mem, lone, Ptr, block_ptr, null_ptr, in_a_block, plain, mut_ref_to, nothing, opens, peeks, heard, Struct, Stays, walk_of, says, stay_dropped, Goes-spent_ref, ends_at, Global, ghosts, boxed, LinkMachine}
+use Rattle.link_c.proofs.Prelude.{◌≡◌, ℕ, List, [], ◌∷◌, refl, sym, ap, ◌∙◌, IsSome, proved, Ura, ent, sep, id⊢, fst∗, never, GName, Fml, ftrue, fsep, flft, named, Val, vptr, fact, tables, Logic, sem, ‵, raw, ◌⊛◌, some, later, at_ret, ◌$◌, ◌∵◌, !, qed, done, move, keep, use1, split, split3, join, fsplit, fsplit3, fjoin, fpack, fpick, pick, await, rewrite, suffices, frame, group, enter, of_opd, addr, load, stop, fld, first, blocks, exec, alloc_all, pass_all, free_all, look_at, get, through, sets, sets_last, env, whole, sub, look_in, cell_at, part_at, mem, lone, Ptr, block_ptr, null_ptr, in_a_block, plain, mut_ref_to, nothing, opens, peeks, heard, Struct, Stays, walk_of, says, stay_dropped, Goes-spent_ref, ends_at, Global, ghosts, boxed, LinkMachine}
 use Rattle.std.proofs.VecSteps.Shapes.{after}
 use base.Fraction.{full_share}
 use mir.Raw.{raw as bare}
 use types.Run.{returns}
 use denote.Follow.{follows, Part, lends_Part}
 use denote.Laws.{shows}
+use denote.Memory.{part_of}
 use denote.Ref.{MutRef, mut_vals, mut_Tells}
 use denote.Exit.{no}
 use denote.Struct.Owning.{shape}
