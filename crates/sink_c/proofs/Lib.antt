@@ -4,4 +4,3 @@ mod Handing
 mod Kept
 mod Lengths
 mod NoFault
-mod Ranges
