@@ -59,12 +59,13 @@ class Frame(typing.NamedTuple):
     calls: frozenset[str]
 
 
+OUTSIDE = ('memcpy', 'memmove', 'memset', 'rattle_alloc', 'rattle_realloc', 'rattle_dealloc')
 MEMBER = re.compile(r'\S+: +file format \S+')
 FUNCTION = re.compile(r'[0-9a-f]+ <(.+)>:')
 TAKEN = re.compile(r'\tsub +\$0x([0-9a-f]+),%rsp')
 ALIGNED = re.compile(r'\tand +\$0xf+([0-9a-f]0),%rsp')
 GOES = re.compile(r'\t(call|j\w+) +')
-TO = re.compile(r'R_X86_64_(?:PLT32|PC32)\s+(\S+?)(?:[+-]0x[0-9a-f]+)?$|\t(?:call|j\w+) +[0-9a-f]+ <([^+>]+)>$')
+TO = re.compile(r'R_X86_64_(?:PLT32|PC32)\s+(?:\.text\.(?:unlikely\.)?)?(.+)-0x4$|\t(?:call|j\w+) +[0-9a-f]+ <([^+]+)>$')
 
 
 def frames(archive: str) -> list[dict[str, Frame]]:
@@ -115,7 +116,7 @@ def deepest(name: str, member: dict[str, Frame], above: tuple[str, ...] = ()) ->
     """The most octets of stack under a function; what the member calls from outside takes none."""
     if name in above:
         raise ValueError(f'{name} calls itself, so nothing bounds its stack')
-    it = member.get(name, Frame(0, frozenset()))
+    it = member[name] if name not in OUTSIDE else Frame(0, frozenset())
     return it.size + max((deepest(to, member, (*above, name)) for to in it.calls), default=0)
 
 
@@ -124,7 +125,8 @@ def measured_stack(room: str, archive: str, calls: list[str]) -> dict[str, int]:
     with open(os.path.join(room, 'calls.h'), 'w', encoding='ascii') as file:
         file.writelines(f'CALL({number}, {name})\n' for number, name in enumerate(calls))
     own = [f'{C}/tests/measure_stack.{kind}' for kind in ('S', 'c')] + [f'{C}/memory_counted.c', archive]
-    flags = ['-O2', f'-I{C}', f'-I{room}', *(f'-Wl,--wrap={name}' for name in calls)]
+    # the loader finds no name during a call, which would take stack of its own
+    flags = ['-O2', '-Wl,-z,now', f'-I{C}', f'-I{room}', *(f'-Wl,--wrap={name}' for name in calls)]
     runs: list[tuple[list[str], bytes]] = []
     play, tapes = os.path.join(room, 'play'), os.path.join(room, 'tapes')
     subprocess.run(['cc', *flags, '-o', play, *c_builds.PLAYER, *own], check=True)

@@ -101,18 +101,19 @@ def compilers(*names: str) -> list[str]:
 
 
 @step(seconds=900, needs=('cc',), wants=('clang', 'cxx', 'cargo', 'cmake', 'aarch64'))
-def check(replay: str, archives: str = '', draws: int = 1000, seconds: int = 120, emulated: int = 300) -> Faults:
+def check(replay: str, archives: str = '', draws: int = 1000, seconds: int = 120, emulated: int = 0) -> Faults:
     """libvicemint.a builds and calls six symbols. vicemint.h has the exports of the crates, and C++ and Rust have all of it. The player in
     C, built by each compiler under sanitizers, writes for the scenarios of the corpus and for drawn ones what replay writes, octet for
     octet; each stream that a sink is on is played beside it by vm_stream_*, and hands up what the sink does. Where a call for memory fails,
     the call that says so goes on when it is made again. A fuzzer finds nothing in some seconds of random calls. The example, its likes in
     C++ and Rust, over CMake and pkg-config, and the commands of docs/using-from-c.md run. Some of the scenarios, --emulated of them, and
-    the example are played on an emulated aarch64 too, for which the crates are proved and built once more. --archives names a folder with
-    the static libraries of the crates."""
+    the example are played on an emulated aarch64 too. --archives names a folder with the static libraries of the crates, which has those
+    for aarch64 in its folder `aarch64`."""
     yield from c_prototypes.differences()
     yield from c_bindings.differences()
     with tempfile.TemporaryDirectory() as room:
         try:
+            archives = archives or c_builds.archives_in(room, emulated > 0 and c_cross.is_there())
             library = c_builds.library(room, archives)
             players = [library.player(name) for name in compilers('gcc', 'clang') or ['cc']]
         except c_builds.Broken as broken:
@@ -127,7 +128,7 @@ def check(replay: str, archives: str = '', draws: int = 1000, seconds: int = 120
             yield from found
         yield from over(library)
         yield from c_document.differences(library)
-        on_other = logs[-emulated:] if emulated and c_cross.is_there() else []
+        on_other = logs[-emulated:] if emulated and c_cross.is_there(archives) else []
         yield from played_elsewhere(room, archives, on_other)
         fuzzed = 'no fuzzer'
         if shutil.which('clang'):

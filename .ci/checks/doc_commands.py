@@ -20,7 +20,7 @@ BY_HAND = {
     '.ci/run': 'it runs the gate for more than an hour, or a step of it, as this is one',
     './prove': 'it proves everything below the programs, for some twenty minutes',
     'c/build.sh': 'it proves and builds the library for C; the step `c_library` does, and runs the example',
-    'tools/archives.py --target': 'it proves the library once more; the step `c_library` does the same, and runs the example',
+    'tools/archives.py --aarch64': 'it proves the library; the step `c_library` does, and runs the example on aarch64',
     'cc -std=c99 -Ic -o first': 'it needs that library; the step `c_library` runs it over what it built',
     'python3 bench/c_sizes.py': 'it needs the library for C, which is proved and built first',
     'python3 bench/run.py': 'it measures for some minutes, and each machine has figures of its own',

@@ -106,12 +106,18 @@ class Library(typing.NamedTuple):
 
 
 def library(room: str, archives: str) -> Library:
-    """The library as c/build.sh makes it of archives that are there, or of those of the crates, and runs the example. Where `rt ci` has just
-    proved the crates below, they are taken as they were built."""
+    """The library as c/build.sh makes it of archives, and runs the example."""
     folder = os.path.join(room, 'library')
-    lower = [name for name in in_order(listed()[0], *static.CRATES) if name not in static.CRATES]
-    if not archives and all(os.path.isdir(f'{TOP}/crates/{name}/out/rlib/{name}.rlib') for name in lower):
-        archives = os.path.join(room, 'archives')
-        done([os.path.join(TOP, 'tools', 'archives.py'), '--built', archives], LIMIT)
-    done([os.path.join(C, 'build.sh'), folder, *([archives] if archives else [])], LIMIT)
+    done([os.path.join(C, 'build.sh'), folder, archives], LIMIT)
     return Library(folder, room)
+
+
+def archives_in(room: str, is_for_both: bool) -> str:
+    """A folder with the static libraries of the crates, for aarch64 too where that is asked for. Where `rt ci` has just proved the crates
+    below, they are taken as they were built."""
+    folder = os.path.join(room, 'archives')
+    lower = [name for name in in_order(listed()[0], *static.CRATES) if name not in static.CRATES]
+    are_built = all(os.path.isdir(f'{TOP}/crates/{name}/out/rlib/{name}.rlib') for name in lower)
+    options = [*(['--built'] if are_built else []), *(['--aarch64'] if is_for_both else [])]
+    done([os.path.join(TOP, 'tools', 'archives.py'), *options, folder], LIMIT)
+    return folder

@@ -2,30 +2,26 @@
 import os
 import shutil
 
-from checks import TOP
 from checks.parts import c_builds
 from checks.parts.files import write
 
-AARCH64 = 'aarch64-unknown-linux-gnu'
 PREFIX, RUNNER = 'aarch64-linux-gnu-', 'qemu-aarch64'
 TOOLS = {'CC': 'gcc', 'AR': 'ar', 'RANLIB': 'ranlib', 'NM': 'nm'}
 FLAGS = ['-std=c99', '-O2', '-static', f'-I{c_builds.C}', f'-DVM_BLOCK={c_builds.BLOCK}']
 
 
-def is_there() -> bool:
-    return all(map(shutil.which, (f'{PREFIX}gcc', RUNNER)))
+def is_there(archives: str = '') -> bool:
+    """Whether the tools are there, and the folder of archives has some for that processor."""
+    return all(map(shutil.which, (f'{PREFIX}gcc', RUNNER))) and (not archives or os.path.isdir(os.path.join(archives, 'aarch64')))
 
 
 def library(room: str, archives: str) -> str:
-    """The library for that processor, as c/build.sh makes it, which runs the example there. Where the folder of archives has none in its
-    folder `aarch64`, the crates are proved once more, over those below them as they were built."""
-    own = os.path.join(archives, 'aarch64') if archives else ''
-    if not os.path.isdir(own):
-        own = os.path.join(room, 'aarch64_archives')
-        c_builds.done([os.path.join(TOP, 'tools', 'archives.py'), '--built', '--target', AARCH64, own], c_builds.LIMIT)
+    """The library for that processor, as c/build.sh makes it, which runs the example there, of the archives in the folder `aarch64` of those
+    for this one."""
     folder = os.path.join(room, 'aarch64')
     named = {name: PREFIX + tool for name, tool in TOOLS.items()}
-    c_builds.done([os.path.join(c_builds.C, 'build.sh'), folder, own], c_builds.LIMIT, **named, CFLAGS='-static', RUN=RUNNER)
+    words = [os.path.join(c_builds.C, 'build.sh'), folder, os.path.join(archives, 'aarch64')]
+    c_builds.done(words, c_builds.LIMIT, **named, CFLAGS='-static', RUN=RUNNER)
     return os.path.join(folder, 'libvicemint.a')
 
 
