@@ -1,6 +1,6 @@
 // The layouts and the stream of vicemint.hpp: what is written is read again, each reader names its fault, and one stream alone hands up what a
 // source was given.
-#include "vicemint.hpp"
+#include "group.hpp"
 #include <cstdio>
 
 namespace layouts = vicemint::layouts;
@@ -9,20 +9,8 @@ using vicemint::Status;
 
 namespace {
 
-constexpr std::uint8_t BASE[] = { 0x40, 0x9c, 0, 1, 1, 6, 0, 0, 0, 0, 10, 2, 1, 8, 2, 2, 1, 3, 4, 100, 0, 4, 3, 2, 4, 0, 1, 0 };
 constexpr vm_identity_t IDENTITY = { 0, { 1, 2, 3, 4, 5, 6 }, 3, { 7, 8, 9 } };
 constexpr std::uint8_t RECORDS[] = { 1, 6, 0, 0, 0, 0, 13, 3, 1, 0x80, 0, 2, 2, 2, 5, 4, 100, 0, 100, 0, 0 };
-
-air_big_info_t group()
-{
-    air_big_info_t it{};
-    it.iso_interval = 8;
-    it.num_bis = it.bn = it.irc = it.nse = 1;
-    it.sdu_interval = 10000;
-    it.max_sdu = it.max_pdu = 100;
-    it.phy = 1;
-    return it;
-}
 
 bool groups()
 {
