@@ -1,4 +1,5 @@
-//! The lines that each scenario needs, behind their first words.
+//! The lines that each scenario needs, behind their first words. Misfit and BadLine have the number of the
+//! first word that doesn't fit its place or is missing. Memory is wanted only where a word spells octets.
 ghost use Rattle.std.specs.Prelude.{◌≡◌, ◌≤◌, true, Err};
 ghost use Rattle.scenario_words.specs.declared.fault.LineFault.TheVariants.{Memory as NoMemory};
 ghost use Rattle.scenario_words.specs.Reading.{GivesNext, ReadsNext};
@@ -12,6 +13,7 @@ use scenario_text::Step;
 use scenario_words::{Cursor, LineFault, Misfit};
 use std::alloc::Global;
 
+/// `scenario VERSION`: 1 or 2. Else Misfit.
 pub fn scenario(words: &mut Cursor<'_>) -> Result<Step, Misfit>
     ensures { ReadsNext (λ step. step) result words.new (at_row scenario_row words.old) }
 {
@@ -19,6 +21,7 @@ pub fn scenario(words: &mut Cursor<'_>) -> Result<Step, Misfit>
     Ok(Step::Scenario { version })
 }
 
+/// `group`: the framing, times in µs, and the numbers of the BIGInfo. Else Misfit.
 pub fn group(words: &mut Cursor<'_>) -> Result<Step, Misfit>
     ensures { ReadsNext (λ step. step) result words.new (at_row group_row words.old) }
 {
@@ -41,6 +44,7 @@ pub fn group(words: &mut Cursor<'_>) -> Result<Step, Misfit>
     })
 }
 
+/// `start EVENT`: the first event of the source. Else Misfit.
 pub fn start(words: &mut Cursor<'_>) -> Result<Step, Misfit>
     ensures { ReadsNext (λ step. step) result words.new (at_row start_row words.old) }
 {
@@ -56,6 +60,7 @@ fn most_slots(version: u8) -> u8
     if version == 2 { 8 } else { 4 }
 }
 
+/// `sink N STREAMS SLOTS MTU`: up to 4 slots in version 1 and 8 in version 2, and an ATT_MTU in octets or none. Else Misfit.
 pub fn sink(version: u8, words: &mut Cursor<'_>) -> Result<Step, Misfit>
     ensures { ReadsNext (λ step. step) result words.new (at_row (sink_row version) words.old) }
 {
@@ -67,6 +72,7 @@ pub fn sink(version: u8, words: &mut Cursor<'_>) -> Result<Step, Misfit>
     })
 }
 
+/// `tuned N B ..`: the sink is synchronized to these streams, by rising index. Else Misfit.
 pub fn tuned(words: &mut Cursor<'_>) -> Result<Step, Misfit>
     ensures { ReadsNext (λ step. step) result words.new (at_row tuned_row words.old) }
 {
@@ -76,6 +82,7 @@ pub fn tuned(words: &mut Cursor<'_>) -> Result<Step, Misfit>
     })
 }
 
+/// `unit B TIME OCTETS`: a time in µs or none, and at most 4,095 octets, read into `spare`. Else BadLine, or Memory.
 #[tactic(auto, using(crate::proofs::Taking::next_spells, crate::proofs::Taking::some_left))]
 pub fn unit(alloc: Global, spare: &mut Octets, words: &mut Cursor<'_>) -> Result<Step, LineFault>
     ensures gives { GivesNext (λ step. step) result words.new (at_row unit_row words.old) }
@@ -88,6 +95,7 @@ pub fn unit(alloc: Global, spare: &mut Octets, words: &mut Cursor<'_>) -> Result
     })
 }
 
+/// `hear N BACK B SUBEVENT`: the sink hears the PDU at this place. Else Misfit.
 pub fn hear(words: &mut Cursor<'_>) -> Result<Step, Misfit>
     ensures { ReadsNext (λ step. step) result words.new (at_row hear_row words.old) }
 {
@@ -99,6 +107,7 @@ pub fn hear(words: &mut Cursor<'_>) -> Result<Step, Misfit>
     })
 }
 
+/// `air N LOSE`: the sink hears all PDUs of the last event but the lost ones. Else Misfit.
 pub fn air(words: &mut Cursor<'_>) -> Result<Step, Misfit>
     ensures { ReadsNext (λ step. step) result words.new (at_row air_row words.old) }
 {
@@ -108,6 +117,7 @@ pub fn air(words: &mut Cursor<'_>) -> Result<Step, Misfit>
     })
 }
 
+/// `inject N BACK B SUBEVENT OCTETS`: the sink hears at most 300 octets at this place. Else BadLine, or Memory.
 #[tactic(auto, using(crate::proofs::Taking::next_spells, crate::proofs::Taking::some_left))]
 pub fn inject(alloc: Global, words: &mut Cursor<'_>) -> Result<Step, LineFault>
     ensures gives { GivesNext (λ step. step) result words.new (at_row inject_row words.old) }
@@ -122,6 +132,7 @@ pub fn inject(alloc: Global, words: &mut Cursor<'_>) -> Result<Step, LineFault>
     })
 }
 
+/// `sniff BACK B SUBEVENT`: the PDU at this place is shown. Else Misfit.
 pub fn sniff(words: &mut Cursor<'_>) -> Result<Step, Misfit>
     ensures { ReadsNext (λ step. step) result words.new (at_row sniff_row words.old) }
 {
@@ -132,6 +143,7 @@ pub fn sniff(words: &mut Cursor<'_>) -> Result<Step, Misfit>
     })
 }
 
+/// `drop N`: the sink ends. Else Misfit.
 pub fn drop_sink(words: &mut Cursor<'_>) -> Result<Step, Misfit>
     ensures { ReadsNext (λ step. step) result words.new (at_row drop_row words.old) }
 {

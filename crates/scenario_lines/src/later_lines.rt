@@ -1,4 +1,5 @@
-//! The lines of version 2 alone, behind their first words.
+//! The lines of version 2 alone, behind their first words. Misfit and BadLine have the number of the
+//! first word that doesn't fit its place or is missing. Memory is wanted only where a word spells octets.
 ghost use Rattle.std.specs.Prelude.{◌≡◌, true, Err};
 ghost use Rattle.scenario_words.specs.declared.fault.LineFault.TheVariants.{Memory as NoMemory};
 ghost use Rattle.scenario_words.specs.Reading.{GivesNext, ReadsNext};
@@ -11,6 +12,7 @@ use scenario_text::Step;
 use scenario_words::{Cursor, LineFault, Misfit};
 use std::alloc::Global;
 
+/// `assist N L`: an assistant joins the link. Else Misfit.
 pub fn assist(words: &mut Cursor<'_>) -> Result<Step, Misfit>
     ensures { ReadsNext (λ step. step) result words.new (at_row assist_row words.old) }
 {
@@ -20,6 +22,7 @@ pub fn assist(words: &mut Cursor<'_>) -> Result<Step, Misfit>
     })
 }
 
+/// `apart N L`: the assistant leaves the link, 1 to 3. Else Misfit.
 pub fn apart(words: &mut Cursor<'_>) -> Result<Step, Misfit>
     ensures { ReadsNext (λ step. step) result words.new (at_row apart_row words.old) }
 {
@@ -29,6 +32,7 @@ pub fn apart(words: &mut Cursor<'_>) -> Result<Step, Misfit>
     })
 }
 
+/// `awrite N L OCTETS`: at most 512 octets wait as the last write of the link. Else BadLine, or Memory.
 #[tactic(auto, using(crate::proofs::Taking::next_spells, crate::proofs::Taking::some_left))]
 pub fn awrite(alloc: Global, words: &mut Cursor<'_>) -> Result<Step, LineFault>
     ensures gives { GivesNext (λ step. step) result words.new (at_row awrite_row words.old) }
@@ -41,6 +45,7 @@ pub fn awrite(alloc: Global, words: &mut Cursor<'_>) -> Result<Step, LineFault>
     })
 }
 
+/// `aserve N L`: the first write that waits on the link is served. Else Misfit.
 pub fn aserve(words: &mut Cursor<'_>) -> Result<Step, Misfit>
     ensures { ReadsNext (λ step. step) result words.new (at_row aserve_row words.old) }
 {
@@ -50,6 +55,7 @@ pub fn aserve(words: &mut Cursor<'_>) -> Result<Step, Misfit>
     })
 }
 
+/// `atell N L`: the first notice that waits on the link is delivered. Else Misfit.
 pub fn atell(words: &mut Cursor<'_>) -> Result<Step, Misfit>
     ensures { ReadsNext (λ step. step) result words.new (at_row atell_row words.old) }
 {
@@ -59,6 +65,7 @@ pub fn atell(words: &mut Cursor<'_>) -> Result<Step, Misfit>
     })
 }
 
+/// `aread N L`: the first read that waits on the link is answered. Else Misfit.
 pub fn aread(words: &mut Cursor<'_>) -> Result<Step, Misfit>
     ensures { ReadsNext (λ step. step) result words.new (at_row aread_row words.old) }
 {
@@ -68,6 +75,7 @@ pub fn aread(words: &mut Cursor<'_>) -> Result<Step, Misfit>
     })
 }
 
+/// `adrain N L`: all writes, notices and reads of the link are served. Else Misfit.
 pub fn adrain(words: &mut Cursor<'_>) -> Result<Step, Misfit>
     ensures { ReadsNext (λ step. step) result words.new (at_row adrain_row words.old) }
 {
@@ -77,6 +85,7 @@ pub fn adrain(words: &mut Cursor<'_>) -> Result<Step, Misfit>
     })
 }
 
+/// `ashow N L`: the views of the link's assistant are shown. Else Misfit.
 pub fn ashow(words: &mut Cursor<'_>) -> Result<Step, Misfit>
     ensures { ReadsNext (λ step. step) result words.new (at_row ashow_row words.old) }
 {
@@ -86,6 +95,7 @@ pub fn ashow(words: &mut Cursor<'_>) -> Result<Step, Misfit>
     })
 }
 
+/// `source S`: the source, 0 or 1, that later lines mean. Else Misfit.
 pub fn source(words: &mut Cursor<'_>) -> Result<Step, Misfit>
     ensures { ReadsNext (λ step. step) result words.new (at_row source_row words.old) }
 {
@@ -93,6 +103,7 @@ pub fn source(words: &mut Cursor<'_>) -> Result<Step, Misfit>
     Ok(Step::Source { source })
 }
 
+/// `relay N B TO`: the sink hands the units of stream B on to stream TO of source 1. Else Misfit.
 pub fn relay(words: &mut Cursor<'_>) -> Result<Step, Misfit>
     ensures { ReadsNext (λ step. step) result words.new (at_row relay_row words.old) }
 {

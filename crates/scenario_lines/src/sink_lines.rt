@@ -1,4 +1,5 @@
-//! The lines of a sink and of its first link, behind their first words.
+//! The lines of a sink and of its first link, behind their first words. Misfit and BadLine have the number of the
+//! first word that doesn't fit its place or is missing. Memory is wanted only where a word spells octets or begins a pair.
 ghost use Rattle.std.specs.Prelude.{◌≡◌, true, Err};
 ghost use Rattle.scenario_words.specs.declared.fault.LineFault.TheVariants.{Memory as NoMemory};
 ghost use Rattle.scenario_words.specs.Reading.{GivesNext, ReadsNext};
@@ -13,6 +14,7 @@ use scenario_text::{BEFORE_ADD, BEFORE_MODIFY, MOST_OF_OPERATION, Step};
 use scenario_words::{Cursor, LineFault, Misfit};
 use std::alloc::Global;
 
+/// `pac N CODEC CAPS META`: a PAC record, with two LTV lists of at most 255 octets. Else BadLine, or Memory.
 #[tactic(auto, using(crate::proofs::Taking::next_spells, crate::proofs::Taking::some_left))]
 pub fn pac(alloc: Global, words: &mut Cursor<'_>) -> Result<Step, LineFault>
     ensures gives { GivesNext (λ step. step) result words.new (at_row pac_row words.old) }
@@ -26,6 +28,7 @@ pub fn pac(alloc: Global, words: &mut Cursor<'_>) -> Result<Step, LineFault>
     })
 }
 
+/// `locate N BITS`: the locations of the sink. Else Misfit.
 pub fn locate(words: &mut Cursor<'_>) -> Result<Step, Misfit>
     ensures { ReadsNext (λ step. step) result words.new (at_row locate_row words.old) }
 {
@@ -35,6 +38,7 @@ pub fn locate(words: &mut Cursor<'_>) -> Result<Step, Misfit>
     })
 }
 
+/// `context N SINK SOURCE`: the audio contexts of the sink. Else Misfit.
 pub fn context(words: &mut Cursor<'_>) -> Result<Step, Misfit>
     ensures { ReadsNext (λ step. step) result words.new (at_row context_row words.old) }
 {
@@ -45,6 +49,7 @@ pub fn context(words: &mut Cursor<'_>) -> Result<Step, Misfit>
     })
 }
 
+/// `write N OCTETS`: at most 512 octets wait as the last write of link 0. Else BadLine, or Memory.
 #[tactic(auto, using(crate::proofs::Taking::next_spells, crate::proofs::Taking::some_left))]
 pub fn write(alloc: Global, words: &mut Cursor<'_>) -> Result<Step, LineFault>
     ensures gives { GivesNext (λ step. step) result words.new (at_row write_row words.old) }
@@ -56,6 +61,7 @@ pub fn write(alloc: Global, words: &mut Cursor<'_>) -> Result<Step, LineFault>
     })
 }
 
+/// `add`: an Add Source waits as the last write of link 0, with at most 512 octets. Else BadLine, or Memory.
 #[tactic(auto, using(crate::proofs::Taking::next_spells, crate::proofs::Taking::some_left))]
 pub fn add(alloc: Global, words: &mut Cursor<'_>) -> Result<Step, LineFault>
     ensures gives { GivesNext (λ step. step) result words.new (at_row add_row words.old) }
@@ -74,6 +80,7 @@ pub fn add(alloc: Global, words: &mut Cursor<'_>) -> Result<Step, LineFault>
     Ok(Step::Add { sink, op })
 }
 
+/// `modify`: a Modify Source waits as the last write of link 0, with at most 512 octets. Else BadLine, or Memory.
 #[tactic(auto, using(crate::proofs::Taking::next_spells, crate::proofs::Taking::some_left))]
 pub fn modify(alloc: Global, words: &mut Cursor<'_>) -> Result<Step, LineFault>
     ensures gives { GivesNext (λ step. step) result words.new (at_row modify_row words.old) }
@@ -89,6 +96,7 @@ pub fn modify(alloc: Global, words: &mut Cursor<'_>) -> Result<Step, LineFault>
     Ok(Step::Modify { sink, op })
 }
 
+/// `remove N ID`: a Remove Source waits as the last write of link 0. Else Misfit.
 pub fn remove(words: &mut Cursor<'_>) -> Result<Step, Misfit>
     ensures { ReadsNext (λ step. step) result words.new (at_row remove_row words.old) }
 {
@@ -98,6 +106,7 @@ pub fn remove(words: &mut Cursor<'_>) -> Result<Step, Misfit>
     })
 }
 
+/// `code N ID CODE`: a Set Broadcast_Code waits as the last write of link 0. Else Misfit.
 pub fn code(words: &mut Cursor<'_>) -> Result<Step, Misfit>
     ensures { ReadsNext (λ step. step) result words.new (at_row code_row words.old) }
 {
@@ -108,6 +117,7 @@ pub fn code(words: &mut Cursor<'_>) -> Result<Step, Misfit>
     })
 }
 
+/// `serve N`: the first write that waits on link 0 is served. Else Misfit.
 pub fn serve(words: &mut Cursor<'_>) -> Result<Step, Misfit>
     ensures { ReadsNext (λ step. step) result words.new (at_row serve_row words.old) }
 {
@@ -115,6 +125,7 @@ pub fn serve(words: &mut Cursor<'_>) -> Result<Step, Misfit>
     Ok(Step::Serve { sink })
 }
 
+/// `tell N`: the first notice that waits on link 0 is delivered. Else Misfit.
 pub fn tell(words: &mut Cursor<'_>) -> Result<Step, Misfit>
     ensures { ReadsNext (λ step. step) result words.new (at_row tell_row words.old) }
 {
@@ -122,6 +133,7 @@ pub fn tell(words: &mut Cursor<'_>) -> Result<Step, Misfit>
     Ok(Step::Tell { sink })
 }
 
+/// `read N`: the first read that waits on link 0 is answered. Else Misfit.
 pub fn read(words: &mut Cursor<'_>) -> Result<Step, Misfit>
     ensures { ReadsNext (λ step. step) result words.new (at_row read_row words.old) }
 {
@@ -129,6 +141,7 @@ pub fn read(words: &mut Cursor<'_>) -> Result<Step, Misfit>
     Ok(Step::Read { sink })
 }
 
+/// `drain N`: all writes, notices and reads of link 0 are served. Else Misfit.
 pub fn drain(words: &mut Cursor<'_>) -> Result<Step, Misfit>
     ensures { ReadsNext (λ step. step) result words.new (at_row drain_row words.old) }
 {
@@ -136,6 +149,7 @@ pub fn drain(words: &mut Cursor<'_>) -> Result<Step, Misfit>
     Ok(Step::Drain { sink })
 }
 
+/// `show N`: the receive states of the sink and the views of link 0 are shown. Else Misfit.
 pub fn show(words: &mut Cursor<'_>) -> Result<Step, Misfit>
     ensures { ReadsNext (λ step. step) result words.new (at_row show_row words.old) }
 {
@@ -143,6 +157,7 @@ pub fn show(words: &mut Cursor<'_>) -> Result<Step, Misfit>
     Ok(Step::Show { sink })
 }
 
+/// `lose N`: the sink loses its train. Else Misfit.
 pub fn lose(words: &mut Cursor<'_>) -> Result<Step, Misfit>
     ensures { ReadsNext (λ step. step) result words.new (at_row lose_row words.old) }
 {
@@ -150,6 +165,7 @@ pub fn lose(words: &mut Cursor<'_>) -> Result<Step, Misfit>
     Ok(Step::Lose { sink })
 }
 
+/// `control N OCTETS`: the sink hears at most 300 octets as a control PDU. Else BadLine, or Memory.
 #[tactic(auto, using(crate::proofs::Taking::next_spells, crate::proofs::Taking::some_left))]
 pub fn control(alloc: Global, words: &mut Cursor<'_>) -> Result<Step, LineFault>
     ensures gives { GivesNext (λ step. step) result words.new (at_row control_row words.old) }
@@ -161,6 +177,7 @@ pub fn control(alloc: Global, words: &mut Cursor<'_>) -> Result<Step, LineFault>
     })
 }
 
+/// `forge N SLOT OCTETS`: link 0 gets a notice of at most 1,024 octets that the sink didn't send. Else BadLine, or Memory.
 #[tactic(auto, using(crate::proofs::Taking::next_spells, crate::proofs::Taking::some_left))]
 pub fn forge(alloc: Global, words: &mut Cursor<'_>) -> Result<Step, LineFault>
     ensures gives { GivesNext (λ step. step) result words.new (at_row forge_row words.old) }

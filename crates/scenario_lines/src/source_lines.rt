@@ -1,4 +1,5 @@
-//! The lines of a source, behind their first words.
+//! The lines of a source, behind their first words. Misfit and BadLine have the number of the
+//! first word that doesn't fit its place or is missing. Memory is wanted only where a word spells octets.
 ghost use Rattle.std.specs.Prelude.{◌≡◌, true, Err};
 ghost use Rattle.scenario_words.specs.declared.fault.LineFault.TheVariants.{Memory as NoMemory};
 ghost use Rattle.scenario_words.specs.Reading.{GivesNext, ReadsNext};
@@ -10,6 +11,7 @@ use scenario_text::Step;
 use scenario_words::{Cursor, LineFault, Misfit};
 use std::alloc::Global;
 
+/// `ident TYPE ADDRESS SID BROADCAST_ID`: who the source is. Else Misfit.
 pub fn ident(words: &mut Cursor<'_>) -> Result<Step, Misfit>
     ensures { ReadsNext (λ step. step) result words.new (at_row ident_row words.old) }
 {
@@ -21,6 +23,7 @@ pub fn ident(words: &mut Cursor<'_>) -> Result<Step, Misfit>
     })
 }
 
+/// `subgroup CODEC CONFIG`: a new subgroup, with an LTV list of at most 255 octets. Else BadLine, or Memory.
 #[tactic(auto, using(crate::proofs::Taking::next_spells, crate::proofs::Taking::some_left))]
 pub fn subgroup(alloc: Global, words: &mut Cursor<'_>) -> Result<Step, LineFault>
     ensures gives { GivesNext (λ step. step) result words.new (at_row subgroup_row words.old) }
@@ -32,6 +35,7 @@ pub fn subgroup(alloc: Global, words: &mut Cursor<'_>) -> Result<Step, LineFault
     })
 }
 
+/// `meta META`: the metadata of the last subgroup, an LTV list of at most 255 octets. Else BadLine, or Memory.
 #[tactic(auto, using(crate::proofs::Taking::next_spells, crate::proofs::Taking::some_left))]
 pub fn meta(alloc: Global, words: &mut Cursor<'_>) -> Result<Step, LineFault>
     ensures gives { GivesNext (λ step. step) result words.new (at_row meta_row words.old) }
@@ -41,6 +45,7 @@ pub fn meta(alloc: Global, words: &mut Cursor<'_>) -> Result<Step, LineFault>
     Ok(Step::Meta { metadata })
 }
 
+/// `bis B CONFIG`: a stream of the last subgroup, with an LTV list of at most 255 octets. Else BadLine, or Memory.
 #[tactic(auto, using(crate::proofs::Taking::next_spells, crate::proofs::Taking::some_left))]
 pub fn bis(alloc: Global, words: &mut Cursor<'_>) -> Result<Step, LineFault>
     ensures gives { GivesNext (λ step. step) result words.new (at_row bis_row words.old) }
@@ -52,6 +57,7 @@ pub fn bis(alloc: Global, words: &mut Cursor<'_>) -> Result<Step, LineFault>
     })
 }
 
+/// `cipher GIV GSKD`: the source is encrypted. Else Misfit.
 pub fn cipher(words: &mut Cursor<'_>) -> Result<Step, Misfit>
     ensures { ReadsNext (λ step. step) result words.new (at_row cipher_row words.old) }
 {
@@ -61,6 +67,7 @@ pub fn cipher(words: &mut Cursor<'_>) -> Result<Step, Misfit>
     })
 }
 
+/// `announce N`: the sink hears the announcement of the source. Else Misfit.
 pub fn announce(words: &mut Cursor<'_>) -> Result<Step, Misfit>
     ensures { ReadsNext (λ step. step) result words.new (at_row announce_row words.old) }
 {
@@ -68,6 +75,7 @@ pub fn announce(words: &mut Cursor<'_>) -> Result<Step, Misfit>
     Ok(Step::Announce { sink })
 }
 
+/// `train N TIME EXT ADV ACAD`: the sink hears at most 255, 1,650 and 255 octets at this time in µs. Else BadLine, or Memory.
 #[tactic(auto, using(crate::proofs::Taking::next_spells, crate::proofs::Taking::some_left))]
 pub fn train(alloc: Global, words: &mut Cursor<'_>) -> Result<Step, LineFault>
     ensures gives { GivesNext (λ step. step) result words.new (at_row train_row words.old) }
@@ -82,6 +90,7 @@ pub fn train(alloc: Global, words: &mut Cursor<'_>) -> Result<Step, LineFault>
     })
 }
 
+/// `terminate REASON`: the source ends with a control PDU. Else Misfit.
 pub fn terminate(words: &mut Cursor<'_>) -> Result<Step, Misfit>
     ensures { ReadsNext (λ step. step) result words.new (at_row terminate_row words.old) }
 {
