@@ -20,7 +20,6 @@ basic_audio_announcement = 0x1851
 abbrev pub big_info_type : ℕ
 big_info_type = 0x2c
 
--- Service Data of a 16-bit UUID
 abbrev pub service_ad : ℕ → List ℕ → Ltv
 service_ad uuid content = record { kind = service_data_type; value = number 2 uuid ++ content }
 

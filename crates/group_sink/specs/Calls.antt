@@ -13,6 +13,5 @@ pub data Call : Type 0 where
 abbrev pub place : List Call → Option BigSync
 place [] = None
 place (tune big_sync ∷ calls) = Some big_sync
-place (hear event bis subevent octets ∷ calls) = place calls
-place (tick event ∷ calls) = place calls
 place (leave ∷ calls) = None
+place (_ ∷ calls) = place calls

@@ -11,7 +11,6 @@ use Rattle.group_sink.specs.Calls.{Call, tune, hear, tick, leave, place}
 use Rattle.sync_reference.specs.BigSync.{BigSync}
 use Rattle.group_sink.specs.Streams.{stay_on, stream_calls, streams_of}
 
--- what the next close of a stream hands: unframed, the units of the open event; framed, those that it decides
 abbrev pub units_at_close : Stay → List stays.Call → List Handed
 units_at_close stay calls = if stay.info.framing == 0 then units_of stay calls (opened stay calls) else gained stay calls
 

@@ -7,7 +7,7 @@ use Rattle.big_info.specs.declared.info.BigInfo.{BigInfo}
 use Rattle.radio_schedule.specs.PayloadNumber.{payload_number}
 use Rattle.isoal_base.specs.Stays as stays
 use Rattle.isoal_base.specs.Stays.{Stay, opened}
-use Rattle.group_sink.specs.Calls.{Call, tune, hear, tick, leave}
+use Rattle.group_sink.specs.Calls.{Call, hear, tick}
 use Rattle.sync_reference.specs.BigSync.{BigSync}
 
 abbrev pub is_in : ℕ → ℕ → Bool
@@ -33,18 +33,14 @@ with_tick stay event calls = if nat_le (opened stay calls) event then stays.clos
 
 -- what a stream took since the sink was synchronized to the BIG, or left it
 abbrev pub stream_calls : Stay → List Call → List stays.Call
-stream_calls stay [] = []
-stream_calls stay (tune big_sync ∷ calls) = []
 stream_calls stay (hear event bis subevent octets ∷ calls) =
     if bis == stay.bis then with_hear (number_of stay.info event subevent) octets (stream_calls stay calls) else stream_calls stay calls
 stream_calls stay (tick event ∷ calls) = with_tick stay event (stream_calls stay calls)
-stream_calls stay (leave ∷ calls) = []
+stream_calls stay _ = []
 
 -- how many events were closed since the last `tune` or `leave`: the ticks that found the open event at most theirs
 abbrev pub closes : BigSync → List Call → ℕ
-closes big_sync [] = 0
-closes big_sync (tune other ∷ calls) = 0
 closes big_sync (hear event bis subevent octets ∷ calls) = closes big_sync calls
 closes big_sync (tick event ∷ calls) =
     if nat_le (big_sync.first + closes big_sync calls) event then closes big_sync calls + 1 else closes big_sync calls
-closes big_sync (leave ∷ calls) = 0
+closes big_sync _ = 0

@@ -22,16 +22,14 @@ ControlFaultIs ControlLength [] = ⊥
 ControlFaultIs ControlLength (opcode ∷ fields) =
     ((opcode ≡ 0) × (length fields ≢ 7)) ⊎ ((opcode ≡ 1) × (length fields ≢ 3))
 
--- the fields of BIG_TERMINATE_IND
 abbrev pub terminate_of : List ℕ → Result Control ControlFault
 terminate_of (reason ∷ low ∷ high ∷ []) = Ok (Terminate reason (low + 256 * high))
 terminate_of _ = Err ControlLength
 
 unfoldable pub control_of : List ℕ → Result Control ControlFault
-control_of [] = Err Opcode
 control_of (zero ∷ fields) = if length fields == 7 then Ok ChannelMap else Err ControlLength
 control_of (suc zero ∷ fields) = terminate_of fields
-control_of (suc (suc _) ∷ fields) = Err Opcode
+control_of _ = Err Opcode
 
 -- the payload of BIG_TERMINATE_IND
 abbrev pub terminate : ℕ → ℕ → List ℕ

@@ -59,7 +59,6 @@ content_at (suc (suc (suc _))) payload = Ok (control payload)
 
 -- what octets are read as, where a payload has at most this many octets
 unfoldable pub read_of : ℕ → List ℕ → Result Content PduFault
-read_of max_pdu [] = Err Short
-read_of max_pdu (header ∷ []) = Err Short
 read_of max_pdu (header ∷ count ∷ payload) =
     if count == length payload then (if nat_lt max_pdu count then Err TooLong else content_at (header % 4) payload) else Err LengthDiffers
+read_of max_pdu _ = Err Short

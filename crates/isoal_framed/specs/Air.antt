@@ -17,9 +17,8 @@ AllCome max_pdu units anchor earlier (act ∷ acts) =
 
 abbrev pub pdus_ended : List Act → ℕ
 pdus_ended [] = 0
-pdus_ended (carries count complete ∷ acts) = pdus_ended acts
-pdus_ended (leaves_out ∷ acts) = pdus_ended acts
 pdus_ended (ends ∷ acts) = suc (pdus_ended acts)
+pdus_ended (_ ∷ acts) = pdus_ended acts
 
 -- the acts of an event, with the end of its last PDU: those of `bn` PDUs
 pub record IsEvent (info : BigInfo) (units : List Timed) (anchor : ℕ) (earlier acts : List Act) : Type 0 where
@@ -37,23 +36,20 @@ time_in (Some unit) = unit.time ∷ []
 
 -- the segments of the PDU that hasn't ended
 abbrev pub open_parts : List Timed → ℕ → List Act → List Act → List Part
-open_parts units anchor earlier [] = []
 open_parts units anchor earlier (carries count complete ∷ acts) = open_parts units anchor earlier acts
     ++ part_of anchor (sent (acts ++ earlier)) (slice_get units (done (acts ++ earlier))) count complete ∷ []
 open_parts units anchor earlier (leaves_out ∷ acts) = open_parts units anchor earlier acts
-open_parts units anchor earlier (ends ∷ acts) = []
+open_parts units anchor earlier _ = []
 
 abbrev pub pdus_of : List Timed → ℕ → List Act → List Act → List (List ℕ)
 pdus_of units anchor earlier [] = []
-pdus_of units anchor earlier (carries count complete ∷ acts) = pdus_of units anchor earlier acts
-pdus_of units anchor earlier (leaves_out ∷ acts) = pdus_of units anchor earlier acts
 pdus_of units anchor earlier (ends ∷ acts) = pdus_of units anchor earlier acts ++ pdu (framed (open_parts units anchor earlier acts)) ∷ []
+pdus_of units anchor earlier (_ ∷ acts) = pdus_of units anchor earlier acts
 
 abbrev pub stale_of : List Timed → List Act → List Act → List ℕ
 stale_of units earlier [] = []
-stale_of units earlier (carries count complete ∷ acts) = stale_of units earlier acts
 stale_of units earlier (leaves_out ∷ acts) = stale_of units earlier acts ++ time_in (slice_get units (done (acts ++ earlier)))
-stale_of units earlier (ends ∷ acts) = stale_of units earlier acts
+stale_of units earlier (_ ∷ acts) = stale_of units earlier acts
 
 abbrev pub event_of : List Timed → ℕ → List Act → List Act → Laid
 event_of units anchor earlier acts = record { pdus = pdus_of units anchor earlier acts; stale = stale_of units earlier acts }

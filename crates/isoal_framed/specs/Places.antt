@@ -14,17 +14,14 @@ pub data Act : Type 0 where
 abbrev pub done : List Act → ℕ
 done [] = 0
 done (carries count true ∷ acts) = done acts + 1
-done (carries count false ∷ acts) = done acts
 done (leaves_out ∷ acts) = done acts + 1
-done (ends ∷ acts) = done acts
+done (_ ∷ acts) = done acts
 
 -- how many octets of the due unit are sent
 abbrev pub sent : List Act → ℕ
-sent [] = 0
-sent (carries count true ∷ acts) = 0
 sent (carries count false ∷ acts) = sent acts + count
-sent (leaves_out ∷ acts) = 0
 sent (ends ∷ acts) = sent acts
+sent _ = 0
 
 -- the octets of a segment before those of its unit: a start has a time offset, a further segment has none
 abbrev pub overhead : ℕ → ℕ
@@ -32,10 +29,9 @@ overhead sent = if sent == 0 then 5 else 2
 
 -- how many octets are left of the PDU
 abbrev pub room : ℕ → List Act → ℕ
-room max_pdu [] = max_pdu
 room max_pdu (carries count complete ∷ acts) = room max_pdu acts - (overhead (sent acts) + count)
 room max_pdu (leaves_out ∷ acts) = room max_pdu acts
-room max_pdu (ends ∷ acts) = max_pdu
+room max_pdu _ = max_pdu
 
 -- a place, in an event with this anchor: the room, the due unit where one was accepted, and how much of it is sent
 pub record Place : Type 0 where
@@ -66,8 +62,7 @@ pub record HasTurn (place : Place) (unit : Timed) : Type 0 where
 abbrev pub IsStale : Place → Timed → Type 0
 IsStale place unit = (place.sent ≡ 0) × (16777215 < place.anchor - unit.time)
 
--- parts 1 and 2: a segment has octets of the due unit, at least one of them or the unit is empty; it is complete where
--- they are the last ones; it fits, and if it isn't complete it leaves no room
+-- parts 1 and 2: a segment has the next octets of the due unit, as many as fit; it is complete where they are the last ones
 pub record IsSegment (place : Place) (unit : Timed) (count : ℕ) (complete : Bool) : Type 0 where
   pub within : place.sent + count ≤ length unit.octets
   pub complete_is : (complete ≡ true) ↔ (place.sent + count ≡ length unit.octets)

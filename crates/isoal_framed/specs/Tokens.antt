@@ -2,15 +2,13 @@
 -- first segment of a unit with its time, a further one, or a number of which nothing is kept. Padding gives nothing.
 use Rattle.std.specs.Prelude.{ℕ, Bool, List, [], ◌∷◌, map, Option, Some, None}
 use Rattle.big_info.specs.Time.{iso_us_of}
-use Rattle.iso_pdu.specs.Layout.{Part, start, more, Content, end, fragment, framed, control}
+use Rattle.iso_pdu.specs.Layout.{Part, start, more, Content, framed}
 use Rattle.sync_reference.specs.Reference.{anchor_of, framed_reference_of, render_of}
 use Rattle.isoal_base.specs.Stays.{Stay}
 
 abbrev pub segmented : Content → Option (List Part)
-segmented (end octets) = None
-segmented (fragment octets) = None
 segmented (framed parts) = Some parts
-segmented (control octets) = None
+segmented _ = None
 
 pub data Token : Type 0 where
   starts : (time : ℕ) (complete : Bool) (octets : List ℕ) → Token

@@ -13,17 +13,14 @@ pub record Piece : Type 0 where
 
 -- the further segments in front of the next start, missing number or end
 abbrev pub run_on : List Token → List Piece
-run_on [] = []
-run_on (starts time complete octets ∷ tokens) = []
 run_on (goes_on complete octets ∷ tokens) = record { complete = complete; octets = octets } ∷ run_on tokens
-run_on (missing ∷ tokens) = []
+run_on _ = []
 
 -- a start or a missing number follows them
 abbrev pub is_followed : List Token → Bool
 is_followed [] = false
-is_followed (starts time complete octets ∷ tokens) = true
 is_followed (goes_on complete octets ∷ tokens) = is_followed tokens
-is_followed (missing ∷ tokens) = true
+is_followed (_ ∷ tokens) = true
 
 -- what becomes of a start; the undecided one with the octets of its run
 pub data Fate : Type 0 where
@@ -89,8 +86,7 @@ abbrev pub units : ℕ → ℕ → List Token → List Handed
 units max_sdu bis [] = []
 units max_sdu bis (starts time complete octets ∷ tokens) =
     handed_of bis time (fate_at max_sdu complete octets tokens) ++ units max_sdu bis tokens
-units max_sdu bis (goes_on complete octets ∷ tokens) = units max_sdu bis tokens
-units max_sdu bis (missing ∷ tokens) = units max_sdu bis tokens
+units max_sdu bis (_ ∷ tokens) = units max_sdu bis tokens
 
 -- a start that is not decided: its time, and the octets of its run
 pub record Run : Type 0 where

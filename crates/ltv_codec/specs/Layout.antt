@@ -4,7 +4,6 @@ use Rattle.std.specs.Prelude.{ℕ, ◌+◌, ◌≤◌, ◌≡◌, List, ◌∷�
 use Rattle.std.specs.List.{flat_map, AllByRecursion}
 use Rattle.ltv_codec.specs.declared.ltvs.Ltv.{Ltv}
 
--- Length plus 1, Type, Value
 abbrev pub structure : Ltv → List ℕ
 structure ltv = (1 + length ltv.value) ∷ ltv.kind ∷ ltv.value
 

@@ -2,7 +2,7 @@
 -- Published Audio Capabilities Service 1.0, section 3.1) and metadata. In one list the value of a type is that of its first structure of the
 -- type, where its length is right. A configuration's value is the one of level 3 where present, else the one of level 2.
 use Rattle.std.specs.Prelude.{ℕ, List, [], ◌∷◌, length, take, drop, Option, Some, None, ◌==◌, if◌then◌else◌}
-use Rattle.std.specs.Option.{option_map}
+use Rattle.std.specs.Option.{option_map, option_and_then, option_or}
 use Rattle.bcast_base.specs.Numbers.{sum_from}
 use Rattle.ltv_codec.specs.declared.ltvs.Ltv.{Ltv}
 use Rattle.ltv_codec.specs.Reading.{ltvs_in}
@@ -11,10 +11,8 @@ abbrev pub first_of : ℕ → List Ltv → Option (List ℕ)
 first_of kind [] = None
 first_of kind (ltv ∷ ltvs) = if ltv.kind == kind then Some ltv.value else first_of kind ltvs
 
--- a value of another length is absent
 abbrev pub sized : ℕ → Option (List ℕ) → Option (List ℕ)
-sized len None = None
-sized len (Some value) = if length value == len then Some value else None
+sized len value = option_and_then (λ octets. if length octets == len then Some octets else None) value
 
 abbrev pub first_in : ℕ → List ℕ → Option (List ℕ)
 first_in kind octets = first_of kind (ltvs_in octets)
@@ -26,8 +24,7 @@ abbrev pub number_in : ℕ → ℕ → List ℕ → Option ℕ
 number_in kind len octets = option_map (sum_from 0) (value_in kind len octets)
 
 abbrev pub or_else : Option ℕ → Option ℕ → Option ℕ
-or_else (Some value) other = Some value
-or_else None other = other
+or_else value other = option_or value other
 
 -- the value of level 3 where present, else that of level 2
 abbrev pub configured : ℕ → ℕ → List ℕ → List ℕ → Option ℕ

@@ -6,6 +6,5 @@ pub struct Capability {
     pub entries: Records,
     /// Sink Audio Locations; 0 where it has none.
     pub locations: u32,
-    /// Available Sink Contexts.
     pub contexts: u16,
 }

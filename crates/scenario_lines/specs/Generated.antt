@@ -5,7 +5,6 @@ use Rattle.scenario_words.specs.Digits.{digits}
 use Rattle.scenario_words.specs.Joined.{joined}
 use Rattle.scenario_lines.specs.Draws.{next_state, drawn}
 
--- unit x: 100 octets of the value x mod 256
 abbrev pub unit_of : ℕ → List ℕ
 unit_of x = replicate 100 (x % 256)
 

@@ -18,6 +18,9 @@ pub record Row : Type 0 where
   pub places : List Place
   pub build : Build places
 
+abbrev pub row : List ℕ → (places : List Place) → Build places → Row
+row first places build = record { first = first; places = places; build = build }
+
 -- ---- places
 
 -- a decimal that fits a number of so many bits
@@ -69,60 +72,47 @@ before_modify = 6
 -- ---- the lines that each scenario needs
 
 abbrev pub scenario_row : Row
-scenario_row = record { first = codes "scenario"; places = one (between 1 2) ∷ []; build = λ version. Scenario version }
+scenario_row = row (codes "scenario") (one (between 1 2) ∷ []) Scenario
 
 abbrev pub group_row : Row
-group_row = record {
-  first = codes "group";
-  places =
-      one framing_word ∷ one (between 3000 (2 ^ 48)) ∷ bits 24 ∷ bits 12 ∷ bits 20 ∷ bits 12 ∷ bits 8 ∷ bits 5 ∷ bits 3 ∷ bits 5 ∷ bits 4 ∷ bits 4 ∷ bits 20 ∷ bits 20 ∷ bits 3 ∷ [];
-  build = λ framing origin delay iso sdu max_sdu max_pdu num_bis bn nse irc pto sub spacing phy.
-      Group framing origin delay iso sdu max_sdu max_pdu num_bis bn nse irc pto sub spacing phy;
-}
+group_row = row (codes "group") (one framing_word ∷ one (between 3000 (2 ^ 48)) ∷ bits 24 ∷ bits 12 ∷ bits 20 ∷ bits 12 ∷ bits 8 ∷ bits 5
+    ∷ bits 3 ∷ bits 5 ∷ bits 4 ∷ bits 4 ∷ bits 20 ∷ bits 20 ∷ bits 3 ∷ []) Group
 
 abbrev pub start_row : Row
-start_row = record { first = codes "start"; places = one (between 0 549755813887) ∷ []; build = λ first. Start first }
+start_row = row (codes "start") (one (between 0 549755813887) ∷ []) Start
 
 abbrev pub sink_row : ℕ → Row
-sink_row version = record {
-  first = codes "sink";
-  places = sink ∷ one (between 1 31) ∷ one (between 1 (most_slots version)) ∷ perhaps 23 517 ∷ [];
-  build = λ n streams slots mtu. Sink n streams slots mtu;
-}
+sink_row version = row (codes "sink") (sink ∷ one (between 1 31) ∷ one (between 1 (most_slots version)) ∷ perhaps 23 517 ∷ []) Sink
 
 abbrev pub tuned_row : Row
-tuned_row = record { first = codes "tuned"; places = sink ∷ rising ∷ []; build = λ n which. Tuned n which }
+tuned_row = row (codes "tuned") (sink ∷ rising ∷ []) Tuned
 
 abbrev pub unit_row : Row
-unit_row = record { first = codes "unit"; places = stream ∷ one (time_up_to (2 ^ 62)) ∷ octets 4095 ∷ []; build = λ bis time unit. Unit bis time unit }
+unit_row = row (codes "unit") (stream ∷ one (time_up_to (2 ^ 62)) ∷ octets 4095 ∷ []) Unit
 
 abbrev pub event_row : Row
-event_row = record { first = codes "event"; places = []; build = Event }
+event_row = row (codes "event") [] Event
 
 abbrev pub hear_row : Row
-hear_row = record { first = codes "hear"; places = sink ∷ back ∷ stream ∷ subevent ∷ []; build = λ n before bis at. Hear n before bis at }
+hear_row = row (codes "hear") (sink ∷ back ∷ stream ∷ subevent ∷ []) Hear
 
 abbrev pub air_row : Row
-air_row = record { first = codes "air"; places = sink ∷ octet ∷ []; build = λ n lose. Air n lose }
+air_row = row (codes "air") (sink ∷ octet ∷ []) Air
 
 abbrev pub inject_row : Row
-inject_row = record {
-  first = codes "inject";
-  places = sink ∷ back ∷ stream ∷ subevent ∷ octets 300 ∷ [];
-  build = λ n before bis at pdu. Inject n before bis at pdu;
-}
+inject_row = row (codes "inject") (sink ∷ back ∷ stream ∷ subevent ∷ octets 300 ∷ []) Inject
 
 abbrev pub sniff_row : Row
-sniff_row = record { first = codes "sniff"; places = back ∷ stream ∷ subevent ∷ []; build = λ before bis at. Sniff before bis at }
+sniff_row = row (codes "sniff") (back ∷ stream ∷ subevent ∷ []) Sniff
 
 abbrev pub drop_row : Row
-drop_row = record { first = codes "drop"; places = sink ∷ []; build = λ n. Drop n }
+drop_row = row (codes "drop") (sink ∷ []) Drop
 
 abbrev pub stop_row : Row
-stop_row = record { first = codes "stop"; places = []; build = Stop }
+stop_row = row (codes "stop") [] Stop
 
 abbrev pub end_row : Row
-end_row = record { first = codes "end"; places = []; build = End }
+end_row = row (codes "end") [] End
 
 abbrev pub event_rows : List Row
 event_rows = unit_row ∷ event_row ∷ hear_row ∷ air_row ∷ inject_row ∷ sniff_row ∷ []
@@ -133,36 +123,28 @@ first_rows version = scenario_row ∷ group_row ∷ start_row ∷ sink_row versi
 -- ---- the lines of a source
 
 abbrev pub ident_row : Row
-ident_row = record {
-  first = codes "ident";
-  places = one (between 0 1) ∷ exactly 6 ∷ one (between 0 15) ∷ exactly 3 ∷ [];
-  build = λ address_type address sid broadcast_id. Ident address_type address sid broadcast_id;
-}
+ident_row = row (codes "ident") (one (between 0 1) ∷ exactly 6 ∷ one (between 0 15) ∷ exactly 3 ∷ []) Ident
 
 abbrev pub subgroup_row : Row
-subgroup_row = record { first = codes "subgroup"; places = exactly 5 ∷ list ∷ []; build = λ codec config. Subgroup codec config }
+subgroup_row = row (codes "subgroup") (exactly 5 ∷ list ∷ []) Subgroup
 
 abbrev pub meta_row : Row
-meta_row = record { first = codes "meta"; places = list ∷ []; build = λ metadata. Meta metadata }
+meta_row = row (codes "meta") (list ∷ []) Meta
 
 abbrev pub bis_row : Row
-bis_row = record { first = codes "bis"; places = stream ∷ list ∷ []; build = λ index config. Bis index config }
+bis_row = row (codes "bis") (stream ∷ list ∷ []) Bis
 
 abbrev pub cipher_row : Row
-cipher_row = record { first = codes "cipher"; places = exactly 8 ∷ exactly 16 ∷ []; build = λ giv gskd. Cipher giv gskd }
+cipher_row = row (codes "cipher") (exactly 8 ∷ exactly 16 ∷ []) Cipher
 
 abbrev pub announce_row : Row
-announce_row = record { first = codes "announce"; places = sink ∷ []; build = λ n. Announce n }
+announce_row = row (codes "announce") (sink ∷ []) Announce
 
 abbrev pub train_row : Row
-train_row = record {
-  first = codes "train";
-  places = sink ∷ one (between 0 (2 ^ 48)) ∷ octets 255 ∷ octets 1650 ∷ octets 255 ∷ [];
-  build = λ n time ext adv acad. Train n time ext adv acad;
-}
+train_row = row (codes "train") (sink ∷ one (between 0 (2 ^ 48)) ∷ octets 255 ∷ octets 1650 ∷ octets 255 ∷ []) Train
 
 abbrev pub terminate_row : Row
-terminate_row = record { first = codes "terminate"; places = octet ∷ []; build = λ reason. Terminate reason }
+terminate_row = row (codes "terminate") (octet ∷ []) Terminate
 
 abbrev pub source_rows : List Row
 source_rows = ident_row ∷ subgroup_row ∷ meta_row ∷ bis_row ∷ cipher_row ∷ announce_row ∷ train_row ∷ terminate_row ∷ []
@@ -170,74 +152,63 @@ source_rows = ident_row ∷ subgroup_row ∷ meta_row ∷ bis_row ∷ cipher_row
 -- ---- the lines of a sink, and of its first link
 
 abbrev pub pac_row : Row
-pac_row = record { first = codes "pac"; places = sink ∷ exactly 5 ∷ list ∷ list ∷ []; build = λ n codec caps metadata. Pac n codec caps metadata }
+pac_row = row (codes "pac") (sink ∷ exactly 5 ∷ list ∷ list ∷ []) Pac
 
 abbrev pub locate_row : Row
-locate_row = record { first = codes "locate"; places = sink ∷ one (number_in_octets 4) ∷ []; build = λ n locations. Locate n locations }
+locate_row = row (codes "locate") (sink ∷ one (number_in_octets 4) ∷ []) Locate
 
 abbrev pub context_row : Row
-context_row = record {
-  first = codes "context";
-  places = sink ∷ one (number_in_octets 2) ∷ one (number_in_octets 2) ∷ [];
-  build = λ n sink_bits source_bits. Context n sink_bits source_bits;
-}
+context_row = row (codes "context") (sink ∷ one (number_in_octets 2) ∷ one (number_in_octets 2) ∷ []) Context
 
 abbrev pub write_row : Row
-write_row = record { first = codes "write"; places = sink ∷ octets 512 ∷ []; build = λ n value. Write n value }
+write_row = row (codes "write") (sink ∷ octets 512 ∷ []) Write
 
 abbrev pub add_row : Row
-add_row = record {
-  first = codes "add";
-  places = sink ∷ one (between 0 1) ∷ exactly 6 ∷ one (between 0 15) ∷ exactly 3 ∷ one (between 0 2) ∷ one (between 0 65535) ∷ wishes (512 - before_add) ∷ [];
-  build = λ n address_type address sid broadcast_id pa_sync pa_interval groups.
-      Add n (record {
-        address_type = address_type;
-        address = address;
-        sid = sid;
-        broadcast_id = broadcast_id;
-        pa_sync = pa_sync;
-        pa_interval = pa_interval;
-        wishes = groups;
-      });
-}
+add_row = row (codes "add") (sink ∷ one (between 0 1) ∷ exactly 6 ∷ one (between 0 15) ∷ exactly 3 ∷ one (between 0 2) ∷ one (between 0 65535)
+    ∷ wishes (512 - before_add) ∷ []) (λ n address_type address sid broadcast_id pa_sync pa_interval groups. Add n (record {
+      address_type = address_type;
+      address = address;
+      sid = sid;
+      broadcast_id = broadcast_id;
+      pa_sync = pa_sync;
+      pa_interval = pa_interval;
+      wishes = groups;
+    }))
 
 abbrev pub modify_row : Row
-modify_row = record {
-  first = codes "modify";
-  places = sink ∷ octet ∷ one (between 0 2) ∷ one (between 0 65535) ∷ wishes (512 - before_modify) ∷ [];
-  build = λ n source_id pa_sync pa_interval groups.
-      Modify n (record { source_id = source_id; pa_sync = pa_sync; pa_interval = pa_interval; wishes = groups });
-}
+modify_row = row (codes "modify") (sink ∷ octet ∷ one (between 0 2) ∷ one (between 0 65535) ∷ wishes (512 - before_modify) ∷ [])
+    (λ n source_id pa_sync pa_interval groups.
+    Modify n (record { source_id = source_id; pa_sync = pa_sync; pa_interval = pa_interval; wishes = groups }))
 
 abbrev pub remove_row : Row
-remove_row = record { first = codes "remove"; places = sink ∷ octet ∷ []; build = λ n source_id. Remove n source_id }
+remove_row = row (codes "remove") (sink ∷ octet ∷ []) Remove
 
 abbrev pub code_row : Row
-code_row = record { first = codes "code"; places = sink ∷ octet ∷ exactly 16 ∷ []; build = λ n source_id code. Code n source_id code }
+code_row = row (codes "code") (sink ∷ octet ∷ exactly 16 ∷ []) Code
 
 abbrev pub serve_row : Row
-serve_row = record { first = codes "serve"; places = sink ∷ []; build = λ n. Serve n }
+serve_row = row (codes "serve") (sink ∷ []) Serve
 
 abbrev pub tell_row : Row
-tell_row = record { first = codes "tell"; places = sink ∷ []; build = λ n. Tell n }
+tell_row = row (codes "tell") (sink ∷ []) Tell
 
 abbrev pub read_row : Row
-read_row = record { first = codes "read"; places = sink ∷ []; build = λ n. Read n }
+read_row = row (codes "read") (sink ∷ []) Read
 
 abbrev pub drain_row : Row
-drain_row = record { first = codes "drain"; places = sink ∷ []; build = λ n. Drain n }
+drain_row = row (codes "drain") (sink ∷ []) Drain
 
 abbrev pub show_row : Row
-show_row = record { first = codes "show"; places = sink ∷ []; build = λ n. Show n }
+show_row = row (codes "show") (sink ∷ []) Show
 
 abbrev pub lose_row : Row
-lose_row = record { first = codes "lose"; places = sink ∷ []; build = λ n. Lose n }
+lose_row = row (codes "lose") (sink ∷ []) Lose
 
 abbrev pub control_row : Row
-control_row = record { first = codes "control"; places = sink ∷ octets 300 ∷ []; build = λ n pdu. Control n pdu }
+control_row = row (codes "control") (sink ∷ octets 300 ∷ []) Control
 
 abbrev pub forge_row : Row
-forge_row = record { first = codes "forge"; places = sink ∷ octet ∷ octets 1024 ∷ []; build = λ n slot value. Forge n slot value }
+forge_row = row (codes "forge") (sink ∷ octet ∷ octets 1024 ∷ []) Forge
 
 abbrev pub sink_rows : List Row
 sink_rows = pac_row ∷ locate_row ∷ context_row ∷ write_row ∷ add_row ∷ modify_row ∷ remove_row ∷ code_row ∷ []
@@ -248,34 +219,34 @@ link_rows = serve_row ∷ tell_row ∷ read_row ∷ drain_row ∷ show_row ∷ l
 -- ---- the lines of version 2 alone
 
 abbrev pub assist_row : Row
-assist_row = record { first = codes "assist"; places = sink ∷ link ∷ []; build = λ n on. Assist n on }
+assist_row = row (codes "assist") (sink ∷ link ∷ []) Assist
 
 abbrev pub apart_row : Row
-apart_row = record { first = codes "apart"; places = sink ∷ one (between 1 3) ∷ []; build = λ n on. Apart n on }
+apart_row = row (codes "apart") (sink ∷ one (between 1 3) ∷ []) Apart
 
 abbrev pub awrite_row : Row
-awrite_row = record { first = codes "awrite"; places = sink ∷ link ∷ octets 512 ∷ []; build = λ n on value. AWrite n on value }
+awrite_row = row (codes "awrite") (sink ∷ link ∷ octets 512 ∷ []) AWrite
 
 abbrev pub aserve_row : Row
-aserve_row = record { first = codes "aserve"; places = sink ∷ link ∷ []; build = λ n on. AServe n on }
+aserve_row = row (codes "aserve") (sink ∷ link ∷ []) AServe
 
 abbrev pub atell_row : Row
-atell_row = record { first = codes "atell"; places = sink ∷ link ∷ []; build = λ n on. ATell n on }
+atell_row = row (codes "atell") (sink ∷ link ∷ []) ATell
 
 abbrev pub aread_row : Row
-aread_row = record { first = codes "aread"; places = sink ∷ link ∷ []; build = λ n on. ARead n on }
+aread_row = row (codes "aread") (sink ∷ link ∷ []) ARead
 
 abbrev pub adrain_row : Row
-adrain_row = record { first = codes "adrain"; places = sink ∷ link ∷ []; build = λ n on. ADrain n on }
+adrain_row = row (codes "adrain") (sink ∷ link ∷ []) ADrain
 
 abbrev pub ashow_row : Row
-ashow_row = record { first = codes "ashow"; places = sink ∷ link ∷ []; build = λ n on. AShow n on }
+ashow_row = row (codes "ashow") (sink ∷ link ∷ []) AShow
 
 abbrev pub source_row : Row
-source_row = record { first = codes "source"; places = source ∷ []; build = λ which. Source which }
+source_row = row (codes "source") (source ∷ []) Source
 
 abbrev pub relay_row : Row
-relay_row = record { first = codes "relay"; places = sink ∷ stream ∷ stream ∷ []; build = λ n bis to. Relay n bis to }
+relay_row = row (codes "relay") (sink ∷ stream ∷ stream ∷ []) Relay
 
 abbrev pub rows_of_2 : List Row
 rows_of_2 = assist_row ∷ apart_row ∷ awrite_row ∷ source_row ∷ relay_row ∷ []

@@ -21,11 +21,9 @@ pub data Place : Type 0 where
 abbrev pub WordValue : WordPlace → Type 0
 WordValue (between least greatest) = ℕ
 WordValue framing_word = ℕ
-WordValue (time_up_to greatest) = Option ℕ
-WordValue (octets_up_to most) = List ℕ
-WordValue (octets_exactly count) = List ℕ
 WordValue (number_in_octets count) = ℕ
-WordValue (list_up_to most) = List ℕ
+WordValue (time_up_to greatest) = Option ℕ
+WordValue _ = List ℕ
 
 abbrev pub PlaceValue : Place → Type 0
 PlaceValue (one place) = WordValue place

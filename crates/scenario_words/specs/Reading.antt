@@ -3,6 +3,7 @@
 use Rattle.std.specs.Prelude.{◌≡◌, ◌≢◌, ℕ, zero, suc, ◌+◌, ◌-◌, ◌^◌, ◌==◌, ◌&&◌, nat_le, if◌then◌else◌, List, [], ◌∷◌, ◌++◌, length, Option, None, Some, is_none, Result, Ok, Err, codes, bytes_eq, decimal}
 use Rattle.std.specs.Str.Parse.{digits_value}
 use Rattle.std.specs.Int.RustNames.{bit_or}
+use Rattle.std.specs.Option.{option_map, option_and_then}
 use Rattle.hex.specs.Hex.{decode_of}
 use Rattle.hex.specs.declared.error.FromHexError.{FromHexError}
 use Rattle.bcast_base.specs.Numbers.{sum_from}
@@ -64,8 +65,7 @@ unfoldable pub framing_in : List ℕ → Option ℕ
 framing_in word = if bytes_eq word (codes "unframed") then Some 0 else if bytes_eq word (codes "framed") then Some 1 else None
 
 abbrev pub timed : Option ℕ → Option (Option ℕ)
-timed None = None
-timed (Some n) = Some (Some n)
+timed number = option_map Some number
 
 unfoldable pub time_in : ℕ → List ℕ → Option (Option ℕ)
 time_in greatest word = if bytes_eq word (codes "-") then Some None else timed (decimal_in 0 greatest word)
@@ -86,15 +86,13 @@ unfoldable pub exact_in : ℕ → List ℕ → Option (List ℕ)
 exact_in count word = exactly count (decode_of word)
 
 abbrev pub numbered : Option (List ℕ) → Option ℕ
-numbered None = None
-numbered (Some octets) = Some (sum_from 0 octets)
+numbered octets = option_map (sum_from 0) octets
 
 unfoldable pub number_in : ℕ → List ℕ → Option ℕ
 number_in count word = numbered (exact_in count word)
 
 abbrev pub listed : Option (List ℕ) → Option (List ℕ)
-listed None = None
-listed (Some octets) = if is_none (bad_of octets) then Some octets else None
+listed read = option_and_then (λ octets. if is_none (bad_of octets) then Some octets else None) read
 
 unfoldable pub list_in : ℕ → List ℕ → Option (List ℕ)
 list_in most word = listed (octets_in most word)

@@ -82,6 +82,5 @@ abbrev pub begun_of : Option Air → ℕ
 begun_of None = 0
 begun_of (Some air) = begun_in air
 
--- how many units of a stream wait: of those accepted, the ones that haven't begun
 abbrev pub waiting_of : List Call → List Air → ℕ → ℕ
 waiting_of calls airs bis = length (given bis calls) - begun_of (slice_get airs (bis - 1))

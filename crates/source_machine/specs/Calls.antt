@@ -32,7 +32,6 @@ next_of setup calls = setup.first + events calls
 abbrev pub last_of : Setup → List Call → Option ℕ
 last_of setup calls = if events calls == 0 then None else Some (next_of setup calls - 1)
 
--- the anchor of the next event, in µs
 abbrev pub next_anchor_of : Setup → List Call → ℕ
 next_anchor_of setup calls = anchor_of setup.origin setup.first (next_of setup calls) (iso_us_of setup.info)
 

@@ -38,7 +38,6 @@ is_in_time setup calls bis None = false
 is_in_time setup calls bis (Some time) =
     is_above (last_time_of setup bis calls) time && (setup.ahead || nat_le time (next_anchor_of setup calls))
 
--- a unit has the time that its framing wants: an unframed one has none
 abbrev pub has_its_time : Setup → List Call → ℕ → Option ℕ → Bool
 has_its_time setup calls bis time = if setup.info.framing == 0 then is_none time else is_in_time setup calls bis time
 

@@ -15,7 +15,6 @@ begins_unit line = starts_with nat_eq line (codes "unit ")
 abbrev pub ends_lost : List ℕ → Bool
 ends_lost line = ends_with nat_eq line (codes " lost" ++ newline ∷ [])
 
--- the line of a valid unit, which ends with its octets
 abbrev pub is_valid_line : List ℕ → Bool
 is_valid_line line = begins_unit line && not (ends_lost line)
 
