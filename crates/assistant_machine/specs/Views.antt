@@ -1,6 +1,7 @@
 -- What an assistant knows of the slots of a server (Broadcast Audio Scan Service 1.0, section 3.2; a notice is cut to MTU - 3
 -- octets by Core 5.2, volume 3 part F, section 3.4.7.1, and a longer value has to be read). Lists of calls have the newest first.
-use Rattle.std.specs.Prelude.{ℕ, ◌==◌, ◌&&◌, not, Bool, true, false, List, [], ◌∷◌, Option, Some, None, Result, Ok, Err, unwrap_or}
+use Rattle.std.specs.Prelude.{ℕ, ◌==◌, ◌&&◌, not, Bool, true, false, List, [], ◌∷◌, Option, Some, None, Result, unwrap_or}
+use Rattle.std.specs.Result.{result_ok}
 use Rattle.assistant_machine.specs.Cuts.{asks}
 use Rattle.receive_state.specs.Reading.{state_of}
 use Rattle.receive_state.specs.declared.fault.StateFault.{StateFault}
@@ -8,8 +9,7 @@ use Rattle.receive_state.specs.declared.state.ReceiveState.{ReceiveState}
 use Rattle.assistant_machine.specs.Calls.{Call, notified, all_asked, asked, read, mtu_of}
 
 abbrev pub told_of : Result (Option ReceiveState) StateFault → Option (Option ReceiveState)
-told_of (Ok state) = Some state
-told_of (Err fault) = None
+told_of result = result_ok result
 
 abbrev pub reading_of : List ℕ → Option (Option ReceiveState)
 reading_of value = told_of (state_of value)

@@ -34,9 +34,8 @@ abbrev pub broadcast_audio_announcement : ℕ
 broadcast_audio_announcement = 0x1852
 
 abbrev pub behind_uuid : ℕ → List ℕ → Option (List ℕ)
-behind_uuid uuid [] = None
-behind_uuid uuid (low ∷ []) = None
 behind_uuid uuid (low ∷ high ∷ content) = if sum_from 0 (low ∷ high ∷ []) == uuid then Some content else None
+behind_uuid uuid _ = None
 
 abbrev pub service_in : ℕ → Ltv → Option (List ℕ)
 service_in uuid ad = if ad.kind == service_data_type then behind_uuid uuid ad.value else None

@@ -3,6 +3,7 @@
 -- (Basic Audio Profile 1.0, section 3.7.2.1).
 use Rattle.std.specs.Prelude.{ℕ, ◌∷◌, List, [], length, take, Option, Some, None, Result, Ok, Err, nat_lt, ◌==◌, if◌then◌else◌}
 use Rattle.std.specs.Result.{result_unwrap_or}
+use Rattle.std.specs.Option.{option_and_then}
 use Rattle.ltv_codec.specs.declared.fault.LtvBad.{LtvBad}
 use Rattle.ltv_codec.specs.declared.fault.LtvBad.TheVariants.{ZeroLength, Short}
 use Rattle.ltv_codec.specs.declared.ltvs.Ltv.{Ltv}
@@ -29,8 +30,7 @@ service_of uuid [] = None
 service_of uuid (kind ∷ contents) = if kind == service_data_type then behind_uuid uuid contents else None
 
 abbrev pub id_in : Option (List ℕ) → Option (List ℕ)
-id_in None = None
-id_in (Some content) = if nat_lt (length content) 3 then None else Some (take 3 content)
+id_in content = option_and_then (λ octets. if nat_lt (length octets) 3 then None else Some (take 3 octets)) content
 
 abbrev pub id_from : Result (List Ltv) ℕ → Option (List ℕ)
 id_from (Ok ads) = id_in (first_service broadcast_audio_announcement ads)

@@ -9,7 +9,6 @@ use Rattle.base_grammar.specs.declared.subgroup.BaseEntry.{BaseEntry}
 use Rattle.base_grammar.specs.declared.subgroup.Subgroup.{Subgroup}
 use Rattle.base_grammar.specs.Layout.{Endpoint, is_lc3}
 
--- the configuration by both levels where it is that of LC3, else no value
 abbrev pub config_of : Bool → List ℕ → List ℕ → Config
 config_of true high low = record {
   frequency = configured sampling_frequency 1 high low;

@@ -27,9 +27,7 @@ run_at whole is_list rest = do
   unless (run_fault (place_in whole count.1) is_list run.0) run
 
 unfoldable pub index_at : List ℕ → List ℕ → List ℕ → Result (ℕ × List ℕ) BaseFault
-index_at whole before rest = do
-  bis ← field_at whole rest (octet_in rest)
-  unless (index_fault (place_in whole rest) before bis.0) bis
+index_at whole before rest = do bis ← field_at whole rest (octet_in rest); unless (index_fault (place_in whole rest) before bis.0) bis
 
 -- ---- the values
 
@@ -48,9 +46,7 @@ entries_at whole is_list before (suc n) rest = do
 
 -- the number of entries
 unfoldable pub streams_at : List ℕ → List ℕ → Result (ℕ × List ℕ) BaseFault
-streams_at whole rest = do
-  count ← field_at whole rest (octet_in rest)
-  unless (streams_fault (place_in whole rest) count.0) count
+streams_at whole rest = do count ← field_at whole rest (octet_in rest); unless (streams_fault (place_in whole rest) count.0) count
 
 unfoldable pub subgroup_at : List ℕ → List ℕ → List ℕ → Result (Subgroup × List ℕ) BaseFault
 subgroup_at whole before rest = do
@@ -75,9 +71,7 @@ rest_of (Err fault) = Err fault
 
 -- the number of subgroups
 unfoldable pub count_at : List ℕ → List ℕ → Result (ℕ × List ℕ) BaseFault
-count_at whole rest = do
-  count ← field_at whole rest (octet_in rest)
-  unless (subgroups_fault count.0) count
+count_at whole rest = do count ← field_at whole rest (octet_in rest); unless (subgroups_fault count.0) count
 
 abbrev pub ended : {A : Type 0} → List ℕ → List ℕ → A → Result A BaseFault
 ended whole [] x = Ok x

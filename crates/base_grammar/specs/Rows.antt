@@ -12,7 +12,6 @@ subgroups_fault count = if count == 0 then Some NoSubgroup else None
 abbrev pub streams_fault : ℕ → ℕ → Option BaseFault
 streams_fault place count = if count == 0 then Some (NoBis place) else None
 
--- BIS_index is from 1 to 31, and none that stands before
 abbrev pub index_fault : ℕ → List ℕ → ℕ → Option BaseFault
 index_fault place before bis = if nat_lt bis 1 then Some (BadIndex place)
     else if nat_lt 31 bis then Some (BadIndex place)

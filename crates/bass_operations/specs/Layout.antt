@@ -19,13 +19,11 @@ group_of wish = record { bits = wish.bis_sync; metadata = wish.metadata }
 abbrev pub wishes_fields : List Wish → List Field
 wishes_fields wishes = free (octet (length wishes)) ∷ flat_map (λ wish. subgroup_fields (group_of wish)) wishes
 
--- address type, address, SID, Broadcast_ID, PA_Sync, PA_Interval, subgroups
 abbrev pub add_fields : AddSource → List Field
 add_fields add =
     unless (nat_lt 1 add.address_type) (octet add.address_type) ∷ free add.address ∷ unless (nat_lt 15 add.sid) (octet add.sid) ∷ free add.broadcast_id ∷
     unless (nat_lt 2 add.pa_sync) (octet add.pa_sync) ∷ free (number 2 add.pa_interval) ∷ wishes_fields add.wishes
 
--- Source_ID, PA_Sync, PA_Interval, subgroups
 abbrev pub modify_fields : ModifySource → List Field
 modify_fields modify =
     free (octet modify.source_id) ∷ unless (nat_lt 2 modify.pa_sync) (octet modify.pa_sync) ∷ free (number 2 modify.pa_interval) ∷ wishes_fields modify.wishes
@@ -42,12 +40,9 @@ abbrev pub encoding : Operation → List ℕ
 encoding op = laid (fields op)
 
 abbrev pub wishes_of : Operation → List Wish
-wishes_of ScanStopped = []
-wishes_of ScanStarted = []
 wishes_of (Add add) = add.wishes
 wishes_of (Modify modify) = modify.wishes
-wishes_of (Code source_id code) = []
-wishes_of (Remove source_id) = []
+wishes_of _ = []
 
 -- the length of each metadata is one octet
 abbrev pub MetadataFits : List Wish → Type 0

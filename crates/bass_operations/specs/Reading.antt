@@ -39,32 +39,19 @@ modify_head_in octets = do
   Some (record { source_id = source.0; pa_sync = sync.0; pa_interval = interval.0; wishes = [] }, count.0, count.1)
 
 unfoldable pub wishes_in : ℕ → List ℕ → Option (List Wish)
-wishes_in count octets = do
-  groups ← whole (subgroups_in count octets)
-  Some (map wish_of groups)
+wishes_in count octets = do groups ← whole (subgroups_in count octets); Some (map wish_of groups)
 
 unfoldable pub add_in : List ℕ → Option Operation
-add_in octets = do
-  head ← add_head_in octets
-  wishes ← wishes_in head.1 head.2
-  Some (Add (record head.0 { wishes = wishes }))
+add_in octets = do head ← add_head_in octets; wishes ← wishes_in head.1 head.2; Some (Add (record head.0 { wishes = wishes }))
 
 unfoldable pub modify_in : List ℕ → Option Operation
-modify_in octets = do
-  head ← modify_head_in octets
-  wishes ← wishes_in head.1 head.2
-  Some (Modify (record head.0 { wishes = wishes }))
+modify_in octets = do head ← modify_head_in octets; wishes ← wishes_in head.1 head.2; Some (Modify (record head.0 { wishes = wishes }))
 
 unfoldable pub code_in : List ℕ → Option Operation
-code_in octets = do
-  source ← octet_in octets
-  code ← whole (octets_in 16 source.1)
-  Some (Code source.0 code)
+code_in octets = do source ← octet_in octets; code ← whole (octets_in 16 source.1); Some (Code source.0 code)
 
 unfoldable pub remove_in : List ℕ → Option Operation
-remove_in octets = do
-  source ← whole (octet_in octets)
-  Some (Remove source)
+remove_in octets = do source ← whole (octet_in octets); Some (Remove source)
 
 abbrev pub alone : Operation → List ℕ → Option Operation
 alone op [] = Some op

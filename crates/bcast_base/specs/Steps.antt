@@ -1,5 +1,5 @@
 -- Reading one field behind the other, which is this project's own: nothing is read where one of them is not whole.
-use Rattle.std.specs.Prelude.{List, [], ◌∷◌, Option, Some, None}
+use Rattle.std.specs.Prelude.{List, [], Option, Some, None}
 
 infixl 10 ◌>>=◌
 abbrev pub ◌>>=◌ : {A B : Type 0} → Option A → (A → Option B) → Option B
@@ -7,6 +7,5 @@ abbrev pub ◌>>=◌ : {A B : Type 0} → Option A → (A → Option B) → Opti
 None >>= f = None
 
 abbrev pub whole : {A B : Type 0} → Option (A × List B) → Option A
-whole None = None
 whole (Some (x, [])) = Some x
-whole (Some (x, octet ∷ rest)) = None
+whole _ = None

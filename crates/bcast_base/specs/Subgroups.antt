@@ -37,10 +37,7 @@ subgroup_in octets = do
 
 unfoldable pub subgroups_in : ℕ → List ℕ → Option (List Subgroup × List ℕ)
 subgroups_in zero octets = Some ([], octets)
-subgroups_in (suc count) octets = do
-  first ← subgroup_in octets
-  others ← subgroups_in count first.1
-  Some (first.0 ∷ others.0, others.1)
+subgroups_in (suc count) octets = do first ← subgroup_in octets; others ← subgroups_in count first.1; Some (first.0 ∷ others.0, others.1)
 
 -- the place of the first of so many subgroups whose bits are reserved, among the last octets of the whole
 unfoldable pub reserved_in : List ℕ → ℕ → List ℕ → Option ℕ

@@ -1,5 +1,5 @@
 -- The lines of a scenario text. The text, the octet that ends its lines and its limits are this project's own.
-use Rattle.std.specs.Prelude.{ℕ, ◌≡◌, ◌≢◌, ◌+◌, ◌==◌, All, nat_le, Bool, true, false, List, [], ◌∷◌, ◌++◌, length, map, take, if◌then◌else◌}
+use Rattle.std.specs.Prelude.{ℕ, ◌≡◌, ◌≢◌, ◌+◌, ◌==◌, All, nat_le, Bool, true, List, [], ◌∷◌, ◌++◌, length, map, take, if◌then◌else◌}
 use Rattle.std.specs.List.{concat}
 
 abbrev pub newline : ℕ
@@ -27,9 +27,8 @@ line_of octets = if nat_le (length octets) line_limit then plain octets else too
 
 -- the line that the end of the text ends, where there is one
 abbrev pub last_line : Bool → List ℕ → List TextLine
-last_line false part = []
-last_line true [] = []
 last_line true (x ∷ xs) = line_of (x ∷ xs) ∷ []
+last_line _ _ = []
 
 -- The lines of what follows `taken` octets of a text, of which the last are `part`, the line so far. What follows is the
 -- rest of the text, or a prefix of it, whose last line is not whole yet. A line past the limit of the text is the last.

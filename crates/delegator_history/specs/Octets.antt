@@ -16,7 +16,6 @@ abbrev pub cipher_octets : Option Cipher → List ℕ
 cipher_octets None = []
 cipher_octets (Some cipher) = cipher.giv ++ cipher.gskd
 
--- a BIGInfo: the octets of the number of its fields, RFU being 0, and the cipher behind them
 abbrev pub info_octets : BigInfo → List ℕ
 info_octets info = number 33 (number_of info 0) ++ cipher_octets info.cipher
 

@@ -41,9 +41,8 @@ abbrev pub is_on : Place → ℕ → Bool
 is_on place slot = is_slot (slot_of place) slot
 
 abbrev pub is_on_group : Place → ℕ → Bool
-is_on_group idle slot = false
-is_on_group (on_train other) slot = false
 is_on_group (on_group other) slot = is_slot other slot
+is_on_group _ slot = false
 
 abbrev pub entry_at : List (Option Entry) → ℕ → Option Entry
 entry_at slots slot = slice_index_or slots slot None

@@ -33,13 +33,12 @@ abbrev pub done_by : Setup → Snapshot → Step → Done
 done_by setup snapshot (record_added entry) = recorded entry
 done_by setup snapshot (locations_set locations) = located locations
 done_by setup snapshot (contexts_set contexts) = opened contexts
-done_by setup snapshot (mtu_set mtu) = nothing
 done_by setup snapshot (sync_to_group big_sync) = tuned
 done_by setup snapshot (written octets) = done_by_write snapshot octets
 done_by setup snapshot (train_heard train) = done_by_outcome (outcome_by setup snapshot train)
 done_by setup snapshot train_lost = lost
 done_by setup snapshot (control_heard octets) = done_by_control snapshot.place octets
-done_by setup snapshot notified = nothing
+done_by setup snapshot _ = nothing
 
 -- ---- a slot
 

@@ -37,10 +37,9 @@ place_wanted snapshot slot wanted = if wanted.pa_sync == 0 then Some idle
     else (if is_on_group snapshot.place slot && not (same_streams wanted.wishes (wishes_at (entry_at snapshot.slots slot))) then Some (on_train slot) else None)
 
 abbrev pub place_left : Place → Option Place
-place_left idle = None
-place_left (on_train slot) = None
 place_left (on_group None) = Some idle
 place_left (on_group (Some slot)) = Some (on_train slot)
+place_left _ = None
 
 abbrev pub place_given : Snapshot → Done → Option Place
 place_given snapshot (modified slot wanted) = if is_on snapshot.place slot then place_wanted snapshot slot wanted else None

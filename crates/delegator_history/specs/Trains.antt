@@ -155,9 +155,8 @@ abbrev pub outcome_by : Setup → Snapshot → Train → TrainOutcome
 outcome_by setup snapshot train = by_broadcast_id setup snapshot train (broadcast_id_of train.ext)
 
 abbrev pub big_sync_in : TrainOutcome → Option BigSync
-big_sync_in (ignored answer) = None
-big_sync_in (heard slot answer encrypted) = None
 big_sync_in (taken slot bits encrypted big_sync) = Some big_sync
+big_sync_in _ = None
 
 abbrev pub answer_of : TrainOutcome → TrainHeard
 answer_of (ignored answer) = answer

@@ -7,7 +7,7 @@ use Rattle.bass_operations.specs.declared.fault.OpFault.{OpFault}
 use Rattle.bass_operations.specs.declared.fault.OpFault.TheVariants as faults
 use Rattle.bass_operations.specs.declared.operation.AddSource.{AddSource}
 use Rattle.bass_operations.specs.declared.operation.Operation.{Operation}
-use Rattle.bass_operations.specs.declared.operation.Operation.TheVariants.{ScanStopped, ScanStarted, Add, Modify, Code, Remove}
+use Rattle.bass_operations.specs.declared.operation.Operation.TheVariants.{Add, Modify, Code, Remove}
 use Rattle.bass_operations.specs.Reading.{op_of}
 use Rattle.receive_state.specs.declared.state.ReceiveState.{ReceiveState}
 use Rattle.delegator_history.specs.declared.replies.Cause.{Cause}
@@ -59,12 +59,10 @@ entry_of source_id add = record {
 }
 
 abbrev pub operated : List (Option Entry) → Operation → Done
-operated slots ScanStopped = nothing
-operated slots ScanStarted = nothing
 operated slots (Add add) = added (unwrap_or (empty_slot slots) 0) (entry_of (least_unused slots) add)
 operated slots (Modify modify) = modified (unwrap_or (slot_with modify.source_id slots) 0) (record { pa_sync = modify.pa_sync; wishes = modify.wishes })
-operated slots (Code source_id code) = nothing
 operated slots (Remove source_id) = removed (unwrap_or (slot_with source_id slots) 0)
+operated slots _ = nothing
 
 -- ---- the causes
 

@@ -7,8 +7,7 @@ use Rattle.iso_pdu.specs.Layout.{Content, end, fragment, framed, control}
 abbrev pub unframed : Content → Option Content
 unframed (end octets) = Some (end octets)
 unframed (fragment octets) = Some (fragment octets)
-unframed (framed parts) = None
-unframed (control octets) = None
+unframed _ = None
 
 -- the first f - 1 numbers are kept as fragments and the f-th as an end, and these parts together are the octets
 pub record IsUnit (max_sdu : ℕ) (slot : List (Option Content)) (octets : List ℕ) : Type 0 where
@@ -21,12 +20,9 @@ pub record IsUnit (max_sdu : ℕ) (slot : List (Option Content)) (octets : List 
 
 -- the same from left to right, behind a prefix that is read already
 abbrev pub unit_after : ℕ → List ℕ → List (Option Content) → Option (List ℕ)
-unit_after max_sdu prefix [] = None
-unit_after max_sdu prefix (None ∷ slot) = None
 unit_after max_sdu prefix (Some (end part) ∷ slot) = if nat_le (length (prefix ++ part)) max_sdu then Some (prefix ++ part) else None
 unit_after max_sdu prefix (Some (fragment part) ∷ slot) = unit_after max_sdu (prefix ++ part) slot
-unit_after max_sdu prefix (Some (framed parts) ∷ slot) = None
-unit_after max_sdu prefix (Some (control part) ∷ slot) = None
+unit_after max_sdu prefix _ = None
 
 abbrev pub unit_of : ℕ → List (Option Content) → Option (List ℕ)
 unit_of max_sdu slot = unit_after max_sdu [] slot

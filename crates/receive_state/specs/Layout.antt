@@ -22,7 +22,6 @@ pub record StateFields : Type 0 where
   pub bad_code : List ℕ
   pub groups : List Subgroup
 
--- Source_ID, address type, address, SID, Broadcast_ID, PA_Sync_State, BIG_Encryption, Bad_Code, Num_Subgroups
 abbrev pub prefix_fields : StateFields → ℕ → List Field
 prefix_fields s count =
     free (octet s.source_id) ∷ unless (nat_lt 1 s.address_type) (octet s.address_type) ∷ free s.address ∷ unless (nat_lt 15 s.sid) (octet s.sid) ∷ free s.broadcast_id ∷
@@ -52,10 +51,8 @@ number_of (keys.BadCode code) = 3
 
 -- Bad_Code
 abbrev pub code_of : Encryption → List ℕ
-code_of keys.None = []
-code_of keys.CodeRequired = []
-code_of keys.Decrypting = []
 code_of (keys.BadCode code) = code
+code_of _ = []
 
 abbrev pub group_of : GroupState → Subgroup
 group_of group = record { bits = group.bis_sync_state; metadata = group.metadata }

@@ -42,9 +42,7 @@ group_end_in whole octets = do
 
 unfoldable pub end_in : List ℕ → ℕ → List ℕ → Result (List ℕ) ℕ
 end_in whole zero octets = Ok octets
-end_in whole (suc count) octets = do
-  rest ← group_end_in whole octets
-  end_in whole count rest
+end_in whole (suc count) octets = do rest ← group_end_in whole octets; end_in whole count rest
 
 abbrev pub subgroups_of : Option (List Subgroup × List ℕ) → List Subgroup
 subgroups_of None = []

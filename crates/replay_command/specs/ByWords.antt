@@ -13,11 +13,8 @@ use Rattle.replay_lines.specs.World.{World}
 
 -- nothing is run for words of this mode
 abbrev pub IsNone : Mode → Type 0
-IsNone modes.Replay = ⊥
-IsNone modes.Migrate = ⊥
-IsNone modes.Toml = ⊥
-IsNone (modes.Generate seed events) = ⊥
-IsNone _ = Unit {0}
+IsNone modes.Usage = Unit {0}
+IsNone _ = ⊥
 
 pub record PromisedIn (mode : Mode) (old new : World) (status : Status) : Type 0 where
   pub replay : mode ≡ modes.Replay → FromText old new status

@@ -55,7 +55,6 @@ closing_at airs s steps (Some event) =
 abbrev pub closing : Airs → ℕ → List Step → List SinkUnit
 closing airs s steps = closing_at airs s steps (open_event (steps_of_source s steps))
 
--- what both sources' sinks hand up at `end`, those of source 0 first
 abbrev pub closing_both : Airs → List Step → List SinkUnit
 closing_both airs steps = closing airs 0 steps ++ closing airs 1 steps
 

@@ -4,7 +4,7 @@ use Rattle.bcast_io.specs.TextLines.{TextLine, plain, too_long, past}
 use Rattle.unit_outlets.specs.Account.{Account}
 use Rattle.scenario_text.specs.declared.step.Step.{Step}
 use Rattle.scenario_words.specs.declared.fault.LineFault.{LineFault}
-use Rattle.scenario_words.specs.declared.fault.LineFault.TheVariants.{BadLine as Misfit, Memory as NoMemory}
+use Rattle.scenario_words.specs.declared.fault.LineFault.TheVariants.{BadLine as Misfit}
 use Rattle.scenario_text.specs.Steps.{read_of}
 use Rattle.transcript_text.specs.declared.refusal.Refusal.{Refusal}
 use Rattle.transcript_text.specs.declared.refusal.Refusal.TheVariants.{TextTooLong, LineTooLong, BadLine}
@@ -24,10 +24,9 @@ pub data Said : Type 0 where
   unsaid : Refusal → Said
 
 abbrev pub said_by : Result (Option Step) LineFault → Said
-said_by (Ok None) = nothing
 said_by (Ok (Some step)) = a_step step
 said_by (Err (Misfit word)) = unsaid (BadLine word)
-said_by (Err NoMemory) = nothing
+said_by _ = nothing
 
 abbrev pub said_in : ℕ → TextLine → Said
 said_in version (plain octets) = said_by (read_of version octets)
@@ -43,7 +42,6 @@ abbrev pub said_of : List TextLine → List Step
 said_of [] = []
 said_of (line ∷ earlier) = with_said (said_in (version_of (said_of earlier)) line) (said_of earlier)
 
--- what happens by the lines: their steps, and the relayed units among them
 abbrev pub steps_of : Airs → List TextLine → List Step
 steps_of airs lines = happened airs (said_of lines)
 

@@ -91,12 +91,10 @@ abbrev pub no_place : List Step → ℕ → ℕ → ℕ → Option Refusal
 no_place own back bis subevent = option_map air_refusal (air_fault (setup_of own) (source_calls own) back bis subevent)
 
 abbrev pub counter_ends : Option EventFault → Option Refusal
-counter_ends None = None
-counter_ends (Some fault) = Some CounterEnds
+counter_ends fault = option_map (λ any. CounterEnds) fault
 
 abbrev pub train_ends : Option AnnounceFault → Option Refusal
-train_ends None = None
-train_ends (Some fault) = Some CounterEnds
+train_ends fault = option_map (λ any. CounterEnds) fault
 
 unfoldable pub has_beyond : ℕ → ℕ → Bool
 has_beyond num_bis which = list_any (λ bis. nat_lt num_bis bis) (streams_of which)

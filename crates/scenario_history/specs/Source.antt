@@ -133,10 +133,9 @@ is_sending_at sending = true
 is_sending_at _ = false
 
 abbrev pub was_started_at : Phase → Bool
-was_started_at absent = false
-was_started_at described = false
 was_started_at sending = true
 was_started_at stopped = true
+was_started_at _ = false
 
 abbrev pub is_sending : List Step → Bool
 is_sending steps = is_sending_at (phase_of steps)

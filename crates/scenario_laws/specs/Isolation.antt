@@ -69,7 +69,6 @@ abbrev pub lines_of : Airs → ℕ → List Step → List ℕ
 lines_of airs n [] = []
 lines_of airs n (step ∷ earlier) = lines_of airs n earlier ++ lines_by airs n earlier step
 
--- what those of them print so that are kept for the sink and the source, each after all steps before it
 abbrev pub kept_lines : Airs → ℕ → ℕ → List Step → List ℕ
 kept_lines airs s n [] = []
 kept_lines airs s n (step ∷ earlier) =
@@ -88,8 +87,7 @@ pub record IsSameHistory (made : Settings) (calls others : List Call) : Type 0 w
   pub reads : (link slot : ℕ) → read_waits made.setup made.mtu link slot calls ≡ read_waits made.setup made.mtu link slot others
   pub views : (link slot : ℕ) → view made.setup made.mtu link slot calls ≡ view made.setup made.mtu link slot others
 
--- sink `n` after these steps, and after only those that are kept for it and source `s`, has the same limits, source, calls of its receivers
--- and units; its box, whichever that is, took the same; its histories come to the same; and the kept steps print the same of it
+-- sink `n` is after these steps what it is after only those of them that are kept for it and source `s`, and the kept steps print the same
 pub record IsIsolated (airs : Airs) (s n : ℕ) (steps : List Step) : Type 0 where
   pub made : made_of n steps ≡ made_of n (only s n steps)
   pub source : source_of n steps ≡ source_of n (only s n steps)

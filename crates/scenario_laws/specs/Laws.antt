@@ -81,7 +81,6 @@ handed_since begins airs [] = []
 handed_since begins airs (step ∷ earlier) =
     if begins earlier step then [] else handed_since begins airs earlier ++ handed_by airs earlier step
 
--- what the sink handed up on a stream of a source since the last step that begins
 abbrev pub shown_since : (List Step → Step → Bool) → Airs → ℕ → ℕ → ℕ → List Step → List Handed
 shown_since begins airs s n bis steps = of_stream bis (handed_of s n (handed_since begins airs steps))
 
@@ -164,7 +163,6 @@ closed_by airs s n earlier (Terminate reason) = if chosen_of earlier == s then c
 closed_by airs s n earlier End = closed_with airs s n earlier
 closed_by airs s n earlier _ = []
 
--- the events of a source that the sink closed since it was made, in all its stays
 abbrev pub closed_since : Airs → ℕ → ℕ → List Step → List Closed
 closed_since airs s n [] = []
 closed_since airs s n (step ∷ earlier) =
@@ -189,9 +187,8 @@ abbrev pub IsBefore : SegmentPlace → SegmentPlace → Type 0
 IsBefore one other = (one.number < other.number) ⊎ ((one.number ≡ other.number) × (one.segment < other.segment))
 
 abbrev pub AreInOrder : List SegmentPlace → Type 0
-AreInOrder [] = Unit {0}
-AreInOrder (one ∷ []) = Unit {0}
 AreInOrder (one ∷ other ∷ places) = IsBefore one other × AreInOrder (other ∷ places)
+AreInOrder _ = Unit {0}
 
 -- The sink heard this start with this TimeOffset in a stay with the source: after the earlier of its steps, since which it wasn't
 -- made again, it was on a group of the source and took the stream; in that stay the first PDU that it heard under this payload

@@ -66,12 +66,7 @@ pub record InSourceOrder (setup : Setup) (calls : List Call) (bis : ℕ) (units 
 
 -- a sent unit by payload numbers: in the air its numbers count from 0, the first of the source's first event
 abbrev pub by_payload : Setup → Sent → Sent
-by_payload setup unit = record {
-  first = setup.first * setup.info.bn + unit.first;
-  offset = unit.offset;
-  segments = unit.segments;
-  whole = unit.whole;
-}
+by_payload setup unit = record unit { first = setup.first * setup.info.bn + unit.first }
 
 -- these are the units that the air of a framed stream sends, by payload numbers
 pub record AreSent (setup : Setup) (calls : List Call) (bis : ℕ) (air : Air) (units : List Sent) : Type 0 where

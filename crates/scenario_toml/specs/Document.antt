@@ -4,6 +4,7 @@
 use Rattle.std.specs.Prelude.{ℕ, ◌==◌, List, [], ◌∷◌, Option, None, Some, if◌then◌else◌, codes}
 use Rattle.std.specs.List.{list_any}
 use Rattle.std.specs.Str.{is_utf8}
+use Rattle.std.specs.Option.{option_and_then}
 use Rattle.bcast_io.specs.TextLines.{newline}
 use Rattle.toml.specs.Data.{Data, as_str, as_array, Items, no_items, item, Members, get_member}
 use Rattle.toml.specs.Parse.{parse_document}
@@ -88,8 +89,7 @@ sink_lines = table_with sink_fields sink_others (λ sink.
     (where_given (context_line sink) (get_member (codes "contexts") sink)))))
 
 abbrev pub step_text : Option (List ℕ) → Option (List ℕ)
-step_text None = None
-step_text (Some octets) = if list_any (λ octet. octet == newline) octets then None else Some octets
+step_text step = option_and_then (λ octets. if list_any (λ octet. octet == newline) octets then None else Some octets) step
 
 unfoldable pub step_line : Data → Option (List ℕ)
 step_line step = both (step_text (as_str step)) (Some (newline ∷ []))

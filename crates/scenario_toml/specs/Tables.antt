@@ -2,6 +2,7 @@
 -- project's own.
 use Rattle.std.specs.Prelude.{ℕ, ◌||◌, ◌&&◌, Bool, true, List, [], ◌∷◌, Option, None, Some, if◌then◌else◌, bytes_eq}
 use Rattle.std.specs.List.{list_any}
+use Rattle.std.specs.Option.{option_and_then}
 use Rattle.bcast_io.specs.TextLines.{newline}
 use Rattle.toml.specs.Data.{Data, as_table, Members, no_members, member}
 use Rattle.scenario_toml.specs.Parts.{both}
@@ -21,12 +22,10 @@ only_has fields others no_members = true
 only_has fields others (member key value members) = is_known fields others key && only_has fields others members
 
 abbrev pub with_keys : List Field → List (List ℕ) → Option Members → Option Members
-with_keys fields others None = None
-with_keys fields others (Some members) = if only_has fields others members then Some members else None
+with_keys fields others table = option_and_then (λ members. if only_has fields others members then Some members else None) table
 
 abbrev pub of_members : (Members → Option (List ℕ)) → Option Members → Option (List ℕ)
-of_members part None = None
-of_members part (Some members) = part members
+of_members part members = option_and_then part members
 
 abbrev pub table_with : List Field → List (List ℕ) → (Members → Option (List ℕ)) → Data → Option (List ℕ)
 table_with fields others part value = of_members part (with_keys fields others (as_table value))

@@ -3,6 +3,7 @@ use Rattle.std.specs.Prelude.{ℕ, ◌==◌, ◌&&◌, not, nat_le, Bool, ℤ, L
 use Rattle.std.specs.Prelude.{Option, None, Some, if◌then◌else◌}
 use Rattle.std.specs.Fmt.{signed_decimal}
 use Rattle.std.specs.List.{list_all}
+use Rattle.std.specs.Option.{option_map, option_and_then}
 use Rattle.scenario_words.specs.Joined.{space}
 use Rattle.toml.specs.Data.{Data, as_str, as_integer, Members, get_member}
 use Rattle.scenario_toml.specs.Parts.{after, both, required}
@@ -14,12 +15,10 @@ abbrev pub is_word : List ℕ → Bool
 is_word octets = not (length octets == 0) && list_all is_printed octets
 
 abbrev pub text_word : Option (List ℕ) → Option (List ℕ)
-text_word None = None
-text_word (Some octets) = if is_word octets then Some octets else None
+text_word word = option_and_then (λ octets. if is_word octets then Some octets else None) word
 
 abbrev pub number_word : Option ℤ → Option (List ℕ)
-number_word None = None
-number_word (Some number) = Some (signed_decimal number)
+number_word integer = option_map signed_decimal integer
 
 abbrev pub spaced_text : Data → Option (List ℕ)
 spaced_text value = after (space ∷ []) (text_word (as_str value))

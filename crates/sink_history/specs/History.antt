@@ -36,7 +36,6 @@ abbrev pub version_given : Step → Option ℕ
 version_given (steps.Scenario version) = Some version
 version_given _ = None
 
--- the greatest horizon of a group in a version
 abbrev pub horizon_in : ℕ → ℕ
 horizon_in version = if version == 2 then 31 else 15
 

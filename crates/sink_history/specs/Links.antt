@@ -22,7 +22,6 @@ language mtu = record { encode = value; reading = reading_of; empty = None; mtu 
 abbrev pub Acts : Type 0
 Acts = List (Act (Option ReceiveState))
 
--- a notice that waits, with the state that it tells of
 abbrev pub Told : Type 0
 Told = links.Notice (Option ReceiveState)
 

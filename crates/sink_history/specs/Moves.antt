@@ -3,7 +3,7 @@
 use Rattle.std.specs.Prelude.{ℕ, Bool, true, false, is_some, List, Option, Some, None, if◌then◌else◌}
 use Rattle.delegator_machine.specs.Groups.{with_step}
 use Rattle.delegator_history.specs.Snapshots.{Snapshot}
-use Rattle.delegator_history.specs.Trains.{TrainOutcome, Settings, Train, outcome_by, heard, ignored, taken, big_sync_in}
+use Rattle.delegator_history.specs.Trains.{TrainOutcome, Settings, Train, outcome_by, ignored, big_sync_in}
 use Rattle.sync_reference.specs.BigSync.{BigSync}
 use Rattle.group_sink.specs.Calls as sinks
 use Rattle.sink_history.specs.Calls.{Call}
@@ -37,13 +37,11 @@ brings_by source line (Some made) before = is_some (big_sync_of made (snapshot_i
 
 abbrev pub follows : TrainOutcome → Bool
 follows (ignored answer) = false
-follows (heard slot answer encrypted) = true
-follows (taken slot bits encrypted big_sync) = true
+follows _ = true
 
 abbrev pub follows_by : Source → Option Train → Option Settings → List Call → Bool
-follows_by source None made before = false
-follows_by source (Some train) None before = false
 follows_by source (Some train) (Some made) before = follows (outcome_by made.setup (snapshot_in made before) train)
+follows_by source _ _ before = false
 
 -- the source of the last line that synchronized it to a train or a BIG
 abbrev pub source_by : Source → Step → Option Settings → List Call → Option ℕ → Option ℕ

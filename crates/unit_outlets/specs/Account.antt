@@ -1,5 +1,6 @@
 -- What a box tells of the units that it took (the units are the SDUs of Core 5.2, volume 6 part G, section 1).
-use Rattle.std.specs.Prelude.{ℕ, ◌+◌, ◌<◌, ◌^◌, Bool, List, [], ◌∷◌, ◌++◌, length, Option, Some, None}
+use Rattle.std.specs.Prelude.{ℕ, ◌+◌, ◌<◌, ◌^◌, Bool, List, [], ◌∷◌, ◌++◌, length, Option}
+use Rattle.std.specs.Option.{option_map}
 use Rattle.circular_buffer.specs.Buffer.{keep_last}
 
 pub record Account : Type 0 where
@@ -13,10 +14,8 @@ pub record Account : Type 0 where
 abbrev pub fresh : Bool → ℕ → Option (List (List ℕ)) → Account
 fresh is_sound greatest kept = record { units = 0; octets = 0; faults = 0; is_sound = is_sound; greatest = greatest; kept = kept }
 
--- the units kept after one more: the newest, up to the greatest number
 abbrev pub kept_after : ℕ → List ℕ → Option (List (List ℕ)) → Option (List (List ℕ))
-kept_after greatest unit None = None
-kept_after greatest unit (Some units) = Some (keep_last greatest (units ++ unit ∷ []))
+kept_after greatest unit kept = option_map (λ units. keep_last greatest (units ++ unit ∷ [])) kept
 
 abbrev pub with_unit : List ℕ → Account → Account
 with_unit unit a = record a { units = a.units + 1; octets = a.octets + length unit; kept = kept_after a.greatest unit a.kept }

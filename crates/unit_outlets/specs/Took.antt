@@ -16,7 +16,6 @@ Took unit old new (Ok _) = Fits unit old × (new ≡ with_unit unit old)
 Took unit old new (Err Failed) = Faulted unit old new
 Took unit old new (Err Memory) = Fits unit old × (new ≡ old)
 
--- the box at this place took the unit or refused it, and each other box is as before
 pub record TookAt (place : ℕ) (unit : List ℕ) (old new : List Account) (result : Result (Unit {0}) OutletFault) : Type 0 where
   pub before : Account
   pub after : Account
