@@ -1,13 +1,13 @@
 //! BASEs and what they mean: facts of the public test programs of BlueZ 5.82, by the names that they have there. A
 //! configuration that is not of LC3 has no values.
-mod one_stream;
-mod two_streams;
+mod located;
+mod pairs;
 
 use base_grammar::{Base, decode_base, encode_base};
 use bcast_base::Bis;
-use one_stream::ONE_STREAM;
+use located::LOCATED;
+use pairs::PAIRS;
 use std::alloc::Global;
-use two_streams::TWO_STREAMS;
 
 // What holds for BIS 1 of the only subgroup.
 #[derive(Clone, Copy, PartialEq, Eq)]
@@ -27,6 +27,36 @@ pub struct Vector {
     pub means: Meaning,
 }
 
+// A BASE of one stream and one of two, and the frequency, the duration and the octets of a frame of both.
+#[derive(Clone, Copy)]
+pub struct Pair {
+    pub one: &'static [u8],
+    pub two: &'static [u8],
+    pub values: Option<(u8, u8, u16)>,
+}
+
+// What a BASE of so many streams with these values means.
+fn plain(streams: usize, values: Option<(u8, u8, u16)>) -> Meaning {
+    let unknown = Meaning {
+        delay: 40000,
+        streams,
+        frequency: None,
+        duration: None,
+        allocation: None,
+        frame_octets: None,
+        contexts: None,
+    };
+    match values {
+        None => unknown,
+        Some((frequency, duration, frame_octets)) => Meaning {
+            frequency: Some(frequency),
+            duration: Some(duration),
+            frame_octets: Some(frame_octets),
+            ..unknown
+        },
+    }
+}
+
 // What the BASE means, if it has one subgroup that names BIS 1.
 fn meaning_of(base: &Base) -> Option<Meaning> {
     if base.count() != 1 {
@@ -44,23 +74,24 @@ fn meaning_of(base: &Base) -> Option<Meaning> {
     })
 }
 
-// Whether the octets are read as a BASE of this meaning, and written again.
-fn holds(alloc: Global, vector: &Vector) -> bool {
-    let Ok(base) = decode_base(alloc, vector.octets) else {
+// Whether octets are read as a BASE of this meaning, and written again.
+fn holds(alloc: Global, octets: &[u8], means: Meaning) -> bool {
+    let Ok(base) = decode_base(alloc, octets) else {
         return false;
     };
-    let Ok(octets) = encode_base(alloc, &base) else {
+    let Ok(encoded) = encode_base(alloc, &base) else {
         return false;
     };
-    octets.as_slice() == vector.octets && meaning_of(&base) == Some(vector.means)
+    encoded.as_slice() == octets && meaning_of(&base) == Some(means)
 }
 
 #[test]
 fn bases_mean_what_the_test_programs_say(rt: HostRuntime) {
-    for vector in &ONE_STREAM {
-        assert!(rt; holds(rt.alloc(), vector));
+    for vector in &LOCATED {
+        assert!(rt; holds(rt.alloc(), vector.octets, vector.means));
     }
-    for vector in &TWO_STREAMS {
-        assert!(rt; holds(rt.alloc(), vector));
+    for pair in &PAIRS {
+        assert!(rt; holds(rt.alloc(), pair.one, plain(1, pair.values)));
+        assert!(rt; holds(rt.alloc(), pair.two, plain(2, pair.values)));
     }
 }

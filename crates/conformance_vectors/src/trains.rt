@@ -1,13 +1,10 @@
 //! What sources announce before their first event: of one stream, of two streams of LC3, and of an encrypted group.
-ghost use Rattle.big_info.specs.Widths.{FitsWidths};
-
 use announcement_train::Train;
 use base_grammar::decode_base;
 use big_info::{BigInfo, Cipher};
 use std::alloc::Global;
-use std::test::Fail;
 
-/// One stream of a unit every 10 ms in PDUs of at most 4 octets on LE 2M.
+// One stream of a unit every 10 ms in PDUs of at most 4 octets on LE 2M.
 const ONE_STREAM: BigInfo = BigInfo {
     big_offset: 0,
     big_offset_units: 0,
@@ -31,99 +28,102 @@ const ONE_STREAM: BigInfo = BigInfo {
     cipher: None,
 };
 
-/// The train for event 0, whose anchor is at 20 ms.
-fn train(alloc: Global, base: &[u8], info: &BigInfo) -> Result<Train, Fail>
-    requires { FitsWidths info.now }
-{
-    let base = decode_base(alloc, base)?;
-    Ok(Train::of_event(alloc, [0x56, 0x34, 0x12], &base, info, 0, 20_000)?)
+const TWO_STREAMS: BigInfo = BigInfo {
+    num_bis: 2,
+    nse: 3,
+    sub_interval: 600,
+    bis_spacing: 1800,
+    irc: 2,
+    pto: 1,
+    max_pdu: 100,
+    max_sdu: 100,
+    ..ONE_STREAM
+};
+
+const ENCRYPTED: BigInfo = BigInfo {
+    cipher: Some(Cipher {
+        giv: [1, 2, 3, 4, 5, 6, 7, 8],
+        gskd: [0x11; 16],
+    }),
+    ..ONE_STREAM
+};
+
+// The extended advertising of the Broadcast_ID 0x123456.
+const EXT: [u8; 7] = [0x06, 0x16, 0x52, 0x18, 0x56, 0x34, 0x12];
+
+// A BASE and the numbers of a group, and what is announced of them: the periodic advertising and the additional controller data.
+#[derive(Clone, Copy)]
+struct Announced {
+    base: &'static [u8],
+    info: BigInfo,
+    adv: &'static [u8],
+    acad: &'static [u8],
 }
 
-#[test]
-fn a_stream_of_another_codec(rt: HostRuntime) -> Result<(), Fail> {
-    assert!(rt; ONE_STREAM.fits());
-    let base = [0x40, 0x9c, 0, 1, 1, 0xff, 1, 0, 2, 0, 0, 0, 1, 0];
-    let train = train(rt.alloc(), &base, &ONE_STREAM)?;
-    assert!(rt; train.time == 17_000);
-    assert!(rt; train.ext.as_slice() == [0x06, 0x16, 0x52, 0x18, 0x56, 0x34, 0x12].as_slice());
-    assert!(rt;
-        train.adv.as_slice()
-            == [
-                0x11, 0x16, 0x51, 0x18, 0x40, 0x9c, 0, 1, 1, 0xff, 1, 0, 2, 0, 0, 0, 1, 0
-            ]
-            .as_slice()
-    );
-    assert!(rt;
-        train.acad.as_slice()
-            == [
-                0x22, 0x2c, 0x64, 0, 0x04, 0x08, 0x21, 0, 0, 0, 0, 0, 0x10, 0x04, 0, 0, 0, 0, 0,
-                0x10, 0x27, 0x40, 0, 0, 0, 0xff, 0xff, 0xff, 0xff, 0x3f, 0, 0, 0, 0, 0
-            ]
-            .as_slice()
-    );
-    Ok(())
-}
+const ANNOUNCED: [Announced; 3] = [
+    Announced {
+        base: &[0x40, 0x9c, 0, 1, 1, 0xff, 1, 0, 2, 0, 0, 0, 1, 0],
+        info: ONE_STREAM,
+        adv: &[
+            0x11, 0x16, 0x51, 0x18, 0x40, 0x9c, 0, 1, 1, 0xff, 1, 0, 2, 0, 0, 0, 1, 0,
+        ],
+        acad: &[
+            0x22, 0x2c, 0x64, 0, 0x04, 0x08, 0x21, 0, 0, 0, 0, 0, 0x10, 0x04, 0, 0, 0, 0, 0, 0x10,
+            0x27, 0x40, 0, 0, 0, 0xff, 0xff, 0xff, 0xff, 0x3f, 0, 0, 0, 0, 0,
+        ],
+    },
+    Announced {
+        base: &[
+            0x40, 0x9c, 0, 1, 2, 6, 0, 0, 0, 0, 10, 2, 1, 8, 2, 2, 1, 3, 4, 100, 0, 4, 3, 2, 4, 0,
+            1, 6, 5, 3, 1, 0, 0, 0, 2, 6, 5, 3, 2, 0, 0, 0,
+        ],
+        info: TWO_STREAMS,
+        adv: &[
+            0x2d, 0x16, 0x51, 0x18, 0x40, 0x9c, 0, 1, 2, 6, 0, 0, 0, 0, 10, 2, 1, 8, 2, 2, 1, 3, 4,
+            100, 0, 4, 3, 2, 4, 0, 1, 6, 5, 3, 1, 0, 0, 0, 2, 6, 5, 3, 2, 0, 0, 0,
+        ],
+        acad: &[
+            0x22, 0x2c, 0x64, 0, 0x04, 0x10, 0x23, 0x58, 0x02, 0x10, 0x08, 0x07, 0x20, 0x64, 0, 0,
+            0, 0, 0, 0x10, 0x27, 0x40, 0x06, 0, 0, 0xff, 0xff, 0xff, 0xff, 0x3f, 0, 0, 0, 0, 0,
+        ],
+    },
+    Announced {
+        base: &[0x40, 0x9c, 0, 1, 1, 6, 0, 0, 0, 0, 0, 0, 1, 0],
+        info: ENCRYPTED,
+        adv: &[
+            0x11, 0x16, 0x51, 0x18, 0x40, 0x9c, 0, 1, 1, 6, 0, 0, 0, 0, 0, 0, 1, 0,
+        ],
+        acad: &[
+            0x3a, 0x2c, 0x64, 0, 0x04, 0x08, 0x21, 0, 0, 0, 0, 0, 0x10, 0x04, 0, 0, 0, 0, 0, 0x10,
+            0x27, 0x40, 0, 0, 0, 0xff, 0xff, 0xff, 0xff, 0x3f, 0, 0, 0, 0, 0, 1, 2, 3, 4, 5, 6, 7,
+            8, 0x11, 0x11, 0x11, 0x11, 0x11, 0x11, 0x11, 0x11, 0x11, 0x11, 0x11, 0x11, 0x11, 0x11,
+            0x11, 0x11,
+        ],
+    },
+];
 
-#[test]
-fn two_streams_of_lc3(rt: HostRuntime) -> Result<(), Fail> {
-    let info = BigInfo {
-        num_bis: 2,
-        nse: 3,
-        sub_interval: 600,
-        bis_spacing: 1800,
-        irc: 2,
-        pto: 1,
-        max_pdu: 100,
-        max_sdu: 100,
-        ..ONE_STREAM
+// Whether that is the train for event 0, whose anchor is at 20 ms.
+fn is_announced(alloc: Global, of: &Announced) -> bool {
+    if !of.info.fits() {
+        return false;
+    }
+    let Ok(base) = decode_base(alloc, of.base) else {
+        return false;
     };
-    assert!(rt; info.fits());
-    let base = [
-        0x40, 0x9c, 0, 1, 2, 6, 0, 0, 0, 0, 10, 2, 1, 8, 2, 2, 1, 3, 4, 100, 0, 4, 3, 2, 4, 0, 1,
-        6, 5, 3, 1, 0, 0, 0, 2, 6, 5, 3, 2, 0, 0, 0,
-    ];
-    let train = train(rt.alloc(), &base, &info)?;
-    assert!(rt;
-        train.adv.as_slice()
-            == [
-                0x2d, 0x16, 0x51, 0x18, 0x40, 0x9c, 0, 1, 2, 6, 0, 0, 0, 0, 10, 2, 1, 8, 2, 2, 1,
-                3, 4, 100, 0, 4, 3, 2, 4, 0, 1, 6, 5, 3, 1, 0, 0, 0, 2, 6, 5, 3, 2, 0, 0, 0
-            ]
-            .as_slice()
-    );
-    assert!(rt;
-        train.acad.as_slice()
-            == [
-                0x22, 0x2c, 0x64, 0, 0x04, 0x10, 0x23, 0x58, 0x02, 0x10, 0x08, 0x07, 0x20, 0x64, 0,
-                0, 0, 0, 0, 0x10, 0x27, 0x40, 0x06, 0, 0, 0xff, 0xff, 0xff, 0xff, 0x3f, 0, 0, 0, 0,
-                0
-            ]
-            .as_slice()
-    );
-    Ok(())
+    match Train::of_event(alloc, [0x56, 0x34, 0x12], &base, &of.info, 0, 20_000) {
+        Ok(train) => {
+            train.time == 17_000
+                && train.ext.as_slice() == EXT.as_slice()
+                && train.adv.as_slice() == of.adv
+                && train.acad.as_slice() == of.acad
+        }
+        Err(_) => false,
+    }
 }
 
 #[test]
-fn an_encrypted_group(rt: HostRuntime) -> Result<(), Fail> {
-    let info = BigInfo {
-        cipher: Some(Cipher {
-            giv: [1, 2, 3, 4, 5, 6, 7, 8],
-            gskd: [0x11; 16],
-        }),
-        ..ONE_STREAM
-    };
-    assert!(rt; info.fits());
-    let base = [0x40, 0x9c, 0, 1, 1, 6, 0, 0, 0, 0, 0, 0, 1, 0];
-    let train = train(rt.alloc(), &base, &info)?;
-    assert!(rt;
-        train.acad.as_slice()
-            == [
-                0x3a, 0x2c, 0x64, 0, 0x04, 0x08, 0x21, 0, 0, 0, 0, 0, 0x10, 0x04, 0, 0, 0, 0, 0,
-                0x10, 0x27, 0x40, 0, 0, 0, 0xff, 0xff, 0xff, 0xff, 0x3f, 0, 0, 0, 0, 0, 1, 2, 3, 4,
-                5, 6, 7, 8, 0x11, 0x11, 0x11, 0x11, 0x11, 0x11, 0x11, 0x11, 0x11, 0x11, 0x11, 0x11,
-                0x11, 0x11, 0x11, 0x11
-            ]
-            .as_slice()
-    );
-    Ok(())
+fn sources_announce_their_first_event(rt: HostRuntime) {
+    for of in &ANNOUNCED {
+        assert!(rt; is_announced(rt.alloc(), of));
+    }
 }
