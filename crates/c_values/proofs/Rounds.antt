@@ -1,13 +1,12 @@
 -- What a round leaves waiting, and how the rooms stand.
-use Rattle.std.proofs.Common.{◌≡◌, ℕ, zero, suc, ◌+◌, ◌-◌, ◌<◌, ◌≤◌, Bool, true, false, List, [], ◌∷◌, ◌++◌, length, take, drop, map, slice_index_or, All, Contains, Option, Some, None, Result, Ok, Err, IfSome, IsSome, is_none, is_ok, refl, sym, ap, ◌∙◌, subst, append_assoc, option_to_list, arith, append-nil, length-append, length-take, length-take-le, take-take, take_all, vec_capacity, nat_le, ◌&&◌}
+use Rattle.std.proofs.Common.{◌≡◌, ℕ, ◌+◌, ◌-◌, ◌<◌, ◌≤◌, true, false, List, [], ◌∷◌, ◌++◌, length, take, drop, map, slice_index_or, All, Contains, Option, Some, None, Result, Ok, Err, IfSome, IsSome, is_none, is_ok, refl, sym, ap, ◌∙◌, subst, option_to_list, arith, append-nil, length-append, length-take, take-take, take_all, ◌&&◌}
 use Rattle.std.proofs.lemmas.List.{length-map}
 use Rattle.std.proofs.lemmas.List.Elements.{All-contains, All-push, All-rest, All-take, Contains-push}
 use Rattle.std.proofs.Math.Seq.{take-append_seam}
-use Rattle.bcast_base.specs.Counts.{counted}
 use Rattle.unit_outlets.specs.Handed.{Handed, valid, lost, HandsOver, Caused}
 use Rattle.unit_outlets.specs.declared.fault.TakerFault.{TakerFault}
 use Rattle.unit_outlets.specs.declared.fault.TakerFault.TheVariants.{Failed, Memory}
-use Rattle.c_values.specs.Kept.{Brought, HasRoom, IsWithin, Kept, Lacks, Room, Round, begun, calls_of, counts_of}
+use Rattle.c_values.specs.Kept.{Brought, IsWithin, Kept, Lacks, Room, begun, calls_of, counts_of}
 use Rattle.c_values.specs.Rooms.{roomy}
 use Rattle.c_values.specs.Sound.{in_rooms, waiting_as}
 use Rattle.c_values.specs.declared.units.Entry.{Entry}

@@ -1,10 +1,8 @@
 -- What C's structs stand for.
-use Rattle.std.specs.Prelude.{ℕ, ◌≡◌, Bool, List, Option, Some, None, Result, Ok, Err, if◌then◌else◌}
+use Rattle.std.specs.Prelude.{ℕ, Option, Some, None, if◌then◌else◌}
 use Rattle.big_info.specs.declared.info.BigInfo.{BigInfo}
-use Rattle.big_info.specs.declared.big_fault.BigFault.{BigFault}
 use Rattle.big_info.specs.declared.fault.GroupFault.{GroupFault}
 use Rattle.big_info.specs.Faults.{number_of}
-use Rattle.big_info.specs.Reading.{info_of}
 use Rattle.c_values.specs.declared.info.AirBigInfo.{AirBigInfo}
 
 -- the info that C's struct stands for
@@ -31,11 +29,6 @@ big_info c = record {
   framing = c.framing;
   cipher = if c.is_encrypted then Some (record { giv = c.giv; gskd = c.gskd }) else None;
 }
-
--- status 0 and the info that the octets are, or status 1 and the struct as it was
-abbrev pub InfoReadAs : Result BigInfo BigFault → ℕ → AirBigInfo → AirBigInfo → Type 0
-InfoReadAs (Ok info) status old new = (status ≡ 0) × (big_info new ≡ info)
-InfoReadAs (Err fault) status old new = (status ≡ 1) × (new ≡ old)
 
 -- the number of the first row that holds, 0 where none does
 abbrev pub row_of : Option GroupFault → ℕ

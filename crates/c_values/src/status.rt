@@ -9,7 +9,7 @@ pub const RANGE: u32 = 1;
 /// Memory ran out.
 pub const MEMORY: u32 = 2;
 
-/// The room is too small for what waits, which waits on.
+/// The room is too small for what waits, which still waits.
 pub const ROOM: u32 = 3;
 
 /// Nothing waits.

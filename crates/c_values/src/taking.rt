@@ -63,7 +63,8 @@ fn shown(entry: &Entry, room: &mut [u8]) -> Option<VmUnit>
 }
 
 impl Units {
-    /// Takes the first unit that waits: 0; 3 where the room is too small, and it waits on; 4 where none waits. Its room serves again.
+    /// Takes the first unit that waits. ROOM where the room is too small, and it still waits; EMPTY where none waits. Its own room serves
+    /// again.
     pub fn take_into(&mut self, room: &mut [u8], unit: &mut VmUnit) -> u32
         ensures taken { result ≡ ok → self.old.waiting ≡ unit_in unit.new room.new ∷ self.new.waiting }
         ensures none { result ≡ empty → self.old.waiting ≡ [] }

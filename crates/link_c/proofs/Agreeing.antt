@@ -4,7 +4,7 @@ use Rattle.std.proofs.lemmas.Bool.Decides.{eqb_tells}
 use Rattle.assistant_machine.specs.Calls.{Call, mtu_of}
 use Rattle.assistant_machine.specs.Cuts.{asks}
 use Rattle.assistant_machine.specs.Links as links
-use Rattle.assistant_machine.specs.Links.{Act, if_its, waiting_of}
+use Rattle.assistant_machine.specs.Links.{if_its, waiting_of}
 use Rattle.assistant_machine.specs.Views as views
 use Rattle.assistant_machine.specs.Views.{if_slot, reading_of}
 use Rattle.receive_state.specs.Cuts.{cut}

@@ -8,10 +8,6 @@ abbrev pub with_prefix : List Wish → Option (List Wish) → Option (List Wish)
 with_prefix prefix None = None
 with_prefix prefix (Some back) = Some (prefix ++ back)
 
-pub none_in_prefix : (read : Option (List Wish)) → with_prefix [] read ≡ read
-none_in_prefix None = refl
-none_in_prefix (Some wishes) = refl
-
 one_in_prefix : (first : Wish) (read : Option (List Wish)) → (read >>= λ wishes. Some (first ∷ wishes)) ≡ with_prefix (first ∷ []) read
 one_in_prefix first None = refl
 one_in_prefix first (Some wishes) = refl

@@ -150,7 +150,7 @@ pub extern "C" fn vm_link_scan(link: &mut VmLink, is_started: bool) -> u32
     }
 }
 
-/// Takes the first write that waits, at the front of the room. Where the room is too small it waits on: 512 octets are enough
+/// Takes the first write that waits, at the front of the room. Where the room is too small it still waits: 512 octets are enough
 /// for each write but a longer one that `vm_link_put` put.
 #[unsafe(no_mangle)]
 pub extern "C" fn vm_link_next_write(link: &mut VmLink, room: &mut [u8], count: &mut usize) -> u32

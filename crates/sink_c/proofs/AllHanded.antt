@@ -1,5 +1,5 @@
 -- All that the ticks handed up ends with what they handed since the sink was synchronized to its BIG.
-use Rattle.sink_c.proofs.Prelude.{◌≡◌, Bool, true, false, List, [], ◌∷◌, ◌++◌, Option, Some, None, append-nil, append_assoc, ap, refl, sym, ◌∙◌, ◌&&◌, not, if◌then◌else◌, Setup, Call, control, hear, tick, steps_of, group_calls, big_sync_given, with_leave, with_step, handed_at, handed_since, BigSync, Handed, all_handed}
+use Rattle.sink_c.proofs.Prelude.{◌≡◌, Bool, true, false, List, [], ◌∷◌, ◌++◌, Option, Some, None, append-nil, append_assoc, ap, refl, sym, ◌∙◌, ◌&&◌, not, if◌then◌else◌, Setup, Call, control, hear, tick, steps_of, group_calls, big_sync_given, with_step, handed_at, handed_since, BigSync, Handed, all_handed}
 use Rattle.delegator_control.specs.Groups.{has_group}
 use Rattle.delegator_history.specs.Snapshots.{Snapshot}
 use Rattle.delegator_history.specs.States.{snapshot_of}

@@ -1,5 +1,5 @@
 -- What a handle owns, by what it keeps, and its machine value. Assumes `Logic`.
-use Rattle.sink_c.proofs.Prelude.{◌≡◌, ℕ, zero, suc, List, [], ◌∷◌, ◌++◌, refl, subst, ◌∙◌, Bool, true, false, Option, Some, None, IsSome, Ura, ty_ptr, ty_struct, tcons, tnil, Val, vptr, vstruct, vcons, vnil, of_list, ent, emp, Fml, fex, Logic, sem, Goal, Seq, Item, ‵, RattleType, Ptr, RawPtr, block_ptr, null_ptr, ptr_val, Slot, plain, Struct, Global, boxed, owned, SinkMachine}
+use Rattle.sink_c.proofs.Prelude.{◌≡◌, ℕ, zero, suc, List, [], ◌∷◌, ◌++◌, refl, subst, ◌∙◌, Bool, true, false, Option, Some, None, IsSome, Ura, Val, vstruct, vcons, vnil, of_list, ent, emp, Fml, fex, Logic, sem, Goal, Seq, Item, ‵, Ptr, RawPtr, ptr_val, Slot, plain, Struct, Global, boxed, owned, SinkMachine}
 use denote.Builtin.{unit}
 use denote.Shadow.{shadow, makes_shadow}
 

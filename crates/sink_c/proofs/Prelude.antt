@@ -9,7 +9,7 @@ pub use Rattle.c_values.specs.Kept.{Brought, Kept, begun, calls_of, counts_of, H
 pub use Rattle.core.proofs.alloc.Calls.{Goes-blank, Al, handle_tells}
 pub use Rattle.delegator_history.specs.Trains.{Setup}
 pub use Rattle.delegator_machine.specs.Calls.{Call, control, hear, tick, steps_of}
-pub use Rattle.delegator_machine.specs.Groups.{group_calls, big_sync_given, with_leave, with_step}
+pub use Rattle.delegator_machine.specs.Groups.{group_calls, big_sync_given, with_step}
 pub use Rattle.delegator_machine.specs.State.Halves.{StandsFor}
 pub use Rattle.group_sink.specs.Handing.{handed_at, handed_since}
 pub use Rattle.sink_c.specs.Owned.{boxed, owned}
@@ -18,7 +18,7 @@ pub use Rattle.sink_c.specs.contracts.handle.VmSink.of.{ended, clauses}
 pub use Rattle.sink_c.specs.declared.machine.SinkMachine.{SinkMachine}
 pub use Rattle.sync_reference.specs.BigSync.{BigSync}
 pub use Rattle.unit_outlets.specs.Handed.{Handed, Caused, HandsOver}
-pub use base.Fml.{Fml, ftrue, fex, GName, fsep, fres, flft}
+pub use base.Fml.{Fml, ftrue, fex, GName, fsep, flft}
 pub use base.Logic.{ent, emp, SProp, id⊢, fst∗, never, sep}
 pub use contract.Monad.{fact, fact_i}
 pub use contract.Running.{tables}
@@ -31,7 +31,7 @@ pub use denote.Steps.{nothing, heard, opens, peeks}
 pub use denote.Struct.Struct.{Struct}
 pub use denote.Triple.Entry.{alive}
 pub use denote.Triple.Walked.{Stays, stay_dropped, walk_of, says, Goes-spent_ref, ends_at}
-pub use mir.Syntax.{tnil, Fn, ty_ptr, ty_struct, tcons, impl, dnil, named}
+pub use mir.Syntax.{tnil, Fn, impl, dnil, named}
 pub use mir.Val.{Val, vptr, vstruct, vcons, vnil, of_list}
 pub use prog.Wp.{WpFn}
 pub use seplogic.Ra.Ura.{Ura}

@@ -71,8 +71,8 @@ pub extern "C" fn vm_sink_tick(sink: &mut VmSink, event: u64) -> u32
     }
 }
 
-/// Takes the first unit that waits: 0; 3 where the room is too small for its octets, and it waits on; 4 where none waits. A room of 4,095
-/// octets is always enough.
+/// Takes the first unit that waits. ROOM where the room is too small for its octets, and it still waits; EMPTY where none waits. A room of
+/// 4,095 octets is always enough.
 #[unsafe(no_mangle)]
 pub extern "C" fn vm_sink_next_unit(sink: &mut VmSink, room: &mut [u8], unit: &mut VmUnit) -> u32
     requires { IsSome sink.old.kept }

@@ -2,7 +2,7 @@
 ghost use Rattle.std.specs.Prelude.{◌≡◌, ◌≤◌, ◌<◌, ◌+◌, ◌^◌, ◌∷◌, [], List, IfOk};
 ghost use Rattle.group_sink.specs.Handing.{units_at_close};
 ghost use Rattle.group_sink.specs.Hearings.{heard_on};
-ghost use Rattle.isoal_base.specs.Stays.{Call, Stay, close, hear, opened};
+ghost use Rattle.isoal_base.specs.Stays.{Call, Stay, close, hear};
 ghost use Rattle.stream_c.specs.Streams.{ReceiverStands, event_of};
 ghost use Rattle.unit_outlets.specs.Handed.{Caused, HandsOver};
 

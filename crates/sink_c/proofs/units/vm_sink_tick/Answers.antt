@@ -1,4 +1,4 @@
-use Rattle.sink_c.proofs.Prelude.{◌∷◌, ◌++◌, length, take, arith, ap, append_assoc, subst, sym, ◌∙◌, Brought, HasRoom, group_calls, handed_at, KeptStands, all_handed, room_kept, units_kept}
+use Rattle.sink_c.proofs.Prelude.{◌++◌, length, take, arith, ap, append_assoc, subst, sym, ◌∙◌, Brought, HasRoom, group_calls, handed_at, KeptStands, room_kept, units_kept}
 use Rattle.sink_c.proofs.Handing.{brought_by}
 use Rattle.sink_c.proofs.units.vm_sink_tick.Goals as goal
 

@@ -4,7 +4,7 @@ use mir.Val.{Val, vptr, vstruct, vnil}
 use base.Logic.{SProp}
 use prog.Wp.{WpFn}
 use contract.Running.{tables}
-use types.Kit.{Item, ‵, raw, ◌⊛◌, prop, ◌$◌, ◌∵◌, !, qed, move, keep, drop, split, fsplit, fjoin, fpack, feq_i, feq_l, regoal, suffices, done}
+use types.Kit.{‵, raw, ◌⊛◌, prop, ◌$◌, ◌∵◌, !, qed, move, keep, drop, split, fsplit, fjoin, fpack, feq_i, feq_l, regoal, suffices, done}
 use types.Part.{agg}
 use types.Run.{enter, returns, no_more}
 use types.ByLocal.{alloc_all, pass_all, free_all, look_at, sets}

@@ -1,9 +1,8 @@
 -- `into_loose` hands over what the handle owns. Assumes `Logic`.
-use Rattle.sink_c.proofs.Prelude.{◌≡◌, List, [], ◌∷◌, ◌++◌, refl, sym, ap, ◌∙◌, Some, IsSome, Fn, impl, tnil, dnil, Val, vptr, SProp, emp, fst∗, never, WpFn, fact, fact_i, tables, sem, ‵, raw, ◌⊛◌, prop, ◌$◌, ◌∵◌, !, qed, by, move, keep, drop, use0, split, fsplit, fjoin, fpick, regoal, rewrite, agg, sub, whole, stop, fld, of_opd, no_more, and_then, returns, enter, alloc_all, pass_all, free_all, look_at, get, get_in, sets, lone, RattleType, owns, Ptr, block_ptr, null_ptr, in_a_block, types_at, nothing, heard, alive, Stays, stay_dropped, walk_of, Al, handle_tells, Goes-blank, proved_at, leaves, ghosts, beside, beside_fits, closed, boxed}
+use Rattle.sink_c.proofs.Prelude.{◌≡◌, List, [], ◌∷◌, ◌++◌, refl, ap, ◌∙◌, Some, IsSome, Fn, impl, tnil, dnil, Val, SProp, emp, fst∗, never, WpFn, fact, fact_i, tables, sem, ‵, raw, ◌⊛◌, prop, ◌$◌, ◌∵◌, !, qed, by, move, drop, use0, split, fsplit, fjoin, fpick, regoal, agg, sub, whole, stop, fld, of_opd, no_more, and_then, returns, enter, alloc_all, pass_all, free_all, look_at, get, get_in, sets, lone, RattleType, owns, Ptr, block_ptr, null_ptr, in_a_block, types_at, nothing, heard, alive, Stays, stay_dropped, walk_of, Al, handle_tells, Goes-blank, proved_at, leaves, ghosts, beside, beside_fits, closed, boxed}
 use mir.Raw.{raw as bare}
 use Rattle.std_heap.specs.contracts.Global as heap
 use Rattle.std_heap.proofs.Global.TheLaws as heap_laws
-use Rattle.c_handles.specs.contracts.loose.Loose as loose
 use Rattle.sink_c.specs.contracts.machine.SinkMachine.{the_row as R}
 use Rattle.sink_c.specs.contracts.handle.VmSink.into_loose.{ended, clauses}
 use Rattle.sink_c.specs.contracts.handle.VmSink.into_loose.Key.{name as #self}

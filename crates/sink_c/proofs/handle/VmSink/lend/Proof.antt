@@ -1,5 +1,5 @@
 -- `lend` lends what lies in the block, and the handle follows it. Assumes `Logic`.
-use Rattle.sink_c.proofs.Prelude.{◌≡◌, ℕ, List, [], ◌∷◌, ◌++◌, refl, sym, ap, ◌∙◌, subst, Some, IsSome, proved, Ura, ent, sep, id⊢, fst∗, never, GName, Fml, ftrue, fsep, fres, flft, named, Val, vptr, fact, tables, Logic, sem, ‵, raw, ◌⊛◌, some, later, at_ret, ◌$◌, ◌∵◌, !, qed, by, done, move, keep, drop, use1, split, split3, join, fsplit, fsplit3, fjoin, fpack, fpick, pick, await, rewrite, suffices, frame, group, enter, of_opd, addr, load, stop, fld, first, blocks, exec, returns, alloc_all, pass_all, free_all, look_at, get, through, sets, sets_last, env, whole, sub, look_in, cell_at, part_at, mem, lone, Ptr, block_ptr, null_ptr, in_a_block, plain, mut_ref_to, nothing, opens, peeks, heard, no, Struct, Stays, walk_of, says, stay_dropped, Goes-spent_ref, ends_at, Global, ghosts, boxed, owned, SinkMachine}
+use Rattle.sink_c.proofs.Prelude.{◌≡◌, ℕ, List, [], ◌∷◌, refl, sym, ap, ◌∙◌, IsSome, proved, Ura, ent, sep, id⊢, fst∗, never, GName, Fml, ftrue, fsep, flft, named, Val, vptr, fact, tables, Logic, sem, ‵, raw, ◌⊛◌, some, later, at_ret, ◌$◌, ◌∵◌, !, qed, done, move, keep, use1, split, split3, join, fsplit, fsplit3, fjoin, fpack, fpick, pick, await, rewrite, suffices, frame, group, enter, of_opd, addr, load, stop, fld, first, blocks, exec, returns, alloc_all, pass_all, free_all, look_at, get, through, sets, sets_last, env, whole, sub, look_in, cell_at, part_at, mem, lone, Ptr, block_ptr, null_ptr, in_a_block, plain, mut_ref_to, nothing, opens, peeks, heard, no, Struct, Stays, walk_of, says, stay_dropped, Goes-spent_ref, ends_at, Global, ghosts, boxed, SinkMachine}
 use denote.Memory.{part_of}
 use Rattle.std.proofs.VecSteps.Shapes.{after}
 use base.Fraction.{full_share}

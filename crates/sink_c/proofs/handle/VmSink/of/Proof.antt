@@ -1,9 +1,8 @@
 -- `of` takes over what the loose box owns. Assumes `Logic`.
-use Rattle.sink_c.proofs.Prelude.{◌≡◌, List, [], ◌∷◌, ◌++◌, refl, sym, ap, subst, Some, Fn, Val, vptr, SProp, ent, emp, id⊢, ftrue, WpFn, fact, fact_i, tables, ‵, raw, ◌⊛◌, ◌$◌, ◌∵◌, !, qed, by, move, keep, drop, use0, split, fsplit, fjoin, fpack, suffices, agg, sub, whole, stop, fld, of_opd, no_more, and_then, returns, enter, alloc_all, pass_all, free_all, look_at, get, get_in, sets, no, RattleType, owns, block_ptr, types_at, nothing, alive, Stays, stay_dropped, walk_of, Goes-blank, proved_at, leaves, ghosts, Global, boxed, beside, beside_fits, opened, ended, clauses}
+use Rattle.sink_c.proofs.Prelude.{◌≡◌, List, [], ◌∷◌, ◌++◌, refl, sym, subst, Some, Fn, Val, SProp, ent, emp, id⊢, ftrue, WpFn, fact, fact_i, tables, ‵, raw, ◌⊛◌, ◌$◌, ◌∵◌, !, qed, by, move, drop, use0, split, fsplit, fjoin, fpack, suffices, agg, sub, whole, stop, fld, of_opd, no_more, and_then, returns, enter, alloc_all, pass_all, free_all, look_at, get, get_in, sets, RattleType, owns, block_ptr, types_at, nothing, alive, Stays, stay_dropped, walk_of, Goes-blank, proved_at, leaves, ghosts, Global, boxed, beside, beside_fits, opened, ended, clauses}
 use Rattle.std_heap.specs.contracts.Global as heap
 use Rattle.std_heap.proofs.Global.TheLaws as heap_laws
 use Rattle.sink_c.specs.contracts.machine.SinkMachine.{the_row as R}
-use Rattle.sink_c.specs.contracts.handle.VmSink.{the_row as B}
 use Rattle.sink_c.specs.contracts.handle.VmSink.of.Key.{name as #self}
 use Rattle.sink_c.proofs.handle.VmSink.of.Statement.{statement}
 use Rattle.sink_c.proofs.handle.VmSink.of.Code as code
