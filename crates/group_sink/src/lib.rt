@@ -8,8 +8,6 @@ mod numbers;
 mod receiver;
 mod refuser;
 mod streams;
-#[cfg(test)]
-mod tests;
 
 pub use group_receivers::GroupReceivers;
 pub use group_sink::GroupSink;

@@ -1,9 +1,11 @@
-//! A taker that refused a unit isn't called again by the same close: of several units that wait one after the other is refused.
+//! A taker that refused a unit isn't called again by the same close: of several units that wait one after the other is refused. The event
+//! is closed nevertheless, that of a sink for each of its streams.
 use crate::numbers::SINGLE;
 use crate::refusing::Refusing;
 use bcast_base::{Bis, BisSet};
 use big_info::{BigInfo, check_group};
 use group_sink::GroupSink;
+use isoal_base::{Heard, Hearing};
 use isoal_framed::FramedIn;
 use isoal_unframed::UnframedIn;
 use sync_reference::BigSync;
@@ -63,6 +65,24 @@ fn close_framed(receiver: &mut FramedIn, taker: &mut Refusing) -> Option<Result<
     Some(receiver.close(taker))
 }
 
+/// Whether a sink is put on this group, of which it takes these streams.
+fn tunes(sink: &mut GroupSink, info: &BigInfo, which: BisSet) -> bool {
+    if !info.fits() {
+        return false;
+    }
+    let Ok(group) = check_group(info) else {
+        return false;
+    };
+    let big_sync = BigSync {
+        group,
+        which,
+        first: 0,
+        anchor: 20000,
+        delay: 40000,
+    };
+    sink.tune(&big_sync).is_ok()
+}
+
 /// The answer of a tick of a sink, which hands three units of each of two streams, all but two as lost.
 fn tick(sink: &mut GroupSink, event: u64, taker: &mut Refusing) -> Option<Result<(), TakerFault>> {
     let (Some(first), Some(second)) = (Bis::new(1), Bis::new(2)) else {
@@ -100,12 +120,25 @@ fn ends_framed(receiver: &mut FramedIn, taker: &mut Refusing, fault: TakerFault)
     true
 }
 
-/// Whether each of six calls, refused for this fault, is the last one of its tick, from this event on.
+/// Whether an event is closed for both streams.
+fn is_over(sink: &mut GroupSink, event: u64) -> bool {
+    let (Some(first), Some(second)) = (Bis::new(1), Bis::new(2)) else {
+        return false;
+    };
+    if event > 100 {
+        return false;
+    }
+    sink.hear(event, first, 0, &FRAGMENT) == Hearing::Heard(Heard::Late)
+        && sink.hear(event, second, 0, &FRAGMENT) == Hearing::Heard(Heard::Late)
+}
+
+/// Whether each of six calls, refused for this fault, is the last one of its tick, which closes its event, from this event on.
 fn ends_tick(sink: &mut GroupSink, taker: &mut Refusing, event: u64, fault: TakerFault) -> bool {
     'calls: for call in 1..7usize {
         taker.refuse(call, fault);
-        let answer = tick(sink, event.saturating_add(call as u64), taker);
-        if !taker.refused_last(answer) {
+        let over = event.saturating_add(call as u64);
+        let answer = tick(sink, over, taker);
+        if !taker.refused_last(answer) || !is_over(sink, over) {
             return false;
         }
     }
@@ -146,23 +179,14 @@ fn a_close_of_segments_ends_with_the_call_that_was_refused(rt: HostRuntime) {
 
 #[test]
 fn a_tick_of_two_streams_ends_with_the_call_that_was_refused(rt: HostRuntime) {
-    assert!(rt; THREE_UNITS.fits());
-    let Ok(group) = check_group(&THREE_UNITS) else {
-        return assert!(rt; false);
-    };
     let (Some(first), Some(second)) = (Bis::new(1), Bis::new(2)) else {
         return assert!(rt; false);
     };
-    let both = BisSet::new().with(first).with(second);
+    let one = BisSet::new().with(first);
     let mut sink = GroupSink::new(rt.alloc());
-    let big_sync = BigSync {
-        group,
-        which: both,
-        first: 0,
-        anchor: 20000,
-        delay: 40000,
-    };
-    assert!(rt; sink.tune(&big_sync).is_ok());
+    assert!(rt;
+        tunes(&mut sink, &SEGMENTS, one) && tunes(&mut sink, &THREE_UNITS, one.with(second))
+    );
     let mut taker = Refusing::new(rt.alloc());
     let all = tick(&mut sink, 0, &mut taker);
     assert!(rt; taker.took(all, 6));
