@@ -1,19 +1,6 @@
 use bcast_base::Calls;
 use std::test::*;
-use unit_outlets::{FailingTally, LastUnits, Outlet, OutletFault, Tally, take_at};
-
-#[test]
-fn the_last_two_of_three_units_are_kept(rt: HostRuntime) -> Result<(), Fail> {
-    let mut last = LastUnits::new(rt.alloc(), 2)?;
-    for unit in [[0xaa], [0xbb], [0xcc]] {
-        last.take(&unit)?;
-    }
-    assert!(rt; last.last(0) == Some([0xcc].as_slice()));
-    assert!(rt; last.last(1) == Some([0xbb].as_slice()));
-    assert!(rt; last.last(2).is_none());
-    assert!(rt; (last.units(), last.octets()) == (3, 3));
-    Ok(())
-}
+use unit_outlets::{FailingTally, Outlet, OutletFault, Tally, take_at};
 
 #[test]
 fn a_box_fails_at_its_listed_call(rt: HostRuntime) -> Result<(), Fail> {
