@@ -18,7 +18,8 @@ ltv_at count octets = record { kind = get_or octets 0 0; value = take count (dro
 -- the structures of the octets from this place on, of which the first so many are of a structure that was read
 unfoldable pub ltvs_from : ℕ → ℕ → List ℕ → Result (List Ltv) LtvBad
 ltvs_from place (suc inside) (octet ∷ octets) = ltvs_from (place + 1) inside octets
-ltvs_from place inside [] = Ok []
+ltvs_from place (suc inside) [] = Ok []
+ltvs_from place zero [] = Ok []
 ltvs_from place zero (zero ∷ octets) = Err (ZeroLength place)
 ltvs_from place zero (suc count ∷ octets) = if nat_lt (length octets) (suc count) then Err (Short place)
     else before (ltv_at count octets) (ltvs_from (place + 1) (suc count) octets)
