@@ -5,21 +5,13 @@ ghost use Rattle.scenario_words.specs.declared.fault.LineFault.TheVariants.{Memo
 ghost use Rattle.scenario_words.specs.Reading.{GivesNext, ReadsNext};
 ghost use Rattle.scenario_lines.specs.Taking.{some_takes};
 ghost use Rattle.scenario_text.specs.Steps.{at_row};
-ghost use Rattle.scenario_text.specs.Table.{most_slots as slots_in, scenario_row, group_row, start_row, sink_row, tuned_row};
-ghost use Rattle.scenario_text.specs.Table.{unit_row, hear_row, air_row, inject_row, sniff_row, drop_row};
+ghost use Rattle.scenario_text.specs.Table.{most_slots as slots_in, group_row, sink_row, tuned_row};
+ghost use Rattle.scenario_text.specs.Table.{unit_row, hear_row, air_row, inject_row, sniff_row};
 
 use bcast_base::Octets;
 use scenario_text::Step;
 use scenario_words::{Cursor, LineFault, Misfit};
 use std::alloc::Global;
-
-/// `scenario VERSION`: 1 or 2. Else Misfit.
-pub fn scenario(words: &mut Cursor<'_>) -> Result<Step, Misfit>
-    ensures { ReadsNext (λ step. step) result words.new (at_row scenario_row words.old) }
-{
-    let version = words.octet(1, 2)?;
-    Ok(Step::Scenario { version })
-}
 
 /// `group`: the framing, times in µs, and the numbers of the BIGInfo. Else Misfit.
 pub fn group(words: &mut Cursor<'_>) -> Result<Step, Misfit>
@@ -42,14 +34,6 @@ pub fn group(words: &mut Cursor<'_>) -> Result<Step, Misfit>
         spacing: words.bits(20)?,
         phy: words.bits(3)? as u8,
     })
-}
-
-/// `start EVENT`: the first event of the source. Else Misfit.
-pub fn start(words: &mut Cursor<'_>) -> Result<Step, Misfit>
-    ensures { ReadsNext (λ step. step) result words.new (at_row start_row words.old) }
-{
-    let first = words.number(0, 549_755_813_887)?;
-    Ok(Step::Start { first })
 }
 
 /// The most receive states of a sink.
@@ -141,12 +125,4 @@ pub fn sniff(words: &mut Cursor<'_>) -> Result<Step, Misfit>
         bis: words.bis(1)?,
         subevent: words.octet(0, 30)?,
     })
-}
-
-/// `drop N`: the sink ends. Else Misfit.
-pub fn drop_sink(words: &mut Cursor<'_>) -> Result<Step, Misfit>
-    ensures { ReadsNext (λ step. step) result words.new (at_row drop_row words.old) }
-{
-    let sink = words.octet(0, 7)?;
-    Ok(Step::Drop { sink })
 }

@@ -4,22 +4,25 @@ ghost use Rattle.std.specs.Prelude.{◌≡◌, true, Err};
 ghost use Rattle.scenario_words.specs.declared.fault.LineFault.TheVariants.{Memory as NoMemory};
 ghost use Rattle.scenario_words.specs.Reading.{GivesNext, ReadsNext};
 ghost use Rattle.scenario_lines.specs.Taking.{some_takes};
+ghost use Rattle.scenario_text.specs.declared.step.Step.TheVariants as steps;
 ghost use Rattle.scenario_text.specs.Steps.{at_row};
 ghost use Rattle.scenario_text.specs.Table.{assist_row, apart_row, awrite_row, aserve_row, atell_row};
-ghost use Rattle.scenario_text.specs.Table.{aread_row, adrain_row, ashow_row, source_row, relay_row};
+ghost use Rattle.scenario_text.specs.Table.{aread_row, adrain_row, ashow_row, relay_row};
 
 use scenario_text::Step;
 use scenario_words::{Cursor, LineFault, Misfit};
 use std::alloc::Global;
 
-/// `assist N L`: an assistant joins the link. Else Misfit.
-pub fn assist(words: &mut Cursor<'_>) -> Result<Step, Misfit>
-    ensures { ReadsNext (λ step. step) result words.new (at_row assist_row words.old) }
+/// The words of `assist`, `aserve`, `atell`, `aread`, `adrain` and `ashow`: a sink and a link. Else Misfit.
+pub fn sink_and_link(words: &mut Cursor<'_>) -> Result<(u8, u8), Misfit>
+    ensures assist { ReadsNext (λ x. steps.Assist x.0 x.1) result words.new (at_row assist_row words.old) }
+    ensures aserve { ReadsNext (λ x. steps.AServe x.0 x.1) result words.new (at_row aserve_row words.old) }
+    ensures atell { ReadsNext (λ x. steps.ATell x.0 x.1) result words.new (at_row atell_row words.old) }
+    ensures aread { ReadsNext (λ x. steps.ARead x.0 x.1) result words.new (at_row aread_row words.old) }
+    ensures adrain { ReadsNext (λ x. steps.ADrain x.0 x.1) result words.new (at_row adrain_row words.old) }
+    ensures ashow { ReadsNext (λ x. steps.AShow x.0 x.1) result words.new (at_row ashow_row words.old) }
 {
-    Ok(Step::Assist {
-        sink: words.octet(0, 7)?,
-        link: words.octet(0, 3)?,
-    })
+    Ok((words.octet(0, 7)?, words.octet(0, 3)?))
 }
 
 /// `apart N L`: the assistant leaves the link, 1 to 3. Else Misfit.
@@ -43,64 +46,6 @@ pub fn awrite(alloc: Global, words: &mut Cursor<'_>) -> Result<Step, LineFault>
         link: words.octet(0, 3)?,
         octets: words.octets(alloc, 512)?,
     })
-}
-
-/// `aserve N L`: the first write that waits on the link is served. Else Misfit.
-pub fn aserve(words: &mut Cursor<'_>) -> Result<Step, Misfit>
-    ensures { ReadsNext (λ step. step) result words.new (at_row aserve_row words.old) }
-{
-    Ok(Step::AServe {
-        sink: words.octet(0, 7)?,
-        link: words.octet(0, 3)?,
-    })
-}
-
-/// `atell N L`: the first notice that waits on the link is delivered. Else Misfit.
-pub fn atell(words: &mut Cursor<'_>) -> Result<Step, Misfit>
-    ensures { ReadsNext (λ step. step) result words.new (at_row atell_row words.old) }
-{
-    Ok(Step::ATell {
-        sink: words.octet(0, 7)?,
-        link: words.octet(0, 3)?,
-    })
-}
-
-/// `aread N L`: the first read that waits on the link is answered. Else Misfit.
-pub fn aread(words: &mut Cursor<'_>) -> Result<Step, Misfit>
-    ensures { ReadsNext (λ step. step) result words.new (at_row aread_row words.old) }
-{
-    Ok(Step::ARead {
-        sink: words.octet(0, 7)?,
-        link: words.octet(0, 3)?,
-    })
-}
-
-/// `adrain N L`: all writes, notices and reads of the link are served. Else Misfit.
-pub fn adrain(words: &mut Cursor<'_>) -> Result<Step, Misfit>
-    ensures { ReadsNext (λ step. step) result words.new (at_row adrain_row words.old) }
-{
-    Ok(Step::ADrain {
-        sink: words.octet(0, 7)?,
-        link: words.octet(0, 3)?,
-    })
-}
-
-/// `ashow N L`: the views of the link's assistant are shown. Else Misfit.
-pub fn ashow(words: &mut Cursor<'_>) -> Result<Step, Misfit>
-    ensures { ReadsNext (λ step. step) result words.new (at_row ashow_row words.old) }
-{
-    Ok(Step::AShow {
-        sink: words.octet(0, 7)?,
-        link: words.octet(0, 3)?,
-    })
-}
-
-/// `source S`: the source, 0 or 1, that later lines mean. Else Misfit.
-pub fn source(words: &mut Cursor<'_>) -> Result<Step, Misfit>
-    ensures { ReadsNext (λ step. step) result words.new (at_row source_row words.old) }
-{
-    let source = words.octet(0, 1)?;
-    Ok(Step::Source { source })
 }
 
 /// `relay N B TO`: the sink hands the units of stream B on to stream TO of source 1. Else Misfit.

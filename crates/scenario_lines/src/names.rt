@@ -63,22 +63,28 @@ fn named_of_link(
     ensures memory { result ≡ Err NoMemory → RowTakes (link_row_of version name.now) words.old }
 {
     if is_word(name, b"serve") {
-        return Ok(sink_lines::serve(words)?);
+        let sink = words.octet(0, 7)?;
+        return Ok(Step::Serve { sink });
     }
     if is_word(name, b"tell") {
-        return Ok(sink_lines::tell(words)?);
+        let sink = words.octet(0, 7)?;
+        return Ok(Step::Tell { sink });
     }
     if is_word(name, b"read") {
-        return Ok(sink_lines::read(words)?);
+        let sink = words.octet(0, 7)?;
+        return Ok(Step::Read { sink });
     }
     if is_word(name, b"drain") {
-        return Ok(sink_lines::drain(words)?);
+        let sink = words.octet(0, 7)?;
+        return Ok(Step::Drain { sink });
     }
     if is_word(name, b"show") {
-        return Ok(sink_lines::show(words)?);
+        let sink = words.octet(0, 7)?;
+        return Ok(Step::Show { sink });
     }
     if is_word(name, b"lose") {
-        return Ok(sink_lines::lose(words)?);
+        let sink = words.octet(0, 7)?;
+        return Ok(Step::Lose { sink });
     }
     if is_word(name, b"control") {
         return sink_lines::control(alloc, words);
@@ -104,7 +110,8 @@ fn named_of_2(
         return Err(LineFault::BadLine { word: 0 });
     }
     if is_word(name, b"assist") {
-        return Ok(later_lines::assist(words)?);
+        let (sink, link) = later_lines::sink_and_link(words)?;
+        return Ok(Step::Assist { sink, link });
     }
     if is_word(name, b"apart") {
         return Ok(later_lines::apart(words)?);
@@ -113,7 +120,8 @@ fn named_of_2(
         return later_lines::awrite(alloc, words);
     }
     if is_word(name, b"source") {
-        return Ok(later_lines::source(words)?);
+        let source = words.octet(0, 1)?;
+        return Ok(Step::Source { source });
     }
     if is_word(name, b"relay") {
         return Ok(later_lines::relay(words)?);
@@ -127,19 +135,24 @@ fn named_of_link_2(name: &[u8], words: &mut Cursor<'_>) -> Result<Step, Misfit>
     ensures { ReadsNext (λ step. step) result words.new (at_known (link_row_of_2 name.now) words.old) }
 {
     if is_word(name, b"aserve") {
-        return later_lines::aserve(words);
+        let (sink, link) = later_lines::sink_and_link(words)?;
+        return Ok(Step::AServe { sink, link });
     }
     if is_word(name, b"atell") {
-        return later_lines::atell(words);
+        let (sink, link) = later_lines::sink_and_link(words)?;
+        return Ok(Step::ATell { sink, link });
     }
     if is_word(name, b"aread") {
-        return later_lines::aread(words);
+        let (sink, link) = later_lines::sink_and_link(words)?;
+        return Ok(Step::ARead { sink, link });
     }
     if is_word(name, b"adrain") {
-        return later_lines::adrain(words);
+        let (sink, link) = later_lines::sink_and_link(words)?;
+        return Ok(Step::ADrain { sink, link });
     }
     if is_word(name, b"ashow") {
-        return later_lines::ashow(words);
+        let (sink, link) = later_lines::sink_and_link(words)?;
+        return Ok(Step::AShow { sink, link });
     }
     Err(Misfit { word: 0 })
 }

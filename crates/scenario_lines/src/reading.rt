@@ -154,13 +154,15 @@ fn named_of_first(
     ensures memory { result ≡ Err NoMemory → RowTakes (first_row_of version name.now) words.old }
 {
     if is_word(name, b"scenario") {
-        return Ok(first_lines::scenario(words)?);
+        let version = words.octet(1, 2)?;
+        return Ok(Step::Scenario { version });
     }
     if is_word(name, b"group") {
         return Ok(first_lines::group(words)?);
     }
     if is_word(name, b"start") {
-        return Ok(first_lines::start(words)?);
+        let first = words.number(0, 549_755_813_887)?;
+        return Ok(Step::Start { first });
     }
     if is_word(name, b"sink") {
         return Ok(first_lines::sink(version, words)?);
@@ -169,7 +171,8 @@ fn named_of_first(
         return Ok(first_lines::tuned(words)?);
     }
     if is_word(name, b"drop") {
-        return Ok(first_lines::drop_sink(words)?);
+        let sink = words.octet(0, 7)?;
+        return Ok(Step::Drop { sink });
     }
     if is_word(name, b"stop") {
         return Ok(Step::Stop);
@@ -207,13 +210,15 @@ fn named_of_source(
         return Ok(source_lines::cipher(words)?);
     }
     if is_word(name, b"announce") {
-        return Ok(source_lines::announce(words)?);
+        let sink = words.octet(0, 7)?;
+        return Ok(Step::Announce { sink });
     }
     if is_word(name, b"train") {
         return source_lines::train(alloc, words);
     }
     if is_word(name, b"terminate") {
-        return Ok(source_lines::terminate(words)?);
+        let reason = words.octet(0, 255)?;
+        return Ok(Step::Terminate { reason });
     }
     named_of_sink(alloc, version, name, words)
 }

@@ -6,8 +6,8 @@ ghost use Rattle.scenario_words.specs.Reading.{GivesNext, ReadsNext};
 ghost use Rattle.scenario_lines.specs.Taking.{some_takes};
 ghost use Rattle.scenario_text.specs.Steps.{at_row};
 ghost use Rattle.scenario_text.specs.Table.{pac_row, locate_row, context_row, write_row, add_row};
-ghost use Rattle.scenario_text.specs.Table.{modify_row, remove_row, code_row, serve_row, tell_row};
-ghost use Rattle.scenario_text.specs.Table.{read_row, drain_row, show_row, lose_row, control_row, forge_row};
+ghost use Rattle.scenario_text.specs.Table.{modify_row, remove_row, code_row};
+ghost use Rattle.scenario_text.specs.Table.{control_row, forge_row};
 
 use bass_operations::{AddSource, ModifySource};
 use scenario_text::{BEFORE_ADD, BEFORE_MODIFY, MOST_OF_OPERATION, Step};
@@ -115,54 +115,6 @@ pub fn code(words: &mut Cursor<'_>) -> Result<Step, Misfit>
         source_id: words.octet(0, 255)?,
         code: words.array()?,
     })
-}
-
-/// `serve N`: the first write that waits on link 0 is served. Else Misfit.
-pub fn serve(words: &mut Cursor<'_>) -> Result<Step, Misfit>
-    ensures { ReadsNext (λ step. step) result words.new (at_row serve_row words.old) }
-{
-    let sink = words.octet(0, 7)?;
-    Ok(Step::Serve { sink })
-}
-
-/// `tell N`: the first notice that waits on link 0 is delivered. Else Misfit.
-pub fn tell(words: &mut Cursor<'_>) -> Result<Step, Misfit>
-    ensures { ReadsNext (λ step. step) result words.new (at_row tell_row words.old) }
-{
-    let sink = words.octet(0, 7)?;
-    Ok(Step::Tell { sink })
-}
-
-/// `read N`: the first read that waits on link 0 is answered. Else Misfit.
-pub fn read(words: &mut Cursor<'_>) -> Result<Step, Misfit>
-    ensures { ReadsNext (λ step. step) result words.new (at_row read_row words.old) }
-{
-    let sink = words.octet(0, 7)?;
-    Ok(Step::Read { sink })
-}
-
-/// `drain N`: all writes, notices and reads of link 0 are served. Else Misfit.
-pub fn drain(words: &mut Cursor<'_>) -> Result<Step, Misfit>
-    ensures { ReadsNext (λ step. step) result words.new (at_row drain_row words.old) }
-{
-    let sink = words.octet(0, 7)?;
-    Ok(Step::Drain { sink })
-}
-
-/// `show N`: the receive states of the sink and the views of link 0 are shown. Else Misfit.
-pub fn show(words: &mut Cursor<'_>) -> Result<Step, Misfit>
-    ensures { ReadsNext (λ step. step) result words.new (at_row show_row words.old) }
-{
-    let sink = words.octet(0, 7)?;
-    Ok(Step::Show { sink })
-}
-
-/// `lose N`: the sink loses its train. Else Misfit.
-pub fn lose(words: &mut Cursor<'_>) -> Result<Step, Misfit>
-    ensures { ReadsNext (λ step. step) result words.new (at_row lose_row words.old) }
-{
-    let sink = words.octet(0, 7)?;
-    Ok(Step::Lose { sink })
 }
 
 /// `control N OCTETS`: the sink hears at most 300 octets as a control PDU. Else BadLine, or Memory.

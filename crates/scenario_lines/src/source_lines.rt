@@ -5,7 +5,7 @@ ghost use Rattle.scenario_words.specs.declared.fault.LineFault.TheVariants.{Memo
 ghost use Rattle.scenario_words.specs.Reading.{GivesNext, ReadsNext};
 ghost use Rattle.scenario_lines.specs.Taking.{some_takes};
 ghost use Rattle.scenario_text.specs.Steps.{at_row};
-ghost use Rattle.scenario_text.specs.Table.{ident_row, subgroup_row, meta_row, bis_row, cipher_row, announce_row, train_row, terminate_row};
+ghost use Rattle.scenario_text.specs.Table.{ident_row, subgroup_row, meta_row, bis_row, cipher_row, train_row};
 
 use scenario_text::Step;
 use scenario_words::{Cursor, LineFault, Misfit};
@@ -67,14 +67,6 @@ pub fn cipher(words: &mut Cursor<'_>) -> Result<Step, Misfit>
     })
 }
 
-/// `announce N`: the sink hears the announcement of the source. Else Misfit.
-pub fn announce(words: &mut Cursor<'_>) -> Result<Step, Misfit>
-    ensures { ReadsNext (λ step. step) result words.new (at_row announce_row words.old) }
-{
-    let sink = words.octet(0, 7)?;
-    Ok(Step::Announce { sink })
-}
-
 /// `train N TIME EXT ADV ACAD`: the sink hears at most 255, 1,650 and 255 octets at this time in µs. Else BadLine, or Memory.
 #[tactic(auto, using(crate::proofs::Taking::next_spells, crate::proofs::Taking::some_left))]
 pub fn train(alloc: Global, words: &mut Cursor<'_>) -> Result<Step, LineFault>
@@ -88,12 +80,4 @@ pub fn train(alloc: Global, words: &mut Cursor<'_>) -> Result<Step, LineFault>
         adv: words.octets(alloc, 1_650)?,
         acad: words.octets(alloc, 255)?,
     })
-}
-
-/// `terminate REASON`: the source ends with a control PDU. Else Misfit.
-pub fn terminate(words: &mut Cursor<'_>) -> Result<Step, Misfit>
-    ensures { ReadsNext (λ step. step) result words.new (at_row terminate_row words.old) }
-{
-    let reason = words.octet(0, 255)?;
-    Ok(Step::Terminate { reason })
 }
