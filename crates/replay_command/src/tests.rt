@@ -16,13 +16,6 @@ use replay_words::Words;
 use std::alloc::Global;
 use unit_outlets::Outlet;
 
-/// The row of one unit that is heard.
-pub const LEAST_PATH: &str =
-    "scenario 1\ngroup unframed 20000 40000 8 10000 4 4 1 1 1 1 0 0 0 1\nsink 0 1 1\nstart 0\ntuned 0 1\nunit 1 - 0a0b0c\nevent\nhear 0 0 1 0\nend\n";
-
-/// Its transcript.
-pub const LEAST_PATH_TRANSCRIPT: &str = "unit 0 1 at 60060 valid 3 0a0b0c\nsum 0 1 3\n";
-
 /// A source that gives a text, so many octets a call.
 pub fn text_source(alloc: Global, text: &str, piece: usize) -> Option<FaithfulSource>
     requires { 1 ≤ piece }

@@ -1,8 +1,8 @@
-//! Boxes that took units before the call, boxes of other kinds than those of the program, and fewer of them.
+//! Fewer boxes than the sinks take.
 
-use crate::tests::{LEAST_PATH, LEAST_PATH_TRANSCRIPT, Run, ends_so};
+use crate::tests::{Run, ends_so};
 use std::alloc::Global;
-use unit_outlets::{LastUnits, Outlet, Tally};
+use unit_outlets::{Outlet, Tally};
 
 /// A run with so many boxes, fewer than its sinks take.
 #[derive(Clone, Copy)]
@@ -50,66 +50,12 @@ fn tallies(alloc: Global, count: usize) -> Option<Vec<Box<dyn Outlet>>> {
     Some(outlets)
 }
 
-/// A box that took five octets.
-fn begun(alloc: Global) -> Option<Vec<Box<dyn Outlet>>> {
-    let mut tally = Tally::new();
-    tally.take(&[1, 2, 3, 4, 5]).ok()?;
-    let mut outlets: Vec<Box<dyn Outlet>> = Vec::new(alloc);
-    outlets.push(Box::new(alloc, tally).ok()?).ok()?;
-    Some(outlets)
-}
-
-/// A box that keeps its last two units.
-fn keeping(alloc: Global) -> Option<Vec<Box<dyn Outlet>>> {
-    let mut outlets: Vec<Box<dyn Outlet>> = Vec::new(alloc);
-    outlets
-        .push(Box::new(alloc, LastUnits::new(alloc, 2).ok()?).ok()?)
-        .ok()?;
-    Some(outlets)
-}
-
-/// Whether the only box took so many units and octets.
-fn has_sums(outlets: &Vec<Box<dyn Outlet>>, units: u64, octets: u64) -> bool {
-    match outlets.as_slice() {
-        [outlet] => outlet.units() == units && outlet.octets() == octets,
-        _ => false,
-    }
-}
-
 /// Whether a run with too few boxes ends so.
 fn lacks_a_box(alloc: Global, few: &Few) -> bool {
     match tallies(alloc, few.boxes) {
         Some(mut outlets) => ends_so(alloc, &few.run, &mut outlets),
         None => false,
     }
-}
-
-#[test]
-fn the_sums_go_on_from_a_unit_that_the_box_took_before(rt: HostRuntime) {
-    let run = Run {
-        words: &[],
-        text: LEAST_PATH,
-        exit_code: 0,
-        transcript: "unit 0 1 at 60060 valid 3 0a0b0c\nsum 0 2 8\n",
-    };
-    let Some(mut outlets) = begun(rt.alloc()) else {
-        return assert!(rt; false);
-    };
-    assert!(rt; ends_so(rt.alloc(), &run, &mut outlets));
-}
-
-#[test]
-fn a_box_that_keeps_its_units_takes_them_too(rt: HostRuntime) {
-    let run = Run {
-        words: &[],
-        text: LEAST_PATH,
-        exit_code: 0,
-        transcript: LEAST_PATH_TRANSCRIPT,
-    };
-    let Some(mut outlets) = keeping(rt.alloc()) else {
-        return assert!(rt; false);
-    };
-    assert!(rt; ends_so(rt.alloc(), &run, &mut outlets) && has_sums(&outlets, 1, 3));
 }
 
 #[test]
