@@ -8,6 +8,6 @@ pub use Rattle.scenario_text.specs.Lines.{LineIs, Says}
 pub use Rattle.scenario_text.specs.Table.{Row, unit_row, event_row, air_row, Build}
 pub use Rattle.scenario_text.specs.Written.{placed_line, Parts, in_row, parts_of, Fits, line_of, placed_in, PlacedFits}
 pub use Rattle.scenario_text.specs.declared.step.Step.{Step}
-pub use Rattle.scenario_text.specs.declared.step.Step.TheVariants.{Unit, Event, Air, Scenario, Group, Ident, Subgroup, Meta, Bis, Cipher, Start, Sink, Pac, Locate, Context, Tuned, Hear, Inject, Sniff, Announce, Train, Write, Add, Modify, Remove, Code, Serve, Tell, Read, Drain, Show, Lose, Drop, Terminate, Control, Forge, Stop, End, Assist, Apart, AWrite, AServe, ATell, ARead, ADrain, AShow, Source, Relay}
+pub use Rattle.scenario_text.specs.declared.step.Step.TheVariants.{Unit, Event, Air, End}
 pub use Rattle.scenario_words.proofs.CitableValues.{is_unspaced, all_words_given, next_item, joined_split, unspaced, words_fit}
 pub use Rattle.scenario_words.specs.Lines.{Values, AllHaveWords, ◌▸◌, all_words}
