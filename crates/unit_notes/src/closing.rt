@@ -84,23 +84,19 @@ fn slots_of(closed: &Closed<'_>, foretold: &mut Vec<Foretold>) -> Result<(), Mem
             place: 0,
             time: closed.schedule.slot_time(closed.event, slot),
         };
-        let (fate, missing) = match carriers_of(closed, slot) {
-            None => (Fate::Empty, 0),
-            Some(carriers) => {
-                let missing = carriers & closed.missing;
-                (
-                    if missing == 0 {
-                        Fate::Valid
-                    } else {
-                        Fate::Lost
-                    },
-                    missing,
-                )
-            }
-        };
+        let (fate, missing) = fate_of(closed, slot);
         put(closed, start, At::Slot(slot), fate, missing, foretold)?;
     }
     Ok(())
+}
+
+/// What becomes of the unit of a slot, and those of its places that weren't heard.
+fn fate_of(closed: &Closed<'_>, slot: u64) -> (Fate, u32) {
+    match carriers_of(closed, slot) {
+        None => (Fate::Empty, 0),
+        Some(carriers) if carriers & closed.missing == 0 => (Fate::Valid, 0),
+        Some(carriers) => (Fate::Lost, carriers & closed.missing),
+    }
 }
 
 /// The places that carry the unit of a slot, where it has one.
@@ -133,10 +129,7 @@ fn segments_of(
         if place >= closed.schedule.numbers.bn {
             break 'places;
         }
-        let Some(pdu) = sent(closed.machine, closed.stream.source, 0, closed.bis, place) else {
-            return Ok(None);
-        };
-        let Ok(Pdu::Framed(segments)) = read_pdu(pdu, MOST) else {
+        let Some(segments) = segments_at(closed, place) else {
             return Ok(None);
         };
         if has(closed.missing, place) {
@@ -147,6 +140,15 @@ fn segments_of(
         }
     }
     Ok(start)
+}
+
+/// The segments of a payload number.
+fn segments_at<'a>(closed: &Closed<'a>, place: u64) -> Option<Segments<'a>> {
+    let pdu = sent(closed.machine, closed.stream.source, 0, closed.bis, place)?;
+    match read_pdu(pdu, MOST) {
+        Ok(Pdu::Framed(segments)) => Some(segments),
+        _ => None,
+    }
 }
 
 /// The start of a unit.

@@ -1,8 +1,7 @@
 //! How many units go into the first event of an unframed source.
-use crate::note::put_note;
 use crate::schedule::Schedule;
 use bcast_base::{Memory, Octets};
-use scenario_words::Word;
+use scenario_words::{Word, put_words};
 
 /// Puts by how much the units of a stream come late that was given too few before the first event, where a slot of this event is without
 /// a unit for that: the first event takes those of the H events after it too.
@@ -20,14 +19,31 @@ pub(crate) fn put_short(
     }
     let slots = due.saturating_sub(given);
     let (count, late) = late_by(slots, schedule.slots());
-    put_note(
+    put_words(
         rows,
+        b"  # H is",
         &[
-            Word::Text(b"H is"),
             Word::Label(horizon),
             Word::Text(b"k x (H + 1) ="),
             Word::Number(due),
             Word::Text(b"units go into the first event, so each later unit comes"),
+        ],
+    )?;
+    put_late(rows, bis, given, count, late)
+}
+
+/// Puts by how much they come late.
+fn put_late(
+    rows: &mut Octets,
+    bis: u8,
+    given: u64,
+    count: Word<'static>,
+    late: &'static [u8],
+) -> Result<(), Memory> {
+    put_words(
+        rows,
+        b"",
+        &[
             count,
             Word::Text(late),
             Word::Text(b"stream"),
@@ -36,7 +52,8 @@ pub(crate) fn put_short(
             Word::Number(given),
             Word::Text(b"then"),
         ],
-    )
+    )?;
+    rows.push(b'\n')
 }
 
 /// So many slots, in words: as events where they make whole ones.

@@ -46,45 +46,38 @@ impl Foretold {
         schedule: &Schedule,
         is_so: bool,
     ) -> Result<(), Memory> {
-        if !is_so {
-            return self.put_place(
-                rows,
-                schedule,
-                b"source",
-                b"; octets that were injected decide it",
-            );
-        }
-        match self.fate {
-            Fate::Valid => self.put_place(rows, schedule, b"source", b""),
-            Fate::Empty => self.put_place(
-                rows,
-                schedule,
-                b"source",
-                b", for which no unit was given",
-            ),
-            Fate::Lost => {
-                self.put_place(rows, schedule, b"source", b"")?;
-                self.put_missing(rows, schedule)
-            }
-            Fate::Unbegun => {
-                self.put_place(rows, schedule, b"never begun, source", b"")?;
-                self.put_missing(rows, schedule)
-            }
+        self.put_place(rows, schedule, self.before_source(is_so))?;
+        rows.append(self.behind_place(is_so))?;
+        rows.push(b'\n')?;
+        if is_so && matches!(self.fate, Fate::Lost | Fate::Unbegun) {
+            self.put_missing(rows, schedule)
+        } else {
+            Ok(())
         }
     }
 
-    /// Puts the source, the event and the slot, or the payload number of the start, and a text behind it.
-    fn put_place(
-        &self,
-        rows: &mut Octets,
-        schedule: &Schedule,
-        source: &'static [u8],
-        behind: &'static [u8],
-    ) -> Result<(), Memory> {
-        let (name, number): (&'static [u8], u64) = match self.at {
-            At::Slot(slot) => (b"slot", slot),
-            At::Start(place) => (b"start in payload", schedule.payload(self.event, place)),
-        };
+    /// The words before the number of the source.
+    fn before_source(&self, is_so: bool) -> &'static [u8] {
+        if is_so && self.fate == Fate::Unbegun {
+            b"never begun, source"
+        } else {
+            b"source"
+        }
+    }
+
+    /// What stands behind the place.
+    fn behind_place(&self, is_so: bool) -> &'static [u8] {
+        if !is_so {
+            b"; octets that were injected decide it"
+        } else if self.fate == Fate::Empty {
+            b", for which no unit was given"
+        } else {
+            b""
+        }
+    }
+
+    /// Puts the front of a note: the sink, the stream and the time.
+    pub(crate) fn put_front(&self, rows: &mut Octets) -> Result<(), Memory> {
         put_words(
             rows,
             b"  # unit",
@@ -93,16 +86,36 @@ impl Foretold {
                 Word::Number(u64::from(self.stream.bis)),
                 Word::Text(b"at"),
                 Word::Label(self.time),
+            ],
+        )
+    }
+
+    /// Puts the source, the event and the slot, or the payload number of the start.
+    fn put_place(
+        &self,
+        rows: &mut Octets,
+        schedule: &Schedule,
+        source: &'static [u8],
+    ) -> Result<(), Memory> {
+        self.put_front(rows)?;
+        put_words(
+            rows,
+            b"",
+            &[
                 Word::Text(source),
                 Word::Number(u64::from(self.stream.source)),
                 Word::Text(b"event"),
                 Word::Number(self.event),
-                Word::Text(name),
-                Word::Number(number),
             ],
         )?;
-        rows.append(behind)?;
-        rows.push(b'\n')
+        match self.at {
+            At::Slot(slot) => put_words(rows, b" slot", &[Word::Number(slot)]),
+            At::Start(place) => put_words(
+                rows,
+                b" start in payload",
+                &[Word::Number(schedule.payload(self.event, place))],
+            ),
+        }
     }
 
     /// Puts each payload number of the closed event that wasn't heard, with the subevents in which it was sent.
@@ -121,36 +134,36 @@ impl Foretold {
         schedule: &Schedule,
         place: u64,
     ) -> Result<(), Memory> {
+        self.put_front(rows)?;
         put_words(
             rows,
-            b"  # unit",
+            b" payload",
             &[
-                Word::Number(u64::from(self.stream.sink)),
-                Word::Number(u64::from(self.stream.bis)),
-                Word::Text(b"at"),
-                Word::Label(self.time),
-                Word::Text(b"payload"),
                 Word::Number(schedule.payload(self.closed, place)),
                 Word::Text(b"was not heard, sent in"),
             ],
         )?;
-        let mut joint: &'static [u8] = b" event";
-        'early: for back in 0..32u64 {
-            let subevent = 31u64.saturating_sub(back);
-            if schedule.ahead(subevent) > 0
-                && self.put_sent(rows, schedule, place, subevent, joint)?
-            {
-                joint = b" and event";
-            }
-        }
-        'own: for subevent in 0..32u64 {
-            if schedule.ahead(subevent) == 0
-                && self.put_sent(rows, schedule, place, subevent, joint)?
-            {
-                joint = b" and event";
-            }
-        }
+        self.put_subevents(rows, schedule, place)?;
         rows.push(b'\n')
+    }
+
+    /// Puts the subevents in which a payload was sent: those ahead of its event, and then its own.
+    fn put_subevents(
+        &self,
+        rows: &mut Octets,
+        schedule: &Schedule,
+        place: u64,
+    ) -> Result<(), Memory> {
+        let mut joint: &'static [u8] = b" event";
+        'subevents: for step in 0..64u64 {
+            let subevent = if step < 32 { 31 - step } else { step - 32 };
+            if (schedule.ahead(subevent) > 0) == (step < 32)
+                && self.put_sent(rows, schedule, place, subevent, joint)?
+            {
+                joint = b" and event";
+            }
+        }
+        Ok(())
     }
 
     /// Puts the event of a subevent that has this payload, and whether it has.

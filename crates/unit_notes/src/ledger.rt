@@ -1,9 +1,8 @@
 //! What became of the units and PDUs of a stream at a sink.
 use crate::marks::{has, with, without};
-use crate::note::put_note;
 use bcast_base::{Memory, Octets};
 use isoal_base::Heard;
-use scenario_words::Word;
+use scenario_words::{Word, put_words};
 
 /// A stream of a source at a sink.
 #[derive(Clone, Copy, PartialEq, Eq)]
@@ -84,26 +83,46 @@ impl Ledger {
             Heard::Late => self.late = self.late.saturating_add(1),
             _ => return,
         }
-        let place = event % 32;
-        let known = self.subevents[place as usize];
-        if has(self.was_on, place) && !has(known, subevent) {
-            self.subevents[place as usize] = with(known, subevent);
-            self.handed = self.handed.saturating_add(1);
+        self.hand_subevent(event % 32, subevent);
+    }
+
+    /// A subevent of the event at this place is handed to the sink.
+    fn hand_subevent(&mut self, place: u64, subevent: u64) {
+        if !has(self.was_on, place) {
+            return;
+        }
+        if let Some(known) = self.subevents.get_mut(place as usize) {
+            if !has(*known, subevent) {
+                *known = with(*known, subevent);
+                self.handed = self.handed.saturating_add(1);
+            }
         }
     }
 
     /// Puts the counts.
     pub(crate) fn put(&self, rows: &mut Octets) -> Result<(), Memory> {
-        put_note(
+        put_words(
             rows,
+            b"  # sink",
             &[
-                Word::Text(b"sink"),
                 Word::Number(u64::from(self.stream.sink)),
                 Word::Text(b"stream"),
                 Word::Number(u64::from(self.stream.bis)),
                 Word::Text(b"of source"),
                 Word::Label(u64::from(self.stream.source)),
-                Word::Text(b"units"),
+            ],
+        )?;
+        self.put_units(rows)?;
+        self.put_pdus(rows)?;
+        rows.push(b'\n')
+    }
+
+    /// Puts the counts of units.
+    fn put_units(&self, rows: &mut Octets) -> Result<(), Memory> {
+        put_words(
+            rows,
+            b" units",
+            &[
                 Word::Number(self.valid),
                 Word::Text(b"valid,"),
                 Word::Number(self.lost),
@@ -111,7 +130,17 @@ impl Ledger {
                 Word::Number(self.unbegun),
                 Word::Text(b"never begun,"),
                 Word::Number(self.empty),
-                Word::Text(b"slots without a unit; PDUs"),
+                Word::Text(b"slots without a unit;"),
+            ],
+        )
+    }
+
+    /// Puts the counts of PDUs.
+    fn put_pdus(&self, rows: &mut Octets) -> Result<(), Memory> {
+        put_words(
+            rows,
+            b" PDUs",
+            &[
                 Word::Number(self.heard),
                 Word::Text(b"heard,"),
                 Word::Number(self.repeated),

@@ -8,21 +8,17 @@ impl Foretold {
     /// Puts the sum that its time is, in µs, and by how much it is handed up in time: that is by the anchor of the event behind the one
     /// that is closed now.
     pub(crate) fn put_moment(&self, rows: &mut Octets, schedule: &Schedule) -> Result<(), Memory> {
-        put_words(
-            rows,
-            b"  # unit",
-            &[
-                Word::Number(u64::from(self.stream.sink)),
-                Word::Number(u64::from(self.stream.bis)),
-                Word::Text(b"at"),
-                Word::Label(self.time),
-            ],
-        )?;
-        match self.at {
-            At::Slot(slot) => self.put_slot_sum(rows, schedule, slot)?,
-            At::Start(_) => self.put_unit_sum(rows, schedule)?,
-        }
+        self.put_front(rows)?;
+        self.put_sum(rows, schedule)?;
         self.put_close(rows, schedule)
+    }
+
+    /// Puts the sum.
+    fn put_sum(&self, rows: &mut Octets, schedule: &Schedule) -> Result<(), Memory> {
+        match self.at {
+            At::Slot(slot) => self.put_slot_sum(rows, schedule, slot),
+            At::Start(_) => self.put_unit_sum(rows, schedule),
+        }
     }
 
     /// Puts the sum of an unframed unit, from the anchor of its event on.
@@ -32,14 +28,11 @@ impl Foretold {
         schedule: &Schedule,
         slot: u64,
     ) -> Result<(), Memory> {
+        put_delayed(rows, schedule, b" anchor", schedule.anchor(self.event))?;
         put_words(
             rows,
-            b" anchor",
+            b" +",
             &[
-                Word::Number(schedule.anchor(self.event)),
-                Word::Text(b"+ BIG_Sync_Delay"),
-                Word::Number(schedule.numbers.delay(false)),
-                Word::Text(b"+"),
                 Word::Number(slot),
                 Word::Text(b"x SDU_Interval"),
                 Word::Number(schedule.numbers.sdu),
@@ -51,14 +44,12 @@ impl Foretold {
 
     /// Puts the sum of a framed unit, from the unit's own time on.
     fn put_unit_sum(&self, rows: &mut Octets, schedule: &Schedule) -> Result<(), Memory> {
+        let time = self.time.saturating_sub(schedule.unit_delay());
+        put_delayed(rows, schedule, b" unit time", time)?;
         put_words(
             rows,
-            b" unit time",
+            b" + SDU_Interval",
             &[
-                Word::Number(self.time.saturating_sub(schedule.unit_delay())),
-                Word::Text(b"+ BIG_Sync_Delay"),
-                Word::Number(schedule.numbers.delay(false)),
-                Word::Text(b"+ SDU_Interval"),
                 Word::Number(schedule.numbers.sdu),
                 Word::Text(b"+ ISO_Interval"),
                 Word::Number(schedule.numbers.interval()),
@@ -88,4 +79,22 @@ impl Foretold {
         )?;
         rows.push(b'\n')
     }
+}
+
+/// Puts from where a sum goes on, and the delay from an anchor to the end of an event.
+fn put_delayed(
+    rows: &mut Octets,
+    schedule: &Schedule,
+    name: &'static [u8],
+    from: u64,
+) -> Result<(), Memory> {
+    put_words(
+        rows,
+        name,
+        &[
+            Word::Number(from),
+            Word::Text(b"+ BIG_Sync_Delay"),
+            Word::Number(schedule.numbers.delay(false)),
+        ],
+    )
 }

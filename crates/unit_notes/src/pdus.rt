@@ -2,6 +2,7 @@
 use crate::asking::{answer, sent};
 use crate::ledger::Stream;
 use crate::marks::{has, with};
+use crate::schedule::Schedule;
 use crate::units::Units;
 use bcast_base::{Bis, Memory};
 use isoal_base::{Heard, Hearing};
@@ -108,15 +109,11 @@ impl Units {
             ) else {
                 return Ok(());
             };
-            let place = schedule.place(subevent);
-            if schedule.ahead(subevent) > 0 || heard != Heard::Kept {
-                self.hand(source, sink, bis, event, subevent, heard)?;
-            } else if has(kept, place) {
-                self.hand(source, sink, bis, event, subevent, Heard::Repeat)?;
-            } else {
-                kept = with(kept, place);
-                self.hand(source, sink, bis, event, subevent, heard)?;
+            let heard = heard_behind(kept, &schedule, subevent, heard);
+            if schedule.ahead(subevent) == 0 && heard == Heard::Kept {
+                kept = with(kept, schedule.place(subevent));
             }
+            self.hand(source, sink, bis, event, subevent, heard)?;
         }
         Ok(())
     }
@@ -174,6 +171,18 @@ impl Units {
             ledger.begin_event(event, count, is_on);
         }
         Ok(())
+    }
+}
+
+/// What the answer to a PDU is behind others of its event, of whose own payloads those at these places are kept.
+fn heard_behind(kept: u32, schedule: &Schedule, subevent: u64, heard: Heard) -> Heard {
+    if schedule.ahead(subevent) == 0
+        && heard == Heard::Kept
+        && has(kept, schedule.place(subevent))
+    {
+        Heard::Repeat
+    } else {
+        heard
     }
 }
 

@@ -8,16 +8,23 @@ const MOST: usize = 60;
 /// Of a long text the first 60 octets are shown, and `..`.
 pub fn shown(alloc: Global, text: &[u8]) -> Result<Octets, Memory> {
     let mut octets = Octets::new(alloc);
-    let mut count: usize = 0;
-    for octet in text {
-        if count >= MOST {
-            octets.append(b"..")?;
-            return Ok(octets);
-        }
-        put_octet(&mut octets, *octet)?;
-        count += 1;
+    match put_shown(&mut octets, text) {
+        Ok(()) => Ok(octets),
+        Err(_) => Err(Memory),
     }
-    Ok(octets)
+}
+
+/// Puts a text as a note shows it.
+fn put_shown(octets: &mut Octets, text: &[u8]) -> Result<(), Memory> {
+    let count = text.len().min(MOST);
+    for octet in &text[..count] {
+        put_octet(octets, *octet)?;
+    }
+    if count < text.len() {
+        octets.append(b"..")
+    } else {
+        Ok(())
+    }
 }
 
 /// Puts an octet so that it is seen.
@@ -26,12 +33,15 @@ fn put_octet(octets: &mut Octets, octet: u8) -> Result<(), Memory> {
         b'\r' => octets.append(b"\\r"),
         b'\t' => octets.append(b"\\t"),
         0x20..=0x7e => octets.push(octet),
-        _ => {
-            octets.append(b"\\x")?;
-            octets.push(digit_of(octet / 16))?;
-            octets.push(digit_of(octet % 16))
-        }
+        _ => put_digits(octets, octet),
     }
+}
+
+/// Puts an octet as `\x` and its two digits.
+fn put_digits(octets: &mut Octets, octet: u8) -> Result<(), Memory> {
+    octets.append(b"\\x")?;
+    octets.push(digit_of(octet / 16))?;
+    octets.push(digit_of(octet % 16))
 }
 
 /// A number below 16 as a digit.

@@ -4,6 +4,7 @@ use crate::fate::{Fate, Foretold};
 use crate::ledger::Stream;
 use crate::marks::has;
 use crate::note::put_note;
+use crate::schedule::Schedule;
 use crate::unit_row::{UnitRow, unit_in};
 use crate::units::Units;
 use bcast_base::{Memory, Octets};
@@ -43,31 +44,8 @@ impl Units {
         };
         let is_first = self.count(stream, unit.is_valid, is_empty)?;
         match found {
-            Some(told) => {
-                let is_so = (told.fate == Fate::Valid) == unit.is_valid;
-                told.put(rows, self.schedule(source), is_so)?;
-                told.put_moment(rows, self.schedule(source))?;
-                if is_first {
-                    put_short(rows, self.schedule(source), unit.bis, told.event)
-                } else {
-                    Ok(())
-                }
-            }
-            None => put_note(
-                rows,
-                &[
-                    Word::Text(b"unit"),
-                    Word::Number(u64::from(unit.sink)),
-                    Word::Number(u64::from(unit.bis)),
-                    Word::Text(b"at"),
-                    Word::Label(unit.time),
-                    Word::Text(b"source"),
-                    Word::Number(u64::from(source)),
-                    Word::Text(
-                        b"by octets that were injected, or on a group that a `train` line gave",
-                    ),
-                ],
-            ),
+            Some(told) => put_told(rows, self.schedule(source), told, unit.is_valid, is_first),
+            None => put_other(rows, unit, source),
         }
     }
 
@@ -143,4 +121,38 @@ impl Units {
         }
         Ok(())
     }
+}
+
+/// Puts the notes of a unit that was foretold.
+fn put_told(
+    rows: &mut Octets,
+    schedule: &Schedule,
+    told: Foretold,
+    is_valid: bool,
+    is_first: bool,
+) -> Result<(), Memory> {
+    told.put(rows, schedule, (told.fate == Fate::Valid) == is_valid)?;
+    told.put_moment(rows, schedule)?;
+    if is_first {
+        put_short(rows, schedule, told.stream.bis, told.event)
+    } else {
+        Ok(())
+    }
+}
+
+/// Puts the note of a unit that was not foretold.
+fn put_other(rows: &mut Octets, unit: UnitRow, source: u8) -> Result<(), Memory> {
+    put_note(
+        rows,
+        &[
+            Word::Text(b"unit"),
+            Word::Number(u64::from(unit.sink)),
+            Word::Number(u64::from(unit.bis)),
+            Word::Text(b"at"),
+            Word::Label(unit.time),
+            Word::Text(b"source"),
+            Word::Number(u64::from(source)),
+            Word::Text(b"by octets that were injected, or on a group that a `train` line gave"),
+        ],
+    )
 }

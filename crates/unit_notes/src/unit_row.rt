@@ -1,5 +1,5 @@
 //! A row of the transcript that tells a unit.
-use scenario_words::Cursor;
+use scenario_words::{Cursor, Misfit};
 
 /// What the row says.
 #[derive(Clone, Copy)]
@@ -16,16 +16,28 @@ pub(crate) fn unit_in(row: &[u8]) -> Option<UnitRow> {
         return None;
     }
     let mut words = Cursor::new(row);
-    let _name = words.word().ok()?;
-    let sink = words.octet(0, 7).ok()?;
-    let bis = words.octet(1, 31).ok()?;
-    let _at = words.word().ok()?;
-    let time = words.number(0, u64::MAX).ok()?;
-    let word = words.word().ok()?;
+    let (sink, bis) = stream_in(&mut words).ok()?;
+    let (time, is_valid) = fate_in(&mut words).ok()?;
     Some(UnitRow {
         sink,
         bis,
         time,
-        is_valid: word == b"valid".as_slice(),
+        is_valid,
     })
+}
+
+/// The sink and the stream of a row.
+fn stream_in(words: &mut Cursor<'_>) -> Result<(u8, u8), Misfit> {
+    words.word()?;
+    let sink = words.octet(0, 7)?;
+    let bis = words.octet(1, 31)?;
+    Ok((sink, bis))
+}
+
+/// The time of a row behind these, and whether the unit is valid.
+fn fate_in(words: &mut Cursor<'_>) -> Result<(u64, bool), Misfit> {
+    words.word()?;
+    let time = words.number(0, u64::MAX)?;
+    let word = words.word()?;
+    Ok((time, word == b"valid".as_slice()))
 }

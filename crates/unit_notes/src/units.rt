@@ -127,25 +127,15 @@ impl Units {
         sink: u8,
         bis: Bis,
     ) -> Result<(), Memory> {
-        let mut missing = 0;
-        'places: for place in 0..8u64 {
-            if place >= schedule.numbers.bn {
-                break 'places;
-            }
-            let Some(pdu) = sent(machine, source, 0, bis, place) else {
-                return Ok(());
-            };
-            match answer(machine, sink, source, event, bis, place, pdu) {
-                Some(Hearing::Heard(Heard::Repeat)) => {}
-                Some(Hearing::Heard(Heard::Kept)) => missing = with(missing, place),
-                Some(Hearing::Heard(_)) => {
-                    self.comes_of(sink, source);
-                    return Ok(());
-                }
-                _ => return Ok(()),
-            }
-        }
+        let missing = match missing_of(machine, schedule, source, event, sink, bis) {
+            Missing::NotOn => return Ok(()),
+            Missing::Unknown => None,
+            Missing::Places(missing) => Some(missing),
+        };
         self.comes_of(sink, source);
+        let Some(missing) = missing else {
+            return Ok(());
+        };
         if has(self.are_odd, u64::from(sink)) {
             return Ok(());
         }
@@ -253,4 +243,42 @@ impl Units {
             }
         }
     }
+}
+
+/// What a sink lacks of an event of a stream.
+#[derive(Clone, Copy)]
+enum Missing {
+    /// It is not on the stream.
+    NotOn,
+    /// It keeps none of the event any more.
+    Unknown,
+    /// The payload numbers at these places.
+    Places(u32),
+}
+
+/// What a sink lacks of the open event of a stream.
+fn missing_of(
+    machine: &Machine,
+    schedule: &Schedule,
+    source: u8,
+    event: u64,
+    sink: u8,
+    bis: Bis,
+) -> Missing {
+    let mut missing = 0;
+    'places: for place in 0..8u64 {
+        if place >= schedule.numbers.bn {
+            break 'places;
+        }
+        let Some(pdu) = sent(machine, source, 0, bis, place) else {
+            return Missing::NotOn;
+        };
+        match answer(machine, sink, source, event, bis, place, pdu) {
+            Some(Hearing::Heard(Heard::Repeat)) => {}
+            Some(Hearing::Heard(Heard::Kept)) => missing = with(missing, place),
+            Some(Hearing::Heard(_)) => return Missing::Unknown,
+            _ => return Missing::NotOn,
+        }
+    }
+    Missing::Places(missing)
 }
