@@ -1,5 +1,5 @@
 -- What is wrong with octets that have all fields, as it is found and as it is told.
-use Rattle.receive_state.proofs.Prelude.{◌≡◌, ℕ, ◌<◌, List, [], ◌∷◌, length, Option, Some, None, Result, Ok, Err, refl, sym, ap, ◌∙◌, arith, length-append, laid, reserved_from, place_in, IsOctets, Subgroup, reserved_first, first_reserved, reserved_none, none_reserved, StateFault, Short, Rfu, Trailing, ReceiveState, IsFollowed, IsReserved, IsTrailing, StateFields, fields, subgroups_of, state_from, first_fault, answered, behind, judged, judged_of, lifted, state_of}
+use Rattle.receive_state.proofs.Prelude.{◌≡◌, ℕ, ◌<◌, List, [], ◌∷◌, length, Option, Some, None, Result, Ok, Err, sym, ap, ◌∙◌, arith, length-append, laid, reserved_from, place_in, IsOctets, Subgroup, reserved_first, first_reserved, reserved_none, none_reserved, StateFault, Short, Rfu, Trailing, ReceiveState, IsFollowed, IsReserved, IsTrailing, StateFields, fields, subgroups_of, state_from, first_fault, answered, behind, judged, judged_of, lifted, state_of}
 use Rattle.bcast_base.specs.Subgroups.{subgroups_in}
 use Rattle.receive_state.specs.Reading.{head_in, end_in}
 use Rattle.receive_state.proofs.Judged.{whole_of, whole_judged}
@@ -13,8 +13,7 @@ record HasFault (whole : List ℕ) (fault : StateFault) : Type 0 where
   pub first : first_fault (reserved_from 0 (fields s)) (place_in whole rest) rest ≡ Some fault
 
 answered_err : (state : ReceiveState) (found : Option StateFault) (fault : StateFault) → answered state found ≡ Err fault → found ≡ Some fault
-answered_err state None fault e = absurd cc
-answered_err state (Some found) fault e = let same : found ≡ fault = cc in ap (λ (f : StateFault). Some f) same
+answered_err state found fault e = grind arith
 
 end_cases : (whole : List ℕ) (s : StateFields) (count : ℕ) (tail : List ℕ) (fault : StateFault) (read : Result (List ℕ) ℕ) → IsOctets whole → ((place : ℕ) → fault ≡ Short place → ⊥)
     → head_in whole ≡ Ok (s, count, tail) → end_in whole count tail ≡ read
@@ -34,21 +33,16 @@ end_cases whole s count tail fault (Ok rest) h later e r j =
 
 head_cases : (whole : List ℕ) (fault : StateFault) (read : Result (StateFields × ℕ × List ℕ) ℕ) → IsOctets whole → ((place : ℕ) → fault ≡ Short place → ⊥) → head_in whole ≡ read
     → judged whole read ≡ Err fault → HasFault whole fault
-head_cases whole fault (Err place) h later e j = absurd (later place (let same : fault ≡ Short place = cc in same))
-head_cases whole fault (Ok x) h later e j = end_cases whole x.0 x.1 x.2 fault (end_in whole x.1 x.2) h later e refl j
+head_cases whole fault read h later e j = grind (arith, end_cases)
 
 pub lifted_err : (read : Result ReceiveState StateFault) (fault : StateFault) → lifted read ≡ Err fault → read ≡ Err fault
-lifted_err (Ok state) fault e = absurd cc
-lifted_err (Err found) fault e = let same : found ≡ fault = cc in ap (λ (f : StateFault). Err f) same
+lifted_err read fault e = grind arith
 
 has_fault : (fault : StateFault) (octets : List ℕ) → IsOctets octets → ((place : ℕ) → fault ≡ Short place → ⊥) → state_of octets ≡ Err fault → HasFault octets fault
-has_fault fault [] h later e = absurd cc
-has_fault fault (octet ∷ rest) h later e = head_cases (octet ∷ rest) fault (head_in (octet ∷ rest)) h later refl (lifted_err (judged_of (octet ∷ rest)) fault e)
+has_fault fault octets h later e = grind (arith, head_cases, lifted_err, judged_of)
 
 reserved_place : (place' : Option ℕ) (end : ℕ) (rest : List ℕ) (place : ℕ) → first_fault place' end rest ≡ Some (Rfu place) → place' ≡ Some place
-reserved_place (Some found) end rest place e = let same : found ≡ place = cc in ap (λ (n : ℕ). Some n) same
-reserved_place None end [] place e = absurd cc
-reserved_place None end (octet ∷ rest) place e = absurd cc
+reserved_place place' end rest place e = grind arith
 
 pub reserved_found : (place : ℕ) (octets : List ℕ) → IsOctets octets → state_of octets ≡ Err (Rfu place) → IsReserved place octets
 reserved_found place octets h e =
@@ -56,9 +50,7 @@ reserved_found place octets h e =
     (f.s, f.rest, f.followed, reserved_first place (fields f.s) (reserved_place (reserved_from 0 (fields f.s)) (place_in octets f.rest) f.rest place f.first))
 
 trailing_place : (place' : Option ℕ) (end : ℕ) (rest : List ℕ) (place : ℕ) → first_fault place' end rest ≡ Some (Trailing place) → (place' ≡ None) × (0 < length rest) × (end ≡ place)
-trailing_place (Some found) end rest place e = absurd cc
-trailing_place None end [] place e = absurd cc
-trailing_place None end (octet ∷ rest) place e = (refl, omega arith, cc)
+trailing_place place' end rest place e = grind arith
 
 place_left : (s : StateFields) (whole rest : List ℕ) → IsFollowed s whole rest → place_in whole rest ≡ length (laid (fields s))
 place_left s whole rest f = omega (arith, ap length f.parts, length-append (laid (fields s)) rest)
@@ -72,20 +64,17 @@ trailing_found place octets h e =
 told : (s : StateFields) (octets rest : List ℕ) (fault : StateFault) → IsFollowed s octets rest → first_fault (reserved_from 0 (fields s)) (place_in octets rest) rest ≡ Some fault
     → state_of octets ≡ Err fault
 told s [] rest fault f e = absurd (let parts = f.parts in cc)
-told s (octet ∷ octets) rest fault f e =
-    ap lifted (whole_judged (octet ∷ octets) s rest f ∙ ap (answered (state_from s)) e)
+told s (octet ∷ octets) rest fault f e = grind (arith, whole_judged (octet ∷ octets) s rest f)
 
 pub reserved_told : (place : ℕ) (octets : List ℕ) → IsReserved place octets → state_of octets ≡ Err (Rfu place)
 reserved_told place octets r =
     told r.0 octets r.1 (Rfu place) r.2 (ap (λ (p : Option ℕ). first_fault p (place_in octets r.1) r.1) (first_reserved place (fields r.0) r.3))
 
 left : (end : ℕ) (rest : List ℕ) → 0 < length rest → first_fault None end rest ≡ Some (Trailing end)
-left end [] h = absurd (omega (arith, h))
-left end (octet ∷ rest) h = refl
+left end rest h = grind arith
 
 pub trailing_told : (place : ℕ) (octets : List ℕ) → IsTrailing place octets → state_of octets ≡ Err (Trailing place)
 trailing_told place octets t =
     let end : place_in octets t.1 ≡ place = place_left t.0 octets t.1 t.2 ∙ sym t.5 in
     told t.0 octets t.1 (Trailing place) t.2
-    (ap (λ (p : Option ℕ). first_fault p (place_in octets t.1) t.1) (none_reserved 0 (fields t.0) t.3)
-    ∙ (left (place_in octets t.1) t.1 t.4 ∙ ap (λ (n : ℕ). Some (Trailing n)) end))
+    (grind (arith, first_fault, place_in, none_reserved, fields, left))

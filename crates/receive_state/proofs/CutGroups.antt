@@ -1,5 +1,5 @@
 -- Octets that end within a subgroup are read up to it, and octets that are read up to a subgroup end within it.
-use Rattle.receive_state.proofs.Prelude.{◌≡◌, ℕ, zero, suc, ◌+◌, ◌-◌, ◌*◌, ◌^◌, ◌<◌, ◌≤◌, List, [], ◌∷◌, ◌++◌, length, Option, Some, None, Result, Ok, Err, refl, sym, ap, subst, ◌∙◌, arith, add-zero, flat_map, AllByRecursion, length-append, sum_from, Field, free, unless, octet_in, octets_in, place_in, IsOctets, octet, number, Subgroup, Fits, subgroup_fields, is_reserved, IsOctets-prefix, number-length, number_below, number_once, EndsIn, ◌>>=◌, needed, field_in}
+use Rattle.receive_state.proofs.Prelude.{◌≡◌, ℕ, zero, suc, ◌+◌, ◌-◌, ◌*◌, ◌^◌, ◌<◌, ◌≤◌, List, [], ◌∷◌, ◌++◌, length, Result, Err, refl, sym, ap, subst, ◌∙◌, arith, add-zero, flat_map, AllByRecursion, length-append, sum_from, Field, free, unless, octet_in, octets_in, place_in, IsOctets, octet, number, Subgroup, Fits, subgroup_fields, is_reserved, IsOctets-prefix, number-length, number_below, number_once, EndsIn, ◌>>=◌, field_in}
 use Rattle.receive_state.specs.Reading.{end_in}
 use Rattle.receive_state.proofs.Cuts.{ends_here, ends_more, ends_nowhere, zeros, octets_with, filled, length-filled, more-zeros}
 use Rattle.receive_state.proofs.CutSteps.{told_octet, told_octets, find_octet, find_octets}
@@ -15,18 +15,9 @@ end_count whole n rest = field_in whole octet_in rest >>= λ x. end_metadata who
 abbrev end_bits : List ℕ → ℕ → List ℕ → Result (List ℕ) ℕ
 end_bits whole n rest = field_in whole (octets_in 4) rest >>= λ x. end_count whole n x.1
 
-assoc_by : {A B D : Type 0} (place : ℕ) (read : Option A) (f : A → Result B ℕ) (g : B → Result D ℕ) (h : A → Result D ℕ) → ((x : A) → (f x >>= g) ≡ h x)
-    → ((needed place read >>= f) >>= g) ≡ (needed place read >>= h)
-assoc_by place None f g h e = refl
-assoc_by place (Some x) f g h e = e x
-
 end_is : (whole : List ℕ) (n : ℕ) (rest : List ℕ) → end_in whole (suc n) rest ≡ end_bits whole n rest
 unfolding end_in
-end_is whole n rest =
-    assoc_by (place_in whole rest) (octets_in 4 rest) (λ bits. field_in whole octet_in bits.1 >>= λ count. field_in whole (octets_in count.0) count.1 >>= λ metadata. Ok metadata.1)
-    (λ r. end_in whole n r) (λ x. end_count whole n x.1)
-    (λ x. assoc_by (place_in whole x.1) (octet_in x.1) (λ count. field_in whole (octets_in count.0) count.1 >>= λ metadata. Ok metadata.1) (λ r. end_in whole n r) (λ y. end_metadata whole n y.0 y.1)
-    (λ y. assoc_by (place_in whole y.1) (octets_in y.0 y.1) (λ metadata. Ok metadata.1) (λ r. end_in whole n r) (λ z. end_in whole n z.1) (λ z. refl)))
+end_is whole n rest = grind (arith, place_in, octets_in, field_in, octet_in)
 
 -- ---- told
 
@@ -161,9 +152,7 @@ others_end whole n rest bits after count tail metadata last p h le parts len par
     let others = flat_map subgroup_fields g.groups in
     let there = g.at in
     let inner = behind_metadata metadata tail last g.q others parts'' g.ends in
-    let counted : EndsIn (1 + (length metadata + g.q)) (free (octet (length metadata)) ∷ free metadata ∷ others) after =
-    subst (λ (c : ℕ). EndsIn (1 + (length metadata + g.q)) (free (octet c) ∷ free metadata ∷ others) after) (sym wide)
-    (behind_count count after tail (length metadata + g.q) (free metadata ∷ others) parts' inner) in
+    let counted : EndsIn (1 + (length metadata + g.q)) (free (octet (length metadata)) ∷ free metadata ∷ others) after = grind (arith, behind_count count after tail (length metadata + g.q) (free metadata ∷ others) parts' inner) in
     record {
       groups = made bits metadata ∷ g.groups;
       fit = (record { bits = four_fit bits octets len; metadata = subst (λ (c : ℕ). c < 256) (sym wide) small }, g.fit);
@@ -175,14 +164,10 @@ others_end whole n rest bits after count tail metadata last p h le parts len par
 
 octets_behind : (prefix back octets : List ℕ) → IsOctets octets → octets ≡ prefix ++ back → IsOctets back
 octets_behind [] back octets h e = subst IsOctets e h
-octets_behind (first ∷ prefix) back octets h e =
-    let all : IsOctets (first ∷ (prefix ++ back)) = subst IsOctets e h in
-    octets_behind prefix back (prefix ++ back) (λ i. all (suc i)) refl
+octets_behind (first ∷ prefix) back octets h e = grind (arith, octets_behind prefix back (prefix ++ back) (λ i. (subst IsOctets e h) (suc i)) refl)
 
 small_count : (octets : List ℕ) (count : ℕ) (tail : List ℕ) → IsOctets octets → octets ≡ octet count ++ tail → count < 256
-small_count octets count tail h e =
-    let all : IsOctets (octet count ++ tail) = subst IsOctets e h in
-    all 0
+small_count octets count tail h e = grind (arith, (subst IsOctets e h) 0)
 
 pub found_groups : (whole : List ℕ) (n : ℕ) (rest : List ℕ) (p : ℕ) → IsOctets rest → length rest ≤ length whole → end_in whole n rest ≡ Err p → GroupsEnd whole n rest p
 unfolding end_in

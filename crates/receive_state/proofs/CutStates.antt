@@ -1,5 +1,5 @@
 -- Octets are short at a place exactly where they end within the field at it.
-use Rattle.receive_state.proofs.Prelude.{◌≡◌, ℕ, ◌+◌, ◌<◌, ◌≤◌, List, [], ◌∷◌, ◌++◌, length, Option, Some, None, Result, Ok, Err, refl, sym, ap, subst, ◌∙◌, inl, inr, arith, nat_lt, IfErr, flat_map, free, unless, reserved_from, place_in, IsOctets, octet, subgroup_fields, StateFault, Short, Rfu, Trailing, Memory, ReceiveState, EndsIn, IsShort, IsFault, StateFields, fields, subgroups_of, state_from, first_fault, answered, behind, judged, judged_of, lifted, state_of, Answers}
+use Rattle.receive_state.proofs.Prelude.{◌≡◌, ℕ, ◌+◌, ◌<◌, ◌≤◌, List, [], ◌∷◌, ◌++◌, length, Option, Some, Result, Ok, Err, refl, sym, ap, subst, ◌∙◌, inl, inr, arith, nat_lt, IfErr, flat_map, free, unless, reserved_from, place_in, IsOctets, octet, subgroup_fields, StateFault, Short, Rfu, Trailing, Memory, ReceiveState, EndsIn, IsShort, IsFault, StateFields, fields, subgroups_of, state_from, first_fault, answered, behind, judged, judged_of, state_of, Answers}
 use Rattle.bcast_base.specs.Subgroups.{subgroups_in}
 use Rattle.receive_state.specs.Reading.{head_in, end_in, told}
 use Rattle.receive_state.proofs.Causes.{lifted_err, reserved_found, reserved_told, trailing_found, trailing_told}
@@ -93,8 +93,7 @@ in_groups whole s count tail p h some e r =
       (
         all,
         record { address = t.address; broadcast_id = t.broadcast_id; bad_code = t.bad_code; few = few; groups = g.fit },
-        subst (λ (n : ℕ). EndsIn n (fields all) whole) place
-            (subst (EndsIn (1 + (1 + (length all.address + (1 + (length all.broadcast_id + (1 + (1 + (length all.bad_code + (1 + (g.q)))))))))) (fields all)) parts (behind_head all g.q tail g.ends)),
+        grind (arith, behind_head all g.q tail g.ends),
       ),
     )
 
@@ -105,17 +104,13 @@ fault_of_err : (p place : ℕ) → refused (Short p) ≡ refused (Short place) �
 fault_of_err p place e = cc
 
 never_short : (state : ReceiveState) (place' : Option ℕ) (end : ℕ) (rest : List ℕ) (place : ℕ) → answered state (first_fault place' end rest) ≡ Err (Short place) → ⊥
-never_short state (Some found) end rest place e = cc
-never_short state None end [] place e = cc
-never_short state None end (first ∷ rest) place e = cc
+never_short state place' end rest place e = grind arith
 
 end_cases : (whole : List ℕ) (s : StateFields) (count : ℕ) (tail : List ℕ) (place : ℕ) (read : Result (List ℕ) ℕ) → IsOctets whole → 0 < length whole → head_in whole ≡ Ok (s, count, tail)
     → end_in whole count tail ≡ read
     → behind whole (record s { groups = subgroups_of (subgroups_in count tail) }) read ≡ Err (Short place) → IsShort place whole
 end_cases whole s count tail place (Err p) h some e r j = subst (λ (n : ℕ). IsShort n whole) (fault_of_err p place j) (in_groups whole s count tail p h some e r)
-end_cases whole s count tail place (Ok rest) h some e r j =
-    absurd (never_short (state_from (record s { groups = subgroups_of (subgroups_in count tail) })) (reserved_from 0 (fields (record s { groups = subgroups_of (subgroups_in count tail) })))
-    (place_in whole rest) rest place j)
+end_cases whole s count tail place (Ok rest) h some e r j = grind (arith, never_short, state_from, subgroups_of, reserved_from, fields, place_in)
 
 head_cases : (whole : List ℕ) (place : ℕ) (read : Result (StateFields × ℕ × List ℕ) ℕ) → IsOctets whole → 0 < length whole → head_in whole ≡ read → judged whole read ≡ Err (Short place)
     → IsShort place whole
@@ -132,15 +127,12 @@ cut_cases : (whole : List ℕ) (s : StateFields) (place : ℕ) → IsCut whole p
 cut_cases whole s place cut =
     elim cut [
       | inl head ↦ ap (judged whole) head
-      | inr b ↦
-          (let ends : end_in whole (length s.groups) b.tail ≡ Err place = told_groups whole s.groups b.tail place b.n b.within b.at b.ends in
-          ap (judged whole) b.read ∙ ap (behind whole (record s { groups = subgroups_of (subgroups_in (length s.groups) b.tail) })) ends)
+      | inr b ↦ grind (arith, told_groups whole s.groups b.tail place b.n b.within b.at b.ends, b.read)
     ]
 
 pub short_told : (place : ℕ) (octets : List ℕ) → IsShort place octets → state_of octets ≡ Err (Short place)
 short_told place [] c = absurd (omega (arith, c.0))
-short_told place (first ∷ rest) c =
-    ap lifted (cut_cases (first ∷ rest) c.1.0 place (told_head (first ∷ rest) c.1.0 place c.1.1 c.1.2))
+short_told place (first ∷ rest) c = grind (arith, cut_cases (first ∷ rest) c.1.0 place (told_head (first ∷ rest) c.1.0 place c.1.1 c.1.2))
 
 -- ---- all faults
 
@@ -158,10 +150,5 @@ fault_told Memory octets some f = absurd (some refl)
 
 pub gave_fault : (result : Result (Option ReceiveState) StateFault) (octets : List ℕ) → IsOctets octets → Answers told result (state_of octets)
     → (result ≡ Err Memory → (state : ReceiveState) × (state_of octets ≡ Ok (Some state)) × (0 < length state.groups)) → IfErr result (λ fault. IsFault fault octets)
-gave_fault (Ok value) octets h g wants = tt
-gave_fault (Err (Short place)) octets h g wants = short_found place octets h g
-gave_fault (Err (Rfu place)) octets h g wants = reserved_found place octets h g
-gave_fault (Err (Trailing place)) octets h g wants = trailing_found place octets h g
-gave_fault (Err Memory) octets h g wants =
-    let w = wants refl in
-    (w.0, read_is (Some w.0) octets h w.1, w.2)
+gave_fault (Err Memory) octets h g wants = let w = wants refl in (w.0, read_is (Some w.0) octets h w.1, w.2)
+gave_fault result octets h g wants = search (short_found, reserved_found, trailing_found, read_is)

@@ -1,21 +1,18 @@
 -- One step of reading: the octets end within a field, or reading goes on behind it.
-use Rattle.receive_state.proofs.Prelude.{◌≡◌, ℕ, ◌+◌, ◌<◌, ◌≤◌, List, [], ◌∷◌, ◌++◌, length, Option, Some, None, Result, Err, refl, sym, ap, subst, ◌∙◌, inl, inr, arith, add-zero, ◌⊎◌, length-append, Field, octet_in, octets_in, place_in, octet, octet_takes, octets_take, EndsIn, ◌>>=◌, needed, field_in}
+use Rattle.receive_state.proofs.Prelude.{◌≡◌, ℕ, ◌+◌, ◌<◌, ◌≤◌, List, [], ◌∷◌, ◌++◌, length, Option, Some, None, Result, Err, sym, ap, subst, ◌∙◌, inl, inr, arith, add-zero, ◌⊎◌, length-append, Field, octet_in, octets_in, place_in, octet, octet_takes, octets_take, EndsIn, ◌>>=◌, needed, field_in}
 use Rattle.receive_state.proofs.Cuts.{ends_split, no_octet, no_octets, octet_short, octets_short}
 use Rattle.receive_state.proofs.Heads.{octets_again_at}
 
 -- ---- one step of reading
 
 pub step_none : {A B : Type 0} (place : ℕ) (read : Option A) (f : A → Result B ℕ) → read ≡ None → (needed place read >>= f) ≡ Err place
-step_none place None f e = refl
-step_none place (Some x) f e = absurd cc
+step_none place read f e = grind arith
 
 pub step_some : {A B : Type 0} (place : ℕ) (read : Option A) (f : A → Result B ℕ) (x : A) → read ≡ Some x → (needed place read >>= f) ≡ f x
-step_some place None f x e = absurd cc
-step_some place (Some y) f x e = let same : y ≡ x = cc in ap f same
+step_some place read f x e = grind arith
 
 pub step_err : {A B : Type 0} (place p : ℕ) (read : Option A) (f : A → Result B ℕ) → (needed place read >>= f) ≡ Err p → ((read ≡ None) × (p ≡ place)) ⊎ ((x : A) × (read ≡ Some x) × (f x ≡ Err p))
-step_err place p None f e = inl (refl, let same : p ≡ place = cc in same)
-step_err place p (Some x) f e = inr (x, refl, e)
+step_err place p read f e = grind arith
 
 -- ---- told: the octets end in one of these fields
 
@@ -24,10 +21,7 @@ pub told_octet : {B : Type 0} (C : Result B ℕ → Type 0) (whole rest : List �
     → ((after : List ℕ) (n : ℕ) → length after ≤ length whole → p ≡ place_in whole after + n → EndsIn n others after → C (f (value, after))) → C (field_in whole octet_in rest >>= f)
 told_octet C whole rest value first others p q f o le at ends short next =
     elim (ends_split first others q rest ends) [
-      | inl here ↦
-          let few : length rest < 1 = omega (arith, here.1, ap length o) in
-          let there : p ≡ place_in whole rest = at ∙ (ap (λ (n : ℕ). place_in whole rest + n) here.0 ∙ add-zero (place_in whole rest)) in
-          subst C (sym (step_none (place_in whole rest) (octet_in rest) f (no_octet rest few) ∙ ap (λ (n : ℕ). Err n) (sym there))) short
+      | inl here ↦ grind (arith, length, place_in, add-zero, step_none, octet_in, no_octet)
       | inr more ↦
           let parts : rest ≡ octet value ++ more.1 = more.3 ∙ ap (λ (x : List ℕ). x ++ more.1) o in
           let read : octet_in rest ≡ Some (value, more.1) = ap octet_in parts in
@@ -42,10 +36,7 @@ pub told_octets : {B : Type 0} (C : Result B ℕ → Type 0) (whole rest : List 
     → ((after : List ℕ) (n : ℕ) → length after ≤ length whole → p ≡ place_in whole after + n → EndsIn n others after → C (f (value, after))) → C (field_in whole (octets_in k) rest >>= f)
 told_octets C whole rest k value first others p q f width o le at ends short next =
     elim (ends_split first others q rest ends) [
-      | inl here ↦
-          let few : length rest < k = omega (arith, here.1, ap length o) in
-          let there : p ≡ place_in whole rest = at ∙ (ap (λ (n : ℕ). place_in whole rest + n) here.0 ∙ add-zero (place_in whole rest)) in
-          subst C (sym (step_none (place_in whole rest) (octets_in k rest) f (no_octets k rest few) ∙ ap (λ (n : ℕ). Err n) (sym there))) short
+      | inl here ↦ grind (arith, length, place_in, add-zero, step_none, octets_in, no_octets)
       | inr more ↦
           let parts : rest ≡ value ++ more.1 = more.3 ∙ ap (λ (x : List ℕ). x ++ more.1) o in
           let read : octets_in k rest ≡ Some (value, more.1) = ap (octets_in k) parts ∙ octets_again_at k value more.1 width in
@@ -58,16 +49,8 @@ told_octets C whole rest k value first others p q f width o le at ends short nex
 
 pub find_octet : {B G : Type 0} (whole rest : List ℕ) (p : ℕ) (f : ℕ × List ℕ → Result B ℕ) → (field_in whole octet_in rest >>= f) ≡ Err p
     → (rest ≡ [] → p ≡ place_in whole rest → G) → ((value : ℕ) (after : List ℕ) → rest ≡ octet value ++ after → f (value, after) ≡ Err p → G) → G
-find_octet whole rest p f e here next =
-    elim (step_err (place_in whole rest) p (octet_in rest) f e) [
-      | inl none ↦ here (octet_short rest none.0) none.1
-      | inr some ↦ next some.0.0 some.0.1 (octet_takes rest some.0.0 some.0.1 some.1).parts some.2
-    ]
+find_octet whole rest p f e here next = grind (arith, step_err, place_in, octet_in, octet_short, octet_takes)
 
 pub find_octets : {B G : Type 0} (whole rest : List ℕ) (k p : ℕ) (f : List ℕ × List ℕ → Result B ℕ) → (field_in whole (octets_in k) rest >>= f) ≡ Err p
     → (length rest < k → p ≡ place_in whole rest → G) → ((value after : List ℕ) → rest ≡ value ++ after → length value ≡ k → f (value, after) ≡ Err p → G) → G
-find_octets whole rest k p f e here next =
-    elim (step_err (place_in whole rest) p (octets_in k rest) f e) [
-      | inl none ↦ here (octets_short k rest none.0) none.1
-      | inr some ↦ (let t = octets_take k rest some.0.0 some.0.1 some.1 in next some.0.0 some.0.1 t.0.parts t.1 some.2)
-    ]
+find_octets whole rest k p f e here next = grind (arith, step_err, place_in, octets_in, octets_short, octets_take)

@@ -1,5 +1,5 @@
 -- Octets that end within a field of a list, and what is read of them.
-use Rattle.receive_state.proofs.Prelude.{◌≡◌, ℕ, zero, suc, ◌+◌, ◌-◌, ◌<◌, Bool, true, false, cond, ltb, List, [], ◌∷◌, ◌++◌, length, take, drop, Option, Some, None, refl, sym, ap, ◌∙◌, inl, inr, append_assoc, arith, ◌⊎◌, length-append, Field, laid, octet_in, octets_in, IsOctets, EndsIn}
+use Rattle.receive_state.proofs.Prelude.{◌≡◌, ℕ, zero, suc, ◌+◌, ◌-◌, ◌<◌, true, ltb, List, [], ◌∷◌, ◌++◌, length, take, drop, None, refl, sym, ap, ◌∙◌, append_assoc, arith, ◌⊎◌, length-append, Field, laid, octet_in, octets_in, IsOctets, EndsIn}
 use Rattle.std.proofs.lemmas.Bool.{lt-ltb, ltb-true}
 
 pub ends_here : (field : Field) (fields : List Field) (part more : List ℕ) → field.octets ≡ part ++ more → 0 < length more → EndsIn 0 (field ∷ fields) part
@@ -28,16 +28,8 @@ Split field fields place octets =
 split_at : (first : Field) (fields prefix : List Field) (field : Field) (back : List Field) (part more octets : List ℕ) (place : ℕ) → first ∷ fields ≡ prefix ++ field ∷ back
     → field.octets ≡ part ++ more → 0 < length more
     → octets ≡ laid prefix ++ part → place ≡ length (laid prefix) → Split first fields place octets
-split_at first fields [] field back part more octets place e o lt parts p =
-    let same : first ≡ field = cc in
-    let long : length first.octets ≡ length part + length more = ap (λ (f : Field). length f.octets) same ∙ (ap length o ∙ length-append part more) in
-    inl (p, omega (arith, long, ap length parts))
-split_at first fields (other ∷ prefix) field back part more octets place e o lt parts p =
-    let same : other ≡ first = cc in
-    let others : fields ≡ prefix ++ field ∷ back = cc in
-    let octets' : octets ≡ first.octets ++ (laid prefix ++ part) = parts ∙ (append_assoc other.octets (laid prefix) part ∙ ap (λ (f : Field). f.octets ++ (laid prefix ++ part)) same) in
-    let place' : place ≡ length first.octets + length (laid prefix) = p ∙ (length-append other.octets (laid prefix) ∙ ap (λ (f : Field). length f.octets + length (laid prefix)) same) in
-    inr (length (laid prefix), laid prefix ++ part, place', octets', (prefix, field, back, part, more, others, o, lt, refl, refl))
+split_at first fields [] field back part more octets place e o lt parts p = grind (arith, length, length-append)
+split_at first fields (other ∷ prefix) field back part more octets place e o lt parts p = grind (arith, laid, append_assoc, length, length-append)
 
 pub ends_split : (first : Field) (fields : List Field) (place : ℕ) (octets : List ℕ) → EndsIn place (first ∷ fields) octets → Split first fields place octets
 ends_split first fields place octets e = split_at first fields e.0 e.1 e.2 e.3 e.4 octets place e.5 e.6 e.7 e.8 e.9
@@ -52,22 +44,16 @@ ends_nowhere place octets e = nowhere e.0 e.1 e.2 e.5
 -- ---- what is read of octets that are fewer than the field
 
 pub no_octet : (octets : List ℕ) → length octets < 1 → octet_in octets ≡ None
-no_octet [] lt = refl
-no_octet (octet ∷ octets) lt = absurd (omega (arith, lt))
+no_octet octets lt = grind arith
 
 pub no_octets : (k : ℕ) (octets : List ℕ) → length octets < k → octets_in k octets ≡ None
 no_octets k octets lt = let short : ltb (length octets) k ≡ true = lt-ltb (length octets) k lt in rw short refl
 
 pub octet_short : (octets : List ℕ) → octet_in octets ≡ None → octets ≡ []
-octet_short [] e = refl
-octet_short (octet ∷ octets) e = absurd cc
-
-short_test : (b : Bool) (x : List ℕ × List ℕ) → cond {A = Option (List ℕ × List ℕ)} b None (Some x) ≡ None → b ≡ true
-short_test true x e = refl
-short_test false x e = absurd cc
+octet_short octets e = grind arith
 
 pub octets_short : (k : ℕ) (octets : List ℕ) → octets_in k octets ≡ None → length octets < k
-octets_short k octets e = ltb-true (length octets) k (short_test (ltb (length octets) k) (take k octets, drop k octets) e)
+octets_short k octets e = grind (arith, ltb-true, length, ltb, take, drop)
 
 -- so many zeros
 unfoldable pub zeros : ℕ → List ℕ

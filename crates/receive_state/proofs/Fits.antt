@@ -1,7 +1,6 @@
 -- Which states have an encoding.
-use Rattle.receive_state.proofs.Prelude.{◌≡◌, ◌≤◌, ◌<◌, ◌^◌, ℕ, suc, Bool, true, false, cond, ltb, leb, List, [], ◌∷◌, length, map, Some, refl, ap, subst, arith, ◌&&◌, ◌||◌, not, flat_map, list_all, AllByRecursion, NoneReserved, Fits, subgroup_fields, is_reserved, Encryption, GroupState, ReceiveState, FieldsFit, fields_of, group_of, number_of, encoding, group_is_encoded, is_encoded, HasEncoding, HasTypes, StateIs}
+use Rattle.receive_state.proofs.Prelude.{◌≡◌, ◌≤◌, ◌<◌, ◌^◌, ℕ, suc, Bool, true, false, cond, ltb, leb, List, [], ◌∷◌, length, map, Some, refl, ap, arith, ◌&&◌, ◌||◌, not, flat_map, list_all, AllByRecursion, NoneReserved, Fits, subgroup_fields, is_reserved, Encryption, GroupState, ReceiveState, fields_of, group_of, number_of, encoding, group_is_encoded, is_encoded, HasEncoding, HasTypes, StateIs}
 use Rattle.std.proofs.lemmas.Bool.{leb-true, le-leb}
-use Rattle.receive_state.specs.declared.state.Encryption.TheVariants as keys
 
 length-groups : (groups : List GroupState) → length (map group_of groups) ≡ length groups
 length-groups [] = refl
@@ -17,45 +16,30 @@ groups_fit [] b m = tt
 groups_fit (group ∷ groups) b m = (record { bits = b.0; metadata = omega (arith, m.0) }, groups_fit groups b.1 m.1)
 
 pub has_octets : (state : ReceiveState) → HasTypes state → HasEncoding state → (octets : List ℕ) × StateIs (Some state) octets
-has_octets state t h =
-    let few : length (map group_of state.groups) ≤ 255 = omega (arith, length-groups state.groups, h.few) in
-    let widths : FieldsFit (fields_of state) =
-    record { address = t.address; broadcast_id = t.broadcast_id; bad_code = t.bad_code; few = few; groups = groups_fit state.groups t.bits h.metadata } in
-    (encoding state, record { widths = widths; values = h.values; encoded = refl })
+has_octets state t h = grind (arith, length, map, group_of, length-groups, fields_of, groups_fit, encoding)
 
 pub octets_fit : (state : ReceiveState) → ((octets : List ℕ) × StateIs (Some state) octets) → HasEncoding state
-octets_fit state s =
-    record { few = subst (λ (n : ℕ). n ≤ 255) (length-groups state.groups) s.1.widths.few; metadata = metadata_fits state.groups s.1.widths.groups; values = s.1.values }
+octets_fit state s = grind (arith, length-groups, metadata_fits)
 
 -- ---- the same as a test
 
 both : (a b : Bool) → (not a && b) ≡ true → (a ≡ false) × (b ≡ true)
-both true b e = absurd cc
-both false b e = (refl, e)
+both a b e = grind arith
 
 both_so : (a b : Bool) → a ≡ false → b ≡ true → (not a && b) ≡ true
-both_so true b e f = absurd cc
-both_so false b e f = f
+both_so a b e f = grind arith
 
 and_parts : (a b : Bool) → (a && b) ≡ true → (a ≡ true) × (b ≡ true)
-and_parts true b e = (refl, e)
-and_parts false b e = absurd cc
+and_parts a b e = grind arith
 
 and_so : (a b : Bool) → a ≡ true → b ≡ true → (a && b) ≡ true
-and_so true b e f = f
-and_so false b e f = absurd cc
+and_so a b e f = grind arith
 
 parts : (a b c d : Bool) → cond (a || b || c) false d ≡ true → (a ≡ false) × (b ≡ false) × (c ≡ false) × (d ≡ true)
-parts true b c d e = absurd cc
-parts false true c d e = absurd cc
-parts false false true d e = absurd cc
-parts false false false d e = (refl, refl, refl, e)
+parts a b c d e = grind arith
 
 parts_so : (a b c d : Bool) → a ≡ false → b ≡ false → c ≡ false → d ≡ true → cond (a || b || c) false d ≡ true
-parts_so true b c d e f g h = absurd cc
-parts_so false true c d e f g h = absurd cc
-parts_so false false true d e f g h = absurd cc
-parts_so false false false d e f g h = h
+parts_so a b c d e f g h = grind arith
 
 groups_values : (groups : List GroupState) → list_all group_is_encoded groups ≡ true
     → AllByRecursion (λ group. length group.metadata ≤ 255) groups × NoneReserved (flat_map subgroup_fields (map group_of groups))
@@ -75,10 +59,7 @@ groups_pass (group ∷ groups) m v =
     (groups_pass groups m.1 v.1.1.1)
 
 number_known : (encryption : Encryption) → ltb 3 (number_of encryption) ≡ false
-number_known keys.None = refl
-number_known keys.CodeRequired = refl
-number_known keys.Decrypting = refl
-number_known (keys.BadCode code) = refl
+number_known encryption = grind arith
 
 pub test_tells : (state : ReceiveState) → is_encoded state ≡ true → HasEncoding state
 test_tells state e =
@@ -92,7 +73,4 @@ test_tells state e =
     }
 
 pub test_passes : (state : ReceiveState) → HasEncoding state → is_encoded state ≡ true
-test_passes state h =
-    let v = h.values in
-    parts_so (ltb 1 state.address_type) (ltb 15 state.sid) (ltb 4 state.pa_sync_state) (leb (length state.groups) 255 && list_all group_is_encoded state.groups) v.1.0 v.1.1.1.0 v.1.1.1.1.1.0
-    (and_so (leb (length state.groups) 255) (list_all group_is_encoded state.groups) (le-leb (length state.groups) 255 h.few) (groups_pass state.groups h.metadata v.1.1.1.1.1.1.1.1.1))
+test_passes state h = grind (arith, parts_so, ltb, leb, length, list_all, group_is_encoded, and_so, le-leb, groups_pass)

@@ -1,5 +1,6 @@
 -- What is left to read of the head, from each of its fields on.
-use Rattle.receive_state.proofs.Prelude.{◌≡◌, ℕ, List, [], Option, Some, None, Result, Ok, refl, octet_in, octets_in, StateFields, code_width, ◌>>=◌, needed, field_in}
+use Rattle.std.proofs.Common.{arith}
+use Rattle.receive_state.proofs.Prelude.{◌≡◌, ℕ, List, [], Option, Result, Ok, refl, octet_in, octets_in, StateFields, code_width, ◌>>=◌, needed, field_in}
 use Rattle.receive_state.specs.Reading.{source_in, head_in}
 
 abbrev pub sourced : StateFields → List ℕ → Result (StateFields × List ℕ) ℕ
@@ -39,5 +40,4 @@ unfolding head_in source_in
 head_is whole = refl
 
 pub assoc : {A B D : Type 0} (place : ℕ) (read : Option A) (f : A → Result B ℕ) (g : B → Result D ℕ) → ((needed place read >>= f) >>= g) ≡ (needed place read >>= λ x. f x >>= g)
-assoc place None f g = refl
-assoc place (Some x) f g = refl
+assoc place read f g = grind arith

@@ -6,9 +6,7 @@ pub octets_again_at : (k : ℕ) (value rest : List ℕ) → length value ≡ k �
 octets_again_at k value rest e = subst (λ (n : ℕ). octets_in n (value ++ rest) ≡ Some (value, rest)) e (octets_again value rest)
 
 first_fits : (from : List ℕ) (n : ℕ) (rest : List ℕ) → IsOctets from → from ≡ octet n ++ rest → n < 256
-first_fits from n rest h e =
-    let all : IsOctets (octet n ++ rest) = subst IsOctets e h in
-    all 0
+first_fits from n rest h e = grind (arith, (subst IsOctets e h) 0)
 
 -- ---- what tells the source
 
@@ -177,10 +175,4 @@ head_again s count tail address id code =
     rw (octets_again_at 6 s.address three address, octets_again_at 3 s.broadcast_id five id, octets_again_at (code_width s.encryption) s.bad_code (octet count ++ tail) code) refl
 
 pub before-length : (s : StateFields) (count : ℕ) (tail : List ℕ) → length s.address ≡ 6 → length s.broadcast_id ≡ 3 → length (before s count tail) ≡ 15 + length s.bad_code + length tail
-before-length s count tail address id =
-    omega (
-      arith,
-      length-append s.address (octet s.sid ++ (s.broadcast_id ++ (octet s.pa_sync_state ++ (octet s.encryption ++ (s.bad_code ++ (octet count ++ tail)))))),
-      length-append s.broadcast_id (octet s.pa_sync_state ++ (octet s.encryption ++ (s.bad_code ++ (octet count ++ tail)))),
-      length-append s.bad_code (octet count ++ tail),
-    )
+before-length s count tail address id = grind (arith, length-append, octet)

@@ -132,10 +132,7 @@ found_id : (whole : List ℕ) (p : ℕ) (v0 : ℕ) (v1 : ℕ) (v2 : List ℕ) (v
     → ((q : ℕ) (fs : List Field) → EndsIn q fs r4 → EndsIn (n4 + q) (free (octet v0) ∷ unless (nat_lt 1 v1) (octet v1) ∷ free v2 ∷ unless (nat_lt 15 v3) (octet v3) ∷ fs) whole)
     → (from_id whole v0 v1 v2 v3 r4 >>= λ who. from_sync whole who.0 who.1) ≡ Err p → EndsInHead whole p
 found_id whole p v0 v1 v2 v3 r4 n4 w2 len lift e =
-    let e'' = sym (assoc (place_in whole r4) (octets_in 3 r4)
-    (λ (x : List ℕ × List ℕ). sourced
-    (record { source_id = v0; address_type = v1; address = v2; sid = v3; broadcast_id = x.0; pa_sync_state = 0; encryption = 0; bad_code = []; groups = [] }) x.1)
-    (λ (who : StateFields × List ℕ). from_sync whole who.0 who.1)) ∙ e in
+    let e'' = sym (grind (arith, assoc, place_in, octets_in, sourced, from_sync)) ∙ e in
     find_octets whole r4 3 p (λ x. sourced
     (record { source_id = v0; address_type = v1; address = v2; sid = v3; broadcast_id = x.0; pa_sync_state = 0; encryption = 0; bad_code = []; groups = [] }) x.1
     >>= λ who. from_sync whole who.0 who.1) e''

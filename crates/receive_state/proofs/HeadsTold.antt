@@ -140,20 +140,7 @@ told_id : (whole : List ℕ) (s : StateFields) (p : ℕ) → FieldsFit s → (r 
     → EndsIn q (free s.broadcast_id ∷ unless (nat_lt 4 s.pa_sync_state) (octet s.pa_sync_state) ∷ unless (nat_lt 3 s.encryption) (octet s.encryption) ∷ free s.bad_code
     ∷ free (octet (length s.groups)) ∷ flat_map subgroup_fields s.groups) r → IsCut whole p s (from_id whole s.source_id s.address_type s.address s.sid r >>= λ who. from_sync whole who.0 who.1)
 told_id whole s p w r q le at ends =
-    subst (IsCut whole p s) (sym (assoc (place_in whole r) (octets_in 3 r)
-    (λ (x : List ℕ × List ℕ). sourced
-    (record {
-      source_id = s.source_id;
-      address_type = s.address_type;
-      address = s.address;
-      sid = s.sid;
-      broadcast_id = x.0;
-      pa_sync_state = 0;
-      encryption = 0;
-      bad_code = [];
-      groups =
-          [];
-    }) x.1) (λ (y : StateFields × List ℕ). from_sync whole y.0 y.1)))
+    subst (IsCut whole p s) (grind (arith, assoc, place_in, octets_in, sourced, from_sync))
     (told_octets (IsCut whole p s) whole r 3 s.broadcast_id (free s.broadcast_id)
     (unless (nat_lt 4 s.pa_sync_state) (octet s.pa_sync_state) ∷ unless (nat_lt 3 s.encryption) (octet s.encryption) ∷ free s.bad_code ∷ free (octet (length s.groups))
     ∷ flat_map subgroup_fields s.groups) p q
@@ -175,8 +162,7 @@ told_sid : (whole : List ℕ) (s : StateFields) (p : ℕ) → FieldsFit s → (r
     ∷ free s.bad_code ∷ free (octet (length s.groups)) ∷ flat_map subgroup_fields s.groups) r
     → IsCut whole p s (from_sid whole s.source_id s.address_type s.address r >>= λ who. from_sync whole who.0 who.1)
 told_sid whole s p w r q le at ends =
-    subst (IsCut whole p s) (sym (assoc (place_in whole r) (octet_in r) (λ (x : ℕ × List ℕ). from_id whole s.source_id s.address_type s.address x.0 x.1)
-    (λ (y : StateFields × List ℕ). from_sync whole y.0 y.1)))
+    subst (IsCut whole p s) (grind (arith, assoc, place_in, octet_in, from_id, from_sync))
     (told_octet (IsCut whole p s) whole r s.sid (unless (nat_lt 15 s.sid) (octet s.sid))
     (free s.broadcast_id ∷ unless (nat_lt 4 s.pa_sync_state) (octet s.pa_sync_state) ∷ unless (nat_lt 3 s.encryption) (octet s.encryption) ∷ free s.bad_code
     ∷ free (octet (length s.groups)) ∷ flat_map subgroup_fields s.groups) p q (λ x. from_id whole s.source_id s.address_type s.address x.0 x.1 >>= λ y. from_sync whole y.0 y.1) refl le
@@ -187,8 +173,7 @@ told_address : (whole : List ℕ) (s : StateFields) (p : ℕ) → FieldsFit s �
     ∷ unless (nat_lt 3 s.encryption) (octet s.encryption) ∷ free s.bad_code ∷ free (octet (length s.groups)) ∷ flat_map subgroup_fields s.groups) r
     → IsCut whole p s (from_address whole s.source_id s.address_type r >>= λ who. from_sync whole who.0 who.1)
 told_address whole s p w r q le at ends =
-    subst (IsCut whole p s) (sym (assoc (place_in whole r) (octets_in 6 r) (λ (x : List ℕ × List ℕ). from_sid whole s.source_id s.address_type x.0 x.1)
-    (λ (y : StateFields × List ℕ). from_sync whole y.0 y.1)))
+    subst (IsCut whole p s) (grind (arith, assoc, place_in, octets_in, from_sid, from_sync))
     (told_octets (IsCut whole p s) whole r 6 s.address (free s.address)
     (unless (nat_lt 15 s.sid) (octet s.sid) ∷ free s.broadcast_id ∷ unless (nat_lt 4 s.pa_sync_state) (octet s.pa_sync_state) ∷ unless (nat_lt 3 s.encryption) (octet s.encryption)
     ∷ free s.bad_code ∷ free (octet (length s.groups)) ∷ flat_map subgroup_fields s.groups) p q (λ x. from_sid whole s.source_id s.address_type x.0 x.1 >>= λ y. from_sync whole y.0 y.1)

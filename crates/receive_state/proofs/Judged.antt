@@ -1,9 +1,8 @@
 -- States that are read are encoded so, and their first fault is the one that is told.
-use Rattle.receive_state.proofs.Prelude.{◌≡◌, ℕ, zero, suc, ◌<◌, ◌≤◌, List, [], ◌∷◌, ◌++◌, length, map, Option, Some, None, Result, Ok, Err, refl, sym, ap, subst, ◌∙◌, append_assoc, arith, IfOk, append-nil, nil_from_length, flat_map, Field, laid, reserved_from, NoneReserved, place_in, IsOctets, Subgroup, subgroup, subgroup_fields, subgroup_laid, subgroups_take, subgroups_again, reserved_none, none_reserved, StateFault, Encryption, GroupState, ReceiveState, IsFollowed, StateFields, fields, FieldsFit, code_width, number_of, code_of, group_of, fields_of, encoding, IsEncoded, StateIs, subgroups_of, state_of_group, encryption_of, state_from, first_fault, answered, behind, judged, judged_of, lifted, state_of, Answers}
+use Rattle.receive_state.proofs.Prelude.{◌≡◌, ℕ, ◌<◌, ◌≤◌, List, [], ◌∷◌, ◌++◌, length, map, Option, Some, None, Result, Ok, Err, refl, sym, ap, subst, ◌∙◌, append_assoc, arith, IfOk, append-nil, nil_from_length, flat_map, Field, laid, reserved_from, NoneReserved, place_in, IsOctets, Subgroup, subgroup, subgroup_fields, subgroup_laid, subgroups_take, subgroups_again, reserved_none, none_reserved, StateFault, GroupState, ReceiveState, IsFollowed, StateFields, fields, code_width, number_of, code_of, group_of, fields_of, encoding, IsEncoded, StateIs, subgroups_of, state_of_group, encryption_of, state_from, first_fault, answered, behind, judged, judged_of, lifted, state_of, Answers}
 use Rattle.std.proofs.lemmas.Bool.{ltb-false}
 use Rattle.std.proofs.lemmas.Grind.{flat_map-append}
 use Rattle.bcast_base.specs.Subgroups.{subgroups_in}
-use Rattle.receive_state.specs.declared.state.Encryption.TheVariants as keys
 use Rattle.receive_state.specs.Reading.{head_in, end_in, told}
 use Rattle.receive_state.proofs.Heads.{before, head_takes, head_again}
 use Rattle.receive_state.proofs.Loops.{groups_read, groups_told}
@@ -27,35 +26,13 @@ states_back (state ∷ states) = ap (λ (x : List GroupState). state ∷ x) (sta
 -- ---- BIG_Encryption and Bad_Code
 
 number_back : (number : ℕ) (code : List ℕ) → number ≤ 3 → number_of (encryption_of number code) ≡ number
-number_back zero code h = refl
-number_back (suc zero) code h = refl
-number_back (suc (suc zero)) code h = refl
-number_back (suc (suc (suc zero))) code h = refl
-number_back (suc (suc (suc (suc number)))) code h = absurd (omega (arith, h))
-
-code_back : (number : ℕ) (code : List ℕ) → length code ≡ code_width number → code_of (encryption_of number code) ≡ code
-code_back zero code h = sym (nil_from_length code h)
-code_back (suc zero) code h = sym (nil_from_length code h)
-code_back (suc (suc zero)) code h = sym (nil_from_length code h)
-code_back (suc (suc (suc number))) code h = refl
-
-encryption_back : (encryption : Encryption) → encryption_of (number_of encryption) (code_of encryption) ≡ encryption
-encryption_back keys.None = refl
-encryption_back keys.CodeRequired = refl
-encryption_back keys.Decrypting = refl
-encryption_back (keys.BadCode code) = refl
+number_back number code h = grind arith
 
 pub fields_back : (s : StateFields) → s.encryption ≤ 3 → length s.bad_code ≡ code_width s.encryption → fields_of (state_from s) ≡ s
-fields_back s known width =
-    ap (λ (e : ℕ). record s { encryption = e; bad_code = code_of (encryption_of s.encryption s.bad_code); groups = map group_of (map state_of_group s.groups) })
-    (number_back s.encryption s.bad_code known)
-    ∙ (ap (λ (code : List ℕ). record s { bad_code = code; groups = map group_of (map state_of_group s.groups) }) (code_back s.encryption s.bad_code width)
-    ∙ ap (λ (groups : List Subgroup). record s { groups = groups }) (groups_back s.groups))
+fields_back s known width = grind (arith, code_of, encryption_of, map, group_of, state_of_group, number_back, nil_from_length, groups_back)
 
 pub state_back : (state : ReceiveState) → state_from (fields_of state) ≡ state
-state_back state =
-    ap (λ (e : Encryption). record state { encryption = e; groups = map state_of_group (map group_of state.groups) }) (encryption_back state.encryption)
-    ∙ ap (λ (groups : List GroupState). record state { groups = groups }) (states_back state.groups)
+state_back state = grind (arith, map, state_of_group, group_of, states_back)
 
 -- ---- steps of reading
 
@@ -64,13 +41,10 @@ or_place (Some place) other = Some place
 or_place None other = other
 
 fault_none : (place : Option ℕ) (end : ℕ) (rest : List ℕ) → first_fault place end rest ≡ None → (place ≡ None) × (rest ≡ [])
-fault_none (Some place) end rest e = absurd cc
-fault_none None end [] e = (refl, refl)
-fault_none None end (octet ∷ rest) e = absurd cc
+fault_none place end rest e = grind arith
 
 answered_ok : (read state : ReceiveState) (fault : Option StateFault) → answered read fault ≡ Ok state → (read ≡ state) × (fault ≡ None)
-answered_ok read state None e = (cc, refl)
-answered_ok read state (Some fault) e = absurd cc
+answered_ok read state fault e = grind arith
 
 known_encryption : (s : StateFields) → NoneReserved (fields s) → s.encryption ≤ 3
 known_encryption s h = ltb-false 3 s.encryption h.1.1.1.1.1.1.0
@@ -99,11 +73,7 @@ whole_of whole s count tail groups rest h e g =
 pub judged_as : (whole : List ℕ) (s : StateFields) (count : ℕ) (tail : List ℕ) (groups : List Subgroup) (rest : List ℕ) → head_in whole ≡ Ok (s, count, tail)
     → subgroups_in count tail ≡ Some (groups, rest)
     → judged_of whole ≡ answered (state_from (record s { groups = groups })) (first_fault (reserved_from 0 (fields (record s { groups = groups }))) (place_in whole rest) rest)
-judged_as whole s count tail groups rest e g =
-    let end : end_in whole count tail ≡ Ok rest = groups_told whole count tail groups rest g in
-    ap (judged whole) e
-    ∙ (ap (λ (r : Option (List Subgroup × List ℕ)). behind whole (record s { groups = subgroups_of r }) (end_in whole count tail)) g
-    ∙ ap (behind whole (record s { groups = groups })) end)
+judged_as whole s count tail groups rest e g = grind (arith, groups_told whole count tail groups rest g)
 
 pub whole_judged : (whole : List ℕ) (s : StateFields) (rest : List ℕ) → IsFollowed s whole rest
     → judged_of whole ≡ answered (state_from s) (first_fault (reserved_from 0 (fields s)) (place_in whole rest) rest)
@@ -132,11 +102,7 @@ end_cases whole s count tail state (Ok rest) h e r j =
     let back : fields_of (state_from all) ≡ all = fields_back all (known_encryption all values) w.widths.bad_code in
     let parts : whole ≡ laid (fields all) = w.parts ∙ (ap (λ (x : List ℕ). laid (fields all) ++ x) n.1 ∙ append-nil (laid (fields all))) in
     subst (λ (x : ReceiveState). IsEncoded x whole) a.0
-    (record {
-      widths = subst FieldsFit (sym back) w.widths;
-      values = subst (λ (x : StateFields). NoneReserved (fields x)) (sym back) values;
-      encoded = parts ∙ ap (λ (x : StateFields). laid (fields x)) (sym back);
-    })
+    (grind (arith, fields, laid))
 
 head_cases : (whole : List ℕ) (state : ReceiveState) (read : Result (StateFields × ℕ × List ℕ) ℕ) → IsOctets whole → head_in whole ≡ read → judged whole read ≡ Ok state → IsEncoded state whole
 head_cases whole state (Err place) h e j = absurd cc
@@ -146,16 +112,11 @@ pub judged_is : (whole : List ℕ) (state : ReceiveState) → IsOctets whole →
 judged_is whole state h j = head_cases whole state (head_in whole) h refl j
 
 lifted_ok : (read : Result ReceiveState StateFault) (value : Option ReceiveState) → lifted read ≡ Ok value → (state : ReceiveState) × (read ≡ Ok state) × (Some state ≡ value)
-lifted_ok (Ok state) value e = (state, refl, cc)
-lifted_ok (Err fault) value e = absurd cc
+lifted_ok read value e = grind arith
 
 pub read_is : (value : Option ReceiveState) (octets : List ℕ) → IsOctets octets → state_of octets ≡ Ok value → StateIs value octets
-read_is value [] h e =
-    let same : None ≡ value = cc in
-    subst (λ (v : Option ReceiveState). StateIs v []) same refl
-read_is value (octet ∷ rest) h e =
-    let l = lifted_ok (judged_of (octet ∷ rest)) value e in
-    subst (λ (v : Option ReceiveState). StateIs v (octet ∷ rest)) l.2 (judged_is (octet ∷ rest) l.0 h l.1)
+read_is value [] h e = grind arith
+read_is value (octet ∷ rest) h e = grind (arith, lifted_ok, judged_of, judged_is)
 
 pub is_judged : (state : ReceiveState) (octets : List ℕ) → IsEncoded state octets → judged_of octets ≡ Ok state
 is_judged state octets s =
@@ -165,10 +126,7 @@ is_judged state octets s =
     ∙ (ap (λ (p : Option ℕ). answered (state_from (fields_of state)) (first_fault p (place_in octets []) [])) none ∙ ap (λ (x : ReceiveState). answered x None) (state_back state))
 
 pub is_read : (value : Option ReceiveState) (octets : List ℕ) → StateIs value octets → state_of octets ≡ Ok value
-is_read None octets e = ap state_of e
-is_read (Some state) [] s = absurd (let e = s.encoded in cc)
-is_read (Some state) (octet ∷ rest) s = ap lifted (is_judged state (octet ∷ rest) s)
+is_read value octets e = grind (arith, state_of, lifted, is_judged)
 
 pub gave_state : (result : Result (Option ReceiveState) StateFault) (octets : List ℕ) → IsOctets octets → Answers told result (state_of octets) → IfOk result (λ value. StateIs value octets)
-gave_state (Ok value) octets h g = read_is value octets h g
-gave_state (Err fault) octets h g = tt
+gave_state result octets h g = grind (arith, read_is)

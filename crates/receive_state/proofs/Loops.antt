@@ -1,5 +1,5 @@
 -- Subgroups looked through one after the other, as a loop does.
-use Rattle.receive_state.proofs.Prelude.{◌≡◌, ℕ, zero, suc, ◌+◌, ◌-◌, ◌<◌, ◌≤◌, Bool, true, false, cond, ltb, List, [], ◌∷◌, ◌++◌, length, take, drop, map, Option, Some, None, is_some, Result, Ok, Err, refl, sym, ap, ◌∙◌, append_assoc, arith, append-nil, sum_from, octet_in, octets_in, number_in, counted_in, place_in, some_is, bind_ok, needed_ok, ok_is, Subgroup, GroupState, group_end_in, groups_of, states_of, state_of_group, ◌>>=◌, needed, field_in}
+use Rattle.receive_state.proofs.Prelude.{◌≡◌, ℕ, zero, suc, ◌+◌, ◌-◌, ◌<◌, ◌≤◌, Bool, true, cond, ltb, List, [], ◌∷◌, ◌++◌, length, take, drop, map, Option, Some, None, is_some, Result, Ok, Err, refl, sym, ap, ◌∙◌, append_assoc, arith, append-nil, sum_from, octet_in, octets_in, number_in, counted_in, place_in, some_is, bind_ok, needed_ok, ok_is, Subgroup, GroupState, group_end_in, groups_of, states_of, state_of_group, ◌>>=◌, needed, field_in}
 use Rattle.std.proofs.lemmas.Option.{some_pair_parts}
 use Rattle.bcast_base.specs.Subgroups.{subgroup_in, subgroups_in}
 use Rattle.receive_state.proofs.Parts.{joined, subgroup_parts, subgroup_made, subgroups_suc, subgroups_none, subgroups_parts}
@@ -16,22 +16,18 @@ end_suc whole n from read e = ap (λ (r : Result (List ℕ) ℕ). r >>= λ rest.
 
 pub end_next : (whole : List ℕ) (count i : ℕ) (from after : List ℕ) (total : Result (List ℕ) ℕ) → i < count → group_end_in whole from ≡ Ok after → end_in whole (count - i) from ≡ total
     → end_in whole (count - (i + 1)) after ≡ total
-end_next whole count i from after total lt e so_far =
-    sym (ap (λ (n : ℕ). end_in whole n from) (one_left count i lt) ∙ end_suc whole (count - (i + 1)) from (Ok after) e) ∙ so_far
+end_next whole count i from after total lt e so_far = grind (arith, one_left, end_suc)
 
 pub end_short : (whole : List ℕ) (count i : ℕ) (from : List ℕ) (place : ℕ) (total : Result (List ℕ) ℕ) → i < count → group_end_in whole from ≡ Err place
     → end_in whole (count - i) from ≡ total → total ≡ Err place
-end_short whole count i from place total lt e so_far =
-    sym so_far ∙ (ap (λ (n : ℕ). end_in whole n from) (one_left count i lt) ∙ end_suc whole (count - (i + 1)) from (Err place) e)
+end_short whole count i from place total lt e so_far = grind (arith, one_left, end_suc)
 
 end_zero : (whole : List ℕ) (n : ℕ) (rest : List ℕ) → n ≡ 0 → end_in whole n rest ≡ Ok rest
 unfolding end_in
 end_zero whole n rest e = rw e refl
 
 pub end_done : (whole : List ℕ) (count i : ℕ) (rest : List ℕ) (total : Result (List ℕ) ℕ) → count ≤ i → end_in whole (count - i) rest ≡ total → total ≡ Ok rest
-end_done whole count i rest total le so_far =
-    let none_left : count - i ≡ 0 = omega arith in
-    sym so_far ∙ end_zero whole (count - i) rest none_left
+end_done whole count i rest total le so_far = grind (arith, end_zero)
 
 -- ---- what is told of the subgroups
 
@@ -42,39 +38,23 @@ with_prefix prefix (Some states) = Some (prefix ++ states)
 
 regroup : (prefix : List GroupState) (group : Subgroup) (read : Option (List Subgroup × List ℕ))
     → with_prefix prefix (states_of (joined group read)) ≡ with_prefix (prefix ++ state_of_group group ∷ []) (states_of read)
-regroup prefix group None = refl
-regroup prefix group (Some others) = ap (λ (gs : List GroupState). Some gs) (sym (append_assoc prefix (state_of_group group ∷ []) (map state_of_group others.0)))
+regroup prefix group read = grind (arith, append_assoc, state_of_group, map)
 
 pub read_next : (prefix : List GroupState) (count i : ℕ) (from : List ℕ) (group : Subgroup) (after : List ℕ) (total : Option (List GroupState)) → i < count → subgroup_in from ≡ Some (group, after)
     → with_prefix prefix (groups_of (count - i) from) ≡ total → with_prefix (prefix ++ state_of_group group ∷ []) (groups_of (count - (i + 1)) after) ≡ total
 read_next prefix count i from group after total lt e so_far =
-    sym (ap (λ (n : ℕ). with_prefix prefix (groups_of n from)) (one_left count i lt)
-    ∙ (ap (λ (r : Option (List Subgroup × List ℕ)). with_prefix prefix (states_of r)) (subgroups_suc (count - (i + 1)) from group after e)
-    ∙ regroup prefix group (subgroups_in (count - (i + 1)) after))) ∙ so_far
-
-is_some-states : (read : Option (List Subgroup × List ℕ)) → is_some (states_of read) ≡ is_some read
-is_some-states None = refl
-is_some-states (Some read) = refl
+    sym (grind (arith, one_left count i lt, subgroups_suc (count - (i + 1)) from group after e, regroup prefix group (subgroups_in (count - (i + 1)) after))) ∙ so_far
 
 pub read_never : (prefix : List GroupState) (count i : ℕ) (from octets : List ℕ) → i < count → subgroup_in from ≡ None
     → with_prefix prefix (groups_of (count - i) from) ≡ groups_of count octets → is_some (subgroups_in count octets) ≡ true → ⊥
-read_never prefix count i from octets lt e so_far some =
-    let one : with_prefix prefix (groups_of (count - i) from) ≡ None =
-    ap (λ (n : ℕ). with_prefix prefix (groups_of n from)) (one_left count i lt)
-    ∙ ap (λ (r : Option (List Subgroup × List ℕ)). with_prefix prefix (states_of r)) (subgroups_none (count - (i + 1)) from e) in
-    let no : is_some (groups_of count octets) ≡ false = ap (λ (r : Option (List GroupState)). is_some r) (sym so_far ∙ one) in
-    let yes : is_some (groups_of count octets) ≡ true = is_some-states (subgroups_in count octets) ∙ some in
-    let clash : true ≡ false = sym yes ∙ no in
-    cc
+read_never prefix count i from octets lt e so_far some = grind (arith, groups_of, one_left, states_of, subgroups_none, is_some)
 
 nothing_left : (prefix : List GroupState) (n : ℕ) (rest : List ℕ) → n ≡ 0 → with_prefix prefix (groups_of n rest) ≡ Some prefix
 unfolding subgroups_in
 nothing_left prefix n rest e = rw e (ap (λ (gs : List GroupState). Some gs) (append-nil prefix))
 
 pub read_end : (prefix : List GroupState) (count i : ℕ) (rest : List ℕ) (total : Option (List GroupState)) → count ≤ i → with_prefix prefix (groups_of (count - i) rest) ≡ total → total ≡ Some prefix
-read_end prefix count i rest total le so_far =
-    let none_left : count - i ≡ 0 = omega arith in
-    sym so_far ∙ nothing_left prefix (count - i) rest none_left
+read_end prefix count i rest total le so_far = grind (arith, nothing_left)
 
 -- ---- subgroups are whole exactly where their end is found
 
@@ -84,24 +64,15 @@ done x = Ok x
 abbrev some_number : ℕ → List ℕ → Option (ℕ × List ℕ)
 some_number n rest = Some (n, rest)
 
-abbrev some_octets : List ℕ → List ℕ → Option (List ℕ × List ℕ)
-some_octets value rest = Some (value, rest)
-
 encoded : (b : Bool) (value rest v r : List ℕ) → cond {A = Option (List ℕ × List ℕ)} b None (Some (value, rest)) ≡ Some (v, r)
     → cond {A = Option (ℕ × List ℕ)} b None (Some (sum_from 0 value, rest)) ≡ Some (sum_from 0 v, r)
-encoded true value rest v r e = absurd cc
-encoded false value rest v r e =
-    let same = some_pair_parts value v rest r e in
-    ap (λ (x : List ℕ). some_number (sum_from 0 x) rest) same.0 ∙ ap (λ (x : List ℕ). some_number (sum_from 0 v) x) same.1
+encoded b value rest v r e = grind (arith, some_pair_parts, sum_from)
 
 number_read : (k : ℕ) (from value rest : List ℕ) → octets_in k from ≡ Some (value, rest) → number_in k from ≡ Some (sum_from 0 value, rest)
 number_read k from value rest e = encoded (ltb (length from) k) (take k from) (drop k from) value rest e
 
 counted_read : (from : List ℕ) (count : ℕ) (after value rest : List ℕ) → octet_in from ≡ Some (count, after) → octets_in count after ≡ Some (value, rest) → counted_in from ≡ Some (value, rest)
-counted_read [] count after value rest e f = absurd cc
-counted_read (first ∷ others) count after value rest e f =
-    let same = some_pair_parts first count others after e in
-    ap (λ (n : ℕ). octets_in n others) same.0 ∙ (ap (octets_in count) same.1 ∙ f)
+counted_read from count after value rest e f = grind (arith, some_pair_parts, octets_in)
 
 group_read : (whole from rest : List ℕ) → group_end_in whole from ≡ Ok rest → (group : Subgroup) × (subgroup_in from ≡ Some (group, rest))
 group_read whole from rest e =
@@ -125,31 +96,15 @@ groups_read whole (suc count) from rest e =
 
 told : (b : Bool) (value rest : List ℕ) (n : ℕ) (r : List ℕ) → cond {A = Option (ℕ × List ℕ)} b None (Some (sum_from 0 value, rest)) ≡ Some (n, r)
     → cond {A = Option (List ℕ × List ℕ)} b None (Some (value, rest)) ≡ Some (value, r)
-told true value rest n r e = absurd cc
-told false value rest n r e = ap (λ (x : List ℕ). some_octets value x) (some_pair_parts (sum_from 0 value) n rest r e).1
-
-octets_told : (k : ℕ) (from : List ℕ) (n : ℕ) (rest : List ℕ) → number_in k from ≡ Some (n, rest) → octets_in k from ≡ Some (take k from, rest)
-octets_told k from n rest e = told (ltb (length from) k) (take k from) (drop k from) n rest e
-
-counted_told : (whole from value rest : List ℕ) → counted_in from ≡ Some (value, rest)
-    → (field_in whole octet_in from >>= λ count. field_in whole (octets_in count.0) count.1 >>= λ metadata. Ok metadata.1) ≡ Ok rest
-counted_told whole [] value rest e = absurd cc
-counted_told whole (count ∷ after) value rest e =
-    ap (λ (r : Option (List ℕ × List ℕ)). needed (place_in whole after) r >>= λ metadata. Ok metadata.1) e
+told b value rest n r e = grind (arith, some_pair_parts, sum_from)
 
 group_told : (whole from : List ℕ) (group : Subgroup) (rest : List ℕ) → subgroup_in from ≡ Some (group, rest) → group_end_in whole from ≡ Ok rest
 group_told whole from group rest e =
-    let p = subgroup_parts from group rest e in
-    let bits : octets_in 4 from ≡ Some (take 4 from, p.0) = octets_told 4 from group.bits p.0 p.1 in
-    ap (λ (r : Option (List ℕ × List ℕ)). needed (place_in whole from) r >>= λ bits. field_in whole octet_in bits.1 >>= λ count. field_in whole (octets_in count.0) count.1
-    >>= λ metadata. Ok metadata.1) bits
-    ∙ counted_told whole p.0 group.metadata rest p.2
+    grind (arith, subgroup_parts, octets_in, take, told, ltb, length, drop, needed, place_in, field_in, octet_in)
 
 pub groups_told : (whole : List ℕ) (count : ℕ) (from : List ℕ) (groups : List Subgroup) (rest : List ℕ) → subgroups_in count from ≡ Some (groups, rest) → end_in whole count from ≡ Ok rest
 unfolding end_in subgroups_in
-groups_told whole zero from groups rest e =
-    let start : List Subgroup × List ℕ = ([], from) in
-    ap (λ (p : List Subgroup × List ℕ). done p.1) (some_is start (groups, rest) e)
+groups_told whole zero from groups rest e = grind (arith, some_is)
 groups_told whole (suc count) from groups rest e =
     let p = subgroups_parts count from groups rest e in
     end_suc whole count from (Ok p.1) (group_told whole from p.0 p.1 p.3) ∙ groups_told whole count p.1 p.2 rest p.4

@@ -1,4 +1,5 @@
 -- The parts of subgroups that are read.
+use Rattle.std.proofs.Common.{arith}
 use Rattle.receive_state.proofs.Prelude.{◌≡◌, ℕ, suc, List, ◌∷◌, Option, Some, None, refl, ap, ◌∙◌, number_in, counted_in, Subgroup, bind_some, some_is}
 use Rattle.bcast_base.specs.Steps.{◌>>=◌}
 use Rattle.bcast_base.specs.Subgroups.{subgroup_in, subgroups_in}
@@ -8,13 +9,9 @@ abbrev pub joined : Subgroup → Option (List Subgroup × List ℕ) → Option (
 joined group None = None
 joined group (Some others) = Some (group ∷ others.0, others.1)
 
-same_joined : (group : Subgroup) (read : Option (List Subgroup × List ℕ)) → (read >>= λ others. Some (group ∷ others.0, others.1)) ≡ joined group read
-same_joined group None = refl
-same_joined group (Some others) = refl
-
 pub subgroups_suc : (n : ℕ) (from : List ℕ) (group : Subgroup) (after : List ℕ) → subgroup_in from ≡ Some (group, after) → subgroups_in (suc n) from ≡ joined group (subgroups_in n after)
 unfolding subgroups_in
-subgroups_suc n from group after e = rw e (same_joined group (subgroups_in n after))
+subgroups_suc n from group after e = grind arith
 
 pub subgroups_none : (n : ℕ) (from : List ℕ) → subgroup_in from ≡ None → subgroups_in (suc n) from ≡ None
 unfolding subgroups_in
@@ -23,19 +20,12 @@ subgroups_none n from e = rw e refl
 pub subgroup_parts : (from : List ℕ) (group : Subgroup) (rest : List ℕ) → subgroup_in from ≡ Some (group, rest) → (after : List ℕ) × (number_in 4 from ≡ Some (group.bits, after))
     × (counted_in after ≡ Some (group.metadata, rest))
 unfolding subgroup_in
-subgroup_parts from group rest e =
-    let a = bind_some (number_in 4 from) (λ bits. counted_in bits.1 >>= λ metadata. Some (record { bits = bits.0; metadata = metadata.0 }, metadata.1)) (group, rest) e in
-    let b = bind_some (counted_in a.0.1) (λ metadata. Some (record { bits = a.0.0; metadata = metadata.0 }, metadata.1)) (group, rest) a.2 in
-    let read : Subgroup × List ℕ = (record { bits = a.0.0; metadata = b.0.0 }, b.0.1) in
-    let same = some_is read (group, rest) b.2 in
-    (a.0.1, a.1 ∙ ap (λ (p : Subgroup × List ℕ). Some (p.0.bits, a.0.1)) same, b.1 ∙ ap (λ (p : Subgroup × List ℕ). Some (p.0.metadata, p.1)) same)
+subgroup_parts from group rest e = grind (arith, bind_some, number_in, counted_in, some_is)
 
 pub subgroup_made : (from : List ℕ) (bits : ℕ) (after metadata rest : List ℕ) → number_in 4 from ≡ Some (bits, after) → counted_in after ≡ Some (metadata, rest)
     → subgroup_in from ≡ Some (record { bits = bits; metadata = metadata }, rest)
 unfolding subgroup_in
-subgroup_made from bits after metadata rest e f =
-    ap (λ (r : Option (ℕ × List ℕ)). r >>= λ x. counted_in x.1 >>= λ y. Some (record { bits = x.0; metadata = y.0 }, y.1)) e
-    ∙ ap (λ (r : Option (List ℕ × List ℕ)). r >>= λ y. Some (record { bits = bits; metadata = y.0 }, y.1)) f
+subgroup_made from bits after metadata rest e f = grind (arith, counted_in)
 
 pub subgroups_parts : (n : ℕ) (from : List ℕ) (groups : List Subgroup) (rest : List ℕ) → subgroups_in (suc n) from ≡ Some (groups, rest)
     → (group : Subgroup) × (after : List ℕ) × (others : List Subgroup) × (subgroup_in from ≡ Some (group, after)) × (subgroups_in n after ≡ Some (others, rest))

@@ -1,5 +1,5 @@
 -- What a state is judged as, by the steps of reading.
-use Rattle.receive_state.proofs.Prelude.{◌≡◌, ℕ, ◌+◌, ◌<◌, Bool, true, false, cond, ltb, eqb, List, [], ◌∷◌, length, map, Option, Some, None, is_some, Result, Ok, Err, refl, sym, ap, ◌∙◌, arith, IsOk, flat_map, nil_from_length, length-map, reserved_from, place_in, IsOctets, Subgroup, subgroup_fields, reserved_in, subgroups_take, StateFault, Rfu, Trailing, GroupState, ReceiveState, StateFields, fields, groups_of, states_of, state_of_group, state_from, reserved_head, first_fault, answered, judged_of}
+use Rattle.receive_state.proofs.Prelude.{◌≡◌, ℕ, ◌+◌, ◌<◌, Bool, true, false, cond, ltb, eqb, List, [], length, map, Option, Some, None, is_some, Result, Ok, Err, sym, ap, ◌∙◌, arith, IsOk, flat_map, nil_from_length, length-map, reserved_from, place_in, IsOctets, Subgroup, subgroup_fields, reserved_in, subgroups_take, StateFault, Rfu, Trailing, GroupState, ReceiveState, StateFields, fields, groups_of, states_of, state_of_group, state_from, reserved_head, first_fault, answered, judged_of}
 use Rattle.std.proofs.lemmas.Bool.{eqb-true}
 use Rattle.bcast_base.specs.Subgroups.{subgroups_in}
 use Rattle.bcast_base.proofs.Citable.{reserved_found}
@@ -13,19 +13,14 @@ are_whole whole count tail rest e = ap (λ (r : Option (List Subgroup × List �
 
 four : (a b c d : Bool) (others : Option ℕ)
     → cond a (Some 1) (cond b (Some 8) (cond c (Some 12) (cond d (Some 13) others))) ≡ or_place (cond a (Some 1) (cond b (Some 8) (cond c (Some 12) (cond d (Some 13) None)))) others
-four true b c d others = refl
-four false true c d others = refl
-four false false true d others = refl
-four false false false true others = refl
-four false false false false others = refl
+four a b c d others = grind arith
 
 abbrev head_of : StateFields → Option ℕ
 head_of s = reserved_head s.address_type s.sid s.pa_sync_state s.encryption
 
 places : (s : StateFields) → length s.address ≡ 6 → length s.broadcast_id ≡ 3
     → reserved_from 0 (fields s) ≡ or_place (head_of s) (reserved_from (14 + length s.bad_code + 1) (flat_map subgroup_fields s.groups))
-places s address id =
-    rw (address, id) (four (ltb 1 s.address_type) (ltb 15 s.sid) (ltb 4 s.pa_sync_state) (ltb 3 s.encryption) (reserved_from (14 + length s.bad_code + 1) (flat_map subgroup_fields s.groups)))
+places s address id = grind (arith, four, ltb, reserved_from, length, flat_map, subgroup_fields)
 
 pub record IsRead (whole : List ℕ) (s : StateFields) (count : ℕ) (tail rest : List ℕ) : Type 0 where
   pub groups : List Subgroup
@@ -51,36 +46,28 @@ is_read whole s count tail rest h e r =
 pub reserved_group : (whole : List ℕ) (s : StateFields) (count : ℕ) (tail rest : List ℕ) (place : ℕ) → IsRead whole s count tail rest → None ≡ head_of s
     → Some place ≡ reserved_in whole count tail → judged_of whole ≡ Err (Rfu place)
 reserved_group whole s count tail rest place r head found =
-    r.judged ∙ (ap (λ (p : Option ℕ). answered (state_from (record s { groups = r.groups })) (first_fault (or_place p (reserved_in whole count tail)) (place_in whole rest) rest)) (sym head)
-    ∙ ap (λ (p : Option ℕ). answered (state_from (record s { groups = r.groups })) (first_fault p (place_in whole rest) rest)) (sym found))
+    grind (arith, answered, state_from, first_fault, or_place, reserved_in, place_in)
 
 unreserved : (whole : List ℕ) (s : StateFields) (count : ℕ) (tail rest : List ℕ) (r : IsRead whole s count tail rest) → None ≡ head_of s → None ≡ reserved_in whole count tail
     → judged_of whole ≡ answered (state_from (record s { groups = r.groups })) (first_fault None (place_in whole rest) rest)
-unreserved whole s count tail rest r head found =
-    r.judged ∙ (ap (λ (p : Option ℕ). answered (state_from (record s { groups = r.groups })) (first_fault (or_place p (reserved_in whole count tail)) (place_in whole rest) rest)) (sym head)
-    ∙ ap (λ (p : Option ℕ). answered (state_from (record s { groups = r.groups })) (first_fault p (place_in whole rest) rest)) (sym found))
+unreserved whole s count tail rest r head found = grind (arith, answered, state_from, first_fault, or_place, reserved_in, place_in)
 
 left : (end : ℕ) (rest : List ℕ) → eqb (length rest) 0 ≡ false → first_fault None end rest ≡ Some (Trailing end)
-left end [] e = absurd cc
-left end (octet ∷ rest) e = refl
+left end rest e = grind arith
 
 none_left : (end : ℕ) (rest : List ℕ) → eqb (length rest) 0 ≡ true → first_fault None end rest ≡ None
 none_left end rest e = ap (first_fault None end) (nil_from_length rest (eqb-true (length rest) 0 e))
 
-pub trailing : (whole : List ℕ) (s : StateFields) (count : ℕ) (tail rest : List ℕ) → IsRead whole s count tail rest → None ≡ head_of s → None ≡ reserved_in whole count tail
-    → eqb (length rest) 0 ≡ false
-    → judged_of whole ≡ Err (Trailing (place_in whole rest))
-trailing whole s count tail rest r head found more =
-    unreserved whole s count tail rest r head found ∙ ap (answered (state_from (record s { groups = r.groups }))) (left (place_in whole rest) rest more)
+pub trailing : (whole : List ℕ) (s : StateFields) (count : ℕ) (tail rest : List ℕ) → IsRead whole s count tail rest → None ≡ head_of s
+    → None ≡ reserved_in whole count tail → eqb (length rest) 0 ≡ false → judged_of whole ≡ Err (Trailing (place_in whole rest))
+trailing whole s count tail rest r head found more = grind (arith, unreserved, answered, state_from, left, place_in)
 
 ended : (whole : List ℕ) (s : StateFields) (count : ℕ) (tail rest : List ℕ) (r : IsRead whole s count tail rest) → None ≡ head_of s → None ≡ reserved_in whole count tail → eqb (length rest) 0 ≡ true
     → judged_of whole ≡ Ok (state_from (record s { groups = r.groups }))
-ended whole s count tail rest r head found none =
-    unreserved whole s count tail rest r head found ∙ ap (answered (state_from (record s { groups = r.groups }))) (none_left (place_in whole rest) rest none)
+ended whole s count tail rest r head found none = grind (arith, unreserved, answered, state_from, none_left, place_in)
 
 is_ok : (read : Result ReceiveState StateFault) (state : ReceiveState) → read ≡ Ok state → IsOk read
-is_ok (Ok read) state e = refl
-is_ok (Err fault) state e = absurd cc
+is_ok read state e = grind arith
 
 pub is_value : (whole : List ℕ) (s : StateFields) (count : ℕ) (tail rest : List ℕ) → IsRead whole s count tail rest → None ≡ head_of s → None ≡ reserved_in whole count tail
     → eqb (length rest) 0 ≡ true → IsOk (judged_of whole)
@@ -93,9 +80,7 @@ pub is_done : (whole : List ℕ) (s : StateFields) (count : ℕ) (tail rest : Li
     → None ≡ reserved_in whole count tail → eqb (length rest) 0 ≡ true
     → groups_of count tail ≡ Some state.groups → state ≡ record (state_from (record s { groups = [] })) { groups = state.groups } → judged_of whole ≡ Ok state
 is_done whole s count tail rest state r head found none groups same =
-    let told : map state_of_group r.groups ≡ state.groups = some_same (map state_of_group r.groups) state.groups (sym (ap states_of r.read) ∙ groups) in
-    ended whole s count tail rest r head found none
-    ∙ (ap (λ (gs : List GroupState). Ok (record (state_from (record s { groups = [] })) { groups = gs })) told ∙ ap (λ (x : ReceiveState). Ok x) (sym same))
+    grind (arith, map, state_of_group, some_same, states_of, ended, state_from)
 
 -- a state of at least one subgroup
 pub has_group : (whole : List ℕ) (s : StateFields) (count : ℕ) (tail rest : List ℕ) → IsOctets whole → head_in whole ≡ Ok (s, count, tail) → IsRead whole s count tail rest → None ≡ head_of s → None ≡ reserved_in whole count tail

@@ -39,8 +39,7 @@ returns-then-not-is_empty-clause-exact c =
     } in
     let r = is_read c.args.from.now s c.in_ok-lent.lent.count c.in_ok-lent.lent.groups.now c.in_ok-rest.rest.now (λ i. omega (arith, c.type_inv.from i)) c.in_ok-lent.ensures.head
     c.in_ok-rest.ensures.field in
-    rw c.place_of.ensures (trailing c.args.from.now s c.in_ok-lent.lent.count c.in_ok-lent.lent.groups.now c.in_ok-rest.rest.now r c.in_default.ensures c.in_default-reserved_subgroup.ensures
-    (sym c.is_empty.ensures ∙ c.if-not-is_empty.true))
+    rw c.place_of.ensures (grind (arith, trailing))
 
 pub own_state-requires-clause-groups : goal.own_state-requires-clause-groups
 own_state-requires-clause-groups c = are_whole c.args.from.now c.in_ok-lent.lent.count c.in_ok-lent.lent.groups.now c.in_ok-rest.rest.now c.in_ok-rest.ensures.field
@@ -63,8 +62,7 @@ returns-in_err-state-clause-exact c =
     let r = is_read c.args.from.now s c.in_ok-lent.lent.count c.in_ok-lent.lent.groups.now c.in_ok-rest.rest.now (λ i. omega (arith, c.type_inv.from i)) c.in_ok-lent.ensures.head
     c.in_ok-rest.ensures.field in
     let p = err_from_is_err_and c.from_residual-in_err-state.result c.from_residual-in_err-state.ensures.1 in
-    rw (p.1, p.2) (is_value c.args.from.now s c.in_ok-lent.lent.count c.in_ok-lent.lent.groups.now c.in_ok-rest.rest.now r c.in_default.ensures c.in_default-reserved_subgroup.ensures
-    (sym c.is_empty.ensures ∙ c.if-not-is_empty.false))
+    rw (p.1, p.2) (grind (arith, is_value))
 
 pub returns-in_err-state-clause-memory : goal.returns-in_err-state-clause-memory
 returns-in_err-state-clause-memory c wants =
