@@ -66,11 +66,7 @@ events_fine boxes made calls state x (suc count) a sent most =
     let a5 = at_next made4 calls3 (kinds.Air 1 other) a4 (air_plain 1 other) in
     let few = sent.performed in
     let at_most : events calls ≤ 100000 = omega (arith, few, most) in
-    let sent5 : Sent calls3 (x + 1) = record {
-      performed = ap suc few ∙ suc-eq-add-one x;
-      first = event_near (nat_eq (events calls2) 0) (stream_calls info_said 1 calls2) (accept_near (unit_of (x + 1)) (stream_calls info_said 1 calls) sent.first);
-      second = event_near (nat_eq (events calls2) 0) (stream_calls info_said 2 calls2) (accept_near (unit_of (x + 1)) (stream_calls info_said 2 calls) sent.second);
-    } in (
+    let sent5 : Sent calls3 (x + 1) = grind (arith, suc-eq-add-one, event_near, nat_eq, events, stream_calls, info_said, accept_near, unit_of) in (
       (version_is boxes made calls a, unit_fine boxes made calls a 1 (unit_of (x + 1)) (first_given calls (x + 1) sent.first)),
       (
         (version_is boxes made1 calls1 a1, unit_fine boxes made1 calls1 a1 2 (unit_of (x + 1)) (second_given calls1 (x + 1) sent.second)),
@@ -144,18 +140,7 @@ second_sink boxes b e = ap (λ c. option_or (refuse_if c NoOutlet) None) e ∙ l
     last false = refl
 
 at_start : At steps_7 []
-at_start = record {
-  stage = refl;
-  chosen = refl;
-  own_stage = refl;
-  phase = refl;
-  cipher = refl;
-  group = refl;
-  start = refl;
-  calls_are = refl;
-  first_box = refl;
-  second_box = refl;
-}
+at_start = grind arith
 
 pub all_fine : (boxes seed events : ℕ) → 2 ≤ boxes → events ≤ 100000 → AllFine boxes [] (made_steps seed events)
 all_fine boxes seed events two most =

@@ -1,5 +1,6 @@
 -- The generated lines have `end`.
-use Rattle.replay_generated.proofs.Prelude.{◌≡◌, ℕ, true, List, [], ◌∷◌, ◌++◌, map, reverse, codes, refl, ap, ◌∙◌, Some, Ok, TextLine, plain, generated_lines, is_over, version_of, said_by, said_of, with_said, has_end, lines_made}
+use Rattle.std.proofs.Common.{arith}
+use Rattle.replay_generated.proofs.Prelude.{◌≡◌, ℕ, true, List, [], ◌∷◌, ◌++◌, map, reverse, codes, refl, ap, ◌∙◌, Some, Ok, plain, generated_lines, is_over, version_of, said_by, said_of, with_said, has_end, lines_made}
 use Rattle.std.proofs.lemmas.List.{reverse-append, map-append}
 use Rattle.scenario_text.specs.Steps.{read_of, step_of}
 use Rattle.scenario_text.specs.Table.{first_row_of, row_of}
@@ -10,14 +11,24 @@ read_end : (version : ℕ) → read_of version (codes "end") ≡ Ok (Some End)
 unfolding read_of step_of row_of first_row_of
 read_end version = refl
 
-over_end : (earlier : List TextLine) → is_over (said_of (plain (codes "end") ∷ earlier)) ≡ true
-over_end earlier = ap (λ r. is_over (with_said (said_by r) (said_of earlier))) (read_end (version_of (said_of earlier)))
-
 ended : (prefix : List (List ℕ)) → has_end (map plain (prefix ++ codes "end" ∷ [])) ≡ true
 ended prefix =
-    ap has_end (map-append plain prefix (codes "end" ∷ []))
-    ∙ ap (λ ls. is_over (said_of ls)) (reverse-append (map plain prefix) (plain (codes "end") ∷ []))
-    ∙ over_end (reverse (map plain prefix))
+    grind (
+      arith,
+      has_end,
+      map-append,
+      plain,
+      codes,
+      is_over,
+      said_of,
+      reverse-append,
+      map,
+      with_said,
+      said_by,
+      read_end,
+      version_of,
+      reverse,
+    )
 
 pub made_end : (seed events : ℕ) → lines_made seed events ≡ map plain (generated_lines seed events) → has_end (lines_made seed events) ≡ true
 made_end seed events are =

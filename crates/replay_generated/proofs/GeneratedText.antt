@@ -1,5 +1,5 @@
 -- The lines of the generated text are the generated lines: none holds the octet that ends a line, and none passes a limit.
-use Rattle.replay_generated.proofs.Prelude.{◌≡◌, ℕ, zero, suc, ◌+◌, ◌*◌, ◌<◌, ◌≤◌, ◌/◌, ◌%◌, Bool, true, false, cond, not, ◌&&◌, eqb, leb, nat_eq, List, [], ◌∷◌, ◌++◌, length, get_or, map, codes, decimal, refl, sym, ap, subst, ◌∙◌, append_assoc, arith, length-append, append-nil, replicate, slice_index, ⊤, lt-leb, le-leb, leb-true, ne_eqb, and_parts, joined, digits, plain, too_long, past, line_limit, text_limit, lines-nothing, drawn, next_state, unit_of, head_lines, generated_lines, generated, text_of}
+use Rattle.replay_generated.proofs.Prelude.{◌≡◌, ℕ, zero, suc, ◌+◌, ◌*◌, ◌<◌, ◌≤◌, ◌/◌, ◌%◌, Bool, true, false, cond, not, ◌&&◌, eqb, leb, nat_eq, List, [], ◌∷◌, ◌++◌, length, map, codes, decimal, refl, sym, ap, subst, ◌∙◌, append_assoc, arith, length-append, append-nil, replicate, slice_index, ⊤, lt-leb, le-leb, leb-true, ne_eqb, and_parts, joined, digits, plain, too_long, past, line_limit, text_limit, lines-nothing, drawn, next_state, unit_of, head_lines, generated_lines, generated, text_of}
 use Rattle.std.proofs.lemmas.Fmt.{decimal_digit}
 use Rattle.hex.specs.Hex.{encode_with, encode_lower, lower_digits}
 use Rattle.bcast_io.specs.TextLines.{newline, line_of, lines_from, lines_of}
@@ -16,11 +16,7 @@ Unended (octet ∷ line) = (nat_eq octet newline ≡ false) × Unended line
 line_read : (taken : ℕ) (part line rest : List ℕ) → Unended line → taken + length line < text_limit
     → lines_from true taken part (line ++ newline ∷ rest) ≡ line_of (part ++ line) ∷ lines_from true (taken + length line + 1) [] rest
 unfolding lines_from
-line_read taken part [] rest none fits =
-    let same : taken ≡ taken + 0 = omega arith in
-    ap (λ b. cond b (past ∷ []) (line_of part ∷ lines_from true (taken + 1) [] rest)) (lt-leb text_limit taken (omega arith))
-    ∙ ap (λ l. line_of l ∷ lines_from true (taken + 1) [] rest) (sym (append-nil part))
-    ∙ ap (λ n. line_of (part ++ []) ∷ lines_from true (n + 1) [] rest) same
+line_read taken part [] rest none fits = grind (arith, cond, past, lt-leb, text_limit, append-nil)
 line_read taken part (x ∷ line) rest none fits =
     let ended = line_of part ∷ lines_from true (taken + 1) [] (line ++ newline ∷ rest) in
     let goes = lines_from true (taken + 1) (part ++ x ∷ []) (line ++ newline ∷ rest) in
@@ -58,14 +54,11 @@ is_unended [] = true
 is_unended (octet ∷ line) = not (nat_eq octet newline) && is_unended line
 
 both : (a b : Bool) → (not a && b) ≡ true → (a ≡ false) × (b ≡ true)
-both true b e = absurd cc
-both false b e = (refl, e)
+both a b e = grind arith
 
 unended : (line : List ℕ) → is_unended line ≡ true → Unended line
 unended [] e = tt
-unended (octet ∷ line) e =
-    let parts = both (nat_eq octet newline) (is_unended line) e in
-    (parts.0, unended line parts.1)
+unended (octet ∷ line) e = let parts = both (nat_eq octet newline) (is_unended line) e in (parts.0, unended line parts.1)
 
 abbrev are_short : ℕ → List (List ℕ) → Bool
 are_short most [] = true
@@ -84,13 +77,8 @@ unended_append (x ∷ xs) ys h k = (h.0, unended_append xs ys h.1 k)
 
 -- ---- digits
 
-unended_at : (word : List ℕ) (i : ℕ) → Unended word → i < length word → nat_eq (get_or word i 0) newline ≡ false
-unended_at [] i h inside = absurd (omega arith)
-unended_at (octet ∷ word) zero h inside = h.0
-unended_at (octet ∷ word) (suc i) h inside = unended_at word i h.1 (omega arith)
-
 digit_unended : (k : ℕ) → k < 16 → nat_eq (slice_index lower_digits k) newline ≡ false
-digit_unended k small = unended_at lower_digits k (unended lower_digits refl) small
+digit_unended k small = grind (arith, unended)
 
 encoded : (n v : ℕ) → v < 256 → Unended (encode_lower (replicate n v)) × (length (encode_lower (replicate n v)) ≡ 2 * n)
 unfolding encode_with
@@ -106,9 +94,7 @@ decimal_unended n small = ne_eqb (48 + n) newline (λ same. omega (arith, same))
 
 unit_shape : (bis x : ℕ) → bis < 10 → unit_line bis x ≡ codes "unit " ++ (48 + bis) ∷ (codes " - " ++ encode_lower (unit_of x))
 unfolding unit_line
-unit_shape bis x small =
-    ap (λ d. joined (codes "unit") (d ∷ codes "-" ∷ digits (unit_of x) ∷ [])) (decimal_digit bis small)
-    ∙ ap (λ e. codes "unit " ++ (48 + bis) ∷ (codes " - " ++ e)) (append-nil (encode_lower (unit_of x)))
+unit_shape bis x small = grind (arith, joined, codes, digits, unit_of, decimal_digit, append-nil)
 
 unit_short : (bis x : ℕ) → bis < 10 → Unended (unit_line bis x) × (length (unit_line bis x) ≡ 209)
 unit_short bis x small =
@@ -120,16 +106,10 @@ unit_short bis x small =
 
 air_shape : (sink lose : ℕ) → sink < 10 → lose < 10 → air_line sink lose ≡ codes "air " ++ (48 + sink) ∷ 32 ∷ (48 + lose) ∷ []
 unfolding air_line
-air_shape sink lose small less =
-    ap (λ d. joined (codes "air") (d ∷ decimal lose ∷ [])) (decimal_digit sink small)
-    ∙ ap (λ d. joined (codes "air") (((48 + sink) ∷ []) ∷ d ∷ [])) (decimal_digit lose less)
+air_shape sink lose small less = grind (arith, joined, codes, decimal, decimal_digit)
 
 air_short : (sink lose : ℕ) → sink < 10 → lose < 10 → Unended (air_line sink lose) × (length (air_line sink lose) ≡ 7)
-air_short sink lose small less =
-    let shape = air_shape sink lose small less in
-    let all : Unended (codes "air " ++ (48 + sink) ∷ 32 ∷ (48 + lose) ∷ []) =
-    unended_append (codes "air ") ((48 + sink) ∷ 32 ∷ (48 + lose) ∷ []) (unended (codes "air ") refl) (decimal_unended sink small, (refl, (decimal_unended lose less, tt))) in
-    (subst Unended (sym shape) all, ap length shape)
+air_short sink lose small less = grind (arith, air_shape, codes, unended_append, unended, decimal_unended, length)
 
 drawn_small : (state : ℕ) → drawn state < 10
 drawn_small state = omega arith
@@ -179,8 +159,7 @@ all_fine seed events most =
     let two = unit_short 2 0 (omega arith) in
     let l1 = first_long (unit_line 1 0) (unit_line 2 0 ∷ later) in
     let l2 = first_long (unit_line 2 0) later in (
-      short_append line_limit head_lines (unit_line 1 0 ∷ unit_line 2 0 ∷ later) (all_short line_limit head_lines refl)
-          ((one.0, omega (arith, one.1)), ((two.0, omega (arith, two.1)), rest.0)),
+      grind (arith, short_append, line_limit, head_lines, all_short),
       omega (arith, text_append head_lines (unit_line 1 0 ∷ unit_line 2 0 ∷ later), head_length, l1, l2, one.1, two.1, rest.1, most),
     )
 
@@ -198,8 +177,7 @@ lines_count state x zero = refl
 lines_count state x (suc count) = omega (arith, lines_count (next_state (next_state state)) (x + 1) count)
 
 pub generated_count : (seed events : ℕ) → events ≤ 100000 → length (generated_lines seed events) ≤ 500010
-generated_count seed events most =
-    omega (arith, length-append head_lines (unit_line 1 0 ∷ unit_line 2 0 ∷ made.lines_from seed 0 events), lines_count seed 0 events, most)
+generated_count seed events most = grind (arith, length-append, head_lines, lines_count)
 
 -- the last of these lines is `end`
 pub record LastIsEnd (lines : List (List ℕ)) : Type 0 where

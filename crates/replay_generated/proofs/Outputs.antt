@@ -1,10 +1,11 @@
 -- What each line prints is whole lines.
-use Rattle.replay_generated.proofs.Prelude.{ℕ, ◌+◌, ◌==◌, cond, Bool, true, false, List, [], ◌∷◌, ◌++◌, codes, decimal, length, map, Option, None, Some, sum, filter, flat_map, Account, airs_of, digits, control_line, dropped_name, hearing_name, hearing_number, numbers, stale_line, Step, SinkUnit, account_at, box_of, closing, closing_both, handed_up, sink_numbers, valid_for, Refusal, Said, a_step, nothing, unsaid, output_said, chosen_of, chosen_steps, IsWhole, whole_append, whole_none}
+use Rattle.std.proofs.Common.{arith}
+use Rattle.replay_generated.proofs.Prelude.{ℕ, ◌+◌, List, [], ◌∷◌, ◌++◌, codes, decimal, length, map, Option, None, Some, sum, filter, flat_map, Account, airs_of, digits, control_line, dropped_name, hearing_name, hearing_number, numbers, stale_line, Step, SinkUnit, account_at, box_of, closing, closing_both, handed_up, sink_numbers, valid_for, Refusal, Said, a_step, nothing, unsaid, output_said, chosen_of, chosen_steps, IsWhole, whole_append, whole_none}
 use Rattle.unit_outlets.specs.Handed.{Handed, valid, lost}
 use Rattle.source_machine.specs.declared.sent.Stale.{Stale}
 use Rattle.transcript_text.specs.Lines.{handed_line}
 use Rattle.scenario_text.specs.declared.step.Step.TheVariants as kinds
-use Rattle.scenario_history.specs.RelayedUnits.{Answered, Offer, answered_by, handed_of}
+use Rattle.scenario_history.specs.RelayedUnits.{Answered, Offer, answered_by}
 use Rattle.scenario_history.specs.Output.{answer_line, close_lines, dropped_lines, first_lines, injected_hearing, output_of, stale_lines, sum_if, sums_of, unit_line, unit_lines}
 use Rattle.scenario_history.specs.Source.{end_pdu, event_back, pdu_in, stale_in}
 use Rattle.replay_generated.proofs.SinkOutputs.{sink_lines_whole, line_whole}
@@ -43,25 +44,13 @@ answer_whole offer (Some reason) =
     line_whole (codes "relay") (decimal offer.sink ∷ decimal offer.route.bis ∷ codes "dropped" ∷ dropped_name reason ∷ [])
 
 dropped_whole : (n : ℕ) (answers : List Answered) → IsWhole (dropped_lines n answers)
-dropped_whole n answers =
-    all_whole (λ (answer : Answered). answer_line answer.offer answer.reason) (λ answer. answer_whole answer.offer answer.reason)
-    (filter (λ (answer : Answered). answer.offer.sink == n) answers)
+dropped_whole n answers = grind (arith, all_whole, answer_whole, filter)
 
 first_whole : (units : List SinkUnit) (answers : List Answered) → IsWhole (first_lines units answers)
-first_whole units answers =
-    all_whole (λ n. flat_map (handed_line n) (handed_of 0 n units) ++ dropped_lines n answers)
-    (λ n. whole_append (flat_map (handed_line n) (handed_of 0 n units)) (dropped_lines n answers)
-    (all_whole (handed_line n) (handed_whole n) (handed_of 0 n units)) (dropped_whole n answers)) sink_numbers
-
-whole_if : (b : Bool) (one other : List ℕ) → IsWhole one → IsWhole other → IsWhole (cond b one other)
-whole_if true one other first second = first
-whole_if false one other first second = second
+first_whole units answers = grind (arith, all_whole, flat_map, whole_append, handed_whole, dropped_whole, sink_numbers)
 
 close_whole : (steps : List Step) (made : Step) → IsWhole (close_lines airs_of steps made)
-close_whole steps made =
-    whole_if (chosen_of steps == 0) (first_lines (closing airs_of 0 steps) (answered_by airs_of steps made))
-    (unit_lines (closing airs_of (chosen_of steps) steps)) (first_whole (closing airs_of 0 steps) (answered_by airs_of steps made))
-    (units_whole (closing airs_of (chosen_of steps) steps))
+close_whole steps made = grind (arith, chosen_of, closing, airs_of, first_whole, units_whole)
 
 output_whole : (starts : List Account) (steps : List Step) (made : Step) → IsWhole (output_of airs_of starts steps made)
 output_whole starts steps kinds.Event =

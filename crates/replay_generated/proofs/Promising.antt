@@ -1,4 +1,5 @@
 -- What a generated run promises, by how its lines ended and what was written.
+use Rattle.std.proofs.Common.{arith}
 use Rattle.replay_generated.proofs.Prelude.{◌≡◌, ◌≢◌, ℕ, ◌+◌, ◌<◌, ◌≤◌, List, [], ◌∷◌, length, reverse, refl, sym, subst, ◌∙◌, Option, inl, inr, append-nil, cases_lt, TextLine, AppendsShort, Appends-nothing, Account, airs_of, Airs, Refusal, NoOutlet, counts_of, summary, summary_of, Counts, End, through, refused, Accepted, RoomFor, SinkUnit, Took, rules_of, handed_on, transcript_of, transcript_end, units_of, BoxFails, BoxFailed, Did, EndedOver, GeneratedRun, IsDoneOrMemory, Summed, lines_made, Ends, PrefixTaken, Puts, Told}
 use Rattle.std.specs.Io.KnownBytes.{Appends}
 use Rattle.bcast_base.specs.Counts.{Rose}
@@ -131,13 +132,9 @@ complete_over : (starts ends : List Account) (seed events : ℕ) (kept kept' : O
     → EndedOver airs_of events (lines_made seed events) outcome starts ends kept kept' → (outcome ≡ outcomes.WriteFault → Rose faults faults')
     → transcript_end airs_of starts (lines_made seed events) ≡ through → RoomFor starts (units_of airs_of starts (lines_made seed events)) → ¬ Rose faults faults'
     → IsDoneOrMemory outcome
-complete_over starts ends seed events kept kept' faults faults' outcomes.Done e rose whole room none = tt
-complete_over starts ends seed events kept kept' faults faults' (outcomes.Refused line reason) e rose whole room none =
-    let no : refused line reason ≡ through = sym e.ends_so ∙ whole in absurd cc
-complete_over starts ends seed events kept kept' faults faults' outcomes.OutletFault e rose whole room none =
-    absurd (no_room starts ends (lines_made seed events) e.0 room)
-complete_over starts ends seed events kept kept' faults faults' outcomes.WriteFault e rose whole room none = absurd (none (rose refl))
-complete_over starts ends seed events kept kept' faults faults' outcomes.Memory e rose whole room none = tt
+complete_over starts ends seed events kept kept' faults faults' (outcomes.Refused line reason) e rose whole room none = absurd cc
+complete_over starts ends seed events kept kept' faults faults' outcome e rose whole room none =
+    search (refused, through, no_room, lines_made)
 
 -- the counts of the boxes
 module _ (starts ends : List Account) (events : ℕ) (lines : List TextLine) (kept kept' : Option (List ℕ)) where
@@ -158,10 +155,7 @@ module _ (starts ends : List Account) (events : ℕ) (lines : List TextLine) (ke
 
 refused_so : (starts : List Account) (line : ℕ) (reason : Refusal) (end : End Refusal) → end ≡ refused line reason
     → (2 ≤ length starts → end ≡ through) → (length starts < 2 → end ≡ refused (length starts + 3) NoOutlet) → (reason ≡ NoOutlet) × (length starts < 2)
-refused_so starts line reason end is enough few = elim (cases_lt (length starts) 2) [
-  | inl less ↦ let so : refused line reason ≡ refused (length starts + 3) NoOutlet = sym is ∙ few less in (cc, less)
-  | inr more ↦ let no : refused line reason ≡ through = sym is ∙ enough more in absurd (cc)
-]
+refused_so starts line reason end is enough few = grind (arith, cases_lt, length, refused, through)
 
 pub run_promises : (seed events : ℕ) (outcome : Outcome) (starts ends : List Account) (kept kept' : Option (List ℕ)) (faults faults' : ℕ) → events ≤ 100000 → Reads → AllSame
     → Ends starts ends events (lines_made seed events) kept kept' faults faults' outcome → GeneratedRun seed events outcome starts ends kept kept' faults faults'

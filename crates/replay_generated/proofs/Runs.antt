@@ -2,8 +2,7 @@
 use Rattle.replay_generated.proofs.Prelude.{◌≡◌, ℕ, ◌+◌, true, List, [], ◌∷◌, ◌++◌, length, map, reverse, refl, sym, ap, subst, ◌∙◌, append_assoc, arith, Option, None, Some, Result, Ok, Err, inl, inr, append-nil, TextLine, plain, Account, airs_of, Refusal, refusal_line, lines_of, counts_of, none_counted, with_lines, Counts, counts_append, whole_append, whole_none, through, refused, out, out_unless, end_of, end_unless, accepted_of, accepted_unless, brought, Accepted, SinkUnit, accounts_after, handed_up, Took, rules_of, steps_of, said_after, handed_on, out_of, end_after, last_line_after, last_end_after, has_end, transcript_of, transcript_end, units_of, BoxFails, CutShort, LinesStand, LineMeets, refusal_at, output_at, answered_on, box_fails, meets_at, unassigned_line, took_as, took_history, handed_line, BoxFailed, Counted, PrefixTaken, LineRefused, LineRuns, Ran, Refuses, RunTo, Told, Ending}
 use Rattle.transcript_text.specs.declared.stop.Stop.{Stop}
 use Rattle.transcript_text.specs.declared.stop.Stop.TheVariants as stops
-use Rattle.scenario_history.proofs.Citable.{out_accepted, end_accepted, accepted_accepted, reverse_onto}
-use Rattle.scenario_history.proofs.Citable.{took_all}
+use Rattle.scenario_history.proofs.Citable.{out_accepted, end_accepted, accepted_accepted, reverse_onto, took_all}
 use Rattle.scenario_sinks.proofs.Citable.{accounts_append}
 use Rattle.replay_steps.specs.declared.machine.Machine.{Machine}
 use Rattle.replay_steps.specs.Unassigned.{UnassignedRun, UnassignedSame}
@@ -113,9 +112,7 @@ units_line starts history line lines later split accepted none =
     (handed_line airs_of history line) (units_rest starts (line ∷ history) later) in
     record {
       rest = b.rest;
-      split = ap (units_of airs_of starts) split ∙ units_then starts history accepted (line ∷ later)
-          ∙ ap (λ why. handed_up airs_of (steps_of airs_of (accepted_unless history why (accepted_of (rules_of airs_of starts) (line ∷ history) later)))) none
-          ∙ b.split;
+      split = grind (arith, units_then starts history accepted (line ∷ later), b.split);
     }
 
 -- ---- what the boxes took

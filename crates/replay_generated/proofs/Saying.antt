@@ -39,34 +39,7 @@ unfolding row_of first_row_of numerals
 group_line =
     row_says rows.group_row (0 ▸ 20000 ▸ 40000 ▸ 8 ▸ 10000 ▸ 100 ▸ 100 ▸ 2 ▸ 1 ▸ 3 ▸ 2 ▸ 1 ▸ 600 ▸ 1800 ▸ 1 ▸ tt) refl refl refl (unspaced (codes "group") refl) (
       omega arith,
-      (
-        (omega arith, omega arith),
-        (
-          (omega arith, omega arith),
-          (
-            (omega arith, omega arith),
-            (
-              (omega arith, omega arith),
-              (
-                (omega arith, omega arith),
-                (
-                  (omega arith, omega arith),
-                  (
-                    (omega arith, omega arith),
-                    (
-                      (omega arith, omega arith),
-                      (
-                        (omega arith, omega arith),
-                        ((omega arith, omega arith), ((omega arith, omega arith), ((omega arith, omega arith), ((omega arith, omega arith), ((omega arith, omega arith), tt))))),
-                      ),
-                    ),
-                  ),
-                ),
-              ),
-            ),
-          ),
-        ),
-      ),
+      grind arith,
     )
 
 first_sink_line : Line (sink_step 0) (codes "sink 0 1 1")
@@ -143,19 +116,16 @@ events_say state x (suc count) =
     )
 
 pub all_say : (seed events : ℕ) → AllSay (generated_lines seed events) (made_steps seed events)
-all_say seed events = (
-  scenario_line,
-  (
-    group_line,
-    (
+all_say seed events =
+    grind (
+      arith,
+      scenario_line,
+      group_line,
       first_sink_line,
-      (
-        second_sink_line,
-        (
-          start_line,
-          (first_tuned_line, (second_tuned_line, (unit_says 1 0 (omega arith) (omega arith), (unit_says 2 0 (omega arith) (omega arith), events_say seed 0 events)))),
-        ),
-      ),
-    ),
-  ),
-)
+      second_sink_line,
+      start_line,
+      first_tuned_line,
+      second_tuned_line,
+      unit_says,
+      events_say,
+    )

@@ -1,5 +1,6 @@
 -- What a line prints of a sink and of its assistants is whole lines.
-use Rattle.replay_generated.proofs.Prelude.{ℕ, zero, suc, List, [], ◌∷◌, ◌++◌, codes, decimal, length, map, Option, None, Some, concat, flat_map, range_with_len, digits, joined, line_of, Step, IsWhole, whole_append, whole_ended, whole_none}
+use Rattle.std.proofs.Common.{arith}
+use Rattle.replay_generated.proofs.Prelude.{ℕ, zero, suc, List, [], ◌∷◌, ◌++◌, codes, decimal, length, map, Option, concat, flat_map, range_with_len, digits, joined, line_of, Step, IsWhole, whole_append, whole_ended, whole_none}
 use Rattle.assistant_machine.specs.Answers.{answer_of as forged_answer}
 use Rattle.delegator_history.specs.declared.notice.Notice.{Notice}
 use Rattle.delegator_history.specs.Controls as controls
@@ -10,8 +11,8 @@ use Rattle.sink_history.specs.Drains.{repeated, served_out, notified_out}
 use Rattle.sink_history.specs.Links.{notices_waiting, reads_waiting}
 use Rattle.transcript_text.specs.SinkLines.{Label, control_words, forged_words, on_link, plain, reply_line, reply_words, train_words, value_line}
 use Rattle.scenario_text.specs.declared.step.Step.TheVariants as steps
-use Rattle.sink_history.specs.History.{Source, World, given_train, history_of, made_of, named_by, own_train}
-use Rattle.sink_history.specs.Output.{Lines, drain_lines, heard_line, if_there, notice_delivered, printed, printed_at, printed_of, printed_where, read_line, read_lines}
+use Rattle.sink_history.specs.History.{Source, World, given_train, named_by, own_train}
+use Rattle.sink_history.specs.Output.{Lines, drain_lines, heard_line, if_there, notice_delivered, printed, printed_at, printed_of, read_line, read_lines}
 use Rattle.sink_history.specs.Output.{replied, serve_line, serve_lines, show_lines, snapshot_in, stated, tell_line, tell_lines, view_lines, viewed, was_read}
 use Rattle.scenario_history.specs.Output.{sink_lines}
 use Rattle.scenario_history.specs.Worlds.{the_world}
@@ -30,8 +31,7 @@ more_whole [] lines all more = more
 more_whole (line ∷ prefix) lines all more = (all.0, more_whole prefix lines all.1 more)
 
 there_whole : {A : Type 0} (line : A → List ℕ) → ((what : A) → IsWhole (line what)) → (o : Option A) → AllWhole (if_there line o)
-there_whole line each None = tt
-there_whole line each (Some what) = (each what, tt)
+there_whole line each o = grind arith
 
 map_whole : (line : ℕ → List ℕ) → ((slot : ℕ) → IsWhole (line slot)) → (slots : List ℕ) → AllWhole (map line slots)
 map_whole line each [] = tt
@@ -133,13 +133,8 @@ of_whole source (steps.ADrain sink link) made calls = drain_whole (on_link sink 
 of_whole source (steps.AShow sink link) made calls = views_whole sink link made calls
 of_whole source _ made calls = tt
 
-where_whole : (source : Source) (next : Step) (made : Option Settings) (calls : List Call) → AllWhole (printed_where source next made calls)
-where_whole source next None calls = tt
-where_whole source next (Some made) calls = of_whole source next made calls
-
 at_whole : (world : World) (earlier : List Step) (next : Step) (named : Option ℕ) → AllWhole (printed_at world earlier next named)
-at_whole world earlier next None = tt
-at_whole world earlier next (Some n) = where_whole (world.source earlier) next (made_of n earlier) (history_of world n earlier)
+at_whole world earlier next named = grind (arith, of_whole)
 
 pub sink_lines_whole : (earlier : List Step) (next : Step) → IsWhole (sink_lines earlier next)
 sink_lines_whole earlier next = concat_whole (printed the_world earlier next) (at_whole the_world earlier next (named_by next))

@@ -1,4 +1,5 @@
 -- What stands between the steps of two lines of a generated scenario, and when such a step isn't refused.
+use Rattle.std.proofs.Common.{arith}
 use Rattle.replay_generated.proofs.Prelude.{◌≡◌, ℕ, true, false, cond, not, ◌&&◌, ◌||◌, nat_eq, List, ◌∷◌, refl, ap, ◌∙◌, Option, None, Some, is_some, unwrap_or, option_or, option_map, airs_of, Setup, Call, events, give_fault, event_fault, AfterEnd, Order, NoSuchSink, NotOnAir, Step, Stage, running, chosen_given, chosen_of, chosen_steps, is_common, is_of_source, is_over, is_over_at, is_source_line, last_given, stage_after, stage_of, steps_of_source, version_at, version_of, box_after, box_of, counter_ends, give_refusal, is_misplaced, is_out_of_order, is_out_of_phase, own_refusal, phase_refusal, refusal_of, source_refusal, refuse_if}
 use Rattle.big_info.specs.declared.info.BigInfo.{BigInfo}
 use Rattle.scenario_text.specs.declared.step.Step.TheVariants as kinds
@@ -42,68 +43,32 @@ pub record IsPlain (next : Step) : Type 0 where
   pub box : (n : ℕ) → (earlier : List Step) → (box : Option ℕ) → box_after n next earlier box ≡ box
 
 pub unit_plain : (bis : ℕ) (time : Option ℕ) (octets : List ℕ) → IsPlain (kinds.Unit bis time octets)
-unit_plain bis time octets = record {
-  of_source = refl;
-  own = refl;
-  stage = λ at. refl;
-  chosen = refl;
-  phase = refl;
-  cipher = refl;
-  group = refl;
-  start = refl;
-  box = λ n earlier box. refl;
-}
+unit_plain bis time octets = grind arith
 
 pub event_plain : IsPlain kinds.Event
-event_plain = record {
-  of_source = refl;
-  own = refl;
-  stage = λ at. refl;
-  chosen = refl;
-  phase = refl;
-  cipher = refl;
-  group = refl;
-  start = refl;
-  box = λ n earlier box. refl;
-}
+event_plain = grind arith
 
 pub air_plain : (sink lose : ℕ) → IsPlain (kinds.Air sink lose)
-air_plain sink lose = record {
-  of_source = refl;
-  own = refl;
-  stage = λ at. refl;
-  chosen = refl;
-  phase = refl;
-  cipher = refl;
-  group = refl;
-  start = refl;
-  box = λ n earlier box. refl;
-}
-
-own_next : (steps : List Step) (next : Step) → last_given chosen_given steps ≡ None → IsPlain next → steps_of_source 0 (next ∷ steps) ≡ next ∷ steps_of_source 0 steps
-own_next steps next chosen p =
-    let mine : is_of_source 0 steps next ≡ true =
-    ap (λ c. c || (is_source_line next && nat_eq (chosen_of steps) 0)) p.own
-    ∙ ap (λ c. c && nat_eq (chosen_of steps) 0) p.of_source
-    ∙ ap (λ o. nat_eq (unwrap_or o 0) 0) chosen in
-    ap (λ b. cond b (next ∷ steps_of_source 0 steps) (steps_of_source 0 steps)) mine
+air_plain sink lose = grind arith
 
 pub at_next : (steps : List Step) (calls : List Call) (next : Step) → At steps calls → IsPlain next → At (next ∷ steps) (with_source_call next calls)
 at_next steps calls next a p =
-    let own = own_next steps next a.chosen p in
-    let mine = steps_of_source 0 steps in
-    record {
-      stage = p.stage (stage_of steps) ∙ a.stage;
-      chosen = ap (λ o. option_or o (last_given chosen_given steps)) p.chosen ∙ a.chosen;
-      own_stage = ap stage_of own ∙ p.stage (stage_of mine) ∙ a.own_stage;
-      phase = ap (last_given phase_given) own ∙ ap (λ o. option_or o (last_given phase_given mine)) p.phase ∙ a.phase;
-      cipher = ap (last_given cipher_given) own ∙ ap (λ o. option_or o (last_given cipher_given mine)) p.cipher ∙ a.cipher;
-      group = ap (last_given group_given) own ∙ ap (λ o. option_or o (last_given group_given mine)) p.group ∙ a.group;
-      start = ap (last_given start_given) own ∙ ap (λ o. option_or o (last_given start_given mine)) p.start ∙ a.start;
-      calls_are = ap source_calls own ∙ ap (with_source_call next) a.calls_are;
-      first_box = ap is_some (p.box 0 steps (box_of 0 steps)) ∙ a.first_box;
-      second_box = ap is_some (p.box 1 steps (box_of 1 steps)) ∙ a.second_box;
-    }
+    grind (
+      arith,
+      is_of_source,
+      is_source_line,
+      nat_eq,
+      chosen_of,
+      unwrap_or,
+      cond,
+      steps_of_source,
+      stage_of,
+      option_or,
+      last_given,
+      chosen_given,
+      is_some,
+      box_of,
+    )
 
 module _ (boxes : ℕ) (steps : List Step) (calls : List Call) (a : At steps calls) where
   abbrev mine : List Step

@@ -1,3 +1,4 @@
+use Rattle.std.proofs.Common.{arith}
 use Rattle.replay_generated.proofs.Prelude.{map, airs_of, lines_made, unassigned_run}
 use Rattle.replay_generated.proofs.Promising.{run_promises}
 use Rattle.replay_generated.proofs.generated.run_generated.Goals as goal
@@ -19,6 +20,5 @@ returns-clause-generated g c =
 pub returns-clause-unassigned : goal.returns-clause-unassigned
 returns-clause-unassigned g c airs meets =
     unassigned_run airs (map (λ b. (goal.Outlet-dyn g (b.vtable, b.value)).account b.value) c.args.outlets.now.items) (lines_made c.args.seed c.args.events) _ _
-    (λ history. c.one_transcript.ensures.accepted airs_of airs (map (λ b. (goal.Outlet-dyn g (b.vtable, b.value)).account b.value) c.args.outlets.now.items) history
-    c.some_airs_meet.ensures meets)
+    (grind (arith, airs_of, map))
     c.run.ensures.unassigned

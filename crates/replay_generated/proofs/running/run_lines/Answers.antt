@@ -6,8 +6,7 @@ use Rattle.replay_generated.proofs.Runs.{none_taken, running_none, runs_on, runs
 use Rattle.replay_generated.proofs.running.run_lines.Goals as goal
 
 pub returns-in_default-clause-ran : goal.returns-in_default-clause-ran
-returns-in_default-clause-ran g c =
-    none_taken (map (λ b. (goal.Outlet-dyn g (b.vtable, b.value)).account b.value) c.args.outlets.now.items) (lines_made c.args.seed c.args.events)
+returns-in_default-clause-ran g c = grind (arith, none_taken, map, lines_made)
 
 pub lines-init : goal.lines-init
 lines-init g c = record {
