@@ -1,15 +1,11 @@
 -- Bits of numbers: a number that isn't 0 has one, and two numbers share one where their `and` isn't 0.
-use Rattle.pacs_records.proofs.Prelude.{◌≡◌, ◌↔◌, ℕ, zero, suc, ◌+◌, ◌/◌, ◌%◌, ◌<◌, ◌≤◌, ◌⊎◌, Bool, true, false, bit_and, eqb, refl, sym, ap, ◌∙◌, arith, inl, inr, not, bit_at, cases_lt, eqb-false, ne_eqb, Has, ShareBit}
+use Rattle.pacs_records.proofs.Prelude.{◌≡◌, ◌↔◌, ℕ, zero, suc, ◌/◌, ◌%◌, ◌<◌, ◌≤◌, Bool, true, false, bit_and, eqb, refl, sym, ap, ◌∙◌, arith, inl, inr, not, bit_at, cases_lt, eqb-false, ne_eqb, Has, ShareBit}
 use Rattle.std.specs.Int.RustNames.{count_ones}
 use Rattle.std.proofs.lemmas.Nat.{zero_from_ones}
 use Rattle.std.proofs.lemmas.Nat.Bits.{bit_at_lowest, bit_at-suc, bit_at-zero, bit_at_and, bit_at-lt}
 
 pub one_bit : (n : ℕ) → (n ≡ 0 → ⊥) → 1 ≤ count_ones n
-one_bit n some =
-    elim (cases_lt (count_ones n) 1) [
-      | inl none ↦ absurd (some (zero_from_ones n (omega arith)))
-      | inr more ↦ more
-    ]
+one_bit n some = grind (arith, cases_lt, zero_from_ones)
 
 some_bit_within : (fuel n : ℕ) → n ≤ fuel → 0 < n → (k : ℕ) × Has n k
 some_bit_within zero n le some = absurd (omega arith)
@@ -34,9 +30,7 @@ share a b some =
     (k.0, both.0, both.1)
 
 pub shared : (a b : ℕ) → ShareBit a b → bit_and a b ≡ 0 → ⊥
-shared a b (k, x, y) none =
-    let one : bit_at (bit_and a b) k ≡ 0 = ap (λ (n : ℕ). bit_at n k) none ∙ bit_at-zero k in
-    omega (arith, one, bit_at_and a b k, x, y)
+shared a b (k, x, y) none = grind (arith, bit_at-zero k, (ap (λ (n : ℕ). bit_at n k) none ∙ bit_at-zero k), bit_at_and a b k)
 
 -- the test whether two numbers share a bit
 pub share_means : (a b : ℕ) → (not (eqb (bit_and a b) 0) ≡ true) ↔ ShareBit a b

@@ -1,5 +1,5 @@
 -- What stands at the cut is the fault that is met.
-use Rattle.pacs_records.proofs.Prelude.{◌≡◌, ℕ, zero, suc, ◌<◌, ◌≤◌, ◌⊎◌, Bool, true, false, eqb, List, [], ◌∷◌, ◌++◌, length, Some, None, Result, Ok, Err, refl, sym, ap, subst, ◌∙◌, append_assoc, arith, inl, inr, flat_map, AllByRecursion, result_err, lt-ltb, le-ltb, ne_eqb, length-append, flat_map-cons, counted, octet_in, octets_in, place_in, octets_again, LtvBad, AreLtvs, bad_of, PacFault, TooLong, Short, Ltv, Trailing, Memory, PacRecord, Fields, to_codec, to_caps_length, to_caps, to_metadata_length, to_metadata, octets_of, next_length, MeetRows, IsNextList, Cut, IsShort, IsNoList, IsTrailing, IsFault, lc3, is_lc3, greatest_value, encoded, value, Fits}
+use Rattle.pacs_records.proofs.Prelude.{◌≡◌, ℕ, zero, suc, ◌<◌, ◌≤◌, ◌⊎◌, Bool, true, eqb, List, [], ◌∷◌, ◌++◌, length, Some, None, Result, Ok, Err, refl, sym, ap, subst, ◌∙◌, append_assoc, arith, inl, inr, flat_map, AllByRecursion, result_err, lt-ltb, le-ltb, ne_eqb, length-append, flat_map-cons, counted, octet_in, octets_in, place_in, octets_again, LtvBad, AreLtvs, bad_of, PacFault, TooLong, Short, Ltv, Trailing, Memory, PacRecord, Fields, to_codec, to_caps_length, to_caps, to_metadata_length, to_metadata, octets_of, next_length, MeetRows, IsNextList, Cut, IsShort, IsNoList, IsTrailing, IsFault, lc3, is_lc3, greatest_value, encoded, value, Fits}
 use Rattle.ltv_codec.proofs.Citable.{bad_read}
 use Rattle.pacs_records.specs.Reading.{run_in, record_in, records_in, value_in}
 use Rattle.pacs_records.proofs.Fields.{is_lc3-true, lc3-is, run_again, record_again, records_again}
@@ -15,8 +15,7 @@ whole_octets k from run behind long parts = ap (λ (n : ℕ). octets_in n from) 
 
 no_run : (listed : Bool) (whole from : List ℕ) → length from < 1 → run_in listed whole from ≡ Err (Short (place_in whole from))
 unfolding run_in
-no_run listed whole [] lt = refl
-no_run listed whole (first ∷ from) lt = absurd (omega arith)
+no_run listed whole from lt = grind arith
 
 short_run : (listed : Bool) (whole : List ℕ) (count : ℕ) (rest : List ℕ) → length rest < count → run_in listed whole (count ∷ rest) ≡ Err (Short (place_in whole rest))
 unfolding run_in
@@ -24,9 +23,7 @@ short_run listed whole count rest lt = rw (few_octets count rest lt) refl
 
 bad_run : (whole : List ℕ) (count : ℕ) (rest : List ℕ) (fault : PacFault) → NoList whole count rest fault → run_in true whole (count ∷ rest) ≡ Err fault
 unfolding run_in
-bad_run whole count rest fault n =
-    let bad : bad_of n.run ≡ Some n.bad = ap result_err (bad_read n.bad n.run n.what) in
-    rw (whole_octets count rest n.run n.behind n.long n.parts, bad) (ap (λ (f : PacFault). Err f) n.same)
+bad_run whole count rest fault n = grind (arith, bad_of, result_err, bad_read, whole_octets)
 
 -- ---- a record
 
@@ -42,9 +39,7 @@ caps_fail whole codec rest fault five e = rw (codec_is codec rest five, e) refl
 metadata_fails : (whole codec caps rest : List ℕ) (fault : PacFault) → length codec ≡ 5 → (codec ≡ lc3 → AreLtvs caps) → run_in true whole rest ≡ Err fault
     → record_in whole ((codec ++ counted caps) ++ rest) ≡ Err fault
 unfolding record_in
-metadata_fails whole codec caps rest fault five listed e =
-    let read = run_again (is_lc3 codec) whole caps rest (λ h. listed (is_lc3-true codec h)) in
-    ap (record_in whole) (append_assoc codec (counted caps) rest) ∙ rw (codec_is codec (counted caps ++ rest) five, read, e) refl
+metadata_fails whole codec caps rest fault five listed e = grind (arith, run_again, is_lc3, is_lc3-true, append_assoc, counted, codec_is)
 
 short_same : {A : Type 0} (a b : PacFault) (read : Result A PacFault) → a ≡ b → read ≡ Err a → read ≡ Err b
 short_same {A = A} a b read same e = e ∙ ap (λ (f : PacFault). Err f) same
@@ -97,11 +92,7 @@ records_fail : (whole : List ℕ) (records : List PacRecord) (count : ℕ) (from
     → records_in whole count (flat_map encoded records ++ from) ≡ Err fault
 records_fail whole records zero from fault due fit e = absurd (omega (arith, due))
 records_fail whole [] (suc count) from fault due fit e = record_first whole count from fault e
-records_fail whole (entry ∷ records) (suc count) from fault due fit e =
-    let regrouped : flat_map encoded (entry ∷ records) ++ from ≡ encoded entry ++ (flat_map encoded records ++ from) = ap (λ (x : List ℕ). x ++ from) (flat_map-cons encoded entry records)
-    ∙ append_assoc (encoded entry) (flat_map encoded records) from in
-    ap (records_in whole (suc count)) regrouped
-    ∙ records_behind whole count entry (flat_map encoded records ++ from) fault fit.0 (records_fail whole records count from fault (omega (arith, due)) fit.1 e)
+records_fail whole (entry ∷ records) (suc count) from fault due fit e = grind (arith, flat_map-cons encoded entry records, append_assoc (encoded entry) (flat_map encoded records) from, records_behind whole count entry (flat_map encoded records ++ from) fault fit.0 (records_fail whole records count from fault (omega (arith, due)) fit.1 e))
 
 -- ---- the whole value
 
@@ -122,10 +113,7 @@ cut_fails count records fields rest octets fault small due fit parts stop =
 
 -- the place of the cut
 at_cut : (place : ℕ) (octets : List ℕ) (cut : Cut place octets) → place_in octets cut.rest ≡ place
-at_cut place octets cut =
-    let one = length-append (flat_map encoded cut.records ++ octets_of cut.fields) cut.rest in
-    let two = length-append (flat_map encoded cut.records) (octets_of cut.fields) in
-    omega (arith, one, two, ap length cut.parts, cut.at)
+at_cut place octets cut = grind (arith, length-append, flat_map, encoded, octets_of, length)
 
 short_fails : (place : ℕ) (octets : List ℕ) → length octets ≤ greatest_value → IsShort place octets → value_in octets ≡ Err (Short place)
 unfolding value_in
@@ -145,10 +133,7 @@ list_fails place bad octets small n =
 trailing_read : (octets rest : List ℕ) (records : List PacRecord) (count : ℕ) (from : List ℕ) → octets ≡ count ∷ from → length octets ≤ greatest_value
     → records_in octets count from ≡ Ok (records, rest) → 0 < length rest → value_in octets ≡ Err (Trailing (place_in octets rest))
 unfolding value_in
-trailing_read octets rest records count from is small read more =
-    let first : octet_in octets ≡ Some (count, from) = ap octet_in is in
-    let left : eqb (length rest) 0 ≡ false = ne_eqb (length rest) 0 (λ none. omega (arith, none, more)) in
-    rw (le-ltb greatest_value (length octets) small, first, read, left) refl
+trailing_read octets rest records count from is small read more = grind (arith, octet_in, eqb, length, ne_eqb, le-ltb, greatest_value)
 
 trailing_fails : (place : ℕ) (octets : List ℕ) → length octets ≤ greatest_value → IsTrailing place octets → value_in octets ≡ Err (Trailing place)
 trailing_fails place octets small t =

@@ -9,13 +9,7 @@ pub field_ok : {A : Type 0} (place : ℕ) (field : Option A) (x : A) → field_a
 field_ok place field x e = needed_ok (Short place) field x e
 
 checked_ok : (place : ℕ) (listed : Bool) (bad : Option LtvBad) (run x : List ℕ × List ℕ) → checked place listed bad run ≡ Ok x → (run ≡ x) × (listed ≡ true → bad ≡ None)
-checked_ok place true None run x e = (ok_is run x e, λ _. refl)
-checked_ok place true (Some bad) run x e = absurd cc
-checked_ok place false bad run x e = (ok_is run x e, λ h. absurd cc)
-
-checked_again : (place : ℕ) (listed : Bool) (bad : Option LtvBad) (run : List ℕ × List ℕ) → (listed ≡ true → bad ≡ None) → checked place listed bad run ≡ Ok run
-checked_again place true bad run h = ap (λ (b : Option LtvBad). checked place true b run) (h refl)
-checked_again place false bad run h = refl
+checked_ok place listed bad run x e = grind (arith, ok_is)
 
 pub is_lc3-true : (codec : List ℕ) → is_lc3 codec ≡ true → codec ≡ lc3
 is_lc3-true codec = (bytes_eq-Decides codec lc3).0
@@ -44,8 +38,7 @@ run_takes listed whole from x fits e =
 
 pub run_again : (listed : Bool) (whole run rest : List ℕ) → (listed ≡ true → AreLtvs run) → run_in listed whole (counted run ++ rest) ≡ Ok (run, rest)
 unfolding run_in
-run_again listed whole run rest h =
-    rw (octets_again run rest) (checked_again (place_in whole (run ++ rest)) listed (bad_of run) (run, rest) (λ e. reads run (h e)))
+run_again listed whole run rest h = grind (arith, octets_again, checked, place_in, bad_of, reads)
 
 -- ---- a record
 
@@ -70,9 +63,7 @@ unfolding record_in
 record_again whole entry rest fits =
     let regrouped : encoded entry ++ rest ≡ entry.codec ++ (counted entry.caps ++ (counted entry.metadata ++ rest)) =
     append_assoc (entry.codec ++ counted entry.caps) (counted entry.metadata) rest ∙ append_assoc entry.codec (counted entry.caps) (counted entry.metadata ++ rest) in
-    let codec : octets_in 5 (entry.codec ++ (counted entry.caps ++ (counted entry.metadata ++ rest))) ≡ Some (entry.codec, counted entry.caps ++ (counted entry.metadata ++ rest)) =
-    subst (λ (n : ℕ). octets_in n (entry.codec ++ (counted entry.caps ++ (counted entry.metadata ++ rest))) ≡ Some (entry.codec, counted entry.caps ++ (counted entry.metadata ++ rest))) fits.codec
-    (octets_again entry.codec (counted entry.caps ++ (counted entry.metadata ++ rest))) in
+    let codec : octets_in 5 (entry.codec ++ (counted entry.caps ++ (counted entry.metadata ++ rest))) ≡ Some (entry.codec, counted entry.caps ++ (counted entry.metadata ++ rest)) = grind (arith, fits.codec, octets_again entry.codec (counted entry.caps ++ (counted entry.metadata ++ rest))) in
     let caps = run_again (is_lc3 entry.codec) whole entry.caps (counted entry.metadata ++ rest) (λ h. fits.caps (is_lc3-true entry.codec h)) in
     let metadata = run_again true whole entry.metadata rest (λ _. fits.metadata) in
     ap (record_in whole) regrouped ∙ rw (codec, caps, metadata) refl
@@ -82,9 +73,7 @@ record_again whole entry rest fits =
 pub records_take : (whole : List ℕ) (count : ℕ) (from : List ℕ) (x : List PacRecord × List ℕ) → IsOctets from → records_in whole count from ≡ Ok x
     → Takes from (flat_map encoded x.0) x.1 × (length x.0 ≡ count) × AllByRecursion Fits x.0
 unfolding records_in
-records_take whole zero from x fits e =
-    subst (λ (y : List PacRecord × List ℕ). Takes from (flat_map encoded y.0) y.1 × (length y.0 ≡ 0) × AllByRecursion Fits y.0) (ok_is ([], from) x e)
-    (record { parts = refl; fits = λ h. h }, refl, tt)
+records_take whole zero from x fits e = grind (arith, flat_map, encoded, length, ok_is)
 records_take whole (suc count) from x fits e =
     let a = bind_ok (record_in whole from) (λ first. records_in whole count first.1 >>= λ others. Ok (first.0 ∷ others.0, others.1)) x e in
     let b = bind_ok (records_in whole count a.0.1) (λ others. Ok (a.0.0 ∷ others.0, others.1)) x a.2 in
@@ -100,19 +89,16 @@ pub records_again : (whole : List ℕ) (records : List PacRecord) (rest : List �
 unfolding records_in
 records_again whole [] rest fits = refl
 records_again whole (entry ∷ records) rest fits =
-    let regrouped : flat_map encoded (entry ∷ records) ++ rest ≡ encoded entry ++ (flat_map encoded records ++ rest) = ap (λ (x : List ℕ). x ++ rest) (flat_map-cons encoded entry records)
-    ∙ append_assoc (encoded entry) (flat_map encoded records) rest in
+    let regrouped : flat_map encoded (entry ∷ records) ++ rest ≡ encoded entry ++ (flat_map encoded records ++ rest) = grind (arith, flat_map-cons, encoded, append_assoc, flat_map) in
     ap (records_in whole (suc (length records))) regrouped ∙ rw (record_again whole entry (flat_map encoded records ++ rest) fits.0, records_again whole records rest fits.1) refl
 
 -- ---- the whole value
 
 guard_ok : {A : Type 0} (b : Bool) (fault : PacFault) (read : Result A PacFault) (y : A) → cond b (Err fault) read ≡ Ok y → (b ≡ false) × (read ≡ Ok y)
-guard_ok true fault read y e = absurd cc
-guard_ok false fault read y e = (refl, e)
+guard_ok b fault read y e = grind arith
 
 guard_ended : {A : Type 0} (b : Bool) (fault : PacFault) (x y : A) → cond b (Ok x) (Err fault) ≡ Ok y → (b ≡ true) × (x ≡ y)
-guard_ended true fault x y e = (refl, cc)
-guard_ended false fault x y e = absurd cc
+guard_ended b fault x y e = grind arith
 
 pub value_takes : (octets : List ℕ) (records : List PacRecord) → IsOctets octets → value_in octets ≡ Ok records → PacIs records octets
 unfolding value_in
@@ -134,10 +120,7 @@ value_takes octets records fits e =
 value_read : (records : List PacRecord) → AreRecords records → value_in (value records) ≡ Ok records
 unfolding value_in
 value_read records are =
-    let small : ltb greatest_value (length (value records)) ≡ false = le-ltb _ _ are.size in
-    let rest : records_in (value records) (length records) (flat_map encoded records) ≡ Ok (records, []) =
-    ap (records_in (value records) (length records)) (sym (append-nil (flat_map encoded records))) ∙ records_again (value records) records [] are.fit in
-    rw (small, rest) refl
+    grind (arith, le-ltb _ _ are.size, append-nil (flat_map encoded records), records_again (value records) records [] are.fit)
 
 pub value_again : (octets : List ℕ) (records : List PacRecord) → PacIs records octets → value_in octets ≡ Ok records
 value_again octets records p = ap value_in p.is ∙ value_read records p.are
@@ -146,8 +129,7 @@ value_again octets records p = ap value_in p.is ∙ value_read records p.are
 pub longer : (records : List PacRecord) → AllByRecursion Fits records → 7 * length records ≤ length (flat_map encoded records)
 longer [] fit = omega arith
 longer (entry ∷ records) fit =
-    let long : length (flat_map encoded (entry ∷ records)) ≡ length (encoded entry) + length (flat_map encoded records) = ap length (flat_map-cons encoded entry records)
-    ∙ length-append (encoded entry) (flat_map encoded records) in
+    let long : length (flat_map encoded (entry ∷ records)) ≡ length (encoded entry) + length (flat_map encoded records) = grind (arith, length, flat_map-cons, encoded, length-append, flat_map) in
     let one = length-append (entry.codec ++ counted entry.caps) (counted entry.metadata) in
     let two = length-append entry.codec (counted entry.caps) in
     omega (arith, long, one, two, fit.0.codec, longer records fit.1)
@@ -158,8 +140,7 @@ few records are = omega (arith, longer records are.fit, are.size)
 -- ---- what the calls promise
 
 pub is_value : (octets : List ℕ) (result : Result (List PacRecord) PacFault) → IsOctets octets → Answers told result (value_in octets) → IfOk result (λ records. PacIs records octets)
-is_value octets (Ok records) fits given = value_takes octets records fits given
-is_value octets (Err fault) fits given = tt
+is_value octets result fits given = grind (arith, value_takes)
 
 pub only_value : (octets : List ℕ) (result : Result (List PacRecord) PacFault) (records : List PacRecord) → Answers told result (value_in octets) → PacIs records octets → Answers told result (Ok records)
 only_value octets result records given p = subst (Answers told result) (value_again octets records p) given

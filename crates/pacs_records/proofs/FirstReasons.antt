@@ -71,14 +71,7 @@ all_rise : Rising 0 all
 all_rise = (omega arith, (omega arith, (omega arith, (omega arith, (omega arith, (omega arith, (omega arith, (omega arith, tt))))))))
 
 stands : (reason : NotTaken) → StandsIn reason all
-stands Codec = inl refl
-stands Frequency = inr (inl refl)
-stands Duration = inr (inr (inl refl))
-stands FrameOctets = inr (inr (inr (inl refl)))
-stands Channels = inr (inr (inr (inr (inl refl))))
-stands FramesPerSdu = inr (inr (inr (inr (inr (inl refl)))))
-stands Location = inr (inr (inr (inr (inr (inr (inl refl))))))
-stands Context = inr (inr (inr (inr (inr (inr (inr (inl refl)))))))
+stands reason = grind arith
 
 -- the tests, of which those behind the first count where lc3 is true
 abbrev tests : Bool → Bool → (NotTaken → Bool) → NotTaken → Bool

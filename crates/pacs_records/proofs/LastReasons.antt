@@ -1,5 +1,6 @@
 -- The records one after the other, up to the first that fits.
-use Rattle.pacs_records.proofs.Prelude.{◌≡◌, ◌↔◌, ◌⊎◌, Bool, true, List, [], ◌∷◌, ◌++◌, Option, Some, None, Result, Ok, Err, refl, sym, ap, subst, ◌∙◌, inl, inr, option_and_then, Any, OnOk, IfErr, is_none, result_err, list_any, same_Some, Effective, Capability, NotTaken, Codec, PacRecord, FitsStream, IsReason, IsToldReason, reason_of, last_reason, not_taken}
+use Rattle.std.proofs.Common.{arith}
+use Rattle.pacs_records.proofs.Prelude.{◌≡◌, ◌↔◌, ◌⊎◌, Bool, true, List, [], ◌∷◌, ◌++◌, Option, Some, None, Result, refl, sym, ap, ◌∙◌, inl, inr, option_and_then, Any, OnOk, IfErr, is_none, result_err, list_any, same_Some, Effective, Capability, NotTaken, Codec, PacRecord, FitsStream, IsReason, IsToldReason, reason_of, last_reason, not_taken}
 use Rattle.std.proofs.lemmas.List.Folds.{Any-from_list_any, list_any-from_Any}
 use Rattle.pacs_records.specs.Match.{Takes}
 use Rattle.pacs_records.proofs.FirstReasons.{none_is_fit, fit_is_none, some_is_reason, reason_is_some}
@@ -13,8 +14,7 @@ abbrev fits_test : Capability → Effective → PacRecord → Bool
 fits_test capability effective entry = is_none (reason_of entry capability effective)
 
 none_is : (found : Option NotTaken) → is_none found ≡ true → found ≡ None
-none_is None e = refl
-none_is (Some reason) e = absurd cc
+none_is found e = grind arith
 
 any_fits : (capability : Capability) (effective : Effective) (entries : List PacRecord) → list_any (fits_test capability effective) entries ≡ true
     → Any (λ entry. FitsStream entry capability effective) entries
@@ -24,8 +24,7 @@ any_fits capability effective entries h =
 
 fits_any : (capability : Capability) (effective : Effective) (entries : List PacRecord) → Any (λ entry. FitsStream entry capability effective) entries
     → list_any (fits_test capability effective) entries ≡ true
-fits_any capability effective entries (k, entry, lt, at, fits) =
-    list_any-from_Any (fits_test capability effective) entries (k, entry, lt, at, ap is_none (fit_is_none entry capability effective fits))
+fits_any capability effective entries (k, entry, lt, at, fits) = grind (arith, list_any-from_Any, is_none, fit_is_none)
 
 -- none is told exactly where the test finds a record
 told_none : (told : NotTaken) (capability : Capability) (effective : Effective) (entries : List PacRecord) → last_reason told entries capability effective ≡ None
@@ -51,10 +50,7 @@ none_told told capability effective (entry ∷ entries) e = by_reason (reason_of
     by_reason (Some reason) f others = others reason (rw f at e)
 
 pub not_taken-none : (capability : Capability) (effective : Effective) → (not_taken capability effective ≡ None) ↔ Takes capability effective
-not_taken-none capability effective = (
-  λ e. any_fits capability effective capability.entries (told_none Codec capability effective capability.entries e),
-  λ t. none_told Codec capability effective capability.entries (fits_any capability effective capability.entries t),
-)
+not_taken-none capability effective = grind (arith, any_fits, told_none, none_told, fits_any)
 
 -- the reason told before where there is no record, or that of the last
 abbrev Told : NotTaken → NotTaken → List PacRecord → Capability → Effective → Type 0
@@ -91,23 +87,13 @@ nothing (entry ∷ prefix) last e = cc
 
 last_same : (prefix others : List PacRecord) (last end : PacRecord) → prefix ++ last ∷ [] ≡ others ++ end ∷ [] → last ≡ end
 last_same [] [] last end e = cc
-last_same [] (entry ∷ others) last end e =
-    let none : [] ≡ others ++ end ∷ [] = cc in
-    absurd (nothing others end none)
-last_same (entry ∷ prefix) [] last end e =
-    let none : [] ≡ prefix ++ last ∷ [] = cc in
-    absurd (nothing prefix last none)
+last_same [] (entry ∷ others) last end e = grind (arith, nothing)
+last_same (entry ∷ prefix) [] last end e = grind (arith, nothing)
 last_same (entry ∷ prefix) (first ∷ others) last end e = last_same prefix others last end cc
 
 -- at most one reason is told
 one_told : (a b : NotTaken) (capability : Capability) (effective : Effective) → IsToldReason a capability effective → IsToldReason b capability effective → a ≡ b
-one_told a b capability effective (inl (none, x)) (inl (also, y)) = x ∙ sym y
-one_told a b capability effective (inl (none, x)) (inr (prefix, last, parts, is)) = absurd (nothing prefix last (sym none ∙ parts))
-one_told a b capability effective (inr (prefix, last, parts, is)) (inl (none, y)) = absurd (nothing prefix last (sym none ∙ parts))
-one_told a b capability effective (inr (prefix, last, parts, is)) (inr (others, end, ends, also)) =
-    let same : last ≡ end = last_same prefix others last end (sym parts ∙ ends) in
-    same_Some a b (sym (reason_is_some last capability effective a is)
-    ∙ reason_is_some last capability effective b (subst (λ (entry : PacRecord). IsReason b entry capability effective) (sym same) also))
+one_told a b capability effective x5 x6 = grind (arith, nothing, last_same, same_Some, reason_is_some)
 
 pub some-not_taken : (capability : Capability) (effective : Effective) (reason : NotTaken) → (Takes capability effective → ⊥) → IsToldReason reason capability effective
     → not_taken capability effective ≡ Some reason
@@ -120,10 +106,8 @@ some-not_taken capability effective reason never told = by_found (not_taken capa
 -- ---- what the call promises
 
 pub is_taken : (result : Result (Unit {0}) NotTaken) (capability : Capability) (effective : Effective) → result_err result ≡ not_taken capability effective → OnOk result (Takes capability effective)
-is_taken (Ok _) capability effective e = (not_taken-none capability effective).0 (sym e)
-is_taken (Err reason) capability effective e = tt
+is_taken result capability effective e = grind (arith, not_taken-none)
 
 pub is_refused : (result : Result (Unit {0}) NotTaken) (capability : Capability) (effective : Effective) → result_err result ≡ not_taken capability effective
     → IfErr result (λ reason. (¬ Takes capability effective) × IsToldReason reason capability effective)
-is_refused (Ok _) capability effective e = tt
-is_refused (Err reason) capability effective e = (taken_not_told capability effective reason (sym e), not_taken-some capability effective reason (sym e))
+is_refused result capability effective e = grind (arith, taken_not_told, not_taken-some)

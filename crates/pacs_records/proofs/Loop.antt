@@ -1,5 +1,5 @@
 -- Reading records one after the other, as a loop does.
-use Rattle.pacs_records.proofs.Prelude.{◌≡◌, ℕ, suc, ◌-◌, ◌+◌, ◌≤◌, ◌<◌, List, [], ◌∷◌, ◌++◌, length, Result, Ok, Err, refl, sym, ap, subst, ◌∙◌, append_assoc, arith, IsOk, append-nil, PacFault, PacRecord, ◌>>=◌, list_of, rest_of}
+use Rattle.pacs_records.proofs.Prelude.{◌≡◌, ℕ, suc, ◌-◌, ◌+◌, ◌≤◌, ◌<◌, List, [], ◌∷◌, ◌++◌, length, Result, Ok, Err, sym, ap, ◌∙◌, append_assoc, arith, IsOk, append-nil, PacFault, PacRecord, ◌>>=◌, list_of, rest_of}
 use Rattle.pacs_records.specs.Reading.{record_in, records_in}
 
 -- what was read before, and what is still read
@@ -13,8 +13,7 @@ pub record SoFar (whole : List ℕ) (prefix : List PacRecord) (left : ℕ) (rest
 
 regroup : (prefix : List PacRecord) (entry : PacRecord) (read : Result (List PacRecord × List ℕ) PacFault)
     → with_prefix prefix (read >>= λ x. Ok (entry ∷ x.0, x.1)) ≡ with_prefix (prefix ++ entry ∷ []) read
-regroup prefix entry (Ok x) = ap (λ (records : List PacRecord). Ok (records, x.1)) (simp append_assoc)
-regroup prefix entry (Err fault) = refl
+regroup prefix entry read = grind (arith, append_assoc)
 
 pub goes_on : (whole : List ℕ) (prefix : List PacRecord) (count i : ℕ) (rest : List ℕ) (entry : PacRecord) (after : List ℕ) (total : Result (List PacRecord × List ℕ) PacFault) → i < count
     → record_in whole rest ≡ Ok (entry, after) → length after ≤ length whole
@@ -29,26 +28,17 @@ goes_on whole prefix count i rest entry after total lt h within so_far =
 pub err_read : (whole : List ℕ) (prefix : List PacRecord) (count i : ℕ) (rest : List ℕ) (fault : PacFault) (total : Result (List PacRecord × List ℕ) PacFault) → i < count
     → record_in whole rest ≡ Err fault → SoFar whole prefix (count - i) rest total → total ≡ Err fault
 unfolding records_in
-err_read whole prefix count i rest fault total lt h so_far =
-    let k : count - i ≡ suc (count - (i + 1)) = omega arith in
-    let one : with_prefix prefix (records_in whole (count - i) rest) ≡ Err fault = rw (k, h) refl in
-    sym so_far.same ∙ one
+err_read whole prefix count i rest fault total lt h so_far = grind arith
 
 -- where all are read, no record fails
 pub never_fails : (whole : List ℕ) (prefix : List PacRecord) (count i : ℕ) (rest : List ℕ) (fault : PacFault) (total : Result (List PacRecord × List ℕ) PacFault)
     → i < count → record_in whole rest ≡ Err fault → SoFar whole prefix (count - i) rest total → IsOk total → ⊥
-never_fails whole prefix count i rest fault total lt h so_far ok =
-    let failed : total ≡ Err fault = err_read whole prefix count i rest fault total lt h so_far in
-    let no : IsOk {T = List PacRecord × List ℕ} {E = PacFault} (Err fault) = subst (λ (r : Result (List PacRecord × List ℕ) PacFault). IsOk r) failed ok in
-    cc
+never_fails whole prefix count i rest fault total lt h so_far ok = grind (arith, err_read)
 
 pub is_done : (whole : List ℕ) (prefix : List PacRecord) (count i : ℕ) (rest : List ℕ) (total : Result (List PacRecord × List ℕ) PacFault) → count ≤ i
     → SoFar whole prefix (count - i) rest total → total ≡ Ok (prefix, rest)
 unfolding records_in
-is_done whole prefix count i rest total le so_far =
-    let k : count - i ≡ 0 = omega arith in
-    let one : with_prefix prefix (records_in whole (count - i) rest) ≡ Ok (prefix, rest) = rw k (ap (λ (records : List PacRecord). Ok (records, rest)) (append-nil prefix)) in
-    sym so_far.same ∙ one
+is_done whole prefix count i rest total le so_far = grind (arith, append-nil)
 
 pub list_done : (whole : List ℕ) (prefix : List PacRecord) (count i : ℕ) (rest : List ℕ) (total : Result (List PacRecord × List ℕ) PacFault)
     → count ≤ i → SoFar whole prefix (count - i) rest total → list_of total ≡ Ok prefix
@@ -62,8 +52,7 @@ pub record Left (whole : List ℕ) (left : ℕ) (rest : List ℕ) (total : Resul
   pub within : length rest ≤ length whole
 
 one_of : (entry : PacRecord) (read : Result (List PacRecord × List ℕ) PacFault) → rest_of (read >>= λ x. Ok (entry ∷ x.0, x.1)) ≡ rest_of read
-one_of entry (Ok x) = refl
-one_of entry (Err fault) = refl
+one_of entry read = grind arith
 
 pub left_next : (whole : List ℕ) (count i : ℕ) (rest : List ℕ) (entry : PacRecord) (after : List ℕ) (total : Result (List ℕ) PacFault)
     → i < count → record_in whole rest ≡ Ok (entry, after) → length after ≤ length whole → Left whole (count - i) rest total → Left whole (count - (i + 1)) after total
@@ -76,14 +65,8 @@ left_next whole count i rest entry after total lt h within l =
 pub left_failed : (whole : List ℕ) (count i : ℕ) (rest : List ℕ) (fault : PacFault) (total : Result (List ℕ) PacFault)
     → i < count → record_in whole rest ≡ Err fault → Left whole (count - i) rest total → total ≡ Err fault
 unfolding records_in
-left_failed whole count i rest fault total lt h l =
-    let k : count - i ≡ suc (count - (i + 1)) = omega arith in
-    let one : rest_of (records_in whole (count - i) rest) ≡ Err fault = rw (k, h) refl in
-    sym l.same ∙ one
+left_failed whole count i rest fault total lt h l = grind (arith, rest_of)
 
 pub left_done : (whole : List ℕ) (count i : ℕ) (rest : List ℕ) (total : Result (List ℕ) PacFault) → count ≤ i → Left whole (count - i) rest total → total ≡ Ok rest
 unfolding records_in
-left_done whole count i rest total le l =
-    let k : count - i ≡ 0 = omega arith in
-    let one : rest_of (records_in whole (count - i) rest) ≡ Ok rest = rw k refl in
-    sym l.same ∙ one
+left_done whole count i rest total le l = grind (arith, rest_of)

@@ -1,17 +1,14 @@
 -- Each test of a requirement means what the requirement says.
-use Rattle.pacs_records.proofs.Prelude.{◌≡◌, ◌↔◌, ℕ, zero, suc, ◌-◌, ◌*◌, ◌<◌, ◌≤◌, Bool, true, false, ◌&&◌, ◌||◌, eqb, bit_and, List, Option, Some, None, refl, arith, not, nat_le, unwrap_or, IsSomeAnd, bit_at, bytes_eq, leb-true, le-leb, eqb-true, eq-eqb, ne_eqb, bytes_eq-Decides, Effective, Capability, NotTaken, Codec, Frequency, Duration, FrameOctets, Channels, FramesPerSdu, Location, Context, PacRecord, lc3, is_lc3, Has, ShareBit, caps_in, channel_count, HasFrequency, HasDuration, HasFrameOctets, HasChannels, HasFrames, IsPlaced, HasContext, Meets, present, has, frequency_met, duration_met, frame_octets_met, channels_met, frames_met, location_met, context_met}
+use Rattle.pacs_records.proofs.Prelude.{◌≡◌, ◌↔◌, ℕ, ◌-◌, ◌*◌, ◌≤◌, Bool, true, false, ◌&&◌, ◌||◌, eqb, bit_and, List, Option, refl, arith, not, nat_le, unwrap_or, IsSomeAnd, bit_at, bytes_eq, leb-true, le-leb, eqb-true, eq-eqb, ne_eqb, bytes_eq-Decides, Effective, Capability, NotTaken, Codec, Frequency, Duration, FrameOctets, Channels, FramesPerSdu, Location, Context, PacRecord, lc3, is_lc3, Has, caps_in, channel_count, HasFrequency, HasDuration, HasFrameOctets, HasChannels, HasFrames, IsPlaced, HasContext, Meets, present, has, frequency_met, duration_met, frame_octets_met, channels_met, frames_met, location_met, context_met}
 use Rattle.ltv_codec.specs.declared.caps.Caps.{Caps}
 use Rattle.ltv_codec.specs.declared.config.Config.{Config}
 use Rattle.pacs_records.proofs.Bits.{share_means}
 
 both_mean : (a b : Bool) (P Q : Type 0) → (a ≡ true) ↔ P → (b ≡ true) ↔ Q → ((a && b) ≡ true) ↔ (P × Q)
-both_mean true true P Q p q = (λ _. (p.0 refl, q.0 refl), λ _. refl)
-both_mean true false P Q p q = (λ h. absurd cc, λ (x, y). q.1 y)
-both_mean false b P Q p q = (λ h. absurd cc, λ (x, y). p.1 x)
+both_mean a b x3 x4 p q = grind arith
 
 present_means : (value : Option ℕ) (test : ℕ → Bool) (P : ℕ → Type 0) → ((n : ℕ) → (test n ≡ true) ↔ P n) → (present value test ≡ true) ↔ IsSomeAnd value P
-present_means None test P h = (λ e. absurd cc, λ no. absurd no)
-present_means (Some value) test P h = h value
+present_means value test x3 h = grind arith
 
 at_most : (a b : ℕ) → (nat_le a b ≡ true) ↔ (a ≤ b)
 at_most a b = (leb-true a b, le-leb a b)
@@ -20,54 +17,31 @@ has_means : (set k : ℕ) → (has set k ≡ true) ↔ Has set k
 has_means set k = (eqb-true (bit_at set k) 1, eq-eqb (bit_at set k) 1)
 
 three_mean : (a b c : Bool) (P Q R : Type 0) → (a ≡ true) ↔ P → (b ≡ true) ↔ Q → (c ≡ true) ↔ R → ((a && (b && c)) ≡ true) ↔ (P × Q × R)
-three_mean true true true P Q R p q r = (λ _. (p.0 refl, q.0 refl, r.0 refl), λ _. refl)
-three_mean true true false P Q R p q r = (λ h. absurd cc, λ (x, y, z). r.1 z)
-three_mean true false c P Q R p q r = (λ h. absurd cc, λ (x, y, z). q.1 y)
-three_mean false b c P Q R p q r = (λ h. absurd cc, λ (x, y, z). p.1 x)
+three_mean a b c x4 x5 x6 p q r = grind arith
 
 frequency_means : (config : Config) (caps : Caps) → (frequency_met config caps ≡ true) ↔ HasFrequency config caps
 frequency_means config caps =
     present_means config.frequency (λ code. present caps.frequencies (λ set. nat_le 1 code && (nat_le code 16 && has set (code - 1))))
     (λ code. IsSomeAnd caps.frequencies (λ set. (1 ≤ code) × (code ≤ 16) × Has set (code - 1)))
-    (λ code. present_means caps.frequencies (λ set. nat_le 1 code && (nat_le code 16 && has set (code - 1))) (λ set. (1 ≤ code) × (code ≤ 16) × Has set (code - 1))
-    (λ set. three_mean (nat_le 1 code) (nat_le code 16) (has set (code - 1)) (1 ≤ code) (code ≤ 16) (Has set (code - 1)) (at_most 1 code) (at_most code 16) (has_means set (code - 1))))
+    (grind (arith, present_means, nat_le, has, three_mean, at_most, has_means))
 
 duration_means : (config : Config) (caps : Caps) → (duration_met config caps ≡ true) ↔ HasDuration config caps
-duration_means config caps =
-    present_means config.duration (λ code. present caps.durations (λ set. nat_le code 1 && has set code)) (λ code. IsSomeAnd caps.durations (λ set. (code ≤ 1) × Has set code))
-    (λ code. present_means caps.durations (λ set. nat_le code 1 && has set code) (λ set. (code ≤ 1) × Has set code)
-    (λ set. both_mean (nat_le code 1) (has set code) (code ≤ 1) (Has set code) (at_most code 1) (has_means set code)))
+duration_means config caps = grind (arith, present_means, present, nat_le, has, both_mean, at_most, has_means)
 
 frame_octets_mean : (config : Config) (caps : Caps) → (frame_octets_met config caps ≡ true) ↔ HasFrameOctets config caps
 frame_octets_mean config caps =
     present_means config.frame_octets (λ octets. present caps.least (λ least. present caps.greatest (λ greatest. nat_le least octets && nat_le octets greatest)))
     (λ octets. IsSomeAnd caps.least (λ least. IsSomeAnd caps.greatest (λ greatest. (least ≤ octets) × (octets ≤ greatest))))
-    (λ octets. present_means caps.least (λ least. present caps.greatest (λ greatest. nat_le least octets && nat_le octets greatest))
-    (λ least. IsSomeAnd caps.greatest (λ greatest. (least ≤ octets) × (octets ≤ greatest)))
-    (λ least. present_means caps.greatest (λ greatest. nat_le least octets && nat_le octets greatest) (λ greatest. (least ≤ octets) × (octets ≤ greatest))
-    (λ greatest. both_mean (nat_le least octets) (nat_le octets greatest) (least ≤ octets) (octets ≤ greatest) (at_most least octets) (at_most octets greatest))))
+    (grind (arith, present_means, present, nat_le, both_mean, at_most))
 
 channels_mean : (config : Config) (caps : Caps) → (channels_met config caps ≡ true) ↔ HasChannels config caps
-channels_mean config caps =
-    both_mean (nat_le (channel_count config.allocation) 8) (has (unwrap_or caps.counts 1) (channel_count config.allocation - 1)) (channel_count config.allocation ≤ 8)
-    (Has (unwrap_or caps.counts 1) (channel_count config.allocation - 1))
-    (at_most (channel_count config.allocation) 8) (has_means (unwrap_or caps.counts 1) (channel_count config.allocation - 1))
+channels_mean config caps = grind (arith, both_mean, nat_le, channel_count, has, unwrap_or, at_most, has_means)
 
 frames_mean : (config : Config) (caps : Caps) → (frames_met config caps ≡ true) ↔ HasFrames config caps
 frames_mean config caps = at_most (unwrap_or config.blocks 1 * channel_count config.allocation) (unwrap_or caps.frames (channel_count config.allocation))
 
-unless_means : (n : ℕ) (b : Bool) (P : Type 0) → (b ≡ true) ↔ P → ((eqb n 0 || b) ≡ true) ↔ (0 < n → P)
-unless_means zero b P h = (λ _ some. absurd (omega arith), λ _. refl)
-unless_means (suc n) b P h =
-    let off : eqb (suc n) 0 ≡ false = ne_eqb (suc n) 0 (λ e. omega (arith, e)) in
-    rw off (λ t some. h.0 t, λ f. h.1 (f (omega arith)))
-
 location_means : (config : Config) (locations : ℕ) → (location_met config locations ≡ true) ↔ IsPlaced config locations
-location_means config locations =
-    unless_means (unwrap_or config.allocation 0) (eqb locations 0 || not (eqb (bit_and (unwrap_or config.allocation 0) locations) 0))
-    (0 < locations → ShareBit (unwrap_or config.allocation 0) locations)
-    (unless_means locations (not (eqb (bit_and (unwrap_or config.allocation 0) locations) 0)) (ShareBit (unwrap_or config.allocation 0) locations)
-    (share_means (unwrap_or config.allocation 0) locations))
+location_means config locations = grind (arith, eqb, ne_eqb, unwrap_or, not, bit_and, share_means)
 
 context_means : (contexts : Option ℕ) (available : ℕ) → (context_met contexts available ≡ true) ↔ HasContext contexts available
 context_means contexts available = share_means (unwrap_or contexts 1) available

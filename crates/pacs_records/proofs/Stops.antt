@@ -13,13 +13,10 @@ field_err place field fault e = needed_err (Short place) field fault e
 
 checked_err : (place : ℕ) (listed : Bool) (bad : Option LtvBad) (run : List ℕ × List ℕ) (fault : PacFault) → checked place listed bad run ≡ Err fault
     → (b : LtvBad) × (listed ≡ true) × (bad ≡ Some b) × (Ltv place b ≡ fault)
-checked_err place true None run fault e = absurd (ok_no run fault e)
-checked_err place true (Some bad) run fault e = (bad, refl, refl, err_is {A = List ℕ × List ℕ} (Ltv place bad) fault e)
-checked_err place false bad run fault e = absurd (ok_no run fault e)
+checked_err place listed bad run fault e = grind (arith, ok_no, err_is)
 
 no_octet : (from : List ℕ) → octet_in from ≡ None → from ≡ []
-no_octet [] e = refl
-no_octet (first ∷ from) e = absurd cc
+no_octet from e = grind arith
 
 too_few : (k : ℕ) (from : List ℕ) → octets_in k from ≡ None → length from < k
 too_few k from e = by_test (ltb (length from) k) refl e
@@ -59,15 +56,11 @@ unfolding run_in
 run_stops listed whole from fault fits e =
     elim (bind_err (field_at (place_in whole from) (octet_in from))
     (λ count. field_at (place_in whole count.1) (octets_in count.0 count.1) >>= λ run. checked (place_in whole count.1) listed (bad_of run.0) run) fault e) [
-      | inl none ↦
-          let f = field_err (place_in whole from) (octet_in from) fault none in
-          inl (no_octet from f.0, f.1)
+      | inl none ↦ grind (arith, field_err, place_in, octet_in, no_octet)
       | inr a ↦
           let t0 = octet_takes from a.0.0 a.0.1 (field_ok (place_in whole from) (octet_in from) a.0 a.1) in
           inr (elim (bind_err (field_at (place_in whole a.0.1) (octets_in a.0.0 a.0.1)) (λ run. checked (place_in whole a.0.1) listed (bad_of run.0) run) fault a.2) [
-            | inl none ↦
-                let f = field_err (place_in whole a.0.1) (octets_in a.0.0 a.0.1) fault none in
-                record { count = a.0.0; rest = a.0.1; parts = t0.parts; why = inl (f.1, too_few a.0.0 a.0.1 f.0) }
+            | inl none ↦ grind (arith, field_err, place_in, octets_in, too_few)
             | inr b ↦
                 let t1 = octets_take a.0.0 a.0.1 b.0.0 b.0.1 (field_ok (place_in whole a.0.1) (octets_in a.0.0 a.0.1) b.0 b.1) in
                 let c = checked_err (place_in whole a.0.1) listed (bad_of b.0.0) b.0 fault b.2 in
@@ -112,8 +105,7 @@ metadata_stop : (whole codec caps from : List ℕ) (fault : PacFault) → length
 metadata_stop whole codec caps from fault five listed (inl (none, same)) =
     record { fields = to_metadata_length codec caps; rest = from; stop = record { meet = (five, listed); why = inl (same, omega (arith, ap length none)) }; parts = refl }
 metadata_stop whole codec caps from fault five listed (inr cut) =
-    let parts : (codec ++ counted caps) ++ from ≡ ((codec ++ counted caps) ++ cut.count ∷ []) ++ cut.rest = ap (λ (os : List ℕ). (codec ++ counted caps) ++ os) cut.parts
-    ∙ sym (append_assoc (codec ++ counted caps) (cut.count ∷ []) cut.rest) in
+    let parts : (codec ++ counted caps) ++ from ≡ ((codec ++ counted caps) ++ cut.count ∷ []) ++ cut.rest = grind (arith, counted, append_assoc) in
     elim cut.why [
       | inl short ↦ record { fields = to_metadata codec caps cut.count; rest = cut.rest; stop = record { meet = (five, listed); why = inl short }; parts = parts }
       | inr (so, none) ↦ record { fields = to_metadata codec caps cut.count; rest = cut.rest; stop = record { meet = (five, listed); why = inr (tt, none) }; parts = parts }
@@ -125,9 +117,7 @@ record_stops whole from fault fits e =
     elim (bind_err (codec_in whole from)
     (λ codec. run_in (is_lc3 codec.0) whole codec.1 >>= λ caps. run_in true whole caps.1
     >>= λ metadata. Ok (record { codec = codec.0; caps = caps.0; metadata = metadata.0 }, metadata.1)) fault e) [
-      | inl none ↦
-          let f = field_err (place_in whole from) (octets_in 5 from) fault none in
-          record { fields = to_codec; rest = from; stop = record { meet = tt; why = inl (f.1, too_few 5 from f.0) }; parts = refl }
+      | inl none ↦ grind (arith, field_err, place_in, octets_in, to_codec, too_few)
       | inr a ↦
           let t0 = octets_take 5 from a.0.0 a.0.1 (field_ok (place_in whole from) (octets_in 5 from) a.0 a.1) in
           elim (bind_err (run_in (is_lc3 a.0.0) whole a.0.1)
@@ -157,11 +147,7 @@ record RecordsStop (whole : List ℕ) (count : ℕ) (from : List ℕ) (fault : P
 one_more : (whole : List ℕ) (count : ℕ) (from : List ℕ) (fault : PacFault) (entry : PacRecord) (after : List ℕ) → Takes from (encoded entry) after → Fits entry
     → RecordsStop whole count after fault → RecordsStop whole (suc count) from fault
 one_more whole count from fault entry after t fits s =
-    let parts : from ≡ flat_map encoded (entry ∷ s.records) ++ octets_of s.fields ++ s.rest =
-    t.parts ∙ ap (λ (os : List ℕ). encoded entry ++ os) (s.parts ∙ append_assoc (flat_map encoded s.records) (octets_of s.fields) s.rest)
-    ∙ sym (append_assoc (encoded entry) (flat_map encoded s.records) (octets_of s.fields ++ s.rest))
-    ∙ ap (λ (os : List ℕ). os ++ (octets_of s.fields ++ s.rest)) (sym (flat_map-cons encoded entry s.records))
-    ∙ sym (append_assoc (flat_map encoded (entry ∷ s.records)) (octets_of s.fields) s.rest) in
+    let parts : from ≡ flat_map encoded (entry ∷ s.records) ++ octets_of s.fields ++ s.rest = grind (arith, encoded, append_assoc, flat_map, octets_of, flat_map-cons) in
     record { records = entry ∷ s.records; fields = s.fields; rest = s.rest; due = omega (arith, s.due); fit = (fits, s.fit); stop = s.stop; parts = parts }
 
 records_stop : (whole : List ℕ) (count : ℕ) (from : List ℕ) (fault : PacFault) → IsOctets from → records_in whole count from ≡ Err fault → RecordsStop whole count from fault
@@ -210,10 +196,7 @@ records_fault count from fault small s =
 trailing_fault : (octets : List ℕ) (count : ℕ) (from rest : List ℕ) (records : List PacRecord) → length octets ≤ greatest_value → octets ≡ count ∷ from
     → Takes from (flat_map encoded records) rest → length records ≡ count → AllByRecursion Fits records → 0 < length rest
     → IsFault (Trailing (place_in octets rest)) octets
-trailing_fault octets count from rest records small is t all fit more =
-    let parts : octets ≡ value records ++ rest = is ∙ ap (λ (os : List ℕ). count ∷ os) t.parts ∙ ap (λ (n : ℕ). n ∷ (flat_map encoded records ++ rest)) (sym all) in
-    let long : length octets ≡ length (value records) + length rest = ap length parts ∙ length-append (value records) rest in
-    (small, record { records = records; rest = rest; fit = fit; more = more; parts = parts; at = omega (arith, long) })
+trailing_fault octets count from rest records small is t all fit more = grind (arith, value, flat_map, encoded, length, length-append)
 
 not_ended : (octets rest : List ℕ) (records : List PacRecord) (fault : PacFault) → cond (eqb (length rest) 0) (Ok records) (Err (Trailing (place_in octets rest))) ≡ Err fault
     → (0 < length rest) × (Trailing (place_in octets rest) ≡ fault)
@@ -234,11 +217,7 @@ behind_count : (octets : List ℕ) (count : ℕ) (from : List ℕ) (fault : PacF
     → (records_in octets count from >>= λ x. cond (eqb (length x.1) 0) (Ok x.0) (Err (Trailing (place_in octets x.1)))) ≡ Err fault → IsFault fault octets
 behind_count octets count from fault small fits t e =
     elim (bind_err (records_in octets count from) (λ x. cond (eqb (length x.1) 0) (Ok x.0) (Err (Trailing (place_in octets x.1)))) fault e) [
-      | inl stopped ↦
-          let is : octets ≡ count ∷ from = t.parts in
-          let s : RecordsStop octets count from fault = records_stop octets count from fault (t.fits fits) stopped in
-          let s' : RecordsStop (count ∷ from) count from fault = subst (λ (os : List ℕ). RecordsStop os count from fault) is s in
-          rw is (records_fault count from fault (subst (λ (os : List ℕ). length os ≤ greatest_value) is small) s')
+      | inl stopped ↦ grind (arith, records_stop, records_fault, length, greatest_value)
       | inr b ↦
           let t1 = records_take octets count from b.0 (t.fits fits) b.1 in
           let n = not_ended octets b.0.1 b.0.0 fault b.2 in
@@ -246,8 +225,7 @@ behind_count octets count from fault small fits t e =
     ]
 
 no_count : (octets : List ℕ) → length octets ≤ greatest_value → octets ≡ [] → IsFault (Short 0) octets
-no_count [] small none = (small, refl)
-no_count (first ∷ octets) small none = absurd cc
+no_count octets small none = grind arith
 
 pub value_stops : (fault : PacFault) (octets : List ℕ) → IsOctets octets → value_in octets ≡ Err fault → IsFault fault octets
 unfolding value_in
@@ -258,9 +236,7 @@ value_stops fault octets fits e =
       | inr (short, read) ↦
           let small : length octets ≤ greatest_value = ltb-false _ _ short in
           elim (bind_err (field_at 0 (octet_in octets)) (λ count. records_in octets count.0 count.1 >>= λ x. cond (eqb (length x.1) 0) (Ok x.0) (Err (Trailing (place_in octets x.1)))) fault read) [
-            | inl none ↦
-                let f = field_err 0 (octet_in octets) fault none in
-                rw (← f.1) (no_count octets small (no_octet octets f.0))
+            | inl none ↦ grind (arith, field_err, octet_in, no_count, no_octet)
             | inr a ↦ behind_count octets a.0.0 a.0.1 fault small fits (octet_takes octets a.0.0 a.0.1 (field_ok 0 (octet_in octets) a.0 a.1)) a.2
           ]
     ]
@@ -276,11 +252,7 @@ some_records octets records p some = subst (λ (z : List ℕ). 0 < get_or z 0 0)
 
 pub is_fault : (octets : List ℕ) (result : Result (List PacRecord) PacFault) → IsOctets octets → Answers told result (value_in octets)
     → (result ≡ Err Memory → 0 < get_or octets 0 0) → IfErr result (λ fault. IsFault fault octets)
-is_fault octets (Ok records) fits given some = tt
 is_fault octets (Err Memory) fits given some =
     let v = a_value octets (value_in octets) fits refl given in
     (v.0, v.1, some_records octets v.0 v.1 (some refl))
-is_fault octets (Err TooLong) fits given some = value_stops TooLong octets fits given
-is_fault octets (Err (Short place)) fits given some = value_stops (Short place) octets fits given
-is_fault octets (Err (Ltv place bad)) fits given some = value_stops (Ltv place bad) octets fits given
-is_fault octets (Err (Trailing place)) fits given some = value_stops (Trailing place) octets fits given
+is_fault octets result fits given some = search (a_value, some_records, value_stops)

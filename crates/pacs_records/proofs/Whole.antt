@@ -1,5 +1,6 @@
 -- The whole value: what is left behind the records, and the records in memory of their own.
-use Rattle.pacs_records.proofs.Prelude.{◌≡◌, ℕ, Bool, true, false, cond, eqb, ltb, List, [], ◌∷◌, length, Option, Some, None, Result, Ok, Err, refl, sym, ap, subst, ◌∙◌, IsOk, IfOk, result_err, octet_in, place_in, IsOctets, PacFault, TooLong, Short, Ltv, Trailing, Memory, PacRecord, greatest_value, ◌>>=◌, Finds, told, field_at, list_of}
+use Rattle.std.proofs.Common.{arith}
+use Rattle.pacs_records.proofs.Prelude.{◌≡◌, ℕ, Bool, true, false, cond, eqb, ltb, List, length, Option, Some, None, Result, Ok, Err, refl, sym, ap, subst, ◌∙◌, IsOk, IfOk, result_err, octet_in, place_in, IsOctets, PacFault, TooLong, Trailing, Memory, PacRecord, greatest_value, ◌>>=◌, Finds, told, field_at, list_of}
 use Rattle.pacs_records.specs.Reading.{records_in, value_in}
 use Rattle.pacs_records.proofs.Fields.{value_again}
 use Rattle.pacs_records.proofs.Stops.{value_stops}
@@ -17,8 +18,7 @@ behind_count octets count from small first = rw (small, first) refl
 -- ---- octets that are a value
 
 not_long : (b : Bool) (read : Result (List PacRecord) PacFault) → IsOk (cond b (Err TooLong) read) → b ≡ false
-not_long true read ok = absurd cc
-not_long false read ok = refl
+not_long b read ok = grind arith
 
 pub is_short : (octets : List ℕ) → IsOk (value_in octets) → ltb greatest_value (length octets) ≡ false
 unfolding value_in
@@ -26,12 +26,10 @@ is_short octets ok = not_long (ltb greatest_value (length octets)) (field_at 0 (
 
 pub has_count : (octets : List ℕ) → IsOk (value_in octets) → octet_in octets ≡ None → ⊥
 unfolding value_in
-has_count [] ok none = cc
-has_count (first ∷ octets) ok none = cc
+has_count octets ok none = grind arith
 
 read_ok : (octets : List ℕ) (read : Result (List PacRecord × List ℕ) PacFault) → IsOk (read >>= ending octets) → IsOk read
-read_ok octets (Ok x) ok = refl
-read_ok octets (Err fault) ok = absurd cc
+read_ok octets read ok = grind arith
 
 pub records_ok : (octets : List ℕ) (count : ℕ) (from : List ℕ) → octet_in octets ≡ Some (count, from) → IsOk (value_in octets) → IsOk (records_in octets count from)
 records_ok octets count from first ok =
@@ -71,11 +69,7 @@ no_wants octets fits e =
     ok_no records h = cc
 
 refuses : (octets : List ℕ) (fault : PacFault) → IsOctets octets → value_in octets ≡ Err fault → Finds (told fault) (value_in octets)
-refuses octets TooLong fits e = e
-refuses octets (Short place) fits e = e
-refuses octets (Ltv place bad) fits e = e
-refuses octets (Trailing place) fits e = e
-refuses octets Memory fits e = absurd (no_wants octets fits e)
+refuses octets fault fits e = grind (arith, no_wants)
 
 pub refused : (octets : List ℕ) (fault : PacFault) → IsOctets octets → Some fault ≡ result_err (value_in octets) → Finds (told fault) (value_in octets)
 refused octets fault fits e = refuses octets fault fits (err_by (value_in octets) fault e)
@@ -90,5 +84,4 @@ not_wanting octets fault result fits e is wants = no_wants octets fits (err_by (
 
 pub owned : {M : Type 0} (octets : List ℕ) (count : ℕ) (from : List ℕ) (result : Result (List PacRecord) M) → octet_in octets ≡ Some (count, from) → IsOk (value_in octets)
     → IfOk result (λ records. list_of (records_in octets count from) ≡ Ok records) → IfOk result (λ records. value_in octets ≡ Ok records)
-owned octets count from (Ok records) first ok h = value_is octets count from records first ok h
-owned octets count from (Err wants) first ok h = tt
+owned octets count from result first ok h = grind (arith, value_is)

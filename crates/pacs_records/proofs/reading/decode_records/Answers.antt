@@ -4,9 +4,7 @@ use Rattle.pacs_records.proofs.Whole.{refused, not_wanting}
 use Rattle.pacs_records.proofs.reading.decode_records.Goals as goal
 
 pub returns-in_err-check_value-clause-exact : goal.returns-in_err-check_value-clause-exact
-returns-in_err-check_value-clause-exact c =
-    let p = err_from_is_err_and c.from_residual.result c.from_residual.ensures.1 in
-    rw (p.1, p.2) (refused c.args.from.now c.in_err-check_value.field-0.0 (λ i. omega (arith, c.type_inv.from i)) c.in_err-check_value.ensures)
+returns-in_err-check_value-clause-exact c = grind (arith, err_from_is_err_and, refused)
 
 pub returns-in_err-check_value-clause-memory : goal.returns-in_err-check_value-clause-memory
 returns-in_err-check_value-clause-memory c wants =
