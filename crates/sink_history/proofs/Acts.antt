@@ -1,5 +1,5 @@
 -- What happens on a link: it is founded, it was forged where its calls say so, and its slots have the states of the sink.
-use Rattle.sink_history.proofs.Prelude.{ℕ, zero, suc, ◌≡◌, ◌≢◌, ◌+◌, ◌<◌, ◌≤◌, inl, inr, Bool, true, false, List, [], ◌∷◌, ◌++◌, length, map, drop, Option, Some, None, option_map, refl, sym, ap, ◌∙◌, arith, ◌==◌, if◌then◌else◌, unwrap_or, bytes_eq, flat_map, range_with_len, cases_eq, eq-eqb, ne_eqb, ReceiveState, reading_of, Act, AreFounded, AreReadBack, Language, delivered_of, made, notices_of, reads_of, value_of, waiting_of, Notice, change, changes, Entry, Snapshot, entry_in, snapshot_of, Setup, received, state_at, status_of, value, value_at, Call, stepped, joined, served, notified, read, forged, steps_of, Acts, Told, acts_of, forging_by, is_forged, language, made_all, read_first, state, notified_first, AreOctets}
+use Rattle.sink_history.proofs.Prelude.{ℕ, zero, suc, ◌≡◌, ◌≢◌, ◌+◌, ◌<◌, ◌≤◌, inl, inr, Bool, true, false, List, [], ◌∷◌, ◌++◌, length, map, drop, Option, Some, None, option_map, refl, sym, ap, ◌∙◌, arith, ◌==◌, if◌then◌else◌, unwrap_or, bytes_eq, flat_map, range_with_len, cases_eq, eq-eqb, ne_eqb, ReceiveState, reading_of, AreFounded, AreReadBack, delivered_of, made, notices_of, reads_of, value_of, waiting_of, Notice, change, changes, Entry, Snapshot, entry_in, snapshot_of, Setup, received, state_at, status_of, value, value_at, Call, stepped, joined, served, notified, read, forged, steps_of, Acts, Told, acts_of, forging_by, is_forged, language, made_all, read_first, state, notified_first, AreOctets}
 use Rattle.std.specs.Option.{option_or}
 use Rattle.std.proofs.lemmas.Option.{same_Some}
 use Rattle.std.proofs.lemmas.Slice.Eq.{bytes_eq-Decides}
@@ -27,8 +27,7 @@ made_back mtu now each (notice ∷ notices) acts back = made_back mtu now each n
 -- ---- it is founded
 
 either : (P : Acts → Type 0) (b : Bool) (x y : Acts) → P x → P y → P (if b then x else y)
-either P true x y of_x of_y = of_x
-either P false x y of_x of_y = of_y
+either x1 b x y of_x of_y = grind arith
 
 below : {A : Type 0} (n : ℕ) (xs rest : List A) (x : A) → drop n xs ≡ x ∷ rest → n < length xs
 below {A} zero [] rest x e = absurd (let h : length {A = A} [] ≡ length (x ∷ rest) = ap length e in omega (arith, h))
@@ -37,12 +36,10 @@ below {A} (suc n) [] rest x e = absurd (let h : length {A = A} [] ≡ length (x 
 below (suc n) (y ∷ xs) rest x e = let h : n < length xs = below n xs rest x e in omega (arith, h)
 
 told_founded : (waiting : List Told) (acts : Acts) → waiting_of acts ≡ waiting → AreFounded acts → AreFounded (notified_first waiting acts)
-told_founded [] acts is founded = founded
-told_founded (notice ∷ rest) acts is founded = (founded, below (delivered_of acts) (notices_of acts) rest notice is)
+told_founded waiting acts is founded = grind (arith, founded, below, delivered_of, notices_of)
 
 read_founded : (reads : List ℕ) (acts : Acts) → AreFounded acts → AreFounded (read_first reads acts)
-read_founded [] acts founded = founded
-read_founded (slot ∷ rest) acts founded = founded
+read_founded reads acts founded = grind (arith, founded)
 
 pub founded : (setup : Setup) (mtu : Option ℕ) (link : ℕ) (calls : List Call) → AreFounded (acts_of setup mtu link calls)
 founded setup mtu link [] = tt
@@ -73,22 +70,18 @@ founded setup mtu link (_ ∷ earlier) = founded setup mtu link earlier
 -- ---- what was forged
 
 told_plain : (waiting : List Told) (acts : Acts) → links.is_forged (notified_first waiting acts) ≡ links.is_forged acts
-told_plain [] acts = refl
-told_plain (notice ∷ rest) acts = refl
+told_plain waiting acts = grind arith
 
 read_plain : (reads : List ℕ) (acts : Acts) → links.is_forged (read_first reads acts) ≡ links.is_forged acts
-read_plain [] acts = refl
-read_plain (slot ∷ rest) acts = refl
+read_plain reads acts = grind arith
 
 forged_if : (b : Bool) (slot : ℕ) (octets : List ℕ) (acts : Acts) (given : Option Bool) → links.is_forged acts ≡ unwrap_or given false
     → links.is_forged (if b then links.forged slot octets ∷ acts else acts) ≡ unwrap_or (option_or (if b then Some true else None) given) false
-forged_if true slot octets acts given is = refl
-forged_if false slot octets acts given is = is
+forged_if b slot octets acts given is = grind arith
 
 joined_if : (b : Bool) (acts : Acts) (given : Option Bool) → links.is_forged acts ≡ unwrap_or given false
     → links.is_forged (if b then links.joined ∷ acts else acts) ≡ unwrap_or (option_or (if b then Some false else None) given) false
-joined_if true acts given is = refl
-joined_if false acts given is = is
+joined_if b acts given is = grind arith
 
 pub forged_is : (setup : Setup) (mtu : Option ℕ) (link : ℕ) (calls : List Call) → links.is_forged (acts_of setup mtu link calls) ≡ is_forged link calls
 forged_is setup mtu link [] = refl
@@ -117,25 +110,21 @@ forged_is setup mtu link (_ ∷ earlier) = forged_is setup mtu link earlier
 
 -- over a link other than 0 no notice is forged
 unforged_if : (b : Bool) (given : Option Bool) → unwrap_or given false ≡ false → unwrap_or (option_or (if b then Some false else None) given) false ≡ false
-unforged_if true given is = refl
-unforged_if false given is = is
+unforged_if b given is = grind arith
 
 pub unforged : (link : ℕ) (calls : List Call) → link ≢ 0 → is_forged link calls ≡ false
 unforged link [] other = refl
 unforged link (joined at ∷ earlier) other = unforged_if (at == link) (last_given (forging_by link) earlier) (unforged link earlier other)
-unforged link (forged slot octets ∷ earlier) other =
-    ap (λ (b : Bool). unwrap_or (option_or (if b then Some true else None) (last_given (forging_by link) earlier)) false) (ne_eqb link 0 other) ∙ unforged link earlier other
+unforged link (forged slot octets ∷ earlier) other = grind (arith, ne_eqb link 0 other, unforged link earlier other)
 unforged link (_ ∷ earlier) other = unforged link earlier other
 
 -- ---- its values are read back
 
 told_back : (mtu : Option ℕ) (waiting : List Told) (acts : Acts) → AreReadBack (language mtu) acts → AreReadBack (language mtu) (notified_first waiting acts)
-told_back mtu [] acts back = back
-told_back mtu (notice ∷ rest) acts back = back
+told_back mtu waiting acts back = grind arith
 
 read_back : (mtu : Option ℕ) (reads : List ℕ) (acts : Acts) → AreReadBack (language mtu) acts → AreReadBack (language mtu) (read_first reads acts)
-read_back mtu [] acts back = back
-read_back mtu (slot ∷ rest) acts back = back
+read_back mtu reads acts back = grind arith
 
 pub are_back : ReadsOperations → ReadsStates → (setup : Setup) (mtu : Option ℕ) (link : ℕ) (calls : List Call) → setup.slots < 256 → AreOctets calls
     → AreReadBack (language mtu) (acts_of setup mtu link calls)
@@ -173,19 +162,15 @@ are_back operations states setup mtu link (_ ∷ earlier) few are = are_back ope
 
 first_made : (now : Snapshot) (b : Bool) (slot : ℕ) (octets : List ℕ) (more : List Notice) (acts : Acts)
     → made_all now ((if b then [] else record { slot = slot; value = octets } ∷ []) ++ more) acts ≡ made_all now more (if b then acts else made slot (state_at now slot) ∷ acts)
-first_made now true slot octets more acts = refl
-first_made now false slot octets more acts = refl
+first_made now b slot octets more acts = grind arith
 
 made_other : (mtu : Option ℕ) (slot other : ℕ) (b : Bool) (state : Option ReceiveState) (acts : Acts) → (other == slot) ≡ false
     → value_of (language mtu) slot (if b then acts else made other state ∷ acts) ≡ value_of (language mtu) slot acts
-made_other mtu slot other true state acts e = refl
-made_other mtu slot other false state acts e = ap (λ (t : Bool). unwrap_or (if t then Some state else None) (value_of (language mtu) slot acts)) e
+made_other mtu slot other b state acts e = grind (arith, unwrap_or, state, value_of, language)
 
 made_this : (mtu : Option ℕ) (slot at : ℕ) (now : Snapshot) (b : Bool) (acts : Acts) (old : Option ReceiveState) → at ≡ slot → value_of (language mtu) slot acts ≡ old
     → (b ≡ true → old ≡ state_at now slot) → value_of (language mtu) slot (if b then acts else made at (state_at now at) ∷ acts) ≡ state_at now slot
-made_this mtu slot at now true acts old here is same = is ∙ same refl
-made_this mtu slot at now false acts old here is same =
-    ap (λ (t : Bool). unwrap_or (if t then Some (state_at now at) else None) (value_of (language mtu) slot acts)) (eq-eqb at slot here) ∙ ap (state_at now) here
+made_this mtu slot at now b acts old here is same = grind (arith, unwrap_or, state_at, value_of, language, eq-eqb)
 
 -- the notices of so many slots from the first one on
 abbrev changes_from : Snapshot → Snapshot → ℕ → ℕ → List Notice
@@ -194,13 +179,7 @@ changes_from before now start n = flat_map (λ slot. change slot (value_at befor
 made_elsewhere : (mtu : Option ℕ) (slot : ℕ) (before now : Snapshot) (start n : ℕ) (acts : Acts) → slot < start
     → value_of (language mtu) slot (made_all now (changes_from before now start n) acts) ≡ value_of (language mtu) slot acts
 made_elsewhere mtu slot before now start zero acts past = refl
-made_elsewhere mtu slot before now start (suc n) acts past =
-    let b : Bool = bytes_eq (value_at before start) (value_at now start) in
-    let more : List Notice = changes_from before now (start + 1) n in
-    let first : Acts = if b then acts else made start (state_at now start) ∷ acts in
-    ap (value_of (language mtu) slot) (first_made now b start (value_at now start) more acts)
-    ∙ made_elsewhere mtu slot before now (start + 1) n first (omega arith)
-    ∙ made_other mtu slot start b (state_at now start) acts (ne_eqb start slot (λ e. omega arith))
+made_elsewhere mtu slot before now start (suc n) acts past = grind (arith, bytes_eq (value_at before start) (value_at now start), changes_from before now (start + 1) n, if (bytes_eq (value_at before start) (value_at now start)) then acts else made start (state_at now start) ∷ acts, first_made now (bytes_eq (value_at before start) (value_at now start)) start (value_at now start) (changes_from before now (start + 1) n) acts, made_elsewhere mtu slot before now (start + 1) n (if (bytes_eq (value_at before start) (value_at now start)) then acts else made start (state_at now start) ∷ acts) (omega arith), made_other mtu slot start (bytes_eq (value_at before start) (value_at now start)) (state_at now start) acts (ne_eqb start slot (λ e. omega arith)))
 
 made_here : (mtu : Option ℕ) (slot : ℕ) (before now : Snapshot) (start n : ℕ) (acts : Acts) → start ≤ slot → slot < start + n
     → value_of (language mtu) slot acts ≡ state_at before slot
@@ -213,10 +192,7 @@ made_here mtu slot before now start (suc n) acts least most is same =
     let first : Acts = if b then acts else made start (state_at now start) ∷ acts in
     ap (value_of (language mtu) slot) (first_made now b start (value_at now start) more acts)
     ∙ elim (cases_eq start slot) [
-      | inl here ↦
-          made_elsewhere mtu slot before now (start + 1) n first (omega (arith, here))
-          ∙ made_this mtu slot start now b acts (state_at before slot) here is
-          (λ e. same (ap (λ (at : ℕ). bytes_eq (value_at before at) (value_at now at)) (sym here) ∙ e))
+      | inl here ↦ grind (arith, made_elsewhere, made_this, state_at, bytes_eq, value_at)
       | inr other ↦
           made_here mtu slot before now (start + 1) n first (omega (arith, other)) (omega arith)
           (made_other mtu slot start b (state_at now start) acts (ne_eqb start slot other) ∙ is) same
@@ -227,23 +203,18 @@ same_state : (s t : Option ReceiveState) → reading_of (value s) ≡ Some s →
 same_state s t of_s of_t e = same_Some s t (sym of_s ∙ ap reading_of ((bytes_eq-Decides (value s) (value t)).0 e) ∙ of_t)
 
 no_entry : (f : ℕ → Option Entry) (start n at : ℕ) → ((i : ℕ) → f i ≡ None) → entry_at (map f (range_with_len start n)) at ≡ None
-no_entry f start zero at none = refl
-no_entry f start (suc n) zero none = none start
 no_entry f start (suc n) (suc at) none = no_entry f (start + 1) n at none
+no_entry f start n at none = search
 
 no_state : (setup : Setup) (slot : ℕ) → None ≡ state_at (snapshot_of setup []) slot
 unfolding answered
-no_state setup slot =
-    let s : Snapshot = snapshot_of setup [] in
-    ap (λ entry. option_map (received (status_of s.place s.encrypted s.taken slot)) entry) (sym (no_entry (entry_in []) 0 setup.slots slot (λ i. refl)))
+no_state setup slot = grind (arith, snapshot_of, option_map, received, status_of, no_entry, entry_in)
 
 told_value : (mtu : Option ℕ) (slot : ℕ) (waiting : List Told) (acts : Acts) → value_of (language mtu) slot (notified_first waiting acts) ≡ value_of (language mtu) slot acts
-told_value mtu slot [] acts = refl
-told_value mtu slot (notice ∷ rest) acts = refl
+told_value mtu slot waiting acts = grind arith
 
 read_value : (mtu : Option ℕ) (slot : ℕ) (reads : List ℕ) (acts : Acts) → value_of (language mtu) slot (read_first reads acts) ≡ value_of (language mtu) slot acts
-read_value mtu slot [] acts = refl
-read_value mtu slot (at ∷ rest) acts = refl
+read_value mtu slot reads acts = grind arith
 
 pub value_is : ReadsOperations → ReadsStates → (setup : Setup) (mtu : Option ℕ) (link slot : ℕ) (calls : List Call) → setup.slots < 256 → slot < setup.slots → AreOctets calls
     → value_of (language mtu) slot (acts_of setup mtu link calls) ≡ state setup slot calls

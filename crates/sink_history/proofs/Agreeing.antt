@@ -1,4 +1,5 @@
 -- Each link agrees with the sink, by the law of what happens on it.
+use Rattle.std.proofs.Common.{arith}
 use Rattle.sink_history.proofs.Prelude.{ℕ, ◌≡◌, ◌<◌, false, List, Option, ◌∙◌, ReceiveState, Act, AreFounded, AreReadBack, Agrees, Language, Setup, Call, NoneNotifies, notified_and_read, acts_of, is_forged, language, read_waits, state, view, AreOctets}
 use Rattle.assistant_machine.specs.Links.{is_forged as is_forged_by}
 use Rattle.sink_history.proofs.Acts.{are_back, forged_is, founded, value_is}
@@ -16,9 +17,7 @@ pub agrees : Below → (setup : Setup) (mtu : Option ℕ) (link slot : ℕ) (cal
     → is_forged link calls ≡ false → NoneNotifies setup mtu link slot calls → read_waits setup mtu link slot calls ≡ false
     → view setup mtu link slot calls ≡ state setup slot calls
 agrees below setup mtu link slot calls few within are plain none quiet =
-    below.agree (language mtu) slot (acts_of setup mtu link calls) (founded setup mtu link calls) (are_back below.operations below.states setup mtu link calls few are)
-    (forged_is setup mtu link calls ∙ plain) none quiet
-    ∙ value_is below.operations below.states setup mtu link slot calls few within are
+    grind (arith, language, acts_of, founded, are_back, forged_is, value_is)
 
 pub drained_agrees : Below → (setup : Setup) (mtu : Option ℕ) (link slot : ℕ) (calls : List Call) → setup.slots < 256 → slot < setup.slots → AreOctets calls
     → is_forged link calls ≡ false → view setup mtu link slot (notified_and_read setup mtu link calls) ≡ state setup slot calls

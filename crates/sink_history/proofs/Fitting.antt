@@ -1,5 +1,5 @@
 -- What a sink has fits the octets of its states, whatever octets were written to it.
-use Rattle.sink_history.proofs.Prelude.{ℕ, zero, suc, ◌≡◌, ◌+◌, ◌<◌, ◌≤◌, ◌^◌, Bool, true, false, List, [], ◌∷◌, ◌++◌, length, map, Option, Some, None, Result, Ok, Err, refl, sym, ap, ◌∙◌, subst, arith, slice_set, if◌then◌else◌, is_some, AllByRecursion, flat_map, range_with_len, ltb-false, laid, IsOctets, subgroup_fields, IsOctets-prefix, IsOctets-rest, Operation, Wish, OpIs, WishFits, group_of, Entry, Place, Snapshot, Wanted, idle, on_group, on_train}
+use Rattle.sink_history.proofs.Prelude.{ℕ, zero, suc, ◌≡◌, ◌+◌, ◌<◌, ◌≤◌, ◌^◌, Bool, List, [], ◌∷◌, ◌++◌, length, map, Option, Some, None, Result, Ok, refl, sym, ap, subst, arith, slice_set, if◌then◌else◌, is_some, AllByRecursion, flat_map, range_with_len, ltb-false, laid, IsOctets, subgroup_fields, IsOctets-prefix, IsOctets-rest, Operation, Wish, OpIs, WishFits, group_of, Entry, Place, Snapshot, Wanted, idle, on_group, on_train}
 use Rattle.std.proofs.lemmas.List.{length-set}
 use Rattle.bcast_base.specs.Encoding.{number}
 use Rattle.bass_operations.specs.declared.fault.OpFault.{OpFault}
@@ -9,9 +9,8 @@ use Rattle.bass_operations.specs.declared.operation.Operation.TheVariants.{ScanS
 use Rattle.delegator_history.specs.declared.replies.Cause.{Cause}
 use Rattle.delegator_history.specs.declared.source.Source.{Source}
 use Rattle.delegator_history.specs.Snapshots.{entry_at}
-use Rattle.delegator_history.specs.Steps.{Done, added, modified, removed, joined}
-use Rattle.delegator_history.specs.Steps.{after, capability_after, encryption_given, place_given, placed, slots_after, taken_given, taken_on, wanting}
-use Rattle.delegator_history.specs.Writes.{done_read, entry_of, least_unused, operated, slot_with, unused_from}
+use Rattle.delegator_history.specs.Steps.{Done, added, modified, joined, after, slots_after, taken_on, wanting}
+use Rattle.delegator_history.specs.Writes.{done_read, entry_of, operated, slot_with, unused_from}
 use Rattle.sink_history.proofs.OctetLists.{octets_behind}
 
 -- ---- what fits
@@ -57,38 +56,22 @@ DoneIs _ = Unit {0}
 -- ---- a step keeps to it
 
 set_is : (slots : List (Option Entry)) (at : ℕ) (new : Option Entry) → SlotIs new → AllByRecursion SlotIs slots → AllByRecursion SlotIs (slice_set slots at new)
-set_is [] at new is are = tt
-set_is (slot ∷ slots) zero new is are = (is, are.1)
 set_is (slot ∷ slots) (suc at) new is are = (are.0, set_is slots at new is are.1)
+set_is slots at new is are = search
 
 pub entry_is : (slots : List (Option Entry)) (at : ℕ) → AllByRecursion SlotIs slots → SlotIs (entry_at slots at)
-entry_is [] at are = tt
-entry_is (slot ∷ slots) zero are = are.0
 entry_is (slot ∷ slots) (suc at) are = entry_is slots at are.1
+entry_is slots at are = search
 
 wanting_is : (wanted : Wanted) (slot : Option Entry) → WishesAre wanted.wishes → SlotIs slot → SlotIs (wanting wanted slot)
-wanting_is wanted None wishes is = tt
-wanting_is wanted (Some entry) wishes is = record { source = is.source; wishes = wishes }
+wanting_is wanted slot wishes is = grind arith
 
 slots_are : (done : Done) (slots : List (Option Entry)) → DoneIs done → AllByRecursion SlotIs slots → AllByRecursion SlotIs (slots_after done slots)
-slots_are (added slot entry) slots is are = set_is slots slot (Some entry) is are
-slots_are (modified slot wanted) slots is are = set_is slots slot (wanting wanted (entry_at slots slot)) (wanting_is wanted (entry_at slots slot) is (entry_is slots slot are)) are
-slots_are (removed slot) slots is are = set_is slots slot None tt are
-slots_are _ slots is are = are
-
-slots_count : (done : Done) (slots : List (Option Entry)) → length (slots_after done slots) ≡ length slots
-slots_count (added slot entry) slots = length-set slots slot (Some entry)
-slots_count (modified slot wanted) slots = length-set slots slot (wanting wanted (entry_at slots slot))
-slots_count (removed slot) slots = length-set slots slot None
-slots_count _ slots = refl
+slots_are _ slots is are = grind (arith, set_is, wanting_is, entry_is)
 
 abbrev GivenAre : Option (List ℕ) → Type 0
 GivenAre None = Unit {0}
 GivenAre (Some sets) = AreSets sets
-
-given_are : (done : Done) → DoneIs done → GivenAre (taken_given done)
-given_are (joined slot encrypted taken) is = is
-given_are _ is = tt
 
 taken_are : (place : Place) (given : Option (List ℕ)) (old : List ℕ) → GivenAre given → AreSets old → AreSets (taken_on place given old)
 taken_are idle given old new are = tt
@@ -97,17 +80,8 @@ taken_are (on_group None) given old new are = tt
 taken_are (on_group (Some slot)) None old new are = are
 taken_are (on_group (Some slot)) (Some sets) old new are = new
 
-placed_is : (n : ℕ) (place : Option Place) (encryption : Option Bool) (given : Option (List ℕ)) (snapshot : Snapshot) → GivenAre given → SnapshotIs n snapshot
-    → SnapshotIs n (placed place encryption given snapshot)
-placed_is n None encryption given snapshot new is = is
-placed_is n (Some place) encryption given snapshot new is =
-    record { count = is.count; slots = is.slots; taken = taken_are place given snapshot.taken new is.taken }
-
 pub after_is : (n : ℕ) (done : Done) (snapshot : Snapshot) → DoneIs done → SnapshotIs n snapshot → SnapshotIs n (after done snapshot)
-after_is n done snapshot new is =
-    let changed : Snapshot = record snapshot { slots = slots_after done snapshot.slots; capability = capability_after done snapshot.capability } in
-    placed_is n (place_given snapshot done) (encryption_given done) (taken_given done) changed (given_are done new)
-    (record { count = slots_count done snapshot.slots ∙ is.count; slots = slots_are done snapshot.slots new is.slots; taken = is.taken })
+after_is n done snapshot new is = grind (arith, taken_are, length-set, slots_are)
 
 -- ---- an operation that was read
 
@@ -173,8 +147,7 @@ operation_is (Code source_id code) octets are is = tt
 operation_is (Remove source_id) octets are is = tt
 
 chosen_most : (b : Bool) (x y most : ℕ) → x ≤ most → y ≤ most → (if b then x else y) ≤ most
-chosen_most true x y most of_x of_y = of_x
-chosen_most false x y most of_x of_y = of_y
+chosen_most b x y most of_x of_y = grind arith
 
 unused_most : (others source_id : ℕ) (slots : List (Option Entry)) → unused_from others source_id slots ≤ source_id + others
 unfolding unused_from
@@ -185,20 +158,11 @@ unused_most (suc others) source_id slots =
     (omega (arith, later)) (omega arith)
 
 operated_is : (n : ℕ) (slots : List (Option Entry)) (op : Operation) → length slots ≡ n → n < 256 → OperationIs op → DoneIs (operated slots op)
-operated_is n slots (Add add) count few is =
-    let most : least_unused slots ≤ 0 + length slots = unused_most (length slots) 0 slots in is (least_unused slots) (omega (arith, most, count, few))
-operated_is n slots (Modify modify) count few is = is
-operated_is n slots ScanStopped count few is = tt
-operated_is n slots ScanStarted count few is = tt
-operated_is n slots (Code source_id code) count few is = tt
-operated_is n slots (Remove source_id) count few is = tt
+operated_is n slots op count few is = grind (arith, length, unused_most)
 
 pub read_done_is : (n : ℕ) (snapshot : Snapshot) (read : Result Operation OpFault) (cause : Option Cause) → length snapshot.slots ≡ n → n < 256
     → ((op : Operation) → read ≡ Ok op → OperationIs op) → DoneIs (done_read snapshot read cause)
-read_done_is n snapshot (Ok op) None count few is = operated_is n snapshot.slots op count few (is op refl)
-read_done_is n snapshot (Ok op) (Some cause) count few is = tt
-read_done_is n snapshot (Err fault) None count few is = tt
-read_done_is n snapshot (Err fault) (Some cause) count few is = tt
+read_done_is n snapshot read cause count few is = grind (arith, operated_is)
 
 -- ---- a new sink
 

@@ -6,8 +6,7 @@ pub no_octets : IsOctets []
 no_octets i = omega arith
 
 pub one_more : (x : ℕ) (xs : List ℕ) → x < 256 → IsOctets xs → IsOctets (x ∷ xs)
-one_more x xs small octets zero = small
-one_more x xs small octets (suc i) = octets i
+one_more x xs small octets x5 = grind arith
 
 pub joined_octets : (xs ys : List ℕ) → IsOctets xs → IsOctets ys → IsOctets (xs ++ ys)
 joined_octets [] ys prefix back = back

@@ -1,14 +1,12 @@
 -- The octets that a slot has as its value are read as its state.
-use Rattle.sink_history.proofs.Prelude.{ℕ, zero, suc, ◌≡◌, ◌↔◌, ◌+◌, ◌<◌, ◌≤◌, ◌^◌, Bool, true, false, List, [], ◌∷◌, ◌++◌, length, map, drop, get_or, slice_get, Option, Some, None, option_map, Ok, refl, sym, ap, subst, arith, nat_lt, ◌==◌, ◌&&◌, not, if◌then◌else◌, AllByRecursion, flat_map, le-ltb, NoneReserved, laid, IsOctets, Fits, subgroup_fields, is_reserved, all_bits, Operation, Wish, OpIs, ReceiveState, reading_of, Entry, Snapshot, is_on_group, Step, record_added, locations_set, contexts_set, mtu_set, sync_to_group, written, train_heard, train_lost, done_by, entry_in, snapshot_of, Setup, Status, encryption_of, groups_from, received, state_at, status_of, value, Call, stepped, joined, asked, served, served_of, steps_of, with_step, writes, writes_waiting, AreOctets, IsWritten}
+use Rattle.sink_history.proofs.Prelude.{ℕ, zero, suc, ◌≡◌, ◌↔◌, ◌+◌, ◌<◌, ◌^◌, Bool, true, false, List, [], ◌∷◌, ◌++◌, length, map, drop, get_or, slice_get, Option, Some, None, option_map, Ok, refl, sym, ap, subst, arith, ◌==◌, ◌&&◌, not, if◌then◌else◌, AllByRecursion, flat_map, le-ltb, NoneReserved, laid, IsOctets, Fits, subgroup_fields, is_reserved, all_bits, Operation, Wish, OpIs, ReceiveState, reading_of, Entry, Snapshot, is_on_group, Step, record_added, locations_set, contexts_set, mtu_set, sync_to_group, written, train_heard, train_lost, done_by, entry_in, snapshot_of, Setup, Status, encryption_of, groups_from, received, state_at, status_of, value, Call, stepped, joined, asked, served, served_of, steps_of, with_step, writes, writes_waiting, AreOctets, IsWritten}
 use Rattle.bcast_base.specs.Encoding.{number}
 use Rattle.bass_operations.specs.Reading.{op_of}
-use Rattle.receive_state.specs.Layout.{IsEncoded, StateIs, code_of, code_width, group_of, number_of, encoding}
+use Rattle.receive_state.specs.Layout.{IsEncoded, StateIs, code_of, group_of, number_of, encoding}
 use Rattle.receive_state.specs.Reading.{state_of}
 use Rattle.assistant_machine.specs.Views.{told_of}
 use Rattle.delegator_history.specs.declared.train_heard.ControlHeard.{ControlHeard}
-use Rattle.delegator_history.specs.declared.train_heard.ControlHeard.TheVariants.{NotOnGroup, Malformed, NotControl, UnknownOpcode, ControlLength, MapIgnored, Left}
 use Rattle.delegator_history.specs.Controls.{control_heard, done_heard}
-use Rattle.delegator_history.specs.Snapshots.{entry_at}
 use Rattle.delegator_history.specs.States.{control_heard as control, notified, answered}
 use Rattle.delegator_history.specs.Writes.{cause_of}
 use Rattle.delegator_history.proofs.Citable.{snapshot_goes_on}
@@ -59,25 +57,11 @@ groups_octets place bits (wish ∷ wishes) fit =
     (one_more (length wish.metadata) (wish.metadata ++ rest) (omega (arith, fit.0.0))
     (joined_octets wish.metadata rest fit.0.1 (groups_octets (place + 1) bits wishes fit.1)))
 
-synced_small : (b : Bool) → nat_lt 4 (if b then 2 else 0) ≡ false
-synced_small true = refl
-synced_small false = refl
-
 synced_octet : (b : Bool) → (if b then 2 else 0) < 256
-synced_octet true = omega arith
-synced_octet false = omega arith
-
-encryption_small : (b : Bool) → nat_lt 3 (number_of (encryption_of b)) ≡ false
-encryption_small true = refl
-encryption_small false = refl
-
-code_fits : (b : Bool) → length (code_of (encryption_of b)) ≡ code_width (number_of (encryption_of b))
-code_fits true = refl
-code_fits false = refl
+synced_octet b = grind arith
 
 encryption_octets : (b : Bool) (rest : List ℕ) → IsOctets rest → IsOctets (number_of (encryption_of b) ∷ (code_of (encryption_of b) ++ rest))
-encryption_octets true rest are = one_more 1 rest (omega arith) are
-encryption_octets false rest are = one_more 0 rest (omega arith) are
+encryption_octets b rest are = grind (arith, one_more)
 
 state_octets : (status : Status) (entry : Entry) → EntryIs entry → IsOctets (encoding (received status entry))
 state_octets status entry is =
@@ -99,32 +83,7 @@ state_octets status entry is =
     (one_more s.address_type address (omega (arith, is.source.address_type)) addressed)
 
 state_encoded : (status : Status) (entry : Entry) → AreSets status.bits → EntryIs entry → IsEncoded (received status entry) (encoding (received status entry))
-state_encoded status entry sets is = record {
-  widths = record {
-    address = is.source.address;
-    broadcast_id = is.source.broadcast_id;
-    bad_code = code_fits status.is_encrypted;
-    few = subst (λ n. n ≤ 255) (sym (groups_count 0 status.bits entry.wanted.wishes)) is.wishes.few;
-    groups = groups_fit 0 status.bits entry.wanted.wishes sets is.wishes.metadata;
-  };
-  values = (
-    refl,
-    (
-      le-ltb 1 entry.source.address_type is.source.address_type,
-      (
-        refl,
-        (
-          le-ltb 15 entry.source.sid is.source.sid,
-          (
-            refl,
-            (synced_small status.is_synced, (encryption_small status.is_encrypted, (refl, (refl, none_reserved 0 status.bits entry.wanted.wishes sets)))),
-          ),
-        ),
-      ),
-    ),
-  );
-  encoded = refl;
-}
+state_encoded status entry sets is = grind (arith, groups_count, groups_fit, le-ltb, none_reserved)
 
 entry_back : ReadsStates → (status : Status) (entry : Option Entry) → AreSets status.bits → SlotIs entry
     → reading_of (value (option_map (received status) entry)) ≡ Some (option_map (received status) entry)
@@ -133,24 +92,15 @@ entry_back reads status (Some entry) sets is =
     ap told_of ((reads (Some (received status entry)) (encoding (received status entry)) (state_octets status entry is)).1 (state_encoded status entry sets is))
 
 bits_are : (b : Bool) (taken : List ℕ) → AreSets taken → AreSets (if b then taken else [])
-bits_are true taken are = are
-bits_are false taken are = tt
+bits_are b taken are = grind arith
 
 pub snapshot_back : ReadsStates → (n : ℕ) (snapshot : Snapshot) (slot : ℕ) → SnapshotIs n snapshot → reading_of (value (state_at snapshot slot)) ≡ Some (state_at snapshot slot)
-snapshot_back reads n snapshot slot is =
-    entry_back reads (status_of snapshot.place snapshot.encrypted snapshot.taken slot) (entry_at snapshot.slots slot) (bits_are (is_on_group snapshot.place slot) snapshot.taken is.taken)
-    (entry_is snapshot.slots slot is.slots)
+snapshot_back reads n snapshot slot is = grind (arith, entry_back, status_of, bits_are, is_on_group, entry_is)
 
 -- ---- a sink fits after each step
 
 control_is : (answer : ControlHeard) → DoneIs (done_heard answer)
-control_is NotOnGroup = tt
-control_is (Malformed fault) = tt
-control_is NotControl = tt
-control_is UnknownOpcode = tt
-control_is ControlLength = tt
-control_is MapIgnored = tt
-control_is Left = tt
+control_is answer = grind arith
 
 done_is : ReadsOperations → (setup : Setup) (snapshot : Snapshot) (step : Step) → length snapshot.slots ≡ setup.slots → setup.slots < 256 → IsWritten step
     → DoneIs (done_by setup snapshot step)
@@ -181,13 +131,11 @@ snapshot_is reads setup (step ∷ steps) few are =
 
 put_is : (b : Bool) (octets : List ℕ) (before : List (List ℕ)) → IsOctets octets → AllByRecursion IsOctets before
     → AllByRecursion IsOctets (if b then before ++ octets ∷ [] else before)
-put_is false octets before is are = are
-put_is true octets [] is are = (is, tt)
 put_is true octets (first ∷ before) is are = (are.0, put_is true octets before is are.1)
+put_is b octets before is are = search
 
 anew_is : (b : Bool) (before : List (List ℕ)) → AllByRecursion IsOctets before → AllByRecursion IsOctets (if b then [] else before)
-anew_is true before are = tt
-anew_is false before are = are
+anew_is b before are = grind arith
 
 writes_are : (link : ℕ) (calls : List Call) → AreOctets calls → AllByRecursion IsOctets (writes link calls)
 writes_are link [] are = tt
@@ -196,9 +144,8 @@ writes_are link (asked at octets ∷ earlier) are = put_is (at == link) octets (
 writes_are link (_ ∷ earlier) are = writes_are link earlier are.1
 
 behind_are : (n : ℕ) (all : List (List ℕ)) → AllByRecursion IsOctets all → AllByRecursion IsOctets (drop n all)
-behind_are zero all are = are
-behind_are (suc n) [] are = tt
 behind_are (suc n) (first ∷ all) are = behind_are n all are.1
+behind_are n all are = search
 
 served_is : (waiting : List (List ℕ)) (steps : List Step) → AllByRecursion IsOctets waiting → AllByRecursion IsWritten steps
     → AllByRecursion IsWritten (with_step (option_map written (slice_get waiting 0)) steps)

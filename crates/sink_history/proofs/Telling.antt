@@ -1,7 +1,6 @@
 -- A step of the delegator puts its notices behind those that wait on a link, and changes nothing that its assistant knows.
-use Rattle.sink_history.proofs.Prelude.{ℕ, zero, suc, ◌≡◌, ◌+◌, ◌≤◌, Bool, true, false, List, [], ◌∷◌, ◌++◌, length, length-append, map, drop, Option, Some, None, refl, sym, ap, ◌∙◌, subst, append_assoc, arith, bytes_eq, if◌then◌else◌, flat_map, range_with_len, Act, AreFounded, delivered_of, made, notices_of, view_of, waiting_of, waits_of, Notice, change, changes, handed_out, Snapshot, snapshot_of, Setup, state_at, value_at, Call, stepped, served, steps_of, Acts, Told, acts_of, delivered, language, made_all}
+use Rattle.sink_history.proofs.Prelude.{ℕ, zero, suc, ◌≡◌, ◌+◌, ◌≤◌, Bool, List, [], ◌∷◌, ◌++◌, length, length-append, map, drop, Option, refl, sym, ap, ◌∙◌, subst, append_assoc, arith, bytes_eq, if◌then◌else◌, flat_map, range_with_len, AreFounded, delivered_of, made, notices_of, view_of, waiting_of, waits_of, Notice, change, changes, handed_out, Snapshot, snapshot_of, Setup, state_at, value_at, Call, stepped, served, steps_of, Acts, Told, acts_of, delivered, language, made_all}
 use Rattle.std.proofs.lemmas.List.{append-nil}
-use Rattle.receive_state.specs.Cuts.{cut}
 use Rattle.assistant_machine.specs.Links as links
 use Rattle.sink_history.specs.Steps.{IsStep, NotifiesLink}
 use Rattle.sink_history.proofs.Acts.{founded}
@@ -54,8 +53,7 @@ one_handed : (mtu : Option ℕ) (now : Snapshot) (b : Bool) (slot : ℕ) (more :
     → map (delivered mtu) (map (told_of now) more) ≡ map (handed_out mtu) more
     → map (delivered mtu) (map (told_of now) ((if b then [] else record { slot = slot; value = value_at now slot } ∷ []) ++ more))
     ≡ map (handed_out mtu) ((if b then [] else record { slot = slot; value = value_at now slot } ∷ []) ++ more)
-one_handed mtu now true slot more is = is
-one_handed mtu now false slot more is = λ i. record { slot = slot; value = cut mtu (value_at now slot) } ∷ is i
+one_handed mtu now b slot more is = grind (arith, value_at)
 
 all_handed : (mtu : Option ℕ) (before now : Snapshot) (start n : ℕ)
     → map (delivered mtu) (map (told_of now) (changes_from before now start n)) ≡ map (handed_out mtu) (changes_from before now start n)
@@ -66,10 +64,7 @@ all_handed mtu before now start (suc n) =
 told_on : (setup : Setup) (mtu : Option ℕ) (before now : Snapshot) (acts : Acts) → AreFounded acts
     → map (delivered mtu) (waiting_of (made_all now (changes setup.slots before now) acts))
     ≡ map (delivered mtu) (waiting_of acts) ++ map (handed_out mtu) (changes setup.slots before now)
-told_on setup mtu before now acts is =
-    ap (map (delivered mtu)) (made_waiting now (changes setup.slots before now) acts is)
-    ∙ map_both (delivered mtu) (waiting_of acts) (map (told_of now) (changes setup.slots before now))
-    ∙ ap (λ xs. map (delivered mtu) (waiting_of acts) ++ xs) (all_handed mtu before now 0 setup.slots)
+told_on setup mtu before now acts is = grind (arith, map, delivered, made_waiting, changes, map_both, waiting_of, all_handed)
 
 pub tells : (setup : Setup) (mtu : Option ℕ) (link : ℕ) (call : Call) (calls : List Call) → IsStep call → NotifiesLink setup mtu link call calls
 tells setup mtu link (stepped step) calls is =

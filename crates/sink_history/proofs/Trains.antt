@@ -1,21 +1,13 @@
 -- The streams that a train puts a sink on are sets of streams.
-use Rattle.sink_history.proofs.Prelude.{ℕ, zero, suc, ◌+◌, ◌-◌, ◌<◌, ◌≤◌, ◌^◌, Bool, true, false, List, [], ◌∷◌, length, map, take, Option, Some, None, Result, Ok, Err, arith, bit_or, ◌==◌, if◌then◌else◌, AllByRecursion, filter, range_with_len, Wish, Snapshot, is_on_group, TrainOutcome, ignored, heard, taken, Setup, Train, is_candidate, candidates, set_with, sets_with, first_candidates, are_none, base_in, big_info_in, big_sync_of, by_streams, by_group, by_info, by_big_info, by_endpoint, by_base, by_slot, by_broadcast_id, outcome_by, done_by_outcome, is_elsewhere, is_wanted}
+use Rattle.sink_history.proofs.Prelude.{ℕ, zero, suc, ◌+◌, ◌-◌, ◌<◌, ◌≤◌, ◌^◌, Bool, List, [], ◌∷◌, length, map, take, Option, Some, None, Result, arith, bit_or, if◌then◌else◌, AllByRecursion, filter, range_with_len, Wish, Snapshot, is_on_group, TrainOutcome, ignored, heard, taken, Setup, Train, is_candidate, candidates, set_with, sets_with, first_candidates, are_none, base_in, big_info_in, big_sync_of, by_streams, by_group, by_info, by_big_info, by_base, by_slot, by_broadcast_id, outcome_by, done_by_outcome, is_elsewhere, is_wanted}
 use Rattle.std.proofs.lemmas.Nat.{or_lt, pow_below}
-use Rattle.base_grammar.specs.declared.fault.BaseFault.{BaseFault}
 use Rattle.base_grammar.specs.declared.subgroup.Subgroup.{Subgroup}
 use Rattle.base_grammar.specs.Layout.{Endpoint}
-use Rattle.base_grammar.specs.Reading.{base_of}
 use Rattle.big_info.specs.declared.big_fault.BigFault.{BigFault}
 use Rattle.big_info.specs.declared.fault.GroupFault.{GroupFault}
 use Rattle.big_info.specs.declared.info.BigInfo.{BigInfo}
-use Rattle.big_info.specs.Reading.{info_of}
-use Rattle.big_info.specs.Rows.{first_fault}
 use Rattle.base_grammar.specs.AdReading.{broadcast_id_of}
 use Rattle.pacs_records.specs.declared.capability.Capability.{Capability}
-use Rattle.delegator_history.specs.declared.train_heard.TrainHeard.TheVariants as answers
-use Rattle.delegator_history.specs.Snapshots.{entry_at}
-use Rattle.delegator_history.specs.Steps.{wishes_at}
-use Rattle.delegator_history.specs.Writes.{slot_where}
 use Rattle.sink_history.proofs.Fitting.{AreSets, DoneIs}
 
 -- ---- sets of streams
@@ -28,17 +20,15 @@ range_is start zero least most = tt
 range_is start (suc n) least most = ((least, omega (arith, most)), range_is (start + 1) n (omega arith) (omega (arith, most)))
 
 kept_is : (b : Bool) (bis : ℕ) (others : List ℕ) → BisIs bis → AllByRecursion BisIs others → AllByRecursion BisIs (if b then bis ∷ others else others)
-kept_is true bis others is are = (is, are)
-kept_is false bis others is are = are
+kept_is b bis others is are = grind arith
 
 filtered_is : (test : ℕ → Bool) (streams : List ℕ) → AllByRecursion BisIs streams → AllByRecursion BisIs (filter test streams)
 filtered_is test [] are = tt
 filtered_is test (bis ∷ streams) are = kept_is (test bis) bis (filter test streams) are.0 (filtered_is test streams are.1)
 
 prefix_is : (n : ℕ) (streams : List ℕ) → AllByRecursion BisIs streams → AllByRecursion BisIs (take n streams)
-prefix_is zero streams are = tt
-prefix_is (suc n) [] are = tt
 prefix_is (suc n) (bis ∷ streams) are = (are.0, prefix_is n streams are.1)
+prefix_is n streams are = search
 
 bit_small : (bis : ℕ) → BisIs bis → 2 ^ (bis - 1) < 2 ^ 31
 bit_small bis is = pow_below (bis - 1) 31 (omega (arith, is.0, is.1))
@@ -69,14 +59,12 @@ OutcomeIs (taken slot bits encrypted big_sync) = AreSets bits
 OutcomeIs _ = Unit {0}
 
 either_is : (b : Bool) (x y : TrainOutcome) → OutcomeIs x → OutcomeIs y → OutcomeIs (if b then x else y)
-either_is true x y of_x of_y = of_x
-either_is false x y of_x of_y = of_y
+either_is b x y of_x of_y = grind arith
 
 streams_are : (slot : ℕ) (train : Train) (base : Endpoint) (info : BigInfo) (encrypted : Bool) (streams : List (List ℕ))
     → AllByRecursion (λ some. AllByRecursion BisIs some) streams → OutcomeIs (by_streams slot train base info encrypted streams)
 streams_are slot train base info encrypted streams are =
-    either_is (are_none streams) (heard slot answers.NoneTaken (Some encrypted)) (taken slot (map (set_with 0) streams) encrypted (big_sync_of train base info (sets_with 0 streams)))
-    tt (sets_are streams are)
+    grind (arith, either_is, are_none, heard, taken, map, set_with, big_sync_of, sets_with, sets_are)
 
 group_is : (setup : Setup) (capability : Capability) (wishes : List Wish) (slot : ℕ) (train : Train) (base : Endpoint) (info : BigInfo) (encrypted : Bool)
     (fault : Option GroupFault) → OutcomeIs (by_group setup capability wishes slot train base info encrypted fault)
@@ -87,43 +75,24 @@ group_is setup capability wishes slot train base info encrypted None =
 
 info_is : (setup : Setup) (capability : Capability) (wishes : List Wish) (slot : ℕ) (train : Train) (base : Endpoint) (encrypted : Bool)
     (read : Result BigInfo BigFault) → OutcomeIs (by_info setup capability wishes slot train base encrypted read)
-info_is setup capability wishes slot train base encrypted (Err fault) = tt
-info_is setup capability wishes slot train base encrypted (Ok info) =
-    group_is setup capability wishes slot train base info encrypted (first_fault setup.horizon info)
+info_is setup capability wishes slot train base encrypted read = grind (arith, group_is)
 
 big_info_is : (setup : Setup) (capability : Capability) (wishes : List Wish) (slot : ℕ) (train : Train) (base : Endpoint) (found : Option (List ℕ))
     → OutcomeIs (by_big_info setup capability wishes slot train base found)
-big_info_is setup capability wishes slot train base None = tt
-big_info_is setup capability wishes slot train base (Some octets) =
-    info_is setup capability wishes slot train base (length octets == 57) (info_of octets)
-
-endpoint_is : (setup : Setup) (capability : Capability) (wishes : List Wish) (slot : ℕ) (train : Train) (read : Result Endpoint BaseFault)
-    → OutcomeIs (by_endpoint setup capability wishes slot train read)
-endpoint_is setup capability wishes slot train (Err fault) = tt
-endpoint_is setup capability wishes slot train (Ok base) = big_info_is setup capability wishes slot train base (big_info_in train.acad)
+big_info_is setup capability wishes slot train base found = grind (arith, info_is, length)
 
 base_is : (setup : Setup) (capability : Capability) (wishes : List Wish) (slot : ℕ) (train : Train) (found : Option (List ℕ))
     → OutcomeIs (by_base setup capability wishes slot train found)
-base_is setup capability wishes slot train None = tt
-base_is setup capability wishes slot train (Some octets) = endpoint_is setup capability wishes slot train (base_of octets)
+base_is setup capability wishes slot train found = grind (arith, big_info_is, big_info_in)
 
 slot_is : (setup : Setup) (snapshot : Snapshot) (train : Train) (found : Option ℕ) → OutcomeIs (by_slot setup snapshot train found)
-slot_is setup snapshot train None = tt
-slot_is setup snapshot train (Some slot) =
-    let based : TrainOutcome = by_base setup snapshot.capability (wishes_at (entry_at snapshot.slots slot)) slot train (base_in train.adv) in
-    let here : TrainOutcome = if is_on_group snapshot.place slot then ignored answers.AlreadyOnGroup else based in
-    either_is (is_elsewhere snapshot.place slot) (ignored answers.OtherTrain) here tt
-    (either_is (is_on_group snapshot.place slot) (ignored answers.AlreadyOnGroup) based tt
-    (base_is setup snapshot.capability (wishes_at (entry_at snapshot.slots slot)) slot train (base_in train.adv)))
+slot_is setup snapshot train found = grind (arith, by_base, base_in, is_on_group, ignored, either_is, is_elsewhere, base_is)
 
 id_is : (setup : Setup) (snapshot : Snapshot) (train : Train) (found : Option (List ℕ)) → OutcomeIs (by_broadcast_id setup snapshot train found)
-id_is setup snapshot train None = tt
-id_is setup snapshot train (Some id) = slot_is setup snapshot train (slot_where (is_wanted train.address_type train.sid id) 0 snapshot.slots)
+id_is setup snapshot train found = grind (arith, slot_is, is_wanted)
 
 done_is : (outcome : TrainOutcome) → OutcomeIs outcome → DoneIs (done_by_outcome outcome)
-done_is (ignored answer) is = tt
-done_is (heard slot answer encrypted) is = tt
-done_is (taken slot bits encrypted big_sync) is = is
+done_is outcome is = grind arith
 
 pub train_is : (setup : Setup) (snapshot : Snapshot) (train : Train) → DoneIs (done_by_outcome (outcome_by setup snapshot train))
 train_is setup snapshot train = done_is (outcome_by setup snapshot train) (id_is setup snapshot train (broadcast_id_of train.ext))
