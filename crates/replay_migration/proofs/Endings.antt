@@ -4,7 +4,7 @@ use Rattle.std.proofs.Common.{arith, length-append, length-drop, length-take-le}
 use Rattle.std.proofs.lemmas.List.{append-nil}
 use Rattle.std.specs.Io.KnownBytes.{Consumes, IsAtEnd, Keeps}
 use Rattle.bcast_io.specs.TextLines.{text_limit}
-use Rattle.bcast_io.specs.Writing.{AppendsPrefix}
+use Rattle.bcast_io.specs.Writing.{AppendsPrefix, AppendsShort}
 use Rattle.bcast_io.proofs.Citable.{AppendsPrefix-nothing, Consumes-nothing, Consumes-then}
 use Rattle.scenario_text.specs.Migrated.{migrated}
 use Rattle.replay_migration.specs.TextRead.{ReadWhole, ReadPast, ReadPart, piece_limit}
@@ -25,6 +25,10 @@ keeps_same (Some octets) = refl
 -- nothing was put
 pub nothing_put : (kept : Option (List ℕ)) (octets : List ℕ) → AppendsPrefix kept kept octets
 nothing_put kept octets = AppendsPrefix-nothing kept kept octets (keeps_same kept)
+
+-- a write that was cut short is one of a prefix
+pub prefix_of_short : (kept kept' : Option (List ℕ)) (octets : List ℕ) → AppendsShort kept kept' octets → AppendsPrefix kept kept' octets
+prefix_of_short kept kept' octets short = record { prefix = short.prefix; rest = short.rest; whole = short.whole; appended = short.appended }
 
 -- ---- what was read
 

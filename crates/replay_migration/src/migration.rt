@@ -1,5 +1,9 @@
-ghost use Rattle.std.specs.Prelude.{◌≡◌, ◌≢◌};
+ghost use Rattle.std.specs.Prelude.{◌≡◌, ◌≢◌, IfErr, OnErr, OnOk};
+ghost use Rattle.std.specs.Io.KnownBytes.{Appends};
 ghost use Rattle.bcast_base.specs.Counts.{Rose};
+ghost use Rattle.bcast_io.specs.Causes.{SinkCause};
+ghost use Rattle.bcast_io.specs.Writing.{AppendsShort};
+ghost use Rattle.scenario_text.specs.Migrated.{migrated};
 ghost use Rattle.replay_migration.specs.Ended.{Ended};
 ghost use Rattle.replay_migration.specs.State.Puts.{PutsRefusal, PutsText};
 
@@ -7,7 +11,7 @@ use crate::piece::Unread;
 use crate::text::{Text, read_text};
 use bcast_base::{Memory, Octets};
 use bcast_io::{ByteSink, ByteSource, SinkFault, write_whole};
-use scenario_text::migrate;
+use scenario_text::changed_digit;
 use std::alloc::Global;
 use transcript_text::{Refusal, put_refusal};
 
@@ -43,7 +47,7 @@ pub fn run_migration<S: ByteSource, K: ByteSink>(
     ensures no_write_fault { result ≢ Migration.WriteFault → K.faults sink.new ≡ K.faults sink.old }
 {
     match read_text(alloc, source) {
-        Ok(Text::Whole(text)) => write_text(alloc, &text, sink),
+        Ok(Text::Whole(text)) => write_text(&text, sink),
         Ok(Text::TooLong { line }) => write_refusal(alloc, line, sink),
         Err(Unread::Failed) => Migration::ReadFault,
         Err(Unread::Memory) => Migration::Memory,
@@ -51,20 +55,32 @@ pub fn run_migration<S: ByteSource, K: ByteSink>(
 }
 
 /// Writes a whole text in version 2.
-#[tactic(auto, using(crate::proofs::Endings::nothing_put))]
-fn write_text<K: ByteSink>(alloc: Global, text: &Octets, sink: &mut K) -> Migration
+#[tactic(auto, using(crate::proofs::Endings::prefix_of_short))]
+fn write_text<K: ByteSink>(text: &Octets, sink: &mut K) -> Migration
     ensures puts { PutsText text.now (K.contents sink.old) (K.contents sink.new) result }
     ensures write_fault { result ≡ Migration.WriteFault → Rose (K.faults sink.old) (K.faults sink.new) }
     ensures no_write_fault { result ≢ Migration.WriteFault → K.faults sink.new ≡ K.faults sink.old }
 {
-    match migrate(alloc, text.as_slice()) {
-        Err(Memory) => Migration::Memory,
-        Ok(migrated) => match write_whole(sink, migrated.as_slice()) {
-            Ok(()) => Migration::Done,
-            Err(SinkFault::Failed) => Migration::WriteFault,
-            Err(SinkFault::Memory) => Migration::Memory,
-        },
+    match write_migrated(text.as_slice(), sink) {
+        Ok(()) => Migration::Done,
+        Err(SinkFault::Failed) => Migration::WriteFault,
+        Err(SinkFault::Memory) => Migration::Memory,
     }
+}
+
+/// Writes what stands before the digit that is another one in version 2, this digit, and the rest.
+fn write_migrated<K: ByteSink>(text: &[u8], sink: &mut K) -> Result<(), SinkFault>
+    ensures ok { OnOk result (Appends (K.contents sink.old) (K.contents sink.new) (migrated text.now)) }
+    ensures short { OnErr result (AppendsShort (K.contents sink.old) (K.contents sink.new) (migrated text.now)) }
+    ensures none_failed { OnOk result (K.faults sink.new ≡ K.faults sink.old) }
+    ensures cause { IfErr result (SinkCause (K.faults sink.old) (K.faults sink.new)) }
+{
+    let Some(at) = changed_digit(text) else {
+        return write_whole(sink, text);
+    };
+    write_whole(sink, &text[..at])?;
+    write_whole(sink, b"2")?;
+    write_whole(sink, &text[at + 1..])
 }
 
 /// Writes the line that refuses a text that is too long.

@@ -1,7 +1,9 @@
--- The lines of a text are the text again, and a text is migrated line by line.
-use Rattle.scenario_text.proofs.Prelude.{◌≡◌, ◌≤◌, ◌<◌, ℕ, zero, suc, Bool, true, false, cond, nat_eq, List, [], ◌∷◌, ◌++◌, length, get_or, take, drop, Option, None, Some, refl, ap, sym, ◌∙◌, append_assoc, arith, eqb-true, false_from_ne_true, onto_first, lines_of, behind, text_of, lines_after, text_after}
+-- The lines of a text are the text again, and a text is migrated line by line: all stays but one digit.
+use Rattle.scenario_text.proofs.Prelude.{◌≡◌, ◌≤◌, ◌<◌, ℕ, zero, suc, Bool, true, false, cond, nat_eq, List, [], ◌∷◌, ◌+◌, ◌++◌, length, get_or, take, drop, Option, None, Some, refl, ap, sym, ◌∙◌, append_assoc, arith, eqb-true, false_from_ne_true, onto_first, lines_of, behind, text_of, lines_after}
 use Rattle.std.specs.Borrow.{Bor}
-use Rattle.std.proofs.lemmas.List.{append-nil}
+use Rattle.std.specs.Option.{is_some}
+use Rattle.std.proofs.Math.Seq.{take-add}
+use Rattle.std.proofs.lemmas.List.{append-nil, drop-append-le, drop-drop, drop_at, length-append, length-drop, take-append-drop, take-append-le, take_at}
 use Rattle.scenario_text.specs.Migrated.{is_blank, migrated_line, migrated_lines, migrated}
 
 -- ---- the first line ends at the first end of a line
@@ -59,16 +61,15 @@ pub text_again : (text : List ℕ) → text_of (lines_of text) ≡ text
 text_again [] = refl
 text_again (octet ∷ text) = chosen_text (nat_eq octet 10) octet text refl (text_again text)
 
-after_again : (rest : Option (Bor (List ℕ))) → behind (lines_after rest) ≡ text_after rest
-after_again None = refl
-after_again (Some text) = behind_some (lines_of text.now) (some_line text.now) ∙ ap (λ (l : List ℕ). 10 ∷ l) (text_again text.now)
+-- a text, by its first line and those behind it
+by_first : (text line : List ℕ) (lines : List (List ℕ)) → lines_of text ≡ line ∷ lines → text ≡ line ++ behind lines
+by_first text line lines split = sym (text_again text) ∙ ap text_of split
 
 -- ---- line by line
 
-pub first_migrated : (text line : List ℕ) (rest : Option (Bor (List ℕ))) → lines_of text ≡ line ∷ lines_after rest → is_blank line ≡ false
-    → migrated text ≡ migrated_line line ++ text_after rest
+first_migrated : (text line : List ℕ) (lines : List (List ℕ)) → lines_of text ≡ line ∷ lines → is_blank line ≡ false → migrated text ≡ migrated_line line ++ behind lines
 unfolding migrated
-first_migrated text line rest split first = rw (split, first) (ap (λ (l : List ℕ). migrated_line line ++ l) (after_again rest))
+first_migrated text line lines split first = rw (split, first) refl
 
 chosen_lines : (b : Bool) (line : List ℕ) (lines : List (List ℕ)) → Some_line (cond b (line ∷ migrated_lines lines) (migrated_line line ∷ lines))
 chosen_lines true line lines = record { first = line; others = migrated_lines lines; are = refl }
@@ -78,26 +79,82 @@ some_migrated : (lines : List (List ℕ)) → Some_line lines → Some_line (mig
 some_migrated lines some = rw some.are (chosen_lines (is_blank some.first) some.first some.others)
 
 -- a blank line stays, and what follows it is migrated
-pub blank_last : (text line : List ℕ) → lines_of text ≡ line ∷ [] → is_blank line ≡ true → migrated text ≡ line
+blank_last : (text line : List ℕ) → lines_of text ≡ line ∷ [] → is_blank line ≡ true → migrated text ≡ line
 unfolding migrated
 blank_last text line split blank = rw (split, blank) (append-nil line)
 
-pub blank_first : (text line rest : List ℕ) → lines_of text ≡ line ∷ lines_of rest → is_blank line ≡ true → migrated text ≡ line ++ 10 ∷ migrated rest
+blank_first : (text line rest : List ℕ) → lines_of text ≡ line ∷ lines_of rest → is_blank line ≡ true → migrated text ≡ line ++ 10 ∷ migrated rest
 unfolding migrated
 blank_first text line rest split blank =
     rw (split, blank) (ap (λ (l : List ℕ). line ++ l) (behind_some (migrated_lines (lines_of rest)) (some_migrated (lines_of rest) (some_line rest))))
 
--- what was put so far, and what follows it
-pub ends_first : (whole now line out left : List ℕ) (rest : Option (Bor (List ℕ))) → migrated whole ≡ now ++ migrated left → lines_of left ≡ line ∷ lines_after rest → is_blank line ≡ false
-    → out ≡ (now ++ migrated_line line) ++ text_after rest → out ≡ migrated whole
-ends_first whole now line out left rest so_far split first put =
-    put ∙ (append_assoc now (migrated_line line) (text_after rest) ∙ (ap (λ (l : List ℕ). now ++ l) (sym (first_migrated left line rest split first)) ∙ sym so_far))
+-- so much of a text stays, and what follows it is migrated by itself
+pub record StartsAt (text : List ℕ) (start : ℕ) : Type 0 where
+  pub within : start ≤ length text
+  pub stays : migrated text ≡ take start text ++ migrated (drop start text)
 
-pub ends_blank : (whole now line out left : List ℕ) → migrated whole ≡ now ++ migrated left → lines_of left ≡ line ∷ [] → is_blank line ≡ true → out ≡ now ++ line → out ≡ migrated whole
-ends_blank whole now line out left so_far split blank put = put ∙ (ap (λ (l : List ℕ). now ++ l) (sym (blank_last left line split blank)) ∙ sym so_far)
+module _ (text : List ℕ) (start : ℕ) (line : List ℕ) (begun : StartsAt text start) where
+  abbrev pub left : List ℕ
+  left = drop start text
 
-pub goes_on : (whole now line out left rest : List ℕ) → migrated whole ≡ now ++ migrated left → lines_of left ≡ line ∷ lines_of rest → is_blank line ≡ true → out ≡ (now ++ line) ++ 10 ∷ []
-    → migrated whole ≡ out ++ migrated rest
-goes_on whole now line out left rest so_far split blank put =
-    so_far ∙ (ap (λ (l : List ℕ). now ++ l) (blank_first left line rest split blank) ∙ sym (ap (λ (l : List ℕ). l ++ migrated rest) put
-    ∙ (append_assoc (now ++ line) (10 ∷ []) (migrated rest) ∙ append_assoc now line (10 ∷ migrated rest))))
+  all_stays : migrated left ≡ left → migrated text ≡ text
+  all_stays same = begun.stays ∙ (ap (λ (l : List ℕ). take start text ++ l) same ∙ take-append-drop start text)
+
+  -- a blank line is the last
+  pub ends_blank : (rest : Option (Bor (List ℕ))) → lines_of left ≡ line ∷ lines_after rest → is_blank line ≡ true → is_some rest ≡ false → migrated text ≡ text
+  ends_blank None split blank none = all_stays (blank_last left line split blank ∙ sym (by_first left line [] split ∙ append-nil line))
+  ends_blank (Some rest) split blank none = cc
+
+  -- lines go on behind a blank one
+  behind_blank : (rest : List ℕ) → lines_of left ≡ line ∷ lines_of rest → is_blank line ≡ true → StartsAt text (start + (length line + 1))
+  behind_blank rest split blank =
+      let n = length line + 1 in
+      let ended = line ++ 10 ∷ [] in
+      let octets : left ≡ ended ++ rest =
+      by_first left line (lines_of rest) split
+      ∙ (ap (λ (l : List ℕ). line ++ l) (behind_some (lines_of rest) (some_line rest) ∙ ap (λ (l : List ℕ). 10 ∷ l) (text_again rest)) ∙ sym (append_assoc line (10 ∷ []) rest)) in
+      let long : length ended ≡ n = length-append line (10 ∷ []) in
+      let took : take (start + n) text ≡ take start text ++ ended =
+      take-add start n text ∙ ap (λ (l : List ℕ). take start text ++ l) (ap (take n) octets ∙ take_at ended rest n long) in
+      let dropped : drop (start + n) text ≡ rest = sym (drop-drop n start text) ∙ (ap (drop n) octets ∙ drop_at ended rest n long) in
+      record {
+        within = omega (arith, begun.within, long, ap length octets, length-append ended rest, length-drop start text);
+        stays =
+            begun.stays
+            ∙ (ap (λ (l : List ℕ). take start text ++ l) (blank_first left line rest split blank ∙ sym (append_assoc line (10 ∷ []) (migrated rest)))
+            ∙ (sym (append_assoc (take start text) ended (migrated rest)) ∙ sym (rw (took, dropped) refl)));
+      }
+
+  pub goes_on : (rest : Option (Bor (List ℕ))) → lines_of left ≡ line ∷ lines_after rest → is_blank line ≡ true → is_some rest ≡ true → StartsAt text (start + (length line + 1))
+  goes_on None split blank some = cc
+  goes_on (Some rest) split blank some = behind_blank rest.now split blank
+
+  module _ (lines : List (List ℕ)) (split : lines_of left ≡ line ∷ lines) (first : is_blank line ≡ false) where
+    -- the first line that is not blank is no line of version 1
+    pub ends_same : migrated_line line ≡ line → migrated text ≡ text
+    ends_same same =
+        all_stays (first_migrated left line lines split first ∙ (ap (λ (l : List ℕ). l ++ behind lines) same ∙ sym (by_first left line lines split)))
+
+    -- it is one, with its digit at this place
+    module _ (at : ℕ) (within : at < length line) where
+      around : (digit : ℕ) → take start text ++ ((take at line ++ digit ∷ drop (at + 1) line) ++ behind lines) ≡ take (start + at) text ++ digit ∷ drop (start + at + 1) text
+      around digit =
+          let octets = by_first left line lines split in
+          let took : take (start + at) text ≡ take start text ++ take at line =
+          take-add start at text ∙ ap (λ (l : List ℕ). take start text ++ l) (ap (take at) octets ∙ take-append-le at line (behind lines) (omega arith)) in
+          let dropped : drop (start + at + 1) text ≡ drop (at + 1) line ++ behind lines =
+          ap (λ (k : ℕ). drop k text) (omega arith) ∙ (sym (drop-drop (at + 1) start text) ∙ (ap (drop (at + 1)) octets ∙ drop-append-le (at + 1) line (behind lines) (omega arith))) in
+          rw (took, dropped) (simp append_assoc)
+
+      pub place_within : start + at < length text
+      place_within = omega (arith, begun.within, length-drop start text, ap length (by_first left line lines split), length-append line (behind lines))
+
+      pub digit_before : line ≡ take at line ++ 49 ∷ drop (at + 1) line → text ≡ take (start + at) text ++ 49 ∷ drop (start + at + 1) text
+      digit_before one =
+          sym (take-append-drop start text)
+          ∙ (ap (λ (l : List ℕ). take start text ++ l) (by_first left line lines split ∙ ap (λ (l : List ℕ). l ++ behind lines) one) ∙ around 49)
+
+      pub digit_after : migrated_line line ≡ take at line ++ 50 ∷ drop (at + 1) line → migrated text ≡ take (start + at) text ++ 50 ∷ drop (start + at + 1) text
+      digit_after two =
+          begun.stays
+          ∙ (ap (λ (l : List ℕ). take start text ++ l) (first_migrated left line lines split first ∙ ap (λ (l : List ℕ). l ++ behind lines) two) ∙ around 50)

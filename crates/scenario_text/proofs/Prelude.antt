@@ -15,7 +15,7 @@ pub use Rattle.bcast_base.specs.Layout.{laid}
 pub use Rattle.bcast_base.specs.Subgroups.{subgroup_fields}
 pub use Rattle.bcast_base.specs.Tries.{◌>>=◌}
 pub use Rattle.scenario_text.specs.Lines.{Says, LineIs, IsBlank}
-pub use Rattle.scenario_text.specs.MigratedLines.{text_after, lines_of, behind, text_of, lines_after}
+pub use Rattle.scenario_text.specs.MigratedLines.{lines_of, behind, text_of, lines_after}
 pub use Rattle.scenario_text.specs.Misfits.{FitsLine, IsMisfit}
 pub use Rattle.scenario_text.specs.Ranges.{IsInRange}
 pub use Rattle.scenario_text.specs.Steps.{built_at, at_known, whole, line_after}

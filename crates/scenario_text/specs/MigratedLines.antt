@@ -1,6 +1,6 @@
 -- The lines of a text of the scenario language, which is this project's own: what stands between the octets that end a
 -- line. What stands behind the last of these is a line too.
-use Rattle.std.specs.Prelude.{ℕ, List, [], ◌∷◌, ◌++◌, ◌+◌, ◌==◌, if◌then◌else◌, length, Option, None, Some}
+use Rattle.std.specs.Prelude.{ℕ, List, [], ◌∷◌, ◌++◌, ◌==◌, if◌then◌else◌, Option, None, Some}
 use Rattle.std.specs.Borrow.{Bor}
 use Rattle.scenario_words.specs.Joined.{onto_first}
 
@@ -23,12 +23,3 @@ text_of (line ∷ lines) = line ++ behind lines
 abbrev pub lines_after : Option (Bor (List ℕ)) → List (List ℕ)
 lines_after None = []
 lines_after (Some text) = lines_of text.now
-
--- and its octets, with the end of that line
-abbrev pub text_after : Option (Bor (List ℕ)) → List ℕ
-text_after None = []
-text_after (Some text) = newline ∷ text.now
-
-abbrev pub octets_after : Option (Bor (List ℕ)) → ℕ
-octets_after None = 0
-octets_after (Some text) = length text.now + 1

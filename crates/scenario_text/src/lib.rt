@@ -11,6 +11,6 @@ mod taker;
 
 pub use laws::{a_line_says_one_step, an_operation_has_so_many_octets};
 pub use limits::{BEFORE_ADD, BEFORE_MODIFY, MOST_OF_OPERATION};
-pub use migration::migrate;
+pub use migration::changed_digit;
 pub use step::Step;
 pub use taker::LineTaker;

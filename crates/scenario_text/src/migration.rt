@@ -1,15 +1,12 @@
-ghost use Rattle.std.specs.Prelude.{◌≡◌, ◌≤◌, ◌∷◌, ◌++◌, IfOk, OnOk, length};
-ghost use Rattle.scenario_text.specs.MigratedLines.{lines_of, lines_after, text_after, octets_after};
+ghost use Rattle.std.specs.Prelude.{◌≡◌, ◌<◌, ◌+◌, ◌∷◌, ◌++◌, IfNone, IfSome, codes, drop, length, take};
+ghost use Rattle.scenario_text.specs.MigratedLines.{lines_of, lines_after};
 ghost use Rattle.scenario_text.specs.Migrated.{is_blank as blank_in, migrated_line, migrated as migrated_in};
 
-use bcast_base::{Memory, Octets};
 use memchr::memchr;
-use std::alloc::Global;
 
 /// The first line of a text, and what follows its end where it has one.
 fn split_line(text: &[u8]) -> (&[u8], Option<&[u8]>)
-    ensures lines { lines_of text.now ≡ result.0.now ∷ lines_after result.1 }
-    ensures shorter { octets_after result.1 ≤ length text.now }
+    ensures { lines_of text.now ≡ result.0.now ∷ lines_after result.1 }
 {
     match memchr(b'\n', text) {
         None => (text, None),
@@ -27,51 +24,41 @@ fn is_blank(line: &[u8]) -> bool
     }
 }
 
-/// The line in version 2.
-fn in_version_2(line: &[u8]) -> &[u8]
-    ensures { result.now ≡ migrated_line line.now }
+/// The place of the digit of `scenario 1`, from 0, where the line is this one.
+fn digit_in(line: &[u8]) -> Option<usize>
+    ensures within { IfSome result (λ at. at < length line.now) }
+    ensures one { IfSome result (λ at. line.now ≡ take at line.now ++ (codes "1" ++ drop (at + 1) line.now)) }
+    ensures two { IfSome result (λ at. migrated_line line.now ≡ take at line.now ++ (codes "2" ++ drop (at + 1) line.now)) }
+    ensures none { IfNone result (migrated_line line.now ≡ line.now) }
 {
     if line == b"scenario 1".as_slice() {
-        b"scenario 2"
+        Some(9)
     } else {
-        line
+        None
     }
 }
 
-/// Puts what follows a line behind it, with the end of the line.
-fn put_after(text: &mut Octets, rest: Option<&[u8]>) -> Result<(), Memory>
-    ensures { OnOk result (text.new ≡ text.old ++ text_after rest.entry) }
+/// The place, from 0, of the one octet of a text that is another one in version 2: `1` stands there, and `2` does in version 2.
+/// It is the digit of the first line that is neither empty nor a comment, where this line is `scenario 1`. Any other text is
+/// the same in version 2, and has no such place.
+pub fn changed_digit(text: &[u8]) -> Option<usize>
+    ensures within { IfSome result (λ at. at < length text.now) }
+    ensures one { IfSome result (λ at. text.now ≡ take at text.now ++ (codes "1" ++ drop (at + 1) text.now)) }
+    ensures two { IfSome result (λ at. migrated_in text.now ≡ take at text.now ++ (codes "2" ++ drop (at + 1) text.now)) }
+    ensures none { IfNone result (migrated_in text.now ≡ text.now) }
 {
-    match rest {
-        None => Ok(()),
-        Some(rest) => {
-            text.push(b'\n')?;
-            text.append(rest)
-        }
-    }
-}
-
-/// The text in version 2: its first line that is neither empty nor a comment is `scenario 2` where it is `scenario 1`, and
-/// all else is as it is.
-pub fn migrate(alloc: Global, text: &[u8]) -> Result<Octets, Memory>
-    ensures { IfOk result (λ migrated. migrated ≡ migrated_in text.now) }
-{
-    let mut migrated = Octets::new(alloc);
-    let mut left = text;
+    let mut start = 0;
     'blanks: loop {
-        let (line, rest) = split_line(left);
+        let (line, rest) = split_line(&text[start..]);
         if !is_blank(line) {
-            migrated.append(in_version_2(line))?;
-            put_after(&mut migrated, rest)?;
-            return Ok(migrated);
+            return match digit_in(line) {
+                None => None,
+                Some(at) => Some(start + at),
+            };
         }
-        migrated.append(line)?;
-        match rest {
-            None => return Ok(migrated),
-            Some(after) => {
-                migrated.push(b'\n')?;
-                left = after;
-            }
+        if rest.is_none() {
+            return None;
         }
+        start += line.len() + 1;
     }
 }
