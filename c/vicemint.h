@@ -201,6 +201,10 @@ vm_status_t vm_stream_reserve(vm_stream_t *stream, vm_size_t units, vm_size_t oc
 /* The open event is over: its units wait. VM_COUNTER_ENDS past the last event. Takes memory for the units, as vm_sink_tick. */
 vm_status_t vm_stream_close(vm_stream_t *stream);
 void vm_stream_open_event(vm_stream_t *stream, uint64_t *event);
+/* The octets that it holds of units that it hasn't handed up: of an unframed stream those of the longest prefix of each unit of the open
+ * event, at most Max_SDU for each; of a framed one those of the unit that the closed events don't decide, at most Max_SDU. Units that wait
+ * for next_unit don't count. */
+void vm_stream_held(vm_stream_t *stream, vm_size_t *octets);
 /* As vm_sink_next_unit. */
 vm_status_t vm_stream_next_unit(vm_stream_t *stream, uint8_t *room, vm_size_t room_count, vm_unit_t *unit);
 

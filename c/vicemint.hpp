@@ -334,6 +334,13 @@ public:
         vm_stream_open_event(get(), &event);
         return event;
     }
+    // The octets that it holds of units that it hasn't handed up.
+    std::size_t held() noexcept
+    {
+        vm_size_t octets = 0;
+        vm_stream_held(get(), &octets);
+        return static_cast<std::size_t>(octets);
+    }
     Result<Unit> next_unit(Room room) noexcept
     {
         Result<Unit> it{};

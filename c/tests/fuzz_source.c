@@ -134,6 +134,14 @@ call_t *const OF_SOURCES[] = { run_new, run_give, run_give, run_give, run_event,
 /* ---- one stream alone */
 
 static vm_stream_t stream;
+static vm_size_t most_held;
+
+static void check_held(void)
+{
+    vm_size_t octets = (vm_size_t)-1;
+    vm_stream_held(&stream, &octets);
+    NEED(octets <= most_held);
+}
 
 static void run_stream_new(void)
 {
@@ -143,6 +151,9 @@ static void run_stream_new(void)
     vm_stream_free(&stream);
     vm_status_t status = CALL(vm_stream_new, (&stream, &info, &stay, &row), ONE(VM_RANGE) | ONE(VM_MEMORY) | ONE(VM_GROUP));
     NEED((status == VM_OK) == (stream.at != NULL) && (status == VM_GROUP) == (row != MARK));
+    most_held = (vm_size_t)info.max_sdu * (info.framing == 0 ? info.bn : 1);
+    if (stream.at != NULL)
+        check_held();
 }
 
 static void run_stream_hear(void)
@@ -156,6 +167,7 @@ static void run_stream_hear(void)
     if (stream.at != NULL) {
         vm_stream_hear(&stream, number, pdu.at, pdu.count, &heard);
         NEED(heard.answer <= 5);
+        check_held();
     }
     free(pdu.at);
 }
@@ -176,6 +188,7 @@ static void run_stream_close(void)
     vm_status_t status = CALL(vm_stream_close, (&stream), ONE(VM_COUNTER_ENDS) | ONE(VM_MEMORY));
     vm_stream_open_event(&stream, &after);
     NEED(after - before == (status != VM_COUNTER_ENDS));
+    check_held();
 }
 
 static void run_stream_unit(void)

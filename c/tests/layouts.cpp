@@ -77,7 +77,9 @@ bool alone()
         if (source.give(1, std::nullopt, unit) != Status::ok || source.event() != Status::ok || stream.open_event() != event)
             return false;
         auto pdu = source.pdu(0, 1, 0, room);
-        if (!pdu || stream.hear(pdu.value.second, pdu.value.first).answer != 5 || stream.close() != Status::ok)
+        if (!pdu || stream.hear(pdu.value.second, pdu.value.first).answer != 5 || stream.held() != unit.size())
+            return false;
+        if (stream.close() != Status::ok || stream.held() != 0)
             return false;
         auto handed = stream.next_unit(room);
         if (!handed || !handed.value.it.is_valid || handed.value.octets.size() != unit.size() || handed.value.octets[2] != 3)

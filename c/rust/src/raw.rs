@@ -108,6 +108,7 @@ extern "C" {
     pub fn vm_stream_reserve(stream: *mut Handle, units: u64, octets: u64) -> u32;
     pub fn vm_stream_close(stream: *mut Handle) -> u32;
     pub fn vm_stream_open_event(stream: *mut Handle, event: *mut u64);
+    pub fn vm_stream_held(stream: *mut Handle, octets: *mut u64);
     pub fn vm_stream_next_unit(stream: *mut Handle, room: *mut u8, room_count: u64, unit: *mut Unit) -> u32;
 
     pub fn air_big_info_read(from: *const u8, count: u64, into: *mut BigInfo) -> u32;

@@ -40,6 +40,14 @@ impl Stream {
         event
     }
 
+    /// The octets that it holds of units that it hasn't handed up: of an unframed stream those of the longest prefix of each unit of the
+    /// open event, of a framed one those of the unit that the closed events don't decide. Units that wait for `next_unit` don't count.
+    pub fn held(&mut self) -> usize {
+        let mut octets = 0;
+        unsafe { raw::vm_stream_held(&mut self.handle, &mut octets) }
+        octets as usize
+    }
+
     /// The first unit that waits; a room of 4,095 octets is always enough.
     pub fn next_unit<'a>(&mut self, room: &'a mut [u8]) -> Result<Option<Unit<'a>>, Refusal> {
         let mut it = raw::Unit::default();

@@ -59,3 +59,28 @@ fn refusals_say_why() {
     assert_eq!(stream.reserve(0, 1), Err(Refusal::Range));
     assert_eq!(stream.hear(0, &[3]).answer, 0);
 }
+
+#[test]
+fn what_is_held_of_a_slot_is_its_longest_prefix() {
+    let info = BigInfo { nse: 2, bn: 2, sub_interval: 400, max_sdu: 8, max_pdu: 4, ..group() };
+    let (mut stream, mut room) = (Stream::new(&info, &STAY).unwrap(), [0; 8]);
+    assert_eq!((stream.hear(1, &[0, 0]).answer, stream.held()), (KEPT, 0));
+    assert_eq!((stream.hear(0, &[1, 4, 1, 2, 3, 4]).answer, stream.held()), (KEPT, 4));
+    stream.close().unwrap();
+    assert_eq!(stream.held(), 0);
+    assert_eq!(stream.next_unit(&mut room).unwrap().unwrap().octets, Some(&[1, 2, 3, 4][..]));
+}
+
+#[test]
+fn what_is_held_of_a_framed_stream_is_the_unit_that_is_not_decided() {
+    let info = BigInfo { framing: 1, sdu_interval: 10884, max_sdu: 8, max_pdu: 10, ..group() };
+    let (mut stream, mut room) = (Stream::new(&info, &STAY).unwrap(), [0; 8]);
+    let pdu = [2, 10, 0, 8, 0x88, 0x13, 0, 0xd0, 0xd1, 0xd2, 0xd3, 0xd4];
+    assert_eq!((stream.hear(0, &pdu).answer, stream.held()), (KEPT, 0));
+    stream.close().unwrap();
+    assert_eq!(stream.held(), 5);
+    stream.close().unwrap();
+    assert_eq!(stream.held(), 0);
+    let unit = stream.next_unit(&mut room).unwrap().unwrap();
+    assert_eq!((unit.bis, unit.time, unit.octets), (1, 75968, None));
+}

@@ -1,6 +1,7 @@
 -- What the proofs of this crate use of `std` and of the crates below it, by one import.
-pub use Rattle.std.proofs.Common.{◌≡◌, ℕ, List, [], ◌∷◌, ◌++◌, refl, subst, ◌∙◌, Bool, None, sym, ap, arith, zero, suc, replicate, Result, length, take}
+pub use Rattle.std.proofs.Common.{◌≡◌, ◌≤◌, ◌*◌, ℕ, List, [], ◌∷◌, ◌++◌, refl, subst, ◌∙◌, Bool, None, sym, ap, arith, zero, suc, replicate, Result, length, map, take}
 pub use Rattle.std.proofs.raw_atomic.Walks.{proved_at, leaves, proved}
+pub use Rattle.std.specs.List.{range_with_len}
 pub use Rattle.std.specs.Prelude.{Some, IsSome, true, false, Option, ◌==◌, if◌then◌else◌}
 pub use Rattle.std_heap.specs.contracts.GlobalAllocator.TheImpl.{ghosts}
 pub use Rattle.std_heap.specs.declared.Global.{Global}
@@ -10,7 +11,7 @@ pub use Rattle.core.proofs.alloc.Calls.{Goes-blank, Al, handle_tells}
 pub use Rattle.group_sink.specs.Handing.{units_at_close}
 pub use Rattle.isoal_base.specs.Stays.{Stay, opened, Call, window_of}
 pub use Rattle.stream_c.specs.Owned.{boxed, owned}
-pub use Rattle.stream_c.specs.Streams.{FramedStands, PlainStands, KeptStands, StandsBy, room_kept, units_kept}
+pub use Rattle.stream_c.specs.Streams.{FramedStands, PlainStands, KeptStands, StandsBy, heard_of_window, held_by, most_held, room_kept, units_kept}
 pub use Rattle.stream_c.specs.contracts.handle.VmStream.of.{ended, clauses}
 pub use Rattle.stream_c.specs.declared.machine.StreamMachine.{StreamMachine}
 pub use Rattle.unit_outlets.specs.Handed.{Handed, HandsOver, Caused}

@@ -1,10 +1,15 @@
 -- What C's calls say of the receiver behind the handle of a stream (Core 5.2, volume 6 part G, section 2).
-use Rattle.std.specs.Prelude.{ℕ, ◌≡◌, ◌==◌, List, [], Option, Some, None, if◌then◌else◌}
-use Rattle.isoal_base.specs.Stays.{Call, Stay}
-use Rattle.isoal_framed.specs.Histories.{decided}
+use Rattle.std.specs.Prelude.{ℕ, ◌≡◌, ◌==◌, ◌*◌, List, [], map, Option, Some, None, if◌then◌else◌}
+use Rattle.std.specs.List.{range_with_len}
+use Rattle.big_info.specs.Schedule.{per_event_of}
+use Rattle.big_info.specs.declared.info.BigInfo.{BigInfo}
+use Rattle.iso_pdu.specs.Layout.{Content}
+use Rattle.isoal_base.specs.Stays.{Call, Stay, opened, window_of}
+use Rattle.isoal_framed.specs.Histories.{decided, held_of, undecided_in}
 use Rattle.isoal_framed.specs.State.Windows as segments
-use Rattle.isoal_unframed.specs.Histories.{handed}
+use Rattle.isoal_unframed.specs.Histories.{handed, heard_in}
 use Rattle.isoal_unframed.specs.State.Windows as plain
+use Rattle.isoal_unframed.specs.State.Windows.{held_in_event}
 use Rattle.unit_outlets.specs.Handed.{Handed}
 use Rattle.c_values.specs.Kept.{Room}
 use Rattle.stream_c.specs.declared.handle.VmStream.{VmStream}
@@ -63,3 +68,16 @@ room_in handle = room_kept handle.kept
 -- closed events decide
 abbrev pub all_handed : Stay → List Call → List Handed
 all_handed stay calls = if stay.info.framing == 0 then handed stay calls else decided stay calls
+
+-- what was heard of each payload number of the window, from the first number of the open event on
+abbrev pub heard_of_window : Stay → List Call → List (Option Content)
+heard_of_window stay calls = map (heard_in stay calls) (range_with_len (opened stay calls * stay.info.bn) (window_of stay.info))
+
+-- the octets held: of an unframed stream those of the longest prefix of each slot of the open event, of a framed one those of the unit
+-- that the closed events don't decide
+abbrev pub held_by : Stay → List Call → ℕ
+held_by stay calls = if stay.info.framing == 0 then held_in_event stay (heard_of_window stay calls) else held_of (undecided_in stay calls)
+
+-- a unit for each slot of an event, or one unit
+abbrev pub most_held : BigInfo → ℕ
+most_held info = if info.framing == 0 then per_event_of info * info.max_sdu else info.max_sdu

@@ -3,7 +3,7 @@ ghost use Rattle.std.specs.Prelude.{◌≡◌, ◌≤◌, ◌<◌, ◌+◌, ◌^
 ghost use Rattle.group_sink.specs.Handing.{units_at_close};
 ghost use Rattle.group_sink.specs.Hearings.{heard_on};
 ghost use Rattle.isoal_base.specs.Stays.{Call, Stay, close, hear};
-ghost use Rattle.stream_c.specs.Streams.{ReceiverStands, event_of};
+ghost use Rattle.stream_c.specs.Streams.{ReceiverStands, event_of, held_by, most_held};
 ghost use Rattle.unit_outlets.specs.Handed.{Caused, HandsOver};
 
 use bcast_base::{Bis, Memory};
@@ -52,6 +52,17 @@ impl Receiver {
         match self {
             Receiver::Unframed(unframed) => unframed.open_event(),
             Receiver::Framed(framed) => framed.open_event(),
+        }
+    }
+
+    /// How many octets are held of units that aren't handed up yet.
+    pub(crate) fn held(&self) -> usize
+        ensures held { (stay : Stay) (calls : List Call) → ReceiverStands stay calls self.now → result ≡ held_by stay calls }
+        ensures bound { (stay : Stay) (calls : List Call) → ReceiverStands stay calls self.now → result ≤ most_held stay.info }
+    {
+        match self {
+            Receiver::Unframed(unframed) => unframed.held(),
+            Receiver::Framed(framed) => framed.held(),
         }
     }
 

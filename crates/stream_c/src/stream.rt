@@ -11,7 +11,7 @@ ghost use Rattle.group_sink.specs.Handing.{units_at_close};
 ghost use Rattle.group_sink.specs.Hearings.{heard_on};
 ghost use Rattle.isoal_base.specs.Stays.{Call, Stay, close, hear, opened};
 ghost use Rattle.unit_outlets.specs.Handed.{Handed};
-ghost use Rattle.stream_c.specs.Streams.{Stands, room_in, waiting_in};
+ghost use Rattle.stream_c.specs.Streams.{Stands, held_by, most_held, room_in, waiting_in};
 
 use crate::handle::VmStream;
 use crate::machine::StreamMachine;
@@ -137,6 +137,18 @@ pub extern "C" fn vm_stream_open_event(stream: &mut VmStream, event: &mut u64)
     ensures same { stream.new.kept ≡ stream.old.kept }
 {
     *event = stream.lend().receiver.open_event();
+}
+
+/// How many octets are held of units that aren't handed up yet: of the slots of the open event of an unframed stream, or of the unit of a
+/// framed one that the closed events don't decide. The units that wait don't count. It takes no memory.
+#[unsafe(no_mangle)]
+pub extern "C" fn vm_stream_held(stream: &mut VmStream, octets: &mut usize)
+    requires { IsSome stream.old.kept }
+    ensures held { (stay : Stay) (calls : List Call) → Stands stay calls stream.old → octets.new ≡ held_by stay calls }
+    ensures bound { (stay : Stay) (calls : List Call) → Stands stay calls stream.old → octets.new ≤ most_held stay.info }
+    ensures same { stream.new.kept ≡ stream.old.kept }
+{
+    *octets = stream.lend().receiver.held();
 }
 
 /// Room for so many units, 1 to 1,024, of so many octets each, 1 to 4,095, taken once and in place of the room that there was. What waits
