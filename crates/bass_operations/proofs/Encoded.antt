@@ -1,5 +1,5 @@
 -- Wishes that are read are encoded so, and those that are encoded so are read.
-use Rattle.bass_operations.proofs.Prelude.{◌≡◌, ℕ, suc, List, [], ◌∷◌, ◌++◌, length, map, Option, Some, None, refl, sym, ap, subst, ◌∙◌, arith, append-nil, flat_map, AllByRecursion, Field, laid, IsOctets, ◌>>=◌, whole, Subgroup, Fits, subgroup, subgroup_fields, bind_some, some_is, subgroup_laid, subgroups_take, subgroups_again, Wish, group_of, WishFits, wish_of}
+use Rattle.bass_operations.proofs.Prelude.{◌≡◌, ℕ, suc, List, [], ◌∷◌, ◌++◌, length, map, Option, Some, refl, sym, ap, subst, ◌∙◌, arith, append-nil, flat_map, AllByRecursion, Field, laid, IsOctets, whole, Subgroup, Fits, subgroup, subgroup_fields, bind_some, some_is, subgroup_laid, subgroups_take, subgroups_again, Wish, group_of, WishFits, wish_of}
 use Rattle.std.proofs.lemmas.Grind.{flat_map-append}
 use Rattle.bcast_base.specs.Subgroups.{subgroups_in}
 use Rattle.bass_operations.specs.Reading.{wishes_in}
@@ -42,17 +42,13 @@ length-wishes [] = refl
 length-wishes (group ∷ groups) = ap (λ n. suc n) (length-wishes groups)
 
 whole_some : {A B : Type 0} (read : Option (A × List B)) (x : A) → whole read ≡ Some x → read ≡ Some (x, [])
-whole_some None x e = absurd cc
-whole_some (Some (y, [])) x e = let same : y ≡ x = cc in ap (λ z. Some (z, [])) same
-whole_some (Some (y, octet ∷ rest)) x e = absurd cc
+whole_some read x e = grind arith
 
 -- the subgroups that wishes were read of
 pub groups_of_wishes : (count : ℕ) (from : List ℕ) (wishes : List Wish) → wishes_in count from ≡ Some wishes → (groups : List Subgroup) × (subgroups_in count from ≡ Some (groups, []))
     × (map wish_of groups ≡ wishes)
 unfolding wishes_in
-groups_of_wishes count from wishes e =
-    let a = bind_some (whole (subgroups_in count from)) (λ groups. Some (map wish_of groups)) wishes e in
-    (a.0, whole_some (subgroups_in count from) a.0 a.1, some_is (map wish_of a.0) wishes a.2)
+groups_of_wishes count from wishes e = grind (arith, bind_some, whole, map, wish_of, whole_some, some_is)
 
 pub record AreEncoded (count : ℕ) (from : List ℕ) (wishes : List Wish) : Type 0 where
   pub encoded : from ≡ laid (flat_map wish_fields wishes)
@@ -70,9 +66,11 @@ wishes_take count from wishes h e =
 pub wishes_again : (wishes : List Wish) → AllByRecursion WishFits wishes → wishes_in (length wishes) (laid (flat_map wish_fields wishes)) ≡ Some wishes
 unfolding wishes_in
 wishes_again wishes h =
-    let read : subgroups_in (length (map group_of wishes)) (flat_map subgroup (map group_of wishes) ++ []) ≡ Some (map group_of wishes, []) =
-    subgroups_again (map group_of wishes) [] (groups_fit wishes h) in
-    let octets : flat_map subgroup (map group_of wishes) ++ [] ≡ laid (flat_map wish_fields wishes) = append-nil (flat_map subgroup (map group_of wishes)) ∙ sym (wishes_laid wishes) in
-    let there : subgroups_in (length wishes) (laid (flat_map wish_fields wishes)) ≡ Some (map group_of wishes, []) =
-    ap (λ (n : ℕ). subgroups_in n (laid (flat_map wish_fields wishes))) (sym (length-groups wishes)) ∙ (ap (subgroups_in (length (map group_of wishes))) (sym octets) ∙ read) in
-    ap (λ (r : Option (List Subgroup × List ℕ)). whole r >>= λ groups. Some (map wish_of groups)) there ∙ ap (λ (ws : List Wish). Some ws) (wishes_back wishes)
+    grind (
+      arith,
+      subgroups_again (map group_of wishes) [] (groups_fit wishes h),
+      append-nil (flat_map subgroup (map group_of wishes)),
+      wishes_laid wishes,
+      length-groups wishes,
+      wishes_back wishes,
+    )

@@ -6,9 +6,7 @@ pub octets_again_at : (k : ℕ) (value rest : List ℕ) → length value ≡ k �
 octets_again_at k value rest e = subst (λ (n : ℕ). octets_in n (value ++ rest) ≡ Some (value, rest)) e (octets_again value rest)
 
 first_fits : (from : List ℕ) (n : ℕ) (rest : List ℕ) → IsOctets from → from ≡ octet n ++ rest → n < 256
-first_fits from n rest h e =
-    let all : IsOctets (octet n ++ rest) = subst IsOctets e h in
-    all 0
+first_fits from n rest h e = grind (arith, (subst IsOctets e h) 0)
 
 -- ---- Add Source
 
@@ -87,21 +85,15 @@ pub add_head_again : (add : AddSource) (count : ℕ) (tail : List ℕ) → lengt
     → add_head_in (add_before add count tail) ≡ Some (record add { wishes = [] }, count, tail)
 unfolding add_head_in
 add_head_again add count tail address id interval =
-    rw (
+    grind (
+      arith,
       octets_again_at 6 add.address (octet add.sid ++ (add.broadcast_id ++ (octet add.pa_sync ++ (number 2 add.pa_interval ++ (octet count ++ tail))))) address,
       octets_again_at 3 add.broadcast_id (octet add.pa_sync ++ (number 2 add.pa_interval ++ (octet count ++ tail))) id,
       number_again 2 add.pa_interval (octet count ++ tail) interval,
-    ) refl
+    )
 
 pub add_before-length : (add : AddSource) (count : ℕ) (tail : List ℕ) → length add.address ≡ 6 → length add.broadcast_id ≡ 3 → length (add_before add count tail) ≡ 15 + length tail
-add_before-length add count tail address id =
-    omega (
-      arith,
-      length-append add.address (octet add.sid ++ (add.broadcast_id ++ (octet add.pa_sync ++ (number 2 add.pa_interval ++ (octet count ++ tail))))),
-      length-append add.broadcast_id (octet add.pa_sync ++ (number 2 add.pa_interval ++ (octet count ++ tail))),
-      length-append (number 2 add.pa_interval) (octet count ++ tail),
-      number-length 2 add.pa_interval,
-    )
+add_before-length add count tail address id = grind (arith, length-append, octet, number, number-length)
 
 -- ---- Modify Source
 

@@ -1,5 +1,5 @@
 -- Operations that are read are laid so, and their first fault is the one that is told.
-use Rattle.bass_operations.proofs.Prelude.{◌≡◌, ℕ, zero, suc, ◌<◌, ◌≤◌, Bool, true, false, cond, ltb, List, [], ◌∷◌, ◌++◌, length, Option, Some, None, Result, Ok, Err, refl, sym, ap, subst, ◌∙◌, arith, le-ltb, flat_map, laid, reserved_from, octet_in, octets_in, IsOctets, octet, ◌>>=◌, whole, IsOctets-rest, octet_takes, octets_take, bind_some, some_is, reserved_none, none_reserved, OpFault, Opcode, Operation, ScanStopped, ScanStarted, Add, Modify, Code, Remove, fields, encoding, wishes_of, IsLaid, OpIs, FitsWidths, alone, op_of, judged, answered, fault_of, first_fault, twice_of}
+use Rattle.bass_operations.proofs.Prelude.{◌≡◌, ℕ, suc, ◌<◌, ◌≤◌, Bool, false, cond, ltb, List, [], ◌∷◌, ◌++◌, length, Option, Some, None, Result, Ok, Err, refl, sym, ap, subst, ◌∙◌, arith, le-ltb, flat_map, laid, reserved_from, octet_in, octets_in, IsOctets, ◌>>=◌, whole, IsOctets-rest, octet_takes, octets_take, bind_some, some_is, reserved_none, none_reserved, OpFault, Opcode, Operation, ScanStopped, ScanStarted, Add, Modify, Code, Remove, fields, encoding, wishes_of, IsLaid, OpIs, FitsWidths, alone, op_of, judged, answered, fault_of, first_fault, twice_of}
 use Rattle.bass_operations.specs.Reading.{wishes_in, add_head_in, modify_head_in, add_in, modify_in, code_in, remove_in, op_in}
 use Rattle.bass_operations.proofs.Heads.{add_before, add_head_takes, add_head_again, modify_before, modify_head_takes, modify_head_again, octets_again_at}
 use Rattle.bass_operations.proofs.Encoded.{wish_fields, wishes_take, wishes_again}
@@ -21,10 +21,7 @@ add_laid rest op h e =
     t.parts ∙ (ap (add_before a.0.0 a.0.1) s.encoded ∙ ap (λ (n : ℕ). add_before a.0.0 n (laid (flat_map wish_fields b.0))) (sym s.counted)) in
     let read : Operation = Add (record a.0.0 { wishes = b.0 }) in
     subst (λ (o : Operation). IsLaid o (2 ∷ rest)) (some_is read op b.2)
-    (record {
-      widths = record { address = t.address; broadcast_id = t.broadcast_id; pa_interval = t.pa_interval; wishes = (subst (λ (n : ℕ). n ≤ 255) (sym s.counted) (few a.0.1 t.few), s.fit) };
-      encoded = ap (λ (x : List ℕ). 2 ∷ x) parts;
-    })
+    (grind (arith, few))
 
 pub modify_laid : (rest : List ℕ) (op : Operation) → IsOctets rest → modify_in rest ≡ Some op → IsLaid op (3 ∷ rest)
 unfolding modify_in
@@ -37,15 +34,10 @@ modify_laid rest op h e =
     t.parts ∙ (ap (modify_before a.0.0 a.0.1) s.encoded ∙ ap (λ (n : ℕ). modify_before a.0.0 n (laid (flat_map wish_fields b.0))) (sym s.counted)) in
     let read : Operation = Modify (record a.0.0 { wishes = b.0 }) in
     subst (λ (o : Operation). IsLaid o (3 ∷ rest)) (some_is read op b.2)
-    (record {
-      widths = record { pa_interval = t.pa_interval; wishes = (subst (λ (n : ℕ). n ≤ 255) (sym s.counted) (few a.0.1 t.few), s.fit) };
-      encoded = ap (λ (x : List ℕ). 3 ∷ x) parts;
-    })
+    (grind (arith, few))
 
 whole_some : {A B : Type 0} (read : Option (A × List B)) (x : A) → whole read ≡ Some x → read ≡ Some (x, [])
-whole_some None x e = absurd cc
-whole_some (Some (y, [])) x e = let same : y ≡ x = cc in ap (λ z. Some (z, [])) same
-whole_some (Some (y, octet ∷ rest)) x e = absurd cc
+whole_some read x e = grind arith
 
 pub code_laid : (rest : List ℕ) (op : Operation) → code_in rest ≡ Some op → IsLaid op (4 ∷ rest)
 unfolding code_in
@@ -60,25 +52,15 @@ code_laid rest op e =
 
 pub remove_laid : (rest : List ℕ) (op : Operation) → remove_in rest ≡ Some op → IsLaid op (5 ∷ rest)
 unfolding remove_in
-remove_laid rest op e =
-    let a = bind_some (whole (octet_in rest)) (λ source. Some (Remove source)) op e in
-    let t = octet_takes rest a.0 [] (whole_some (octet_in rest) a.0 a.1) in
-    let read : Operation = Remove a.0 in
-    subst (λ (o : Operation). IsLaid o (5 ∷ rest)) (some_is read op a.2) (record { widths = tt; encoded = ap (λ (x : List ℕ). 5 ∷ x) t.parts })
+remove_laid rest op e = grind (arith, bind_some, whole, octet_in, octet_takes, whole_some, some_is)
 
 alone_laid : (code : ℕ) (rest : List ℕ) (read op : Operation) → FitsWidths read → encoding read ≡ code ∷ [] → alone read rest ≡ Some op → IsLaid op (code ∷ rest)
-alone_laid code [] read op w s e = subst (λ (o : Operation). IsLaid o (code ∷ [])) (some_is read op e) (record { widths = w; encoded = sym s })
-alone_laid code (octet ∷ rest) read op w s e = absurd cc
+alone_laid code rest read op w s e = grind (arith, some_is)
 
 pub op_laid : (code : ℕ) (rest : List ℕ) (op : Operation) → IsOctets rest → op_in code rest ≡ Some op → IsLaid op (code ∷ rest)
 unfolding op_in
-op_laid zero rest op h e = alone_laid 0 rest ScanStopped op tt refl e
-op_laid (suc zero) rest op h e = alone_laid 1 rest ScanStarted op tt refl e
-op_laid (suc (suc zero)) rest op h e = add_laid rest op h e
-op_laid (suc (suc (suc zero))) rest op h e = modify_laid rest op h e
-op_laid (suc (suc (suc (suc zero)))) rest op h e = code_laid rest op e
-op_laid (suc (suc (suc (suc (suc zero))))) rest op h e = remove_laid rest op e
 op_laid (suc (suc (suc (suc (suc (suc code)))))) rest op h e = absurd cc
+op_laid code rest op h e = search (alone_laid, add_laid, modify_laid, code_laid, remove_laid)
 
 -- ---- what is laid is read
 
@@ -93,16 +75,8 @@ pub laid_read : (op : Operation) (octets : List ℕ) → IsLaid op octets → Is
 unfolding op_in add_in modify_in code_in remove_in
 laid_read ScanStopped octets l = record { opcode = 0; rest = []; parts = l.encoded; known = omega arith; read = refl }
 laid_read ScanStarted octets l = record { opcode = 1; rest = []; parts = l.encoded; known = omega arith; read = refl }
-laid_read (Add add) octets l =
-    let tail = laid (flat_map wish_fields add.wishes) in
-    let head = add_head_again add (length add.wishes) tail l.widths.address l.widths.broadcast_id l.widths.pa_interval in
-    let wishes = wishes_again add.wishes l.widths.wishes.1 in
-    record { opcode = 2; rest = add_before add (length add.wishes) tail; parts = l.encoded; known = omega arith; read = rw (head, wishes) refl }
-laid_read (Modify modify) octets l =
-    let tail = laid (flat_map wish_fields modify.wishes) in
-    let head = modify_head_again modify (length modify.wishes) tail l.widths.pa_interval in
-    let wishes = wishes_again modify.wishes l.widths.wishes.1 in
-    record { opcode = 3; rest = modify_before modify (length modify.wishes) tail; parts = l.encoded; known = omega arith; read = rw (head, wishes) refl }
+laid_read (Add add) octets l = grind (arith, laid, flat_map, wish_fields, add_head_again, length, wishes_again, add_before)
+laid_read (Modify modify) octets l = grind (arith, laid, flat_map, wish_fields, modify_head_again, length, wishes_again, modify_before)
 laid_read (Code source_id code) octets l =
     record { opcode = 4; rest = source_id ∷ (code ++ []); parts = l.encoded; known = omega arith; read = rw (octets_again_at 16 code [] l.widths) refl }
 laid_read (Remove source_id) octets l = record { opcode = 5; rest = source_id ∷ []; parts = l.encoded; known = omega arith; read = refl }
@@ -110,17 +84,13 @@ laid_read (Remove source_id) octets l = record { opcode = 5; rest = source_id �
 -- ---- the first fault
 
 answered_ok : (read op : Operation) (fault : Option OpFault) → answered read fault ≡ Ok op → (read ≡ op) × (fault ≡ None)
-answered_ok read op None e = (cc, refl)
-answered_ok read op (Some fault) e = absurd cc
+answered_ok read op fault e = grind arith
 
 pub answered_err : (read : Operation) (fault : Option OpFault) (f : OpFault) → answered read fault ≡ Err f → fault ≡ Some f
-answered_err read None f e = absurd cc
-answered_err read (Some fault) f e = let same : fault ≡ f = cc in ap (λ (x : OpFault). Some x) same
+answered_err read fault f e = grind arith
 
 no_fault : (place twice : Option ℕ) → first_fault place twice ≡ None → (place ≡ None) × (twice ≡ None)
-no_fault (Some place) twice e = absurd cc
-no_fault None (Some bis) e = absurd cc
-no_fault None None e = (refl, refl)
+no_fault place twice e = grind arith
 
 judged_ok : (read : Option Operation) (op : Operation) → judged read ≡ Ok op → (read ≡ Some op) × (fault_of op ≡ None)
 judged_ok None op e = absurd cc
@@ -132,8 +102,7 @@ pub judged_by : (op : Operation) (fault : Option OpFault) → fault_of op ≡ fa
 judged_by op fault e = ap (answered op) e
 
 guard_known : (b : Bool) (read : Result Operation OpFault) (op : Operation) → cond b (Err Opcode) read ≡ Ok op → (b ≡ false) × (read ≡ Ok op)
-guard_known true read op e = absurd cc
-guard_known false read op e = (refl, e)
+guard_known b read op e = grind arith
 
 pub read_is : (op : Operation) (octets : List ℕ) → IsOctets octets → op_of octets ≡ Ok op → OpIs op octets
 read_is op [] h e = absurd cc

@@ -18,13 +18,11 @@ is_alone code rest opcode op a b e = ap (λ (n : ℕ). op_of (n ∷ rest)) a ∙
 
 pub stopped : (from : List ℕ) → 1 ≤ length from → get_or from 0 0 ≡ 0 → true ≡ eqb (length (behind from)) 0 → op_of from ≡ Ok ScanStopped
 unfolding op_in twice_from
-stopped [] h a e = absurd (omega (arith, h))
-stopped (code ∷ rest) h a e = is_alone code rest 0 ScanStopped a (none_behind code rest e) refl
+stopped from h a e = grind (arith, is_alone, none_behind)
 
 pub started : (from : List ℕ) → 1 ≤ length from → get_or from 0 0 ≡ 1 → true ≡ eqb (length (behind from)) 0 → op_of from ≡ Ok ScanStarted
 unfolding op_in twice_from
-started [] h a e = absurd (omega (arith, h))
-started (code ∷ rest) h a e = is_alone code rest 1 ScanStarted a (none_behind code rest e) refl
+started from h a e = grind (arith, is_alone, none_behind)
 
 code_faultless : (rest : List ℕ) (op : Operation) → code_in rest ≡ Some op → fault_of op ≡ None
 unfolding code_in twice_from
@@ -42,23 +40,16 @@ remove_faultless rest op e =
     subst (λ (o : Operation). fault_of o ≡ None) (some_is read op a.2) refl
 
 faultless : (read : Option Operation) (given : Result Operation OpFault) → ((op : Operation) → read ≡ Some op → fault_of op ≡ None) → given ≡ ok_or read Length → Answers told given (judged read)
-faultless None given none e = subst (λ (g : Result Operation OpFault). Answers told g (judged None)) (sym e) refl
-faultless (Some op) given none e = subst (λ (g : Result Operation OpFault). Answers told g (judged (Some op))) (sym e) (ap (answered op) (none op refl))
+faultless read given none e = grind (arith, told, judged, answered)
 
 pub code_given : (from : List ℕ) (read : Option Operation) (given : Result Operation OpFault) → 1 ≤ length from → get_or from 0 0 ≡ 4 → read ≡ code_in (behind from)
     → given ≡ ok_or read Length → Answers told given (op_of from)
 unfolding op_in
 code_given [] read given h a e g = absurd (omega (arith, h))
-code_given (code ∷ rest) read given h a e g =
-    let same : code_in rest ≡ read = ap code_in (sym (behind_is code rest)) ∙ sym e in
-    let judged_so : op_of (code ∷ rest) ≡ judged read = ap (λ (n : ℕ). op_of (n ∷ rest)) a ∙ ap judged same in
-    subst (Answers told given) (sym judged_so) (faultless read given (λ op some. code_faultless rest op (same ∙ some)) g)
+code_given (code ∷ rest) read given h a e g = grind (arith, behind_is code rest, faultless read given (λ op some. code_faultless rest op ((ap code_in (sym (behind_is code rest)) ∙ sym e) ∙ some)) g)
 
 pub remove_given : (from : List ℕ) (read : Option Operation) (given : Result Operation OpFault) → 1 ≤ length from → get_or from 0 0 ≡ 5 → read ≡ remove_in (behind from)
     → given ≡ ok_or read Length → Answers told given (op_of from)
 unfolding op_in
 remove_given [] read given h a e g = absurd (omega (arith, h))
-remove_given (code ∷ rest) read given h a e g =
-    let same : remove_in rest ≡ read = ap remove_in (sym (behind_is code rest)) ∙ sym e in
-    let judged_so : op_of (code ∷ rest) ≡ judged read = ap (λ (n : ℕ). op_of (n ∷ rest)) a ∙ ap judged same in
-    subst (Answers told given) (sym judged_so) (faultless read given (λ op some. remove_faultless rest op (same ∙ some)) g)
+remove_given (code ∷ rest) read given h a e g = grind (arith, behind_is code rest, faultless read given (λ op some. remove_faultless rest op ((ap remove_in (sym (behind_is code rest)) ∙ sym e) ∙ some)) g)

@@ -1,5 +1,5 @@
 -- What an Add Source and a Modify Source are judged as, by the steps of reading.
-use Rattle.bass_operations.proofs.Prelude.{◌≡◌, ℕ, ◌+◌, ◌<◌, ◌≤◌, Bool, true, false, cond, ltb, List, [], ◌∷◌, length, Option, Some, None, is_some, Result, Ok, Err, refl, sym, ap, subst, ◌∙◌, arith, lt-ltb, le-ltb, IfOk, IsOk, flat_map, reserved_from, place_in, IsOctets, subgroup_fields, reserved_in, IsOctets-rest, number-length, reserved_found, OpFault, Length, Rfu, BisTwice, AddSource, ModifySource, Operation, Add, Modify, Wish, fields, wishes_of, judged, answered, first_fault, add_reserved, told, Finds, twice_of}
+use Rattle.bass_operations.proofs.Prelude.{◌≡◌, ℕ, ◌+◌, ◌<◌, ◌≤◌, Bool, true, false, cond, ltb, List, [], ◌∷◌, length, Option, Some, None, is_some, Result, Ok, Err, refl, sym, ap, subst, ◌∙◌, arith, lt-ltb, le-ltb, IfOk, IsOk, flat_map, reserved_from, place_in, IsOctets, subgroup_fields, reserved_in, IsOctets-rest, number-length, reserved_found, OpFault, Length, Rfu, AddSource, ModifySource, Operation, Add, Modify, Wish, fields, wishes_of, judged, answered, first_fault, add_reserved, told, Finds, twice_of}
 use Rattle.bass_operations.specs.Reading.{wishes_in, add_head_in, modify_head_in, add_in, modify_in}
 use Rattle.bass_operations.specs.Scanning.{twice_in}
 use Rattle.bass_operations.specs.Twice.{twice_from}
@@ -14,12 +14,10 @@ or_place (Some place) other = Some place
 or_place None other = other
 
 some_wishes : (read : Option (List Wish)) → is_some read ≡ true → (wishes : List Wish) × (read ≡ Some wishes)
-some_wishes (Some wishes) e = (wishes, refl)
-some_wishes None e = absurd cc
+some_wishes read e = grind arith
 
 no_wishes : (read : Option (List Wish)) → is_some read ≡ false → read ≡ None
-no_wishes (Some wishes) e = absurd cc
-no_wishes None e = refl
+no_wishes read e = grind arith
 
 -- ---- what follows of the first fault
 
@@ -29,13 +27,7 @@ head_fault read op head others twice place e h = e ∙ ap (λ (p : Option ℕ). 
 
 fails : (read : Result Operation OpFault) (op : Operation) (others twice : Option ℕ) (fault : OpFault) → read ≡ answered op (first_fault others twice) → Some fault ≡ first_fault others twice
     → Finds (told fault) read
-fails read op (Some place) twice fault e f =
-    let same : Rfu place ≡ fault = cc in
-    subst (λ (x : OpFault). Finds (told x) read) same e
-fails read op None (Some bis) fault e f =
-    let same : BisTwice bis ≡ fault = cc in
-    subst (λ (x : OpFault). Finds (told x) read) same e
-fails read op None None fault e f = absurd cc
+fails read op others twice fault e f = grind (arith, told)
 
 behind_head : (read : Result Operation OpFault) (op : Operation) (head others twice : Option ℕ) → read ≡ answered op (first_fault (or_place head others) twice) → head ≡ None
     → read ≡ answered op (first_fault others twice)
@@ -50,8 +42,7 @@ no_fault_left : (read : Result Operation OpFault) (op : Operation) (head others 
 no_fault_left read op head others twice e h f = behind_head read op head others twice e h ∙ ap (answered op) (sym f)
 
 is_ok : (read : Result Operation OpFault) (op : Operation) → read ≡ Ok op → IsOk read
-is_ok (Ok read) op e = refl
-is_ok (Err fault) op e = absurd cc
+is_ok read op e = grind arith
 
 an_operation : (read : Result Operation OpFault) (op : Operation) (head others twice : Option ℕ) → read ≡ answered op (first_fault (or_place head others) twice) → head ≡ None
     → None ≡ first_fault others twice → IsOk read
@@ -72,8 +63,7 @@ wishes_place from place count tail wishes h len e =
     let g = groups_of_wishes count tail wishes e in
     let there : place_in from tail ≡ place = omega arith in
     let found = reserved_found from count tail (g.0, []) h (omega arith) g.1 in
-    sym (found ∙ (ap (λ (p : ℕ). reserved_from p (flat_map subgroup_fields g.0)) there
-    ∙ (ap (reserved_from place) (sym (fields_same g.0)) ∙ ap (λ (ws : List Wish). reserved_from place (flat_map wish_fields ws)) g.2)))
+    sym (grind (arith, reserved_from, flat_map, subgroup_fields, fields_same, wish_fields))
 
 wishes_twice : (count : ℕ) (tail : List ℕ) (wishes : List Wish) → wishes_in count tail ≡ Some wishes → twice_of wishes ≡ twice_in 31 1 count tail
 wishes_twice count tail wishes e =
@@ -83,18 +73,14 @@ wishes_twice count tail wishes e =
 -- ---- Add Source
 
 three : (a b c : Bool) (others : Option ℕ) → cond a (Some 1) (cond b (Some 8) (cond c (Some 12) others)) ≡ or_place (cond a (Some 1) (cond b (Some 8) (cond c (Some 12) None))) others
-three true b c others = refl
-three false true c others = refl
-three false false true others = refl
-three false false false others = refl
+three a b c others = grind arith
 
 abbrev pub added : AddSource → List Wish → Operation
 added add wishes = Add (record add { wishes = wishes })
 
 add_places : (add : AddSource) (wishes : List Wish) → length add.address ≡ 6 → length add.broadcast_id ≡ 3
     → reserved_from 0 (fields (added add wishes)) ≡ or_place (add_reserved add) (reserved_from 16 (flat_map wish_fields wishes))
-add_places add wishes address id =
-    rw (address, id, number-length 2 add.pa_interval) (three (ltb 1 add.address_type) (ltb 15 add.sid) (ltb 2 add.pa_sync) (reserved_from 16 (flat_map wish_fields wishes)))
+add_places add wishes address id = grind (arith, number-length, three, ltb, reserved_from, flat_map, wish_fields)
 
 pub add_no_head : (rest : List ℕ) → add_head_in rest ≡ None → judged (add_in rest) ≡ Err Length
 unfolding add_in
@@ -125,9 +111,7 @@ add_judged from rest add count tail wishes h parts e w =
 add_judged_some : (from rest : List ℕ) (add : AddSource) (count : ℕ) (tail : List ℕ) → IsOctets from → from ≡ 2 ∷ rest → add_head_in rest ≡ Some (add, count, tail)
     → is_some (wishes_in count tail) ≡ true
     → (wishes : List Wish) × (judged (add_in rest) ≡ answered (added add wishes) (first_fault (or_place (add_reserved add) (reserved_in from count tail)) (twice_in 31 1 count tail)))
-add_judged_some from rest add count tail h parts e some =
-    let w = some_wishes (wishes_in count tail) some in
-    (w.0, add_judged from rest add count tail w.0 h parts e w.1)
+add_judged_some from rest add count tail h parts e some = grind (arith, some_wishes, add_judged)
 
 pub add_head_fault : (from rest : List ℕ) (add : AddSource) (count : ℕ) (tail : List ℕ) (place : ℕ) → IsOctets from → from ≡ 2 ∷ rest → add_head_in rest ≡ Some (add, count, tail)
     → is_some (wishes_in count tail) ≡ true → Some place ≡ add_reserved add → judged (add_in rest) ≡ Err (Rfu place)
@@ -172,8 +156,7 @@ abbrev pub modify_reserved : ModifySource → Option ℕ
 modify_reserved modify = cond (ltb 2 modify.pa_sync) (Some 2) None
 
 one : (a : Bool) (others : Option ℕ) → cond a (Some 2) others ≡ or_place (cond a (Some 2) None) others
-one true others = refl
-one false others = refl
+one a others = grind arith
 
 abbrev pub modified : ModifySource → List Wish → Operation
 modified modify wishes = Modify (record modify { wishes = wishes })
@@ -210,9 +193,7 @@ modify_judged from rest modify count tail wishes h parts e w =
 modify_judged_some : (from rest : List ℕ) (modify : ModifySource) (count : ℕ) (tail : List ℕ) → IsOctets from → from ≡ 3 ∷ rest → modify_head_in rest ≡ Some (modify, count, tail)
     → is_some (wishes_in count tail) ≡ true
     → (wishes : List Wish) × (judged (modify_in rest) ≡ answered (modified modify wishes) (first_fault (or_place (modify_reserved modify) (reserved_in from count tail)) (twice_in 31 1 count tail)))
-modify_judged_some from rest modify count tail h parts e some =
-    let w = some_wishes (wishes_in count tail) some in
-    (w.0, modify_judged from rest modify count tail w.0 h parts e w.1)
+modify_judged_some from rest modify count tail h parts e some = grind (arith, some_wishes, modify_judged)
 
 pub modify_head_fault : (from rest : List ℕ) (modify : ModifySource) (count : ℕ) (tail : List ℕ) (place : ℕ) → IsOctets from → from ≡ 3 ∷ rest
     → modify_head_in rest ≡ Some (modify, count, tail) → is_some (wishes_in count tail) ≡ true → Some place ≡ modify_reserved modify → judged (modify_in rest) ≡ Err (Rfu place)

@@ -18,10 +18,7 @@ one_more bis end wishes here above other from lt =
 
 step_found : (others bis found : ℕ) (wishes : List Wish) (b : Bool) → ltb 1 (times_named bis wishes) ≡ b → cond b (Some bis) (twice_from others (bis + 1) wishes) ≡ Some found
     → (twice_from others (bis + 1) wishes ≡ Some found → FirstFrom others (bis + 1) found wishes) → FirstFrom (suc others) bis found wishes
-step_found others bis found wishes true t e rest =
-    let same : bis ≡ found = cc in
-    let more : 1 < times_named bis wishes = ltb-true 1 (times_named bis wishes) t in
-    subst (λ (n : ℕ). FirstFrom (suc others) bis n wishes) same (omega arith, omega arith, more, λ other from lt. absurd (omega (arith, from, lt)))
+step_found others bis found wishes true t e rest = grind (arith, times_named, ltb-true)
 step_found others bis found wishes false t e rest =
     let r = rest e in
     let few : times_named bis wishes < 2 = omega (arith, ltb-false 1 (times_named bis wishes) t) in

@@ -17,22 +17,13 @@ pub check_wishes-requires : goal.check_wishes-requires
 check_wishes-requires c = add_tail c.args.from.now c.args.rest.now c.in-Some.add c.in-Some.count c.in-Some.subgroups.now (λ i. omega (arith, c.type_inv.from i)) c.requires c.in-Some.ensures
 
 pub returns-in_err-check_wishes-clause-exact : goal.returns-in_err-check_wishes-clause-exact
-returns-in_err-check_wishes-clause-exact c =
-    let p = err_from_is_err_and c.from_residual.result c.from_residual.ensures.1 in
-    rw (p.1, p.2) (add_wishes_fault c.args.from.now c.args.rest.now c.in-Some.add c.in-Some.count c.in-Some.subgroups.now c.in_err-check_wishes.field-0.0
-    (λ i. omega (arith, c.type_inv.from i)) c.requires c.in-Some.ensures (sym c.are_wishes.ensures ∙ c.if-not-are_wishes.false) c.in_default-reserved_in_add.ensures c.in_err-check_wishes.ensures)
+returns-in_err-check_wishes-clause-exact c = grind (arith, err_from_is_err_and, add_wishes_fault)
 
 pub returns-in_err-add-clause-exact : goal.returns-in_err-add-clause-exact
-returns-in_err-add-clause-exact c =
-    let p = err_from_is_err_and c.from_residual-in_err-add.result c.from_residual-in_err-add.ensures.1 in
-    rw (p.1, p.2) (add_is_operation c.args.from.now c.args.rest.now c.in-Some.add c.in-Some.count c.in-Some.subgroups.now (λ i. omega (arith, c.type_inv.from i)) c.requires c.in-Some.ensures
-    (sym c.are_wishes.ensures ∙ c.if-not-are_wishes.false) c.in_default-reserved_in_add.ensures c.in_ok-check_wishes.ensures)
+returns-in_err-add-clause-exact c = grind (arith, err_from_is_err_and, add_is_operation)
 
 pub returns-in_err-add-clause-memory : goal.returns-in_err-add-clause-memory
-returns-in_err-add-clause-memory c =
-    let p = err_from_is_err_and c.from_residual-in_err-add.result c.from_residual-in_err-add.ensures.1 in
-    rw (p.1, p.2) (add_wants c.args.from.now c.args.rest.now c.in-Some.add c.in-Some.count c.in-Some.subgroups.now (λ i. omega (arith, c.type_inv.from i)) c.requires c.in-Some.ensures
-    (sym c.are_wishes.ensures ∙ c.if-not-are_wishes.false) c.in_default-reserved_in_add.ensures c.in_ok-check_wishes.ensures c.in_err-add.ensures.memory)
+returns-in_err-add-clause-memory c = grind (arith, err_from_is_err_and, add_wants)
 
 pub returns-clause-exact : goal.returns-clause-exact
 returns-clause-exact c = add_done c.args.from.now c.args.rest.now c.in-Some.add c.in-Some.count c.in-Some.subgroups.now c.in_ok-add.field-0 (λ i. omega (arith, c.type_inv.from i)) c.requires
