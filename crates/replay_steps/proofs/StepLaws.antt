@@ -1,5 +1,5 @@
 -- Each step by its own clause.
-use Rattle.replay_steps.proofs.Prelude.{◌≡◌, ℕ, Bool, cond, true, List, [], ◌∷◌, ◌++◌, length, map, false, inl, inr, None, Some, Result, Ok, Err, refl, sym, ◌∙◌, ap, subst, append-nil, length-map, Account, airs_of, AfterEnd, Order, Step, Scenario, is_over, over, running, stage_of, unbegun, accounts_after, handed_by, handed_up, after_offers, closes_first, offers_at, with_relayed_units, output_of, is_relayed, line_refusal, phase_refusal, relayed_or, boxes_stay, Machine, Stop, Refused, OutletFault, Memory, Stands, BoxesStand, First, Quiet, Tells, Meets, StepMeets, phase_line}
+use Rattle.replay_steps.proofs.Prelude.{◌≡◌, ℕ, cond, List, [], ◌∷◌, ◌++◌, length, map, false, inl, inr, None, Some, Result, Ok, Err, refl, sym, ◌∙◌, ap, subst, append-nil, length-map, Account, airs_of, Step, Scenario, is_over, running, stage_of, unbegun, accounts_after, handed_by, handed_up, after_offers, closes_first, offers_at, with_relayed_units, output_of, is_relayed, line_refusal, phase_refusal, relayed_or, boxes_stay, Machine, Stop, Refused, OutletFault, Memory, Stands, BoxesStand, Quiet, Tells, Meets, StepMeets, phase_line}
 
 -- there are as many boxes as at the start
 pub boxes_count : (starts accounts : List Account) (steps : List Step) → BoxesStand starts steps accounts → length accounts ≡ length starts
@@ -100,32 +100,7 @@ meets_as starts steps made other new text told before after r is m =
 pub goes_on_in : (version : ℕ) (steps : List Step) → stage_of steps ≡ running version → is_over steps ≡ false
 goes_on_in version steps e = rw e refl
 
-pub not_begun : (steps : List Step) → stage_of steps ≡ unbegun → is_over steps ≡ false
-not_begun steps e = rw e refl
-
--- a reason before that of a relay stays
-after_end_stays : (relayed : Bool) → relayed_or relayed (Some AfterEnd) ≡ Some AfterEnd
-after_end_stays true = refl
-after_end_stays false = refl
-
-order_stays : (relayed : Bool) → relayed_or relayed (Some Order) ≡ Some Order
-order_stays true = refl
-order_stays false = refl
-
-pub refused_after_end : (starts : List Account) (version : ℕ) (steps : List Step) (made : Step) (new : Machine) (text : List ℕ) (accounts : List Account)
-    → Stands steps new → stage_of steps ≡ over version → StepMeets starts steps made new text text accounts accounts (Err (Refused AfterEnd))
-refused_after_end starts version steps made new text accounts stands e = (rw e (after_end_stays (is_relayed steps made)), stands, refl, refl)
-
--- the first step: only `scenario` is made
-pub first_meets : (starts : List Account) (steps : List Step) (made : Step) (new : Machine) (text : List ℕ) (accounts : List Account) (r : Result (Unit {0}) Stop)
-    → stage_of steps ≡ unbegun → First (length starts) steps made new r → StepMeets starts steps made new text text accounts accounts r
-first_meets starts steps (Scenario version) new text accounts (Ok x) e f = (rw e refl, f.1, sym (append-nil text), refl)
-first_meets starts steps made new text accounts (Ok x) e f = absurd f.0
-first_meets starts steps made new text accounts (Err (Refused reason)) e f = (
-  sym (goes_on (length starts) steps made (not_begun steps e)) ∙ ap (relayed_or (is_relayed steps made)) f.1 ∙ order_stays (is_relayed steps made) ∙ ap Some (sym f.0),
-  f.2,
-  refl,
-  refl,
-)
-first_meets starts steps made new text accounts (Err OutletFault) e f = absurd f
-first_meets starts steps made new text accounts (Err Memory) e f = inl refl
+-- the first step
+pub begins : (starts : List Account) (version : ℕ) (steps : List Step) (new : Machine) (text : List ℕ) (accounts : List Account) → stage_of steps ≡ unbegun
+    → Stands (Scenario version ∷ steps) new → StepMeets starts steps (Scenario version) new text text accounts accounts (Ok tt)
+begins starts version steps new text accounts e stands = (rw e refl, stands, sym (append-nil text), refl)

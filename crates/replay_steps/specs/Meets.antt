@@ -3,9 +3,7 @@ use Rattle.std.specs.Prelude.{ℕ, ◌≡◌, ◌≤◌, ◌⊎◌, List, ◌∷
 use Rattle.unit_outlets.specs.Account.{Account}
 use Rattle.source_machine.specs.Airs.{airs_of, Airs}
 use Rattle.transcript_text.specs.declared.refusal.Refusal.{Refusal}
-use Rattle.transcript_text.specs.declared.refusal.Refusal.TheVariants.{Order}
 use Rattle.scenario_text.specs.declared.step.Step.{Step}
-use Rattle.scenario_text.specs.declared.step.Step.TheVariants.{Scenario}
 use Rattle.scenario_history.specs.Steps.{sinks_made}
 use Rattle.scenario_history.specs.Boxes.{SinkUnit, accounts_after, handed_up, handed_by}
 use Rattle.scenario_history.specs.Output.{output_of}
@@ -28,18 +26,6 @@ Quiet boxes steps next new (Ok _) = (phase_line airs_of boxes steps next ≡ Non
 Quiet boxes steps next new (Err (Refused reason)) = (phase_line airs_of boxes steps next ≡ Some reason) × Stands steps new
 Quiet boxes steps next new (Err OutletFault) = ⊥
 Quiet boxes steps next new (Err Memory) = Unit {0}
-
--- the step is `scenario`
-abbrev pub IsScenario : Step → Type 0
-IsScenario (Scenario version) = Unit {0}
-IsScenario _ = ⊥
-
--- the first step of a scenario
-abbrev pub First : ℕ → List Step → Step → Machine → Result (Unit {0}) Stop → Type 0
-First boxes steps next new (Ok _) = IsScenario next × Stands (next ∷ steps) new
-First boxes steps next new (Err (Refused reason)) = (reason ≡ Order) × (phase_refusal airs_of boxes steps next ≡ Some Order) × Stands steps new
-First boxes steps next new (Err OutletFault) = ⊥
-First boxes steps next new (Err Memory) = Unit {0}
 
 -- the boxes are as these steps leave them, by what they were at the start
 pub record BoxesStand (starts : List Account) (steps : List Step) (accounts : List Account) : Type 0 where

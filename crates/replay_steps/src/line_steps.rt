@@ -10,7 +10,7 @@ ghost use Rattle.sink_history.specs.History.{named_by};
 ghost use Rattle.scenario_sink.specs.Origins.{IsFrom};
 ghost use Rattle.scenario_sink.specs.SinkLines.{IsSinkLine};
 ghost use Rattle.replay_steps.specs.Machines.{Stands};
-ghost use Rattle.replay_steps.specs.Meets.{Tells};
+ghost use Rattle.replay_steps.specs.Meets.{Meets, Tells};
 
 use crate::machine::Machine;
 use bcast_base::Octets;
@@ -33,13 +33,13 @@ impl Machine {
 
     /// A line of the control or of the links of a sink.
     #[inline(never)]
-    pub(crate) fn sink_line(&mut self, sink: u8, step: Step, text: &mut Octets) -> Result<(), Stop>
-        requires sink { sink ≤ 7 }
+    pub(crate) fn sink_line(&mut self, step: Step, text: &mut Octets) -> Result<(), Stop>
         requires range { IsInRange step }
         requires line { IsSinkLine step }
-        ensures { (starts : List Account) (version : ℕ) (steps : List Said) → Stands steps self.old → stage_of steps ≡ running version
-            → named_by step ≡ Some sink → Tells starts steps step self.new text.old text.new result }
+        ensures { (starts accounts : List Account) (version : ℕ) (steps : List Said) → Stands steps self.old → stage_of steps ≡ running version
+            → Meets starts steps step self.new text.old text.new accounts accounts result }
     {
+        let sink = sink_of(&step);
         let origin = self.origin();
         self.sinks.line(sink, step, origin, text)
     }
@@ -63,5 +63,64 @@ impl Machine {
         };
         let origin = self.origin();
         self.sinks.announce(sink, origin, &train, text)
+    }
+}
+
+/// The sink that a line of the control or of the links of a sink names.
+fn sink_of(step: &Step) -> u8
+    requires range { IsInRange step.now }
+    requires line { IsSinkLine step.now }
+    ensures sink { result ≤ 7 }
+    ensures named { named_by step.now ≡ Some result }
+{
+    match step {
+        Step::Pac { sink, .. }
+        | Step::Locate { sink, .. }
+        | Step::Context { sink, .. }
+        | Step::Train { sink, .. }
+        | Step::Write { sink, .. }
+        | Step::Add { sink, .. }
+        | Step::Modify { sink, .. }
+        | Step::Remove { sink, .. }
+        | Step::Code { sink, .. }
+        | Step::Serve { sink, .. }
+        | Step::Tell { sink, .. }
+        | Step::Read { sink, .. }
+        | Step::Drain { sink, .. }
+        | Step::Show { sink, .. }
+        | Step::Lose { sink, .. }
+        | Step::Control { sink, .. }
+        | Step::Forge { sink, .. }
+        | Step::Assist { sink, .. }
+        | Step::Apart { sink, .. }
+        | Step::AWrite { sink, .. }
+        | Step::AServe { sink, .. }
+        | Step::ATell { sink, .. }
+        | Step::ARead { sink, .. }
+        | Step::ADrain { sink, .. }
+        | Step::AShow { sink, .. } => *sink,
+        Step::Scenario { .. }
+        | Step::Group { .. }
+        | Step::Ident { .. }
+        | Step::Subgroup { .. }
+        | Step::Meta { .. }
+        | Step::Bis { .. }
+        | Step::Cipher { .. }
+        | Step::Start { .. }
+        | Step::Sink { .. }
+        | Step::Tuned { .. }
+        | Step::Unit { .. }
+        | Step::Event
+        | Step::Hear { .. }
+        | Step::Air { .. }
+        | Step::Inject { .. }
+        | Step::Sniff { .. }
+        | Step::Announce { .. }
+        | Step::Drop { .. }
+        | Step::Terminate { .. }
+        | Step::Stop
+        | Step::End
+        | Step::Source { .. }
+        | Step::Relay { .. } => unreachable!(),
     }
 }

@@ -3,12 +3,14 @@ ghost use Rattle.std.specs.Prelude.{◌≡◌, ℕ, List, map};
 ghost use Rattle.unit_outlets.specs.Account.{Account};
 ghost use Rattle.scenario_text.specs.Ranges.{IsInRange};
 ghost use Rattle.scenario_text.specs.declared.step.Step.{Step as Said};
-ghost use Rattle.scenario_history.specs.Steps.{running, stage_of, unbegun};
+ghost use Rattle.scenario_history.specs.Steps.{running, stage_of};
 ghost use Rattle.replay_steps.specs.Machines.{Stands};
-ghost use Rattle.replay_steps.specs.Meets.{BoxesStand, First, Meets, StepMeets};
+ghost use Rattle.replay_steps.specs.Meets.{BoxesStand, Meets, StepMeets};
 ghost use Rattle.replay_steps.specs.Rare.{IsRare};
 ghost use Rattle.replay_steps.specs.Unassigned.{UnassignedSame};
 ghost use Rattle.replay_steps.specs.Versions.{number_of};
+ghost use Rattle.replay_steps.specs.declared.version.Stage.TheVariants.{Running};
+ghost use Rattle.replay_steps.specs.declared.version.Version.{Version as Edition};
 
 use crate::machine::Machine;
 use crate::version::{Stage, Version};
@@ -59,31 +61,31 @@ impl Machine {
             ),
             Step::Air { sink, lose } => self.air(sink, lose),
             Step::Announce { sink } => self.announce(sink, text),
-            Step::Pac { sink, .. }
-            | Step::Locate { sink, .. }
-            | Step::Context { sink, .. }
-            | Step::Train { sink, .. }
-            | Step::Write { sink, .. }
-            | Step::Add { sink, .. }
-            | Step::Modify { sink, .. }
-            | Step::Remove { sink, .. }
-            | Step::Code { sink, .. }
-            | Step::Serve { sink, .. }
-            | Step::Tell { sink, .. }
-            | Step::Read { sink, .. }
-            | Step::Drain { sink, .. }
-            | Step::Show { sink, .. }
-            | Step::Lose { sink, .. }
-            | Step::Control { sink, .. }
-            | Step::Forge { sink, .. }
-            | Step::Assist { sink, .. }
-            | Step::Apart { sink, .. }
-            | Step::AWrite { sink, .. }
-            | Step::AServe { sink, .. }
-            | Step::ATell { sink, .. }
-            | Step::ARead { sink, .. }
-            | Step::ADrain { sink, .. }
-            | Step::AShow { sink, .. } => self.sink_line(sink, step, text),
+            Step::Pac { .. }
+            | Step::Locate { .. }
+            | Step::Context { .. }
+            | Step::Train { .. }
+            | Step::Write { .. }
+            | Step::Add { .. }
+            | Step::Modify { .. }
+            | Step::Remove { .. }
+            | Step::Code { .. }
+            | Step::Serve { .. }
+            | Step::Tell { .. }
+            | Step::Read { .. }
+            | Step::Drain { .. }
+            | Step::Show { .. }
+            | Step::Lose { .. }
+            | Step::Control { .. }
+            | Step::Forge { .. }
+            | Step::Assist { .. }
+            | Step::Apart { .. }
+            | Step::AWrite { .. }
+            | Step::AServe { .. }
+            | Step::ATell { .. }
+            | Step::ARead { .. }
+            | Step::ADrain { .. }
+            | Step::AShow { .. } => self.sink_line(step, text),
             Step::Scenario { .. }
             | Step::Group { .. }
             | Step::Ident { .. }
@@ -220,7 +222,36 @@ impl Machine {
             Step::End => self.end(version, outlets, text),
             Step::Source { source } => self.choose(source),
             Step::Relay { sink, bis, to } => self.relay(sink, bis, to),
-            _ => unreachable!(),
+            Step::Unit { .. }
+            | Step::Event
+            | Step::Hear { .. }
+            | Step::Air { .. }
+            | Step::Announce { .. }
+            | Step::Pac { .. }
+            | Step::Locate { .. }
+            | Step::Context { .. }
+            | Step::Train { .. }
+            | Step::Write { .. }
+            | Step::Add { .. }
+            | Step::Modify { .. }
+            | Step::Remove { .. }
+            | Step::Code { .. }
+            | Step::Serve { .. }
+            | Step::Tell { .. }
+            | Step::Read { .. }
+            | Step::Drain { .. }
+            | Step::Show { .. }
+            | Step::Lose { .. }
+            | Step::Control { .. }
+            | Step::Forge { .. }
+            | Step::Assist { .. }
+            | Step::Apart { .. }
+            | Step::AWrite { .. }
+            | Step::AServe { .. }
+            | Step::ATell { .. }
+            | Step::ARead { .. }
+            | Step::ADrain { .. }
+            | Step::AShow { .. } => unreachable!(),
         }
     }
 
@@ -240,23 +271,29 @@ impl Machine {
         ensures unassigned { (steps : List Said) → Stands steps self.old → UnassignedSame steps outlets.old.items outlets.new.items }
     {
         match self.stage {
-            Stage::Over(_) => Err(Stop::Refused(Refusal::AfterEnd)),
             Stage::Running(version) => self.later_step(version, step, outlets, text),
-            Stage::Unbegun => self.first_step(step),
+            _ => self.begin(&step),
         }
     }
 
-    /// Makes the first step. It stands in its caller, so that no step is copied for a call.
+    /// Makes the first step, and refuses each other one there, and each that follows `end`.
     #[inline(always)]
-    fn first_step(&mut self, step: Step) -> Result<(), Stop>
-        requires { IsInRange step }
-        ensures { (boxes : ℕ) (steps : List Said) → Stands steps self.old → stage_of steps ≡ unbegun
-            → First boxes steps step self.new result }
+    fn begin(&mut self, step: &Step) -> Result<(), Stop>
+        requires range { IsInRange step.now }
+        requires still { (version : Edition) → self.old.stage ≡ Running version → ⊥ }
+        ensures { (starts accounts : List Account) (steps : List Said) (said : List ℕ) → Stands steps self.old
+            → StepMeets starts steps step.now self.new said said accounts accounts result }
     {
-        let Step::Scenario { version } = step else {
-            return Err(Stop::Refused(Refusal::Order));
-        };
-        self.stage = Stage::Running(Version::of(version));
-        Ok(())
+        match self.stage {
+            Stage::Unbegun => match step {
+                Step::Scenario { version } => {
+                    self.stage = Stage::Running(Version::of(*version));
+                    Ok(())
+                }
+                _ => Err(Stop::Refused(Refusal::Order)),
+            },
+            Stage::Over(_) => Err(Stop::Refused(Refusal::AfterEnd)),
+            Stage::Running(_) => unreachable!(),
+        }
     }
 }

@@ -5,14 +5,14 @@ ghost use Rattle.scenario_history.specs.Source.{is_ahead_in};
 use big_info::Limits;
 
 /// The version of a scenario.
-#[derive(Clone, Copy, Debug, PartialEq, Eq)]
+#[derive(Clone, Copy)]
 pub(crate) enum Version {
     One,
     Two,
 }
 
 /// Where a scenario stands: before its first step, under way in a version, or behind `end`.
-#[derive(Clone, Copy, Debug, PartialEq, Eq)]
+#[derive(Clone, Copy)]
 pub(crate) enum Stage {
     Unbegun,
     Running(Version),

@@ -1,7 +1,6 @@
-use Rattle.replay_steps.proofs.Prelude.{◌≡◌, Some, refl, sym, ◌∙◌, ap, subst, length, arith, Step, named_by, IsSinkLine, Machine, number_of}
+use Rattle.replay_steps.proofs.Prelude.{◌≡◌, refl, sym, ◌∙◌, ap, length, arith, Step, Machine, number_of}
 use Rattle.std.proofs.lemmas.Grind.{common_steps}
 use Rattle.scenario_text.specs.declared.step.Step.TheVariants.{Unit as UnitStep}
-use Rattle.replay_steps.proofs.SinkLines.{closes_none_by, gives_none_by, nothing_handed_by}
 use Rattle.replay_steps.proofs.StepLaws.{quiet_as, quiet_beside, tells_as, meets_as}
 use Rattle.replay_steps.proofs.machine.Machine.later_step.Goals as goal
 
@@ -42,18 +41,10 @@ returns-in-Announce-clause-meets g c starts steps stands e boxes =
     (c.announce.ensures starts (number_of c.args.version) steps stands e)
 
 pub sink_line-requires-clause-line : goal.sink_line-requires-clause-line
-sink_line-requires-clause-line g c =
-    let is_line : IsSinkLine c.args.step = grind (arith, common_steps) in
-    subst IsSinkLine (sym c.in-Pac.step-is) is_line
+sink_line-requires-clause-line g c = grind (arith, common_steps)
 
 pub returns-in-Pac-clause-meets : goal.returns-in-Pac-clause-meets
-returns-in-Pac-clause-meets g c starts steps stands e boxes =
-    let is_line : IsSinkLine c.args.step = grind (arith, common_steps) in
-    let names : named_by c.args.step ≡ Some c.in-Pac.sink = grind (arith, common_steps) in
-    let line : IsSinkLine c.in-Pac.step = subst IsSinkLine (sym c.in-Pac.step-is) is_line in
-    let named : named_by c.in-Pac.step ≡ Some c.in-Pac.sink = ap named_by c.in-Pac.step-is ∙ names in
-    tells_as starts steps c.args.step c.in-Pac.step c.sink_line.new.self c.args.text.now c.sink_line.new.text _ c.sink_line.result (sym c.in-Pac.step-is)
-    (nothing_handed_by steps c.in-Pac.step line) (closes_none_by steps c.in-Pac.step line) (gives_none_by steps c.in-Pac.step line) (c.sink_line.ensures starts (number_of c.args.version) steps stands e named)
+returns-in-Pac-clause-meets g c starts steps stands e boxes = c.sink_line.ensures starts _ (number_of c.args.version) steps stands e
 
 pub rare_step-requires-clause-rare : goal.rare_step-requires-clause-rare
 rare_step-requires-clause-rare g c = grind (arith, common_steps)

@@ -1,4 +1,5 @@
-use Rattle.replay_steps.proofs.Prelude.{refl, sym, ◌∙◌, ap, length, number_of}
+use Rattle.replay_steps.proofs.Prelude.{refl, sym, ◌∙◌, ap, arith, length, number_of}
+use Rattle.std.proofs.lemmas.Grind.{common_steps}
 use Rattle.scenario_text.specs.declared.step.Step.TheVariants.{Bis as BisStep, Inject as InjectStep, Meta as MetaStep, Subgroup as SubgroupStep}
 use Rattle.replay_steps.proofs.StepLaws.{boxes_counted, quiet_as, tells_as, meets_as}
 use Rattle.replay_steps.proofs.machine.Machine.rare_step.Goals as goal
@@ -79,3 +80,6 @@ pub returns-in-Terminate-clause-meets : goal.returns-in-Terminate-clause-meets
 returns-in-Terminate-clause-meets g c starts steps stands e boxes =
     meets_as starts steps c.args.step _ c.terminate.new.self c.args.text.now c.terminate.new.text _ _ c.terminate.result c.in-Terminate.is (c.terminate.ensures.meets starts (number_of
     c.args.version) steps stands e)
+
+pub unreachable-requires : goal.unreachable-requires
+unreachable-requires g c = grind (arith, common_steps)
