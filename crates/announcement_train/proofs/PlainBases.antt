@@ -1,7 +1,7 @@
 -- The plain BASE has an encoding, and takes each index once.
-use Rattle.std.proofs.Common.{ℕ, zero, suc, ◌≡◌, ◌+◌, ◌*◌, ◌≤◌, ◌<◌, ◌||◌, true, false, eqb, ltb, cond, List, []}
-use Rattle.std.proofs.Common.{◌∷◌, ◌++◌, map, length, Option, Result, Err, Some, None, refl, sym, ap, ◌∙◌, subst, arith, length-append}
-use Rattle.std.specs.List.{flat_map, list_any, range_with_len}
+use Rattle.std.proofs.Common.{ℕ, zero, suc, ◌≡◌, ◌+◌, ◌*◌, ◌≤◌, ◌||◌, false, eqb, ltb, []}
+use Rattle.std.proofs.Common.{◌∷◌, ◌++◌, map, length, Option, Err, Some, None, refl, sym, ap, ◌∙◌, subst, arith, length-append}
+use Rattle.std.specs.List.{flat_map, range_with_len}
 use Rattle.std.proofs.lemmas.Bool.{cond-false, le-ltb, ne_eqb}
 use Rattle.std.proofs.lemmas.List.{append-nil}
 use Rattle.bcast_base.specs.Encoding.{number}
@@ -10,7 +10,6 @@ use Rattle.base_grammar.specs.Layout.{Endpoint, endpoint, lc3, bis_of, entry, in
 use Rattle.base_grammar.specs.Draft.{Refuses, entry_fault, finish_fault, size_fault, with_entry}
 use Rattle.base_grammar.specs.declared.fault.DraftFault.{DraftFault}
 use Rattle.base_grammar.specs.declared.fault.DraftFault.TheVariants.{IndexTwice, Memory, NoBis, TooLong}
-use Rattle.base_grammar.specs.declared.subgroup.BaseEntry.{BaseEntry}
 use Rattle.announcement_train.specs.PlainBase.{plain_entry, plain_entries, plain_subgroup, plain_base_of}
 
 -- one more entry

@@ -67,10 +67,11 @@ fn service_list(alloc: Global, uuid: u16, content: &[u8]) -> Result<Octets, Memo
     requires { length content.now ≤ 252 }
     ensures { IfOk result (λ octets. octets ≡ structure (service_ad uuid content.now)) }
 {
-    let mut value = Octets::of(Vec::with_capacity(alloc, content.len() + 2)?);
-    put_number(&mut value, u64::from(uuid), 2)?;
-    value.append(content)?;
-    one_structure(alloc, SERVICE_DATA, value.as_slice())
+    let mut octets = Octets::of(Vec::with_capacity(alloc, content.len() + 4)?);
+    octets.append(&[content.len() as u8 + 3, SERVICE_DATA])?;
+    put_number(&mut octets, u64::from(uuid), 2)?;
+    octets.append(content)?;
+    Ok(octets)
 }
 
 /// An AD list of one structure: the BIGInfo that announces this event.

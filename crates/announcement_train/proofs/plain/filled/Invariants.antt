@@ -1,4 +1,4 @@
-use Rattle.std.proofs.Common.{◌≡◌, ◌≤◌}
+use Rattle.std.proofs.Common.{◌≡◌}
 use Rattle.announcement_train.specs.PlainBase.{plain_base_of}
 use Rattle.announcement_train.proofs.plain.filled.Given as goal
 

@@ -1,14 +1,19 @@
-use Rattle.std.proofs.Common.{◌++◌, ap, length, arith, ◌∙◌, length-append}
+use Rattle.std.proofs.Common.{◌≡◌, ◌+◌, ◌++◌, ◌∷◌, ℕ, List, [], ap, length, arith, ◌∙◌, length-append}
 use Rattle.bcast_base.specs.Encoding.{number}
 use Rattle.bcast_base.proofs.Citable.{number-length}
+use Rattle.ltv_codec.specs.Layout.{structure}
+use Rattle.announcement_train.specs.Layout.{service_ad}
 use Rattle.announcement_train.proofs.train.service_list.Goals as goal
 
-pub one_structure-requires : goal.one_structure-requires
-one_structure-requires c = omega (
-  arith,
-  c.requires,
-  ap length (c.as_slice.ensures ∙ c.in_ok-append.ensures.ok),
-  length-append c.put_number.new.out c.args.content.now,
-  ap length (c.in_ok-put_number.ensures.ok ∙ ap (λ octets. octets ++ number 2 c.from.result) (c.of-value.ensures ∙ c.in_ok-with_capacity.ensures.items)),
-  number-length 2 c.from.result,
-)
+laid : (uuid : ℕ) (content : List ℕ) → (length content + 3) ∷ 22 ∷ (number 2 uuid ++ content) ≡ structure (service_ad uuid content)
+laid uuid content =
+    ap (λ (long : ℕ). long ∷ 22 ∷ (number 2 uuid ++ content)) (omega (arith, length-append (number 2 uuid) content, number-length 2 uuid))
+
+pub returns : goal.returns
+returns c =
+    let content = c.args.content.now in
+    let first : c.append.new.self ≡ (length content + 3) ∷ 22 ∷ [] =
+    c.in_ok-append.ensures.ok ∙ ap (λ (octets : List ℕ). octets ++ (length content + 3) ∷ 22 ∷ []) (c.of-octets.ensures ∙ c.in_ok-with_capacity.ensures.items) in
+    let second : c.put_number.new.out ≡ (length content + 3) ∷ 22 ∷ number 2 c.from.result =
+    c.in_ok-put_number.ensures.ok ∙ ap (λ (octets : List ℕ). octets ++ number 2 c.from.result) first in
+    c.in_ok-append-2.ensures.ok ∙ (ap (λ (octets : List ℕ). octets ++ content) second ∙ (laid c.from.result content ∙ ap (λ (uuid : ℕ). structure (service_ad uuid content)) c.from.ensures))
