@@ -1,5 +1,5 @@
 -- A word of digits without a leading zero is the decimal of its value, and no other word is a decimal.
-use Rattle.scenario_words.proofs.Prelude.{◌≡◌, ◌≤◌, ◌<◌, ℕ, zero, suc, ◌+◌, ◌-◌, ◌*◌, ◌^◌, List, length, get_or, take, ap, sym, subst, ◌∙◌, arith, inl, inr, decimal, IsInRange, digits_value, decimal_nonempty, decimal_digit, first_decimal, digits_decimal, digits_value-decimal, decimal-digits_value, take_all, cases_lt}
+use Rattle.scenario_words.proofs.Prelude.{◌≡◌, ◌≤◌, ◌<◌, ℕ, ◌+◌, ◌-◌, ◌*◌, ◌^◌, List, length, get_or, take, ap, sym, ◌∙◌, arith, decimal, IsInRange, digits_value, decimal_nonempty, decimal_digit, first_decimal, digits_decimal, digits_value-decimal, decimal-digits_value, take_all, cases_lt}
 use Rattle.std.proofs.lemmas.Str.{digit_value_digit}
 use Rattle.std.proofs.lemmas.Str.Parse.{IsNumeralModel, numerals_by_value, tells_by_index, digits_value-take-le}
 use Rattle.std.proofs.lemmas.Int.Digits.{digits_value_more}
@@ -14,39 +14,23 @@ pub no_decimal_is_empty : (word : List ℕ) (n : ℕ) → length word ≡ 0 → 
 no_decimal_is_empty word n none small e = omega (arith, decimal_nonempty n small, ap length e)
 
 pub no_leading_zero : (word : List ℕ) (n : ℕ) → 1 < length word → get_or word 0 0 ≡ 48 → n < 2 ^ 64 → word ≡ decimal n → ⊥
-no_leading_zero word zero long first small e = omega (arith, ap length (e ∙ decimal_digit 0 (omega arith)))
-no_leading_zero word (suc n) long first small e =
-    let least = first_decimal (suc n) (omega arith) small in
-    let same : get_or word 0 0 ≡ get_or (decimal (suc n)) 0 0 = ap (λ (w : List ℕ). get_or w 0 0) e in
-    omega arith
+no_leading_zero word n long first small e = grind (arith, length, decimal_digit, first_decimal, get_or, decimal)
 
 pub more_value : (word : List ℕ) (i value : ℕ) → i < length word → value ≡ digits_value 10 (take i word) → IsInRange 48 57 (get_or word i 0)
     → value * 10 + (get_or word i 0 - 48) ≡ digits_value 10 (take (i + 1) word)
-more_value word i value inside is digit =
-    let more = digits_value_more 10 word i inside in
-    let d = digit_value_digit (get_or word i 0) digit in
-    omega arith
+more_value word i value inside is digit = grind (arith, digits_value_more, digit_value_digit, get_or)
 
 -- where the octet at i is no digit, or the number passes 64 bits, the word is no decimal
 pub no_further : (word : List ℕ) (i value n : ℕ) → i < length word → value ≡ digits_value 10 (take i word)
     → ((48 ≤ get_or word i 0) × (get_or word i 0 ≤ 57) × (value * 10 + (get_or word i 0 - 48) < 2 ^ 64) → ⊥)
     → n < 2 ^ 64 → word ≡ decimal n → ⊥
 no_further word i value n inside is fails small e =
-    let digits : AreDigits word = subst (λ (w : List ℕ). AreDigits w) (sym e) (digits_decimal own n small) in
-    let digit = digits i inside in
-    let whole : digits_value 10 word ≡ n = ap (λ (w : List ℕ). digits_value 10 w) e ∙ digits_value-decimal own n small in
-    let prefix = digits_value-take-le 10 word (i + 1) (omega arith) in
-    let more = more_value word i value inside is digit in
-    fails (digit.0, digit.1, omega arith)
+    grind (arith, digits_decimal, own, digits_value, digits_value-decimal, digits_value-take-le, more_value)
 
 pub is_decimal : (word : List ℕ) (i value : ℕ) → length word ≤ i → 0 < length word → ((1 < length word) × (get_or word 0 0 ≡ 48) → ⊥) → value < 2 ^ 64
     → value ≡ digits_value 10 (take i word) → ((k : ℕ) → k < i → IsInRange 48 57 (get_or word k 0)) → word ≡ decimal value
 is_decimal word i value all some leading small is digits =
     let whole : value ≡ digits_value 10 word = is ∙ ap (λ (w : List ℕ). digits_value 10 w) (take_all i word all) in
     let canonical : decimal (digits_value 10 word) ≡ word =
-    decimal-digits_value own word (λ k h. digits k (omega arith)) some (λ zero_first. elim (cases_lt 1 (length word)) [
-      | inl long ↦
-          absurd (leading (long, zero_first))
-      | inr short ↦ omega arith
-    ]) (omega arith) in
+    decimal-digits_value own word (λ k h. digits k (omega arith)) some (grind (arith, cases_lt, length)) (omega arith) in
     sym canonical ∙ ap decimal (sym whole)

@@ -11,21 +11,19 @@ pairs_of (a ∷ b ∷ rest) = (unwrap_or (hex_digit_value a) 0 * 16 + unwrap_or 
 
 reads : (i : ℕ) (word : List ℕ) → length word % 2 ≡ 0 → list_all is_hex_digit word ≡ true → decode_pairs i word ≡ Ok (pairs_of word)
 unfolding decode_pairs pairs_of
-reads i [] even all = refl
-reads i (digit ∷ []) even all = absurd cc
 reads i (a ∷ b ∷ rest) even all =
     let first = both_digits (is_hex_digit a) (list_all is_hex_digit (b ∷ rest)) all in
     let second = both_digits (is_hex_digit b) (list_all is_hex_digit rest) first.1 in
     decode_pairs-ok_pair i a b _ rest (pair_reads a b i first.0 second.0) ∙ ap (cons_byte _) (reads (i + 2) rest (omega (arith, even)) second.1)
+reads i word even all = search (both_digits, is_hex_digit, list_all, decode_pairs-ok_pair, pair_reads, cons_byte)
 
 spells : (word : List ℕ) → length word % 2 ≡ 0 → list_all is_hex_digit word ≡ true → decode_of word ≡ Ok (pairs_of word)
 spells word even all = decode_of-even word even ∙ reads 0 word even all
 
 pairs_split : (prefix back : List ℕ) → length prefix % 2 ≡ 0 → pairs_of (prefix ++ back) ≡ pairs_of prefix ++ pairs_of back
 unfolding pairs_of
-pairs_split [] back even = refl
-pairs_split (digit ∷ []) back even = absurd cc
 pairs_split (a ∷ b ∷ rest) back even = rw (pairs_split rest back (omega (arith, even))) refl
+pairs_split prefix back even = search
 
 -- these octets stand for the front of a word, and this is its rest
 pub record ReadTo (word octets rest : List ℕ) : Type 0 where
@@ -52,11 +50,9 @@ piece_read word octets rest piece left bytes new n before prefix back even_piece
     record {
       even = even_left;
       digits = rw back all.1;
-      so_far = rw (put, same) (append_assoc octets (pairs_of piece) (pairs_of left) ∙ ap (λ l. octets ++ l) (sym (pairs_split piece left even_piece))
-          ∙ ap (λ l. octets ++ pairs_of l) (sym whole) ∙ before.so_far);
+      so_far = grind (arith, append_assoc, pairs_split);
     }
 
 pub all_read : (word octets rest : List ℕ) → length rest ≡ 0 → length word % 2 ≡ 0 → list_all is_hex_digit word ≡ true → ReadTo word octets rest → decode_of word ≡ Ok octets
 unfolding pairs_of
-all_read word octets [] none even all read = spells word even all ∙ ap (λ l. Ok l) (sym read.so_far ∙ append-nil octets)
-all_read word octets (digit ∷ rest) none even all read = absurd (omega arith)
+all_read word octets rest none even all read = grind (arith, spells, append-nil)

@@ -1,11 +1,10 @@
 -- Pairs of digits that are tested first, and then read one by one.
-use Rattle.scenario_words.proofs.Prelude.{◌≡◌, ◌≤◌, ◌<◌, ◌+◌, ◌*◌, ◌/◌, ◌%◌, ◌&&◌, ℕ, suc, zero, Bool, true, false, List, [], ◌∷◌, Option, Some, None, Result, Ok, Err, take, drop, length, slice_index, slice_set, get_or, refl, sym, ap, ◌∙◌, arith, drop-drop, take_more, take_all, list_all-append, AllPass-from_list_all, list_all-from_AllPass, IsErr, is_some, list_all, unwrap_or, decode_of, digit_or_error, hex_digit_value, is_hex_digit, pair_value, FromHexError, decode_of-even, decode_of-ok, cons_byte, prepend, decode_done, decode_pairs-ok_pair, decode_step, drop-pair}
+use Rattle.scenario_words.proofs.Prelude.{◌≡◌, ◌≤◌, ◌<◌, ◌+◌, ◌*◌, ◌/◌, ◌%◌, ◌&&◌, ℕ, suc, zero, Bool, true, false, List, [], ◌∷◌, Option, Result, Ok, Err, take, drop, length, slice_index, slice_set, get_or, refl, sym, ap, ◌∙◌, arith, drop-drop, take_more, take_all, list_all-append, AllPass-from_list_all, list_all-from_AllPass, IsErr, is_some, list_all, unwrap_or, decode_of, digit_or_error, hex_digit_value, is_hex_digit, pair_value, FromHexError, decode_of-even, decode_of-ok, cons_byte, prepend, decode_done, decode_pairs-ok_pair, decode_step, drop-pair}
 use Rattle.std.specs.Simd.{first_chunks}
 use Rattle.hex.specs.Hex.{decode_pairs}
 
 and_true : (a b : Bool) → (a && b) ≡ (a && (b && true))
-and_true a true = refl
-and_true a false = refl
+and_true a b = grind arith
 
 pub one_digit_more : (word : List ℕ) (i : ℕ) (are is : Bool) → i < length word → is ≡ is_hex_digit (slice_index word i)
     → are ≡ list_all is_hex_digit (take i word) → (are && is) ≡ list_all is_hex_digit (take (i + 1) word)
@@ -57,8 +56,7 @@ pub is_digit_at : (word : List ℕ) (k : ℕ) → list_all is_hex_digit word ≡
 is_digit_at word k all within = AllPass-from_list_all is_hex_digit word all k 0 within
 
 read_of : (o : Option ℕ) (c i : ℕ) → is_some o ≡ true → digit_or_error c i o ≡ Ok (unwrap_or o 0)
-read_of (Some v) c i e = refl
-read_of None c i e = absurd (cc e)
+read_of o c i e = grind arith
 
 pub pair_reads : (a b i : ℕ) → is_hex_digit a ≡ true → is_hex_digit b ≡ true
     → pair_value a b i ≡ Ok (unwrap_or (hex_digit_value a) 0 * 16 + unwrap_or (hex_digit_value b) 0)
@@ -68,9 +66,7 @@ pub one_pair_more : (word octets : List ℕ) (i octet : ℕ) → list_all is_hex
     → octet ≡ unwrap_or (hex_digit_value (slice_index word (2 * i))) 0 * 16 + unwrap_or (hex_digit_value (slice_index word (2 * i + 1))) 0
     → decode_pairs 0 word ≡ prepend (take i octets) (decode_pairs (2 * i) (drop (2 * i) word))
     → decode_pairs 0 word ≡ prepend (take (i + 1) (slice_set octets i octet)) (decode_pairs (2 * (i + 1)) (drop (2 * (i + 1)) word))
-one_pair_more word octets i octet all more room e before =
-    let reads = pair_reads (slice_index word (2 * i)) (slice_index word (2 * i + 1)) (2 * i) (is_digit_at word (2 * i) all (omega arith)) (is_digit_at word (2 * i + 1) all more) in
-    decode_step word octets i octet more room (rw e reads) before
+one_pair_more word octets i octet all more room e before = grind (arith, pair_reads, slice_index, is_digit_at, decode_step)
 
 pub all_pairs : (word octets : List ℕ) (i : ℕ) → length word % 2 ≡ 0 → length octets ≤ i → length word ≤ 2 * i
     → decode_pairs 0 word ≡ prepend (take i octets) (decode_pairs (2 * i) (drop (2 * i) word)) → decode_of word ≡ Ok octets
@@ -82,8 +78,7 @@ byte_more : (octet i : ℕ) (rest : List ℕ) → ((octets : List ℕ) × (decod
 byte_more octet i rest read = (octet ∷ read.0, rw read.1 refl)
 
 pub both_digits : (a b : Bool) → (a && b) ≡ true → (a ≡ true) × (b ≡ true)
-both_digits true b e = (refl, e)
-both_digits false b e = absurd cc
+both_digits a b e = grind arith
 
 read_all : (i : ℕ) (word : List ℕ) → length word % 2 ≡ 0 → list_all is_hex_digit word ≡ true → (octets : List ℕ) × (decode_pairs i word ≡ Ok octets)
 unfolding decode_pairs

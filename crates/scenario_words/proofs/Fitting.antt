@@ -1,6 +1,6 @@
 -- How many words fit: those before the word that a fault names, or all that were read. Upper crates may cite `misfit`,
 -- `indices_stop`, `indices_all`, `pairs_stop` and `pairs_end`.
-use Rattle.scenario_words.proofs.Prelude.{◌≡◌, ◌≤◌, ◌<◌, ℕ, zero, suc, ◌+◌, true, List, [], ◌∷◌, ◌++◌, length, take, Option, None, Some, Result, Ok, Err, refl, ap, sym, subst, ◌∙◌, arith, Wish, LineFault, BadLine, WordPlace, between, octets_up_to, number_in_octets, one, ◌>>=◌, bind_ok, ok_is, Left, next_of, taken, word_in, with_stream, wish_of, SpellsWord}
+use Rattle.scenario_words.proofs.Prelude.{◌≡◌, ◌≤◌, ◌<◌, ℕ, zero, suc, ◌+◌, true, List, [], ◌∷◌, ◌++◌, length, take, Option, None, Some, Result, Ok, Err, refl, sym, ◌∙◌, arith, Wish, LineFault, BadLine, WordPlace, between, octets_up_to, number_in_octets, one, ◌>>=◌, bind_ok, ok_is, Left, next_of, taken, word_in, with_stream, wish_of, SpellsWord}
 use Rattle.scenario_words.specs.Reading.{decimal_in, octets_in, number_in, streams_of, wishes_of}
 use Rattle.scenario_words.specs.Fitting.{FitsWord, FitsIndices, FitsPairs}
 use Rattle.scenario_words.proofs.Spelling.{is_small, word_again, word_spelled}
@@ -47,26 +47,18 @@ indices_first least read k word words (Some n) is rest none =
     let spelled = word_spelled (between least 31) n word is in (
       suc it.0,
       omega (arith, it.1),
-      record {
-        within = omega (arith, it.2.within);
-        prefix = (n, spelled, it.2.prefix);
-        no_more = λ more fits. it.2.no_more (omega (arith, more)) (subst (λ (m : ℕ). FitsIndices (m + 1) (take (suc it.0) words)) (decimal_once least n fits.0 word is fits.1) fits.2);
-      },
+      grind (arith, take, decimal_once),
     )
 
 taken_none : {X Y : Type 0} (read k : ℕ) (words : List (List ℕ)) (found : Option X) (f : X × Left → Result Y LineFault) → (taken read words found >>= f) ≡ Err (BadLine k) → found ≡ None → k ≡ read
-taken_none read k words None f e none = cc
-taken_none read k words (Some x) f e none = absurd cc
+taken_none read k words found f e none = grind arith
 
 taken_some : {X Y : Type 0} (read : ℕ) (words : List (List ℕ)) (found : Option X) (f : X × Left → Result Y LineFault) (r : Result Y LineFault) (x : X)
-    → (taken read words found >>= f) ≡ r → found ≡ Some x
-    → f (x, left_of words (read + 1)) ≡ r
-taken_some read words None f r x e some = absurd cc
-taken_some read words (Some y) f r x e some = let same : y ≡ x = some_is y x some in ap (λ (z : _). f (z, left_of words (read + 1))) (sym same) ∙ e
+    → (taken read words found >>= f) ≡ r → found ≡ Some x → f (x, left_of words (read + 1)) ≡ r
+taken_some read words found f r x e some = grind (arith, some_is)
 
 taken_found : {X : Type 0} (read : ℕ) (words : List (List ℕ)) (found : Option X) (x : X × Left) → taken read words found ≡ Ok x → found ≡ Some x.0
-taken_found read words None x e = absurd cc
-taken_found read words (Some y) x e = ap (λ (p : _ × Left). Some p.0) (ok_is (y, left_of words (read + 1)) x e)
+taken_found read words found x e = grind (arith, ok_is)
 
 pub indices_stop : (words : List (List ℕ)) (set least read k : ℕ) → streams_of set least read words ≡ Err (BadLine k) → (j : ℕ) × (k ≡ read + j) × Stops (FitsIndices least) words j
 unfolding streams_of
@@ -81,9 +73,7 @@ indices_stop (word ∷ words) set least read k e =
 pub indices_all : (words : List (List ℕ)) (set least read last : ℕ) (left : Left) → streams_of set least read words ≡ Ok (last, left)
     → (left.read ≡ read + length words) × FitsIndices least words × (left.words ≡ [])
 unfolding streams_of
-indices_all [] set least read last left e =
-    let both = ok_is (set, left_of [] read) (last, left) e in
-    (sym (ap (λ (p : ℕ × Left). p.1.read) both) ∙ omega arith, tt, sym (ap (λ (p : ℕ × Left). p.1.words) both))
+indices_all [] set least read last left e = grind (arith, ok_is)
 indices_all (word ∷ words) set least read last left e =
     let t = bind_ok (taken read words (decimal_in least 31 word)) (λ n. streams_of (with_stream set n.0) (n.0 + 1) (read + 1) words) (last, left) e in
     let n = t.0.0 in
@@ -128,15 +118,9 @@ pair_stops : (before : List Wish) (more read k : ℕ) (word : List ℕ) (words :
     → ((metadata : List ℕ) (rest : List (List ℕ)) (wish : Wish) → words ≡ metadata ∷ rest → go_on before more (wish, left_of rest (read + 1 + 1)) ≡ Err (BadLine k)
     → (j : ℕ) × (k ≡ read + 1 + 1 + j) × Stops (FitsPairs more) rest j)
     → (j : ℕ) × (k ≡ read + j) × Stops (FitsPairs (suc more)) (word ∷ words) j
-pair_stops before more read k word words r (first_misfits misfits) e rest =
-    let same : read ≡ k = bad_is (List Wish × Left) read k e in
-    (0, omega arith, record { within = omega arith; prefix = tt; no_more = λ inside fits. misfits fits })
-pair_stops before more read k word words r (second_lacks fits none) e rest =
-    let same : read + 1 ≡ k = bad_is (List Wish × Left) (read + 1) k e in
-    rw none (1, omega arith, record { within = omega arith; prefix = fits; no_more = λ inside more_fits. absurd (omega (arith, inside)) })
-pair_stops before more read k word words r (second_misfits metadata others is fits misfits) e rest =
-    let same : read + 1 ≡ k = bad_is (List Wish × Left) (read + 1) k e in
-    rw is (1, omega arith, record { within = omega arith; prefix = fits; no_more = λ inside both. misfits both.1 })
+pair_stops before more read k word words r (first_misfits misfits) e rest = grind (arith, bad_is)
+pair_stops before more read k word words r (second_lacks fits none) e rest = grind (arith, bad_is)
+pair_stops before more read k word words r (second_misfits metadata others is fits misfits) e rest = grind (arith, bad_is)
 pair_stops before more read k word words r (both_fit metadata others wish is fits also) e rest =
     let it = rest metadata others wish is e in
     rw is (suc (suc it.0), omega (arith, it.1), record { within = omega (arith, it.2.within); prefix = (fits, also, it.2.prefix); no_more = λ inside all. it.2.no_more (omega (arith, inside)) all.2 })
@@ -163,10 +147,7 @@ pair_ends before all more read word words left r (both_fit metadata others wish 
     rw is (suc (suc it.0), omega (arith, it.1), record { within = omega (arith, it.2.within); prefix = (fits, also, it.2.prefix); no_more = λ inside all. it.2.no_more (omega (arith, inside)) all.2 })
 
 left_now : (before all : List Wish) (words : List (List ℕ)) (read : ℕ) (left : Left) → pairs_are before words read ≡ done (all, left) → (left.read ≡ read + 0)
-left_now before all words read left e =
-    let both = ok_is (before, left_of words read) (all, left) e in
-    let same : read ≡ left.read = ap (λ (p : List Wish × Left). p.1.read) both in
-    omega arith
+left_now before all words read left e = grind (arith, ok_is)
 
 pub pairs_end : (more : ℕ) (before : List Wish) (read : ℕ) (words : List (List ℕ)) (all : List Wish) (left : Left) → wishes_of before more read words ≡ Ok (all, left)
     → (j : ℕ) × (left.read ≡ read + j) × Stops (FitsPairs more) words j

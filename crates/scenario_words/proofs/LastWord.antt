@@ -1,11 +1,11 @@
 -- A line that spells octets is one word: no digit is a space.
-use Rattle.scenario_words.proofs.Prelude.{eqb-true, nat_eq, ◌≡◌, ◌+◌, ℕ, Bool, true, false, cond, List, [], ◌∷◌, Option, None, Some, Result, Ok, Err, refl, sym, Bor, list_all, bytes_eq, list_all-from_AllPass, bytes_eq-Decides, decode_of, is_hex_digit, FromHexError, decode_of-ok, SpellsNext, SpellsSome, next, within, words_after, words_of}
+use Rattle.std.proofs.Common.{arith}
+use Rattle.scenario_words.proofs.Prelude.{eqb-true, nat_eq, ◌≡◌, ◌+◌, ℕ, Bool, true, false, cond, List, [], ◌∷◌, Option, None, Some, Result, Ok, refl, sym, Bor, list_all, bytes_eq, list_all-from_AllPass, bytes_eq-Decides, decode_of, is_hex_digit, FromHexError, decode_of-ok, SpellsNext, SpellsSome, next, within, words_after, words_of}
 use Rattle.scenario_words.proofs.DigitPairs.{both_digits}
 use Rattle.scenario_words.specs.Reading.{octets_in}
 
 no_space_at : (octet : ℕ) (b : Bool) → nat_eq octet 32 ≡ b → is_hex_digit octet ≡ true → b ≡ false
-no_space_at octet true e digit = let space : octet ≡ 32 = eqb-true octet 32 e in absurd (cc (rw space at digit))
-no_space_at octet false e digit = refl
+no_space_at octet b e digit = grind (arith, eqb-true)
 
 digits_one : (line : List ℕ) → list_all is_hex_digit line ≡ true → words_of line ≡ line ∷ []
 digits_one [] all = refl
@@ -16,17 +16,14 @@ digits_one (x ∷ line) all =
     rw (other, rest) refl
 
 within_digits : (most : ℕ) (line octets : List ℕ) (read : Result (List ℕ) FromHexError) → decode_of line ≡ read → within most read ≡ Some octets → list_all is_hex_digit line ≡ true
-within_digits most line octets (Ok bytes) e some = list_all-from_AllPass is_hex_digit line (decode_of-ok line bytes e).1
-within_digits most line octets (Err fault) e some = absurd cc
+within_digits most line octets read e some = grind (arith, list_all-from_AllPass, is_hex_digit, decode_of-ok)
 
 chosen_one : (b : Bool) (most : ℕ) (line octets : List ℕ) → bytes_eq line (45 ∷ []) ≡ b → cond b (Some []) (within most (decode_of line)) ≡ Some octets → words_of line ≡ line ∷ []
-chosen_one true most line octets same e = rw ((bytes_eq-Decides line (45 ∷ [])).0 same) refl
-chosen_one false most line octets other e = digits_one line (within_digits most line octets (decode_of line) refl e)
+chosen_one b most line octets same e = grind (arith, bytes_eq-Decides, digits_one, within_digits, decode_of)
 
 one_word : (most : ℕ) (line octets : List ℕ) → octets_in most line ≡ Some octets → words_of line ≡ line ∷ []
 unfolding octets_in
-one_word most [] octets e = absurd cc
-one_word most (x ∷ line) octets e = chosen_one (bytes_eq (x ∷ line) (45 ∷ [])) most (x ∷ line) octets refl e
+one_word most line octets e = grind (arith, chosen_one, bytes_eq)
 
 -- all that is left of the line is the next word
 pub last_fits : (most read : ℕ) (rest : Option (Bor (List ℕ))) (line : Bor (List ℕ)) (octets : List ℕ) → rest ≡ Some line → Some octets ≡ octets_in most line.now

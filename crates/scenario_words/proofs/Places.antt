@@ -1,5 +1,5 @@
 -- A value has words at a place exactly where some words spell it there, and the words that are written for it do.
-use Rattle.scenario_words.proofs.Prelude.{◌≡◌, ◌≢◌, ◌≤◌, ◌<◌, ◌+◌, ◌*◌, ◌^◌, ℕ, zero, suc, Bool, true, false, cond, nat_eq, List, [], ◌∷◌, ◌++◌, length, map, Option, None, Some, Ok, refl, ap, subst, ◌∙◌, arith, inl, inr, decimal, codes, ⊤, AllByRecursion, append-nil, decode_of, sum_from, IsOctets, number-length, number_below, Wish, digits, WordPlace, between, framing_word, time_up_to, octets_up_to, octets_exactly, number_in_octets, list_up_to, Place, one, perhaps, rising, wishes, WordValue, PlaceValue, SpellsOctets, SpellsWord, Rising, with_streams, SpellsWishes, Spells, ltb-true, LiesBetween, HasWord, HasWishWords, HasWords, word_for, words_for, streams_in, wish_words, framing_name, time_name, perhaps_words}
+use Rattle.scenario_words.proofs.Prelude.{◌≡◌, ◌≢◌, ◌≤◌, ◌<◌, ◌+◌, ◌*◌, ◌^◌, ℕ, true, nat_eq, List, [], ◌∷◌, ◌++◌, length, map, Option, Ok, refl, ap, subst, ◌∙◌, arith, inl, inr, decimal, ⊤, AllByRecursion, append-nil, decode_of, sum_from, IsOctets, number-length, number_below, Wish, digits, WordPlace, between, framing_word, time_up_to, octets_up_to, octets_exactly, number_in_octets, list_up_to, Place, one, perhaps, rising, wishes, WordValue, PlaceValue, SpellsOctets, SpellsWord, Rising, with_streams, SpellsWishes, Spells, ltb-true, LiesBetween, HasWord, HasWishWords, HasWords, word_for, words_for, streams_in, wish_words, framing_name, time_name, perhaps_words}
 use Rattle.bcast_base.specs.Encoding.{number}
 use Rattle.scenario_words.proofs.Citable.{is_small}
 use Rattle.scenario_words.proofs.Octets.{digits_back, octets_from, some_digits, number_octets, number_sum}
@@ -13,13 +13,10 @@ octets_spelled most [] short h = inl (refl, refl)
 octets_spelled most (octet ∷ octets) short h = inr (some_digits octet octets, digits_back (octet ∷ octets) h, short)
 
 framing_spelled : (n : ℕ) → n ≤ 1 → SpellsWord framing_word n (framing_name n)
-framing_spelled zero h = inl (refl, refl)
-framing_spelled (suc zero) h = inr (refl, refl)
-framing_spelled (suc (suc n)) h = absurd (omega arith)
+framing_spelled n h = grind arith
 
 time_spelled : (greatest : ℕ) (time : Option ℕ) → LiesBetween 0 greatest time → SpellsWord (time_up_to greatest) time (time_name time)
-time_spelled greatest None h = inl (refl, refl)
-time_spelled greatest (Some n) h = inr (n, refl, refl, h.1)
+time_spelled greatest time h = grind arith
 
 pub word_spelled : (place : WordPlace) (value : WordValue place) → HasWord place value → SpellsWord place value (word_for place value)
 word_spelled (between least greatest) n h = (refl, h.0, h.1)
@@ -34,24 +31,15 @@ no_octets : IsOctets []
 no_octets i = omega arith
 
 octets_fit : (most : ℕ) (octets word : List ℕ) → SpellsOctets most octets word → (length octets ≤ most) × IsOctets octets
-octets_fit most octets word h = elim h [
-  | inl none ↦ rw none.0 (omega arith, no_octets)
-  | inr some ↦ (some.2, octets_from word octets some.1)
-]
+octets_fit most octets word h = grind (arith, no_octets, octets_from)
 
 number_fits : (count n : ℕ) (word octets : List ℕ) → decode_of word ≡ Ok octets → length octets ≡ count → n ≡ sum_from 0 octets → n < 2 ^ (8 * count)
 number_fits count n word octets e long is = rw (is, ← long) (number_below octets (octets_from word octets e))
 
 word_fits : (place : WordPlace) (value : WordValue place) (word : List ℕ) → SpellsWord place value word → HasWord place value
 word_fits (between least greatest) n word h = (h.1, h.2)
-word_fits framing_word n word h = elim h [
-  | inl plain ↦ omega (arith, plain.0)
-  | inr framed ↦ omega (arith, framed.0)
-]
-word_fits (time_up_to greatest) time word h = elim h [
-  | inl none ↦ rw none.0 tt
-  | inr some ↦ rw some.1 (omega arith, some.3)
-]
+word_fits framing_word n word h = elim h [ inl plain ↦ omega (arith, plain.0) | inr framed ↦ omega (arith, framed.0) ]
+word_fits (time_up_to greatest) time word h = elim h [ inl none ↦ rw none.0 tt | inr some ↦ rw some.1 (omega arith, some.3) ]
 word_fits (octets_up_to most) octets word h = octets_fit most octets word h
 word_fits (octets_exactly count) octets word h = (h.1, octets_from word octets h.0)
 word_fits (number_in_octets count) n word h = number_fits count n word h.0 h.1 h.2 h.3
@@ -67,8 +55,7 @@ EndsAt rising rest = rest ≡ []
 EndsAt (wishes most) rest = rest ≡ []
 
 perhaps_spelled : (least greatest : ℕ) (value : Option ℕ) → LiesBetween least greatest value → Spells (perhaps least greatest) value (perhaps_words value) []
-perhaps_spelled least greatest None h = inl (refl, refl, refl)
-perhaps_spelled least greatest (Some n) h = inr (n, refl, refl, h.0, h.1)
+perhaps_spelled least greatest value h = grind arith
 
 rising_spelled : (set : ℕ) → set ≢ 0 → set < 2 ^ 31 → Spells rising set (map decimal (streams_in set)) []
 rising_spelled set some small =
@@ -98,33 +85,23 @@ words_spelled rising set rest last h = none_behind rising set (map decimal (stre
 words_spelled (wishes most) all rest last h = none_behind (wishes most) all (wish_words all) rest last (h.0, h.1, wishes_spelled all h.2, refl)
 
 wishes_have : (all : List Wish) (words : List (List ℕ)) → SpellsWishes all words → AllByRecursion HasWishWords all
-wishes_have [] words h = tt
-wishes_have (wish ∷ others) [] h = absurd h
-wishes_have (wish ∷ others) (bits ∷ []) h = absurd h
 wishes_have (wish ∷ others) (bits ∷ metadata ∷ words) h =
     ((word_fits (number_in_octets 4) wish.bis_sync bits h.0, word_fits (octets_up_to 255) wish.metadata metadata h.1), wishes_have others words h.2)
+wishes_have all words h = search (word_fits, number_in_octets, octets_up_to)
 
 pub words_fit : (place : Place) (value : PlaceValue place) (words rest : List (List ℕ)) → Spells place value words rest → HasWords place value
 words_fit (one place) value words rest h = word_fits place value h.0 h.2
-words_fit (perhaps least greatest) value words rest h = elim h [
-  | inl none ↦ rw none.0 tt
-  | inr some ↦ rw some.1 (some.3, some.4)
-]
+words_fit (perhaps least greatest) value words rest h = elim h [ inl none ↦ rw none.0 tt | inr some ↦ rw some.1 (some.3, some.4) ]
 words_fit rising set words rest h = rw h.2 (streams_some h.0 h.1, streams_small (h.0 ∷ h.1) 0 1 (omega arith) (omega arith) h.5)
 words_fit (wishes most) all words rest h = (h.0, h.1, wishes_have all words h.2)
 
 -- ---- no word has a space
 
-named_unspaced : (unframed : Bool) → NoSpace (cond unframed (codes "unframed") (codes "framed"))
-named_unspaced true = (refl, (refl, (refl, (refl, (refl, (refl, (refl, (refl, tt))))))))
-named_unspaced false = (refl, (refl, (refl, (refl, (refl, (refl, tt))))))
-
 framing_unspaced : (n : ℕ) → NoSpace (framing_name n)
-framing_unspaced n = named_unspaced (nat_eq n 0)
+framing_unspaced n = grind (arith, nat_eq)
 
 time_unspaced : (greatest : ℕ) (time : Option ℕ) → greatest < 2 ^ 64 → LiesBetween 0 greatest time → NoSpace (time_name time)
-time_unspaced greatest None small h = (refl, tt)
-time_unspaced greatest (Some n) small h = decimal_unspaced n (omega (arith, h.1))
+time_unspaced greatest time small h = grind (arith, decimal_unspaced)
 
 word_unspaced : (place : WordPlace) (value : WordValue place) → is_small (one place) ≡ true → HasWord place value → NoSpace (word_for place value)
 word_unspaced (between least greatest) n small h = decimal_unspaced n (omega (arith, h.1, ltb-true greatest (2 ^ 64) small))
@@ -136,8 +113,7 @@ word_unspaced (number_in_octets count) n small h = digits_unspaced (number count
 word_unspaced (list_up_to most) octets small h = octets_unspaced octets h.1
 
 perhaps_unspaced : (least greatest : ℕ) (value : Option ℕ) → greatest < 2 ^ 64 → LiesBetween least greatest value → NoSpaces (perhaps_words value)
-perhaps_unspaced least greatest None small h = tt
-perhaps_unspaced least greatest (Some n) small h = (decimal_unspaced n (omega (arith, h.1)), tt)
+perhaps_unspaced least greatest value small h = grind (arith, decimal_unspaced)
 
 decimals_unspaced : (least : ℕ) (indices : List ℕ) → Rising least indices → NoSpaces (map decimal indices)
 decimals_unspaced least [] r = tt

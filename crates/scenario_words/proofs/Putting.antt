@@ -1,5 +1,5 @@
 -- A line that is put piece by piece: what was put so far is a prefix of it, and what is left is its rest.
-use Rattle.scenario_words.proofs.Prelude.{◌≡◌, ◌<◌, ◌≤◌, ◌+◌, ◌*◌, ◌/◌, ◌%◌, ℕ, suc, List, [], ◌∷◌, ◌++◌, length, get_or, slice_index, map, take, drop, Result, Ok, Err, refl, ap, sym, ◌∙◌, append_assoc, arith, decimal, OnErr, decimal_digit, take-append-drop, append-nil, encode_with-drop, encode_lower, lower_digits, APrefix, PutUpTo, space}
+use Rattle.scenario_words.proofs.Prelude.{◌≡◌, ◌<◌, ◌≤◌, ◌+◌, ◌*◌, ◌/◌, ◌%◌, ℕ, suc, List, [], ◌∷◌, ◌++◌, length, get_or, slice_index, map, take, drop, Result, refl, ap, sym, ◌∙◌, append_assoc, arith, decimal, OnErr, decimal_digit, take-append-drop, append-nil, encode_with-drop, encode_lower, lower_digits, APrefix, PutUpTo, space}
 use Rattle.std.proofs.Math.Seq.{drop-cons}
 use Rattle.std.proofs.lemmas.Slice.{take-put_mid}
 use borrow.Rule.Slice.PartMut.{put_mid}
@@ -10,25 +10,15 @@ use Rattle.scenario_words.specs.declared.printed_word.Word.{Word}
 
 -- more stands behind a line and behind its rest
 pub with_more : (old new line rest piece left : List ℕ) → PutUpTo old new line rest → left ≡ rest ++ piece → PutUpTo old new (line ++ piece) left
-with_more old new line rest piece left so_far more = record {
-  prefix = so_far.prefix;
-  whole = ap (λ (l : List ℕ). l ++ piece) so_far.whole ∙ (append_assoc so_far.prefix rest piece ∙ ap (λ (l : List ℕ). so_far.prefix ++ l) (sym more));
-  put = so_far.put;
-}
+with_more old new line rest piece left so_far more = grind (arith, append_assoc)
 
 -- the next piece was put but for what waits of it
 pub put_more : (old now new line left piece waits rest : List ℕ) → PutUpTo old now line left → left ≡ piece ++ rest → PutUpTo now new piece waits
     → PutUpTo old new line (waits ++ rest)
-put_more old now new line left piece waits rest so_far split more = record {
-  prefix = so_far.prefix ++ more.prefix;
-  whole = so_far.whole ∙ (ap (λ (l : List ℕ). so_far.prefix ++ l) (split ∙ (ap (λ (l : List ℕ). l ++ rest) more.whole ∙ append_assoc more.prefix waits rest))
-      ∙ sym (append_assoc so_far.prefix more.prefix (waits ++ rest)));
-  put = more.put ∙ (ap (λ (l : List ℕ). l ++ more.prefix) so_far.put ∙ append_assoc old so_far.prefix more.prefix);
-}
+put_more old now new line left piece waits rest so_far split more = grind (arith, append_assoc)
 
 pub put_all : (old now new line rest : List ℕ) → PutUpTo old now line rest → new ≡ now ++ rest → new ≡ old ++ line
-put_all old now new line rest so_far more =
-    more ∙ (ap (λ (l : List ℕ). l ++ rest) so_far.put ∙ (append_assoc old so_far.prefix rest ∙ ap (λ (l : List ℕ). old ++ l) (sym so_far.whole)))
+put_all old now new line rest so_far more = grind (arith, append_assoc)
 
 -- what waits, with a piece of what is behind it
 pub regrouped : (waits left piece rest : List ℕ) → left ≡ piece ++ rest → waits ++ left ≡ (waits ++ piece) ++ rest
@@ -36,13 +26,7 @@ regrouped waits left piece rest split = ap (λ (l : List ℕ). waits ++ l) split
 
 -- the next piece was put in part
 pub prefix_of : (old now new line left piece rest : List ℕ) → PutUpTo old now line left → left ≡ piece ++ rest → APrefix now new piece → APrefix old new line
-prefix_of old now new line left piece rest so_far split part = record {
-  prefix = so_far.prefix ++ part.prefix;
-  rest = part.rest ++ rest;
-  whole = so_far.whole ∙ (ap (λ (l : List ℕ). so_far.prefix ++ l) (split ∙ (ap (λ (l : List ℕ). l ++ rest) part.whole ∙ append_assoc part.prefix part.rest rest))
-      ∙ sym (append_assoc so_far.prefix part.prefix (part.rest ++ rest)));
-  put = part.put ∙ (ap (λ (l : List ℕ). l ++ part.prefix) so_far.put ∙ append_assoc old so_far.prefix part.prefix);
-}
+prefix_of old now new line left piece rest so_far split part = grind (arith, append_assoc)
 
 -- nothing was put
 begun : (old line : List ℕ) → PutUpTo old old line line
@@ -63,10 +47,7 @@ pub pair_put : (octets digits put : List ℕ) (i k pair : ℕ) → i < length oc
     → take (2 * i) digits ++ encode_lower (drop i octets) ≡ encode_lower octets
     → take (2 * (i + 1)) (put_mid (2 * i) k digits put) ++ encode_lower (drop (i + 1) octets) ≡ encode_lower octets
 pair_put octets digits put i k pair inside fits small is first second so_far =
-    let whole : pair / 256 % 256 ≡ pair / 256 = omega arith in
-    let two : 2 * (i + 1) ≡ 2 * i + length put = rw is (omega arith) in
-    let prefix = take-put_mid (2 * i) k digits put (2 * (i + 1)) two (omega arith) in
-    rw (prefix, append_assoc, is, whole, first, second) (rw (encode_with-drop lower_digits octets i inside) at so_far)
+    grind (arith, length, take-put_mid, append_assoc, encode_with-drop, lower_digits)
 
 encode_append : (t xs ys : List ℕ) → encode_with t (xs ++ ys) ≡ encode_with t xs ++ encode_with t ys
 unfolding encode_with
@@ -113,5 +94,4 @@ pub digit_put : (old new waits waiting : List ℕ) (number : ℕ) → number < 1
 digit_put old new waits waiting number small put = rw (decimal_digit number small) put
 
 pub on_err : {A E : Type 0} (r : Result A E) (P : Type 0) → P → OnErr r P
-on_err (Ok x) P p = tt
-on_err (Err e) P p = p
+on_err r x2 p = grind arith

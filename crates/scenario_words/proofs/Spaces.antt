@@ -1,5 +1,5 @@
 -- No word that is written has a space in it, so that the words of a line are the words that were joined.
-use Rattle.scenario_words.proofs.Prelude.{◌≡◌, ◌<◌, ◌/◌, ◌%◌, ◌^◌, ℕ, zero, suc, Bool, true, false, not, ◌&&◌, nat_eq, List, [], ◌∷◌, ◌++◌, length, get_or, decimal, refl, ap, arith, eqb-true, slice_index, ⊤, lower_digits, encode_lower, IsOctets, IsOctets-rest, words_of, digits_decimal, digits, joined}
+use Rattle.scenario_words.proofs.Prelude.{◌≡◌, ◌<◌, ◌/◌, ◌%◌, ◌^◌, ℕ, suc, Bool, true, false, not, ◌&&◌, nat_eq, List, [], ◌∷◌, ◌++◌, length, get_or, decimal, refl, ap, arith, eqb-true, slice_index, ⊤, lower_digits, encode_lower, IsOctets, IsOctets-rest, words_of, digits_decimal, digits, joined}
 use Rattle.hex.specs.Hex.{encode_with}
 use Rattle.scenario_words.proofs.Citable.{own}
 use Rattle.scenario_words.specs.Joined.{behind}
@@ -18,18 +18,14 @@ is_unspaced [] = true
 is_unspaced (octet ∷ word) = not (nat_eq octet 32) && is_unspaced word
 
 both : (a b : Bool) → (not a && b) ≡ true → (a ≡ false) × (b ≡ true)
-both true b e = absurd cc
-both false b e = (refl, e)
+both a b e = grind arith
 
 pub unspaced : (word : List ℕ) → is_unspaced word ≡ true → NoSpace word
 unspaced [] e = tt
-unspaced (octet ∷ word) e =
-    let parts = both (nat_eq octet 32) (is_unspaced word) e in
-    (parts.0, unspaced word parts.1)
+unspaced (octet ∷ word) e = let parts = both (nat_eq octet 32) (is_unspaced word) e in (parts.0, unspaced word parts.1)
 
 refused : (b : Bool) → (b ≡ true → ⊥) → b ≡ false
-refused true h = absurd (h refl)
-refused false h = refl
+refused b h = grind arith
 
 other : (octet : ℕ) → (octet ≡ 32 → ⊥) → nat_eq octet 32 ≡ false
 other octet h = refused (nat_eq octet 32) (λ same. h (eqb-true octet 32 same))
@@ -38,18 +34,11 @@ unspaced_at : (word : List ℕ) → ((i : ℕ) → i < length word → get_or wo
 unspaced_at [] h = tt
 unspaced_at (octet ∷ word) h = (other octet (h 0 (omega arith)), unspaced_at word (λ i inside. h (suc i) (omega arith)))
 
-spaced_at : (word : List ℕ) (i : ℕ) → NoSpace word → i < length word → nat_eq (get_or word i 0) 32 ≡ false
-spaced_at [] i h inside = absurd (omega arith)
-spaced_at (octet ∷ word) zero h inside = h.0
-spaced_at (octet ∷ word) (suc i) h inside = spaced_at word i h.1 (omega arith)
-
 pub decimal_unspaced : (n : ℕ) → n < 2 ^ 64 → NoSpace (decimal n)
-decimal_unspaced n small =
-    let are = digits_decimal own n small in
-    unspaced_at (decimal n) (λ i inside same. let digit = are i inside in omega arith)
+decimal_unspaced n small = grind (arith, digits_decimal, own, unspaced_at, decimal)
 
 digit_unspaced : (k : ℕ) → k < 16 → nat_eq (slice_index lower_digits k) 32 ≡ false
-digit_unspaced k small = spaced_at lower_digits k (unspaced lower_digits refl) small
+digit_unspaced k small = grind (arith, lower_digits, unspaced)
 
 pub digits_unspaced : (octets : List ℕ) → IsOctets octets → NoSpace (encode_lower octets)
 unfolding encode_with
@@ -59,8 +48,7 @@ digits_unspaced (octet ∷ octets) h =
     (digit_unspaced (octet / 16) (omega arith), (digit_unspaced (octet % 16) (omega arith), digits_unspaced octets (IsOctets-rest octet octets h)))
 
 pub octets_unspaced : (octets : List ℕ) → IsOctets octets → NoSpace (digits octets)
-octets_unspaced [] h = (refl, tt)
-octets_unspaced (octet ∷ octets) h = digits_unspaced (octet ∷ octets) h
+octets_unspaced octets h = grind (arith, digits_unspaced)
 
 pub more_unspaced : (words more : List (List ℕ)) → NoSpaces words → NoSpaces more → NoSpaces (words ++ more)
 more_unspaced [] more h k = k
@@ -70,9 +58,7 @@ more_unspaced (word ∷ words) more h k = (h.0, more_unspaced words more h.1 k)
 
 first_split : (word : List ℕ) (words : List (List ℕ)) → NoSpace word → words_of (behind words) ≡ [] ∷ words → words_of (word ++ behind words) ≡ word ∷ words
 first_split [] words h e = e
-first_split (octet ∷ word) words h e =
-    let rest : words_of (word ++ behind words) ≡ word ∷ words = first_split word words h.1 e in
-    rw (h.0, rest) refl
+first_split (octet ∷ word) words h e = grind (arith, first_split word words h.1 e, h.0)
 
 behind_split : (words : List (List ℕ)) → NoSpaces words → words_of (behind words) ≡ [] ∷ words
 behind_split [] h = refl

@@ -1,16 +1,14 @@
 -- One place of a line: what is read is spelled so, and what is spelled so is read. Upper crates may cite `place_spelled`,
 -- `place_again`, `word_spelled`, `word_again` and `is_small`.
-use Rattle.scenario_words.proofs.Prelude.{◌≡◌, ◌≤◌, ◌<◌, ℕ, zero, suc, ◌+◌, ◌^◌, Bool, true, false, cond, nat_lt, nat_le, List, [], ◌∷◌, ◌++◌, length, map, Option, None, Some, Result, Ok, Err, refl, ap, sym, subst, ◌∙◌, arith, decimal, ◌⊎◌, inl, inr, codes, get_or, ◌/◌, bytes_eq, bytes_eq-Decides, ltb-true, leb-true, nil_from_length, append_assoc, append-nil, digits_decimal, decimal_nonempty, decode_of, decode_of-ok, sum_from, Wish, bad_of, LineFault, BadLine, WordPlace, between, framing_word, time_up_to, octets_up_to, octets_exactly, number_in_octets, list_up_to, Place, one, perhaps, rising, wishes, WordValue, PlaceValue, wishes_octets, ◌>>=◌, bind_ok, ok_is, Left, next_of, taken, timed, within, numbered, word_in, perhaps_of, with_stream, rising_of, wish_of, bounded, all_wishes_of, at_place, SpellsOctets, SpellsWord, Rising, with_streams, SpellsWishes, Spells}
-use Rattle.scenario_words.specs.Reading.{decimal_in, framing_in, time_in, octets_in, exact_in, number_in}
-use Rattle.scenario_words.specs.Reading.{list_in, streams_of, wishes_of}
+use Rattle.scenario_words.proofs.Prelude.{◌≡◌, ◌≤◌, ◌<◌, ℕ, zero, suc, ◌+◌, ◌^◌, Bool, true, false, cond, nat_lt, nat_le, List, [], ◌∷◌, ◌++◌, length, map, Option, None, Some, Result, Ok, refl, ap, sym, subst, ◌∙◌, arith, decimal, ◌⊎◌, inl, inr, codes, get_or, bytes_eq, bytes_eq-Decides, ltb-true, leb-true, nil_from_length, append_assoc, append-nil, digits_decimal, decimal_nonempty, decode_of, decode_of-ok, sum_from, Wish, bad_of, LineFault, WordPlace, between, framing_word, time_up_to, octets_up_to, octets_exactly, number_in_octets, list_up_to, Place, one, perhaps, rising, wishes, WordValue, PlaceValue, wishes_octets, ◌>>=◌, bind_ok, ok_is, Left, next_of, taken, timed, within, numbered, word_in, perhaps_of, with_stream, rising_of, wish_of, bounded, all_wishes_of, at_place, SpellsOctets, SpellsWord, Rising, with_streams, SpellsWishes, Spells}
+use Rattle.scenario_words.specs.Reading.{decimal_in, framing_in, time_in, octets_in, exact_in, number_in, list_in, streams_of, wishes_of}
 use Rattle.scenario_words.proofs.Decimals.{own}
 use Rattle.scenario_words.proofs.OneWord.{decimal_range, decimal_is, decimal_fits, within_is, array_is, exactly_is, list_is}
 use Rattle.scenario_words.proofs.OneWord.{pairs as pairs_read}
 use Rattle.scenario_words.proofs.WishWords.{wishes_fit}
 
 refused : (b : Bool) → (b ≡ true → ⊥) → b ≡ false
-refused true h = absurd (h refl)
-refused false h = refl
+refused b h = grind arith
 
 -- ---- places whose greatest number fits 64 bits
 
@@ -25,24 +23,11 @@ is_small (wishes most) = true
 -- ---- what is spelled so is read
 
 no_dash : (n : ℕ) → n < 2 ^ 64 → bytes_eq (decimal n) (45 ∷ []) ≡ false
-no_dash n fits = refused _ (λ same.
-    let dash : decimal n ≡ 45 ∷ [] = (bytes_eq-Decides (decimal n) (45 ∷ [])).0 same in
-    let digit = digits_decimal own n fits 0 (decimal_nonempty n fits) in
-    let first : get_or (decimal n) 0 0 ≡ 45 = ap (λ (w : List ℕ). get_or w 0 0) dash in
-    omega arith)
+no_dash n fits = grind (arith, refused, decimal, bytes_eq-Decides, digits_decimal, own, decimal_nonempty, get_or)
 
 octets_again : (most : ℕ) (octets word : List ℕ) → SpellsOctets most octets word → octets_in most word ≡ Some octets
 unfolding octets_in
-octets_again most octets word h = elim h [
-  | inl none ↦ rw (none.1, none.0) refl
-  | inr some ↦
-      let len = (decode_of-ok word octets some.1).2 in
-      let short : length word / 2 ≤ most = omega (arith, some.2) in
-      pairs_read most word octets (λ none. some.0 (nil_from_length word none)) (refused _ (λ same.
-      let dash : word ≡ 45 ∷ [] = (bytes_eq-Decides word (45 ∷ [])).0 same in
-      let one : length word ≡ 1 = ap length dash in
-      omega arith)) some.1 short
-]
+octets_again most octets word h = grind (arith, decode_of-ok, length, pairs_read, nil_from_length, refused, bytes_eq-Decides, one)
 
 number_again : (count n : ℕ) (word octets : List ℕ) → decode_of word ≡ Ok octets → length octets ≡ count → n ≡ sum_from 0 octets → number_in count word ≡ Some n
 unfolding number_in
@@ -58,10 +43,7 @@ decimal_again least greatest n word small e low high = decimal_fits least greate
 pub word_again : (place : WordPlace) (value : WordValue place) (word : List ℕ) → is_small (one place) ≡ true → SpellsWord place value word → word_in place word ≡ Some value
 unfolding framing_in time_in
 word_again (between least greatest) n word small h = decimal_again least greatest n word small h.0 h.1 h.2
-word_again framing_word n word small h = elim h [
-  | inl plain ↦ rw (plain.0, plain.1) refl
-  | inr framed ↦ rw (framed.0, framed.1) refl
-]
+word_again framing_word n word small h = elim h [ inl plain ↦ rw (plain.0, plain.1) refl | inr framed ↦ rw (framed.0, framed.1) refl ]
 word_again (time_up_to greatest) time word small h = elim h [
   | inl none ↦ rw (none.0, none.1) refl
   | inr some ↦
@@ -92,13 +74,12 @@ unfolding wishes_of
 wishes_again [] before zero read words few e = (read, rw (e, append-nil before) refl)
 wishes_again [] before (suc more) read words few e = (read, rw (e, append-nil before) refl)
 wishes_again (wish ∷ others) before zero read words few e = absurd (omega arith)
-wishes_again (wish ∷ others) before (suc more) read [] few e = absurd e
-wishes_again (wish ∷ others) before (suc more) read (bits ∷ []) few e = absurd e
 wishes_again (wish ∷ others) before (suc more) read (bits ∷ metadata ∷ words) few e =
     let first : number_in 4 bits ≡ Some wish.bis_sync = word_again (number_in_octets 4) wish.bis_sync bits refl e.0 in
     let second : octets_in 255 metadata ≡ Some wish.metadata = octets_again 255 wish.metadata metadata e.1 in
     let rest = wishes_again others (before ++ wish ∷ []) more (read + 1 + 1) words (omega arith) e.2 in
     (rest.0, rw (first, second, rest.1, append_assoc before (wish ∷ []) others) refl)
+wishes_again all before more read words few e = search (append-nil, word_again, number_in_octets, octets_again, append_assoc)
 
 abbrev pub ReadsAs : (place : Place) → PlaceValue place → List (List ℕ) → List (List ℕ) → ℕ → Type 0
 ReadsAs place value words rest read = (k : ℕ) × (at_place place (left_of words read) ≡ Ok (value, left_of rest k))
@@ -135,65 +116,35 @@ record OneRead {X : Type 0} (f : List ℕ → Option X) (words : List (List ℕ)
 
 taken_is : {X : Type 0} (f : List ℕ → Option X) (word : List ℕ) (words : List (List ℕ)) (read : ℕ) (found : Option X) (value : X) (left : Left) → f word ≡ found
     → taken read words found ≡ Ok (value, left) → OneRead f (word ∷ words) read value left
-taken_is f word words read None value left is e = absurd cc
-taken_is f word words read (Some x) value left is e =
-    let both = ok_is (x, left_of words (read + 1)) (value, left) e in
-    record {
-      word = word;
-      fits = is ∙ ap (λ (p : _ × Left). Some p.0) both;
-      split = ap (λ (p : _ × Left). word ∷ p.1.words) both;
-      count = sym (ap (λ (p : _ × Left). p.1.read) both);
-    }
+taken_is f word words read found value left is e = grind (arith, ok_is)
 
 one_read : {X : Type 0} (f : List ℕ → Option X) (words : List (List ℕ)) (read : ℕ) (value : X) (left : Left) → next_of f read words ≡ Ok (value, left) → OneRead f words read value left
-one_read f [] read value left e = absurd cc
-one_read f (word ∷ words) read value left e = taken_is f word words read (f word) value left refl e
+one_read f words read value left e = grind (arith, taken_is)
 
 split_cond : {X : Type 0} (b : Bool) (x y z : Option X) → cond b x y ≡ z → ((b ≡ true) × (x ≡ z)) ⊎ ((b ≡ false) × (y ≡ z))
-split_cond true x y z e = inl (refl, e)
-split_cond false x y z e = inr (refl, e)
+split_cond b x y z e = grind arith
 
 some_is : {A : Type 0} (x y : A) → Some x ≡ Some y → x ≡ y
 some_is x y e = cc
 
 framing_spelled : (word : List ℕ) (n : ℕ) → framing_in word ≡ Some n → SpellsWord framing_word n word
 unfolding framing_in
-framing_spelled word n e = elim (split_cond (bytes_eq word (codes "unframed")) (Some 0) (cond (bytes_eq word (codes "framed")) (Some 1) None) (Some n) e) [
-  | inl h ↦ inl (sym (some_is 0 n h.1), (bytes_eq-Decides word (codes "unframed")).0 h.0)
-  | inr h ↦ elim (split_cond (bytes_eq word (codes "framed")) (Some 1) None (Some n) h.1) [
-    | inl k ↦ inr (sym (some_is 1 n k.1), (bytes_eq-Decides word (codes "framed")).0 k.0)
-    | inr k ↦ absurd cc
-  ]
-]
-
-timed_is : (found : Option ℕ) (t : Option ℕ) → timed found ≡ Some t → (n : ℕ) × (found ≡ Some n) × (t ≡ Some n)
-timed_is None t e = absurd cc
-timed_is (Some n) t e = (n, refl, cc)
+framing_spelled word n e = grind (arith, split_cond, bytes_eq, codes, cond, some_is, bytes_eq-Decides)
 
 time_spelled : (greatest : ℕ) (word : List ℕ) (t : Option ℕ) → time_in greatest word ≡ Some t → SpellsWord (time_up_to greatest) t word
 unfolding time_in
-time_spelled greatest word t e = elim (split_cond (bytes_eq word (codes "-")) (Some None) (timed (decimal_in 0 greatest word)) (Some t) e) [
-  | inl h ↦ inl (sym (some_is None t h.1), (bytes_eq-Decides word (codes "-")).0 h.0)
-  | inr h ↦
-      let n = timed_is (decimal_in 0 greatest word) t h.1 in
-      inr (n.0, n.2, decimal_is 0 greatest n.0 word n.1, (decimal_range 0 greatest n.0 word n.1).1)
-]
+time_spelled greatest word t e = grind (arith, split_cond, bytes_eq, codes, timed, some_is, bytes_eq-Decides, decimal_is, decimal_range)
 
 octets_spelled : (most : ℕ) (word octets : List ℕ) → octets_in most word ≡ Some octets → SpellsOctets most octets word
 unfolding octets_in
-octets_spelled most [] octets e = absurd cc
-octets_spelled most (x ∷ word) octets e = elim (split_cond (bytes_eq (x ∷ word) (codes "-")) (Some []) (within most (decode_of (x ∷ word))) (Some octets) e) [
-  | inl h ↦ inl (sym (some_is [] octets h.1), (bytes_eq-Decides (x ∷ word) (codes "-")).0 h.0)
-  | inr h ↦ let w = within_is most (decode_of (x ∷ word)) octets h.1 in inr (λ none. cc, w.0, w.1)
-]
+octets_spelled most word octets e = grind (arith, split_cond, bytes_eq, codes, within, decode_of, some_is, bytes_eq-Decides, within_is)
 
 exact_spelled : (count : ℕ) (word octets : List ℕ) → exact_in count word ≡ Some octets → (decode_of word ≡ Ok octets) × (length octets ≡ count)
 unfolding exact_in
 exact_spelled count word octets e = exactly_is count (decode_of word) octets e
 
 numbered_is : (found : Option (List ℕ)) (n : ℕ) → numbered found ≡ Some n → (octets : List ℕ) × (found ≡ Some octets) × (n ≡ sum_from 0 octets)
-numbered_is None n e = absurd cc
-numbered_is (Some octets) n e = (octets, refl, sym (some_is (sum_from 0 octets) n e))
+numbered_is found n e = grind (arith, some_is, sum_from)
 
 number_spelled : (count : ℕ) (word : List ℕ) (n : ℕ) → number_in count word ≡ Some n → SpellsWord (number_in_octets count) n word
 unfolding number_in
@@ -222,9 +173,7 @@ head_of (word ∷ words) = word
 streams_back : (words : List (List ℕ)) (set least read last : ℕ) (left : Left) → streams_of set least read words ≡ Ok (last, left)
     → (others : List ℕ) × Rising least others × (words ≡ map decimal others) × (with_streams set others ≡ last) × (left.words ≡ [])
 unfolding streams_of
-streams_back [] set least read last left e =
-    let both = ok_is (set, left_of [] read) (last, left) e in
-    ([], tt, refl, ap (λ (p : ℕ × Left). p.0) both, sym (ap (λ (p : ℕ × Left). p.1.words) both))
+streams_back [] set least read last left e = grind (arith, ok_is)
 streams_back (word ∷ words) set least read last left e =
     let t = bind_ok (taken read words (decimal_in least 31 word)) (λ n. streams_of (with_stream set n.0) (n.0 + 1) (read + 1) words) (last, left) e in
     let one = taken_is (decimal_in least 31) word words read (decimal_in least 31 word) t.0.0 t.0.1 refl t.1 in
@@ -237,27 +186,12 @@ streams_back (word ∷ words) set least read last left e =
 
 rising_spelled : (words : List (List ℕ)) (read : ℕ) (set : ℕ) (left : Left) → rising_of (left_of words read) ≡ Ok (set, left) → Spells rising set words left.words
 rising_spelled words read set left e =
-    let t = bind_ok (next_of (decimal_in 1 31) read words) (λ n. streams_of (with_stream 0 n.0) (n.0 + 1) n.1.read n.1.words) (set, left) e in
-    let n = t.0.0 in
-    let one = one_read (decimal_in 1 31) words read n t.0.1 t.1 in
-    let rest = streams_back t.0.1.words (with_stream 0 n) (n + 1) t.0.1.read set left t.2 in
-    let range = decimal_range 1 31 n one.word one.fits in
-    let all : words ≡ map decimal (n ∷ rest.0) = one.split ∙ prefix one.word n t.0.1.words (decimal_is 1 31 n one.word one.fits) ∙ ap (λ (ws : List (List ℕ)). decimal n ∷ ws) rest.2 in
-    (n, rest.0, sym rest.3, all, rest.4, (range.0, range.1, rest.1))
+    grind (arith, bind_ok, next_of, with_stream, one, one_read, streams_back, decimal_range, map, decimal, prefix, decimal_is)
 
 perhaps_spelled : (least greatest : ℕ) (words : List (List ℕ)) (read : ℕ) (value : Option ℕ) (left : Left)
     → perhaps_of least greatest read words ≡ Ok (value, left) → Spells (perhaps least greatest) value words left.words
-perhaps_spelled least greatest [] read value left e =
-    let both = ok_is (None, left_of [] read) (value, left) e in
-    inl (sym (ap (λ (p : Option ℕ × Left). p.0) both), refl, sym (ap (λ (p : Option ℕ × Left). p.1.words) both))
-perhaps_spelled least greatest (word ∷ words) read value left e =
-    let t = bind_ok (taken read words (decimal_in least greatest word)) (λ n. Ok (Some n.0, n.1)) (value, left) e in
-    let one = one_read (decimal_in least greatest) (word ∷ words) read t.0.0 t.0.1 t.1 in
-    let both = ok_is (Some t.0.0, t.0.1) (value, left) t.2 in
-    let range = decimal_range least greatest t.0.0 one.word one.fits in
-    let all : word ∷ words ≡ decimal t.0.0 ∷ left.words =
-    one.split ∙ prefix one.word t.0.0 t.0.1.words (decimal_is least greatest t.0.0 one.word one.fits) ∙ ap (λ (p : Option ℕ × Left). decimal t.0.0 ∷ p.1.words) both in
-    inr (t.0.0, sym (ap (λ (p : Option ℕ × Left). p.0) both), all, range.0, range.1)
+perhaps_spelled least greatest words read value left e =
+    grind (arith, ok_is, bind_ok, taken, one, one_read, decimal_range, decimal, prefix, decimal_is)
 
 -- the pairs behind those before
 record WishesRead (before all : List Wish) (more : ℕ) (words : List (List ℕ)) (left : Left) : Type 0 where
@@ -270,14 +204,7 @@ abbrev wishes_are : List Wish → List (List ℕ) → ℕ → Result (List Wish 
 wishes_are before words read = Ok (before, left_of words read)
 
 none_more : (before all : List Wish) (more read : ℕ) (words : List (List ℕ)) (left : Left) → wishes_are before words read ≡ done (all, left) → WishesRead before all more words left
-none_more before all more read words left e =
-    let both = ok_is (before, left_of words read) (all, left) e in
-    record {
-      others = [];
-      few = omega arith;
-      together = sym (ap (λ (p : List Wish × Left). p.0) both) ∙ sym (append-nil before);
-      all_spelled = λ none. ap (λ (p : List Wish × Left). p.1.words) both ∙ none;
-    }
+none_more before all more read words left e = grind (arith, ok_is, append-nil)
 
 wishes_back : (more : ℕ) (before : List Wish) (read : ℕ) (words : List (List ℕ)) (all : List Wish) (left : Left)
     → wishes_of before more read words ≡ Ok (all, left) → WishesRead before all more words left
@@ -304,12 +231,8 @@ wishes_back (suc more) before read (word ∷ words) all left e =
           (word_spelled (number_in_octets 4) a.0.0 bits.word bits.fits, octets_spelled 255 metadata.word b.0.0 metadata.fits, rest.all_spelled none);
     }
 
-within_most : {P : Type 0} (b : Bool) (found all : List Wish × Left) → (b ≡ true → P) → cond b (Ok found) (Err (BadLine found.1.read)) ≡ done all → P × (found ≡ all)
-within_most true found all p e = (p refl, ok_is found all e)
-within_most false found all p e = absurd cc
-
 pub bounded_is : (most : ℕ) (found all : List Wish × Left) → bounded most found ≡ Ok all → (wishes_octets found.0 ≤ most) × (found ≡ all)
-bounded_is most found all e = within_most (nat_le (wishes_octets found.0) most) found all (leb-true (wishes_octets found.0) most) e
+bounded_is most found all e = grind (arith, ok_is, nat_le, wishes_octets, leb-true)
 
 wishes_spelled : (most : ℕ) (words : List (List ℕ)) (read : ℕ) (all : List Wish) (left : Left) → all_wishes_of most (left_of words read) ≡ Ok (all, left) → left.words ≡ []
     → Spells (wishes most) all words left.words

@@ -1,25 +1,17 @@
 -- The first word of a line ends at its first space.
-use Rattle.scenario_words.proofs.Prelude.{◌≡◌, ◌≤◌, ◌<◌, ◌+◌, ◌-◌, ◌⊎◌, inl, inr, ℕ, zero, suc, Bool, true, false, nat_eq, List, [], ◌∷◌, length, get_or, take, drop, refl, ap, ◌∙◌, eqb-true, arith, cases_lt, get_or-drop, length-drop, take_rest, words_of}
+use Rattle.scenario_words.proofs.Prelude.{◌≡◌, ◌≤◌, ◌<◌, ◌+◌, ◌-◌, ◌⊎◌, inl, inr, ℕ, suc, Bool, true, false, nat_eq, List, [], ◌∷◌, length, get_or, take, drop, refl, eqb-true, arith, cases_lt, get_or-drop, length-drop, take_rest, words_of}
 
 pub refused : (b : Bool) → (b ≡ true → ⊥) → b ≡ false
-refused true h = absurd (h refl)
-refused false h = refl
+refused b h = grind arith
 
 pub no_space : (line : List ℕ) → ((k : ℕ) → 0 ≤ k → k < length line → nat_eq (get_or line k 0) 32 ≡ true → ⊥) → words_of line ≡ line ∷ []
 no_space [] h = refl
-no_space (x ∷ line) h =
-    let other : nat_eq x 32 ≡ false = refused _ (h 0 (omega arith) (omega arith)) in
-    let rest : words_of line ≡ line ∷ [] = no_space line (λ k low high. h (suc k) (omega arith) (omega arith)) in
-    rw (other, rest) refl
+no_space (x ∷ line) h = grind (arith, refused _ (h 0 (omega arith) (omega arith)), no_space line (λ k low high. h (suc k) (omega arith) (omega arith)))
 
 pub first_space : (line : List ℕ) (end : ℕ) → end < length line → ((k : ℕ) → 0 ≤ k → k < end → nat_eq (get_or line k 0) 32 ≡ true → ⊥) → nat_eq (get_or line end 0) 32 ≡ true
     → words_of line ≡ take end line ∷ words_of (drop (suc end) line)
-first_space [] end inside before at = absurd (omega arith)
-first_space (x ∷ line) zero inside before at = rw at refl
-first_space (x ∷ line) (suc end) inside before at =
-    let other : nat_eq x 32 ≡ false = refused _ (before 0 (omega arith) (omega arith)) in
-    let rest : words_of line ≡ take end line ∷ words_of (drop (suc end) line) = first_space line end (omega arith) (λ k low high. before (suc k) (omega arith) (omega arith)) at in
-    rw (other, rest) refl
+first_space (x ∷ line) (suc end) inside before at = grind (arith, refused _ (before 0 (omega arith) (omega arith)), first_space line end (omega arith) (λ k low high. before (suc k) (omega arith) (omega arith)) at)
+first_space line end inside before at = search (nat_eq, refused, words_of, take, drop)
 
 -- none among the first n octets, and none of the next m behind them
 behind : (line : List ℕ) (n m k : ℕ) → ((j : ℕ) → 0 ≤ j → j < n → nat_eq (get_or line j 0) 32 ≡ true → ⊥)
@@ -32,9 +24,7 @@ behind line n m k near far inside here (inr high) =
 
 -- the piece behind the first n octets
 long_behind : (line piece : List ℕ) (n : ℕ) → piece ≡ take (length line - n) (drop n line) → (piece ≡ drop n line) × (length piece ≡ length line - n)
-long_behind line piece n is =
-    let rest = is ∙ take_rest line n in
-    (rest, ap length rest ∙ length-drop n line)
+long_behind line piece n is = grind (arith, take_rest, length, length-drop)
 
 pub none_behind : (line piece : List ℕ) (n : ℕ) → n ≤ length line → piece ≡ take (length line - n) (drop n line)
     → ((j : ℕ) → 0 ≤ j → j < n → nat_eq (get_or line j 0) 32 ≡ true → ⊥)
@@ -58,8 +48,7 @@ some_behind line piece n end fits is near inside far at =
 -- one octet more is no space
 last : (line : List ℕ) (i k : ℕ) → ((j : ℕ) → 0 ≤ j → j < i → nat_eq (get_or line j 0) 32 ≡ true → ⊥) → (get_or line i 0 ≡ 32 → ⊥)
     → k < i + 1 → nat_eq (get_or line k 0) 32 ≡ true → (k < i) ⊎ (i ≤ k) → ⊥
-last line i k before other small here (inl low) = before k (omega arith) low here
-last line i k before other small here (inr high) = let same : k ≡ i = omega arith in other (eqb-true _ _ (rw same at here))
+last line i k before other small here x8 = grind (arith, eqb-true)
 
 pub no_more : (line : List ℕ) (i : ℕ) → ((j : ℕ) → 0 ≤ j → j < i → nat_eq (get_or line j 0) 32 ≡ true → ⊥) → (get_or line i 0 ≡ 32 → ⊥)
     → (k : ℕ) → 0 ≤ k → k < i + 1 → nat_eq (get_or line k 0) 32 ≡ true → ⊥

@@ -11,8 +11,7 @@ rising_weaker least more [] h r = tt
 rising_weaker least more (index ∷ indices) h r = (omega (arith, r.0), r.1, r.2)
 
 rising_chosen : (b : Bool) (index : ℕ) (others : List ℕ) → index ≤ 31 → Rising (index + 1) others → Rising index (chosen b index others)
-rising_chosen true index others small r = (omega arith, small, r)
-rising_chosen false index others small r = rising_weaker index (index + 1) others (omega arith) r
+rising_chosen b index others small r = grind (arith, rising_weaker)
 
 rising_from : (more set index : ℕ) → index + more ≤ 32 → Rising index (streams_from set index more)
 rising_from zero set index h = tt
@@ -31,50 +30,18 @@ with_bit : (set k i : ℕ) → bit_at (bit_or set (2 ^ k)) i ≡ max (bit_at set
 with_bit set k i = bit_at_or set (2 ^ k) i
 
 bit_taken : (set part k : ℕ) → bit_at set k ≡ 1 → Prefix set part k → Prefix set (bit_or part (2 ^ k)) (k + 1)
-bit_taken set part k one prefix = record {
-  below = λ i inside. elim (cases_eq i k) [
-    | inl same ↦
-        let here = with_bit part k i in
-        let this : bit_at (2 ^ k) i ≡ 1 = ap (bit_at (2 ^ k)) same ∙ bit_at-pow_same k in
-        let small = bit_at-lt part i in
-        let there : bit_at set i ≡ 1 = ap (bit_at set) same ∙ one in
-        omega arith
-    | inr not ↦
-        let here = with_bit part k i in
-        let this = bit_at-pow_other k i not in
-        let there = prefix.below i (omega arith) in
-        omega arith
-  ];
-  above = λ i past.
-      let here = with_bit part k i in
-      let this = bit_at-pow_other k i (λ same. omega arith) in
-      let there = prefix.above i (omega arith) in
-      omega arith;
-}
+bit_taken set part k one prefix = grind (arith, cases_eq, with_bit, bit_at, bit_at-pow_same, bit_at-lt, bit_at-pow_other)
 
 bit_left : (set part k : ℕ) → (bit_at set k ≡ 1 → ⊥) → Prefix set part k → Prefix set part (k + 1)
-bit_left set part k none prefix = record {
-  below = λ i inside. elim (cases_eq i k) [
-    | inl same ↦
-        let small = bit_at-lt set k in
-        let zero_there : bit_at set k ≡ 0 = elim (cases_eq (bit_at set k) 1) [ inl one ↦ absurd (none one) | inr not ↦ omega arith ] in
-        prefix.above i (omega arith) ∙ sym (ap (bit_at set) same ∙ zero_there)
-    | inr not ↦ prefix.below i (omega arith)
-  ];
-  above = λ i past. prefix.above i (omega arith);
-}
+bit_left set part k none prefix = grind (arith, cases_eq, bit_at-lt, bit_at)
 
 not_one : (n : ℕ) → nat_eq n 1 ≡ false → n ≡ 1 → ⊥
 not_one n e same = let one : nat_eq 1 1 ≡ false = ap (λ (m : ℕ). nat_eq m 1) (sym same) ∙ e in cc one
 
 prefix_chosen : (b : Bool) (set part index k last : ℕ) (others : List ℕ) → index - 1 ≡ k → nat_eq (bit_at set (index - 1)) 1 ≡ b
     → ((next : ℕ) → Prefix set next (k + 1) → Prefix set (with_streams next others) last) → Prefix set part k → Prefix set (with_streams part (chosen b index others)) last
-prefix_chosen true set part index k last others place e rest prefix =
-    let one : bit_at set k ≡ 1 = ap (bit_at set) (sym place) ∙ eqb-true (bit_at set (index - 1)) 1 e in
-    rest (with_stream part index) (subst (λ (m : ℕ). Prefix set (bit_or part (2 ^ m)) (k + 1)) (sym place) (bit_taken set part k one prefix))
-prefix_chosen false set part index k last others place e rest prefix =
-    let none : bit_at set k ≡ 1 → ⊥ = λ one. not_one (bit_at set (index - 1)) e (ap (bit_at set) place ∙ one) in
-    rest part (bit_left set part k none prefix)
+prefix_chosen true set part index k last others place e rest prefix = grind (arith, bit_at, eqb-true, with_stream, bit_or, bit_taken)
+prefix_chosen false set part index k last others place e rest prefix = grind (arith, bit_at, not_one, bit_left)
 
 prefix_from : (more set part index k : ℕ) → index ≡ k + 1 → Prefix set part k → Prefix set (with_streams part (streams_from set index more)) (k + more)
 prefix_from zero set part index k is prefix = subst (λ (m : ℕ). Prefix set part m) (omega arith) prefix
@@ -112,11 +79,7 @@ streams_small (index ∷ indices) part least small low r =
 
 stays : (indices : List ℕ) (part i : ℕ) → bit_at part i ≡ 1 → bit_at (with_streams part indices) i ≡ 1
 stays [] part i one = one
-stays (index ∷ indices) part i one =
-    stays indices (with_stream part index) i
-    (let here = with_bit part (index - 1) i in
-    let small = bit_at-lt (2 ^ (index - 1)) i in
-    omega arith)
+stays (index ∷ indices) part i one = stays indices (with_stream part index) i (grind (arith, with_bit, bit_at-lt))
 
 pub streams_some : (first : ℕ) (others : List ℕ) → with_streams 0 (first ∷ others) ≢ 0
 streams_some first others none =

@@ -1,5 +1,5 @@
 -- The pairs of words that are left of a line.
-use Rattle.scenario_words.proofs.Prelude.{◌≡◌, ◌≢◌, ◌≤◌, ◌<◌, ℕ, zero, suc, ◌+◌, ◌-◌, List, [], ◌∷◌, ◌++◌, length, take, slice_get, Some, Result, Ok, refl, sym, ◌∙◌, ap, arith, length-append, Wish, LineFault, le-leb, MetadataFits, wishes_octets, ◌>>=◌, FindsOrWants, Left, told, wish_of, bounded, all_wishes_of}
+use Rattle.scenario_words.proofs.Prelude.{◌≡◌, ◌≢◌, ◌≤◌, ◌<◌, ℕ, zero, suc, ◌+◌, ◌-◌, List, [], ◌∷◌, ◌++◌, length, take, slice_get, Some, Result, Ok, sym, ◌∙◌, arith, length-append, Wish, LineFault, le-leb, MetadataFits, wishes_octets, ◌>>=◌, FindsOrWants, Left, told, wish_of, all_wishes_of}
 use Rattle.scenario_words.specs.Reading.{wishes_of}
 use Rattle.scenario_words.proofs.Streams.{fails_so}
 
@@ -9,24 +9,20 @@ go_on before more wish = wishes_of (before ++ wish.0 ∷ []) more wish.1.read wi
 one_more : (before : List Wish) (more read : ℕ) (words : List (List ℕ)) → words ≢ []
     → wishes_of before (suc more) read words ≡ (wish_of (record { words = words; read = read }) >>= go_on before more)
 unfolding wishes_of
-one_more before more read [] some = absurd (some refl)
-one_more before more read (word ∷ words) some = refl
+one_more before more read words some = grind arith
 
 less : (before : List Wish) (wish : Wish) → length before < 31 → 31 - length before ≡ suc (31 - length (before ++ wish ∷ []))
 less before wish few = let len : length (before ++ wish ∷ []) ≡ length before + 1 = length-append before (wish ∷ []) in omega arith
 
 at_one : (before : List Wish) (wish : Wish) (old : Left) (whole : Result (List Wish × Left) LineFault) → length before < 31 → old.words ≢ []
     → wishes_of before (31 - length before) old.read old.words ≡ whole → (wish_of old >>= go_on before (31 - length (before ++ wish ∷ []))) ≡ whole
-at_one before wish old whole few some so_far =
-    sym (one_more before (31 - length (before ++ wish ∷ [])) old.read old.words some)
-    ∙ (ap (λ n. wishes_of before n old.read old.words) (sym (less before wish few)) ∙ so_far)
+at_one before wish old whole few some so_far = grind (arith, one_more, length, less)
 
 -- the next pair fits
 pub wish_read : (before : List Wish) (wish : Wish) (old new : Left) (whole : Result (List Wish × Left) LineFault) → length before < 31 → old.words ≢ []
     → wish_of old ≡ Ok (wish, new) → wishes_of before (31 - length before) old.read old.words ≡ whole
     → wishes_of (before ++ wish ∷ []) (31 - length (before ++ wish ∷ [])) new.read new.words ≡ whole
-wish_read before wish old new whole few some e so_far =
-    sym (ap (λ (r : Result (Wish × Left) LineFault). r >>= go_on before (31 - length (before ++ wish ∷ []))) e) ∙ at_one before wish old whole few some so_far
+wish_read before wish old new whole few some e so_far = grind (arith, at_one before wish old whole few some so_far)
 
 -- or it doesn't
 pub wish_fails : (before : List Wish) (old : Left) (fault : LineFault) (whole : Result (List Wish × Left) LineFault) → length before < 31 → old.words ≢ []
@@ -38,9 +34,7 @@ wish_fails before old fault whole few some h so_far =
 -- no word is left, or all pairs are read
 none_of : (before : List Wish) (more read : ℕ) (words : List (List ℕ)) → words ≡ [] → wishes_of before more read words ≡ Ok (before, record { words = words; read = read })
 unfolding wishes_of
-none_of before zero read words e = refl
-none_of before (suc more) read [] e = refl
-none_of before (suc more) read (word ∷ words) e = absurd cc
+none_of before more read words e = grind arith
 
 pub no_wish : (before : List Wish) (old : Left) (whole : Result (List Wish × Left) LineFault) → old.words ≡ []
     → wishes_of before (31 - length before) old.read old.words ≡ whole → whole ≡ Ok (before, old)
@@ -48,8 +42,7 @@ no_wish before old whole none so_far = sym so_far ∙ none_of before (31 - lengt
 
 all_of : (before : List Wish) (more read : ℕ) (words : List (List ℕ)) → more ≡ 0 → wishes_of before more read words ≡ Ok (before, record { words = words; read = read })
 unfolding wishes_of
-all_of before zero read words e = refl
-all_of before (suc more) read words e = absurd (omega arith)
+all_of before more read words e = grind arith
 
 pub all_wishes : (before : List Wish) (old : Left) (whole : Result (List Wish × Left) LineFault) → length before ≡ 31
     → wishes_of before (31 - length before) old.read old.words ≡ whole → whole ≡ Ok (before, old)
@@ -75,8 +68,5 @@ one_short [] i wish fits e = absurd cc
 one_short (first ∷ wishes) zero wish fits e = let same : first ≡ wish = cc in rw (← same) fits.0
 one_short (first ∷ wishes) (suc i) wish fits e = one_short wishes i wish fits.1 e
 
-bounded_fits : (most : ℕ) (wishes : List Wish) (new : Left) → wishes_octets wishes ≤ most → bounded most (wishes, new) ≡ Ok (wishes, new)
-bounded_fits most wishes new few = rw (le-leb (wishes_octets wishes) most few) refl
-
 pub wishes_fit : (most : ℕ) (wishes : List Wish) (old new : Left) → wishes_of [] 31 old.read old.words ≡ Ok (wishes, new) → wishes_octets wishes ≤ most → all_wishes_of most old ≡ Ok (wishes, new)
-wishes_fit most wishes old new e few = rw e (bounded_fits most wishes new few)
+wishes_fit most wishes old new e few = grind (arith, le-leb, wishes_octets)

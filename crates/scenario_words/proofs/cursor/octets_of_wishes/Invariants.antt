@@ -2,7 +2,4 @@ use Rattle.scenario_words.proofs.Prelude.{◌≡◌, ◌≤◌, ◌*◌, take, w
 use Rattle.scenario_words.proofs.cursor.octets_of_wishes.Given as goal
 
 abbrev pub invariant-wishes : goal.invariant-wishes
-invariant-wishes l = record {
-  counted : l.octets ≡ wishes_octets (take l.i l.wishes);
-  few : l.octets ≤ 260 * l.i;
-}
+invariant-wishes l = record { counted : l.octets ≡ wishes_octets (take l.i l.wishes); few : l.octets ≤ 260 * l.i }

@@ -13,10 +13,7 @@ joined-requires-clause-second c =
     rw octets.1 (is_digit_at c.args.word.now (2 * c.pairs.i + 1) c.requires.digits (omega arith))
 
 pub pairs-preserved : goal.pairs-preserved
-pairs-preserved c =
-    let octets = octets_at c.args.word.now c.as_chunks.result.0.now c.pairs.i c.from_le_bytes.result c.as_chunks.ensures.front (omega arith) (λ k. (c.type_inv.word k).fits) c.from_le_bytes.ensures in
-    one_pair_more c.args.word.now c.pairs.octets c.pairs.i c.joined.result c.requires.digits (omega arith) (omega arith)
-    (rw (octets.0, octets.1) at c.joined.ensures) c.pairs.invariant
+pairs-preserved c = grind (arith, octets_at, one_pair_more)
 
 pub returns : goal.returns
 returns c = all_pairs c.args.word.now c.pairs.octets c.pairs.i c.requires.even (omega arith) (omega arith) c.pairs.invariant

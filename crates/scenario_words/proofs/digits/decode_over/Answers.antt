@@ -1,4 +1,4 @@
-use Rattle.scenario_words.proofs.Prelude.{arith, ◌≡◌, ◌%◌, length, sym, eqb-true, ◌∙◌}
+use Rattle.scenario_words.proofs.Prelude.{arith, ◌≡◌, ◌%◌, length, eqb-true}
 use Rattle.scenario_words.proofs.DigitChunks.{all_read, piece_read}
 use Rattle.scenario_words.proofs.digits.decode_over.Goals as goal
 
@@ -11,5 +11,4 @@ chunks-preserved c =
     c.chunks.invariant c.split_at.ensures.front c.split_at.ensures.back prefix back put.1 put.2
 
 pub returns : goal.returns
-returns c = all_read c.args.word.now c.chunks.octets c.chunks.rest.now (eqb-true _ _ (sym c.is_empty.ensures ∙ c.chunks-test.false))
-    c.requires.even c.requires.digits c.chunks.invariant
+returns c = grind (arith, all_read, eqb-true)

@@ -1,4 +1,5 @@
-use Rattle.scenario_words.proofs.Prelude.{ℕ, List, [], refl, subst, append-nil, Place, PlaceValue, one, perhaps, rising, wishes, Spells, HasWords, words_for}
+use Rattle.std.proofs.Common.{arith}
+use Rattle.scenario_words.proofs.Prelude.{[], refl, append-nil, Place, PlaceValue, one, perhaps, rising, wishes, Spells, HasWords, words_for}
 use Rattle.scenario_words.proofs.Places.{EndsAt, words_fit, words_spelled}
 use Rattle.scenario_words.proofs.laws.values_have_words_where_some_words_spell_them.Goals as goal
 
@@ -9,8 +10,7 @@ nothing_left rising = refl
 nothing_left (wishes most) = refl
 
 alone : (place : Place) (value : PlaceValue place) → HasWords place value → Spells place value (words_for place value) []
-alone place value h =
-    subst (λ (words : List (List ℕ)). Spells place value words []) (append-nil (words_for place value)) (words_spelled place value [] (nothing_left place) h)
+alone place value h = grind (arith, append-nil (words_for place value), words_spelled place value [] (nothing_left place) h)
 
 pub returns-clause-exact : goal.returns-clause-exact
 returns-clause-exact c place value = (λ h. (words_for place value, alone place value h), λ h. words_fit place value h.0 [] h.1)

@@ -1,4 +1,5 @@
-use Rattle.scenario_words.proofs.Prelude.{refl, sym, ◌∙◌}
+use Rattle.std.proofs.Common.{arith}
+use Rattle.scenario_words.proofs.Prelude.{refl}
 use Rattle.scenario_words.proofs.LastWord.{last_fits, last_spells}
 use Rattle.scenario_words.proofs.OneWord.{octets_range}
 use Rattle.scenario_words.proofs.cursor.Cursor.last_octets_over.Goals as goal
@@ -7,8 +8,4 @@ pub returns-in_err-octets_over-clause-memory : goal.returns-in_err-octets_over-c
 returns-in_err-octets_over-clause-memory c = λ err. rw (← c.self.view_is) (last_spells c.args.most c.self.inside.read c.self.inside.rest c.in-Some.rest c.in-Some.is (c.in_err-octets_over.ensures.memory refl))
 
 pub returns-clause-last : goal.returns-clause-last
-returns-clause-last c =
-    let fits = c.in_ok-octets_over.ensures.gives c.if-not-branch.false in (
-      rw (← c.self.view_is, c.replace.ensures.value) (last_fits c.args.most c.self.inside.read c.self.inside.rest c.in-Some.rest c.octets_over.new.octets c.in-Some.is (sym fits)),
-      rw c.replace.ensures.value (octets_range c.args.most c.in-Some.rest.now c.octets_over.new.octets fits),
-    )
+returns-clause-last c = grind (arith, last_fits, octets_range)

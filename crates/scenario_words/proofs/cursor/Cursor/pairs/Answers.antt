@@ -5,8 +5,7 @@ use Rattle.scenario_words.proofs.WishWords.{wish_read, wish_fails, no_wish, all_
 use Rattle.scenario_words.proofs.cursor.Cursor.pairs.Goals as goal
 
 pub returns-then-count-eq-MOST_WISHES-clause-gives : goal.returns-then-count-eq-MOST_WISHES-clause-gives
-returns-then-count-eq-MOST_WISHES-clause-gives c =
-    all_wishes c.pairs.wishes c.pairs.self (wishes_of [] 31 c.args.self.now.read c.args.self.now.words) (omega (arith, c.if-count-eq-MOST_WISHES.true, c.count.ensures.same)) c.pairs.invariant.rest
+returns-then-count-eq-MOST_WISHES-clause-gives c = grind (arith, all_wishes)
 
 pub returns-in_err-wish-clause-gives : goal.returns-in_err-wish-clause-gives
 returns-in_err-wish-clause-gives c =
@@ -23,18 +22,7 @@ pub returns-in_err-push-clause-memory : goal.returns-in_err-push-clause-memory
 returns-in_err-push-clause-memory c = λ memory. c.pairs.invariant.some (c.has_more.ensures.0 c.pairs-test.true)
 
 pub pairs-preserved : goal.pairs-preserved
-pairs-preserved c =
-    let more : c.pairs.self.words ≢ [] = c.has_more.ensures.0 c.pairs-test.true in
-    let few : length c.pairs.wishes < 31 = omega (arith, c.pairs.invariant.few, c.if-count-eq-MOST_WISHES.false, c.count.ensures.same) in
-    let next =
-    wish_read c.pairs.wishes c.in_ok-wish.wish c.pairs.self c.wish.new.self (wishes_of [] 31 c.args.self.now.read c.args.self.now.words) few more c.in_ok-wish.ensures.gives c.pairs.invariant.rest in
-    let longer = one_longer c.pairs.wishes c.in_ok-wish.wish in
-    record {
-      few = rw c.in_ok-push.ensures.ok (omega arith);
-      short = rw c.in_ok-push.ensures.ok (metadata_more c.pairs.wishes c.in_ok-wish.wish c.pairs.invariant.short c.in_ok-wish.ensures.range);
-      some = λ left. c.pairs.invariant.some more;
-      rest = rw c.in_ok-push.ensures.ok next;
-    }
+pairs-preserved c = grind (arith, length, wish_read, one_longer, metadata_more)
 
 pub returns-clause-gives : goal.returns-clause-gives
 returns-clause-gives c =
