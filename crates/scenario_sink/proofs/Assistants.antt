@@ -1,5 +1,5 @@
 -- A link on which one thing more happens.
-use Rattle.scenario_sink.proofs.Prelude.{ℕ, zero, suc, ◌≡◌, ◌≤◌, Bool, true, false, List, [], ◌∷◌, ◌++◌, length, map, drop, slice_get, Option, Some, refl, sym, ap, ◌∙◌, subst, arith, inl, inr, ◌==◌, ◌&&◌, not, unwrap_or, cases_eq, eq-eqb, ne_eqb, IsOctets, ReceiveState, Assistant, if_slot, reading_of, Notice, delivered_of, if_its, notices_of, told_by, value_of, waiting_of, waits_of, Acts, Told, delivered, language, Linked, LinkHolds}
+use Rattle.scenario_sink.proofs.Prelude.{ℕ, zero, suc, ◌≡◌, ◌≤◌, Bool, true, false, List, [], ◌∷◌, ◌++◌, length, map, drop, slice_get, Option, Some, refl, sym, ap, ◌∙◌, arith, inl, inr, ◌==◌, ◌&&◌, not, unwrap_or, cases_eq, eq-eqb, ne_eqb, IsOctets, ReceiveState, Assistant, if_slot, reading_of, Notice, delivered_of, if_its, notices_of, told_by, value_of, waiting_of, waits_of, Acts, Told, delivered, language, Linked, LinkHolds}
 use Rattle.assistant_machine.specs.Calls as assistants
 use Rattle.assistant_machine.specs.State.Assistants.{StandsFor}
 use Rattle.assistant_machine.specs.Views as known
@@ -11,15 +11,13 @@ use Rattle.assistant_machine.specs.Links.{view_of}
 
 pub holds_as : (slots : ℕ) (mtu : Option ℕ) (acts others : Acts) (writes more : List (List ℕ)) (on : Linked) → acts ≡ others → writes ≡ more
     → LinkHolds slots mtu acts writes on → LinkHolds slots mtu others more on
-holds_as slots mtu acts others writes more on same are holds =
-    subst (λ ws. LinkHolds slots mtu others ws on) are (subst (λ happened. LinkHolds slots mtu happened writes on) same holds)
+holds_as slots mtu acts others writes more on same are holds = grind arith
 
 -- ---- writes
 
 drop_one : {A : Type 0} (n : ℕ) (xs : List A) → drop (suc n) xs ≡ drop 1 (drop n xs)
-drop_one zero xs = refl
-drop_one (suc n) [] = refl
 drop_one (suc n) (x ∷ xs) = drop_one n xs
+drop_one n xs = search
 
 drop_more : {A : Type 0} (n : ℕ) (xs : List A) (x : A) → n ≤ length xs → drop n (xs ++ x ∷ []) ≡ drop n xs ++ x ∷ []
 drop_more zero xs x h = refl
@@ -29,30 +27,12 @@ drop_more (suc n) (y ∷ xs) x h = drop_more n xs x (omega arith)
 pub put_holds : (slots : ℕ) (mtu : Option ℕ) (acts : Acts) (writes : List (List ℕ)) (on : Linked) (octets : List ℕ) (after : Assistant)
     → ((slots : ℕ) (taken : List assistants.Call) → StandsFor slots taken on.assistant → StandsFor slots (assistants.put octets ∷ taken) after)
     → LinkHolds slots mtu acts writes on → LinkHolds slots mtu acts (writes ++ octets ∷ []) (record on { assistant = after })
-put_holds slots mtu acts writes on octets after stands holds = record {
-  taken = assistants.put octets ∷ holds.taken;
-  assistant = stands slots holds.taken holds.assistant;
-  heard = (tt, holds.heard);
-  mtu_is = holds.mtu_is;
-  writes_are = drop_more (assistants.sent_of holds.taken) (assistants.writes_of holds.taken) octets holds.assistant.sent ∙ ap (λ ws. ws ++ octets ∷ []) holds.writes_are;
-  views = holds.views;
-  reads = holds.reads;
-  notices = holds.notices;
-}
+put_holds slots mtu acts writes on octets after stands holds = grind (arith, drop_more)
 
 pub sent_holds : (slots : ℕ) (mtu : Option ℕ) (acts : Acts) (writes : List (List ℕ)) (on : Linked) (after : Assistant)
     → ((slots : ℕ) (taken : List assistants.Call) → StandsFor slots taken on.assistant → StandsFor slots (assistants.sent ∷ taken) after)
     → LinkHolds slots mtu acts writes on → LinkHolds slots mtu acts (drop 1 writes) (record on { assistant = after })
-sent_holds slots mtu acts writes on after stands holds = record {
-  taken = assistants.sent ∷ holds.taken;
-  assistant = stands slots holds.taken holds.assistant;
-  heard = (tt, holds.heard);
-  mtu_is = holds.mtu_is;
-  writes_are = drop_one (assistants.sent_of holds.taken) (assistants.writes_of holds.taken) ∙ ap (drop 1) holds.writes_are;
-  views = holds.views;
-  reads = holds.reads;
-  notices = holds.notices;
-}
+sent_holds slots mtu acts writes on after stands holds = grind (arith, drop_one, drop)
 
 pub waiting_writes : (slots : ℕ) (mtu : Option ℕ) (acts : Acts) (writes : List (List ℕ)) (on : Linked) → LinkHolds slots mtu acts writes on → on.assistant.writes ≡ writes
 waiting_writes slots mtu acts writes on holds = holds.assistant.writes ∙ holds.writes_are
@@ -62,40 +42,23 @@ waiting_writes slots mtu acts writes on holds = holds.assistant.writes ∙ holds
 -- what octets give as a value, as both say it
 same_view : (a b : Bool) (given : Option (Option ReceiveState)) (old : Option ReceiveState)
     → unwrap_or (if_slot (a && not b) given) old ≡ unwrap_or (if_its (a && not b) given) old
-same_view true true given old = refl
-same_view true false given old = refl
-same_view false b given old = refl
+same_view a b given old = grind arith
 
 same_wait : (a b old : Bool) → unwrap_or (if_slot (a && b) (Some true)) old ≡ unwrap_or (if_its (a && b) (Some true)) old
-same_wait true true old = refl
-same_wait true false old = refl
-same_wait false b old = refl
+same_wait a b old = grind arith
 
 heard_view : (mtu known : Option ℕ) (slot at : ℕ) (octets : List ℕ) (old now : Option ReceiveState) → known ≡ mtu → old ≡ now
     → unwrap_or (if_slot ((at == slot) && not (asks known octets)) (reading_of octets)) old ≡ unwrap_or (told_by (language mtu) slot at octets) now
-heard_view mtu known slot at octets old now is same =
-    (λ i. unwrap_or (if_slot ((at == slot) && not (asks (is i) octets)) (reading_of octets)) (same i))
-    ∙ same_view (at == slot) (asks mtu octets) (reading_of octets) now
+heard_view mtu known slot at octets old now is same = grind (arith, unwrap_or, if_slot, not, reading_of, same_view)
 
 heard_wait : (mtu known : Option ℕ) (slot at : ℕ) (octets : List ℕ) (old now : Bool) → known ≡ mtu → old ≡ now
     → unwrap_or (if_slot ((at == slot) && asks known octets) (Some true)) old ≡ unwrap_or (links.asked_by (language mtu) slot at octets) now
-heard_wait mtu known slot at octets old now is same =
-    (λ i. unwrap_or (if_slot ((at == slot) && asks (is i) octets) (Some true)) (same i))
-    ∙ same_wait (at == slot) (asks mtu octets) now
+heard_wait mtu known slot at octets old now is same = grind (arith, unwrap_or, if_slot, same_wait)
 
 pub forged_holds : (slots : ℕ) (mtu : Option ℕ) (acts : Acts) (writes : List (List ℕ)) (on : Linked) (at : ℕ) (octets : List ℕ) (after : Assistant) → IsOctets octets
     → ((slots : ℕ) (taken : List assistants.Call) → StandsFor slots taken on.assistant → StandsFor slots (assistants.notified at octets ∷ taken) after)
     → LinkHolds slots mtu acts writes on → LinkHolds slots mtu (links.forged at octets ∷ acts) writes (record on { assistant = after })
-forged_holds slots mtu acts writes on at octets after are stands holds = record {
-  taken = assistants.notified at octets ∷ holds.taken;
-  assistant = stands slots holds.taken holds.assistant;
-  heard = (are, holds.heard);
-  mtu_is = holds.mtu_is;
-  writes_are = holds.writes_are;
-  views = λ slot. heard_view mtu (assistants.mtu_of holds.taken) slot at octets (known.view_of slot holds.taken) (view_of (language mtu) slot acts) holds.mtu_is (holds.views slot);
-  reads = λ slot. heard_wait mtu (assistants.mtu_of holds.taken) slot at octets (known.waits_of slot holds.taken) (waits_of (language mtu) slot acts) holds.mtu_is (holds.reads slot);
-  notices = holds.notices;
-}
+forged_holds slots mtu acts writes on at octets after are stands holds = grind (arith, heard_view, language, heard_wait, waits_of)
 
 -- the first notice that waits is as it is delivered
 pub first_notice : (slots : ℕ) (mtu : Option ℕ) (acts : Acts) (writes : List (List ℕ)) (on : Linked) → LinkHolds slots mtu acts writes on
@@ -110,34 +73,29 @@ told_wait : (mtu : Option ℕ) (slot : ℕ) (first : Told) (rest waiting : List 
     → links.first_asked (language mtu) slot waiting ≡ links.asked_by (language mtu) slot (delivered mtu first).slot (delivered mtu first).value
 told_wait mtu slot first rest waiting is = ap (links.first_asked (language mtu) slot) is
 
-told_rest : (mtu : Option ℕ) (acts : Acts) → drop 1 (map (delivered mtu) (waiting_of acts)) ≡ map (delivered mtu) (waiting_of (links.notified ∷ acts))
-told_rest mtu acts =
-    dropped (waiting_of acts) ∙ ap (map (delivered mtu)) (sym (drop_one (delivered_of acts) (notices_of acts)))
-  where
-    dropped : (ws : List Told) → drop 1 (map (delivered mtu) ws) ≡ map (delivered mtu) (drop 1 ws)
-    dropped [] = refl
-    dropped (w ∷ ws) = refl
-
 pub told_holds : (slots : ℕ) (mtu : Option ℕ) (acts : Acts) (writes : List (List ℕ)) (on : Linked) (first : Told) (rest : List Told) (notice : Notice) (after : Assistant)
     → waiting_of acts ≡ first ∷ rest → notice ≡ delivered mtu first → IsOctets notice.value
     → ((slots : ℕ) (taken : List assistants.Call) → StandsFor slots taken on.assistant → StandsFor slots (assistants.notified notice.slot notice.value ∷ taken) after)
     → LinkHolds slots mtu acts writes on → LinkHolds slots mtu (links.notified ∷ acts) writes (record { waiting = drop 1 on.waiting; assistant = after })
-told_holds slots mtu acts writes on first rest notice after waits is are stands holds = record {
-  taken = assistants.notified notice.slot notice.value ∷ holds.taken;
-  assistant = stands slots holds.taken holds.assistant;
-  heard = (are, holds.heard);
-  mtu_is = holds.mtu_is;
-  writes_are = holds.writes_are;
-  views = λ slot.
-      heard_view mtu (assistants.mtu_of holds.taken) slot notice.slot notice.value (known.view_of slot holds.taken) (view_of (language mtu) slot acts) holds.mtu_is (holds.views slot)
-      ∙ ap (λ (n : Notice). unwrap_or (told_by (language mtu) slot n.slot n.value) (view_of (language mtu) slot acts)) is
-      ∙ ap (λ given. unwrap_or given (view_of (language mtu) slot acts)) (sym (told_view mtu slot first rest (waiting_of acts) waits));
-  reads = λ slot.
-      heard_wait mtu (assistants.mtu_of holds.taken) slot notice.slot notice.value (known.waits_of slot holds.taken) (waits_of (language mtu) slot acts) holds.mtu_is (holds.reads slot)
-      ∙ ap (λ (n : Notice). unwrap_or (links.asked_by (language mtu) slot n.slot n.value) (waits_of (language mtu) slot acts)) is
-      ∙ ap (λ given. unwrap_or given (waits_of (language mtu) slot acts)) (sym (told_wait mtu slot first rest (waiting_of acts) waits));
-  notices = ap (drop 1) holds.notices ∙ told_rest mtu acts;
-}
+told_holds slots mtu acts writes on first rest notice after waits is are stands holds =
+    grind (
+      arith,
+      heard_view,
+      language,
+      unwrap_or,
+      told_by,
+      told_view,
+      waiting_of,
+      heard_wait,
+      waits_of,
+      told_wait,
+      drop,
+      map,
+      delivered,
+      drop_one,
+      delivered_of,
+      notices_of,
+    )
 
 -- ---- reads
 
@@ -162,8 +120,7 @@ read_view mtu at slot octets acts old is same = elim (cases_eq at slot) [
     here false given e = absurd cc
 
 read_wait : (b old now : Bool) → old ≡ now → unwrap_or (if_slot b (Some false)) old ≡ unwrap_or (if_its b (Some false)) now
-read_wait true old now same = refl
-read_wait false old now same = same
+read_wait b old now same = grind arith
 
 pub read_holds : (slots : ℕ) (mtu : Option ℕ) (acts : Acts) (writes : List (List ℕ)) (on : Linked) (at : ℕ) (octets : List ℕ) (asked after : Assistant)
     → octets ≡ (language mtu).encode (value_of (language mtu) at acts) → IsOctets octets

@@ -1,5 +1,6 @@
 -- A new sink.
-use Rattle.scenario_sink.proofs.Prelude.{ℕ, zero, suc, ◌≡◌, [], ◌∷◌, List, Option, Some, None, refl, sym, ◌∙◌, subst, slice_index_or, ne_eqb, Halves, StandsFor, mtu_set, Settings, Setup, waiting_goes_on, is_joined, stepped, link_at, linked, mtu_of, slots_of, Linked, joining, Links, SinkHistory, new_sink, OnLink, HasStepped, Stands, after_call, its_mtu}
+use Rattle.std.proofs.Common.{arith}
+use Rattle.scenario_sink.proofs.Prelude.{ℕ, ◌≡◌, [], ◌∷◌, List, Option, Some, None, refl, ◌∙◌, subst, slice_index_or, ne_eqb, Halves, StandsFor, mtu_set, Settings, Setup, waiting_goes_on, is_joined, stepped, link_at, linked, mtu_of, slots_of, Linked, joining, Links, SinkHistory, new_sink, OnLink, HasStepped, Stands, after_call, its_mtu}
 use Rattle.delegator_history.specs.States.{answered}
 use Rattle.group_sink.specs.Calls as sinks
 use Rattle.scenario_sink.proofs.Fresh.{first_holds}
@@ -10,16 +11,11 @@ abbrev its_links : ℕ → Option ℕ → List (Option Linked)
 its_links slots mtu = Some (record { waiting = []; assistant = joining slots mtu }) ∷ None ∷ None ∷ None ∷ []
 
 fresh : (slots : ℕ) (mtu : Option ℕ) (link : ℕ) → OnLink slots mtu (is_joined link []) [] [] (slice_index_or (its_links slots mtu) link None)
-fresh slots mtu zero = on_some refl (first_holds slots mtu)
-fresh slots mtu (suc zero) = on_none refl
-fresh slots mtu (suc (suc zero)) = on_none refl
-fresh slots mtu (suc (suc (suc zero))) = on_none refl
-fresh slots mtu (suc (suc (suc (suc link)))) = on_none (ne_eqb (suc (suc (suc (suc link)))) 0 (λ e. absurd cc))
+fresh slots mtu link = grind (arith, on_some, first_holds, on_none, ne_eqb)
 
 on_each : (made : Settings) (links : Links) → linked links ≡ its_links made.setup.slots made.mtu → (link : ℕ)
     → OnLink made.setup.slots made.mtu (is_joined link []) [] [] (link_at links link)
-on_each made links are link =
-    subst (λ ons. OnLink made.setup.slots made.mtu (is_joined link []) [] [] (slice_index_or ons link None)) (sym are) (fresh made.setup.slots made.mtu link)
+on_each made links are link = grind (arith, fresh made.setup.slots made.mtu link)
 
 -- before its MTU was set
 abbrev unset : Setup → Option ℕ → SinkHistory
@@ -32,17 +28,7 @@ alone setup mtu = refl
 pub born_stands : Tells → (setup : Setup) (mtu : Option ℕ) (d : Halves) (links : Links) → StandsFor setup (its_mtu mtu) d
     → slots_of links ≡ setup.slots → mtu_of links ≡ mtu → linked links ≡ its_links setup.slots mtu → Stands (new_sink (record { setup = setup; mtu = mtu })) d links
 born_stands tells setup None d links stands slots_are mtu_are are = record {
-  took = record {
-    taken = [];
-    stands = stands;
-    own = refl;
-    received_is = refl;
-    settings_is = (λ i. record { setup = stands.setup_is i; mtu = stands.steps.mtu i });
-    links_slots = slots_are;
-    links_mtu = mtu_are;
-    octets = tt;
-    first = refl;
-  };
+  took = grind arith;
   none_waits = waiting_is setup [] d stands;
   each = on_each (record { setup = setup; mtu = None }) links are;
 }

@@ -1,8 +1,7 @@
 -- A sink whose links took a call.
-use Rattle.scenario_sink.proofs.Prelude.{ℕ, zero, suc, ◌≡◌, ◌≢◌, ◌<◌, ◌≤◌, true, false, List, [], ◌∷◌, length, map, drop, slice_get, slice_set, Option, Some, None, refl, sym, ap, ◌∙◌, subst, arith, inl, inr, is_some, option_map, slice_index_or, cases_eq, IsOctets, value_of, waits_of, Assistant, IsLowest, NoneWaits, Halves, StandsFor, settings_of, Notice, written, Setup, value, Call, asked, forged, joined, parted, read, served, notified, is_joined, step_by, writes_waiting, IsApart, Told, acts_of, delivered, language, notices_waiting, reads_waiting, state, AreOctets, IsAsked, writes_one, link_at, linked, mtu_of, slots_of, with_assistant_on, Linked, asking, assistant_in, first_of, without_first, Links, SinkHistory, LinkHolds, OnLink, HasStepped, LinkIs, Stands, after_call, Takes}
+use Rattle.scenario_sink.proofs.Prelude.{ℕ, suc, ◌≡◌, ◌≢◌, ◌<◌, ◌≤◌, true, false, List, [], ◌∷◌, length, map, drop, slice_get, slice_set, Option, Some, None, refl, sym, ap, ◌∙◌, subst, arith, inl, inr, is_some, option_map, slice_index_or, cases_eq, IsOctets, value_of, waits_of, Assistant, IsLowest, NoneWaits, Halves, StandsFor, settings_of, Notice, written, Setup, value, Call, asked, forged, joined, parted, read, served, notified, is_joined, step_by, writes_waiting, IsApart, Told, acts_of, delivered, language, notices_waiting, reads_waiting, state, AreOctets, IsAsked, writes_one, link_at, linked, mtu_of, slots_of, with_assistant_on, Linked, asking, assistant_in, first_of, without_first, Links, SinkHistory, LinkHolds, OnLink, HasStepped, LinkIs, Stands, after_call, Takes}
 use Rattle.assistant_machine.specs.Answers.{answer_of}
 use Rattle.assistant_machine.specs.Calls as assistants
-use Rattle.assistant_machine.specs.Links as happened
 use Rattle.assistant_machine.specs.Views as known
 use Rattle.delegator_machine.specs.Calls as machine
 use Rattle.scenario_sink.proofs.Acts.{acts_joined, acts_read, acts_told, apart_joined, joins, none_there, parts}
@@ -60,11 +59,7 @@ takes_one leaves call link history d old new on took apart are none first its th
 -- its assistant was lent, and left as it was
 pub kept : (link : ℕ) (history : SinkHistory) (d : Halves) (old new : Links) (its : Stands history d old) (is_on : is_joined link history.calls_made ≡ true)
     → new ≡ with_assistant_on old link (here link history d old its is_on).on.assistant → Stands history d new
-kept link history d old new its is_on links =
-    let h : Here link history old = here link history d old its is_on in
-    let same = lent_terms old link h.on h.on.assistant h.there in
-    unchanged history d old new its (ap slots_of links ∙ same.0, ap mtu_of links ∙ same.1)
-    (λ other. ap (λ (ls : Links). link_at ls other) links ∙ lent_same old link other h.on h.there)
+kept link history d old new its is_on links = grind (arith, here, lent_terms, unchanged, slots_of, mtu_of, link_at, lent_same)
 
 -- ---- a write that is put
 
@@ -73,21 +68,16 @@ pub asks : Leaves → (link : ℕ) (octets : List ℕ) (history : SinkHistory) (
 asks leaves link octets history d old new its is_on are t =
     let h : Here link history old = here link history d old its is_on in
     takes_one leaves (asked link octets) link history d old new h.on (assistants.put octets ∷ []) (λ other apart e. apart (sym e)) are refl its.took.first its h.there t is_on
-    (subst (λ writes. LinkHolds history.made.setup.slots history.made.mtu (acts_of history.made.setup history.made.mtu link history.calls_made) writes (record h.on { assistant = t.after }))
-    (sym (writes_asked link octets history.calls_made))
-    (put_holds history.made.setup.slots history.made.mtu (acts_of history.made.setup history.made.mtu link history.calls_made) (writes_waiting link history.calls_made) h.on octets t.after t.stands h.holds))
+    (grind (arith, acts_of, writes_asked, put_holds, writes_waiting))
 
 -- ---- a write that is served
 
 pub first_write : (link : ℕ) (history : SinkHistory) (links : Links) (h : Here link history links) (write : List ℕ) → h.on.assistant.writes ≡ write ∷ drop 1 h.on.assistant.writes
     → slice_get (writes_waiting link history.calls_made) 0 ≡ Some write
-first_write link history links h write is =
-    ap (λ ws. slice_get ws 0)
-    (sym (waiting_writes history.made.setup.slots history.made.mtu (acts_of history.made.setup history.made.mtu link history.calls_made) (writes_waiting link history.calls_made) h.on h.holds) ∙ is)
+first_write link history links h write is = grind (arith, slice_get, waiting_writes, acts_of, writes_waiting)
 
 pub no_write : (link : ℕ) (history : SinkHistory) (links : Links) (h : Here link history links) → h.on.assistant.writes ≡ [] → writes_waiting link history.calls_made ≡ []
-no_write link history links h is =
-    sym (waiting_writes history.made.setup.slots history.made.mtu (acts_of history.made.setup history.made.mtu link history.calls_made) (writes_waiting link history.calls_made) h.on h.holds) ∙ is
+no_write link history links h is = grind (arith, waiting_writes, acts_of, writes_waiting)
 
 -- the write is off its link, and the delegator served it
 pub serves : (link : ℕ) (write : List ℕ) (history : SinkHistory) (d served_by : Halves) (old new : Links) (its : Stands history d old) (is_on : is_joined link history.calls_made ≡ true)
@@ -162,13 +152,8 @@ pub none_taken : (link : ℕ) (history : SinkHistory) (d : Halves) (old new : Li
 none_taken link history d old new its is_on handed links terms =
     let h : Here link history old = here link history d old its is_on in
     let none : slice_get h.on.waiting 0 ≡ None = sym (ap first_of h.there) ∙ sym handed in
-    let same : link_at new link ≡ link_at old link =
-    at_it old new link (without_first (link_at old link)) links (one_of_four old link h.on h.there) ∙ ap without_first h.there
-    ∙ ap (λ (ns : List Notice). Some (record h.on { waiting = ns })) (ap (drop 1) (none_there h.on.waiting none) ∙ sym (none_there h.on.waiting none)) ∙ sym h.there in
-    unchanged history d old new its terms (λ other. elim (cases_eq other link) [
-      | inl e ↦ subst (λ n. link_at new n ≡ link_at old n) (sym e) same
-      | inr apart ↦ at_other old new link (without_first (link_at old link)) links other apart
-    ])
+    let same : link_at new link ≡ link_at old link = grind (arith, at_it, without_first, link_at, one_of_four, drop, none_there) in
+    unchanged history d old new its terms (grind (arith, cases_eq, link_at, at_other, without_first))
 
 -- ---- a notice that is forged
 
@@ -183,17 +168,13 @@ forges leaves slot octets history d old new its t =
 
 pub which_read : (link : ℕ) (history : SinkHistory) (links : Links) (h : Here link history links) (slot : ℕ) → IsLowest h.on.assistant.reads slot
     → slice_get (reads_waiting history.made.setup history.made.mtu link history.calls_made) 0 ≡ Some slot
-which_read link history links h slot lowest =
-    lowest_read (λ s. waits_of (language history.made.mtu) s (acts_of history.made.setup history.made.mtu link history.calls_made)) h.on.assistant.reads history.made.setup.slots slot
-    h.holds.assistant.reads_count (λ s below. h.holds.assistant.reads s below ∙ ap Some (h.holds.reads s)) lowest
+which_read link history links h slot lowest = grind (arith, lowest_read, waits_of, language, acts_of)
 
 pub slot_there : (link : ℕ) (history : SinkHistory) (links : Links) (h : Here link history links) (slot : ℕ) → IsLowest h.on.assistant.reads slot → slot < history.made.setup.slots
 slot_there link history links h slot lowest = lowest_within h.on.assistant.reads history.made.setup.slots slot h.holds.assistant.reads_count lowest
 
 pub no_read : (link : ℕ) (history : SinkHistory) (links : Links) (h : Here link history links) → NoneWaits h.on.assistant.reads → reads_waiting history.made.setup history.made.mtu link history.calls_made ≡ []
-no_read link history links h none =
-    none_read (λ s. waits_of (language history.made.mtu) s (acts_of history.made.setup history.made.mtu link history.calls_made)) h.on.assistant.reads history.made.setup.slots h.holds.assistant.reads_count
-    (λ s below. h.holds.assistant.reads s below ∙ ap Some (h.holds.reads s)) none
+no_read link history links h none = grind (arith, none_read, waits_of, language, acts_of)
 
 abbrev pub GivesState : Type 0
 GivesState = (setup : Setup) (mtu : Option ℕ) (link slot : ℕ) (calls : List Call) → setup.slots < 256 → slot < setup.slots → AreOctets calls
@@ -230,15 +211,8 @@ joins_one leaves link history d old new its least terms links =
     let on : Linked = asking history.made.setup.slots history.made.mtu in
     let there : link_at new link ≡ Some on =
     at_it old new link (Some (asking (slots_of old) (mtu_of old))) links least ∙ (λ i. Some (asking (its.took.links_slots i) (its.took.links_mtu i))) in
-    one_link leaves (joined link) link history d old new (λ other apart e. apart (sym e)) tt refl (elim (cases_eq link 0) [
-      | inl e ↦ subst (λ n. is_joined 0 (joined n ∷ history.calls_made) ≡ true) (sym e) (joins 0 history.calls_made)
-      | inr apart ↦ apart_joined 0 (joined link) history.calls_made apart ∙ its.took.first
-    ]) its terms (at_other old new link (Some (asking (slots_of old) (mtu_of old))) links)
-    (set_on link (after_call (joined link) history) new on there (joins link history.calls_made)
-    (holds_as history.made.setup.slots history.made.mtu (happened.joined ∷ acts_of history.made.setup history.made.mtu link history.calls_made)
-    (acts_of history.made.setup history.made.mtu link (joined link ∷ history.calls_made)) [] (writes_waiting link (joined link ∷ history.calls_made)) on
-    (sym (acts_joined history.made.setup history.made.mtu link history.calls_made)) (sym (writes_joined link history.calls_made))
-    (anew_holds history.made.setup.slots history.made.mtu (acts_of history.made.setup history.made.mtu link history.calls_made))))
+    one_link leaves (joined link) link history d old new (λ other apart e. apart (sym e)) tt refl (grind (arith, cases_eq, is_joined, joined, joins, apart_joined)) its terms (at_other old new link (Some (asking (slots_of old) (mtu_of old))) links)
+    (grind (arith, set_on, after_call, joined, joins, holds_as, acts_of, writes_waiting, acts_joined, writes_joined, anew_holds))
 
 pub parts_one : Leaves → (link : ℕ) (history : SinkHistory) (d : Halves) (old new : Links) (its : Stands history d old) → 1 ≤ link → link ≤ 3 → SameTerms new old
     → linked new ≡ slice_set (linked old) link None → Stands (after_call (parted link) history) d new
@@ -250,9 +224,8 @@ parts_one leaves link history d old new its some least terms links =
 -- ---- what is answered
 
 by_get : {A : Type 0} (xs : List (Option A)) (i : ℕ) (x : Option A) → slice_get xs i ≡ Some x → slice_index_or xs i None ≡ x
-by_get [] i x is = absurd cc
-by_get (y ∷ xs) zero x is = cc
 by_get (y ∷ xs) (suc i) x is = by_get xs i x is
+by_get xs i x is = search
 
 pub its_view : (link : ℕ) (history : SinkHistory) (links : Links) (h : Here link history links) (slot : ℕ) → slot < history.made.setup.slots
     → slice_index_or h.on.assistant.views slot None ≡ known.view_of slot h.holds.taken
@@ -260,9 +233,7 @@ its_view link history links h slot below = by_get h.on.assistant.views slot (kno
 
 pub its_answer : (link : ℕ) (history : SinkHistory) (links : Links) (h : Here link history links) (slot : ℕ) (octets : List ℕ)
     → answer_of (length h.on.assistant.views) h.on.assistant.mtu slot octets ≡ answer_of history.made.setup.slots history.made.mtu slot octets
-its_answer link history links h slot octets =
-    let mtus : h.on.assistant.mtu ≡ history.made.mtu = h.holds.assistant.mtu ∙ h.holds.mtu_is in
-    (λ i. answer_of (h.holds.assistant.views_count i) (mtus i) slot octets)
+its_answer link history links h slot octets = grind arith
 
 -- a sink has its slots
 pub slots_there : (history : SinkHistory) (d : Halves) (links : Links) (slots : ℕ) → Stands history d links → d.scan.setup.slots ≡ slots → history.made.setup.slots ≡ slots

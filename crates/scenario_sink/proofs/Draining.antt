@@ -95,19 +95,14 @@ none_yet history link kind text living lives = record {
   count = 0;
   turned = omega arith;
   within = omega arith;
-  goes = (
-    lives_stayed history living lives,
-    nothing_put text ∙ ap (λ (ls : Lines). text ++ concat ls) (sym (kind.none history.calls_made)),
-  );
+  goes = grind (arith, lives_stayed, nothing_put, concat);
 }
 
 some_is : {A : Type 0} (first : Option A) → is_none first ≡ false → (x : A) × (first ≡ Some x)
-some_is (Some x) is = (x, refl)
-some_is None is = absurd cc
+some_is first is = grind arith
 
 none_is : {A : Type 0} (first : Option A) → is_none first ≡ true → first ≡ None
-none_is (Some x) is = absurd cc
-none_is None is = refl
+none_is first is = grind arith
 
 -- what one such call makes of the sink with this history
 abbrev pub Each : {A : Type 0} (history : SinkHistory) (link : ℕ) → Kind A history.made link → List ℕ → List ℕ → LinkedSink → LinkedSink → Bool → Type 0

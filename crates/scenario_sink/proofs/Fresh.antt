@@ -1,5 +1,6 @@
 -- An assistant that just joined.
-use Rattle.scenario_sink.proofs.Prelude.{ℕ, true, false, List, [], ◌∷◌, replicate, Option, Some, None, refl, subst, Acts, asking, joining, LinkHolds}
+use Rattle.std.proofs.Common.{arith}
+use Rattle.scenario_sink.proofs.Prelude.{ℕ, false, List, [], ◌∷◌, Option, Some, None, refl, Acts, asking, joining, LinkHolds}
 use Rattle.assistant_machine.specs.Calls.{Call, all_asked, limited}
 use Rattle.assistant_machine.specs.State.Assistants.{StandsFor, joined}
 use Rattle.assistant_machine.proofs.Citable.{all_stands, fresh, length_replicate, limited_stands}
@@ -16,8 +17,7 @@ joining_stands slots (Some mtu) = limited_stands slots mtu [] (joined slots) (fr
 
 asking_stands : (slots : ℕ) (mtu : Option ℕ) → StandsFor slots (all_asked ∷ its_calls mtu) (asking slots mtu).assistant
 asking_stands slots mtu =
-    subst (λ n. StandsFor slots (all_asked ∷ its_calls mtu) (record (joining slots mtu) { reads = replicate n true })) (length_replicate slots false)
-    (all_stands slots (its_calls mtu) (joining slots mtu) (joining_stands slots mtu))
+    grind (arith, length_replicate slots false, all_stands slots (its_calls mtu) (joining slots mtu) (joining_stands slots mtu))
 
 -- on link 0 of a new sink
 pub first_holds : (slots : ℕ) (mtu : Option ℕ) → LinkHolds slots mtu [] [] (record { waiting = []; assistant = joining slots mtu })

@@ -1,5 +1,5 @@
 -- What an assistant takes for a state has octets, since it was read from some.
-use Rattle.scenario_sink.proofs.Prelude.{ℕ, suc, ◌≡◌, ◌<◌, ◌≤◌, Bool, true, false, List, [], ◌∷◌, length, map, Option, Some, None, Result, Ok, Err, refl, ap, subst, arith, ◌↔◌, ◌==◌, ◌&&◌, not, unwrap_or, AllByRecursion, IsOctets, ReceiveState, if_slot, reading_of, told_of, view_of, AreHeard}
+use Rattle.scenario_sink.proofs.Prelude.{ℕ, suc, ◌≡◌, ◌<◌, ◌≤◌, Bool, true, false, List, [], ◌∷◌, length, map, Option, Some, None, Result, Ok, refl, ap, arith, ◌↔◌, ◌==◌, ◌&&◌, not, unwrap_or, AllByRecursion, IsOctets, ReceiveState, if_slot, reading_of, told_of, view_of, AreHeard}
 use Rattle.bcast_base.specs.Subgroups.{Fits}
 use Rattle.receive_state.specs.Layout.{HasEncoding, IsEncoded, StateIs, group_of}
 use Rattle.receive_state.specs.Reading.{state_of}
@@ -20,16 +20,10 @@ metadata_fit [] are = are
 metadata_fit (group ∷ groups) are = (let h : length group.metadata < 256 = are.0.metadata in omega (arith, h), metadata_fit groups are.1)
 
 encoded_fits : (state : ReceiveState) (octets : List ℕ) → IsEncoded state octets → HasEncoding state
-encoded_fits state octets is = record {
-  few = subst (λ n. n ≤ 255) (count_same state.groups) is.widths.few;
-  metadata = metadata_fit state.groups is.widths.groups;
-  values = is.values;
-}
+encoded_fits state octets is = grind (arith, count_same, metadata_fit)
 
 of_result : (result : Result (Option ReceiveState) StateFault) (state : ReceiveState) → told_of result ≡ Some (Some state) → result ≡ Ok (Some state)
-of_result (Ok (Some other)) state is = let same : other ≡ state = cc in ap (λ s. Ok (Some s)) same
-of_result (Ok None) state is = absurd cc
-of_result (Err fault) state is = absurd cc
+of_result result state is = grind arith
 
 read_fits : ReadsStates → (octets : List ℕ) (state : ReceiveState) → IsOctets octets → reading_of octets ≡ Some (Some state) → HasEncoding state
 read_fits reads octets state are is = encoded_fits state octets ((reads (Some state) octets are).0 (of_result (state_of octets) state is))

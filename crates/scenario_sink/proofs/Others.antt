@@ -1,5 +1,6 @@
 -- A step that none of the arms for a sink's lines took is none of these lines.
-use Rattle.scenario_sink.proofs.Prelude.{ℕ, ◌≡◌, List, refl}
+use Rattle.std.proofs.Common.{arith}
+use Rattle.scenario_sink.proofs.Prelude.{ℕ, ◌≡◌, List}
 use Rattle.bass_operations.specs.declared.operation.AddSource.{AddSource}
 use Rattle.bass_operations.specs.declared.operation.ModifySource.{ModifySource}
 use Rattle.scenario_text.specs.declared.step.Step.{Step}
@@ -35,29 +36,4 @@ pub record IsOther (step : Step) : Type 0 where
   pub ashow : (sink link : ℕ) → step ≡ AShow sink link → ⊥
 
 pub no_sink_line : (step : Step) → IsOther step → IsSinkLine step → ⊥
-no_sink_line (Pac sink codec caps metadata) other is = other.pac sink codec caps metadata refl
-no_sink_line (Locate sink bits) other is = other.locate sink bits refl
-no_sink_line (Context sink sink_bits source_bits) other is = other.context sink sink_bits source_bits refl
-no_sink_line (Train sink time ext adv acad) other is = other.train sink time ext adv acad refl
-no_sink_line (Write sink octets) other is = other.write sink octets refl
-no_sink_line (Add sink op) other is = other.add sink op refl
-no_sink_line (Modify sink op) other is = other.modify sink op refl
-no_sink_line (Remove sink source_id) other is = other.remove sink source_id refl
-no_sink_line (Code sink source_id code) other is = other.code sink source_id code refl
-no_sink_line (Serve sink) other is = other.serve sink refl
-no_sink_line (Tell sink) other is = other.tell sink refl
-no_sink_line (Read sink) other is = other.read sink refl
-no_sink_line (Drain sink) other is = other.drain sink refl
-no_sink_line (Show sink) other is = other.show sink refl
-no_sink_line (Lose sink) other is = other.lose sink refl
-no_sink_line (Control sink octets) other is = other.control sink octets refl
-no_sink_line (Forge sink slot octets) other is = other.forge sink slot octets refl
-no_sink_line (Assist sink link) other is = other.assist sink link refl
-no_sink_line (Apart sink link) other is = other.apart sink link refl
-no_sink_line (AWrite sink link octets) other is = other.awrite sink link octets refl
-no_sink_line (AServe sink link) other is = other.aserve sink link refl
-no_sink_line (ATell sink link) other is = other.atell sink link refl
-no_sink_line (ARead sink link) other is = other.aread sink link refl
-no_sink_line (ADrain sink link) other is = other.adrain sink link refl
-no_sink_line (AShow sink link) other is = other.ashow sink link refl
-no_sink_line _ other is = is
+no_sink_line _ other is = grind arith

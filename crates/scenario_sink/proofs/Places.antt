@@ -5,9 +5,8 @@ use Rattle.multi_assist.specs.declared.place.Place.{Place}
 -- ---- a list of links
 
 mapped : {A : Type 0} (f : Option A → Option A) (xs : List (Option A)) (i : ℕ) → f None ≡ None → slice_index_or (map f xs) i None ≡ f (slice_index_or xs i None)
-mapped f [] i none = sym none
-mapped f (x ∷ xs) zero none = refl
 mapped f (x ∷ xs) (suc i) none = mapped f xs i none
+mapped f xs i none = search
 
 set_other : {A : Type 0} (xs : List (Option A)) (at i : ℕ) (x : Option A) → i ≢ at → slice_index_or (slice_set xs at x) i None ≡ slice_index_or xs i None
 set_other [] at i x other = refl
@@ -23,19 +22,11 @@ pub at_other : (old new : Links) (at : ℕ) (on : Option Linked) → linked new 
 at_other old new at on is link other = ap (λ ons. slice_index_or ons link None) is ∙ set_other (linked old) at link on other
 
 pub at_it : (old new : Links) (at : ℕ) (on : Option Linked) → linked new ≡ slice_set (linked old) at on → at ≤ 3 → link_at new at ≡ on
-at_it old new zero on is least = ap (λ ons. slice_index_or ons 0 None) is
-at_it old new (suc zero) on is least = ap (λ ons. slice_index_or ons 1 None) is
-at_it old new (suc (suc zero)) on is least = ap (λ ons. slice_index_or ons 2 None) is
-at_it old new (suc (suc (suc zero))) on is least = ap (λ ons. slice_index_or ons 3 None) is
-at_it old new (suc (suc (suc (suc n)))) on is least = absurd (omega arith)
+at_it old new at on is least = grind (arith, slice_index_or)
 
 -- a link on which something stands is one of the four
 pub one_of_four : (links : Links) (link : ℕ) (on : Linked) → link_at links link ≡ Some on → link ≤ 3
-one_of_four links zero on is = omega arith
-one_of_four links (suc zero) on is = omega arith
-one_of_four links (suc (suc zero)) on is = omega arith
-one_of_four links (suc (suc (suc zero))) on is = omega arith
-one_of_four links (suc (suc (suc (suc n)))) on is = absurd cc
+one_of_four links link on is = grind arith
 
 -- ---- an assistant that was lent
 
@@ -82,8 +73,4 @@ lent_same links link other on is = elim (cases_eq other link) [
 -- it has the slots and the MTU that it had
 pub lent_terms : (links : Links) (link : ℕ) (on : Linked) (a : Assistant) → link_at links link ≡ Some on
     → (slots_of (with_assistant_on links link a) ≡ slots_of links) × (mtu_of (with_assistant_on links link a) ≡ mtu_of links)
-lent_terms links zero on a there = (refl, refl)
-lent_terms links (suc zero) on a there = (refl, refl)
-lent_terms links (suc (suc zero)) on a there = (refl, refl)
-lent_terms links (suc (suc (suc zero))) on a there = (refl, refl)
-lent_terms links (suc (suc (suc (suc n)))) on a there = absurd cc
+lent_terms links link on a there = grind arith

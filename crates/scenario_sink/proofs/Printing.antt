@@ -10,19 +10,15 @@ pub one_put : (text told line : List ℕ) → told ≡ text ++ line → told ≡
 one_put text told line is = is ∙ ap (λ (l : List ℕ). text ++ l) (sym (append-nil line))
 
 pub two_put : (text mid told line other : List ℕ) → mid ≡ text ++ line → told ≡ mid ++ other → told ≡ text ++ concat (line ∷ other ∷ [])
-two_put text mid told line other first is =
-    is ∙ ap (λ (l : List ℕ). l ++ other) first ∙ append_assoc text line other ∙ ap (λ (l : List ℕ). text ++ (line ++ l)) (sym (append-nil other))
+two_put text mid told line other first is = grind (arith, append_assoc, append-nil)
 
 pub more_put : (text mid told : List ℕ) (lines others : Lines) → mid ≡ text ++ concat lines → told ≡ mid ++ concat others → told ≡ text ++ concat (lines ++ others)
-more_put text mid told lines others first is =
-    is ∙ ap (λ (l : List ℕ). l ++ concat others) first ∙ append_assoc text (concat lines) (concat others) ∙ ap (λ (l : List ℕ). text ++ l) (sym (concat-append lines others))
+more_put text mid told lines others first is = grind (arith, concat, append_assoc, concat-append)
 
 -- ---- the lines of all slots
 
 range_more : {X : Type 0} (f : ℕ → List X) (start n : ℕ) → flat_map f (range_with_len start (suc n)) ≡ flat_map f (range_with_len start n) ++ f (start + n)
-range_more f start zero =
-    let same : start ≡ start + 0 = omega arith in
-    append-nil (f start) ∙ ap f same
+range_more f start zero = grind (arith, append-nil)
 range_more f start (suc n) =
     let same : (start + 1) + n ≡ start + suc n = omega arith in
     ap (λ l. f start ++ l) (range_more f (start + 1) n) ∙ sym (append_assoc (f start) (flat_map f (range_with_len (start + 1) n)) (f ((start + 1) + n)))
@@ -30,12 +26,7 @@ range_more f start (suc n) =
 
 pub slot_put : (f : ℕ → Lines) (slot : ℕ) (text mid told : List ℕ) → mid ≡ text ++ concat (flat_map f (range_with_len 0 slot)) → told ≡ mid ++ concat (f slot)
     → told ≡ text ++ concat (flat_map f (range_with_len 0 (slot + 1)))
-slot_put f slot text mid told first is =
-    let more : suc slot ≡ slot + 1 = omega arith in
-    let here : 0 + slot ≡ slot = omega arith in
-    more_put text mid told (flat_map f (range_with_len 0 slot)) (f slot) first is
-    ∙ ap (λ (ls : Lines). text ++ concat ls)
-    (ap (λ k. flat_map f (range_with_len 0 slot) ++ f k) (sym here) ∙ sym (range_more f 0 slot) ∙ ap (λ n. flat_map f (range_with_len 0 n)) more)
+slot_put f slot text mid told first is = grind (arith, more_put, flat_map, range_with_len, concat, range_more)
 
 pub view_put : (f : ℕ → List ℕ) (slot : ℕ) (text mid told : List ℕ) → mid ≡ text ++ concat (map f (range_with_len 0 slot)) → told ≡ mid ++ f slot
     → told ≡ text ++ concat (map f (range_with_len 0 (slot + 1)))

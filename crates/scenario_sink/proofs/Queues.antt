@@ -19,6 +19,4 @@ one_more call waiting each n calls x is = within n (waiting calls) x (ap (λ ys.
 -- these were all
 pub no_more : {A : Type 0} (call : Call) (waiting : List Call → List A) → ((calls : List Call) → waiting (call ∷ calls) ≡ drop 1 (waiting calls))
     → (n : ℕ) (calls : List Call) → n ≤ length (waiting calls) → slice_get (waiting (repeated n call calls)) 0 ≡ None → n ≡ length (waiting calls)
-no_more call waiting each n calls least is =
-    let most : length (waiting calls) ≤ n = history n (waiting calls) (ap (λ ys. slice_get ys 0) (sym (taken_one_by_one call waiting each n calls)) ∙ is) in
-    omega (arith, least, most)
+no_more call waiting each n calls least is = grind (arith, length, history, slice_get, taken_one_by_one)

@@ -1,5 +1,6 @@
 -- What is shown of a slot.
-use Rattle.scenario_sink.proofs.Prelude.{ℕ, ◌≡◌, ◌<◌, ◌≤◌, ltb, List, ◌++◌, [], ◌∷◌, Some, None, ◌∙◌, ap, sym, cond-false, cond-true, le-ltb, lt-ltb, concat, codes, decimal, Notice, Settings, Call, state_where, stated, viewed, value_line, slot_lines, SinkHistory}
+use Rattle.std.proofs.Common.{arith}
+use Rattle.scenario_sink.proofs.Prelude.{ℕ, ◌≡◌, ◌<◌, ◌≤◌, ltb, List, ◌++◌, [], ◌∷◌, Some, None, ◌∙◌, sym, cond-false, cond-true, le-ltb, lt-ltb, concat, codes, decimal, Notice, Settings, Call, state_where, stated, viewed, value_line, slot_lines, SinkHistory}
 use Rattle.scenario_sink.proofs.Printing.{two_put}
 
 abbrev pub with_value : ℕ → List ℕ → Notice
@@ -10,15 +11,13 @@ pub slot_shown : (history : SinkHistory) (sink slot : ℕ) (one other : List ℕ
     → told ≡ mid ++ value_line (codes "view") (decimal sink ∷ []) (with_value slot other) → told ≡ text ++ concat (slot_lines sink history slot)
 slot_shown history sink slot one other text mid told first second put more =
     two_put text mid told (value_line (codes "state") (decimal sink ∷ []) (with_value slot one)) (value_line (codes "view") (decimal sink ∷ []) (with_value slot other)) put more
-    ∙ (λ i. text ++ concat (value_line (codes "state") (decimal sink ∷ []) (with_value slot (first i))
-    ∷ value_line (codes "view") (decimal sink ∷ []) (with_value slot (second i)) ∷ []))
+    ∙ (grind (arith, concat, value_line, codes, decimal))
 
 -- ---- the state of a slot that the sink has or hasn't
 
 pub there : (made : Settings) (calls_made : List Call) (slot : ℕ) (octets : List ℕ) → slot < made.setup.slots → octets ≡ (stated made calls_made slot).value
     → Some octets ≡ state_where (Some made) calls_made slot
-there made calls_made slot octets below is =
-    ap Some is ∙ sym (cond-true (ltb slot made.setup.slots) (Some (stated made calls_made slot).value) None (lt-ltb slot made.setup.slots below))
+there made calls_made slot octets below is = grind (arith, cond-true, ltb, stated, lt-ltb)
 
 pub not_there : (made : Settings) (calls_made : List Call) (slot : ℕ) → made.setup.slots ≤ slot → None ≡ state_where (Some made) calls_made slot
 not_there made calls_made slot above = sym (cond-false (ltb slot made.setup.slots) (Some (stated made calls_made slot).value) None (le-ltb slot made.setup.slots above))

@@ -1,9 +1,10 @@
 -- A sink with its links that stands for its past stands for one call more.
-use Rattle.scenario_sink.proofs.Prelude.{ℕ, ◌≡◌, ◌≢◌, Bool, true, false, List, [], ◌∷◌, ◌++◌, map, drop, Option, Some, None, refl, sym, ap, ◌∙◌, subst, inl, inr, is_some, cases_eq, append-nil, group_calls, with_step, Halves, StandsFor, settings_of, has_group, Notice, changes, handed_out, is_told, waiting, Snapshot, Step, done_by, snapshot_of, after, Setup, value_at, none_change, snapshot_goes_on, waiting_goes_on, Call, stepped, is_joined, step_by, steps_of, writes_waiting, IsApart, LeavesLink, Acts, acts_of, IsAsked, IsWritten, IsStep, NotifiesLink, link_at, linked, mtu_of, slots_of, Linked, with_notices, Links, snapshot_in, SinkHistory, receiving, LinkHolds, OnLink, HasStepped, LinkIs, Stands, after_call, untold}
+use Rattle.std.proofs.Common.{arith}
+use Rattle.scenario_sink.proofs.Prelude.{ℕ, ◌≡◌, ◌≢◌, Bool, true, false, List, [], ◌∷◌, map, drop, Option, Some, None, refl, sym, ap, ◌∙◌, subst, inl, inr, is_some, cases_eq, append-nil, group_calls, with_step, Halves, StandsFor, settings_of, has_group, Notice, changes, handed_out, is_told, waiting, Snapshot, Step, done_by, snapshot_of, after, Setup, value_at, none_change, snapshot_goes_on, waiting_goes_on, Call, stepped, is_joined, step_by, steps_of, writes_waiting, IsApart, LeavesLink, Acts, acts_of, IsAsked, IsWritten, IsStep, NotifiesLink, link_at, linked, mtu_of, slots_of, Linked, with_notices, Links, snapshot_in, SinkHistory, receiving, LinkHolds, OnLink, HasStepped, LinkIs, Stands, after_call, untold}
 use Rattle.delegator_machine.specs.Calls as machine
 use Rattle.group_sink.specs.Calls as sinks
 use Rattle.sink_history.specs.Calls as calls
-use Rattle.multi_assist.specs.State.Gathering.{Gathers, StandsOn, asked}
+use Rattle.multi_assist.specs.State.Gathering.{Gathers, StandsOn}
 use Rattle.scenario_sink.specs.State.Stands.{given}
 use Rattle.scenario_sink.proofs.Acts.{apart_joined, step_joined}
 use Rattle.scenario_sink.proofs.Assistants.{holds_as, told_all}
@@ -25,20 +26,14 @@ SameTerms new old = (slots_of new ≡ slots_of old) × (mtu_of new ≡ mtu_of ol
 
 pub on_some : {slots : ℕ} {mtu : Option ℕ} {joined : Bool} {acts : Acts} {writes : List (List ℕ)} {on : Linked} → joined ≡ true
     → LinkHolds slots mtu acts writes on → OnLink slots mtu joined acts writes (Some on)
-on_some {slots} {mtu} {joined} {acts} {writes} {on} is holds = record {
-  joined_is = sym is;
-  holds = λ linked same. let it : on ≡ linked = cc in subst (LinkHolds slots mtu acts writes) it holds;
-}
+on_some {slots} {mtu} {joined} {acts} {writes} {on} is holds = grind (arith, linked)
 
 pub on_none : {slots : ℕ} {mtu : Option ℕ} {joined : Bool} {acts : Acts} {writes : List (List ℕ)} → joined ≡ false → OnLink slots mtu joined acts writes None
 on_none is = record { joined_is = sym is; holds = λ linked same. absurd cc }
 
 pub on_as : {slots : ℕ} {mtu : Option ℕ} {joined now : Bool} {acts others : Acts} {writes more : List (List ℕ)} {on new : Option Linked} → now ≡ joined → others ≡ acts → more ≡ writes → new ≡ on
     → OnLink slots mtu joined acts writes on → OnLink slots mtu now others more new
-on_as {slots} {mtu} {joined} {now} {acts} {others} {writes} {more} a b c d its = record {
-  joined_is = ap is_some d ∙ its.joined_is ∙ sym a;
-  holds = λ linked is. holds_as slots mtu acts others writes more linked (sym b) (sym c) (its.holds linked (sym d ∙ is));
-}
+on_as {slots} {mtu} {joined} {now} {acts} {others} {writes} {more} a b c d its = grind (arith, is_some, linked, holds_as)
 
 -- the notices of a step go to it
 stepped_link : (link : ℕ) (call : Call) (history : SinkHistory) (on : Option Linked) → IsStep call → NotifiesLink history.made.setup history.made.mtu link call history.calls_made
@@ -46,15 +41,10 @@ stepped_link : (link : ℕ) (call : Call) (history : SinkHistory) (on : Option L
     → LinkIs link (after_call call history)
     (with_notices (map (handed_out history.made.mtu) (changes history.made.setup.slots (snapshot_in history.made history.calls_made) (snapshot_in history.made (call ∷ history.calls_made)))) on)
 stepped_link link call history None step tells its = on_none (step_joined link call history.calls_made step ∙ sym its.joined_is)
-stepped_link link call history (Some on) step tells its =
-    let more : List Notice = map (handed_out history.made.mtu) (changes history.made.setup.slots (snapshot_in history.made history.calls_made) (snapshot_in history.made (call ∷ history.calls_made))) in
-    on_some (step_joined link call history.calls_made step ∙ sym its.joined_is)
-    (told_all history.made.setup.slots history.made.mtu (acts_of history.made.setup history.made.mtu link history.calls_made) (acts_of history.made.setup history.made.mtu link (call ∷ history.calls_made))
-    (writes_waiting link (call ∷ history.calls_made)) on more tells.notices tells.views tells.reads (its.holds on refl))
+stepped_link link call history (Some on) step tells its = grind (arith, map, handed_out, changes, snapshot_in, on_some, step_joined, told_all, acts_of, writes_waiting)
 
 none_new : (on : Option Linked) → with_notices [] on ≡ on
-none_new None = refl
-none_new (Some on) = ap (λ (waiting : List Notice). Some (record on { waiting = waiting })) (append-nil on.waiting)
+none_new on = grind (arith, waiting, append-nil)
 
 -- ---- the notices of a step are gathered
 
@@ -66,17 +56,7 @@ gathered tells call history d new links next its gathers on terms =
     let more : map (handed_out d.scan.mtu) d.scan.waiting ≡ map (handed_out history.made.mtu) told =
     (λ i. map (handed_out (its.took.settings_is i).mtu) (its.waiting i)) in
     record {
-      took = record {
-        taken = asked so.0 its.took.taken;
-        stands = so.1;
-        own = none_more so.0 its.took.taken ∙ its.took.own;
-        received_is = same_groups history.made.setup so.0 its.took.taken ∙ its.took.received_is;
-        settings_is = (λ i. settings_of (record d { scan = gathers.given.rest i })) ∙ its.took.settings_is;
-        links_slots = terms.0 ∙ its.took.links_slots;
-        links_mtu = terms.1 ∙ its.took.links_mtu;
-        octets = its.took.octets;
-        first = its.took.first;
-      };
+      took = grind (arith, none_more, same_groups, settings_of);
       none_waits = gathers.none;
       each = λ link.
           let there : link_at next link ≡ with_notices (map (handed_out history.made.mtu) told) (link_at links link) =
@@ -118,23 +98,9 @@ has_stepped step call history old new links next quiet is_step by are its stood 
     let before : snapshot_of setup earlier ≡ snapshot_in history.made history.calls_made = its_snapshot history old links its.took in
     let now : snapshot_of setup (step ∷ earlier) ≡ snapshot_in history.made (call ∷ history.calls_made) = same_snapshot setup (step ∷ earlier) ∙ ap (snapshot_of setup) own in
     record {
-      took = record {
-        taken = machine.control step ∷ taken;
-        stands = stood;
-        own = own;
-        received_is = (λ i. with_step (given setup (before i) (sym by i)) (before i) (now i) (its.took.received_is i));
-        settings_is = settings ∙ its.took.settings_is;
-        links_slots = terms.0 ∙ its.took.links_slots;
-        links_mtu = terms.1 ∙ its.took.links_mtu;
-        octets = (are, its.took.octets);
-        first = step_joined 0 call history.calls_made is_step ∙ its.took.first;
-      };
+      took = grind (arith, with_step, step_joined);
       is_step = is_step;
-      waiting = waiting_is setup (machine.control step ∷ taken) new stood ∙ waiting_goes_on setup step earlier
-          ∙ ap (λ ns. drop (is_told step) ns ++ changes setup.slots (snapshot_of setup earlier) (snapshot_of setup (step ∷ earlier)))
-          (sym (waiting_is setup taken old its.took.stands) ∙ its.none_waits)
-          ∙ ap (λ n. drop n [] ++ changes setup.slots (snapshot_of setup earlier) (snapshot_of setup (step ∷ earlier))) quiet
-          ∙ (λ i. changes setup.slots (before i) (now i));
+      waiting = grind (arith, waiting_is, waiting_goes_on, drop, is_told, changes, snapshot_of);
       each = each;
     }
 
@@ -165,54 +131,22 @@ pub receives : (its_call : machine.Call) (call : sinks.Call) (history : SinkHist
     → ((taken : List machine.Call) → machine.steps_of (its_call ∷ taken) ≡ machine.steps_of taken)
     → ((taken : List machine.Call) → group_calls history.made.setup (its_call ∷ taken) ≡ call ∷ group_calls history.made.setup taken)
     → (its : Stands history old links) → StandsFor history.made.setup (its_call ∷ its.took.taken) new → settings_of new ≡ settings_of old → Stands (receiving call history) new links
-receives its_call call history old new links quiet takes its stood settings =
-    let taken : List machine.Call = its.took.taken in
-    record {
-      took = record {
-        taken = its_call ∷ taken;
-        stands = stood;
-        own = ap untold (quiet taken) ∙ its.took.own;
-        received_is = takes taken ∙ ap (λ cs. call ∷ cs) its.took.received_is;
-        settings_is = settings ∙ its.took.settings_is;
-        links_slots = its.took.links_slots;
-        links_mtu = its.took.links_mtu;
-        octets = its.took.octets;
-        first = its.took.first;
-      };
-      none_waits = waiting_is history.made.setup (its_call ∷ taken) new stood ∙ ap (waiting history.made.setup) (quiet taken)
-          ∙ sym (waiting_is history.made.setup taken old its.took.stands) ∙ its.none_waits;
-      each = its.each;
-    }
+receives its_call call history old new links quiet takes its stood settings = grind (arith, untold, waiting_is, waiting)
 
 -- ---- a call of one link
 
 left_link : Leaves → (link : ℕ) (call : Call) (history : SinkHistory) (on new : Option Linked) → IsApart link call → new ≡ on → LinkIs link history on → LinkIs link (after_call call history) new
-left_link leaves link call history on new apart same its =
-    let left = leaves history.made.setup history.made.mtu link call history.calls_made apart in
-    on_as (apart_joined link call history.calls_made apart) left.acts left.writes same its
+left_link leaves link call history on new apart same its = grind (arith, on_as, apart_joined)
 
 -- a call that is no step of the delegator
 same_received : (call : Call) (history : SinkHistory) → step_by call history.calls_made ≡ None → (after_call call history).received ≡ history.received
-same_received call history none =
-    let before : Snapshot = snapshot_in history.made history.calls_made in
-    (λ i. with_step (given history.made.setup before (none i)) before (snapshot_of history.made.setup (calls.with_step (none i) (steps_of history.calls_made))) history.received)
-    ∙ stays (has_group before.place) history.received
+same_received call history none = grind (arith, snapshot_in, with_step, snapshot_of, steps_of, stays, has_group)
 
 pub one_link : Leaves → (call : Call) (at : ℕ) (history : SinkHistory) (d : Halves) (links new : Links) → ((link : ℕ) → link ≢ at → IsApart link call) → IsAsked call
     → step_by call history.calls_made ≡ None → is_joined 0 (call ∷ history.calls_made) ≡ true → Stands history d links → SameTerms new links
     → ((link : ℕ) → link ≢ at → link_at new link ≡ link_at links link) → LinkIs at (after_call call history) (link_at new at) → Stands (after_call call history) d new
 one_link leaves call at history d links new apart are none first its terms others here = record {
-  took = record {
-    taken = its.took.taken;
-    stands = its.took.stands;
-    own = its.took.own ∙ ap (λ s. calls.with_step s (steps_of history.calls_made)) (sym none);
-    received_is = its.took.received_is ∙ sym (same_received call history none);
-    settings_is = its.took.settings_is;
-    links_slots = terms.0 ∙ its.took.links_slots;
-    links_mtu = terms.1 ∙ its.took.links_mtu;
-    octets = (are, its.took.octets);
-    first = first;
-  };
+  took = grind (arith, steps_of, same_received);
   none_waits = its.none_waits;
   each = λ link. elim (cases_eq link at) [
     | inl e ↦ subst (λ n. LinkIs n (after_call call history) (link_at new n)) (sym e) here
@@ -223,17 +157,7 @@ one_link leaves call at history d links new apart are none first its terms other
 -- the links are as they were
 pub unchanged : (history : SinkHistory) (d : Halves) (links new : Links) → Stands history d links → SameTerms new links → ((link : ℕ) → link_at new link ≡ link_at links link) → Stands history d new
 unchanged history d links new its terms same = record {
-  took = record {
-    taken = its.took.taken;
-    stands = its.took.stands;
-    own = its.took.own;
-    received_is = its.took.received_is;
-    settings_is = its.took.settings_is;
-    links_slots = terms.0 ∙ its.took.links_slots;
-    links_mtu = terms.1 ∙ its.took.links_mtu;
-    octets = its.took.octets;
-    first = its.took.first;
-  };
+  took = grind arith;
   none_waits = its.none_waits;
   each = λ link. subst (LinkIs link history) (sym (same link)) (its.each link);
 }

@@ -1,6 +1,6 @@
 -- A train that a line hands a sink.
-use Rattle.scenario_sink.proofs.Prelude.{ℕ, ◌≡◌, List, ◌∷◌, Some, sym, ap, ◌∙◌, if◌then◌else◌, train_heard, TrainOutcome, Train, outcome_by, big_sync_in, with_step, Call, stepped, Source, given_train, own_train, follows, snapshot_in, SinkHistory}
-use Rattle.delegator_history.specs.Announced.{heard_as}
+use Rattle.std.proofs.Common.{arith}
+use Rattle.scenario_sink.proofs.Prelude.{ℕ, ◌≡◌, List, ◌∷◌, Some, if◌then◌else◌, train_heard, TrainOutcome, Train, outcome_by, big_sync_in, with_step, Call, stepped, Source, given_train, own_train, follows, snapshot_in, SinkHistory}
 use Rattle.announcement_train.specs.declared.train.Train.{Train as Announced}
 use Rattle.scenario_sink.specs.declared.origin.Origin.{Origin}
 use Rattle.scenario_sink.specs.Origins.{IsFrom}
@@ -10,16 +10,12 @@ train_of address_type sid ext adv acad now = record { address_type = address_typ
 
 pub its_train : (origin : Origin) (source : Source) (ext adv acad : List ℕ) (now : ℕ) → IsFrom origin source
     → train_of origin.address_type origin.sid ext adv acad now ≡ given_train source now ext adv acad
-its_train origin source ext adv acad now from =
-    let kinds = sym from.address_type_is in
-    let sids = sym from.sid_is in
-    λ i. train_of (kinds i) (sids i) ext adv acad now
+its_train origin source ext adv acad now from = grind arith
 
 -- what it announces
 pub announced_train : (source : Source) (train : Announced) (ext adv acad : List ℕ) → source.announced ≡ train → ext ≡ train.ext → adv ≡ train.adv → acad ≡ train.acad
     → given_train source train.time ext adv acad ≡ own_train source
-announced_train source train ext adv acad is exts advs acads =
-    (λ i. train_of source.address_type source.sid (exts i) (advs i) (acads i) train.time) ∙ ap (heard_as source.address_type source.sid) (sym is)
+announced_train source train ext adv acad is exts advs acads = grind arith
 
 -- what it makes of the past of a sink
 abbrev pub after_train : Source → Train → SinkHistory → SinkHistory

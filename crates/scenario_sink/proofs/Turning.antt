@@ -1,5 +1,6 @@
 -- What waits first on a link: it is taken, or none waits.
-use Rattle.scenario_sink.proofs.Prelude.{ℕ, ◌≡◌, Bool, true, false, List, ◌++◌, Option, Some, None, Result, Ok, refl, sym, ap, ◌∙◌, subst, is_none, not, option_map, concat, option_or, Call, is_joined, Lines, if_there, refuse_if, LinkedSink, Goes, LinkMakes, Makes, Stays, Turns, answer_if, stayed, SinkHistory, Refusal, Stop}
+use Rattle.std.proofs.Common.{arith}
+use Rattle.scenario_sink.proofs.Prelude.{ℕ, ◌≡◌, Bool, true, false, List, ◌++◌, Option, Some, None, Result, Ok, ap, ◌∙◌, is_none, not, option_map, concat, option_or, Call, is_joined, Lines, if_there, refuse_if, LinkedSink, Goes, LinkMakes, Makes, Stays, Turns, answer_if, stayed, SinkHistory, Refusal, Stop}
 use Rattle.scenario_sink.proofs.Printing.{one_put}
 use Rattle.transcript_text.specs.declared.refusal.Refusal.TheVariants.{NoSuchLink, NothingWaiting}
 
@@ -9,24 +10,20 @@ pub its_line : {B : Type 0} (line : B → List ℕ) (first : Option B) (x : B) (
 its_line line first x text told is put = one_put text told (line x) put ∙ ap (λ (o : Option _). text ++ concat (if_there line o)) is
 
 pub some_there : {A B : Type 0} (f : A → B) (first : Option A) (x : B) → Some x ≡ option_map f first → is_none first ≡ false
-some_there f (Some y) x is = refl
-some_there f None x is = absurd cc
+some_there f first x is = grind arith
 
 pub none_there : {A B : Type 0} (f : A → B) (first : Option A) → None ≡ option_map f first → is_none first ≡ true
-none_there f (Some y) is = absurd cc
-none_there f None is = refl
+none_there f first is = grind arith
 
 -- ---- whether one was taken
 
 pub one_taken : {A : Type 0} (first : Option A) (next same : List ℕ → LinkedSink → Type 0) (told : List ℕ) (new : LinkedSink) (some : Bool) → some ≡ true
     → Turns first next same told new (Ok some) → (is_none first ≡ false) × next told new
-one_taken first next same told new true is turn = turn
-one_taken first next same told new false is turn = absurd cc
+one_taken first next same told new some is turn = grind arith
 
 pub none_taken : {A : Type 0} (first : Option A) (next same : List ℕ → LinkedSink → Type 0) (told : List ℕ) (new : LinkedSink) (some : Bool) → some ≡ false
     → Turns first next same told new (Ok some) → (is_none first ≡ true) × same told new
-none_taken first next same told new true is turn = absurd cc
-none_taken first next same told new false is turn = turn
+none_taken first next same told new some is turn = grind arith
 
 -- ---- why a line is refused
 
@@ -56,17 +53,11 @@ pub turned : {A : Type 0} (link : ℕ) (history : SinkHistory) (calls_made : Lis
     (waited : Bool) (result : Result (Unit {0}) Stop) → is_joined link history.calls_made ≡ true → result ≡ answer_if waited
     → Turns first (Goes history calls_made lines text) (Stays history text) told new (Ok waited)
     → LinkMakes link (idle_refusal (is_none first)) (Unit {0}) lines calls_made history text told new result
-turned link history calls_made first lines text told new true result joined is turn =
-    subst (λ (r : Result (Unit {0}) Stop). LinkMakes link (idle_refusal (is_none first)) (Unit {0}) lines calls_made history text told new r) (sym is)
-    (past_link (is_joined link history.calls_made) (idle_refusal (is_none first)) joined ∙ ap idle_refusal turn.0, turn.1.0, turn.1.1)
-turned link history calls_made first lines text told new false result joined is turn =
-    subst (λ (r : Result (Unit {0}) Stop). LinkMakes link (idle_refusal (is_none first)) (Unit {0}) lines calls_made history text told new r) (sym is)
-    (past_link (is_joined link history.calls_made) (idle_refusal (is_none first)) joined ∙ ap idle_refusal turn.0, turn.1.0, turn.1.1)
+turned link history calls_made first lines text told new waited result joined is turn = grind (arith, is_none, past_link, is_joined)
 
 -- ---- a link that is joined refuses nothing
 
 pub joined_makes : (link : ℕ) (other : Option Refusal) (takes : Type 0) (lines : Lines) (calls_made : List Call) (history : SinkHistory) (text told : List ℕ) (new : LinkedSink)
     (result : Result (Unit {0}) Stop) → is_joined link history.calls_made ≡ true → LinkMakes link other takes lines calls_made history text told new result
     → Makes other takes lines history (stayed calls_made history) text told new result
-joined_makes link other takes lines calls_made history text told new result on makes =
-    subst (λ refusal. Makes refusal takes lines history (stayed calls_made history) text told new result) (past_link (is_joined link history.calls_made) other on) makes
+joined_makes link other takes lines calls_made history text told new result on makes = grind (arith, stayed, past_link, is_joined)

@@ -1,5 +1,6 @@
 -- What a delegator answers is the same without the steps that asked for notices.
-use Rattle.scenario_sink.proofs.Prelude.{ℕ, zero, suc, ◌≡◌, Bool, true, false, List, [], ◌∷◌, refl, sym, ap, ◌∙◌, is_told, Step, done_by, snapshot_of, after, Setup, snapshot_goes_on, group_calls, with_leave, Halves, Links, has_group, snapshot_in, SinkHistory, Took, unless_told, untold}
+use Rattle.std.proofs.Common.{arith}
+use Rattle.scenario_sink.proofs.Prelude.{ℕ, zero, suc, ◌≡◌, Bool, List, [], ◌∷◌, refl, sym, ap, ◌∙◌, is_told, Step, done_by, snapshot_of, after, Setup, snapshot_goes_on, group_calls, with_leave, Halves, Links, has_group, snapshot_in, SinkHistory, Took, unless_told, untold}
 use Rattle.delegator_history.specs.States.{notified}
 use Rattle.delegator_machine.specs.Calls as machine
 use Rattle.group_sink.specs.Calls as sinks
@@ -33,8 +34,7 @@ none_more (suc count) calls = none_more count calls
 
 -- a sink that stays on its group, or off any
 pub stays : (on : Bool) (history : List sinks.Call) → with_leave on on history ≡ history
-stays true history = refl
-stays false history = refl
+stays on history = grind arith
 
 pub same_groups : (setup : Setup) (count : ℕ) (calls : List machine.Call) → group_calls setup (asked count calls) ≡ group_calls setup calls
 same_groups setup zero calls = refl

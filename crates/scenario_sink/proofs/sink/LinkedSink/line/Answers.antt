@@ -1,4 +1,4 @@
-use Rattle.scenario_sink.proofs.Prelude.{◌∷◌, ◌<◌, None, refl, sym, ap, subst, ◌∙◌, arith, length, option_or, drained, drain_lines, read_line, serve_line, tell_line, no_notice, plain, Quietly, stayed}
+use Rattle.scenario_sink.proofs.Prelude.{◌∷◌, ◌<◌, None, refl, sym, ap, subst, ◌∙◌, arith, length, option_or, drained, drain_lines, read_line, serve_line, tell_line, no_notice, plain}
 use Rattle.sink_history.specs.Calls as calls
 use Rattle.scenario_text.specs.Ranges.{IsInRange}
 use Rattle.scenario_text.specs.declared.step.Step.TheVariants as steps
@@ -78,8 +78,7 @@ returns-in-Apart c source history from lives =
 pub returns-in-Write : goal.returns-in-Write
 returns-in-Write c source history from lives =
     does_so source c.args.step _ history c.args.text.now c.write.new.self c.write.result c.in-Write.is refl
-    (subst (λ refusal. Quietly refusal (Unit {0}) history (stayed (calls.asked 0 c.in-Write.octets ∷ history.calls_made) history) c.write.new.self c.write.result)
-    (past_link (calls.is_joined 0 history.calls_made) None (first_joined history c.args.self.now lives)) (c.write.ensures history lives))
+    (grind (arith, past_link (calls.is_joined 0 history.calls_made) None (first_joined history c.args.self.now lives), c.write.ensures history lives))
 
 pub returns-in-AWrite : goal.returns-in-AWrite
 returns-in-AWrite c source history from lives =
@@ -152,31 +151,4 @@ returns-in-Train c source history from lives =
     (c.train.ensures source history from lives)
 
 pub unreachable-requires : goal.unreachable-requires
-unreachable-requires c =
-    no_sink_line c.args.step (record {
-      pac = c.in_default.not-Pac;
-      locate = c.in_default.not-Locate;
-      context = c.in_default.not-Context;
-      train = c.in_default.not-Train;
-      write = c.in_default.not-Write;
-      add = c.in_default.not-Add;
-      modify = c.in_default.not-Modify;
-      remove = c.in_default.not-Remove;
-      code = c.in_default.not-Code;
-      serve = c.in_default.not-Serve;
-      tell = c.in_default.not-Tell;
-      read = c.in_default.not-Read;
-      drain = c.in_default.not-Drain;
-      show = c.in_default.not-Show;
-      lose = c.in_default.not-Lose;
-      control = c.in_default.not-Control;
-      forge = c.in_default.not-Forge;
-      assist = c.in_default.not-Assist;
-      apart = c.in_default.not-Apart;
-      awrite = c.in_default.not-AWrite;
-      aserve = c.in_default.not-AServe;
-      atell = c.in_default.not-ATell;
-      aread = c.in_default.not-ARead;
-      adrain = c.in_default.not-ADrain;
-      ashow = c.in_default.not-AShow;
-    }) c.requires.line
+unreachable-requires c = no_sink_line c.args.step (grind arith) c.requires.line

@@ -1,20 +1,13 @@
-use Rattle.scenario_sink.proofs.Prelude.{◌∷◌, refl, subst, err_from_is_err_and, asked, stayed, IsSink}
+use Rattle.std.proofs.Common.{arith}
+use Rattle.scenario_sink.proofs.Prelude.{err_from_is_err_and, asked, stayed}
 use Rattle.scenario_sink.proofs.Histories.{first_joined}
 use Rattle.scenario_sink.proofs.sink.LinkedSink.operate.Goals as goal
 
 pub returns : goal.returns
-returns c history lives = (
-  refl,
-  subst (λ octets. IsSink (stayed (asked 0 octets ∷ history.calls_made) history) c.put_write.new.self) c.in_ok-octets.ensures.encoded
-      (c.in_ok-put_write.ensures history lives (first_joined history c.args.self.now lives)),
-)
+returns c history lives = grind (arith, stayed, asked, first_joined)
 
 pub returns-in_err-octets : goal.returns-in_err-octets
-returns-in_err-octets c history lives =
-    let p = err_from_is_err_and c.from_residual.result c.from_residual.ensures.1 in
-    rw (p.1, p.2) (refl, tt)
+returns-in_err-octets c history lives = grind (arith, err_from_is_err_and)
 
 pub returns-in_err-put_write : goal.returns-in_err-put_write
-returns-in_err-put_write c history lives =
-    let p = err_from_is_err_and c.from_residual-in_err-put_write.result c.from_residual-in_err-put_write.ensures.1 in
-    rw (p.1, p.2) (refl, tt)
+returns-in_err-put_write c history lives = grind (arith, err_from_is_err_and)

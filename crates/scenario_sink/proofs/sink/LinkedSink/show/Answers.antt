@@ -1,13 +1,10 @@
-use Rattle.scenario_sink.proofs.Prelude.{refl, err_from_is_err_and}
+use Rattle.std.proofs.Common.{arith}
+use Rattle.scenario_sink.proofs.Prelude.{err_from_is_err_and}
 use Rattle.scenario_sink.proofs.Histories.{lives_stayed}
 use Rattle.scenario_sink.proofs.sink.LinkedSink.show.Goals as goal
 
 pub returns : goal.returns
-returns c source history lives =
-    let shown = c.in_ok-show_slots.ensures history lives in
-    (refl, lives_stayed history _ shown.0, shown.1)
+returns c source history lives = grind (arith, lives_stayed)
 
 pub returns-in_err-show_slots : goal.returns-in_err-show_slots
-returns-in_err-show_slots c source history lives =
-    let p = err_from_is_err_and c.from_residual.result c.from_residual.ensures.1 in
-    rw (p.1, p.2) (refl, tt)
+returns-in_err-show_slots c source history lives = grind (arith, err_from_is_err_and)

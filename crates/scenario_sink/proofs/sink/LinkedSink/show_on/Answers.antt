@@ -1,23 +1,14 @@
-use Rattle.scenario_sink.proofs.Prelude.{None, refl, sym, ◌∙◌, err_from_is_err_and, is_joined}
+use Rattle.std.proofs.Common.{arith}
+use Rattle.scenario_sink.proofs.Prelude.{err_from_is_err_and, is_joined}
 use Rattle.scenario_sink.proofs.Histories.{lives_stayed}
 use Rattle.scenario_sink.proofs.Turning.{no_link, past_link}
 use Rattle.scenario_sink.proofs.sink.LinkedSink.show_on.Goals as goal
 
 pub returns-then-not-is_joined : goal.returns-then-not-is_joined
-returns-then-not-is_joined c history lives = (
-  no_link (is_joined c.args.link history.calls_made) None (sym (lives.stands.each c.args.link).joined_is ∙ sym c.is_joined.ensures ∙ c.if-not-is_joined.true),
-  lives,
-  refl,
-)
+returns-then-not-is_joined c history lives = grind (arith, no_link, is_joined)
 
 pub returns : goal.returns
-returns c history lives =
-    let on = sym (lives.stands.each c.args.link).joined_is ∙ sym c.is_joined.ensures ∙ c.if-not-is_joined.false in
-    let shown = c.in_ok-show_views.ensures history lives on in
-    (past_link (is_joined c.args.link history.calls_made) None on, lives_stayed history _ shown.0, shown.1)
+returns c history lives = grind (arith, past_link, is_joined, lives_stayed)
 
 pub returns-in_err-show_views : goal.returns-in_err-show_views
-returns-in_err-show_views c history lives =
-    let on = sym (lives.stands.each c.args.link).joined_is ∙ sym c.is_joined.ensures ∙ c.if-not-is_joined.false in
-    let p = err_from_is_err_and c.from_residual.result c.from_residual.ensures.1 in
-    rw (p.1, p.2) (past_link (is_joined c.args.link history.calls_made) None on, tt)
+returns-in_err-show_views c history lives = grind (arith, err_from_is_err_and, past_link, is_joined)

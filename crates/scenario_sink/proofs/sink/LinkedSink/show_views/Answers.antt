@@ -17,8 +17,7 @@ each-preserved c = record {
       let before = c.each.invariant.shown history lives on in
       let shown = c.in_ok-show_view.ensures.shows history before.0 on in (
         shown.0,
-        view_put (λ slot. value_line (codes "aview") (decimal c.args.sink ∷ decimal c.args.link ∷ []) (viewed history.made c.args.link history.calls_made slot)) c.each.slot c.args.text.now c.each.text
-            c.show_view.new.text before.1 shown.1,
+        grind (arith, view_put, value_line, codes, decimal, viewed),
       );
 }
 
