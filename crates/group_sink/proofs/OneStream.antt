@@ -1,6 +1,5 @@
 -- What is handed of one stream.
-use Rattle.group_sink.proofs.Prelude.{ℕ, zero, suc, ◌≡◌, ◌≢◌, ◌+◌, ◌-◌, ◌<◌, ◌≤◌, Bool, true, false, cond, eqb, leb, List, [], ◌∷◌, ◌++◌, map, drop, length, Option, Some, None, refl, sym, ap, ◌∙◌, subst, inl, inr, arith, AllByRecursion, Contains, flat_map, range_with_len, cases_Bool, cases_eq, cond-true, cond-false, eq-eqb, ne_eqb, append-nil, filter-append, Handed, Stay, opened, unit_at, units_of, handed, closed_tokens, decided, event_tokens, gained, Call, tune, hear, tick, leave, place, BigSync, units_at_close, units_on, handed_by, handed_at, handed_since, bis_of, of_stream, is_in, number_of, stay_on, stream_calls, streams_of, with_hear}
-use Rattle.big_info.specs.Schedule.{per_event_of}
+use Rattle.group_sink.proofs.Prelude.{ℕ, zero, suc, ◌≡◌, ◌≢◌, ◌+◌, ◌-◌, ◌<◌, ◌≤◌, Bool, true, cond, eqb, leb, List, [], ◌∷◌, ◌++◌, map, drop, length, Option, Some, refl, sym, ap, ◌∙◌, inl, inr, arith, AllByRecursion, Contains, flat_map, range_with_len, cases_Bool, cases_eq, cond-true, cond-false, eq-eqb, ne_eqb, append-nil, filter-append, Handed, Stay, opened, unit_at, units_of, handed, closed_tokens, decided, event_tokens, gained, Call, tune, hear, tick, leave, place, BigSync, units_at_close, units_on, handed_by, handed_at, handed_since, bis_of, of_stream, is_in, number_of, stay_on, stream_calls, streams_of, with_hear}
 use Rattle.isoal_base.specs.Stays as stays
 use Rattle.isoal_unframed.specs.State.Windows.{handed_of}
 use Rattle.isoal_framed.specs.Tokens.{Token, starts, goes_on, missing}
@@ -17,12 +16,10 @@ of_flat_map bis f (x ∷ xs) = of_append bis (f x) (flat_map f xs) ∙ ap (λ ys
 
 all_or_none : (taken : Bool) (entry : Handed) (rest entries : List Handed) → rest ≡ cond taken entries []
     → cond taken (entry ∷ rest) rest ≡ cond taken (entry ∷ entries) []
-all_or_none true entry rest entries is = ap (λ xs. entry ∷ xs) is
-all_or_none false entry rest entries is = is
+all_or_none taken entry rest entries is = grind arith
 
 none_either : (taken : Bool) → [] ≡ cond taken (let none : List Handed = [] in none) []
-none_either true = refl
-none_either false = refl
+none_either taken = grind arith
 
 -- units of one stream
 abbrev AllOf : ℕ → List Handed → Type 0
@@ -30,23 +27,19 @@ AllOf own units = AllByRecursion (λ unit. bis_of unit ≡ own) units
 
 of_all : (own bis : ℕ) (units : List Handed) → AllOf own units → of_stream bis units ≡ cond (eqb own bis) units []
 of_all own bis [] all = none_either (eqb own bis)
-of_all own bis (unit ∷ units) all =
-    ap (λ b. cond (eqb b bis) (unit ∷ of_stream bis units) (of_stream bis units)) all.0
-    ∙ all_or_none (eqb own bis) unit (of_stream bis units) units (of_all own bis units all.1)
+of_all own bis (unit ∷ units) all = grind (arith, all.0, all_or_none (eqb own bis) unit (of_stream bis units) units (of_all own bis units all.1))
 
 all_append : (own : ℕ) (xs ys : List Handed) → AllOf own xs → AllOf own ys → AllOf own (xs ++ ys)
 all_append own [] ys first second = second
 all_append own (x ∷ xs) ys first second = (first.0, all_append own xs ys first.1 second)
 
 all_drop : (own n : ℕ) (xs : List Handed) → AllOf own xs → AllOf own (drop n xs)
-all_drop own zero xs all = all
-all_drop own (suc n) [] all = tt
 all_drop own (suc n) (x ∷ xs) all = all_drop own n xs all.1
+all_drop own n xs all = search
 
 -- the units of a slot, of an event and of tokens
 slot_bis : (bis time : ℕ) (unit : Option (List ℕ)) → bis_of (handed_of bis time unit) ≡ bis
-slot_bis bis time None = refl
-slot_bis bis time (Some octets) = refl
+slot_bis bis time unit = grind arith
 
 all_slots : (stay : Stay) (calls : List stays.Call) (event : ℕ) (slots : List ℕ) → AllOf stay.bis (map (unit_at stay calls event) slots)
 all_slots stay calls event [] = tt
@@ -66,35 +59,40 @@ all_tokens max_sdu bis (goes_on complete octets ∷ tokens) = all_tokens max_sdu
 all_tokens max_sdu bis (missing ∷ tokens) = all_tokens max_sdu bis tokens
 
 all_either : (own : ℕ) (plainly : Bool) (xs ys : List Handed) → AllOf own xs → AllOf own ys → AllOf own (cond plainly xs ys)
-all_either own true xs ys first second = first
-all_either own false xs ys first second = second
+all_either own plainly xs ys first second = grind arith
 
 all_at_close : (stay : Stay) (calls : List stays.Call) → AllOf stay.bis (units_at_close stay calls)
 all_at_close stay calls =
-    all_either stay.bis (eqb stay.info.framing 0) (units_of stay calls (opened stay calls)) (gained stay calls)
-    (all_slots stay calls (opened stay calls) (range_with_len 0 (per_event_of stay.info)))
-    (all_drop stay.bis (length (decided stay calls)) (decided stay (stays.close ∷ calls))
-    (all_tokens stay.info.max_sdu stay.bis (closed_tokens stay (stays.close ∷ calls))))
+    grind (
+      arith,
+      all_either,
+      eqb,
+      units_of,
+      opened,
+      gained,
+      all_slots,
+      range_with_len,
+      all_drop,
+      length,
+      decided,
+      all_tokens,
+      closed_tokens,
+    )
 
 of_units : (over : Bool) (bis : ℕ) (stay : Stay) (calls : List stays.Call)
     → of_stream bis (cond over (units_at_close stay calls) []) ≡ cond (eqb stay.bis bis) (cond over (units_at_close stay calls) []) []
-of_units over bis stay calls =
-    of_all stay.bis bis (cond over (units_at_close stay calls) []) (all_either stay.bis over (units_at_close stay calls) [] (all_at_close stay calls) tt)
+of_units over bis stay calls = grind (arith, of_all, cond, units_at_close, all_either, all_at_close)
 
 -- of a range of streams, what one of them hands
 none_of : (g : ℕ → List Handed) (start n : ℕ) → ((c : ℕ) → start ≤ c → c < start + n → g c ≡ []) → flat_map g (range_with_len start n) ≡ []
 none_of g start zero none = refl
-none_of g start (suc n) none =
-    ap (λ xs. xs ++ flat_map g (range_with_len (start + 1) n)) (none start (omega arith) (omega arith))
-    ∙ none_of g (start + 1) n (λ c least below. none c (omega arith) (omega arith))
+none_of g start (suc n) none = grind (arith, none start (omega arith) (omega arith), none_of g (start + 1) n (λ c least below. none c (omega arith) (omega arith)))
 
 one_of : (g : ℕ → List Handed) (bis start n : ℕ) → start ≤ bis → bis < start + n → ((c : ℕ) → c ≢ bis → g c ≡ [])
     → flat_map g (range_with_len start n) ≡ g bis
 one_of g bis start zero least below others = absurd (omega arith)
 one_of g bis start (suc n) least below others = elim (cases_eq start bis) [
-  | inl same ↦
-      ap (λ xs. g start ++ xs) (none_of g (start + 1) n (λ c past under. others c (λ is. omega arith)))
-      ∙ append-nil (g start) ∙ ap g same
+  | inl same ↦ grind (arith, none_of, append-nil)
   | inr apart ↦
       ap (λ xs. xs ++ flat_map g (range_with_len (start + 1) n)) (others start apart)
       ∙ one_of g bis (start + 1) n (omega arith) (omega arith) others
@@ -112,8 +110,7 @@ parts event calls big_sync bis =
 
 part_cases : (taken own : Bool) (bis : ℕ) (units : List Handed) → of_stream bis units ≡ cond own units []
     → of_stream bis (cond taken units []) ≡ cond taken (cond own units []) []
-part_cases true own bis units is = is
-part_cases false own bis units is = refl
+part_cases taken own bis units is = grind arith
 
 part_is : (event : ℕ) (calls : List Call) (big_sync : BigSync) (bis c : ℕ)
     → part event calls big_sync bis c ≡ cond (is_in big_sync.which c) (cond (eqb c bis) (units_on event calls big_sync c) []) []
@@ -122,20 +119,15 @@ part_is event calls big_sync bis c =
     (of_units (leb (opened (stay_on big_sync c) (stream_calls (stay_on big_sync c) calls)) event) bis (stay_on big_sync c) (stream_calls (stay_on big_sync c) calls))
 
 nothing : (taken : Bool) → cond taken (let none : List Handed = [] in none) [] ≡ []
-nothing true = refl
-nothing false = refl
+nothing taken = grind arith
 
 part_other : (event : ℕ) (calls : List Call) (big_sync : BigSync) (bis c : ℕ) → c ≢ bis → part event calls big_sync bis c ≡ []
-part_other event calls big_sync bis c apart =
-    part_is event calls big_sync bis c
-    ∙ ap (λ units. cond (is_in big_sync.which c) units []) (cond-false (eqb c bis) (units_on event calls big_sync c) [] (ne_eqb c bis apart))
-    ∙ nothing (is_in big_sync.which c)
+part_other event calls big_sync bis c apart = grind (arith, part_is, cond, is_in, cond-false, eqb, units_on, ne_eqb, nothing)
 
 of_tick : (event : ℕ) (calls : List Call) (big_sync : BigSync) (bis : ℕ) → Contains (streams_of big_sync.which) bis
     → of_stream bis (handed_by event calls (Some big_sync)) ≡ units_on event calls big_sync bis
 of_tick event calls big_sync bis at =
     let is : (is_in big_sync.which bis ≡ true) × (1 ≤ bis) × (bis ≤ 31) = member_is big_sync.which bis at in
-    let greatest : bis ≤ 31 = is.2 in
     parts event calls big_sync bis
     ∙ one_of (part event calls big_sync bis) bis 1 31 is.1 (omega arith) (part_other event calls big_sync bis)
     ∙ part_is event calls big_sync bis bis
@@ -148,25 +140,17 @@ of_no_tick event calls big_sync bis out =
     parts event calls big_sync bis
     ∙ none_of (part event calls big_sync bis) 1 31 (λ c least below. elim (cases_eq c bis) [
       | inr apart ↦ part_other event calls big_sync bis c apart
-      | inl same ↦ elim (cases_Bool (is_in big_sync.which c)) [
-        | inl taken ↦ absurd (out (subst (λ b. Contains (streams_of big_sync.which) b) same (is_member big_sync.which c least (omega arith) taken)))
-        | inr free ↦
-            part_is event calls big_sync bis c
-            ∙ cond-false (is_in big_sync.which c) (cond (eqb c bis) (units_on event calls big_sync c) []) [] free
-      ]
+      | inl same ↦ grind (arith, cases_Bool, is_in, streams_of, is_member, part_is, cond-false, cond, eqb, units_on)
     ])
 
 -- what grows by each close of a stream's stay by what it hands is all that was handed of the stream
 hear_hands : (f : List stays.Call → List Handed) → ((number : ℕ) → (octets : List ℕ) → (calls : List stays.Call) → f (stays.hear number octets ∷ calls) ≡ f calls)
     → (own : Bool) (number : Option ℕ) (octets : List ℕ) (calls : List stays.Call) → f (cond own (with_hear number octets calls) calls) ≡ f calls
-hear_hands f hears true None octets calls = refl
-hear_hands f hears true (Some number) octets calls = hears number octets calls
-hear_hands f hears false number octets calls = refl
+hear_hands f hears own number octets calls = grind arith
 
 close_hands : (f : List stays.Call → List Handed) (over : Bool) (calls : List stays.Call) (units : List Handed)
     → f (stays.close ∷ calls) ≡ f calls ++ units → f (cond over (stays.close ∷ calls) calls) ≡ f calls ++ cond over units []
-close_hands f true calls units is = is
-close_hands f false calls units is = sym (append-nil (f calls))
+close_hands f over calls units is = grind (arith, append-nil)
 
 record Adds (stay : Stay) (f : List stays.Call → List Handed) : Type 0 where
   begins : f [] ≡ []
@@ -185,20 +169,14 @@ stream_hands big_sync bis f adds (tick event ∷ calls) is at =
     ∙ ap (λ xs. xs ++ of_stream bis (handed_at calls event)) (stream_hands big_sync bis f adds calls is at)
     ∙ ap (λ xs. f (stream_calls (stay_on big_sync bis) calls) ++ xs)
     (ap (λ p. of_stream bis (handed_by event calls p)) is ∙ of_tick event calls big_sync bis at)
-    ∙ sym (close_hands f (leb (opened (stay_on big_sync bis) (stream_calls (stay_on big_sync bis) calls)) event)
-    (stream_calls (stay_on big_sync bis) calls) _ (adds.closes (stream_calls (stay_on big_sync bis) calls)))
+    ∙ sym (grind (arith, close_hands, leb, opened, stay_on, stream_calls))
 stream_hands big_sync bis f adds (leave ∷ calls) is at = sym adds.begins
 
 pub unframed_hands : (big_sync : BigSync) (calls : List Call) (bis : ℕ) → big_sync.info.framing ≡ 0 → place calls ≡ Some big_sync
     → Contains (streams_of big_sync.which) bis → of_stream bis (handed_since calls) ≡ handed (stay_on big_sync bis) (stream_calls (stay_on big_sync bis) calls)
 unframed_hands big_sync calls bis plain is at =
     let stay : Stay = stay_on big_sync bis in
-    stream_hands big_sync bis (handed stay) (record {
-      begins = refl;
-      hears = λ number octets past. refl;
-      closes = λ past. ap (λ units. handed stay past ++ units)
-          (sym (cond-true (eqb big_sync.info.framing 0) (units_of stay past (opened stay past)) (gained stay past) (eq-eqb big_sync.info.framing 0 plain)));
-    }) calls is at
+    stream_hands big_sync bis (handed stay) (grind (arith, handed, cond-true, eqb, units_of, opened, gained, eq-eqb)) calls is at
 
 pub framed_hands : (big_sync : BigSync) (calls : List Call) (bis : ℕ) → big_sync.info.framing ≡ 1 → place calls ≡ Some big_sync
     → Contains (streams_of big_sync.which) bis → of_stream bis (handed_since calls) ≡ decided (stay_on big_sync bis) (stream_calls (stay_on big_sync bis) calls)
@@ -214,11 +192,6 @@ framed_hands big_sync calls bis framed is at =
 
 pub others_hand_nothing : (big_sync : BigSync) (calls : List Call) (bis : ℕ) → place calls ≡ Some big_sync → ¬ Contains (streams_of big_sync.which) bis
     → of_stream bis (handed_since calls) ≡ []
-others_hand_nothing big_sync [] bis is out = refl
-others_hand_nothing big_sync (tune other ∷ calls) bis is out = refl
 others_hand_nothing big_sync (hear event other subevent octets ∷ calls) bis is out = others_hand_nothing big_sync calls bis is out
-others_hand_nothing big_sync (tick event ∷ calls) bis is out =
-    of_append bis (handed_since calls) (handed_at calls event)
-    ∙ ap (λ xs. xs ++ of_stream bis (handed_at calls event)) (others_hand_nothing big_sync calls bis is out)
-    ∙ ap (λ p. of_stream bis (handed_by event calls p)) is ∙ of_no_tick event calls big_sync bis out
-others_hand_nothing big_sync (leave ∷ calls) bis is out = refl
+others_hand_nothing big_sync (tick event ∷ calls) bis is out = grind (arith, of_append bis (handed_since calls) (handed_at calls event), others_hand_nothing big_sync calls bis is out, of_no_tick event calls big_sync bis out)
+others_hand_nothing big_sync calls bis is out = search (of_append, handed_since, handed_at, of_stream, handed_by, of_no_tick)

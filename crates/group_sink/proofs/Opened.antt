@@ -1,22 +1,14 @@
 -- The open event of a stream by the ticks alone.
-use Rattle.group_sink.proofs.Prelude.{ℕ, ◌≡◌, ◌+◌, Bool, true, false, cond, eqb, leb, List, [], ◌∷◌, Option, Some, None, refl, ap, ◌∙◌, arith, Stay, opened, Call, tune, hear, tick, leave, BigSync, closes, number_of, stay_on, stream_calls, with_hear}
+use Rattle.group_sink.proofs.Prelude.{ℕ, ◌≡◌, ◌+◌, Bool, cond, eqb, leb, List, [], ◌∷◌, Option, ap, ◌∙◌, arith, Stay, opened, Call, tune, hear, tick, leave, BigSync, closes, number_of, stay_on, stream_calls, with_hear}
 use Rattle.isoal_base.specs.Stays as stays
-
--- a hear opens no event
-pub opened-hear : (stay : Stay) (number : Option ℕ) (octets : List ℕ) (calls : List stays.Call)
-    → opened stay (with_hear number octets calls) ≡ opened stay calls
-opened-hear stay None octets calls = refl
-opened-hear stay (Some number) octets calls = refl
 
 either_same : (stay : Stay) (test : Bool) (number : Option ℕ) (octets : List ℕ) (calls : List stays.Call)
     → opened stay (cond test (with_hear number octets calls) calls) ≡ opened stay calls
-either_same stay true number octets calls = opened-hear stay number octets calls
-either_same stay false number octets calls = refl
+either_same stay test number octets calls = grind arith
 
 closed_once : (stay : Stay) (first count : ℕ) (calls : List stays.Call) (test : Bool) → opened stay calls ≡ first + count
     → opened stay (cond test (stays.close ∷ calls) calls) ≡ first + cond test (count + 1) count
-closed_once stay first count calls true is = omega (arith, is)
-closed_once stay first count calls false is = is
+closed_once stay first count calls test is = grind arith
 
 pub opened_is : (big_sync : BigSync) (calls : List Call) (bis : ℕ)
     → opened (stay_on big_sync bis) (stream_calls (stay_on big_sync bis) calls) ≡ big_sync.first + closes big_sync calls

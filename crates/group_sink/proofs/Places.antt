@@ -3,10 +3,7 @@ use Rattle.group_sink.proofs.Prelude.{ℕ, zero, suc, ◌≡◌, ◌≢◌, ◌+
 
 -- the indices below one and above it
 range_split : (start n m : ℕ) → range_with_len start (n + m) ≡ range_with_len start n ++ range_with_len (start + n) m
-range_split start zero m =
-    let none : zero + m ≡ m = omega arith in
-    let same : start ≡ start + zero = omega arith in
-    λ i. range_with_len (same i) (none i)
+range_split start zero m = grind (arith, range_with_len)
 range_split start (suc n) m =
     let past : (start + 1) + n ≡ start + suc n = omega arith in
     ap (range_with_len start) (let more : suc n + m ≡ suc (n + m) = omega arith in more)
@@ -45,8 +42,7 @@ past (x ∷ xs) zero short = absurd (omega (arith, short))
 past (x ∷ xs) (suc n) short = past xs n (omega (arith, short))
 
 kept_few : (taken : Bool) (x : ℕ) (xs : List ℕ) (n : ℕ) → length xs ≤ n → length (cond taken (x ∷ xs) xs) ≤ suc n
-kept_few true x xs n short = omega (arith, short)
-kept_few false x xs n short = omega (arith, short)
+kept_few taken x xs n short = grind arith
 
 few : (test : ℕ → Bool) (xs : List ℕ) → length (filter test xs) ≤ length xs
 few test [] = omega arith
@@ -70,8 +66,7 @@ stream_at f set bis least greatest = elim (cases_Bool (is_in set bis)) [
 -- one stream is written, and no other
 kept_same : {X : Type 0} (taken : Bool) (f g : ℕ → X) (x : ℕ) (xs : List ℕ) → f x ≡ g x → map f xs ≡ map g xs
     → map f (cond taken (x ∷ xs) xs) ≡ map g (cond taken (x ∷ xs) xs)
-kept_same true f g x xs one rest = ap (λ y. y ∷ map f xs) one ∙ ap (λ ys. g x ∷ ys) rest
-kept_same false f g x xs one rest = rest
+kept_same taken f g x xs one rest = grind (arith, map)
 
 range_same : {X : Type 0} (f g : ℕ → X) (test : ℕ → Bool) (start n : ℕ) → ((c : ℕ) → start ≤ c → c < start + n → f c ≡ g c)
     → map f (filter test (range_with_len start n)) ≡ map g (filter test (range_with_len start n))
@@ -83,18 +78,18 @@ range_same f g test start (suc n) same =
 pub stream_set : {X : Type 0} (f g : ℕ → X) (set_of bis : ℕ) → 1 ≤ bis → bis ≤ 31 → is_in set_of bis ≡ true
     → ((c : ℕ) → c ≢ bis → f c ≡ g c) → set (map f (streams_of set_of)) (place_in set_of bis) (g bis) ≡ map g (streams_of set_of)
 stream_set f g set_of bis least greatest taken same =
-    let lower : List ℕ = below set_of bis in
-    let upper : List ℕ = above set_of bis in
-    ap (λ n. set (map f (streams_of set_of)) n (g bis)) (cond-true (is_in set_of bis) (length lower) 31 taken)
-    ∙ ap (λ xs. set (map f xs) (length lower) (g bis)) (streams_split set_of bis least greatest taken)
-    ∙ ap (λ ys. set ys (length lower) (g bis)) (map-append f lower (bis ∷ upper))
-    ∙ set_at (map f lower) (f bis) (map f upper) (g bis) (length lower) (length-map lower f)
-    ∙ ap (λ ys. ys ++ g bis ∷ map f upper)
-    (range_same f g (is_in set_of) 1 (bis - 1) (λ c from under. same c (λ is. absurd (omega (arith, is, from, under, least)))))
-    ∙ ap (λ ys. map g lower ++ g bis ∷ ys)
-    (range_same f g (is_in set_of) (bis + 1) (31 - bis) (λ c from under. same c (λ is. absurd (omega (arith, is, from)))))
-    ∙ sym (map-append g lower (bis ∷ upper))
-    ∙ ap (map g) (sym (streams_split set_of bis least greatest taken))
+    grind (
+      arith,
+      below set_of bis,
+      above set_of bis,
+      cond-true (is_in set_of bis) (length (below set_of bis)) 31 taken,
+      streams_split set_of bis least greatest taken,
+      map-append f (below set_of bis) (bis ∷ (above set_of bis)),
+      set_at (map f (below set_of bis)) (f bis) (map f (above set_of bis)) (g bis) (length (below set_of bis)) (length-map (below set_of bis) f),
+      range_same f g (is_in set_of) 1 (bis - 1) (λ c from under. same c (λ is. absurd (omega (arith, is, from, under, least)))),
+      range_same f g (is_in set_of) (bis + 1) (31 - bis) (λ c from under. same c (λ is. absurd (omega (arith, is, from)))),
+      map-append g (below set_of bis) (bis ∷ (above set_of bis)),
+    )
 
 pub streams_same : {X : Type 0} (f g : ℕ → X) (set bis : ℕ) → is_in set bis ≡ false → ((c : ℕ) → c ≢ bis → f c ≡ g c)
     → map f (streams_of set) ≡ map g (streams_of set)
@@ -113,13 +108,7 @@ streams_same f g set bis free same = others (range_with_len 1 31)
 
 -- the streams before an index, and the places before it, in a loop over the indices
 below_more : (set index : ℕ) → 1 ≤ index → below set (index + 1) ≡ below set index ++ cond (is_in set index) (index ∷ []) []
-below_more set index least =
-    let parts : (index + 1) - 1 ≡ (index - 1) + 1 = omega arith in
-    let last : 1 + (index - 1) ≡ index = omega arith in
-    ap (λ n. filter (is_in set) (range_with_len 1 n)) parts
-    ∙ ap (filter (is_in set)) (range_split 1 (index - 1) 1)
-    ∙ filter-append (is_in set) (range_with_len 1 (index - 1)) (range_with_len (1 + (index - 1)) 1)
-    ∙ ap (λ a. below set index ++ filter (is_in set) (range_with_len a 1)) last
+below_more set index least = grind (arith, filter, is_in, set, range_with_len, range_split, filter-append)
 
 abbrev pub places_before : ℕ → ℕ → List ℕ
 places_before set index = map (place_in set) (range_with_len 1 (index - 1)) ++ replicate (32 - index) 31
@@ -137,61 +126,52 @@ places_with set index least =
 
 before_one : (set index : ℕ) → index ≤ 31
     → places_before set index ≡ map (place_in set) (range_with_len 1 (index - 1)) ++ 31 ∷ replicate (31 - index) 31
-before_one set index greatest =
-    let more : 32 - index ≡ suc (31 - index) = omega arith in
-    ap (λ n. map (place_in set) (range_with_len 1 (index - 1)) ++ replicate n 31) more
+before_one set index greatest = grind (arith, map, place_in, set, range_with_len, replicate)
 
 some_taken : {X : Type 0} (taken : Bool) (x y : X) → Some y ≡ cond taken (Some x) None → (taken ≡ true) × (y ≡ x)
-some_taken true x y is = (refl, same_Some y x is)
-some_taken false x y is = absurd cc
+some_taken taken x y is = grind (arith, same_Some)
 
 none_taken : {X : Type 0} (taken : Bool) (x : X) → None ≡ cond taken (Some x) None → taken ≡ false
-none_taken true x is = absurd cc
-none_taken false x is = refl
+none_taken taken x is = grind arith
 
 -- of an index whose stream is taken
 pub streams_more : {X : Type 0} (f : ℕ → X) (set index : ℕ) (streams more : List X) (stream : X) → 1 ≤ index
     → streams ≡ map f (below set index) → Some stream ≡ cond (is_in set index) (Some (f index)) None → more ≡ streams ++ stream ∷ []
     → more ≡ map f (below set (index + 1))
 streams_more f set index streams more stream least is taken pushed =
-    let one : (is_in set index ≡ true) × (stream ≡ f index) = some_taken (is_in set index) (f index) stream taken in
-    pushed
-    ∙ ap (λ xs. xs ++ stream ∷ []) is
-    ∙ ap (λ x. map f (below set index) ++ x ∷ []) one.1
-    ∙ sym (map-append f (below set index) (index ∷ []))
-    ∙ ap (λ xs. map f (below set index ++ xs)) (sym (cond-true (is_in set index) (index ∷ []) [] one.0))
-    ∙ ap (map f) (sym (below_more set index least))
+    grind (arith, is_in, set, some_taken, map, map-append, cond-true, below_more)
 
 pub places_more : {X : Type 0} (f : ℕ → X) (set_of index : ℕ) (streams : List X) (stream : X) (places more : List ℕ) → 1 ≤ index → index ≤ 31
     → streams ≡ map f (below set_of index) → Some stream ≡ cond (is_in set_of index) (Some (f index)) None
     → places ≡ places_before set_of index → more ≡ set places (index - 1) (length streams) → more ≡ places_before set_of (index + 1)
 places_more f set_of index streams stream places more least greatest is taken before written =
-    let one : (is_in set_of index ≡ true) × (stream ≡ f index) = some_taken (is_in set_of index) (f index) stream taken in
-    let count : length streams ≡ place_in set_of index =
-    ap length is ∙ length-map (below set_of index) f ∙ sym (cond-true (is_in set_of index) (length (below set_of index)) 31 one.0) in
-    written
-    ∙ ap (λ xs. set xs (index - 1) (length streams)) (before ∙ before_one set_of index greatest)
-    ∙ set_at (map (place_in set_of) (range_with_len 1 (index - 1))) 31 (replicate (31 - index) 31) (length streams) (index - 1)
-    (length-map-range_with_len (place_in set_of) 1 (index - 1))
-    ∙ ap (λ n. map (place_in set_of) (range_with_len 1 (index - 1)) ++ n ∷ replicate (31 - index) 31) count
-    ∙ places_with set_of index least
+    grind (
+      arith,
+      is_in,
+      some_taken,
+      length,
+      place_in,
+      length-map,
+      cond-true,
+      set,
+      before_one,
+      set_at,
+      map,
+      range_with_len,
+      replicate,
+      length-map-range_with_len,
+      places_with,
+    )
 
 -- and of one whose stream isn't
 pub streams_kept : {X : Type 0} (f : ℕ → X) (set index : ℕ) (streams : List X) → 1 ≤ index
     → streams ≡ map f (below set index) → None ≡ cond (is_in set index) (Some (f index)) None → streams ≡ map f (below set (index + 1))
-streams_kept f set index streams least is free =
-    is
-    ∙ ap (map f) (sym (append-nil (below set index)))
-    ∙ ap (λ xs. map f (below set index ++ xs)) (sym (cond-false (is_in set index) (index ∷ []) [] (none_taken (is_in set index) (f index) free)))
-    ∙ ap (map f) (sym (below_more set index least))
+streams_kept f set index streams least is free = grind (arith, map, append-nil, set, cond-false, is_in, none_taken, below_more)
 
 pub places_kept : {X : Type 0} (x : X) (set index : ℕ) (places : List ℕ) → 1 ≤ index → index ≤ 31
     → None ≡ cond (is_in set index) (Some x) None → places ≡ places_before set index → places ≡ places_before set (index + 1)
 places_kept x set index places least greatest free before =
-    before ∙ before_one set index greatest
-    ∙ ap (λ n. map (place_in set) (range_with_len 1 (index - 1)) ++ n ∷ replicate (31 - index) 31)
-    (sym (cond-false (is_in set index) (length (below set index)) 31 (none_taken (is_in set index) x free)))
-    ∙ places_with set index least
+    grind (arith, before_one, set, map, place_in, range_with_len, replicate, cond-false, is_in, length, none_taken, places_with)
 
 -- past the last index
 pub all_streams : {X : Type 0} (f : ℕ → X) (set index : ℕ) → index ≡ 32 → map f (below set index) ≡ map f (streams_of set)

@@ -1,5 +1,6 @@
 -- A receiver of either framing that stands for its calls stands for them and one more.
-use Rattle.group_sink.proofs.Prelude.{ℕ, ◌≡◌, ◌+◌, ◌≤◌, Bool, true, false, cond, eqb, List, [], ◌∷◌, replicate, None, refl, ap, ◌∙◌, eqb-true, Bounds, Handed, Stay, opened, window_of, units_of, gained, undecided_in, units_at_close, fresh, unframed_after, framed_after, receiver_after, open_of, answer_by, hear_by, owed_of, closed}
+use Rattle.std.proofs.Common.{arith}
+use Rattle.group_sink.proofs.Prelude.{ℕ, ◌≡◌, ◌+◌, ◌≤◌, Bool, true, cond, eqb, List, [], ◌∷◌, replicate, None, refl, ap, ◌∙◌, eqb-true, Bounds, Handed, Stay, opened, window_of, units_of, gained, undecided_in, units_at_close, fresh, unframed_after, framed_after, receiver_after, open_of, answer_by, hear_by, owed_of, closed}
 use Rattle.isoal_base.specs.Hearing.{read_as}
 use Rattle.isoal_base.specs.Stays as stays
 use Rattle.isoal_base.proofs.Citable.{stands_new, stands_hear, stands_close}
@@ -13,14 +14,11 @@ use Rattle.group_sink.specs.declared.receiver.Receiver.TheVariants.{Unframed, Fr
 
 -- each framing by itself
 unframed_new : (stay : Stay) → record { stay = stay; event = stay.first; kept = replicate (window_of stay.info) None } ≡ unframed_after stay []
-unframed_new stay =
-    ap (λ kept. record { stay = stay; event = stay.first; kept = kept }) (stands_new (read_as unframed stay.info.max_pdu) stay).kept_is
+unframed_new stay = grind (arith, (stands_new (read_as unframed stay.info.max_pdu) stay).kept_is)
 
 unframed_hear : (stay : Stay) (calls : List stays.Call) (number : ℕ) (octets : List ℕ) → 1 ≤ stay.info.bn
     → plain.after_hear number octets (unframed_after stay calls) ≡ unframed_after stay (stays.hear number octets ∷ calls)
-unframed_hear stay calls number octets some =
-    ap (λ kept. record { stay = stay; event = opened stay calls; kept = kept })
-    (stands_hear unframed stay calls (opened stay calls) (entries_of stay calls) number octets some (record { event_is = refl; kept_is = refl })).kept_is
+unframed_hear stay calls number octets some = grind (arith, opened, stands_hear)
 
 unframed_close : (stay : Stay) (calls : List stays.Call) → 1 ≤ stay.info.bn
     → plain.after_close (unframed_after stay calls) ≡ unframed_after stay (stays.close ∷ calls)
@@ -32,10 +30,7 @@ framed_stands : (stay : Stay) (calls : List stays.Call) → segments.Stands call
 framed_stands stay calls = record { hearing = record { event_is = refl; kept_is = refl }; run = refl }
 
 framed_new : (stay : Stay) → record { stay = stay; event = stay.first; kept = replicate (window_of stay.info) None; run = None } ≡ framed_after stay []
-framed_new stay =
-    let now = new_stands stay in
-    ap (λ kept. record { stay = stay; event = stay.first; kept = kept; run = None }) now.hearing.kept_is
-    ∙ ap (λ run. record { stay = stay; event = stay.first; kept = segments_of stay []; run = run }) now.run
+framed_new stay = grind (arith, new_stands)
 
 framed_hear : (stay : Stay) (calls : List stays.Call) (number : ℕ) (octets : List ℕ) → Bounds stay.info
     → segments.after_hear number octets (framed_after stay calls) ≡ framed_after stay (stays.hear number octets ∷ calls)
@@ -54,29 +49,19 @@ framed_close stay calls bounds =
 -- by the framing
 either : (plainly : Bool) (w x : plain.Window) (y z : segments.Window) → w ≡ x → y ≡ z
     → cond plainly (Unframed w) (Framed y) ≡ cond plainly (Unframed x) (Framed z)
-either plainly w x y z one other =
-    ap (λ v. cond plainly (Unframed v) (Framed y)) one ∙ ap (λ v. cond plainly (Unframed x) (Framed v)) other
+either plainly w x y z one other = grind (arith, cond)
 
 hear_either : (plainly : Bool) (number : ℕ) (octets : List ℕ) (w : plain.Window) (y : segments.Window)
-    → hear_by number octets (cond plainly (Unframed w) (Framed y))
-    ≡ cond plainly (Unframed (plain.after_hear number octets w)) (Framed (segments.after_hear number octets y))
-hear_either true number octets w y = refl
-hear_either false number octets w y = refl
+    → hear_by number octets (cond plainly (Unframed w) (Framed y)) ≡ cond plainly (Unframed (plain.after_hear number octets w)) (Framed (segments.after_hear number octets y))
+hear_either plainly number octets w y = grind arith
 
 close_either : (plainly : Bool) (w : plain.Window) (y : segments.Window)
     → closed (cond plainly (Unframed w) (Framed y)) ≡ cond plainly (Unframed (plain.after_close w)) (Framed (segments.after_close y))
-close_either true w y = refl
-close_either false w y = refl
+close_either plainly w y = grind arith
 
 owed_either : (plainly : Bool) (w : plain.Window) (y : segments.Window) (units others : List Handed)
     → (plainly ≡ true → plain.owed w ≡ units) → segments.owed y ≡ others → owed_of (cond plainly (Unframed w) (Framed y)) ≡ cond plainly units others
-owed_either true w y units others one other = one refl
-owed_either false w y units others one other = other
-
-open_either : (plainly : Bool) (stay : Stay) (calls : List stays.Call)
-    → open_of (cond plainly (Unframed (unframed_after stay calls)) (Framed (framed_after stay calls))) ≡ opened stay calls
-open_either true stay calls = refl
-open_either false stay calls = refl
+owed_either plainly w y units others one other = grind arith
 
 -- a receiver of a stay
 pub receiver_new : (stay : Stay) → fresh stay ≡ receiver_after stay []
@@ -85,19 +70,14 @@ receiver_new stay = either (eqb stay.info.framing 0) _ (unframed_after stay []) 
 pub receiver_hear : (stay : Stay) (calls : List stays.Call) (number : ℕ) (octets : List ℕ) → Bounds stay.info
     → hear_by number octets (receiver_after stay calls) ≡ receiver_after stay (stays.hear number octets ∷ calls)
 receiver_hear stay calls number octets bounds =
-    hear_either (eqb stay.info.framing 0) number octets (unframed_after stay calls) (framed_after stay calls)
-    ∙ either (eqb stay.info.framing 0) _ (unframed_after stay (stays.hear number octets ∷ calls)) _ (framed_after stay (stays.hear number octets ∷ calls))
-    (unframed_hear stay calls number octets bounds.bn) (framed_hear stay calls number octets bounds)
+    grind (arith, hear_either, eqb, unframed_after, framed_after, either, unframed_hear, framed_hear)
 
 pub receiver_close : (stay : Stay) (calls : List stays.Call) → Bounds stay.info
     → closed (receiver_after stay calls) ≡ receiver_after stay (stays.close ∷ calls)
-receiver_close stay calls bounds =
-    close_either (eqb stay.info.framing 0) (unframed_after stay calls) (framed_after stay calls)
-    ∙ either (eqb stay.info.framing 0) _ (unframed_after stay (stays.close ∷ calls)) _ (framed_after stay (stays.close ∷ calls))
-    (unframed_close stay calls bounds.bn) (framed_close stay calls bounds)
+receiver_close stay calls bounds = grind (arith, close_either, eqb, unframed_after, framed_after, either, unframed_close, framed_close)
 
 pub open_is : (stay : Stay) (calls : List stays.Call) → open_of (receiver_after stay calls) ≡ opened stay calls
-open_is stay calls = open_either (eqb stay.info.framing 0) stay calls
+open_is stay calls = grind (arith, eqb)
 
 pub owed_is : (stay : Stay) (calls : List stays.Call) → Bounds stay.info → owed_of (receiver_after stay calls) ≡ units_at_close stay calls
 owed_is stay calls bounds =
@@ -105,13 +85,6 @@ owed_is stay calls bounds =
     (λ plainly. unframed_owed (unframed_after stay calls) bounds (eqb-true stay.info.framing 0 plainly) calls (record { event_is = refl; kept_is = refl }))
     (framed_owed (framed_after stay calls) bounds calls (framed_stands stay calls))
 
--- what it answers
-answer_either : (plainly : Bool) (stay : Stay) (calls : List stays.Call) (number : ℕ) (octets : List ℕ)
-    → answer_by number octets (cond plainly (Unframed (unframed_after stay calls)) (Framed (framed_after stay calls)))
-    ≡ cond plainly (answer_by number octets (Unframed (unframed_after stay calls))) (answer_by number octets (Framed (framed_after stay calls)))
-answer_either true stay calls number octets = refl
-answer_either false stay calls number octets = refl
-
 pub answer_is : (stay : Stay) (calls : List stays.Call) (number : ℕ) (octets : List ℕ)
     → answer_by number octets (receiver_after stay calls) ≡ heard_on stay calls number octets
-answer_is stay calls number octets = answer_either (eqb stay.info.framing 0) stay calls number octets
+answer_is stay calls number octets = grind (arith, eqb)

@@ -1,5 +1,5 @@
 -- The elements of a list that pass a test, and what is handed of them.
-use Rattle.group_sink.proofs.Prelude.{ℕ, zero, suc, ◌≡◌, ◌↔◌, ◌⊎◌, ◌+◌, ◌-◌, ◌<◌, ◌≤◌, Bool, true, false, cond, List, [], ◌∷◌, ◌++◌, length, get_or, refl, sym, ap, ◌∙◌, subst, inl, inr, arith, Contains, filter, flat_map, range_with_len, cond-true, eq-eqb, eqb-true, get_or-range_with_len, length-range_with_len, Handed, is_in, streams_of}
+use Rattle.group_sink.proofs.Prelude.{ℕ, zero, suc, ◌≡◌, ◌↔◌, ◌⊎◌, ◌+◌, ◌-◌, ◌<◌, ◌≤◌, Bool, true, false, cond, List, [], ◌∷◌, ◌++◌, length, get_or, refl, ◌∙◌, subst, inl, inr, arith, Contains, filter, flat_map, range_with_len, cond-true, eq-eqb, eqb-true, get_or-range_with_len, length-range_with_len, Handed, is_in, streams_of}
 use Rattle.std.specs.Int.{bit_at}
 use Rattle.std.specs.List.Sorted.{IsStrictlyIncreasing}
 use Rattle.std.proofs.lemmas.List.Kept.{IsStrictlyIncreasing-filter}
@@ -7,15 +7,13 @@ use Rattle.bcast_base.specs.Bis.{Has}
 
 flat_map_one : (taken : Bool) (f : ℕ → List Handed) (x : ℕ) (xs : List ℕ)
     → cond taken (f x) [] ++ flat_map f xs ≡ flat_map f (cond taken (x ∷ xs) xs)
-flat_map_one true f x xs = refl
-flat_map_one false f x xs = refl
+flat_map_one taken f x xs = grind arith
 
 -- what is handed of the elements that pass a test
 pub flat_map_filter : (test : ℕ → Bool) (f : ℕ → List Handed) (xs : List ℕ)
     → flat_map (λ x. cond (test x) (f x) []) xs ≡ flat_map f (filter test xs)
 flat_map_filter test f [] = refl
-flat_map_filter test f (x ∷ xs) =
-    ap (λ ys. cond (test x) (f x) [] ++ ys) (flat_map_filter test f xs) ∙ flat_map_one (test x) f x (filter test xs)
+flat_map_filter test f (x ∷ xs) = grind (arith, flat_map_filter test f xs, flat_map_one (test x) f x (filter test xs))
 
 -- an element of a list that passes the test stands in the list of those that do, and no other does
 here : (x : ℕ) (xs : List ℕ) → Contains (x ∷ xs) x
@@ -37,8 +35,7 @@ kept_one false x y xs at = at
 filter_keeps : (test : ℕ → Bool) (xs : List ℕ) (y : ℕ) → test y ≡ true → Contains xs y → Contains (filter test xs) y
 filter_keeps test [] y passes at = absurd (omega (arith, at.1))
 filter_keeps test (x ∷ xs) y passes at = elim (head_or_tail x y xs at) [
-  | inl same ↦ subst (λ zs. Contains zs y) (sym (cond-true (test x) (x ∷ filter test xs) (filter test xs) (ap test same ∙ passes)))
-      (subst (λ z. Contains (z ∷ filter test xs) y) (sym same) (here y (filter test xs)))
+  | inl same ↦ grind (arith, cond-true, filter, here)
   | inr rest ↦ kept_one (test x) x y (filter test xs) (filter_keeps test xs y passes rest)
 ]
 
@@ -55,10 +52,7 @@ filter_passes test [] y at = absurd (omega (arith, at.1))
 filter_passes test (x ∷ xs) y at = passes_one test (test x) x y xs (filter test xs) refl (filter_passes test xs) at
 
 in_range : (start n y : ℕ) → Contains (range_with_len start n) y → (start ≤ y) × (y < start + n)
-in_range start n y at =
-    let below : at.0 < n = subst (λ m. at.0 < m) (length-range_with_len start n) at.1 in
-    let is : start + at.0 ≡ y = sym (get_or-range_with_len start n at.0 y below) ∙ at.2 in
-    (omega arith, omega arith)
+in_range start n y at = grind (arith, length-range_with_len, get_or-range_with_len)
 
 range_has : (start n y : ℕ) → start ≤ y → y < start + n → Contains (range_with_len start n) y
 range_has start n y least below = (
@@ -68,14 +62,12 @@ range_has start n y least below = (
 )
 
 pub is_member : (set bis : ℕ) → 1 ≤ bis → bis ≤ 31 → is_in set bis ≡ true → Contains (streams_of set) bis
-is_member set bis least greatest taken =
-    filter_keeps (is_in set) (range_with_len 1 31) bis taken (range_has 1 31 bis least (omega arith))
+is_member set bis least greatest taken = filter_keeps (is_in set) (range_with_len 1 31) bis taken (range_has 1 31 bis least (omega arith))
 
 pub member_is : (set bis : ℕ) → Contains (streams_of set) bis → (is_in set bis ≡ true) × (1 ≤ bis) × (bis ≤ 31)
 member_is set bis at =
     let both : (is_in set bis ≡ true) × Contains (range_with_len 1 31) bis = filter_passes (is_in set) (range_with_len 1 31) bis at in
     let within : (1 ≤ bis) × (bis < 1 + 31) = in_range 1 31 bis both.1 in
-    let below : bis < 1 + 31 = within.1 in
     (both.0, within.0, omega arith)
 
 pub members : (set bis : ℕ) → Contains (streams_of set) bis ↔ ((1 ≤ bis) × (bis ≤ 31) × Has set bis)
@@ -85,9 +77,7 @@ members set bis = (
 )
 
 range_rises : (start n : ℕ) → IsStrictlyIncreasing (range_with_len start n)
-range_rises start n k below =
-    let size : k + 1 < n = subst (λ m. k + 1 < m) (length-range_with_len start n) below in
-    omega (arith, get_or-range_with_len start n k 0 (omega arith), get_or-range_with_len start n (k + 1) 0 (omega arith))
+range_rises start n k below = grind (arith, length-range_with_len, get_or-range_with_len)
 
 pub set_rises : (set : ℕ) → IsStrictlyIncreasing (streams_of set)
 set_rises set = IsStrictlyIncreasing-filter (is_in set) (range_with_len 1 31) (range_rises 1 31)

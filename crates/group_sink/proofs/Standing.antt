@@ -1,5 +1,5 @@
 -- A sink that stands for its calls stands for them and one more.
-use Rattle.group_sink.proofs.Prelude.{ℕ, ◌≡◌, ◌≢◌, ◌-◌, ◌≤◌, Bool, true, false, cond, eqb, leb, List, [], ◌∷◌, ◌++◌, map, slice_get, slice_set, Option, Some, None, option_map, refl, sym, ap, ◌∙◌, subst, arith, flat_map, cond-true, cond-false, eq-eqb, ne_eqb, get_or-map-range_with_len, same_Some, Bounds, Handed, Stay, opened, Call, tune, hear, tick, place, BigSync, units_by, units_on, handed_by, handed_at, closed, fresh, owed_of, receiver_after, OnGroup, StandsFor, place_in, places_of, stream_after, on_after, fresh_on, answer_at, answer_on, hear_at, heard_at, hear_on, place_on, owed_by, owed_on, tick_at, tick_on, is_in, number_of, stay_on, stream_calls, streams_of, with_hear, with_tick, Receiver}
+use Rattle.group_sink.proofs.Prelude.{ℕ, ◌≡◌, ◌≢◌, ◌-◌, ◌≤◌, Bool, true, false, cond, eqb, leb, List, [], ◌∷◌, ◌++◌, map, slice_get, slice_set, Option, Some, None, option_map, refl, ap, ◌∙◌, arith, flat_map, cond-true, cond-false, eq-eqb, ne_eqb, get_or-map-range_with_len, same_Some, Bounds, Handed, Stay, opened, Call, tune, hear, tick, place, BigSync, units_by, units_on, handed_by, handed_at, closed, fresh, owed_of, receiver_after, OnGroup, StandsFor, place_in, places_of, stream_after, on_after, fresh_on, answer_at, answer_on, hear_at, heard_at, hear_on, place_on, owed_by, owed_on, tick_at, tick_on, is_in, number_of, stay_on, stream_calls, streams_of, with_hear, with_tick, Receiver}
 use Rattle.std.proofs.lemmas.List.Folds.{flat_map-map}
 use Rattle.isoal_base.specs.declared.hearing.Hearing.TheVariants as hearings
 use Rattle.isoal_base.specs.Stays as stays
@@ -30,14 +30,11 @@ place_is big_sync calls bis least greatest =
 stream_is : (big_sync : BigSync) (calls : List Call) (bis : ℕ) → 1 ≤ bis → bis ≤ 31
     → slice_get (on_after calls big_sync).streams (place_on bis (on_after calls big_sync)) ≡ taken_after big_sync calls bis
 stream_is big_sync calls bis least greatest =
-    ap (slice_get (on_after calls big_sync).streams) (place_is big_sync calls bis least greatest)
-    ∙ stream_at (stream_after big_sync calls) big_sync.which bis least greatest
+    grind (arith, place_is big_sync calls bis least greatest, stream_at (stream_after big_sync calls) big_sync.which bis least greatest)
 
 answer_cases : (taken : Bool) (stay : Stay) (calls : List stays.Call) (number : Option ℕ) (octets : List ℕ)
     → answer_at number octets (cond taken (Some (receiver_after stay calls)) None) ≡ cond taken (hearing_on stay calls number octets) hearings.NotTaken
-answer_cases false stay calls number octets = refl
-answer_cases true stay calls None octets = refl
-answer_cases true stay calls (Some number) octets = ap hearings.Heard (answer_is stay calls number octets)
+answer_cases taken stay calls number octets = grind (arith, answer_is)
 
 answer_after : (big_sync : BigSync) (calls : List Call) (event bis subevent : ℕ) (octets : List ℕ) → 1 ≤ bis → bis ≤ 31
     → answer_on event bis subevent octets (on_after calls big_sync) ≡ hearing_at (Some big_sync) calls event bis subevent octets
@@ -48,30 +45,27 @@ answer_after big_sync calls event bis subevent octets least greatest =
 -- a PDU changes the receiver of its stream, where it is taken, and no other
 hear_cases : (stay : Stay) (calls : List stays.Call) (number : Option ℕ) (octets : List ℕ) → Bounds stay.info
     → hear_at number octets (receiver_after stay calls) ≡ receiver_after stay (with_hear number octets calls)
-hear_cases stay calls None octets bounds = refl
-hear_cases stay calls (Some number) octets bounds = receiver_hear stay calls number octets bounds
+hear_cases stay calls number octets bounds = grind (arith, receiver_hear)
 
 hear_own : (big_sync : BigSync) (calls : List Call) (event bis subevent : ℕ) (octets : List ℕ) → Bounds big_sync.info
-    → hear_at (number_of big_sync.info event subevent) octets (stream_after big_sync calls bis)
-    ≡ stream_after big_sync (hear event bis subevent octets ∷ calls) bis
+    → hear_at (number_of big_sync.info event subevent) octets (stream_after big_sync calls bis) ≡ stream_after big_sync (hear event bis subevent octets ∷ calls) bis
 hear_own big_sync calls event bis subevent octets bounds =
-    let past : List stays.Call = stream_calls (stay_on big_sync bis) calls in
-    hear_cases (stay_on big_sync bis) past (number_of big_sync.info event subevent) octets bounds
-    ∙ ap (receiver_after (stay_on big_sync bis))
-    (sym (cond-true (eqb bis bis) (with_hear (number_of big_sync.info event subevent) octets past) past (eq-eqb bis bis refl)))
+    grind (
+      arith,
+      stream_calls (stay_on big_sync bis) calls,
+      hear_cases (stay_on big_sync bis) (stream_calls (stay_on big_sync bis) calls) (number_of big_sync.info event subevent) octets bounds,
+      cond-true (eqb bis bis) (with_hear (number_of big_sync.info event subevent) octets (stream_calls (stay_on big_sync bis) calls)) (stream_calls (stay_on big_sync bis) calls) (eq-eqb bis bis refl),
+    )
 
 hear_other : (big_sync : BigSync) (calls : List Call) (event bis subevent : ℕ) (octets : List ℕ) (c : ℕ) → c ≢ bis
     → stream_after big_sync calls c ≡ stream_after big_sync (hear event bis subevent octets ∷ calls) c
 hear_other big_sync calls event bis subevent octets c apart =
-    let past : List stays.Call = stream_calls (stay_on big_sync c) calls in
-    ap (receiver_after (stay_on big_sync c))
-    (sym (cond-false (eqb bis c) (with_hear (number_of big_sync.info event subevent) octets past) past (ne_eqb bis c (λ same. apart (sym same)))))
+    grind (arith, stream_calls, stay_on, receiver_after, cond-false, eqb, with_hear, number_of, ne_eqb)
 
 heard_cases : (taken : Bool) (number : Option ℕ) (octets : List ℕ) (place : ℕ) (receiver now : Receiver) (streams after : List Receiver)
     → hear_at number octets receiver ≡ now → (taken ≡ true → slice_set streams place now ≡ after) → (taken ≡ false → streams ≡ after)
     → heard_at number octets place (cond taken (Some receiver) None) streams ≡ after
-heard_cases true number octets place receiver now streams after is written kept = ap (slice_set streams place) is ∙ written refl
-heard_cases false number octets place receiver now streams after is written kept = kept refl
+heard_cases taken number octets place receiver now streams after is written kept = grind (arith, slice_set, place)
 
 hear_after : (big_sync : BigSync) (calls : List Call) (event bis subevent : ℕ) (octets : List ℕ) → 1 ≤ bis → bis ≤ 31 → Bounds big_sync.info
     → hear_on event bis subevent octets (on_after calls big_sync) ≡ on_after (hear event bis subevent octets ∷ calls) big_sync
@@ -88,20 +82,11 @@ hear_after big_sync calls event bis subevent octets least greatest bounds =
     ap (λ n. slice_set on.streams n (stream_after big_sync now bis)) (place_is big_sync calls bis least greatest)
     ∙ stream_set (stream_after big_sync calls) (stream_after big_sync now) big_sync.which bis least greatest taken
     (hear_other big_sync calls event bis subevent octets))
-    (λ free. streams_same (stream_after big_sync calls) (stream_after big_sync now) big_sync.which bis free
-    (hear_other big_sync calls event bis subevent octets)))
-
--- a tick
-close_cases : (over : Bool) (stay : Stay) (calls : List stays.Call) → Bounds stay.info
-    → cond over (closed (receiver_after stay calls)) (receiver_after stay calls) ≡ receiver_after stay (cond over (stays.close ∷ calls) calls)
-close_cases true stay calls bounds = receiver_close stay calls bounds
-close_cases false stay calls bounds = refl
+    (grind (arith, streams_same, stream_after, hear_other)))
 
 tick_one : (event : ℕ) (stay : Stay) (calls : List stays.Call) → Bounds stay.info
     → tick_at event (receiver_after stay calls) ≡ receiver_after stay (with_tick stay event calls)
-tick_one event stay calls bounds =
-    ap (λ open_now. cond (leb open_now event) (closed (receiver_after stay calls)) (receiver_after stay calls)) (open_is stay calls)
-    ∙ close_cases (leb (opened stay calls) event) stay calls bounds
+tick_one event stay calls bounds = grind (arith, cond, leb, closed, receiver_after, open_is, receiver_close, opened)
 
 map_twice : {A B : Type 0} (f : ℕ → A) (g : A → B) (xs : List ℕ) → map g (map f xs) ≡ map (λ x. g (f x)) xs
 map_twice f g [] = refl
@@ -121,9 +106,7 @@ flat_map_same f g (x ∷ xs) same = ap (λ ys. ys ++ flat_map f xs) (same x) ∙
 
 owed_one : (event : ℕ) (stay : Stay) (calls : List stays.Call) → Bounds stay.info
     → owed_by event (receiver_after stay calls) ≡ units_by event stay calls
-owed_one event stay calls bounds =
-    ap (λ open_now. cond (leb open_now event) (owed_of (receiver_after stay calls)) []) (open_is stay calls)
-    ∙ ap (λ units. cond (leb (opened stay calls) event) units []) (owed_is stay calls bounds)
+owed_one event stay calls bounds = grind (arith, cond, leb, owed_of, receiver_after, open_is, opened, owed_is)
 
 owed_after : (big_sync : BigSync) (calls : List Call) (event : ℕ) → Bounds big_sync.info
     → owed_on event (on_after calls big_sync) ≡ handed_by event calls (Some big_sync)
@@ -140,34 +123,17 @@ somewhere (Some big_sync) calls on is = (big_sync, refl, same_Some on (on_after 
 
 pub some_answers : (calls : List Call) (event bis subevent : ℕ) (octets : List ℕ) (on : OnGroup) → 1 ≤ bis → bis ≤ 31
     → StandsFor calls (Some on) → answer_on event bis subevent octets on ≡ hearing_of calls event bis subevent octets
-some_answers calls event bis subevent octets on least greatest stands =
-    let at = somewhere (place calls) calls on stands.place_is in
-    ap (answer_on event bis subevent octets) at.2 ∙ answer_after at.0 calls event bis subevent octets least greatest
-    ∙ sym (ap (λ p. hearing_at p calls event bis subevent octets) at.1)
+some_answers calls event bis subevent octets on least greatest stands = grind (arith, somewhere, place, answer_on, answer_after)
 
 pub some_hears : (calls : List Call) (event bis subevent : ℕ) (octets : List ℕ) (on : OnGroup) → 1 ≤ bis → bis ≤ 31 → Bounds on.info
     → StandsFor calls (Some on) → StandsFor (hear event bis subevent octets ∷ calls) (Some (hear_on event bis subevent octets on))
 some_hears calls event bis subevent octets on least greatest bounds stands =
-    let at = somewhere (place calls) calls on stands.place_is in
-    let checked : Bounds at.0.info = subst (λ o. Bounds o.info) at.2 bounds in
-    record {
-      place_is = ap Some (ap (hear_on event bis subevent octets) at.2 ∙ hear_after at.0 calls event bis subevent octets least greatest checked)
-          ∙ sym (ap (option_map (on_after (hear event bis subevent octets ∷ calls))) at.1);
-    }
+    grind (arith, somewhere, place, place_is, hear_on, hear_after, option_map, on_after, hear)
 
 pub some_hands : (calls : List Call) (event : ℕ) (on : OnGroup) → Bounds on.info
     → StandsFor calls (Some on) → owed_on event on ≡ handed_at calls event
-some_hands calls event on bounds stands =
-    let at = somewhere (place calls) calls on stands.place_is in
-    ap (owed_on event) at.2
-    ∙ owed_after at.0 calls event (subst (λ o. Bounds o.info) at.2 bounds)
-    ∙ sym (ap (handed_by event calls) at.1)
+some_hands calls event on bounds stands = grind (arith, somewhere, place, owed_on, owed_after, handed_by)
 
 pub some_ticks : (calls : List Call) (event : ℕ) (on : OnGroup) → Bounds on.info
     → StandsFor calls (Some on) → StandsFor (tick event ∷ calls) (Some (tick_on event on))
-some_ticks calls event on bounds stands =
-    let at = somewhere (place calls) calls on stands.place_is in
-    record {
-      place_is = ap Some (ap (tick_on event) at.2 ∙ tick_after at.0 calls event (subst (λ o. Bounds o.info) at.2 bounds))
-          ∙ sym (ap (option_map (on_after (tick event ∷ calls))) at.1);
-    }
+some_ticks calls event on bounds stands = grind (arith, somewhere, place, place_is, tick_on, tick_after, option_map, on_after, tick)

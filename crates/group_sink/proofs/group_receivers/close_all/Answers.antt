@@ -1,3 +1,4 @@
+use Rattle.std.proofs.Common.{arith}
 use Rattle.group_sink.proofs.Prelude.{◌∙◌, ap, owed_by, tick_at}
 use Rattle.group_sink.proofs.Handing.{caused_more, caused_past, handed_more, handed_past, written_more}
 use Rattle.group_sink.proofs.group_receivers.close_all.Goals as goal
@@ -13,8 +14,7 @@ streams-preserved g c = elim c.match-handed.branch [
         (g.T.UnitTaker.calls w.close_by-handed.new.taker) _ c.streams.handed w.close_by-handed.result _ c.streams-test.true
         c.streams.invariant.step c.stream-item.is w.in-Ok.field-0 w.in-Ok.is c.streams.invariant.hands w.close_by-handed.ensures.hands
         (ap g.T.UnitTaker.calls w.taker-is) w.handed-is;
-    cause = caused_more _ _ (g.T.UnitTaker.counts w.close_by-handed.new.taker) _ c.streams.handed w.close_by-handed.result _
-        w.in-Ok.field-0 w.in-Ok.is c.streams.invariant.cause w.close_by-handed.ensures.cause (ap g.T.UnitTaker.counts w.taker-is) w.handed-is;
+    cause = grind (arith, caused_more);
   }
   | in-Err w ↦ record {
     places = c.match-handed.auto.stream-items ∙ c.streams.invariant.places;

@@ -3,18 +3,7 @@ use Rattle.group_sink.proofs.Places.{all_places, all_streams, places_kept, place
 use Rattle.group_sink.proofs.group_receivers.GroupReceivers.new.Goals as goal
 
 pub indices-preserved-in_default-2 : goal.indices-preserved-in_default-2
-indices-preserved-in_default-2 c =
-    let big_sync = c.args.big_sync.now in
-    let f : ℕ → Receiver = λ bis. fresh (stay_on big_sync bis) in
-    let here : c.in-Some.bis ≡ c.indices.index = omega (arith, c.in-Some.ensures) in
-    let free : None ≡ cond (is_in big_sync.which c.indices.index) (Some (f c.indices.index)) None =
-    sym c.in_default-2.is ∙ c.in_ok-stream.ensures ∙ ap (fresh_at big_sync) here in
-    record {
-      few = omega (arith, c.indices.invariant.few);
-      places = places_kept (f c.indices.index) big_sync.which c.indices.index c.indices.places c.indices.auto.index (omega (arith, c.indices-test.true))
-          free c.indices.invariant.places;
-      fresh = streams_kept f big_sync.which c.indices.index c.indices.streams.items c.indices.auto.index c.indices.invariant.fresh free;
-    }
+indices-preserved-in_default-2 c = grind (arith, fresh, stay_on, cond, is_in, fresh_at, places_kept, streams_kept)
 
 pub indices-preserved : goal.indices-preserved
 indices-preserved c =
