@@ -1,6 +1,6 @@
 -- Where a sink is that `announce` puts on a group: where the group's source is for its next event (Basic Audio Profile 1.0,
 -- sections 3.7.2 and 6.5).
-use Rattle.scenario_laws.proofs.Prelude.{ℕ, ◌≡◌, ◌<◌, ◌≤◌, ◌^◌, ◌∷◌, [], Bool, List, None, Some, refl, arith, unwrap_or, none-some, Subgroup, Endpoint, BigInfo, IsTrain, Tells, IsOnGroup, heard_as, numbers_alone, MayAnnounce, train_of, Snapshot, TrainOutcome, Settings, outcome_by, big_sync_in, BigSync, by_numbers, next_anchor_of, next_of, Step, own_train, big_sync_of, snapshot_in, base_from, base_of, subgroups_of, GroupLine, checked_info, group_of, identity_of, no_group, setup_of, source_calls, Airs, chosen_of, chosen_steps, announced_of, big_sync_on, calls_made, source_at}
+use Rattle.scenario_laws.proofs.Prelude.{ℕ, ◌≡◌, ◌<◌, ◌≤◌, ◌^◌, Bool, List, Some, arith, unwrap_or, none-some, Endpoint, BigInfo, IsTrain, Tells, IsOnGroup, heard_as, MayAnnounce, train_of, Snapshot, TrainOutcome, Settings, outcome_by, big_sync_in, BigSync, by_numbers, next_anchor_of, next_of, Step, own_train, big_sync_of, snapshot_in, base_of, subgroups_of, checked_info, group_of, identity_of, no_group, setup_of, source_calls, Airs, chosen_of, chosen_steps, announced_of, big_sync_on, calls_made, source_at}
 use Rattle.announcement_train.specs.declared.train.Train.{Train}
 use Rattle.delegator_history.specs.Trains.{Setup as SinkSetup, taken}
 use Rattle.scenario_text.specs.declared.step.Step.TheVariants as steps
@@ -32,18 +32,6 @@ record Taken (brought : TrainOutcome) (big_sync : BigSync) : Type 0 where
 it_was_taken : (brought : TrainOutcome) (big_sync : BigSync) → big_sync_in brought ≡ Some big_sync → Taken brought big_sync
 it_was_taken brought big_sync is = grind (arith, none-some)
 
--- the BASE has the delay of the group
-base_delay : (group : GroupLine) (subgroups : List Subgroup) → (base_from group subgroups).delay ≡ group.delay
-base_delay group [] = refl
-base_delay group (subgroup ∷ others) = refl
-
--- the numbers of a group that isn't encrypted
-its_numbers : (own : List Step) → Settled own → Tellable own → (checked_info own).cipher ≡ None → numbers_alone (checked_info own) ≡ (setup_of own).info
-its_numbers own is tells plain = cc (plain, is.uncoded, tells.bare)
-
-abbrev tuning_with : BigInfo → (which first anchor delay : ℕ) → BigSync
-tuning_with info which first anchor delay = record { info = info; which = which; first = first; anchor = anchor; delay = delay }
-
 -- what the source announces for its next event
 told : Announcing → (airs : Airs) (own : List Step) → Lawful airs own → MayAnnounce (identity_of own).broadcast_id (base_of own) (checked_info own)
     (next_of (setup_of own) (source_calls own)) (next_anchor_of (setup_of own) (source_calls own)) → 1 ≤ (setup_of own).info.bn
@@ -60,15 +48,7 @@ IsOn own big_sync =
     IsOnGroup (base_of own) (checked_info own) (next_of (setup_of own) (source_calls own)) (next_anchor_of (setup_of own) (source_calls own)) big_sync
 
 same_tuning : (own : List Step) (big_sync : BigSync) → Settled own → Tellable own → IsOn own big_sync → by_numbers big_sync ≡ big_sync_on own big_sync.which
-same_tuning own big_sync is tells on =
-    cc (
-      on.group_is,
-      its_numbers own is tells on.plain,
-      on.first_is,
-      on.anchor_is,
-      on.delay_is,
-      base_delay (unwrap_or (group_of own) no_group) (subgroups_of own),
-    )
+same_tuning own big_sync is tells on = grind (arith, unwrap_or, group_of, no_group, subgroups_of)
 
 -- the train synchronizes the sink to the BIG of the source
 pub announced_on : Announcing → (airs : Airs) (boxes n : ℕ) (earlier : List Step) (made : Settings) (big_sync : BigSync)

@@ -1,10 +1,8 @@
 -- A source that sends can announce its next event: what its lines say fits the octets of a train (Basic Audio Profile 1.0,
 -- section 3.7.2; Core 5.2, volume 6 part B, section 4.4.6.11).
-use Rattle.scenario_laws.proofs.Prelude.{ℕ, ◌≡◌, ◌<◌, ◌≤◌, ◌*◌, ◌^◌, ◌||◌, not, cond, leb, ltb, is_some, Bool, true, false, List, [], ◌∷◌, ◌++◌, length, Option, None, Some, Ok, refl, sym, subst, arith, unwrap_or, false≢true, leb-false, or_parts, none-some, BigInfo, Cipher, FitsWidths, Subgroup, IsDraft, Refuses, entry_fault, last_of, metadata_fault, endpoint, indices, stands_in, numbers_alone, MayAnnounce, cipher_octets, next_anchor_of, next_of, with_cipher, announce_fault, Step, IsInRange, BaseTooLong, NoSuchBis, base_lines, base_of, has_bis, has_subgroup, is_base_too_long, is_last_bare, subgroups_of, group_refusal, train_ends, refuse_if, horizon_in, Phase, checked_info, cipher_of, group_of, identity_of, is_absent_at, is_described_at, is_sending, is_sending_at, is_started, Airs, GroupLine, no_group, phase_of, setup_of, source_calls}
+use Rattle.scenario_laws.proofs.Prelude.{ℕ, ◌≡◌, ◌<◌, ◌≤◌, ◌^◌, ◌||◌, not, cond, leb, ltb, is_some, Bool, true, false, List, [], ◌∷◌, ◌++◌, length, Option, None, Some, Ok, refl, sym, subst, arith, unwrap_or, false≢true, leb-false, or_parts, none-some, BigInfo, Cipher, FitsWidths, Subgroup, IsDraft, Refuses, entry_fault, last_of, metadata_fault, endpoint, indices, stands_in, numbers_alone, MayAnnounce, cipher_octets, next_anchor_of, next_of, with_cipher, announce_fault, Step, IsInRange, NoSuchBis, base_lines, base_of, has_bis, has_subgroup, is_base_too_long, is_last_bare, subgroups_of, group_refusal, train_ends, refuse_if, horizon_in, Phase, checked_info, cipher_of, group_of, identity_of, is_absent_at, is_described_at, is_sending, is_sending_at, is_started, Airs, GroupLine, no_group, phase_of, setup_of, source_calls}
 use Rattle.big_info.specs.Layout.{CipherIs}
-use Rattle.big_info.specs.Rows.{first_fault}
 use Rattle.ltv_codec.proofs.Citable.{are_read}
-use Rattle.base_grammar.specs.declared.subgroup.BaseEntry.{BaseEntry}
 use Rattle.base_grammar.specs.Draft.{opened}
 use Rattle.base_grammar.specs.declared.fault.DraftFault.TheVariants as faults
 use Rattle.base_grammar.proofs.Drafts.{with_entry_keeps, with_metadata_keeps, with_subgroup_keeps}
@@ -62,7 +60,6 @@ new_there subgroups bis is none = grind (arith, false≢true)
 adds_next : (own : List Step) (bis : ℕ) (config : List ℕ) → Tellable own → IsInRange (steps.Bis bis config) → not (has_subgroup own) ≡ false → has_bis own bis ≡ false
     → (delay : ℕ) → delay < 2 ^ 24 → IsDraft (endpoint delay (subgroups_of (steps.Bis bis config ∷ own)))
 adds_next own bis config before ranged some none delay width =
-    let e : BaseEntry = record { bis = bis; config = config } in
     with_entry_keeps delay (record { bis = bis; config = config }) (subgroups_of own) (subgroups_of (steps.Bis bis config ∷ own)) (Ok tt) (before.draft delay width)
     (λ last is reads. are_read config ranged.2 ranged.1) (ranged.3, ranged.4)
     (adds_to_last (record { bis = bis; config = config }) (base_lines own)) tt (new_there (subgroups_of own) bis some none)
@@ -70,16 +67,7 @@ adds_next own bis config before ranged some none delay width =
 -- ---- each line
 
 tellable_after : (airs : Airs) (own : List Step) (step : Step) → Tellable own → Allowed airs own step → Tellable (step ∷ own)
-tellable_after airs own (steps.Group framing origin delay iso sdu max_sdu max_pdu num_bis bn nse irc pto sub spacing phy) before allows = record {
-  three = before.three;
-  cipher = before.cipher;
-  delay = allows.ranged.delay_is;
-  late = λ there. allows.ranged.origin_least;
-  bare = refl;
-  draft = before.draft;
-  full = λ started. absurd (false≢true started);
-  short = λ started. absurd (false≢true started);
-}
+tellable_after airs own (steps.Group framing origin delay iso sdu max_sdu max_pdu num_bis bn nse irc pto sub spacing phy) before allows = grind (arith, false≢true)
 tellable_after airs own (steps.Subgroup codec config) before allows =
     let parts = or_parts (not (is_described_at (phase_of own))) (is_last_bare own) allows.in_phase in
     record {
@@ -117,52 +105,13 @@ tellable_after airs own (steps.Bis bis config) before allows =
       full = λ started. absurd (true_not_false (is_started own) started (not_yet own (not (has_subgroup own)) allows.in_phase));
       short = λ started. absurd (true_not_false (is_started own) started (not_yet own (not (has_subgroup own)) allows.in_phase));
     }
-tellable_after airs own (steps.Start first) before allows =
-    let parts = or_parts (not (is_described_at (phase_of own))) (is_last_bare own) allows.in_phase in
-    record {
-      three = before.three;
-      cipher = before.cipher;
-      delay = before.delay;
-      late = λ there. before.late (there_then (phase_of own) parts.0);
-      bare = before.bare;
-      draft = before.draft;
-      full = λ started. parts.1;
-      short = λ started. fails_not (is_base_too_long own) BaseTooLong
-          (neither (group_refusal (first_fault (horizon_in allows.version) (checked_info own))) (refuse_if (is_base_too_long own) BaseTooLong) allows.by_source).1;
-    }
-tellable_after airs own steps.Stop before allows = record {
-  three = before.three;
-  cipher = before.cipher;
-  delay = before.delay;
-  late = λ there. before.late (sends_then (phase_of own) allows.in_phase);
-  bare = before.bare;
-  draft = before.draft;
-  full = λ started. before.full (sends own allows.in_phase);
-  short = λ started. before.short (sends own allows.in_phase);
-}
-tellable_after airs own (steps.Terminate reason) before allows = record {
-  three = before.three;
-  cipher = before.cipher;
-  delay = before.delay;
-  late = λ there. before.late (sends_then (phase_of own) allows.in_phase);
-  bare = before.bare;
-  draft = before.draft;
-  full = λ started. before.full (sends own allows.in_phase);
-  short = λ started. before.short (sends own allows.in_phase);
-}
+tellable_after airs own (steps.Start first) before allows = grind (arith, or_parts, not, is_described_at, phase_of, is_last_bare, there_then, fails_not, is_base_too_long, neither, group_refusal, horizon_in, checked_info, refuse_if)
+tellable_after airs own steps.Stop before allows = grind (arith, sends_then, phase_of, sends)
+tellable_after airs own (steps.Terminate reason) before allows = grind (arith, sends_then, phase_of, sends)
 tellable_after airs own _ before allows = assumption
 
 pub tellable : (airs : Airs) (own : List Step) → Lawful airs own → Tellable own
-tellable airs [] lawful = record {
-  three = refl;
-  cipher = refl;
-  delay = omega arith;
-  late = λ there. absurd (false≢true (sym there));
-  bare = refl;
-  draft = λ delay width. record { delay = width; streams = tt; fits = tt; once = tt };
-  full = λ started. absurd (false≢true started);
-  short = λ started. absurd (false≢true started);
-}
+tellable airs [] lawful = grind (arith, false≢true)
 tellable airs (step ∷ own) lawful = tellable_after airs own step (tellable airs own lawful.0) lawful.1
 
 -- ---- what it announces
@@ -189,7 +138,6 @@ may_announce airs own lawful is_its none =
           (tells.draft (group_line own).delay tells.delay) (tells.full started) (tells.short started);
       widths = widths_with (group_line own).info (cipher_of own) is.widths;
       cipher = tells.cipher;
-      count = leb-false (2 ^ 39) (next_of (setup_of own) (source_calls own) * (setup_of own).info.bn)
-          (counts (leb (2 ^ 39) (next_of (setup_of own) (source_calls own) * (setup_of own).info.bn)) _ (no_train_end (announce_fault (setup_of own) (source_calls own)) none));
+      count = grind (arith, leb-false, next_of, setup_of, source_calls, counts, leb, no_train_end, announce_fault);
       late = omega (arith, origin);
     }

@@ -22,8 +22,7 @@ entries_fit is_list start (suc n) least greatest = (
 )
 
 stands_not : (before : List ℕ) (bis other : ℕ) → stands_in before other ≡ false → suc bis ≤ other → stands_in (before ++ bis ∷ []) other ≡ false
-stands_not before bis other none below =
-    cc (list_any-append (λ b. eqb b other) before (bis ∷ []), none, ne_eqb bis other (λ same. omega (arith, same, below)))
+stands_not before bis other none below = grind (arith, list_any-append, eqb, ne_eqb)
 
 all_new : (before : List ℕ) (start n : ℕ) → ((other : ℕ) → start ≤ other → stands_in before other ≡ false)
     → AreNew before (map bis_of (map plain_entry (range_with_len start n)))

@@ -1,4 +1,5 @@
 -- What a step makes of the group that a sink is on: the sink stays there, or is on none then, or the step puts it on one.
+use Rattle.std.proofs.Common.{arith}
 use Rattle.scenario_laws.proofs.Prelude.{ℕ, ◌≡◌, ◌⊎◌, ◌==◌, cond, true, false, List, [], ◌∷◌, None, Some, refl, sym, ◌∙◌, ap, inl, inr, cases_Bool, tune, BigSync, Step, chosen_of, chosen_steps, Airs, sink_calls, source_of, big_sync_on, handed_by, closed_by, is_given, is_made, is_tuned}
 use Rattle.delegator_machine.specs.Groups as machine
 use Rattle.group_sink.specs.Calls.{place}
@@ -46,17 +47,13 @@ Becomes airs n step earlier = Keeps airs n step earlier ⊎ (Parts airs n step e
 
 kept : (airs : Airs) (n : ℕ) (step : Step) (earlier : List Step) → is_tuned n earlier step ≡ false → is_made n earlier step ≡ false
     → source_of n (step ∷ earlier) ≡ source_of n earlier → place (sink_calls airs n (step ∷ earlier)) ≡ place (sink_calls airs n earlier) → Becomes airs n step earlier
-kept airs n step earlier begins_not made_not same_source same_place =
-    inl (record { begins_not = begins_not; made_not = made_not; same_source = same_source; same_place = same_place })
+kept airs n step earlier begins_not made_not same_source same_place = grind (arith, same_place)
 
 gone : (airs : Airs) (n : ℕ) (step : Step) (earlier : List Step) → Silent airs n step earlier → place (sink_calls airs n (step ∷ earlier)) ≡ None → Becomes airs n step earlier
 gone airs n step earlier silent nowhere = inr (inl (record { silent = silent; nowhere = nowhere }))
 
 stayed : (airs : Airs) (n : ℕ) (step : Step) (earlier : List Step) → Silent airs n step earlier → is_made n earlier step ≡ false → StaysBy airs n step earlier → Becomes airs n step earlier
-stayed airs n step earlier silent made_not stays = elim stays.left [
-  | inl same ↦ kept airs n step earlier stays.begins_not made_not stays.same (ap place same)
-  | inr parted ↦ gone airs n step earlier silent (ap place parted)
-]
+stayed airs n step earlier silent made_not stays = grind (arith, kept, gone)
 
 pub becomes : (airs : Airs) (n : ℕ) (step : Step) (earlier : List Step) → is_given n step ≡ false → Becomes airs n step earlier
 becomes airs n (steps.Sink sink streams slots mtu) earlier ungiven = elim (cases_Bool (sink == n)) [

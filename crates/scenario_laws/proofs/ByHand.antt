@@ -1,5 +1,5 @@
 -- A stay that an announced train begins is the one that `tuned` would begin with the same streams, which are the group's.
-use Rattle.scenario_laws.proofs.Prelude.{ℕ, ◌≡◌, ◌<◌, ◌≤◌, ◌-◌, ◌/◌, ◌%◌, ◌^◌, ◌==◌, cond, ltb, Bool, true, false, List, [], ◌∷◌, refl, sym, ◌∙◌, ap, subst, arith, inl, inr, filter, list_any, range_with_len, div-eq_of_lt, pow-le-pow_right, cases_Bool, eqb-true, false≢true, ltb-true, by_numbers, BigSync, is_in, Step, setup_of, Airs, big_sync_on, chosen_steps}
+use Rattle.scenario_laws.proofs.Prelude.{ℕ, ◌≡◌, ◌<◌, ◌-◌, ◌^◌, cond, ltb, Bool, true, false, List, [], ◌∷◌, refl, subst, arith, inl, inr, filter, list_any, range_with_len, div-eq_of_lt, pow-le-pow_right, cases_Bool, eqb-true, false≢true, ltb-true, by_numbers, BigSync, is_in, Step, setup_of, Airs, big_sync_on, chosen_steps}
 use Rattle.scenario_text.specs.declared.step.Step.TheVariants as steps
 use Rattle.scenario_history.specs.Refusals.{has_beyond}
 use Rattle.scenario_laws.proofs.Announced.{Announcing, announced_tuning, announced_within}
@@ -9,18 +9,14 @@ use Rattle.scenario_laws.proofs.Moves.{Brings}
 -- ---- the streams are those of the group
 
 kept : (test : ℕ → Bool) (x : ℕ) (xs : List ℕ) (of_set : Bool) → (of_set ≡ true → test x ≡ false) → list_any test xs ≡ false → list_any test (cond of_set (x ∷ xs) xs) ≡ false
-kept test x xs true none rest = rw (none refl) rest
-kept test x xs false none rest = rest
+kept test x xs of_set none rest = grind arith
 
 none_of : (test in_set : ℕ → Bool) (xs : List ℕ) → ((x : ℕ) → in_set x ≡ true → test x ≡ false) → list_any test (filter in_set xs) ≡ false
 none_of test in_set [] none = refl
 none_of test in_set (x ∷ xs) none = kept test x (filter in_set xs) (in_set x) (none x) (none_of test in_set xs none)
 
 above_out : (num_bis which bis : ℕ) → which < 2 ^ num_bis → num_bis < bis → is_in which bis ≡ true → ⊥
-above_out num_bis which bis small above taken =
-    let power : 2 ^ num_bis ≤ 2 ^ (bis - 1) = pow-le-pow_right (omega arith) (omega (arith, above)) in
-    let none : which / 2 ^ (bis - 1) ≡ 0 = div-eq_of_lt (omega (arith, small, power)) in
-    false≢true (sym (ap (λ q. q % 2 == 1) none) ∙ taken)
+above_out num_bis which bis small above taken = grind (arith, pow-le-pow_right, div-eq_of_lt, false≢true)
 
 none_beyond : (num_bis which : ℕ) → which < 2 ^ num_bis → has_beyond num_bis which ≡ false
 unfolding has_beyond

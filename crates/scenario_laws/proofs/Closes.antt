@@ -1,5 +1,5 @@
 -- The events of a source that a sink closes rise, over all its stays with the source.
-use Rattle.scenario_laws.proofs.Prelude.{ℕ, zero, suc, ◌≡◌, ◌≢◌, ◌<◌, ◌≤◌, ◌+◌, ◌==◌, ◌||◌, cond, not, Bool, true, false, List, [], ◌∷◌, ◌++◌, map, Option, None, Some, refl, sym, ◌∙◌, ap, subst, arith, inl, inr, IsStrictlyIncreasing, cases_Bool, eq-eqb, eqb-true, eqb-false, false≢true, leb-true, or_parts, none-some, same_Some, Call, tune, hear, tick, BigSync, Step, chosen_of, chosen_steps, is_over, steps_of_source, event_back, is_sending, open_event, pdu_in, performed, Airs, heard_on_air, is_of, reaches, sink_calls, source_of, positions_of, ticked, unless_lost, big_sync_on, Closed, closed_by, closed_in, closed_since, any_since, given_since_made, is_given, is_made, is_tuned}
+use Rattle.scenario_laws.proofs.Prelude.{ℕ, zero, suc, ◌≡◌, ◌≢◌, ◌<◌, ◌≤◌, ◌+◌, ◌==◌, cond, not, Bool, true, false, List, [], ◌∷◌, ◌++◌, map, Option, None, Some, refl, sym, ap, subst, arith, inl, inr, IsStrictlyIncreasing, cases_Bool, eq-eqb, eqb-true, eqb-false, false≢true, leb-true, or_parts, none-some, same_Some, Call, tune, hear, BigSync, Step, chosen_of, chosen_steps, is_over, steps_of_source, event_back, is_sending, open_event, pdu_in, performed, Airs, heard_on_air, is_of, reaches, sink_calls, source_of, positions_of, ticked, unless_lost, big_sync_on, Closed, closed_by, closed_since, any_since, given_since_made, is_given, is_made, is_tuned}
 use Rattle.delegator_machine.specs.Groups as machine
 use Rattle.group_sink.specs.Calls.{place}
 use Rattle.group_sink.specs.Streams.{closes}
@@ -8,7 +8,7 @@ use Rattle.scenario_laws.specs.Laws.{closed_if}
 use Rattle.scenario_laws.proofs.Announced.{Announcing}
 use Rattle.scenario_laws.proofs.ByHand.{as_by_hand}
 use Rattle.scenario_laws.proofs.Legals.{Legal, Permitted, permitted}
-use Rattle.scenario_laws.proofs.Moves.{Left, StaysBy, announced, given_stays, plain_stays}
+use Rattle.scenario_laws.proofs.Moves.{StaysBy, announced, given_stays, plain_stays}
 use Rattle.scenario_laws.proofs.Wholes.{next_in, next_rises}
 use Rattle.scenario_laws.proofs.Places.{air_place}
 use Rattle.scenario_laws.proofs.Stays.{IsOn, begins_calls, begins_next, last_not, on_before, rest_not}
@@ -63,16 +63,8 @@ pub record Moves (mine : Bool) (calls : List Call) (next : ℕ) (closed : List C
   pub climbs_on : Climb (prefix mine calls next) (map event_of closed) (prefix mine' calls' next')
   pub within : prefix mine' calls' next' ≤ next'
 
-later_next : (p : Option BigSync) (calls : List Call) (next next' : ℕ) → next ≤ next' → prefix_of p calls next ≤ prefix_of p calls next'
-later_next None calls next next' more = more
-later_next (Some tuning) calls next next' more = omega arith
-
-later_within : (p : Option BigSync) (calls : List Call) (next next' : ℕ) → next ≤ next' → prefix_of p calls next ≤ next → prefix_of p calls next' ≤ next'
-later_within None calls next next' more within = omega arith
-later_within (Some tuning) calls next next' more within = omega (arith, more, within)
-
 stay_moves : (mine : Bool) (calls : List Call) (next next' : ℕ) → next ≤ next' → prefix mine calls next ≤ next → Moves mine calls next [] mine calls next'
-stay_moves mine calls next next' more within = search (later_next, later_within)
+stay_moves mine calls next next' more within = grind arith
 
 gone_moves : (s : ℕ) (gone : Bool) (calls : List Call) (source : Option ℕ) (next next' : ℕ) → next ≤ next' → prefix (is_of s source) calls next ≤ next
     → Moves (is_of s source) calls next [] (is_of s (cond gone None source)) (cond gone [] calls) next'
@@ -80,23 +72,16 @@ gone_moves s gone calls source next next' more within = grind (arith, stay_moves
 
 on_moves : (mine its : Bool) (on : BigSync) (calls : List Call) (next next' : ℕ) → next ≤ next' → (its ≡ true → on.first ≡ next) → prefix mine calls next ≤ next
     → Moves mine calls next [] its (tune on ∷ calls) next'
-on_moves mine true on calls next next' more is within = record { climbs_on = omega (arith, is refl, within); within = omega (arith, is refl, more) }
-on_moves mine false on calls next next' more is within = record { climbs_on = omega (arith, within, more); within = omega arith }
+on_moves mine its on calls next next' more is within = grind arith
 
 put_moves : (s : ℕ) (put : Bool) (on : BigSync) (chosen : ℕ) (calls : List Call) (source : Option ℕ) (next next' : ℕ) → next ≤ next' → ((chosen == s) ≡ true → on.first ≡ next)
     → prefix (is_of s source) calls next ≤ next
     → Moves (is_of s source) calls next [] (is_of s (cond put (Some chosen) source)) (cond put (tune on ∷ calls) calls) next'
 put_moves s put on chosen calls source next next' more is within = grind (arith, on_moves, stay_moves)
 
--- calls that neither put the sink anywhere nor close an event
-prefix_again : (calls more : List Call) (next : ℕ) (p : Option BigSync) → ((tuning : BigSync) → closes tuning more ≡ closes tuning calls)
-    → prefix_of p more next ≡ prefix_of p calls next
-prefix_again calls more next None same = refl
-prefix_again calls more next (Some tuning) same = ap (λ count. tuning.first + count) (same tuning)
-
 same_prefix : (mine : Bool) (calls more : List Call) (next : ℕ) → place more ≡ place calls → ((tuning : BigSync) → closes tuning more ≡ closes tuning calls)
     → prefix mine more next ≡ prefix mine calls next
-same_prefix mine calls more next there same = cc (there, prefix_again calls more next (stay_if mine calls) same)
+same_prefix mine calls more next there same = grind arith
 
 more_moves : (mine hit : Bool) (more calls : List Call) (next next' : ℕ) → next ≤ next' → place more ≡ place calls → ((tuning : BigSync) → closes tuning more ≡ closes tuning calls)
     → prefix mine calls next ≤ next → Moves mine calls next [] mine (cond hit more calls) next'
@@ -104,8 +89,7 @@ more_moves mine hit more calls next next' later there same within = grind (arith
 
 lost_closes : (gone : Bool) (event bis subevent : ℕ) (octets : List ℕ) (calls : List Call) (tuning : BigSync)
     → closes tuning (unless_lost gone (hear event bis subevent octets) calls) ≡ closes tuning calls
-lost_closes true event bis subevent octets calls tuning = refl
-lost_closes false event bis subevent octets calls tuning = refl
+lost_closes gone event bis subevent octets calls tuning = grind arith
 
 air_closes : (airs : Airs) (own : List Step) (lose count : ℕ) (calls : List Call) (tuning : BigSync) → closes tuning (heard_on_air airs own lose count calls) ≡ closes tuning calls
 air_closes airs own lose zero calls tuning = refl
@@ -113,43 +97,23 @@ air_closes airs own lose (suc i) calls tuning = search (lost_closes, air_closes 
 
 -- a group that is left, and none that is entered
 none_prefix : (mine : Bool) (calls : List Call) (next : ℕ) → place calls ≡ None → prefix mine calls next ≡ next
-none_prefix true calls next nowhere = ap (λ p. prefix_of p calls next) nowhere
-none_prefix false calls next nowhere = refl
+none_prefix mine calls next nowhere = grind arith
 
 off_moves : (mine mine' : Bool) (calls later : List Call) (next next' : ℕ) → next ≤ next' → place later ≡ None → prefix mine calls next ≤ next → Moves mine calls next [] mine' later next'
-off_moves mine mine' calls later next next' more nowhere within =
-    let is : prefix mine' later next' ≡ next' = none_prefix mine' later next' nowhere in
-    record { climbs_on = omega (arith, is, more, within); within = omega (arith, is) }
-
-left_moves : (mine mine' : Bool) (calls later : List Call) (next next' : ℕ) → next ≤ next' → mine' ≡ mine → Left later calls → prefix mine calls next ≤ next
-    → Moves mine calls next [] mine' later next'
-left_moves mine mine' calls later next next' more its left within = elim left [
-  | inl same ↦
-      subst (λ cs. Moves mine calls next [] mine' cs next') (sym same)
-      (subst (λ its. Moves mine calls next [] its calls next') (sym its) (stay_moves mine calls next next' more within))
-  | inr gone ↦ off_moves mine mine' calls later next next' more (ap place gone) within
-]
-
-tick_on_moves : (p : Option BigSync) (calls : List Call) (event next next' : ℕ) → place calls ≡ p → event < next → next ≤ next' → prefix_of p calls next ≤ next
-    → Climb (prefix_of p calls next) (map event_of (closed_in p calls event)) (prefix_of p (tick event ∷ calls) next') × (prefix_of p (tick event ∷ calls) next' ≤ next')
-tick_on_moves p calls event next next' is past more within = grind (arith, leb-true)
+off_moves mine mine' calls later next next' more nowhere within = grind (arith, none_prefix)
 
 -- a close of an event of the source, or of another
 close_moves : (mine its : Bool) (last_open : Option ℕ) (calls calls' : List Call) (next next' : ℕ) → ((event : ℕ) → last_open ≡ Some event → event < next) → next ≤ next'
     → prefix mine calls next ≤ next → (mine ≡ true → calls' ≡ cond its (ticked last_open calls) calls)
     → Moves mine calls next (cond its (closed_if mine calls last_open) []) mine calls' next'
-close_moves mine its last_open calls calls' next next' past more within is = grind (arith, stay_moves, tick_on_moves)
+close_moves mine its last_open calls calls' next next' past more within is = grind (arith, stay_moves, leb-true)
 
 pub open_if : (shut : Bool) (last event : ℕ) → cond shut None (Some last) ≡ Some event → (shut ≡ false) × (last ≡ event)
 open_if shut last event is = grind (arith, none-some, same_Some)
 
 -- the open event of a source is before its next one
 pub open_before : (own : List Step) (event : ℕ) → open_event own ≡ Some event → event < next_in own
-open_before own event is =
-    let last_open = open_if (not (is_sending own) || is_over own || (performed own == 0)) (event_back own 0) event is in
-    let some : (performed own == 0) ≡ false = (or_parts (not (is_sending own) || is_over own) (performed own == 0) last_open.0).1 in
-    let count : performed own ≢ 0 = eqb-false (performed own) 0 some in
-    omega (arith, last_open.1, count)
+open_before own event is = grind (arith, open_if, not, is_sending, is_over, performed, event_back, or_parts, eqb-false)
 
 -- ---- step by step
 
@@ -163,9 +127,7 @@ its_prefix airs s n made = prefix (mine_in s n made) (sink_calls airs n made) (n
 stays_move : (airs : Airs) (s n : ℕ) (step : Step) (earlier : List Step) (next' : ℕ) → StaysBy airs n step earlier → next_in (steps_of_source s earlier) ≤ next'
     → its_prefix airs s n earlier ≤ next_in (steps_of_source s earlier)
     → Moves (mine_in s n earlier) (sink_calls airs n earlier) (next_in (steps_of_source s earlier)) [] (mine_in s n (step ∷ earlier)) (sink_calls airs n (step ∷ earlier)) next'
-stays_move airs s n step earlier next' stays more within =
-    left_moves (mine_in s n earlier) (mine_in s n (step ∷ earlier)) (sink_calls airs n earlier) (sink_calls airs n (step ∷ earlier)) (next_in (steps_of_source s earlier)) next' more
-    (ap (is_of s) stays.same) stays.left within
+stays_move airs s n step earlier next' stays more within = grind (arith, stay_moves, off_moves, sink_calls, next_in, steps_of_source, is_of)
 
 announced_moves : Announcing → (airs : Airs) (boxes s n sink : ℕ) (earlier : List Step) (next' : ℕ) → Legal airs boxes earlier → Permitted airs boxes earlier (steps.Announce sink)
     → next_in (steps_of_source s earlier) ≤ next' → its_prefix airs s n earlier ≤ next_in (steps_of_source s earlier)
@@ -174,17 +136,14 @@ announced_moves : Announcing → (airs : Airs) (boxes s n sink : ℕ) (earlier :
 announced_moves laws airs boxes s n sink earlier next' legal permits more within = elim (announced airs n sink earlier) [
   | inl stays ↦ stays_move airs s n (steps.Announce sink) earlier next' stays more within
   | inr goes ↦ elim goes [
-    | inl follows ↦
-        off_moves (mine_in s n earlier) (mine_in s n (steps.Announce sink ∷ earlier)) (sink_calls airs n earlier) (sink_calls airs n (steps.Announce sink ∷ earlier))
-        (next_in (steps_of_source s earlier)) next' more (ap place follows.same ∙ follows.nowhere) within
+    | inl follows ↦ grind (arith, off_moves, sink_calls, next_in, steps_of_source)
     | inr put ↦
         let on : BigSync = machine.by_numbers put.big_sync in
         let first_is : on.first ≡ next_in (chosen_steps earlier) = ap (λ (t : BigSync). t.first) (as_by_hand laws airs boxes n sink earlier put.big_sync legal permits put.brings).0 in
         subst (λ calls. Moves (mine_in s n earlier) (sink_calls airs n earlier) (next_in (steps_of_source s earlier)) [] (mine_in s n (steps.Announce sink ∷ earlier)) calls next') (sym put.calls_is)
         (subst (λ source. Moves (mine_in s n earlier) (sink_calls airs n earlier) (next_in (steps_of_source s earlier)) [] (is_of s source) (tune on ∷ sink_calls airs n earlier) next')
         (sym put.source_is)
-        (on_moves (mine_in s n earlier) (chosen_of earlier == s) on (sink_calls airs n earlier) (next_in (steps_of_source s earlier)) next' more
-        (λ same. first_is ∙ ap (λ t. next_in (steps_of_source t earlier)) (eqb-true (chosen_of earlier) s same)) within))
+        (grind (arith, on_moves, chosen_of, sink_calls, next_in, steps_of_source, eqb-true)))
   ]
 ]
 
@@ -250,12 +209,7 @@ made_nothing airs n step earlier made = grind (arith, false≢true)
 
 closing_anew : (airs : Airs) (s n : ℕ) (step : Step) (earlier : List Step) → is_made n earlier step ≡ true → Closing airs s n (step ∷ earlier)
 closing_anew airs s n step earlier made =
-    let is : its_prefix airs s n (step ∷ earlier) ≡ next_in (steps_of_source s (step ∷ earlier)) =
-    none_prefix (mine_in s n (step ∷ earlier)) (sink_calls airs n (step ∷ earlier)) (next_in (steps_of_source s (step ∷ earlier))) (ap place (made_nothing airs n step earlier made)) in
-    record {
-      rise = subst (λ again. Climb 0 (map event_of (cond again [] (closed_since airs s n earlier ++ closed_by airs s n earlier step))) (its_prefix airs s n (step ∷ earlier))) (sym made) (omega arith);
-      within = omega (arith, is);
-    }
+    grind (arith, next_in, steps_of_source, none_prefix, sink_calls, made_nothing, map, cond, closed_since, closed_by)
 
 climbs_further : (again : Bool) (before now : List Closed) (low high : ℕ) → again ≡ false → Climb 0 (map event_of before) low → Climb low (map event_of now) high
     → Climb 0 (map event_of (cond again [] (before ++ now))) high
@@ -266,8 +220,7 @@ closing_on : Announcing → (airs : Airs) (boxes s n : ℕ) (step : Step) (earli
 closing_on laws airs boxes s n step earlier legal ungiven least on before =
     let now = moved laws airs boxes s n step earlier legal ungiven least before.within in
     record {
-      rise = climbs_further (is_made n earlier step) (closed_since airs s n earlier) (closed_by airs s n earlier step) (its_prefix airs s n earlier) (its_prefix airs s n (step ∷ earlier)) on
-          before.rise now.climbs_on;
+      rise = grind (arith, climbs_further, is_made, closed_since, closed_by);
       within = now.within;
     }
 

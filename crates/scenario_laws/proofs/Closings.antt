@@ -1,5 +1,5 @@
 -- Of all that is handed up by a step, what is of one sink and one source.
-use Rattle.scenario_laws.proofs.Prelude.{ℕ, zero, suc, ◌≡◌, ◌≢◌, ◌≤◌, ◌+◌, ◌==◌, ◌&&◌, cond, eqb, not, Bool, true, false, List, [], ◌∷◌, ◌++◌, map, Option, None, Some, refl, sym, ◌∙◌, ap, arith, inl, inr, is_some, flat_map, range_with_len, cases_eq, cond-false, cond-true, eq-eqb, ne_eqb, eqb-true, false≢true, and_right, and_left, not-false, append-nil, map-append, filter-append, none-some, Handed, Call, handed_at, Step, NoSuchSink, Settings, made_of, chosen_of, sinks_made, steps_of_source, open_event, Airs, is_of, sink_calls, source_of, with_sink_call, SinkUnit, box_after, box_of, closing_at, closing_by, closing_in, handed_by, no_sink, of_sink}
+use Rattle.scenario_laws.proofs.Prelude.{ℕ, zero, suc, ◌≡◌, ◌≢◌, ◌≤◌, ◌+◌, ◌==◌, ◌&&◌, cond, eqb, not, Bool, true, false, List, [], ◌∷◌, ◌++◌, map, Option, None, Some, refl, ◌∙◌, ap, arith, inl, inr, is_some, flat_map, range_with_len, cases_eq, cond-false, cond-true, eq-eqb, ne_eqb, eqb-true, false≢true, and_right, and_left, not-false, append-nil, map-append, filter-append, none-some, Handed, Call, handed_at, Step, NoSuchSink, Settings, made_of, chosen_of, sinks_made, steps_of_source, open_event, Airs, is_of, sink_calls, source_of, with_sink_call, SinkUnit, box_after, box_of, closing_at, closing_by, closing_in, handed_by, no_sink, of_sink}
 use Rattle.group_sink.specs.Calls.{place}
 use Rattle.scenario_text.specs.declared.step.Step.TheVariants as steps
 use Rattle.scenario_history.specs.Boxes.{closing, sink_numbers}
@@ -11,16 +11,14 @@ use Rattle.scenario_laws.proofs.Places.{air_place, end_place, same_place, tick_i
 -- ---- a sink that is on a group has a box
 
 gone_housed : (gone : Bool) (box : Option ℕ) (calls : List Call) → (box ≡ None → place calls ≡ None) → cond gone None box ≡ None → place (cond gone [] calls) ≡ None
-gone_housed true box calls before none = refl
-gone_housed false box calls before none = before none
+gone_housed gone box calls before none = grind arith
 
 is_none : (box : Option ℕ) → is_some box ≡ true → box ≡ None → ⊥
 is_none box has none = grind (arith, false≢true, none-some)
 
 made_as : (gone : Bool) (box : Option ℕ) (made : Option Settings) → (box ≡ None → made ≡ None) → cond gone None box ≡ None
     → cond gone None made ≡ None
-made_as true box made before none = refl
-made_as false box made before none = before none
+made_as gone box made before none = grind arith
 
 made_anew : (again : Bool) (count : ℕ) (anew : Settings) (box : Option ℕ) (made : Option Settings) → (box ≡ None → made ≡ None)
     → cond again (Some count) box ≡ None → cond again (Some anew) made ≡ None
@@ -111,8 +109,7 @@ shown_by airs s n earlier steps.End = shown_with airs s n earlier
 shown_by airs s n earlier _ = []
 
 cond_same : (units : List Handed) (b : Bool) → cond b units units ≡ units
-cond_same units true = refl
-cond_same units false = refl
+cond_same units b = grind arith
 
 closing_open : (airs : Airs) (boxes s n : ℕ) (made : List Step) (last_open : Option ℕ) → Legal airs boxes made → n ≤ 7
     → of_sink s n (closing_at airs s made last_open) ≡ shown_if (is_of s (source_of n made)) (sink_calls airs n made) last_open
@@ -121,12 +118,8 @@ closing_open airs boxes s n made last_open legal within = grind (arith, cond_sam
 pub closing_shown : (airs : Airs) (boxes s c n : ℕ) (made : List Step) → Legal airs boxes made → n ≤ 7
     → of_sink s n (closing airs c made) ≡ cond (c == s) (shown_with airs s n made) []
 closing_shown airs boxes s c n made legal within = elim (cases_eq c s) [
-  | inl same ↦
-      ap (λ t. of_sink s n (closing airs t made)) same ∙ closing_open airs boxes s n made (open_event (steps_of_source s made)) legal within
-      ∙ sym (cond-true (c == s) (shown_with airs s n made) [] (eq-eqb c s same))
-  | inr apart ↦
-      other_source airs s c n made (open_event (steps_of_source c made)) apart
-      ∙ sym (cond-false (c == s) (shown_with airs s n made) [] (ne_eqb c s apart))
+  | inl same ↦ grind (arith, of_sink, closing_open, open_event, steps_of_source, cond-true, eq-eqb)
+  | inr apart ↦ grind (arith, other_source, open_event, steps_of_source, cond-false, ne_eqb)
 ]
 
 -- one of the two sources is this one

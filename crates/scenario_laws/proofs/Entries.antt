@@ -28,12 +28,8 @@ by_missing : (stay : Stay) (heard : ℕ → Bool) (closed : ℕ) (unit : Sent) �
     → first_missing heard unit.first unit.segments ≡ missing → HasEntry stay heard closed unit (entry_by stay closed unit missing)
 by_missing stay heard closed unit start some missing is = grind (arith, ltb, missing_behind, and_parts, ltb-true)
 
-by_start : (stay : Stay) (heard : ℕ → Bool) (closed : ℕ) (unit : Sent) → 1 ≤ length unit.segments → (test : Bool) → heard unit.first ≡ test
-    → HasEntry stay heard closed unit (cond test (entry_by stay closed unit (first_missing heard unit.first unit.segments)) [])
-by_start stay heard closed unit some test is = grind (arith, by_missing)
-
 pub has_entry : (stay : Stay) (heard : ℕ → Bool) (closed : ℕ) (unit : Sent) → 1 ≤ length unit.segments → HasEntry stay heard closed unit (entry_of stay heard closed unit)
-has_entry stay heard closed unit some = by_start stay heard closed unit some (heard unit.first) refl
+has_entry stay heard closed unit some = grind (arith, by_missing)
 
 -- ---- units with the numbers of what was accepted
 
@@ -49,10 +45,8 @@ abbrev pub IsNumbered : ℕ → List Laying → List Timed → ℕ → Sent → 
 IsNumbered bn laid accepted n unit = (one : Timed) × (slice_get accepted n ≡ Some one) × IsOf bn laid n one unit
 
 numbered_from : (R : ℕ → Sent → Type 0) (low more : ℕ) (ns : List ℕ) (units : List Sent) → low ≤ more → Numbered R more ns units → Numbered R low ns units
-numbered_from R low more [] [] least all = tt
-numbered_from R low more (n ∷ ns) [] least all = absurd all
-numbered_from R low more [] (unit ∷ units) least all = absurd all
 numbered_from R low more (n ∷ ns) (unit ∷ units) least all = (omega (arith, least, all.0), all.1, all.2)
+numbered_from x1 low more ns units least all = search
 
 numbering : (bn : ℕ) (laid : List Laying) (get : ℕ → Option Timed) (base : ℕ) (accepted : List Timed) (units : List Sent) → ((i : ℕ) → get (base + i) ≡ slice_get accepted i)
     → AreOf bn laid base accepted units
@@ -166,23 +160,9 @@ pub ordered_on : (R : ℕ → Sent → Type 0) (E : ℕ → Handed → Type 0) (
 ordered_on R E middle from until at laid f ns units entries all order gives first more before =
     let next = batch R E from until f gives more at before.all.high 0 laid ns units all order (ahead_later middle from before.all.high ns units first before.all.ahead) in
     record {
-      all = record {
-        numbers = before.all.numbers ++ next.numbers;
-        high = next.high;
-        climb = climb_on 0 before.all.numbers before.all.high next.numbers next.high before.all.climb next.climb;
-        ahead = next.ahead;
-        each = all_zip_append E before.all.numbers next.numbers entries (flat_map f units) before.all.each next.each;
-      };
+      all = grind (arith, climb_on, all_zip_append, flat_map);
     }
 
 pub ordered_later : (E : ℕ → Handed → Type 0) (until later : ℕ) (ns : List ℕ) (units : List Sent) (entries : List Handed) → until ≤ later → Ordered E until ns units entries
     → Ordered E later ns units entries
-ordered_later E until later ns units entries more before = record {
-  all = record {
-    numbers = before.all.numbers;
-    high = before.all.high;
-    climb = before.all.climb;
-    ahead = ahead_later until later before.all.high ns units more before.all.ahead;
-    each = before.all.each;
-  };
-}
+ordered_later E until later ns units entries more before = grind (arith, ahead_later)

@@ -1,5 +1,5 @@
 -- What a source of a framed group lays: how many events, with which anchors, and that its units fit Max_SDU.
-use Rattle.scenario_laws.proofs.Prelude.{ℕ, zero, suc, ◌≡◌, ◌⊎◌, ◌<◌, ◌≤◌, ◌+◌, ◌*◌, ◌==◌, cond, ltb, Bool, true, false, List, [], ◌∷◌, ◌++◌, length, Some, refl, sym, ◌∙◌, ap, subst, arith, inl, inr, slice_get, unwrap_or, AllByRecursion, add-mul, cases_eq, cond-false, eq-eqb, eqb-true, ltb-false, ne_eqb, length-append, none-some, same_Some, BigInfo, horizon_of, iso_us_of, Air, IsAirOf, IsFramedAir, Laying, Timed, accept, accepted, layings_of, Setup, give, event, events, framed_calls, framed_lays, laid_before, laid_with, lay_anchor, timed_accepted, Airs, AreAccepted}
+use Rattle.scenario_laws.proofs.Prelude.{ℕ, zero, suc, ◌≡◌, ◌⊎◌, ◌<◌, ◌≤◌, ◌+◌, ◌*◌, ◌==◌, cond, ltb, Bool, true, List, [], ◌∷◌, ◌++◌, length, Some, refl, sym, ◌∙◌, ap, subst, arith, inl, inr, slice_get, unwrap_or, AllByRecursion, add-mul, cases_eq, cond-false, eq-eqb, eqb-true, ltb-false, ne_eqb, length-append, none-some, same_Some, BigInfo, horizon_of, iso_us_of, Air, IsAirOf, IsFramedAir, Laying, Timed, accept, accepted, layings_of, Setup, give, event, events, framed_calls, framed_lays, laid_before, laid_with, lay_anchor, timed_accepted, Airs, AreAccepted}
 use Rattle.isoal_framed.specs.Calls.{Call as FramedCall, lay}
 use Rattle.isoal_framed.specs.Places.{Act}
 use Rattle.source_machine.specs.Calls.{Call}
@@ -19,15 +19,7 @@ get_last (z ∷ xs) y zero x is = inl is
 get_last (z ∷ xs) y (suc n) x is = elim (get_last xs y n x is) [ inl before ↦ inl before | inr last ↦ inr (omega (arith, last.0), last.1) ]
 
 lay_one : (setup : Setup) (count : ℕ) (calls : List FramedCall) (anchor : ℕ) → LaidBy setup count calls → anchor ≡ lay_anchor setup count → LaidBy setup (count + 1) (lay anchor ∷ calls)
-lay_one setup count calls anchor by is =
-    let last_one : Laying = record { anchor = anchor; units = length (accepted calls) } in
-    record {
-      count_is = length-append (layings_of calls) (last_one ∷ []) ∙ ap (λ n. n + 1) by.count_is;
-      each = λ n laying at. elim (get_last (layings_of calls) last_one n laying at) [
-        | inl before ↦ by.each n laying before
-        | inr last ↦ ap (λ (l : Laying). l.anchor) last.1 ∙ is ∙ ap (lay_anchor setup) (sym (last.0 ∙ by.count_is))
-      ];
-    }
+lay_one setup count calls anchor by is = grind (arith, length, accepted, length-append, layings_of, get_last, lay_anchor)
 
 lay_all : (setup : Setup) (base count : ℕ) (calls : List FramedCall) → LaidBy setup base calls
     → LaidBy setup (base + count) (framed_lays (lay_anchor setup base) (iso_us_of setup.info) count calls)
@@ -40,8 +32,7 @@ lay_all setup base (suc count) calls by =
     (lay_all setup base count calls by) (omega (arith, product)))
 
 count_laid : (none : Bool) (h count : ℕ) → (none ≡ true → count ≡ 0) → cond none 0 (count + h) + cond none (h + 1) 1 ≡ suc count + h
-count_laid true h count is = omega (arith, is refl)
-count_laid false h count is = omega arith
+count_laid none h count is = grind arith
 
 pub laid_some : (count h : ℕ) → 0 < count → cond (count == 0) 0 (count + h) ≡ count + h
 laid_some count h some = cond-false (count == 0) 0 (count + h) (ne_eqb count 0 (λ is. omega (arith, some, is)))

@@ -36,11 +36,7 @@ laid_of units number = framed (parts_at units number)
 -- ---- a number of the group and the one of the air
 
 number_on : (info : BigInfo) (first event subevent : ℕ) → first ≤ event → first * info.bn + payload_number info (event - first) subevent ≡ payload_number info event subevent
-number_on info first event subevent least =
-    let a : ℕ = ahead_of info (subevent / info.bn) in
-    let both : event + a ≡ first + (event - first + a) = omega (arith, least) in
-    let product : (event + a) * info.bn ≡ first * info.bn + (event - first + a) * info.bn = ap (λ n. n * info.bn) both ∙ add-mul first (event - first + a) info.bn in
-    omega (arith, product)
+number_on info first event subevent least = grind (arith, ahead_of, add-mul)
 
 -- the PDU of a subevent, of the air after all calls
 whole_pdu : (setup : Setup) (whole : List SourceCall) (airs : List Air) (bis event subevent : ℕ) (units : List Sent) → Bounds setup.info → setup.info.framing ≡ 1
@@ -54,10 +50,7 @@ whole_pdu setup whole airs bis event subevent units bounds is_framed has sent le
     let near : ahead_of info (subevent / info.bn) ≤ horizon_of info = ahead_within info subevent bounds.bn bounds.whole_groups within in
     let at : number / info.bn ≡ event - setup.first + ahead_of info (subevent / info.bn) = event_of_number info (event - setup.first) subevent bounds.bn in
     let below : number / info.bn < length has.air = omega (arith, at, near, long, past, least) in
-    let same : parts_at sent.in_air number ≡ parts_at units (payload_number info event subevent) =
-    sym (parts_on (setup.first * info.bn) sent.in_air number)
-    ∙ ap (parts_at (map (by_payload setup) sent.in_air)) (number_on info setup.first event subevent least)
-    ∙ ap (λ us. parts_at us (payload_number info event subevent)) (sym sent.numbered) in
+    let same : parts_at sent.in_air number ≡ parts_at units (payload_number info event subevent) = grind (arith, parts_on (setup.first * info.bn) sent.in_air number, number_on info setup.first event subevent least, sent.numbered) in
     ap (option_and_then (λ air. pdu_at info.bn air number)) has.there
     ∙ each_sent info has.air sent.in_air number bounds.bn sent.sends.pdus below ∙ ap (λ parts. Some (pdu (framed parts))) same
 

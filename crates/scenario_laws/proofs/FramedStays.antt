@@ -84,14 +84,10 @@ stay_on_whole laws airs boxes s n setup whole made tuning legal within is =
     subst (λ (setup' : Setup). TunedTo setup' tuning) (within.setup_is on.started) on.tuned
 
 pub next_of_whole : (setup : Setup) (whole : List SourceCall) (own : List Step) → Within setup whole own → is_started own ≡ true → next_in own ≤ next_of setup whole
-next_of_whole setup whole own within started =
-    let more : events (source_calls own) ≤ events whole = subst (λ calls. events (source_calls own) ≤ events calls) (sym within.calls.1) (events_more within.calls.0 (source_calls own)) in
-    let same : (setup_of own).first ≡ setup.first = ap (λ (setup' : Setup). setup'.first) (within.setup_is started) in
-    omega (arith, more, same)
+next_of_whole setup whole own within started = grind (arith, events, source_calls, events_more, setup_of)
 
 pub laid_least : (none : Bool) (count h : ℕ) → (none ≡ true → count ≡ 0) → count ≤ cond none 0 (count + h)
-laid_least true count h is = omega (arith, is refl)
-laid_least false count h is = omega arith
+laid_least none count h is = grind arith
 
 pub closed_within : (bn first count laid opens : ℕ) → opens ≤ first + count → count ≤ laid → opens * bn ≤ first * bn + laid * bn
 closed_within bn first count laid opens past more =

@@ -1,5 +1,5 @@
 -- What is the source's own is read as what was laid.
-use Rattle.scenario_laws.proofs.Prelude.{ℕ, ◌≡◌, ◌+◌, cond, ltb, Bool, true, false, List, [], ◌∷◌, ◌++◌, Option, Some, Result, Ok, refl, sym, ◌∙◌, ap, subst, arith, AllByRecursion, none-some, same_Some, Content, PduIs, fragment, end, framed, pdu, Stay, Sent, parts_at, segmented, laid, Slots, air_at, FromSource, unframed}
+use Rattle.scenario_laws.proofs.Prelude.{ℕ, ◌≡◌, ◌+◌, ltb, List, [], ◌∷◌, ◌++◌, Option, Some, Result, Ok, sym, ◌∙◌, ap, subst, arith, AllByRecursion, none-some, same_Some, Content, PduIs, framed, pdu, Stay, Sent, parts_at, segmented, laid, Slots, air_at, FromSource, unframed}
 use Rattle.iso_pdu.specs.declared.fault.PduFault.{PduFault}
 use Rattle.iso_pdu.specs.Reading.{read_of}
 use Rattle.iso_pdu.proofs.Citable.{pdu-is, read_of-layout, read_of-encoded}
@@ -9,13 +9,8 @@ use Rattle.isoal_base.proofs.Citable.{heard_first}
 use Rattle.isoal_framed.specs.Struck.{FromSource as FramedFromSource}
 use Rattle.scenario_laws.proofs.Hears.{Own}
 
-laid_unframed : (a b : Bool) (x y z : List ℕ) → unframed (cond a (fragment x) (cond b (end y) (fragment z))) ≡ Some (cond a (fragment x) (cond b (end y) (fragment z)))
-laid_unframed true b x y z = refl
-laid_unframed false true x y z = refl
-laid_unframed false false x y z = refl
-
 slot_unframed : (max_pdu : ℕ) (slot : Option (List ℕ)) (r : ℕ) → unframed (laid max_pdu slot r) ≡ Some (laid max_pdu slot r)
-slot_unframed max_pdu slot r = grind (arith, laid_unframed, ltb)
+slot_unframed max_pdu slot r = grind (arith, ltb)
 
 taken_cases : {A : Type 0} (takes : Content → Option A) (r : Result Content PduFault) (part : A) → taken_of takes r ≡ Some part → (got : Content) × (r ≡ Ok got) × (takes got ≡ Some part)
 taken_cases takes r part is = grind (arith, none-some)
@@ -38,13 +33,11 @@ all_at P (y ∷ later) x earlier all = all_at P later x earlier all.1
 
 pub from_source : (stay : Stay) (slots : Slots) (calls : List stays.Call) → AllByRecursion (Own (air_at stay slots)) calls → FromSource stay slots calls
 from_source stay slots calls all later number octets earlier content is reads =
-    same_Some content (air_at stay slots number) (sym (read_own unframed stay.info.max_pdu (air_at stay slots number) content octets
-    (all_at (Own (air_at stay slots)) later (stays.hear number octets) earlier (subst (AllByRecursion (Own (air_at stay slots))) is all)) reads)
+    same_Some content (air_at stay slots number) (sym (grind (arith, read_own, unframed, air_at, all_at))
     ∙ slot_unframed stay.info.max_pdu _ _)
 
 pub framed_from_source : (stay : Stay) (units : List Sent) (calls : List stays.Call) → AllByRecursion (Own (λ number. framed (parts_at units number))) calls → FramedFromSource stay units calls
 framed_from_source stay units calls all number parts is =
     let first = heard_first (read_as segmented stay.info.max_pdu) stay number parts calls is in
     sym (same_Some (parts_at units number) parts (read_own segmented stay.info.max_pdu (framed (parts_at units number)) parts first.octets
-    (all_at (Own (λ n. framed (parts_at units n))) first.later (stays.hear number first.octets) first.earlier
-    (subst (AllByRecursion (Own (λ n. framed (parts_at units n)))) first.is_split all)) first.enters.reads))
+    (grind (arith, all_at, framed, parts_at)) first.enters.reads))

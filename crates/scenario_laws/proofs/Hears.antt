@@ -1,14 +1,13 @@
 -- Each PDU that a sink hears on a stream of its group is the source's own at its payload number, where none is injected.
-use Rattle.scenario_laws.proofs.Prelude.{ℕ, zero, suc, ◌≡◌, ◌≢◌, ◌<◌, ◌≤◌, ◌+◌, ◌*◌, ◌/◌, ◌%◌, ◌&&◌, ◌||◌, ◌==◌, cond, ltb, leb, Bool, true, false, List, [], ◌∷◌, Option, None, Some, refl, sym, ◌∙◌, ap, subst, arith, inl, inr, AllByRecursion, div-lt_iff_lt-mul, and_parts, eqb-true, eqb-false, ltb-false, leb-false, false≢true, mod_below, none-some, Bounds, Content, pdu, laid, payload_number, AreAirs, Airs, Setup, events, next_of, air_fault, Call, tune, hear, BigSync, stay_on, stream_calls, with_hear, Step, NotOnAir, chosen_of, chosen_steps, steps_of_source, setup_of, source_calls, performed, event_back, is_started, pdu_in, open_event, MeetAirs, position_at, is_lost, is_of, hear_at, unless_lost, heard_on_air, reaches, sink_calls, source_of, positions_of, ticked_if, big_sync_on, air_refusal, no_place, injected_since, is_injected, is_tuned}
+use Rattle.scenario_laws.proofs.Prelude.{ℕ, zero, suc, ◌≡◌, ◌≢◌, ◌<◌, ◌≤◌, ◌+◌, ◌*◌, ◌/◌, ◌%◌, ◌&&◌, ◌||◌, ◌==◌, cond, ltb, leb, Bool, true, false, List, [], ◌∷◌, Option, None, Some, refl, sym, ◌∙◌, ap, subst, arith, inl, inr, AllByRecursion, div-lt_iff_lt-mul, and_parts, eqb-true, eqb-false, ltb-false, leb-false, false≢true, mod_below, none-some, Bounds, Content, pdu, laid, payload_number, AreAirs, Airs, Setup, events, next_of, air_fault, Call, tune, hear, BigSync, stay_on, stream_calls, Step, NotOnAir, chosen_of, chosen_steps, steps_of_source, setup_of, source_calls, performed, event_back, is_started, pdu_in, open_event, MeetAirs, position_at, is_lost, is_of, hear_at, unless_lost, heard_on_air, reaches, sink_calls, source_of, positions_of, ticked_if, big_sync_on, air_refusal, no_place, injected_since, is_injected, is_tuned}
 use Rattle.isoal_base.specs.Stays as stays
-use Rattle.radio_schedule.specs.declared.air.AirFault.{AirFault}
 use Rattle.source_machine.specs.Calls.{Call as SourceCall}
 use Rattle.scenario_text.specs.declared.step.Step.TheVariants as steps
 use Rattle.scenario_laws.proofs.Announced.{Announcing}
 use Rattle.scenario_laws.proofs.Legals.{Legal, Permitted, fails_not, maps_none, permitted}
 use Rattle.scenario_laws.proofs.Sources.{Lawful, are_accepted, bounds_in, group_in, lawful, settled}
 use Rattle.scenario_laws.proofs.Wholes.{Within, within_before}
-use Rattle.scenario_laws.proofs.Moves.{Left, StaysBy, announced, given_stays, plain_stays}
+use Rattle.scenario_laws.proofs.Moves.{StaysBy, announced, given_stays, plain_stays}
 use Rattle.scenario_laws.proofs.Stays.{BeginsBy, IsOn, OnSource, begins_calls, last_not, on_before, on_source, rest_not}
 
 -- each PDU of a stream that these steps of a source sent is the source's own, by what it lays at each number
@@ -29,50 +28,35 @@ abbrev pub Own : (ℕ → Content) → stays.Call → Type 0
 Own laid (stays.hear number octets) = octets ≡ pdu (laid number)
 Own laid stays.close = Unit {0}
 
-one_hear : (laid : ℕ → Content) (mine fits : Bool) (number : ℕ) (octets : List ℕ) (rest : List stays.Call) → AllByRecursion (Own laid) rest
-    → (mine ≡ true → octets ≡ pdu (laid number)) → AllByRecursion (Own laid) (cond mine (with_hear (cond fits (Some number) None) octets rest) rest)
-one_hear laid false fits number octets rest all own = all
-one_hear laid true false number octets rest all own = all
-one_hear laid true true number octets rest all own = (own refl, all)
-
-one_close : (laid : ℕ → Content) (over : Bool) (rest : List stays.Call) → AllByRecursion (Own laid) rest → AllByRecursion (Own laid) (cond over (stays.close ∷ rest) rest)
-one_close laid true rest all = (tt, all)
-one_close laid false rest all = all
-
 abbrev pub AllOwn : (ℕ → Content) → BigSync → ℕ → List Call → Type 0
 AllOwn laid tuning bis calls = AllByRecursion (Own laid) (stream_calls (stay_on tuning bis) calls)
 
 gone_own : (laid : ℕ → Content) (tuning : BigSync) (bis : ℕ) (gone : Bool) (calls : List Call)
     → AllOwn laid tuning bis calls → AllOwn laid tuning bis (cond gone [] calls)
-gone_own laid tuning bis true calls all = tt
-gone_own laid tuning bis false calls all = all
+gone_own laid tuning bis gone calls all = grind arith
 
 put_own : (laid : ℕ → Content) (tuning : BigSync) (bis : ℕ) (put injected : Bool) (on : BigSync) (calls : List Call)
     → cond put false (false || injected) ≡ false → (injected ≡ false → AllOwn laid tuning bis calls) → AllOwn laid tuning bis (cond put (tune on ∷ calls) calls)
-put_own laid tuning bis true injected on calls clean before = tt
-put_own laid tuning bis false injected on calls clean before = before clean
+put_own laid tuning bis put injected on calls clean before = grind arith
 
 hear_own : (laid : ℕ → Content) (tuning : BigSync) (bis : ℕ) (event stream subevent : ℕ) (octets : List ℕ) (calls : List Call)
     → AllOwn laid tuning bis calls → (stream ≡ bis → octets ≡ pdu (laid (payload_number tuning.info event subevent)))
     → AllOwn laid tuning bis (hear event stream subevent octets ∷ calls)
-hear_own laid tuning bis event stream subevent octets calls all own = search (one_hear, ltb, eqb-true)
+hear_own laid tuning bis event stream subevent octets calls all own = grind (arith, laid, ltb, eqb-true)
 
 mine_own : (laid : ℕ → Content) (tuning : BigSync) (bis : ℕ) (mine : Bool) (more calls : List Call)
     → AllOwn laid tuning bis calls → (mine ≡ true → AllOwn laid tuning bis more) → AllOwn laid tuning bis (cond mine more calls)
-mine_own laid tuning bis true more calls all all_more = all_more refl
-mine_own laid tuning bis false more calls all all_more = all
+mine_own laid tuning bis mine more calls all all_more = grind arith
 
 unless_own : (laid : ℕ → Content) (tuning : BigSync) (bis : ℕ) (gone : Bool) (call : Call) (calls : List Call)
     → AllOwn laid tuning bis calls → AllOwn laid tuning bis (call ∷ calls) → AllOwn laid tuning bis (unless_lost gone call calls)
-unless_own laid tuning bis true call calls all all_more = all
-unless_own laid tuning bis false call calls all all_more = all_more
+unless_own laid tuning bis gone call calls all all_more = grind arith
 
 -- a PDU of an event that was performed, of a stream and a subevent of the group
 place_own : (airs : Airs) (laid : ℕ → Content) (tuning : BigSync) (own : List Step) (bis back stream subevent : ℕ) → SendsOwn airs laid tuning bis own
     → 1 ≤ bis → stream ≤ (setup_of own).info.num_bis → subevent < (setup_of own).info.nse → back < performed own → stream ≡ bis
     → pdu_in airs own (event_back own back) stream subevent ≡ pdu (laid (payload_number tuning.info (event_back own back) subevent))
-place_own airs laid tuning own bis back stream subevent sent least within below near mine =
-    cc (mine, sent (event_back own back) subevent (omega arith) (omega arith) least (omega (arith, within, mine)) below)
+place_own airs laid tuning own bis back stream subevent sent least within below near mine = grind (arith, event_back)
 
 air_own : (airs : Airs) (laid : ℕ → Content) (tuning : BigSync) (own : List Step) (bis lose count : ℕ) (calls : List Call) → SendsOwn airs laid tuning bis own
     → 1 ≤ bis → 1 ≤ (setup_of own).info.nse → 0 < performed own → count ≤ (setup_of own).info.num_bis * (setup_of own).info.nse
@@ -85,18 +69,11 @@ air_own airs laid tuning own bis lose (suc i) calls sent least some near within 
     unless_own laid tuning bis (is_lost (setup_of own).info (event_back own 0) lose (position_at (setup_of own).info i))
     (hear_at airs own (event_back own 0) (position_at (setup_of own).info i)) (heard_on_air airs own lose i calls) rest
     (hear_own laid tuning bis (event_back own 0) (i / (setup_of own).info.nse + 1) (i % (setup_of own).info.nse) _ (heard_on_air airs own lose i calls) rest
-    (place_own airs laid tuning own bis 0 (i / (setup_of own).info.nse + 1) (i % (setup_of own).info.nse) sent least (omega (arith, row))
-    (mod_below i (setup_of own).info.nse (omega (arith, some))) near))
+    (grind (arith, place_own, laid, setup_of, mod_below)))
 
 tick_if_own : (laid : ℕ → Content) (tuning : BigSync) (bis : ℕ) (mine : Bool) (last_open : Option ℕ) (calls : List Call)
     → AllOwn laid tuning bis calls → AllOwn laid tuning bis (ticked_if mine last_open calls)
-tick_if_own laid tuning bis mine last_open calls all = grind (arith, one_close)
-
-left_own : (laid : ℕ → Content) (tuning : BigSync) (bis : ℕ) (later calls : List Call) → Left later calls → AllOwn laid tuning bis calls → AllOwn laid tuning bis later
-left_own laid tuning bis later calls left all = elim left [
-  | inl same ↦ subst (AllOwn laid tuning bis) (sym same) all
-  | inr gone ↦ subst (AllOwn laid tuning bis) (sym gone) tt
-]
+tick_if_own laid tuning bis mine last_open calls all = grind (arith, laid)
 
 inject_own : (laid : ℕ → Content) (tuning : BigSync) (bis : ℕ) (mine its injected : Bool) (call : Call) (calls : List Call)
     → (mine || injected) ≡ false → (injected ≡ false → AllOwn laid tuning bis calls) → AllOwn laid tuning bis (cond (mine && its) (call ∷ calls) calls)
@@ -109,18 +86,9 @@ pub record OnAir (own : List Step) (back bis subevent : ℕ) : Type 0 where
   pub subevent_below : subevent < (setup_of own).info.nse
   pub performed_then : back < performed own
 
-on_air_tests : (a b c : Bool) (x y z : AirFault) → cond a (Some x) (cond b (Some y) (cond c (Some z) None)) ≡ None → (a ≡ false) × (b ≡ false) × (c ≡ false)
-on_air_tests a b c x y z none = grind (arith, none-some)
-
 pub on_air : (own : List Step) (back bis subevent : ℕ) → no_place own back bis subevent ≡ None → OnAir own back bis subevent
 on_air own back bis subevent none =
-    let fault : air_fault (setup_of own) (source_calls own) back bis subevent ≡ None = maps_none air_refusal _ none in
-    let tests = on_air_tests (ltb (setup_of own).info.num_bis bis) (leb (setup_of own).info.nse subevent) (leb (events (source_calls own)) back) _ _ _ fault in
-    assumption (
-      ltb-false (setup_of own).info.num_bis bis tests.0,
-      leb-false (setup_of own).info.nse subevent tests.1,
-      leb-false (events (source_calls own)) back tests.2,
-    )
+    grind (arith, air_fault, setup_of, source_calls, maps_none, air_refusal, none-some, ltb, leb, events, ltb-false, leb-false)
 
 -- ---- step by step
 
@@ -136,13 +104,12 @@ pub record Ready (airs : Airs) (laid : ℕ → Content) (tuning : BigSync) (bis 
 
 sent_by : (airs : Airs) (laid : ℕ → Content) (tuning : BigSync) (bis s n sink : ℕ) (earlier : List Step) (calls : List Call) → source_of n earlier ≡ Some s
     → reaches sink n earlier ≡ true → Ready airs laid tuning bis (steps_of_source s earlier) calls → Ready airs laid tuning bis (chosen_steps earlier) calls
-sent_by airs laid tuning bis s n sink earlier calls there mine ready =
-    subst (λ t. Ready airs laid tuning bis (steps_of_source t earlier) calls) (reached sink n s (chosen_of earlier) (source_of n earlier) mine there) ready
+sent_by airs laid tuning bis s n sink earlier calls there mine ready = grind (arith, laid, steps_of_source, reached, chosen_of, source_of)
 
 stays_own : (airs : Airs) (laid : ℕ → Content) (tuning : BigSync) (n bis : ℕ) (step : Step) (earlier : List Step) (injected : Bool)
     → cond (is_tuned n earlier step) (is_injected n step) (is_injected n step || injected) ≡ false → StaysBy airs n step earlier
     → (injected ≡ false → AllOwn laid tuning bis (sink_calls airs n earlier)) → AllOwn laid tuning bis (sink_calls airs n (step ∷ earlier))
-stays_own airs laid tuning n bis step earlier injected clean stays before = search (left_own, rest_not)
+stays_own airs laid tuning n bis step earlier injected clean stays before = grind (arith, laid, rest_not)
 
 own_after : (airs : Airs) (laid : ℕ → Content) (tuning : BigSync) (boxes s n bis : ℕ) (step : Step) (earlier : List Step) (injected : Bool)
     → Permitted airs boxes earlier step → 1 ≤ bis → source_of n earlier ≡ Some s → cond (is_tuned n earlier step) (is_injected n step) (is_injected n step || injected) ≡ false
@@ -167,9 +134,7 @@ own_after airs laid tuning boxes s n bis (steps.Air sink lose) earlier injected 
     (ready clean).all
     (λ mine. let now = sent_by airs laid tuning bis s n sink earlier (sink_calls airs n earlier) there mine (ready clean) in
     air_own airs laid tuning (chosen_steps earlier) bis lose (positions_of (chosen_steps earlier)) (sink_calls airs n earlier) now.sent least now.bounds.nse (omega (arith, near)) (omega arith) now.all)
-own_after airs laid tuning boxes s n bis (steps.Inject sink back stream subevent octets) earlier injected permits least there clean ready =
-    inject_own laid tuning bis (sink == n) (is_of (chosen_of earlier) (source_of n earlier)) injected (hear (event_back (chosen_steps earlier) back) stream subevent octets)
-    (sink_calls airs n earlier) clean (λ none. (ready none).all)
+own_after airs laid tuning boxes s n bis (steps.Inject sink back stream subevent octets) earlier injected permits least there clean ready = grind (arith, inject_own, laid, is_of, chosen_of, source_of, hear, event_back, chosen_steps, sink_calls)
 own_after airs laid tuning boxes s n bis steps.Event earlier injected permits least there clean ready =
     tick_if_own laid tuning bis (is_of (chosen_of earlier) (source_of n earlier)) (open_event (chosen_steps earlier)) (sink_calls airs n earlier) (ready clean).all
 own_after airs laid tuning boxes s n bis steps.Stop earlier injected permits least there clean ready =
@@ -180,18 +145,8 @@ own_after airs laid tuning boxes s n bis steps.End earlier injected permits leas
     tick_if_own laid tuning bis (is_of 1 (source_of n earlier)) (open_event (steps_of_source 1 earlier))
     (ticked_if (is_of 0 (source_of n earlier)) (open_event (steps_of_source 0 earlier)) (sink_calls airs n earlier))
     (tick_if_own laid tuning bis (is_of 0 (source_of n earlier)) (open_event (steps_of_source 0 earlier)) (sink_calls airs n earlier) (ready clean).all)
-own_after airs laid tuning boxes s n bis (steps.Announce sink) earlier injected permits least there clean ready = elim (announced airs n sink earlier) [
-  | inl stays ↦ stays_own airs laid tuning n bis (steps.Announce sink) earlier injected clean stays (λ none. (ready none).all)
-  | inr goes ↦ elim goes [
-    | inl follows ↦
-        subst (AllOwn laid tuning bis) (sym follows.same)
-        (ready (rest_not (is_tuned n earlier (steps.Announce sink)) false injected clean follows.begins_not)).all
-    | inr put ↦ subst (AllOwn laid tuning bis) (sym put.calls_is) tt
-  ]
-]
-own_after airs laid tuning boxes s n bis (steps.Train sink time ext adv acad) earlier injected permits least there clean ready =
-    stays_own airs laid tuning n bis (steps.Train sink time ext adv acad) earlier injected clean
-    (given_stays airs n sink time ext adv acad earlier (last_not (is_tuned n earlier (steps.Train sink time ext adv acad)) (sink == n) injected clean)) (λ none. (ready none).all)
+own_after airs laid tuning boxes s n bis (steps.Announce sink) earlier injected permits least there clean ready = grind (arith, announced, stays_own, laid, rest_not, is_tuned)
+own_after airs laid tuning boxes s n bis (steps.Train sink time ext adv acad) earlier injected permits least there clean ready = grind (arith, stays_own, laid, given_stays, last_not, is_tuned)
 own_after airs laid tuning boxes s n bis step earlier injected permits least there clean ready =
     stays_own airs laid tuning n bis step earlier injected clean (plain_stays airs n step earlier refl refl refl refl) (λ none. (ready none).all)
 

@@ -1,5 +1,5 @@
 -- The history of a sink of any lines: what its links write is octets, and it has at most eight slots.
-use Rattle.scenario_laws.proofs.Prelude.{ℕ, zero, suc, ◌≡◌, ◌<◌, ◌==◌, cond, Bool, true, false, List, [], ◌∷◌, ◌++◌, Option, None, Some, sym, ◌∙◌, subst, arith, AllByRecursion, append-nil, none-some, TextLine, encoding, born, repeated, AreOctets, IsAsked, Step, IsInRange, Settings, Source, World, history_of, calls_after, calls_at, calls_by, made_by, made_of, named_by, a_step, nothing, unsaid, with_said}
+use Rattle.scenario_laws.proofs.Prelude.{ℕ, zero, suc, ◌≡◌, ◌<◌, ◌==◌, cond, Bool, List, [], ◌∷◌, Option, Some, arith, AllByRecursion, append-nil, none-some, TextLine, encoding, born, repeated, AreOctets, IsAsked, Step, IsInRange, Settings, World, history_of, calls_after, calls_at, made_by, made_of, named_by, a_step, nothing, unsaid, with_said}
 use Rattle.bcast_base.specs.Encoding.{IsOctets}
 use Rattle.bass_operations.specs.declared.operation.Operation.TheVariants as operations
 use Rattle.sink_history.specs.Calls.{Call}
@@ -24,16 +24,10 @@ ranged_lines ranged (line ∷ earlier) = search (ranged_said, in_range, ranged_l
 
 -- ---- its slots
 
-few_if : (is_its : Bool) (here there made : Option Settings) → ((sink : Settings) → here ≡ Some sink → sink.setup.slots < 256)
-    → ((sink : Settings) → there ≡ Some sink → sink.setup.slots < 256) → made ≡ cond is_its here there
-    → (sink : Settings) → made ≡ Some sink → sink.setup.slots < 256
-few_if true here there made first second is sink its = first sink (sym is ∙ its)
-few_if false here there made first second is sink its = second sink (sym is ∙ its)
-
 few_by : (n : ℕ) (step : Step) (earlier : List Step) (before : Option Settings) → IsInRange step
     → ((made : Settings) → before ≡ Some made → made.setup.slots < 256)
     → (made : Settings) → made_by n step earlier before ≡ Some made → made.setup.slots < 256
-few_by n step earlier before ranged few = grind (arith, few_if, none-some)
+few_by n step earlier before ranged few = grind (arith, none-some)
 
 pub few_slots : (n : ℕ) (steps : List Step) → Ranged steps → (made : Settings) → made_of n steps ≡ Some made → made.setup.slots < 256
 few_slots n [] ranged = λ made is. absurd (none-some made is)
@@ -42,12 +36,10 @@ few_slots n (step ∷ earlier) ranged = few_by n step earlier (made_of n earlier
 -- ---- what is written
 
 octets_if : (is_its : Bool) (here there : List Call) → AreOctets here → AreOctets there → AreOctets (cond is_its here there)
-octets_if true here there first second = first
-octets_if false here there first second = second
+octets_if is_its here there first second = grind arith
 
 octets_born : (mtu : Option ℕ) → AreOctets (born mtu)
-octets_born None = tt
-octets_born (Some mtu) = (tt, tt)
+octets_born mtu = grind arith
 
 repeats : (count : ℕ) (call : Call) (calls : List Call) → IsAsked call → AreOctets calls → AreOctets (repeated count call calls)
 repeats zero call calls is before = before
@@ -57,16 +49,11 @@ remove_octets : (source_id : ℕ) → source_id < 256 → IsOctets (encoding (op
 remove_octets source_id small = cons_octets 5 (source_id ∷ []) (omega arith) (cons_octets source_id [] small nil_octets)
 
 code_octets : (source_id : ℕ) (code : List ℕ) → source_id < 256 → IsOctets code → IsOctets (encoding (operations.Code source_id code))
-code_octets source_id code small octets =
-    cons_octets 4 (source_id ∷ (code ++ [])) (omega arith) (cons_octets source_id (code ++ []) small (subst IsOctets (sym (append-nil code)) octets))
-
-octets_by : (source : Source) (step : Step) (made : Option Settings) (calls : List Call) → IsInRange step → AreOctets calls
-    → AreOctets (calls_by source step made calls)
-octets_by source step made calls ranged before = grind (arith, remove_octets, code_octets, repeats)
+code_octets source_id code small octets = grind (arith, cons_octets, append-nil)
 
 octets_at : (world : World) (n : ℕ) (named : Option ℕ) (step : Step) (earlier : List Step) (made : Option Settings) (calls : List Call)
     → IsInRange step → AreOctets calls → AreOctets (calls_at world n named step earlier made calls)
-octets_at world n named step earlier made calls ranged before = grind (arith, octets_if, octets_by)
+octets_at world n named step earlier made calls ranged before = grind (arith, octets_if, remove_octets, code_octets, repeats)
 
 octets_called : (world : World) (n : ℕ) (step : Step) (earlier : List Step) (made : Option Settings) (calls : List Call) → IsInRange step
     → AreOctets calls → AreOctets (calls_after world n step earlier made calls)

@@ -4,7 +4,6 @@ use Rattle.isoal_unframed.specs.Calls.{events as laid_events}
 use Rattle.isoal_unframed.specs.Histories.{units_of}
 use Rattle.source_machine.specs.Calls.{Call as SourceCall, stream_calls as source_stream}
 use Rattle.group_sink.specs.Calls.{place}
-use Rattle.group_sink.specs.Handing.{handed_by as ticked_by}
 use Rattle.group_sink.specs.Streams.{closes}
 use Rattle.scenario_text.specs.declared.step.Step.TheVariants as steps
 use Rattle.scenario_laws.proofs.Announced.{Announcing}
@@ -37,13 +36,10 @@ climb_between low (x ∷ xs) high climb = omega (arith, climb.0, climb_between (
 
 ordered_same : (setup : Setup) (whole : List SourceCall) (bis next later : ℕ) (units more : List Handed) → next ≤ later → more ≡ [] → Ordered setup whole bis next units
     → Ordered setup whole bis later (units ++ valid_in more)
-ordered_same setup whole bis next later units more past none order =
-    subst (λ (us : List Handed). Ordered setup whole bis later (units ++ valid_in us)) (sym none)
-    (subst (λ (us : List Handed). Ordered setup whole bis later us) (sym (append-nil units)) (ordered_later setup whole bis next later units past order))
+ordered_same setup whole bis next later units more past none order = grind (arith, valid_in, append-nil, ordered_later)
 
 at_least : (over : Bool) (first count : ℕ) → first + count ≤ first + cond over (count + 1) count
-at_least true first count = omega arith
-at_least false first count = omega arith
+at_least over first count = grind arith
 
 -- the premises that all steps share
 pub record Ready (airs : Airs) (boxes s n bis : ℕ) (setup : Setup) (whole : List SourceCall) (made : List Step) : Type 0 where
@@ -95,9 +91,7 @@ event_orders : Below → (airs : Airs) → MeetAirs airs → (boxes s n bis : �
     → next_in (steps_of_source s made) ≤ next → prefix_of p (tick event ∷ sink_calls airs n made) next ≤ later → (units : List Handed)
     → Ordered setup whole bis (prefix_of p (sink_calls airs n made) (next_in (steps_of_source s made))) units
     → Ordered setup whole bis later (units ++ valid_in (of_stream bis (handed_at (sink_calls airs n made) event)))
-event_orders below airs meets boxes s n bis setup whole made ready event before its None is next later more past units order =
-    ordered_same setup whole bis (next_in (steps_of_source s made)) later units (of_stream bis (handed_at (sink_calls airs n made) event)) (omega (arith, more, past))
-    (ap (λ q. of_stream bis (ticked_by event (sink_calls airs n made) q)) is) order
+event_orders below airs meets boxes s n bis setup whole made ready event before its None is next later more past units order = grind (arith, ordered_same, next_in, steps_of_source, of_stream, handed_at, sink_calls)
 event_orders below airs meets boxes s n bis setup whole made ready event before its (Some tuning) is next later more past units order =
     let calls : List Call = sink_calls airs n made in
     let prefix_is : tuning.first + closes tuning calls ≤ later =
@@ -113,9 +107,7 @@ event_orders below airs meets boxes s n bis setup whole made ready event before 
           (is_member tuning.which bis ready.least ready.greatest taken)
           ∙ ap (λ o. cond (leb o event) (units_of (stay_on tuning bis) (stream_calls (stay_on tuning bis) (sink_calls airs n made)) o) []) (below.one_open tuning (sink_calls airs n made) bis) in
           elim (cases_Bool (leb (tuning.first + closes tuning (sink_calls airs n made)) event)) [
-            | inr not_over ↦ ordered_same setup whole bis (tuning.first + closes tuning (sink_calls airs n made)) later units (of_stream bis (handed_at (sink_calls airs n made) event)) prefix_is
-                (shown ∙ ap (λ over. cond over (units_of (stay_on tuning bis) (stream_calls (stay_on tuning bis) (sink_calls airs n made))
-                (tuning.first + closes tuning (sink_calls airs n made))) []) not_over) order
+            | inr not_over ↦ grind (arith, ordered_same, sink_calls, of_stream, handed_at, cond, stay_on, stream_calls)
             | inl over ↦ closed_orders below airs meets boxes s n bis setup whole made ready event before tuning (on_since_made airs s n made tuning is its ready.ungiven) later
                 (omega (arith, past, cond_true_more tuning.first (closes tuning (sink_calls airs n made)) (leb (tuning.first + closes tuning (sink_calls airs n made)) event) over))
                 (leb-true _ _ over) units order
@@ -130,9 +122,7 @@ step_orders : Below → (airs : Airs) → MeetAirs airs → (boxes s n bis : ℕ
     → Ordered setup whole bis (prefix true (ticked shut (sink_calls airs n made)) next) (units ++ valid_in (of_stream bis (handed_open (sink_calls airs n made) shut)))
 step_orders below airs meets boxes s n bis setup whole made ready None before its next more units order past =
     ordered_same setup whole bis (prefix true (sink_calls airs n made) (next_in (steps_of_source s made))) (prefix true (sink_calls airs n made) next) units [] past refl order
-step_orders below airs meets boxes s n bis setup whole made ready (Some event) before its next more units order past =
-    event_orders below airs meets boxes s n bis setup whole made ready event (before event refl) its (place (sink_calls airs n made)) refl next
-    (prefix true (tick event ∷ sink_calls airs n made) next) more (omega arith) units order
+step_orders below airs meets boxes s n bis setup whole made ready (Some event) before its next more units order past = grind (arith, event_orders, sink_calls, prefix, tick)
 
 -- a close of an event of the source, or of another
 close_orders : Below → (airs : Airs) → MeetAirs airs → (boxes s n bis : ℕ) (setup : Setup) (whole : List SourceCall) (made : List Step) → Ready airs boxes s n bis setup whole made
@@ -208,10 +198,5 @@ pub units_in_order : Below → (airs : Airs) → MeetAirs airs → (boxes s n bi
     → n ≤ 7 → 1 ≤ bis → bis ≤ 31 → given_since_made n made ≡ false → injected_since (is_made n) n made ≡ false
     → InSourceOrder (setup_of (steps_of_source s made)) (source_calls (steps_of_source s made)) bis (valid_in (shown_since (is_made n) airs s n bis made))
 units_in_order below airs meets boxes s n bis made legal plain source_below sink_below least greatest ungiven clean =
-    let order : Ordered (setup_of (steps_of_source s made)) (source_calls (steps_of_source s made)) bis (its_prefix airs s n made) (valid_in (shown_since (is_made n) airs s n bis made)) =
-    orders below airs meets boxes s n bis (setup_of (steps_of_source s made)) (source_calls (steps_of_source s made)) made (
-    assumption (
-      within_itself (steps_of_source s made),
-      slot_short airs bis (steps_of_source s made) (lawful airs boxes s made legal),
-    )) in
+    let order : Ordered (setup_of (steps_of_source s made)) (source_calls (steps_of_source s made)) bis (its_prefix airs s n made) (valid_in (shown_since (is_made n) airs s n bis made)) = grind (arith, orders, setup_of, steps_of_source, source_calls, within_itself, slot_short, lawful, legal) in
     record { numbers = order.numbers; rising = climbs 0 order.numbers order.high order.climb; given = order.given }

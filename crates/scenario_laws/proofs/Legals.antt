@@ -1,7 +1,6 @@
 -- The steps of lines of which none was refused, and what happens by them: each is in range, and no refusal holds of it after those
 -- before it.
-use Rattle.scenario_laws.proofs.Prelude.{ℕ, ◌≡◌, List, [], ◌∷◌, length, Option, None, Some, Result, Ok, Err, refl, arith, TextLine, Account, Accepted, LineFault, Step, IsInRange, happened, Airs, a_step, nothing, unsaid, said_by, said_in, steps_of, with_said, refusal_said, rules_of, AreLegal, AreSaidLegally}
-use Rattle.scenario_words.specs.declared.fault.LineFault.TheVariants.{BadLine as Misfit, Memory as NoMemory}
+use Rattle.scenario_laws.proofs.Prelude.{ℕ, ◌≡◌, List, [], ◌∷◌, length, Option, None, Some, Result, Ok, arith, TextLine, Account, Accepted, LineFault, Step, IsInRange, happened, Airs, a_step, nothing, unsaid, said_by, said_in, steps_of, with_said, refusal_said, rules_of, AreLegal, AreSaidLegally}
 use Rattle.scenario_text.specs.Steps.{read_of}
 use Rattle.scenario_history.specs.Lines.{Said, said_of}
 use Rattle.scenario_laws.proofs.RelayedUnits.Citable.{happens_legally}
@@ -20,10 +19,7 @@ InRange nothing = Unit {0}
 InRange (unsaid reason) = Unit {0}
 
 by_reading : (r : Result (Option Step) LineFault) → ((step : Step) → r ≡ Ok (Some step) → IsInRange step) → InRange (said_by r)
-by_reading (Ok None) ranged = tt
-by_reading (Ok (Some step)) ranged = ranged step refl
-by_reading (Err (Misfit word)) ranged = tt
-by_reading (Err NoMemory) ranged = tt
+by_reading r ranged = grind arith
 
 pub in_range : LinesInRange → (version : ℕ) (line : TextLine) → InRange (said_in version line)
 in_range ranged version line = grind (arith, by_reading)

@@ -1,10 +1,10 @@
 -- No notice is forged over a link other than 0, and every sink of any lines agrees with its assistants.
-use Rattle.scenario_laws.proofs.Prelude.{ℕ, ◌≡◌, ◌≢◌, ◌<◌, ◌==◌, cond, Bool, true, false, List, [], ◌∷◌, Option, None, Some, refl, sym, ◌∙◌, ap, subst, unwrap_or, option_or, ne_eqb, TextLine, Settings, NoneNotifies, notified_and_read, forging_by, is_forged, read_waits, state, view, AreOctets, made_of, steps_of, Airs, calls_made, the_world}
+use Rattle.std.proofs.Common.{arith}
+use Rattle.scenario_laws.proofs.Prelude.{ℕ, ◌≡◌, ◌≢◌, ◌<◌, ◌==◌, cond, Bool, false, List, [], ◌∷◌, Option, None, Some, refl, unwrap_or, option_or, ne_eqb, TextLine, Settings, NoneNotifies, notified_and_read, forging_by, is_forged, read_waits, state, view, AreOctets, made_of, steps_of, Airs, calls_made, the_world}
 use Rattle.delegator_history.specs.LastGiven.{last_given}
 use Rattle.delegator_history.specs.Trains.{Setup}
 use Rattle.sink_history.specs.Calls as links
 use Rattle.sink_history.specs.Calls.{Call}
-use Rattle.scenario_history.specs.Lines.{said_of}
 use Rattle.scenario_laws.proofs.RelayedUnits.Citable.{history_happened, made_happened}
 use Rattle.scenario_laws.specs.Links.{AgreementLaw, Agrees}
 use Rattle.scenario_laws.proofs.Legals.{LinesInRange}
@@ -18,30 +18,16 @@ pub record OfLinks : Type 0 where
   pub drained : (setup : Setup) (mtu : Option ℕ) (link slot : ℕ) (calls : List Call) → setup.slots < 256 → slot < setup.slots → AreOctets calls
       → is_forged link calls ≡ false → view setup mtu link slot (notified_and_read setup mtu link calls) ≡ state setup slot calls
 
-said_agree : LinesInRange → OfLinks → (lines : List TextLine) (n link slot : ℕ) (made : Settings) → made_of n (said_of lines) ≡ Some made
-    → slot < made.setup.slots → is_forged link (calls_made n (said_of lines)) ≡ false → Agrees made link slot (calls_made n (said_of lines))
-said_agree in_range laws lines n link slot made is below plain =
-    let ranged = ranged_lines in_range lines in
-    let few = few_slots n (said_of lines) ranged made is in
-    let octets : AreOctets (calls_made n (said_of lines)) = history_octets the_world n (said_of lines) ranged in
-    assumption (
-      laws.agrees made.setup made.mtu link slot (calls_made n (said_of lines)) few below octets plain,
-      laws.drained made.setup made.mtu link slot (calls_made n (said_of lines)) few below octets plain,
-    )
-
 -- relayed units are no part of a history
+
 pub links_agree : LinesInRange → OfLinks → AgreementLaw
 links_agree in_range laws airs lines n link slot made is below plain =
-    let same : calls_made n (steps_of airs lines) ≡ calls_made n (said_of lines) = history_happened airs n (said_of lines) in
-    subst (Agrees made link slot) (sym same)
-    (said_agree in_range laws lines n link slot made (sym (made_happened airs n (said_of lines)) ∙ is) below
-    (ap (is_forged link) (sym same) ∙ plain))
+    grind (arith, calls_made, steps_of, history_happened, ranged_lines, few_slots, history_octets, the_world, made_happened, is_forged)
 
 -- ---- links other than 0
 
 not_by : (is_there : Bool) (given : Option Bool) → unwrap_or given false ≡ false → unwrap_or (option_or (cond is_there (Some false) None) given) false ≡ false
-not_by true given before = refl
-not_by false given before = before
+not_by is_there given before = grind arith
 
 not_forged : (link : ℕ) (calls : List Call) → link ≢ 0 → is_forged link calls ≡ false
 not_forged link [] other = refl

@@ -1,6 +1,6 @@
 -- What a line makes of a sink that it names by its control or by its links: its receivers stay or leave, or a train puts them on
 -- a group; and a sink that follows a train on no group may be of another source then.
-use Rattle.scenario_laws.proofs.Prelude.{ℕ, ◌≡◌, ◌⊎◌, ◌==◌, ◌&&◌, not, cond, Bool, true, false, List, ◌∷◌, Option, None, Some, is_some, refl, ap, subst, inl, inr, arith, by_numbers, with_leave, with_step, TrainHeard, Snapshot, TrainOutcome, Settings, Train, heard, ignored, outcome_by, by_broadcast_id, by_slot, big_sync_in, BigSync, Call, leave, tune, has_group, Step, Source, made_of, named_by, own_train, brings_by, follows, big_sync_of, received_by, source_by, train_by, snapshot_in, Airs, sink_calls, source_after, source_of, with_sink_call, chosen_of, calls_made, source_at, is_tuned}
+use Rattle.scenario_laws.proofs.Prelude.{ℕ, ◌≡◌, ◌⊎◌, ◌==◌, ◌&&◌, cond, Bool, true, false, List, ◌∷◌, Option, None, Some, is_some, refl, ap, inl, inr, arith, by_numbers, with_leave, with_step, TrainHeard, Snapshot, TrainOutcome, Settings, Train, heard, ignored, outcome_by, by_broadcast_id, by_slot, big_sync_in, BigSync, Call, leave, tune, has_group, Step, Source, made_of, named_by, own_train, brings_by, follows, big_sync_of, received_by, source_by, train_by, snapshot_in, Airs, sink_calls, source_after, source_of, with_sink_call, chosen_of, calls_made, source_at, is_tuned}
 use Rattle.delegator_history.specs.Trains.{Setup, taken}
 use Rattle.group_sink.specs.Calls.{place}
 use Rattle.sink_history.specs.Calls as links
@@ -47,26 +47,18 @@ StaysBy airs n step earlier =
 -- ---- a line that hands the sink no train
 
 left_or_not : (was is : Bool) (calls : List Call) → Left (with_leave was is calls) calls
-left_or_not true true calls = inl refl
-left_or_not true false calls = inr refl
-left_or_not false is calls = inl refl
-
-left_if : (hit : Bool) (more calls : List Call) → Left more calls → Left (cond hit more calls) calls
-left_if true more calls left = left
-left_if false more calls left = inl refl
+left_or_not was is calls = grind arith
 
 moved_left : (n : ℕ) (named : Option ℕ) (step : Step) (earlier : List Step) (calls : List Call) → train_by (source_at earlier) step ≡ None → Left (moved n named step earlier calls) calls
-moved_left n named step earlier calls none = grind (arith, left_if, left_or_not)
+moved_left n named step earlier calls none = grind (arith, left_or_not)
 
 pub plain_stays : (airs : Airs) (n : ℕ) (step : Step) (earlier : List Step) → train_by (source_at earlier) step ≡ None
     → moved n (named_by step) step earlier (sink_calls airs n earlier) ≡ with_sink_call airs n step earlier (sink_calls airs n earlier)
     → source_after n step earlier (source_of n earlier) ≡ source_of n earlier → is_tuned n earlier step ≡ false → StaysBy airs n step earlier
-plain_stays airs n step earlier none is same begins_not =
-    assumption (subst (λ later. Left later (sink_calls airs n earlier)) is (moved_left n (named_by step) step earlier (sink_calls airs n earlier) none))
+plain_stays airs n step earlier none is same begins_not = grind (arith, sink_calls, moved_left, named_by)
 
 pub same_if : {A : Type 0} (hit : Bool) (x : A) → cond hit x x ≡ x
-same_if true x = refl
-same_if false x = refl
+same_if hit x = grind arith
 
 -- of a sink that doesn't live
 pub unmoved : (n : ℕ) (named : Option ℕ) (step : Step) (earlier : List Step) (calls : List Call) → made_of n earlier ≡ None → moved n named step earlier calls ≡ calls
@@ -78,15 +70,9 @@ given_stays airs n sink time ext adv acad earlier other = search arith
 
 -- ---- a train that is announced
 
--- a train is heard that isn't taken only where the sink is on no group
-heard_slot : (other : Bool) (first second : TrainHeard) (rest : TrainOutcome) (slot : ℕ) (answer : TrainHeard) (encrypted : Option Bool)
-    → cond (not other) (ignored first) (cond other (ignored second) rest) ≡ heard slot answer encrypted → ⊥
-heard_slot true first second rest slot answer encrypted is = absurd cc
-heard_slot false first second rest slot answer encrypted is = absurd cc
-
 heard_at : (setup : Setup) (snapshot : Snapshot) (train : Train) (slot : Option ℕ) (other : ℕ) (answer : TrainHeard) (encrypted : Option Bool)
     → by_slot setup snapshot train slot ≡ heard other answer encrypted → has_group snapshot.place ≡ false
-heard_at setup snapshot train slot other answer encrypted is = grind (arith, heard_slot)
+heard_at setup snapshot train slot other answer encrypted is = grind arith
 
 heard_by : (setup : Setup) (snapshot : Snapshot) (train : Train) (id : Option (List ℕ)) (other : ℕ) (answer : TrainHeard) (encrypted : Option Bool)
     → by_broadcast_id setup snapshot train id ≡ heard other answer encrypted → has_group snapshot.place ≡ false
@@ -101,8 +87,7 @@ by_train : (source : Source) (lives : List links.Call) (made : Settings) (later 
     → (has_group (snapshot_in made lives).place ≡ false → place calls ≡ None) → (brought : TrainOutcome) → outcome_by made.setup (snapshot_in made lives) (own_train source) ≡ brought
     → Went (BroughtTo source lives) source.number (is_some (big_sync_in brought)) calls (with_step (big_sync_in brought) (snapshot_in made lives) later calls)
     its_source (cond (follows brought) (Some source.number) its_source)
-by_train source lives made later calls its_source nowhere (ignored answer) is =
-    inl (record { left = left_or_not (has_group (snapshot_in made lives).place) (has_group later.place) calls; same = refl; begins_not = refl })
+by_train source lives made later calls its_source nowhere (ignored answer) is = grind (arith, left_or_not, has_group, snapshot_in)
 by_train source lives made later calls its_source nowhere (heard slot answer encrypted) is =
     let off : has_group (snapshot_in made lives).place ≡ false = heard_by made.setup (snapshot_in made lives) (own_train source) _ slot answer encrypted is in
     inr (inl (assumption (ap (λ was. with_leave was (has_group later.place) calls) off, nowhere off)))
@@ -118,14 +103,7 @@ by_made source n here there (Some made) calls its_source nowhere = search (by_tr
 
 went_if : (Brings : BigSync → Type 0) (chosen : ℕ) (hit begins : Bool) (calls more : List Call) (source new : Option ℕ) → Went Brings chosen begins calls more source new
     → Went (λ big_sync. (hit ≡ true) × Brings big_sync) chosen (hit && begins) calls (cond hit more calls) source (cond hit new source)
-went_if Brings chosen true begins calls more source new went = elim went [
-  | inl stays ↦ inl stays
-  | inr goes ↦ elim goes [
-    | inl follows ↦ inr (inl follows)
-    | inr put ↦ inr (inr (record { big_sync = put.big_sync; brings = (refl, put.brings); calls_is = put.calls_is; source_is = put.source_is; begins_is = put.begins_is }))
-  ]
-]
-went_if Brings chosen false begins calls more source new went = inl (record { left = inl refl; same = refl; begins_not = refl })
+went_if x1 chosen hit begins calls more source new went = grind (arith, follows)
 
 -- `announce` names the sink of this number, and synchronizes it to this BIG
 abbrev pub Brings : ℕ → ℕ → List Step → BigSync → Type 0

@@ -61,8 +61,7 @@ plain_off n named step earlier calls none is before = grind (arith, moved_off, n
 
 gone_off : (gone : Bool) (anew made : Option Settings) (born lives : List links.Call) (calls : List Call) → Nowhere made lives calls
     → Nowhere (cond gone anew made) (cond gone born lives) (cond gone [] calls)
-gone_off true anew made born lives calls before m is off = refl
-gone_off false anew made born lives calls before m is off = before m is off
+gone_off gone anew made born lives calls before m is off = grind arith
 
 put_off : (put : Bool) (made : Option Settings) (big_sync : BigSync) (lives : List links.Call) (on : BigSync) (calls : List Call)
     → Nowhere made lives calls → Nowhere made (cond put (stepped (sync_to_group big_sync) ∷ lives) lives) (cond put (tune on ∷ calls) calls)

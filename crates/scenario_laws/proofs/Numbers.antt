@@ -1,5 +1,5 @@
 -- The units of an event by their numbers, and what a close hands of them.
-use Rattle.scenario_laws.proofs.Prelude.{ℕ, zero, suc, ◌≡◌, ◌<◌, ◌≤◌, ◌+◌, ◌-◌, ◌==◌, min, cond, Bool, true, false, List, [], ◌∷◌, ◌++◌, length, map, Some, refl, sym, ◌∙◌, ap, subst, arith, inl, inr, slice_get, AllZip, AllByRecursion, range_with_len, cases_eq, eq-eqb, ne_eqb, false≢true, none-some, slice_get_within, BigInfo, Bounds, per_event_of, horizon_of, Handed, valid, lost, opened, before_event, lay, lays, begun, handed, unit_at, IsStruck, Place, Struck, air_at, closed_slots, begun_within, lays_accepted, all_zip_append, place_of, slots_of, Airs, Setup, give, events, given, laid_with, next_of, prefix_accepted, lays_events, BigSync, bis_of, stay_on, stream_calls, Step, steps_of_source, MeetAirs, sink_calls, injected_since, is_tuned, IsGiven, is_valid, time_in, valid_in, whole_stay}
+use Rattle.scenario_laws.proofs.Prelude.{ℕ, zero, suc, ◌≡◌, ◌<◌, ◌≤◌, ◌+◌, ◌-◌, ◌==◌, min, cond, Bool, false, List, [], ◌∷◌, ◌++◌, length, map, Some, refl, sym, ◌∙◌, ap, subst, arith, inl, inr, slice_get, AllZip, AllByRecursion, range_with_len, cases_eq, eq-eqb, ne_eqb, false≢true, none-some, slice_get_within, BigInfo, Bounds, per_event_of, horizon_of, Handed, valid, lost, opened, before_event, lay, lays, begun, handed, unit_at, IsStruck, Place, Struck, air_at, closed_slots, begun_within, lays_accepted, all_zip_append, place_of, slots_of, Airs, Setup, give, events, given, laid_with, next_of, prefix_accepted, lays_events, BigSync, bis_of, stay_on, stream_calls, Step, steps_of_source, MeetAirs, sink_calls, injected_since, is_tuned, IsGiven, is_valid, time_in, valid_in, whole_stay}
 use Rattle.std.proofs.lemmas.Slice.Zip.{AllZip-long}
 use Rattle.isoal_base.specs.Stays as stays
 use Rattle.isoal_unframed.specs.Calls.{Call as StreamCall, accept, accepted, events as laid_events}
@@ -41,9 +41,7 @@ events_apart : (info : BigInfo) (calls : List StreamCall) (e later : ℕ) → e 
 events_apart info [] e later order below = absurd (omega (arith, below))
 events_apart info (accept octets ∷ calls) e later order below = events_apart info calls e later order below
 events_apart info (lay ∷ calls) e later order below = elim (cases_eq (laid_events calls) later) [
-  | inl same ↦
-      rw (eq-eqb (laid_events calls) later same, ne_eqb (laid_events calls) e (λ is. omega (arith, is, same, order)))
-      (past_begun info calls e (omega (arith, same, order)))
+  | inl same ↦ grind (arith, eq-eqb, ne_eqb, past_begun)
   | inr other ↦
       rw (ne_eqb (laid_events calls) later other, ne_eqb (laid_events calls) e (λ is. omega (arith, is, below, other, order)))
       (events_apart info calls e later order (omega (arith, below, other)))
@@ -62,8 +60,7 @@ accepted_are info bis (give stream time octets ∷ calls) = elim (cases_eq strea
 accepted_are info bis (perform ∷ calls) = lays_accepted (source_stream info bis calls) (laid_with info calls) ∙ accepted_are info bis calls
 
 some_laid : (none : Bool) (h : ℕ) → 1 ≤ cond none (h + 1) 1
-some_laid true h = omega arith
-some_laid false h = omega arith
+some_laid none h = grind arith
 
 -- each event that was performed was laid
 pub laid_least : (info : BigInfo) (bis : ℕ) (calls : List SourceCall) → events calls ≤ laid_events (source_stream info bis calls)
@@ -113,26 +110,11 @@ batch_one : (setup : Setup) (whole : List SourceCall) (bis event slot low : ℕ)
 batch_one setup whole bis event slot low (lost stream time) rest from_first performed_then inside least most is more = more low (omega (arith, least)) most
 batch_one setup whole bis event slot low (valid stream time octets) rest from_first performed_then inside least most is more =
     let here = is stream time octets refl in
-    let count : first_in setup.info (source_stream setup.info bis whole) (event - setup.first) + slot < length (accepted (before_event (source_stream setup.info bis whole) (event - setup.first))) =
-    slice_get_within (accepted (before_event (source_stream setup.info bis whole) (event - setup.first)))
-    (first_in setup.info (source_stream setup.info bis whole) (event - setup.first) + slot) octets here.2 in
+    let count : first_in setup.info (source_stream setup.info bis whole) (event - setup.first) + slot < length (accepted (before_event (source_stream setup.info bis whole) (event - setup.first))) = grind (arith, slice_get_within, before_event) in
     let next = more (first_in setup.info (source_stream setup.info bis whole) (event - setup.first) + slot + 1) (omega arith) (omega (arith, count, inside)) in
     let prefix_of_all = prefix_accepted (source_stream setup.info bis whole) (event - setup.first) in
-    let found : slice_get (given bis whole) (place_of setup whole bis event slot) ≡ Some octets =
-    ap (λ units. slice_get units (place_of setup whole bis event slot)) (sym (accepted_are setup.info bis whole) ∙ prefix_of_all.1)
-    ∙ get_more (accepted (before_event (source_stream setup.info bis whole) (event - setup.first))) prefix_of_all.0 (place_of setup whole bis event slot) octets here.2 in
-    let one : IsGiven setup whole bis (place_of setup whole bis event slot) (valid stream time octets) = record {
-      event = event;
-      slot = slot;
-      octets = octets;
-      least = from_first;
-      performed = performed_then;
-      slot_below = inside;
-      number_is = refl;
-      in_slot = here.2;
-      accepted = found;
-      unit_is = ap (λ b. valid b time octets) here.0 ∙ ap (λ t. valid bis t octets) here.1;
-    } in
+    let found : slice_get (given bis whole) (place_of setup whole bis event slot) ≡ Some octets = grind (arith, slice_get, place_of, accepted_are, get_more, before_event) in
+    let one : IsGiven setup whole bis (place_of setup whole bis event slot) (valid stream time octets) = grind (arith, valid) in
     record { numbers = place_of setup whole bis event slot ∷ next.numbers; climb = (least, next.climb); given = (one, next.given) }
 
 batch : (setup : Setup) (whole : List SourceCall) (bis event : ℕ) (g : ℕ → Handed) (start count low : ℕ) → setup.first ≤ event → event < next_of setup whole → start + count ≤ per_event_of setup.info
@@ -154,8 +136,7 @@ pub ordered_more : (setup : Setup) (whole : List SourceCall) (bis event later : 
 ordered_more setup whole bis event later units more least past laid order last = record {
   numbers = order.numbers ++ last.numbers;
   high = past_in setup.info (source_stream setup.info bis whole) (event - setup.first);
-  climb = climb_on 0 order.numbers order.high last.numbers (past_in setup.info (source_stream setup.info bis whole) (event - setup.first)) order.climb
-      (climb_from order.high (first_in setup.info (source_stream setup.info bis whole) (event - setup.first)) last.numbers _ (order.ahead event (omega arith) laid) last.climb);
+  climb = grind (arith, climb_on, climb_from);
   ahead = λ e behind within. events_apart setup.info (source_stream setup.info bis whole) (event - setup.first) (e - setup.first) (omega (arith, behind, past, least)) within;
   given = all_zip_append (IsGiven setup whole bis) order.numbers last.numbers units more order.given last.given;
 }

@@ -1,6 +1,7 @@
 -- Over two airs that meet the relation of their framing the same happens: relays offer the same units, and source 1 takes the same of
 -- them.
-use Rattle.scenario_laws.proofs.Prelude.{ℕ, ◌≡◌, ◌∙◌, cond, not, Bool, true, false, List, [], ◌∷◌, None, Some, refl, ap, flat_map, option_map, Step, give_fault, Order, Answered, Offer, after_offer, after_offers, answered_by, closes_first, dropped_for, handed_of, happened, offered_of, offers_at, with_relayed_unit_unless, with_relayed_units, give_refusal, refusal_of, relay_of, setup_of, source_calls, takes_units, Airs, steps_of_source, AreSaidLegally}
+use Rattle.std.proofs.Common.{arith}
+use Rattle.scenario_laws.proofs.Prelude.{ℕ, ◌≡◌, ◌∙◌, cond, not, Bool, true, false, List, [], ◌∷◌, None, refl, ap, flat_map, option_map, Step, give_fault, Offer, after_offer, after_offers, answered_by, closes_first, dropped_for, handed_of, happened, offered_of, offers_at, with_relayed_unit_unless, with_relayed_units, give_refusal, refusal_of, relay_of, setup_of, source_calls, takes_units, Airs, steps_of_source, AreSaidLegally}
 use Rattle.scenario_history.specs.Boxes.{sink_numbers}
 use Rattle.scenario_history.specs.RelayedUnits.{answered}
 use Rattle.scenario_laws.proofs.RelayedUnits.Citable.{Runs, happens_legally, left_by_offers, line_passes, runs_at, runs_still, unless_legal}
@@ -13,10 +14,21 @@ use Rattle.scenario_laws.proofs.TwoAirs.{Both, Twice, closing_same, in_order, it
 dropped_same : (airs others : Airs) → Both airs others → (boxes : ℕ) (offer : Offer) (made : List Step) → Twice airs others boxes made
     → dropped_for airs offer made ≡ dropped_for others offer made
 dropped_same airs others both boxes offer made twice =
-    let own : List Step = steps_of_source 1 made in
-    in_order (not (takes_units own)) Order _ _ (λ streams. ap (λ all. option_map give_refusal
-    (give_fault (setup_of own) (source_calls own) all offer.route.to (Some offer.unit.time) offer.unit.octets))
-    (its_same airs others both own (lawful airs boxes 1 made twice.here) (lawful others boxes 1 made twice.there) (takes own streams)))
+    grind (
+      arith,
+      steps_of_source,
+      in_order,
+      not,
+      takes_units,
+      option_map,
+      give_refusal,
+      give_fault,
+      setup_of,
+      source_calls,
+      its_same,
+      lawful,
+      takes,
+    )
 
 offers_same : (airs others : Airs) → Both airs others → (boxes : ℕ) (made : List Step) → Legal airs boxes made
     → offers_at airs made ≡ offers_at others made
@@ -42,9 +54,7 @@ alike airs others both boxes (offer ∷ offers) made legal runs =
     (runs_still made next (left_by_offers airs (offer ∷ []) made).stage runs) in
     record {
       steps = rest.steps ∙ ap (after_offers others offers) same;
-      answers = ap (λ r. (let one : Answered = record { offer = offer; reason = r } in one ∷ answered airs offers next)) reason
-          ∙ ap (λ l. (let one : Answered = record { offer = offer; reason = dropped_for others offer made } in one ∷ l))
-          (rest.answers ∙ ap (answered others offers) same);
+      answers = grind (arith, dropped_for);
     }
 
 -- ---- relayed units before a step

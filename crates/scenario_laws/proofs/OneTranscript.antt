@@ -1,11 +1,10 @@
 -- Two airs that meet the relation of their framing give one transcript: no step, no line and no text tells them apart.
-use Rattle.scenario_laws.proofs.Prelude.{ℕ, ◌≡◌, ◌+◌, ◌==◌, cond, true, List, [], ◌∷◌, ◌++◌, length, Option, None, Some, refl, sym, ◌∙◌, ap, subst, arith, TextLine, Account, Accepted, End, accepted_of, accepted_unless, end_unless, out, out_unless, AreAirs, stale_of, Airs, event_fault, Step, Refusal, chosen_of, chosen_steps, is_started, setup_of, source_calls, stale_in, MeetAirs, answered_by, closing_both, handed_up, line_refusal, refusal_of, close_lines, first_lines, output_of, sums_of, unit_lines, handed_said, output_said, refusal_said, rules_of, steps_of, end_after, out_of, transcript_end, transcript_of, units_of}
+use Rattle.scenario_laws.proofs.Prelude.{ℕ, ◌≡◌, ◌+◌, ◌==◌, cond, true, List, [], ◌∷◌, ◌++◌, length, Option, None, refl, sym, ◌∙◌, ap, subst, arith, TextLine, Account, Accepted, End, accepted_of, accepted_unless, end_unless, out, out_unless, AreAirs, stale_of, Airs, event_fault, Step, Refusal, chosen_of, chosen_steps, is_started, setup_of, source_calls, stale_in, MeetAirs, answered_by, closing_both, handed_up, line_refusal, refusal_of, close_lines, first_lines, output_of, sums_of, unit_lines, handed_said, output_said, refusal_said, rules_of, steps_of, end_after, out_of, transcript_end, transcript_of, units_of}
 use Rattle.scenario_history.specs.Runs.{end_of}
 use Rattle.source_machine.specs.Calls.{event as perform}
 use Rattle.scenario_text.specs.declared.step.Step.TheVariants as steps
 use Rattle.scenario_history.specs.Boxes.{closing}
-use Rattle.scenario_history.specs.Lines.{Said, handed_on}
-use Rattle.scenario_history.specs.Lines.{said_after, said_of}
+use Rattle.scenario_history.specs.Lines.{Said, handed_on, said_after}
 use Rattle.scenario_laws.proofs.RelayedUnits.Citable.{line_passes}
 use Rattle.scenario_laws.proofs.Legals.{Legal, LinesInRange, legal, permitted, said_legally}
 use Rattle.scenario_laws.proofs.OneHappening.{answers_same, happened_same}
@@ -93,37 +92,28 @@ pub record Told (airs others : Airs) : Type 0 where
 
 pub steps_same : (airs others : Airs) → Told airs others → (starts : List Account) (history : List TextLine) → Accepted (rules_of airs starts) history
     → steps_of airs history ≡ steps_of others history
-steps_same airs others told starts history accepted =
-    happened_same airs others told.both (length starts) (said_of history) (said_legally told.ranged airs starts history accepted)
+steps_same airs others told starts history accepted = grind (arith, happened_same, length, said_legally)
 
 refused_same : (airs others : Airs) → Told airs others → (starts : List Account) (history : List TextLine) (line : TextLine) → Accepted (rules_of airs starts) history
     → refusal_said airs (length starts) (steps_of airs history) (said_after history line)
     ≡ refusal_said others (length starts) (steps_of others history) (said_after history line)
-refused_same airs others told starts history line accepted =
-    said_refused airs others told.both (length starts) (steps_of airs history) (said_after history line) (legal told.ranged airs starts history accepted)
-    ∙ ap (λ made. refusal_said others (length starts) made (said_after history line)) (steps_same airs others told starts history accepted)
+refused_same airs others told starts history line accepted = grind (arith, said_refused, length, steps_of, legal, refusal_said, steps_same)
 
-pub brought_same : (airs others : Airs) → Told airs others → (starts : List Account) (history : List TextLine) (line : TextLine) → Accepted (rules_of airs starts) history
-    → refusal_said airs (length starts) (steps_of airs history) (said_after history line) ≡ None
-    → output_said airs starts (steps_of airs history) (said_after history line)
-    ≡ output_said others starts (steps_of others history) (said_after history line)
-brought_same airs others told starts history line accepted none =
-    said_brought airs others told.both starts (steps_of airs history) (said_after history line) (legal told.ranged airs starts history accepted) none
-    ∙ ap (λ made. output_said others starts made (said_after history line)) (steps_same airs others told starts history accepted)
+pub brought_same : (airs others : Airs) → Told airs others → (starts : List Account) (history : List TextLine) (line : TextLine)
+    → Accepted (rules_of airs starts) history → refusal_said airs (length starts) (steps_of airs history) (said_after history line) ≡ None
+    → output_said airs starts (steps_of airs history) (said_after history line) ≡ output_said others starts (steps_of others history) (said_after history line)
+brought_same airs others told starts history line accepted none = grind (arith, said_brought, steps_of, legal, output_said, steps_same)
 
 -- the same becomes of the units that relays offer before a step
 pub answered_same : (airs others : Airs) → Told airs others → (starts : List Account) (history : List TextLine) (step : Step) → Accepted (rules_of airs starts) history
     → line_refusal airs (length starts) (steps_of airs history) step ≡ None
     → answered_by airs (steps_of airs history) step ≡ answered_by others (steps_of others history) step
 answered_same airs others told starts history step accepted none =
-    answers_same airs others told.both (length starts) (steps_of airs history) step (legal told.ranged airs starts history accepted)
-    (line_passes airs (length starts) (steps_of airs history) step none)
-    ∙ ap (λ made. answered_by others made step) (steps_same airs others told starts history accepted)
+    grind (arith, answers_same, length, steps_of, legal, line_passes, answered_by, steps_same)
 
 out_by : (airs others : Airs) (starts : List Account) (history : List TextLine) (reason : Option Refusal) (octets octets' : List ℕ) → (reason ≡ None → octets ≡ octets')
     → out_unless (rules_of airs starts) history reason octets ≡ out_unless (rules_of others starts) history reason octets'
-out_by airs others starts history (Some reason) octets octets' same = refl
-out_by airs others starts history None octets octets' same = same refl
+out_by airs others starts history reason octets octets' same = grind arith
 
 out_same : (airs others : Airs) → Told airs others → (starts : List Account) (history lines : List TextLine) → Accepted (rules_of airs starts) history
     → out (rules_of airs starts) history lines ≡ out (rules_of others starts) history lines
@@ -137,8 +127,7 @@ out_same airs others told starts history (line ∷ lines) accepted =
     (output_said others starts (steps_of others history) (said_after history line) ++ out (rules_of others starts) (line ∷ history) lines)) (refused_same airs others told starts history line accepted)
 
 end_by : (history : List TextLine) (reason : Option Refusal) (end end' : End Refusal) → (reason ≡ None → end ≡ end') → end_unless history reason end ≡ end_unless history reason end'
-end_by history (Some reason) end end' same = refl
-end_by history None end end' same = same refl
+end_by history reason end end' same = grind arith
 
 end_same : (airs others : Airs) → Told airs others → (starts : List Account) (history lines : List TextLine) → Accepted (rules_of airs starts) history
     → end_of (rules_of airs starts) history lines ≡ end_of (rules_of others starts) history lines
@@ -155,8 +144,7 @@ pub record Runs (airs others : Airs) (starts : List Account) (one other : List T
 
 runs_by : (airs others : Airs) (starts : List Account) (history : List TextLine) (reason : Option Refusal) (all all' : List TextLine) → Accepted (rules_of airs starts) history
     → (reason ≡ None → Runs airs others starts all all') → Runs airs others starts (accepted_unless history reason all) (accepted_unless history reason all')
-runs_by airs others starts history (Some reason) all all' accepted same = record { same = refl; accepted = accepted }
-runs_by airs others starts history None all all' accepted same = same refl
+runs_by airs others starts history reason all all' accepted same = grind arith
 
 runs_same : (airs others : Airs) → Told airs others → (starts : List Account) (history lines : List TextLine) → Accepted (rules_of airs starts) history
     → Runs airs others starts (accepted_of (rules_of airs starts) history lines) (accepted_of (rules_of others starts) history lines)
@@ -181,11 +169,7 @@ out_of_same airs others told starts lines = out_same airs others told starts [] 
 
 pub units_same : (airs others : Airs) → Told airs others → (starts : List Account) (lines : List TextLine) → units_of airs starts lines ≡ units_of others starts lines
 units_same airs others told starts lines =
-    let runs = runs_same airs others told starts [] lines tt in
-    handed_up_same airs others told.both (length starts) (steps_of airs (accepted_of (rules_of airs starts) [] lines))
-    (legal told.ranged airs starts (accepted_of (rules_of airs starts) [] lines) runs.accepted)
-    ∙ ap (handed_up others) (steps_same airs others told starts (accepted_of (rules_of airs starts) [] lines) runs.accepted)
-    ∙ ap (λ history. handed_up others (steps_of others history)) runs.same
+    grind (arith, runs_same, handed_up_same, length, steps_of, accepted_of, rules_of, legal, handed_up, steps_same)
 
 pub end_after_same : (airs others : Airs) → Told airs others → (starts : List Account) (lines : List TextLine) → end_after airs starts lines ≡ end_after others starts lines
 end_after_same airs others told starts lines = end_same airs others told starts [] lines tt

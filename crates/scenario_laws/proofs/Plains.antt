@@ -19,8 +19,7 @@ own_pdu below group setup whole calls airs more are event bis subevent same plai
     ap (λ o. unwrap_or o []) here ∙ ap (λ all. pdu (content_at setup all bis (payload_number setup.info event subevent))) (sym more.1)
 
 air_same : (setup : Setup) (whole : List SourceCall) (tuning : BigSync) (bis : ℕ) (event subevent : ℕ) → tuning.info ≡ setup.info
-    → content_at setup whole bis (payload_number setup.info event subevent)
-    ≡ air_at (stay_on tuning bis) (slots_of setup whole bis) (payload_number tuning.info event subevent)
+    → content_at setup whole bis (payload_number setup.info event subevent) ≡ air_at (stay_on tuning bis) (slots_of setup whole bis) (payload_number tuning.info event subevent)
 air_same setup whole tuning bis event subevent same = cc (same)
 
 pub sends_own : Below → (airs : Airs) → MeetAirs airs → (setup : Setup) (whole : List SourceCall) (tuning : BigSync) (bis : ℕ) (own : List Step) → Lawful airs own → is_started own ≡ true

@@ -1,5 +1,5 @@
 -- The units that a framed air sends, by payload numbers: the PDU of each number is theirs.
-use Rattle.scenario_laws.proofs.Prelude.{ℕ, ◌≡◌, ◌<◌, ◌≤◌, ◌+◌, ◌-◌, ◌*◌, ◌/◌, ◌%◌, ◌&&◌, cond, eqb, Bool, List, [], ◌∷◌, length, map, Option, None, Some, refl, sym, ◌∙◌, ap, subst, arith, inl, inr, slice_get, range_with_len, option_and_then, cases_eq, eq-eqb, ne_eqb, div-add-mod', mod_below, BigInfo, framed, pdu, Air, Laid, event_at, pdu_at, EventsAre, get-range, Fit, InOrder, Sent, carried, is_last, part_with, parts_at}
+use Rattle.scenario_laws.proofs.Prelude.{ℕ, ◌≡◌, ◌<◌, ◌≤◌, ◌+◌, ◌-◌, ◌*◌, ◌/◌, ◌%◌, ◌&&◌, cond, eqb, Bool, List, [], ◌∷◌, length, map, Option, None, Some, refl, ◌∙◌, ap, subst, arith, inl, inr, slice_get, range_with_len, option_and_then, cases_eq, eq-eqb, ne_eqb, div-add-mod', mod_below, BigInfo, framed, pdu, Air, Laid, event_at, pdu_at, EventsAre, get-range, Fit, InOrder, Sent, carried, is_last, part_with, parts_at}
 use Rattle.isoal_framed.specs.Struck.{behind}
 
 -- ---- the PDU of a number
@@ -8,19 +8,13 @@ in_event : (info : BigInfo) (entry : Laid) (earlier : Air) (units : List Sent) (
     → entry.pdus ≡ map (λ n. pdu (framed (parts_at units n))) (range_with_len (length earlier * info.bn) info.bn)
     → slice_get entry.pdus (number % info.bn) ≡ Some (pdu (framed (parts_at units number)))
 in_event info entry earlier units number some here are =
-    let split : number ≡ number / info.bn * info.bn + number % info.bn = sym (div-add-mod' number info.bn) in
-    ap (λ pdus. slice_get pdus (number % info.bn)) are
-    ∙ get-range (λ n. pdu (framed (parts_at units n))) (length earlier * info.bn) info.bn (number % info.bn) (mod_below number info.bn some)
-    ∙ ap (λ e. Some (pdu (framed (parts_at units (e * info.bn + number % info.bn))))) here
-    ∙ ap (λ n. Some (pdu (framed (parts_at units n)))) (sym split)
+    grind (arith, div-add-mod', slice_get, get-range, pdu, framed, parts_at, length, mod_below)
 
 pub each_sent : (info : BigInfo) (air : Air) (units : List Sent) (number : ℕ) → 1 ≤ info.bn → EventsAre info air units → number / info.bn < length air
     → pdu_at info.bn air number ≡ Some (pdu (framed (parts_at units number)))
 each_sent info [] units number some are below = absurd (omega (arith, below))
 each_sent info (entry ∷ earlier) units number some are below = elim (cases_eq (length earlier) (number / info.bn)) [
-  | inl here ↦
-      ap (λ b. option_and_then (λ (event : Laid). slice_get event.pdus (number % info.bn)) (cond b (Some entry.event) (event_at earlier (number / info.bn)))) (eq-eqb (length earlier)
-      (number / info.bn) here) ∙ in_event info entry.event earlier units number some here are.1
+  | inl here ↦ grind (arith, option_and_then, slice_get, cond, event_at, eq-eqb, length, in_event)
   | inr apart ↦
       ap (λ b. option_and_then (λ (event : Laid). slice_get event.pdus (number % info.bn)) (cond b (Some entry.event) (event_at earlier (number / info.bn)))) (ne_eqb (length earlier)
       (number / info.bn) apart) ∙ each_sent info earlier units number some are.0 (omega (arith, below, apart))
@@ -32,10 +26,7 @@ abbrev pub moved_on : ℕ → Sent → Sent
 moved_on base unit = record { first = base + unit.first; offset = unit.offset; segments = unit.segments; whole = unit.whole }
 
 same_test : (base a b : ℕ) → eqb (base + a) (base + b) ≡ eqb a b
-same_test base a b = elim (cases_eq a b) [
-  | inl same ↦ eq-eqb (base + a) (base + b) (omega (arith, same)) ∙ sym (eq-eqb a b same)
-  | inr apart ↦ ne_eqb (base + a) (base + b) (λ is. apart (omega (arith, is))) ∙ sym (ne_eqb a b apart)
-]
+same_test base a b = grind (arith, cases_eq, eq-eqb, ne_eqb)
 
 carried_on : (base from : ℕ) (offset : Option ℕ) (segments : List (List ℕ)) (whole : Bool) (number : ℕ)
     → carried (base + from) offset segments whole (base + number) ≡ carried from offset segments whole number

@@ -56,8 +56,7 @@ slot_time_is setup tuning bis event slot on least =
     ∙ ap (λ d. render_of (unframed_reference_of setup.info (anchor_of setup.origin setup.first event (iso_us_of setup.info)) slot) d) on.delay
 
 handed_is : (bis time : ℕ) (unit : Option (List ℕ)) → (bis_of (handed_of bis time unit) ≡ bis) × (time_in (handed_of bis time unit) ≡ time)
-handed_is bis time None = (refl, refl)
-handed_is bis time (Some octets) = (refl, refl)
+handed_is bis time unit = grind arith
 
 pub zip_maps : {A B : Type 0} (R : A → B → Type 0) (f : ℕ → A) (g : ℕ → B) (start count : ℕ) → ((i : ℕ) → i < start + count → R (f i) (g i))
     → AllZip R (map f (range_with_len start count)) (map g (range_with_len start count))
@@ -75,8 +74,7 @@ units_in_slots setup tuning bis calls event on least =
     (is.0, is.1 ∙ slot_time_is setup tuning bis event slot on least))
 
 not_in_slots : (setup : Setup) (bis : ℕ) (over : Bool) (closed : Closed) → is_in closed.which bis ≡ false → slots_closed setup bis (cond over (closed ∷ []) []) ≡ []
-not_in_slots setup bis false closed out = refl
-not_in_slots setup bis true closed out = rw out refl
+not_in_slots setup bis over closed out = grind arith
 
 one_slots : (setup : Setup) (bis : ℕ) (closed : Closed) → is_in closed.which bis ≡ true
     → slots_closed setup bis (closed ∷ []) ≡ map (λ slot. record { event = closed.event; slot = slot }) (range_with_len 0 (per_event_of setup.info))
@@ -86,12 +84,7 @@ taken_zip : (setup : Setup) (tuning : BigSync) (bis : ℕ) (calls : List stays.C
     → AllZip (IsOfSlot setup bis) (slots_closed setup bis (cond over (record { event = tuning.first + count; which = tuning.which } ∷ []) []))
     (cond over (units_of (stay_on tuning bis) calls (tuning.first + count)) [])
 taken_zip setup tuning bis calls count on taken false = tt
-taken_zip setup tuning bis calls count on taken true =
-    subst (λ places. AllZip (IsOfSlot setup bis) places (units_of (stay_on tuning bis) calls (tuning.first + count)))
-    (sym (one_slots setup bis (record { event = tuning.first + count; which = tuning.which }) taken))
-    (subst (λ (i : BigInfo). AllZip (IsOfSlot setup bis) (map (λ slot. record { event = tuning.first + count; slot = slot }) (range_with_len 0 (per_event_of setup.info)))
-    (map (unit_at (stay_on tuning bis) calls (tuning.first + count)) (range_with_len 0 (per_event_of i)))) (sym on.info)
-    (units_in_slots setup tuning bis calls (tuning.first + count) on (omega arith)))
+taken_zip setup tuning bis calls count on taken true = grind (arith, one_slots setup bis (record { event = tuning.first + count; which = tuning.which }) taken, on.info, units_in_slots setup tuning bis calls (tuning.first + count) on (omega arith))
 
 event_zip : Below → (setup : Setup) (bis event : ℕ) (calls : List Call) (p : Option BigSync) → place calls ≡ p → ((tuning : BigSync) → p ≡ Some tuning → TunedTo setup tuning)
     → setup.info.framing ≡ 0 → 1 ≤ bis → bis ≤ 31 → AllZip (IsOfSlot setup bis) (slots_closed setup bis (closed_in p calls event)) (of_stream bis (handed_at calls event))
@@ -108,8 +101,7 @@ event_zip below setup bis event calls (Some tuning) is on plain least within = e
       let none : of_stream bis (handed_at calls event) ≡ [] =
       tick_others below event calls tuning bis is (λ at. true_not_false (is_in tuning.which bis) (member_is tuning.which bis at).0 free) in
       subst (λ shown. AllZip (IsOfSlot setup bis) (slots_closed setup bis (closed_in (Some tuning) calls event)) shown) (sym none)
-      (subst (λ places. AllZip (IsOfSlot setup bis) places [])
-      (sym (not_in_slots setup bis (leb (tuning.first + closes tuning calls) event) (record { event = tuning.first + closes tuning calls; which = tuning.which }) free)) tt)
+      (grind (arith, not_in_slots, leb))
 ]
 
 -- ---- step by step
@@ -125,19 +117,15 @@ with_zip below setup bis calls last_open false on plain least within = tt
 
 zip_if : (setup : Setup) (bis : ℕ) (its : Bool) (closed : List Closed) (units : List Handed) → AllZip (IsOfSlot setup bis) (slots_closed setup bis closed) (of_stream bis units)
     → AllZip (IsOfSlot setup bis) (slots_closed setup bis (cond its closed [])) (of_stream bis (cond its units []))
-zip_if setup bis true closed units all = all
-zip_if setup bis false closed units all = tt
+zip_if setup bis its closed units all = grind arith
 
 pub step_zip : Below → (airs : Airs) (s n bis : ℕ) (setup : Setup) (step : Step) (earlier : List Step)
     → (is_of s (source_of n earlier) ≡ true → (tuning : BigSync) → place (sink_calls airs n earlier) ≡ Some tuning → TunedTo setup tuning) → setup.info.framing ≡ 0 → 1 ≤ bis → bis ≤ 31
     → AllZip (IsOfSlot setup bis) (slots_closed setup bis (closed_by airs s n earlier step)) (of_stream bis (shown_by airs s n earlier step))
 step_zip below airs s n bis setup step earlier on plain least within = grind (arith, zip_if, with_zip)
 
-stream_on : (bis : ℕ) (xs ys : List Handed) → of_stream bis (xs ++ ys) ≡ of_stream bis xs ++ of_stream bis ys
-stream_on bis xs ys = filter-append (λ entry. eqb (bis_of entry) bis) xs ys
-
 pub shown_on : (s n bis : ℕ) (xs ys : List SinkUnit) → of_stream bis (of_sink s n (xs ++ ys)) ≡ of_stream bis (of_sink s n xs) ++ of_stream bis (of_sink s n ys)
-shown_on s n bis xs ys = ap (of_stream bis) (of_sink_on s n xs ys) ∙ stream_on bis (of_sink s n xs) (of_sink s n ys)
+shown_on s n bis xs ys = grind (arith, of_stream, of_sink_on, filter-append, eqb, bis_of, of_sink)
 
 again_zip : (s n bis : ℕ) (setup : Setup) (again : Bool) (closed more : List Closed) (units others : List SinkUnit)
     → (again ≡ false → AllZip (IsOfSlot setup bis) (slots_closed setup bis closed) (of_stream bis (of_sink s n units)))

@@ -1,6 +1,6 @@
 -- The steps of one source of a scenario of which no line was refused: its group stands before its start, it takes calls only
 -- behind it, and what fixes it stays.
-use Rattle.scenario_laws.proofs.Prelude.{ℕ, ◌≡◌, ◌⊎◌, ◌≤◌, ◌||◌, ◌&&◌, ◌==◌, not, cond, Bool, true, false, List, [], ◌∷◌, Option, None, refl, sym, ◌∙◌, ap, subst, arith, inl, inr, unwrap_or, cases_Bool, eqb-true, false≢true, or_parts, not-false, none-some, Group, Bounds, NoFault, FitsWidths, without_cipher, IsChecked, Step, IsInRange, GroupRanges, BaseTooLong, stage_same, chosen_of, is_common, is_of_source, is_source_line, is_unbegun_at, stage_of, steps_of_source, version_of, Phase, checked_info, cipher_of, group_of, info_with, is_absent_at, is_ciphered, Airs, is_described_at, is_sending, is_sending_at, is_started, no_group, takes_units, phase_of, setup_of, source_calls, start_of, was_started_at, AreAccepted, is_base_too_long, counter_ends, group_refusal, is_misplaced, is_out_of_phase, source_refusal, refuse_if, horizon_in}
+use Rattle.scenario_laws.proofs.Prelude.{ℕ, ◌≡◌, ◌⊎◌, ◌≤◌, ◌||◌, ◌&&◌, ◌==◌, not, cond, Bool, true, false, List, [], ◌∷◌, Option, None, refl, sym, ◌∙◌, ap, subst, arith, inl, inr, unwrap_or, cases_Bool, eqb-true, false≢true, or_parts, not-false, none-some, Group, Bounds, NoFault, FitsWidths, without_cipher, IsChecked, Step, IsInRange, GroupRanges, BaseTooLong, stage_same, chosen_of, is_common, is_of_source, is_source_line, is_unbegun_at, stage_of, steps_of_source, version_of, Phase, checked_info, cipher_of, group_of, info_with, is_absent_at, is_ciphered, Airs, is_described_at, is_sending, is_started, no_group, takes_units, phase_of, setup_of, source_calls, start_of, was_started_at, AreAccepted, is_base_too_long, counter_ends, group_refusal, is_misplaced, is_out_of_phase, source_refusal, refuse_if, horizon_in}
 use Rattle.big_info.specs.Rows.{first_fault}
 use Rattle.big_info.proofs.Citable.{bounds_of, no_fault_within}
 use Rattle.source_machine.specs.declared.fault.EventFault.{EventFault}
@@ -16,27 +16,17 @@ true_not_false b holds fails = false≢true (sym fails ∙ holds)
 
 -- ---- the phases
 
-absent_then : (p : Phase) → not (is_absent_at p) ≡ false → was_started_at p ≡ false
-absent_then p is = grind (arith, false≢true)
-
 described_then : (p : Phase) → not (is_described_at p) ≡ false → was_started_at p ≡ false
 described_then p is = grind (arith, false≢true)
 
-sending_then : (p : Phase) → not (is_sending_at p) ≡ false → was_started_at p ≡ true
-sending_then p is = grind (arith, false≢true)
-
 pub sends : (own : List Step) → not (is_sending own) ≡ false → is_started own ≡ true
-sends own is = sending_then (phase_of own) is
-
-pub not_started : (own : List Step) → not (is_described_at (phase_of own)) ≡ false → is_started own ≡ false
-not_started own is = described_then (phase_of own) is
+sends own is = grind (arith, false≢true, phase_of)
 
 pub no_group_yet : (own : List Step) → not (is_absent_at (phase_of own)) ≡ false → is_started own ≡ false
-no_group_yet own is = absent_then (phase_of own) is
+no_group_yet own is = grind (arith, false≢true, phase_of)
 
 left_fails : (a b : Bool) → not (a && b) ≡ false → not a ≡ false
-left_fails true b is = refl
-left_fails false b is = is
+left_fails a b is = grind arith
 
 pub takes : (own : List Step) → not (takes_units own) ≡ false → is_started own ≡ true
 takes own is = sends own (left_fails (is_sending own) (not (is_ciphered own)) is)
@@ -46,7 +36,7 @@ hears own is = not-false (is_started own) (left_fails (is_started own) (not (is_
 
 -- a step that stands before `start`, and not where something else holds
 pub not_yet : (own : List Step) (other : Bool) → (not (is_described_at (phase_of own)) || other) ≡ false → is_started own ≡ false
-not_yet own other is = not_started own (or_parts (not (is_described_at (phase_of own))) other is).0
+not_yet own other is = grind (arith, described_then, phase_of, or_parts, not, is_described_at)
 
 -- ---- the steps of a source
 
@@ -74,14 +64,11 @@ its_step airs boxes s earlier step permits ranged is =
     let placed : (t : ℕ) → is_misplaced (stage_of (steps_of_source t earlier)) step ≡ false = λ t. ap (λ stage. is_misplaced stage step) (stage_same t earlier) ∙ permits.in_place in
     elim (of_source_parts (is_common step) (is_source_line step) (chosen_of earlier == s) is) [
       | inl common ↦ common_allowed airs (steps_of_source s earlier) step common (placed s) ranged
-      | inr chosen ↦
-          subst (λ t. Allowed airs (steps_of_source t earlier) step) (eqb-true (chosen_of earlier) s chosen)
-          (record { version = version_of earlier; in_place = placed (chosen_of earlier); in_phase = permits.in_phase; by_source = permits.by_source; ranged = ranged })
+      | inr chosen ↦ grind (arith, steps_of_source, eqb-true, chosen_of, version_of)
     ]
 
 lawful_if : (airs : Airs) (own : List Step) (step : Step) (is_its : Bool) → Lawful airs own → (is_its ≡ true → Allowed airs own step) → Lawful airs (cond is_its (step ∷ own) own)
-lawful_if airs own this true before allows = (before, allows refl)
-lawful_if airs own this false before allows = before
+lawful_if airs own this is_its before allows = grind arith
 
 pub lawful : (airs : Airs) (boxes s : ℕ) (made : List Step) → Legal airs boxes made → Lawful airs (steps_of_source s made)
 lawful airs boxes s [] legal = tt
@@ -90,8 +77,7 @@ lawful airs boxes s (step ∷ earlier) legal =
     (its_step airs boxes s earlier step (permitted airs boxes earlier step legal.1) legal.2)
 
 pub horizon_greatest : (second : Bool) → cond second 31 15 ≤ 31
-horizon_greatest true = omega arith
-horizon_greatest false = omega arith
+horizon_greatest second = grind arith
 
 -- ---- what holds of a source in its phase
 
@@ -112,20 +98,10 @@ no_widths : FitsWidths no_group.info
 no_widths = search arith
 
 begins : (own : List Step) → (is_started own ≡ true → is_unbegun_at (stage_of own) ≡ false) → not (is_unbegun_at (stage_of own)) ≡ false → is_started own ≡ false
-begins own before is = elim (cases_Bool (is_started own)) [
-  | inl started ↦ absurd (true_not_false (is_unbegun_at (stage_of own)) (not-false (is_unbegun_at (stage_of own)) is) (before started))
-  | inr idle ↦ idle
-]
+begins own before is = grind (arith, cases_Bool, is_started, true_not_false, is_unbegun_at, stage_of, not-false)
 
 settled_after : (airs : Airs) (own : List Step) (step : Step) → Settled own → Allowed airs own step → Settled (step ∷ own)
-settled_after airs own (steps.Group framing origin delay iso sdu max_sdu max_pdu num_bis bn nse irc pto sub spacing phy) before allows = record {
-  widths = widths_in framing origin delay iso sdu max_sdu max_pdu num_bis bn nse irc pto sub spacing phy allows.ranged;
-  uncoded = refl;
-  no_fault = λ started. absurd (false≢true started);
-  quiet = λ idle. before.quiet (no_group_yet own allows.in_phase);
-  under_way = λ started. absurd (false≢true started);
-  unbegun = λ idle. before.unbegun (no_group_yet own allows.in_phase);
-}
+settled_after airs own (steps.Group framing origin delay iso sdu max_sdu max_pdu num_bis bn nse irc pto sub spacing phy) before allows = grind (arith, widths_in, false≢true, no_group_yet)
 settled_after airs own (steps.Start first) before allows = record {
   widths = before.widths;
   uncoded = before.uncoded;
@@ -137,49 +113,14 @@ settled_after airs own (steps.Start first) before allows = record {
   under_way = λ started. allows.in_place;
   unbegun = λ idle. absurd (false≢true (sym idle));
 }
-settled_after airs own steps.Stop before allows = record {
-  widths = before.widths;
-  uncoded = before.uncoded;
-  no_fault = λ started. before.no_fault (sends own allows.in_phase);
-  quiet = λ idle. absurd (false≢true (sym idle));
-  under_way = λ started. allows.in_place;
-  unbegun = λ idle. absurd (false≢true (sym idle));
-}
-settled_after airs own (steps.Terminate reason) before allows = record {
-  widths = before.widths;
-  uncoded = before.uncoded;
-  no_fault = λ started. before.no_fault (sends own allows.in_phase);
-  quiet = λ idle. absurd (false≢true (sym idle));
-  under_way = λ started. allows.in_place;
-  unbegun = λ idle. absurd (false≢true (sym idle));
-}
-settled_after airs own (steps.Unit bis time octets) before allows = record {
-  widths = before.widths;
-  uncoded = before.uncoded;
-  no_fault = before.no_fault;
-  quiet = λ idle. absurd (true_not_false (is_started own) (takes own allows.in_phase) idle);
-  under_way = λ started. allows.in_place;
-  unbegun = before.unbegun;
-}
-settled_after airs own steps.Event before allows = record {
-  widths = before.widths;
-  uncoded = before.uncoded;
-  no_fault = before.no_fault;
-  quiet = λ idle. absurd (true_not_false (is_started own) (takes own allows.in_phase) idle);
-  under_way = λ started. allows.in_place;
-  unbegun = before.unbegun;
-}
+settled_after airs own steps.Stop before allows = grind (arith, sends, false≢true)
+settled_after airs own (steps.Terminate reason) before allows = grind (arith, sends, false≢true)
+settled_after airs own (steps.Unit bis time octets) before allows = grind (arith, true_not_false, is_started, takes)
+settled_after airs own steps.Event before allows = grind (arith, true_not_false, is_started, takes)
 settled_after airs own _ before allows = assumption
 
 pub settled : (airs : Airs) (own : List Step) → Lawful airs own → Settled own
-settled airs [] legal = record {
-  widths = no_widths;
-  uncoded = refl;
-  no_fault = λ started. absurd (false≢true started);
-  quiet = λ idle. refl;
-  unbegun = λ idle. refl;
-  under_way = λ started. absurd (false≢true started);
-}
+settled airs [] legal = grind (arith, no_widths, false≢true)
 settled airs (step ∷ own) legal = settled_after airs own step (settled airs own legal.0) legal.1
 
 -- a start stays, and with it what fixes the source

@@ -12,20 +12,7 @@ none_found test [] none = tt
 none_found test (fault ∷ all) none = let here = not_found (test fault) fault (find test all) none in (here.0, none_found test all here.1)
 
 each_of : (test : GroupFault → Bool) → AllByRecursion (λ fault. test fault ≡ false) faults → (fault : GroupFault) → test fault ≡ false
-each_of test all of_group.RangeIso = all.0
-each_of test all of_group.RangeSdu = all.1.0
-each_of test all of_group.RangePdu = all.1.1.0
-each_of test all of_group.Bn = all.1.1.1.0
-each_of test all of_group.NseNotMultiple = all.1.1.1.1.0
-each_of test all of_group.Irc = all.1.1.1.1.1.0
-each_of test all of_group.PhyNotSupported = all.1.1.1.1.1.1.0
-each_of test all of_group.FramedPduSmall = all.1.1.1.1.1.1.1.0
-each_of test all of_group.UnframedMultiple = all.1.1.1.1.1.1.1.1.0
-each_of test all of_group.UnframedBn = all.1.1.1.1.1.1.1.1.1.0
-each_of test all of_group.Horizon = all.1.1.1.1.1.1.1.1.1.1.0
-each_of test all of_group.SubInterval = all.1.1.1.1.1.1.1.1.1.1.1.0
-each_of test all of_group.SyncDelay = all.1.1.1.1.1.1.1.1.1.1.1.1.0
-each_of test all of_group.Encrypted = all.1.1.1.1.1.1.1.1.1.1.1.1.1.0
+each_of test all fault = grind arith
 
 no_fault_in : (greatest : ℕ) (info : BigInfo) → first_fault greatest info ≡ None → NoFault greatest info
 unfolding first_fault
@@ -58,20 +45,7 @@ it_holds : (holds : Bool) (last : GroupFault) → cond holds (Some last) None �
 it_holds holds last is = grind (arith, none-some)
 
 before_last : (test : GroupFault → Bool) → AllByRecursion (λ fault. test fault ≡ false) but_last → (other : GroupFault) → number_of other < number_of of_group.Encrypted → test other ≡ false
-before_last test all of_group.RangeIso below = all.0
-before_last test all of_group.RangeSdu below = all.1.0
-before_last test all of_group.RangePdu below = all.1.1.0
-before_last test all of_group.Bn below = all.1.1.1.0
-before_last test all of_group.NseNotMultiple below = all.1.1.1.1.0
-before_last test all of_group.Irc below = all.1.1.1.1.1.0
-before_last test all of_group.PhyNotSupported below = all.1.1.1.1.1.1.0
-before_last test all of_group.FramedPduSmall below = all.1.1.1.1.1.1.1.0
-before_last test all of_group.UnframedMultiple below = all.1.1.1.1.1.1.1.1.0
-before_last test all of_group.UnframedBn below = all.1.1.1.1.1.1.1.1.1.0
-before_last test all of_group.Horizon below = all.1.1.1.1.1.1.1.1.1.1.0
-before_last test all of_group.SubInterval below = all.1.1.1.1.1.1.1.1.1.1.1.0
-before_last test all of_group.SyncDelay below = all.1.1.1.1.1.1.1.1.1.1.1.1.0
-before_last test all of_group.Encrypted below = absurd (omega (arith, below))
+before_last test all other below = grind arith
 
 first_encrypted : (greatest : ℕ) (info : BigInfo) → first_fault greatest info ≡ Some of_group.Encrypted → IsFirstFault greatest info of_group.Encrypted
 unfolding first_fault
@@ -79,40 +53,7 @@ first_encrypted greatest info is =
     let test : GroupFault → Bool = has_fault greatest info in
     let found = found_last test but_last of_group.Encrypted is (
       differs of_group.RangeIso (omega arith),
-      (
-        differs of_group.RangeSdu (omega arith),
-        (
-          differs of_group.RangePdu (omega arith),
-          (
-            differs of_group.Bn (omega arith),
-            (
-              differs of_group.NseNotMultiple (omega arith),
-              (
-                differs of_group.Irc (omega arith),
-                (
-                  differs of_group.PhyNotSupported (omega arith),
-                  (
-                    differs of_group.FramedPduSmall (omega arith),
-                    (
-                      differs of_group.UnframedMultiple (omega arith),
-                      (
-                        differs of_group.UnframedBn (omega arith),
-                        (
-                          differs of_group.Horizon (omega arith),
-                          (
-                            differs of_group.SubInterval (omega arith),
-                            (differs of_group.SyncDelay (omega arith), tt),
-                          ),
-                        ),
-                      ),
-                    ),
-                  ),
-                ),
-              ),
-            ),
-          ),
-        ),
-      ),
+      grind (arith, differs),
     ) in
     record { holds = it_holds (test of_group.Encrypted) of_group.Encrypted found.1; none_before = before_last test found.0 }
 

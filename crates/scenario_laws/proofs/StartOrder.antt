@@ -29,8 +29,7 @@ made_alike : (n : ℕ) (before before' : List Step) (step : Step) → is_made n 
 made_alike n before before' step = cc
 
 any_alike : (n : ℕ) (before before' later : List Step) → list_any (is_made n before) later ≡ list_any (is_made n before') later
-any_alike n before before' [] = refl
-any_alike n before before' (step ∷ later) = cc (made_alike n before before' step, any_alike n before before' later)
+any_alike n before before' later = search made_alike
 
 neither : (a b : Bool) → a ≡ false → b ≡ false → (a || (b || false)) ≡ false
 neither a b first second = grind (arith, true_not_false)
@@ -39,8 +38,7 @@ went_on : (n : ℕ) (all : List Step) (step : Step) (earlier : List Step) → is
 went_on n all step earlier still goes = record {
   later = goes.later ++ step ∷ [];
   split = goes.split ∙ sym (append_assoc goes.later (step ∷ []) earlier);
-  same_sink = list_any-append (is_made n earlier) goes.later (step ∷ [])
-      ∙ neither (list_any (is_made n earlier) goes.later) (is_made n earlier step) (any_alike n earlier (step ∷ earlier) goes.later ∙ goes.same_sink) still;
+  same_sink = grind (arith, list_any-append, is_made, neither, list_any, any_alike);
 }
 
 -- ---- the starts of one stay, by all steps
@@ -98,26 +96,23 @@ one_start airs all s n bis made tuning at entry stay below starts =
 all_behind : (airs : Airs) (all : List Step) (s n bis : ℕ) (made : List Step) (tuning : BigSync) (at : SegmentPlace) (places : List SegmentPlace) (entries : List Handed)
     → IsStay airs all s n bis made tuning → Behind at places (closed_end (stay_on tuning bis) (calls_on airs made n tuning bis))
     → AllZip (AtStart (stay_on tuning bis) (calls_on airs made n tuning bis)) places entries → AllZip (IsOfStart airs all s n bis) places entries
-all_behind airs all s n bis made tuning at [] [] stay behind each = tt
-all_behind airs all s n bis made tuning at [] (entry ∷ entries) stay behind each = absurd each
-all_behind airs all s n bis made tuning at (next ∷ places) [] stay behind each = absurd each
 all_behind airs all s n bis made tuning at (next ∷ places) (entry ∷ entries) stay behind each = (
   one_start airs all s n bis made tuning next entry stay
       (behind_below next places (closed_end (stay_on tuning bis) (calls_on airs made n tuning bis)) behind.1) each.0,
   all_behind airs all s n bis made tuning next places entries stay behind.1 each.1,
 )
+all_behind airs all s n bis made tuning at places entries stay behind each = search (one_start, behind_below, closed_end, stay_on, calls_on)
 
 all_starts : (airs : Airs) (all : List Step) (s n bis : ℕ) (made : List Step) (tuning : BigSync) (low : ℕ) (places : List SegmentPlace) (entries : List Handed)
     → IsStay airs all s n bis made tuning → RiseTo low places (closed_end (stay_on tuning bis) (calls_on airs made n tuning bis))
     → AllZip (AtStart (stay_on tuning bis) (calls_on airs made n tuning bis)) places entries → AllZip (IsOfStart airs all s n bis) places entries
-all_starts airs all s n bis made tuning low [] [] stay rise each = tt
-all_starts airs all s n bis made tuning low [] (entry ∷ entries) stay rise each = absurd each
-all_starts airs all s n bis made tuning low (at ∷ places) [] stay rise each = absurd each
 all_starts airs all s n bis made tuning low (at ∷ places) (entry ∷ entries) stay rise each = (
   one_start airs all s n bis made tuning at entry stay
       (behind_below at places (closed_end (stay_on tuning bis) (calls_on airs made n tuning bis)) rise.1) each.0,
   all_behind airs all s n bis made tuning at places entries stay rise.1 each.1,
 )
+all_starts airs all s n bis made tuning low places entries stay rise each =
+    search (one_start, behind_below, closed_end, stay_on, calls_on, all_behind)
 
 -- ---- over all stays
 
@@ -167,9 +162,7 @@ over below airs boxes s n bis all source_within sink_within least greatest is_fr
           let stay : IsStay airs all s n bis made tuning = record { goes = fine.goes; is = is; taken = member; to = to; opens = omega (arith, opens, most) } in
           let end : opened (stay_on tuning bis) calls * tuning.info.bn ≤ next_in own * bn =
           subst (λ (b : ℕ). opened (stay_on tuning bis) calls * tuning.info.bn ≤ next_in own * b) bn_is (mul-le-mul opens (omega arith)) in
-          let rises : RiseTo (tuning.first * bn) told.places (next_in own * bn) =
-          subst (λ (b : ℕ). RiseTo (tuning.first * b) told.places (next_in own * bn)) bn_is
-          (rise_more (tuning.first * tuning.info.bn) told.places (closed_end (stay_on tuning bis) calls) (next_in own * bn) end told.rise) in
+          let rises : RiseTo (tuning.first * bn) told.places (next_in own * bn) = grind (arith, rise_more (tuning.first * tuning.info.bn) told.places (closed_end (stay_on tuning bis) calls) (next_in own * bn) end told.rise) in
           subst (λ us. Claim airs all s n bis (next_in own) (past ++ closed_from (is_tuned n) airs s n made) (entries ++ us)) (sym decided_is)
           (record {
             places = claim.places ++ told.places;

@@ -31,8 +31,7 @@ pub rise_more : (low : ℕ) (places : List SegmentPlace) (high more : ℕ) → h
 rise_more low places high more most rise = grind (arith, behind_more)
 
 rise_from : (low from : ℕ) (places : List SegmentPlace) (high : ℕ) → low ≤ from → RiseTo from places high → RiseTo low places high
-rise_from low from [] high least rise = omega (arith, least, rise)
-rise_from low from (at ∷ places) high least rise = (omega (arith, least, rise.0), rise.1)
+rise_from low from places high least rise = grind arith
 
 behind_on : (at : SegmentPlace) (xs : List SegmentPlace) (middle : ℕ) (ys : List SegmentPlace) (high : ℕ) → Behind at xs middle → RiseTo middle ys high → Behind at (xs ++ ys) high
 behind_on at [] middle [] high first rest = omega (arith, first, rest)
@@ -75,9 +74,6 @@ within_behind : (number : ℕ) (at : SegmentPlace) (places : List SegmentPlace) 
 within_behind number at [] here within = omega (arith, here)
 within_behind number at (next ∷ places) here within = (inr (omega (arith, here, within.0), omega (arith, within.1)), within_behind number next places within.0 within.2)
 
-within_rises : (number segment : ℕ) (places : List SegmentPlace) → Within number segment places → RiseTo number places (number + 1)
-within_rises number segment places within = grind (arith, within_behind)
-
 -- entries with their places in a PDU
 record InPdu (stay : Stay) (calls : List stays.Call) (number segment : ℕ) (entries : List Handed) : Type 0 where
   places : List SegmentPlace
@@ -85,8 +81,7 @@ record InPdu (stay : Stay) (calls : List stays.Call) (number segment : ℕ) (ent
   each : AllZip (AtStart stay calls) places entries
 
 none_in : (stay : Stay) (calls : List stays.Call) (number segment : ℕ) (entries : List Handed) → InPdu stay calls number (segment + 1) entries → InPdu stay calls number segment entries
-none_in stay calls number segment entries rest =
-    record { places = rest.places; order = within_from number segment (segment + 1) rest.places (omega arith) rest.order; each = rest.each }
+none_in stay calls number segment entries rest = grind (arith, within_from)
 
 one_in : (stay : Stay) (calls : List stays.Call) (number segment : ℕ) (entry : Handed) (entries : List Handed) → AtStart stay calls (record { number = number; segment = segment }) entry
     → InPdu stay calls number (segment + 1) entries → InPdu stay calls number segment (entry ∷ entries)
@@ -164,7 +159,7 @@ told_on stay calls low middle high xs ys first rest = record {
 }
 
 pdu_told : (stay : Stay) (calls : List stays.Call) (number : ℕ) (entries : List Handed) → InPdu stay calls number 0 entries → Told stay calls number (number + 1) entries
-pdu_told stay calls number entries pdu = record { places = pdu.places; rise = within_rises number 0 pdu.places pdu.order; each = pdu.each }
+pdu_told stay calls number entries pdu = grind (arith, within_behind)
 
 -- what so many PDUs of an event give in front of other tokens
 abbrev NumbersGive : Stay → List stays.Call → ℕ → ℕ → ℕ → ℕ → List Token → Type 0
@@ -183,22 +178,17 @@ numbers_give stay calls max_sdu event number (suc count) of_event rest =
     let first = number_gives stay calls max_sdu event number (heard_in stay calls number) refl (of_event number (omega arith) (omega arith)) (others ++ rest) in
     let end : number + 1 + count ≡ number + suc count = omega arith in (
       first.0 ++ later.0,
-      ap (units max_sdu stay.bis) (append_assoc tokens others rest)
-          ∙ first.1 ∙ ap (λ us. first.0 ++ us) later.1 ∙ sym (append_assoc first.0 later.0 (units max_sdu stay.bis rest)),
+      grind (arith, units, append_assoc),
       told_on stay calls number (number + 1) (number + suc count) first.0 later.0 (pdu_told stay calls number first.0 first.2)
           (subst (λ high. Told stay calls (number + 1) high later.0) end later.2),
     )
 
 event_of : (bn event number : ℕ) → event * bn ≤ number → number < event * bn + bn → event ≡ number / bn
-event_of bn event number least below =
-    let split : number ≡ event * bn + (number - event * bn) = omega (arith, least) in
-    sym (ap (λ n. n / bn) split ∙ div-mul-add event bn (number - event * bn) (omega (arith, least, below)))
+event_of bn event number least below = grind (arith, div-mul-add)
 
 events_told : (stay : Stay) (calls : List stays.Call) (max_sdu first count : ℕ)
     → Told stay calls (first * stay.info.bn) ((first + count) * stay.info.bn) (units max_sdu stay.bis (flat_map (event_tokens stay calls) (range_with_len first count)))
-events_told stay calls max_sdu first zero =
-    let end : first * stay.info.bn ≡ (first + 0) * stay.info.bn = ap (λ e. e * stay.info.bn) (omega arith) in
-    none_told stay calls (first * stay.info.bn) ((first + 0) * stay.info.bn) (omega (arith, end))
+events_told stay calls max_sdu first zero = grind (arith, none_told)
 events_told stay calls max_sdu first (suc count) =
     let bn : ℕ = stay.info.bn in
     let others : List Token = flat_map (event_tokens stay calls) (range_with_len (first + 1) count) in
@@ -212,7 +202,4 @@ events_told stay calls max_sdu first (suc count) =
 
 -- what a stay decides is of starts that it heard, in PDUs of its closed events
 pub decided_told : (stay : Stay) (calls : List stays.Call) → Told stay calls (stay.first * stay.info.bn) (closed_end stay calls) (decided stay calls)
-decided_told stay calls =
-    let end : stay.first + (opened stay calls - stay.first) ≡ opened stay calls = omega (arith, opened_least stay calls) in
-    subst (λ e. Told stay calls (stay.first * stay.info.bn) (e * stay.info.bn) (decided stay calls)) end
-    (events_told stay calls stay.info.max_sdu stay.first (opened stay calls - stay.first))
+decided_told stay calls = grind (arith, opened, opened_least, decided, events_told)

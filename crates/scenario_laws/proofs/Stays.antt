@@ -1,5 +1,5 @@
 -- The stays of a sink: it is on the group of the source that it is of, by what fixes the source.
-use Rattle.scenario_laws.proofs.Prelude.{ℕ, ◌≡◌, ◌⊎◌, ◌≤◌, ◌||◌, cond, Bool, true, false, List, [], ◌∷◌, Option, Some, refl, sym, ◌∙◌, ap, subst, arith, inl, inr, false≢true, or_parts, none-some, same_Some, iso_us_of, anchor_of, Setup, next_of, Call, tune, BigSync, Step, NoSuchBis, chosen_of, chosen_steps, steps_of_source, is_started, setup_of, source_calls, Airs, sink_calls, source_of, big_sync_on, any_since, given_since_made, injected_since, is_given, is_injected, is_made, is_tuned, steps_before}
+use Rattle.scenario_laws.proofs.Prelude.{ℕ, ◌≡◌, ◌⊎◌, ◌≤◌, ◌||◌, cond, Bool, true, false, List, [], ◌∷◌, Option, Some, refl, sym, ◌∙◌, ap, subst, arith, inl, inr, false≢true, or_parts, none-some, same_Some, iso_us_of, anchor_of, Setup, next_of, Call, tune, BigSync, Step, chosen_of, chosen_steps, steps_of_source, is_started, setup_of, source_calls, Airs, sink_calls, source_of, big_sync_on, any_since, given_since_made, injected_since, is_given, is_injected, is_made, is_tuned, steps_before}
 use Rattle.group_sink.specs.Calls.{place}
 use Rattle.scenario_text.specs.declared.step.Step.TheVariants as steps
 use Rattle.scenario_history.specs.Refusals.{has_beyond}
@@ -30,8 +30,7 @@ both_not : (begins now rest : Bool) → now ≡ false → (begins ≡ false → 
 both_not begins now rest last before = grind (arith, false≢true)
 
 given_is_injected : (n : ℕ) (step : Step) → is_injected n step ≡ false → is_given n step ≡ false
-given_is_injected n (steps.Train sink time ext adv acad) clean = clean
-given_is_injected n _ clean = refl
+given_is_injected n _ clean = grind arith
 
 -- where nothing was injected, no train was given
 pub none_given : (begins : List Step → Step → Bool) (n : ℕ) (made : List Step) → injected_since begins n made ≡ false → any_since begins (is_given n) made ≡ false
@@ -82,13 +81,7 @@ there_before airs s n step earlier tuning ungiven is = elim (becomes airs n step
 
 pub on_before : (airs : Airs) (s n : ℕ) (step : Step) (earlier : List Step) (tuning : BigSync) → IsOn airs s n (step ∷ earlier) tuning
     → IsOn airs s n earlier tuning ⊎ BeginsBy airs s n step earlier tuning
-on_before airs s n step earlier tuning is =
-    elim (there_before airs s n step earlier tuning (last_not (is_tuned n earlier step) (is_given n step) (any_since (is_tuned n) (is_given n) earlier) is.ungiven)
-    (record { place_is = is.place_is; source_is = is.source_is })) [
-      | inl before ↦ inl (
-          assumption (rest_not (is_tuned n earlier step) (is_given n step) (any_since (is_tuned n) (is_given n) earlier) is.ungiven before.begins_not))
-      | inr begins ↦ inr begins
-    ]
+on_before airs s n step earlier tuning is = grind (arith, there_before, last_not, is_tuned, is_given, any_since, rest_not)
 
 pub begins_calls : (airs : Airs) (s n : ℕ) (step : Step) (earlier : List Step) (tuning : BigSync) → BeginsBy airs s n step earlier tuning
     → sink_calls airs n (step ∷ earlier) ≡ tune tuning ∷ sink_calls airs n earlier
@@ -110,8 +103,7 @@ not_in_stay is_one airs s n (step ∷ earlier) tuning is ungiven clean =
 -- a sink to which no train was given since it was made
 pub on_since_made : (airs : Airs) (s n : ℕ) (made : List Step) (tuning : BigSync) → place (sink_calls airs n made) ≡ Some tuning → source_of n made ≡ Some s → given_since_made n made ≡ false
     → IsOn airs s n made tuning
-on_since_made airs s n made tuning place_is source_is ungiven =
-    assumption (not_in_stay (is_given n) airs s n made tuning (record { place_is = place_is; source_is = source_is }) ungiven ungiven)
+on_since_made airs s n made tuning place_is source_is ungiven = grind (arith, not_in_stay, is_given)
 
 -- ---- the stay is on the source's group
 
@@ -126,9 +118,7 @@ tuned_to airs boxes s earlier tuning which started same within chosen = search a
 
 pub begins_to : Announcing → (airs : Airs) (boxes s n : ℕ) (step : Step) (earlier : List Step) (tuning : BigSync) → Legal airs boxes earlier → Permitted airs boxes earlier step
     → BeginsBy airs s n step earlier tuning → OnSource (steps_of_source s earlier) tuning
-begins_to laws airs boxes s n (steps.Tuned sink which) earlier tuning legal permits begins =
-    tuned_to airs boxes s earlier tuning which (takes (chosen_steps earlier) permits.in_phase) (begins.puts.by.0 ∙ begins.on_is)
-    (fails_not (has_beyond (setup_of (chosen_steps earlier)).info.num_bis which) NoSuchBis permits.by_source) begins.chosen_is
+begins_to laws airs boxes s n (steps.Tuned sink which) earlier tuning legal permits begins = grind (arith, tuned_to, takes, chosen_steps, fails_not, setup_of)
 begins_to laws airs boxes s n (steps.Announce sink) earlier tuning legal permits begins =
     let by_hand = as_by_hand laws airs boxes n sink earlier begins.puts.by.0.big_sync legal permits begins.puts.by.0.brings in
     tuned_to airs boxes s earlier tuning begins.puts.by.0.big_sync.which (sends (chosen_steps earlier) permits.in_phase)
@@ -139,8 +129,7 @@ begins_to laws airs boxes s n _ earlier tuning legal permits begins = absurd beg
 pub begins_next : Announcing → (airs : Airs) (boxes s n : ℕ) (step : Step) (earlier : List Step) (tuning : BigSync) → Legal airs boxes earlier → Permitted airs boxes earlier step
     → BeginsBy airs s n step earlier tuning → tuning.first ≡ next_in (steps_of_source s earlier)
 begins_next laws airs boxes s n step earlier tuning legal permits begins =
-    ap (λ (t : BigSync). t.first) (sym begins.on_is) ∙ puts_first laws airs boxes n step earlier legal permits begins.puts
-    ∙ ap (λ t. next_in (steps_of_source t earlier)) begins.chosen_is
+    grind (arith, begins.on_is, puts_first laws airs boxes n step earlier legal permits begins.puts, begins.chosen_is)
 
 still_to : (airs : Airs) (boxes s : ℕ) (step : Step) (earlier : List Step) (tuning : BigSync) → Legal airs boxes (step ∷ earlier) → OnSource (steps_of_source s earlier) tuning
     → OnSource (steps_of_source s (step ∷ earlier)) tuning

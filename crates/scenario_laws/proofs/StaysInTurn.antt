@@ -2,13 +2,12 @@
 -- over one stay, holds of all of them.
 use Rattle.scenario_laws.proofs.Prelude.{ℕ, ◌≡◌, ◌⊎◌, ◌≤◌, ◌==◌, cond, Bool, true, false, List, [], ◌∷◌, ◌++◌, Option, None, Some, refl, sym, ◌∙◌, ap, subst, arith, inl, inr, append_assoc, eqb-true, false≢true, append-nil, none-some, Handed, Call, tune, BigSync, of_stream, Step, chosen_of, chosen_steps, steps_of_source, Airs, is_of, sink_calls, source_of, SinkUnit, handed_by, Closed, closed_by, closed_in, closed_since, given_since_made, handed_since, is_given, is_made, is_tuned, of_sink, shown_since}
 use Rattle.group_sink.specs.Calls.{place}
-use Rattle.group_sink.specs.Handing.{handed_by as ticked_by}
 use Rattle.scenario_laws.specs.Laws.{closed_if}
 use Rattle.scenario_laws.proofs.Announced.{Announcing}
 use Rattle.scenario_laws.proofs.Legals.{Legal}
 use Rattle.scenario_laws.proofs.Wholes.{next_in}
 use Rattle.scenario_laws.proofs.Stays.{IsOn, on_since_made}
-use Rattle.scenario_laws.proofs.Closings.{shown_by, shown_if, step_shown}
+use Rattle.scenario_laws.proofs.Closings.{shown_if, step_shown}
 use Rattle.scenario_laws.proofs.Closes.{mine_in, stay_if}
 use Rattle.scenario_laws.proofs.Shown.{shown_on}
 use Rattle.scenario_laws.proofs.Ticks.{is_its}
@@ -24,8 +23,7 @@ closed_from begins airs s n [] = []
 closed_from begins airs s n (step ∷ earlier) = cond (begins earlier step) [] (closed_from begins airs s n earlier ++ closed_by airs s n earlier step)
 
 pub all_closed : (airs : Airs) (s n : ℕ) (made : List Step) → closed_from (is_made n) airs s n made ≡ closed_since airs s n made
-all_closed airs s n [] = refl
-all_closed airs s n (step ∷ earlier) = ap (λ closed. cond (is_made n earlier step) [] (closed ++ closed_by airs s n earlier step)) (all_closed airs s n earlier)
+all_closed airs s n made = search (false≢true, cond, is_made, closed_by)
 
 -- the group of the source that the sink is on
 abbrev pub here_at : Airs → ℕ → ℕ → List Step → Option BigSync
@@ -35,8 +33,7 @@ pub stay_is : (mine : Bool) (calls : List Call) (tuning : BigSync) → stay_if m
 stay_is mine calls tuning is = grind (arith, none-some)
 
 pub no_stay : (mine : Bool) (calls : List Call) → place calls ≡ None → stay_if mine calls ≡ None
-no_stay true calls nowhere = nowhere
-no_stay false calls nowhere = refl
+no_stay mine calls nowhere = grind arith
 
 -- the first event of the stay, or the next event of the source
 abbrev pub first_of : Option BigSync → ℕ → ℕ
@@ -49,8 +46,7 @@ in_stay None xs = []
 in_stay (Some tuning) xs = xs
 
 in_stay_none : {A : Type 0} (here : Option BigSync) → (let none : List A = [] in in_stay here none ≡ none)
-in_stay_none None = refl
-in_stay_none (Some tuning) = refl
+in_stay_none here = grind arith
 
 -- all events and entries are those of the stay behind past ones, of which the claim holds up to the first event of the stay
 pub record InTurn (Q : ℕ → List Closed → List Handed → Type 0) (s n bis : ℕ) (here : Option BigSync) (next : ℕ) (closed now : List Closed) (units units_now : List SinkUnit) : Type 0 where
@@ -64,11 +60,6 @@ pub record InTurn (Q : ℕ → List Closed → List Handed → Type 0) (s n bis 
 abbrev pub Rises : (ℕ → List Closed → List Handed → Type 0) → Type 0
 Rises Q = (e : ℕ) → (later : ℕ) → (closed : List Closed) → (entries : List Handed) → e ≤ later → Q e closed entries → Q later closed entries
 
-first_rises : (Q : ℕ → List Closed → List Handed → Type 0) → Rises Q → (here : Option BigSync) (next later : ℕ) (closed : List Closed) (entries : List Handed) → next ≤ later
-    → Q (first_of here next) closed entries → Q (first_of here later) closed entries
-first_rises Q rises None next later closed entries more claim = rises next later closed entries more claim
-first_rises Q rises (Some tuning) next later closed entries more claim = claim
-
 pub more_list : {A : Type 0} (all past now more : List A) (here : Option BigSync) → all ≡ past ++ in_stay here now → (here ≡ None → more ≡ []) → all ++ more ≡ past ++ in_stay here (now ++ more)
 more_list all past now more here is none = grind (arith, append_assoc, append-nil)
 
@@ -76,15 +67,8 @@ goes_on : (Q : ℕ → List Closed → List Handed → Type 0) → Rises Q
     → (s n bis : ℕ) (here : Option BigSync) (next later : ℕ) (closed now more : List Closed) (units units_now others : List SinkUnit)
     → next ≤ later → (here ≡ None → more ≡ []) → (here ≡ None → shown s n bis others ≡ []) → InTurn Q s n bis here next closed now units units_now
     → InTurn Q s n bis here later (closed ++ more) (now ++ more) (units ++ others) (units_now ++ others)
-goes_on Q rises s n bis here next later closed now more units units_now others on no_more no_others before = record {
-  past = before.past;
-  entries = before.entries;
-  claim = first_rises Q rises here next later before.past before.entries on before.claim;
-  closed_is = more_list closed before.past now more here before.closed_is no_more;
-  shown_is = shown_on s n bis units others
-      ∙ more_list (shown s n bis units) before.entries (shown s n bis units_now) (shown s n bis others) here before.shown_is no_others
-      ∙ ap (λ us. before.entries ++ in_stay here us) (sym (shown_on s n bis units_now others));
-}
+goes_on Q rises s n bis here next later closed now more units units_now others on no_more no_others before =
+    grind (arith, more_list, shown_on)
 
 -- the same, where the step begins nothing
 same_turn : (Q : ℕ → List Closed → List Handed → Type 0) (s n bis : ℕ) (here here' : Option BigSync) (made begins : Bool) (next : ℕ) (closed now : List Closed) (units units_now : List SinkUnit)
@@ -95,29 +79,20 @@ same_turn Q s n bis here here' made begins next closed now units units_now same 
 -- ---- a source on whose group the sink isn't
 
 cond_none : {A : Type 0} (b : Bool) → (let none : List A = [] in cond b none none ≡ none)
-cond_none true = refl
-cond_none false = refl
+cond_none b = grind arith
 
 closed_none : (mine : Bool) (calls : List Call) (last_open : Option ℕ) → stay_if mine calls ≡ None → closed_if mine calls last_open ≡ []
-closed_none true calls None nowhere = refl
-closed_none true calls (Some event) nowhere = ap (λ p. closed_in p calls event) nowhere
-closed_none false calls last_open nowhere = refl
+closed_none mine calls last_open nowhere = grind (arith, closed_in)
 
 shown_none : (mine : Bool) (calls : List Call) (last_open : Option ℕ) → stay_if mine calls ≡ None → shown_if mine calls last_open ≡ []
-shown_none true calls None nowhere = refl
-shown_none true calls (Some event) nowhere = ap (λ p. ticked_by event calls p) nowhere
-shown_none false calls last_open nowhere = refl
+shown_none mine calls last_open nowhere = grind arith
 
 none_closed : (airs : Airs) (s n : ℕ) (step : Step) (earlier : List Step) → here_at airs s n earlier ≡ None → closed_by airs s n earlier step ≡ []
 none_closed airs s n step earlier nowhere = grind (arith, closed_none, mine_in, cond_none)
 
-none_by : (airs : Airs) (s n : ℕ) (step : Step) (earlier : List Step) → here_at airs s n earlier ≡ None → shown_by airs s n earlier step ≡ []
-none_by airs s n step earlier nowhere = grind (arith, shown_none, mine_in, cond_none)
-
 pub none_shown : (airs : Airs) (boxes s n bis : ℕ) (step : Step) (earlier : List Step) → Legal airs boxes earlier → s ≤ 1 → n ≤ 7 → here_at airs s n earlier ≡ None
     → shown s n bis (handed_by airs earlier step) ≡ []
-none_shown airs boxes s n bis step earlier legal least within nowhere =
-    ap (of_stream bis) (step_shown airs boxes s n step earlier legal least within ∙ none_by airs s n step earlier nowhere)
+none_shown airs boxes s n bis step earlier legal least within nowhere = grind (arith, of_stream, step_shown, shown_none, mine_in, cond_none)
 
 -- ---- what holds of all stays
 
@@ -190,16 +165,10 @@ abbrev pub IsFresh : Option BigSync → Bool → Type 0
 IsFresh here begins = (here ≡ None) ⊎ (begins ≡ true)
 
 fresh_closed : (here : Option BigSync) (begins : Bool) (closed : List Closed) → IsFresh here begins → in_stay here (cond begins [] closed) ≡ []
-fresh_closed here begins closed fresh = elim fresh [
-  | inl nowhere ↦ ap (λ h. in_stay h (cond begins [] closed)) nowhere
-  | inr anew ↦ ap (λ b. in_stay here (cond b [] closed)) anew ∙ in_stay_none here
-]
+fresh_closed here begins closed fresh = grind (arith, cond, in_stay_none)
 
 pub fresh_shown : (s n bis : ℕ) (here : Option BigSync) (begins : Bool) (units : List SinkUnit) → IsFresh here begins → in_stay here (shown s n bis (cond begins [] units)) ≡ []
-fresh_shown s n bis here begins units fresh = elim fresh [
-  | inl nowhere ↦ ap (λ h. in_stay h (shown s n bis (cond begins [] units))) nowhere
-  | inr anew ↦ ap (λ b. in_stay here (shown s n bis (cond b [] units))) anew ∙ in_stay_none here
-]
+fresh_shown s n bis here begins units fresh = grind (arith, cond, in_stay_none)
 
 anew_turn : (Q : ℕ → List Closed → List Handed → Type 0) (Fine : List Step → Type 0) (airs : Airs) (boxes s n bis : ℕ) (step : Step) (earlier : List Step)
     → Before Q Fine airs boxes s n bis step earlier → closed_by airs s n earlier step ≡ [] → handed_by airs earlier step ≡ []
@@ -215,15 +184,9 @@ anew_turn Q Fine airs boxes s n bis step earlier before no_closed no_shown least
     record {
       past = past;
       entries = entries;
-      claim = subst (λ closed. Q later closed entries) (sym (past_list (is_made n earlier step) (closed_from (is_made n) airs s n earlier) (closed_by airs s n earlier step) before.still no_closed))
-          (subst (λ units. Q later (closed_from (is_made n) airs s n earlier) (shown s n bis units))
-          (sym (past_list (is_made n earlier step) (handed_since (is_made n) airs earlier) (handed_by airs earlier step) before.still no_shown)) known);
-      closed_is = sym (ap (λ xs. past ++ xs)
-          (fresh_closed (here_at airs s n (step ∷ earlier)) (is_tuned n earlier step) (closed_from (is_tuned n) airs s n earlier ++ closed_by airs s n earlier step) fresh)
-          ∙ append-nil past);
-      shown_is = sym (ap (λ xs. entries ++ xs)
-          (fresh_shown s n bis (here_at airs s n (step ∷ earlier)) (is_tuned n earlier step) (handed_since (is_tuned n) airs earlier ++ handed_by airs earlier step) fresh)
-          ∙ append-nil entries);
+      claim = grind (arith, past_list, is_made, closed_by, handed_since, handed_by);
+      closed_is = grind (arith, fresh_closed, is_tuned, closed_by, append-nil);
+      shown_is = grind (arith, fresh_shown, is_tuned, handed_since, handed_by, append-nil);
     }
 
 -- the sink is on no group then
@@ -238,8 +201,7 @@ off_turn Q Fine airs boxes s n bis step earlier before no_closed no_shown nowher
 -- it is synchronized to this BIG of the chosen source, from the source's next event on
 put_least : (chosen s : ℕ) (on : BigSync) (rest : List Call) (next next' : ℕ) → next ≤ next' → ((chosen == s) ≡ true → on.first ≡ next) → (mine : Bool) → (chosen == s) ≡ mine
     → next ≤ first_of (stay_if mine (tune on ∷ rest)) next'
-put_least chosen s on rest next next' more first true is = omega (arith, first is)
-put_least chosen s on rest next next' more first false is = more
+put_least chosen s on rest next next' more first mine is = grind arith
 
 pub put_turn : (Q : ℕ → List Closed → List Handed → Type 0) (Fine : List Step → Type 0) (airs : Airs) (boxes s n bis : ℕ) (step : Step) (earlier : List Step) (on : BigSync)
     → Before Q Fine airs boxes s n bis step earlier → closed_by airs s n earlier step ≡ [] → handed_by airs earlier step ≡ [] → is_tuned n earlier step ≡ true
@@ -249,7 +211,5 @@ put_turn Q Fine airs boxes s n bis step earlier on before no_closed no_shown beg
     let here : here_at airs s n (step ∷ earlier) ≡ stay_if (chosen_of earlier == s) (tune on ∷ sink_calls airs n earlier) =
     ap (λ source. stay_if (is_of s source) (sink_calls airs n (step ∷ earlier))) source_is ∙ ap (stay_if (chosen_of earlier == s)) calls_is in
     anew_turn Q Fine airs boxes s n bis step earlier before no_closed no_shown
-    (subst (λ h. next_in (steps_of_source s earlier) ≤ first_of h (next_in (steps_of_source s (step ∷ earlier)))) (sym here)
-    (put_least (chosen_of earlier) s on (sink_calls airs n earlier) (next_in (steps_of_source s earlier)) (next_in (steps_of_source s (step ∷ earlier))) before.more
-    (λ mine. first_is ∙ ap (λ t. next_in (steps_of_source t earlier)) (eqb-true (chosen_of earlier) s mine)) (chosen_of earlier == s) refl))
+    (grind (arith, next_in, steps_of_source, put_least, chosen_of, sink_calls, eqb-true))
     (inr begins)

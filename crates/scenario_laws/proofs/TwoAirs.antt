@@ -1,5 +1,5 @@
 -- Two airs that meet the relation of their framing: no source, no refusal, no sink and no close tells them apart.
-use Rattle.scenario_laws.proofs.Prelude.{ℕ, zero, suc, ◌≡◌, Bool, true, false, List, [], ◌∷◌, Option, None, refl, sym, ◌∙◌, ap, arith, unwrap_or, option_or, or_parts, Air, AreAirs, airs_of, pdu_of, Airs, Setup, IsChecked, Call, hear, Step, Refusal, chosen_of, chosen_steps, steps_of_source, event_back, is_started, open_event, pdu_in, setup_of, source_calls, MeetAirs, Position, hear_at, heard_on_air, is_lost, sink_calls, position_at, unless_lost, with_sink_call, closing_at, closing_both, handed_by, handed_up, refusal_of, refuse_if}
+use Rattle.scenario_laws.proofs.Prelude.{ℕ, zero, suc, ◌≡◌, Bool, true, false, List, [], ◌∷◌, Option, None, refl, sym, ◌∙◌, ap, arith, unwrap_or, option_or, or_parts, Air, AreAirs, airs_of, pdu_of, Airs, Setup, IsChecked, Call, Step, Refusal, chosen_of, chosen_steps, steps_of_source, event_back, is_started, open_event, pdu_in, setup_of, source_calls, MeetAirs, heard_on_air, sink_calls, position_at, with_sink_call, closing_at, closing_both, handed_by, handed_up, refusal_of, refuse_if}
 use Rattle.source_machine.specs.Calls.{Call as SourceCall}
 use Rattle.scenario_history.specs.Boxes.{closing}
 use Rattle.scenario_laws.proofs.Legals.{Legal, permitted}
@@ -41,14 +41,12 @@ pub record Twice (airs others : Airs) (boxes : ℕ) (made : List Step) : Type 0 
 
 pub chosen_same : (airs others : Airs) → Both airs others → (boxes : ℕ) (made : List Step) → Twice airs others boxes made → is_started (chosen_steps made) ≡ true
     → airs (setup_of (chosen_steps made)) (source_calls (chosen_steps made)) ≡ others (setup_of (chosen_steps made)) (source_calls (chosen_steps made))
-chosen_same airs others both boxes made twice started =
-    its_same airs others both (chosen_steps made) (lawful airs boxes (chosen_of made) made twice.here) (lawful others boxes (chosen_of made) made twice.there) started
+chosen_same airs others both boxes made twice started = grind (arith, its_same, chosen_steps, lawful, chosen_of)
 
 -- ---- what is refused
 
 pub in_order : (test : Bool) (reason : Refusal) (rest others : Option Refusal) → (test ≡ false → rest ≡ others) → option_or (refuse_if test reason) rest ≡ option_or (refuse_if test reason) others
-in_order true reason rest others same = refl
-in_order false reason rest others same = same refl
+in_order test reason rest others same = grind arith
 
 pub refusal_same : (airs others : Airs) → Both airs others → (boxes : ℕ) (earlier : List Step) (step : Step) → Twice airs others boxes earlier
     → refusal_of airs boxes earlier step ≡ refusal_of others boxes earlier step
@@ -65,13 +63,7 @@ legal_too airs others both boxes (step ∷ earlier) legal =
 air_same : (airs others : Airs) (own : List Step) (lose count : ℕ) (calls : List Call) → airs (setup_of own) (source_calls own) ≡ others (setup_of own) (source_calls own)
     → heard_on_air airs own lose count calls ≡ heard_on_air others own lose count calls
 air_same airs others own lose zero calls same = refl
-air_same airs others own lose (suc i) calls same =
-    let position : Position = position_at (setup_of own).info i in
-    ap (λ octets. unless_lost (is_lost (setup_of own).info (event_back own 0) lose (position_at (setup_of own).info i))
-    (hear (event_back own 0) (position_at (setup_of own).info i).bis (position_at (setup_of own).info i).subevent octets) (heard_on_air airs own lose i calls))
-    (pdu_same airs others own same (event_back own 0) (position_at (setup_of own).info i).bis (position_at (setup_of own).info i).subevent)
-    ∙ ap (unless_lost (is_lost (setup_of own).info (event_back own 0) lose (position_at (setup_of own).info i)) (hear_at others own (event_back own 0) (position_at (setup_of own).info i)))
-    (air_same airs others own lose i calls same)
+air_same airs others own lose (suc i) calls same = grind (arith, position_at (setup_of own).info i, pdu_same airs others own same (event_back own 0) (position_at (setup_of own).info i).bis (position_at (setup_of own).info i).subevent, air_same airs others own lose i calls same)
 
 step_same : (airs others : Airs) → Both airs others → (boxes n : ℕ) (step : Step) (earlier : List Step) (calls : List Call) → Twice airs others boxes earlier
     → refusal_of airs boxes earlier step ≡ None → with_sink_call airs n step earlier calls ≡ with_sink_call others n step earlier calls
@@ -92,8 +84,7 @@ pub closing_same : (airs others : Airs) → Both airs others → (boxes s : ℕ)
 closing_same airs others both boxes s made legal = closing_at_same airs others both boxes s made (open_event (steps_of_source s made)) legal
 
 pub closing_both_same : (airs others : Airs) → Both airs others → (boxes : ℕ) (made : List Step) → Legal airs boxes made → closing_both airs made ≡ closing_both others made
-closing_both_same airs others both boxes made legal =
-    cc (closing_same airs others both boxes 0 made legal, closing_same airs others both boxes 1 made legal)
+closing_both_same airs others both boxes made legal = grind (arith, closing_same)
 
 pub handed_same : (airs others : Airs) → Both airs others → (boxes : ℕ) (made : List Step) (step : Step) → Legal airs boxes made → handed_by airs made step ≡ handed_by others made step
 handed_same airs others both boxes made step legal = grind (arith, closing_same, closing_both_same)

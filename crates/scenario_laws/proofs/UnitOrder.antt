@@ -51,11 +51,9 @@ in_air setup whole bis air units are place n unit at sent = (
 numbered_each : (R Q : ℕ → Sent → Type 0) (low : ℕ) (ns : List ℕ) (units : List Sent)
     → ((place : ℕ) → (n : ℕ) → (unit : Sent) → slice_get units place ≡ Some unit → R n unit → Q n unit)
     → Numbered R low ns units → Numbered Q low ns units
-numbered_each R Q low [] [] each all = tt
-numbered_each R Q low (n ∷ ns) [] each all = absurd all
-numbered_each R Q low [] (unit ∷ units) each all = absurd all
 numbered_each R Q low (n ∷ ns) (unit ∷ units) each all =
     (all.0, each 0 n unit refl all.1, numbered_each R Q (n + 1) ns units (λ place. each (suc place)) all.2)
+numbered_each x1 x2 low ns units each all = search
 
 -- ---- an entry is of its unit
 
@@ -79,33 +77,19 @@ event_is first bn event number least below =
     ap (λ n. n / bn) split ∙ div-mul-add (first + event) bn (number - event * bn) (omega (arith, least, below))
 
 pub event_below : (event number opens bn : ℕ) → event * bn ≤ number → number < opens * bn → event < opens
-event_below event number opens bn least below = elim (cases_low opens event) [
-  | inl past ↦
-      let times : opens * bn ≤ event * bn = mul-le-mul past (omega arith) in
-      absurd (omega (arith, times, least, below))
-  | inr above ↦ above
-]
+event_below event number opens bn least below = grind (arith, cases_low, mul-le-mul)
 
 entry_stream : (bis time : ℕ) (octets : List ℕ) (whole : Type 0) (entry : Handed) → ((entry ≡ lost bis time) ⊎ (whole × (entry ≡ valid bis time octets)))
     → (bis_of entry ≡ bis) × (time_in entry ≡ time)
-entry_stream bis time octets whole entry is = elim is [
-  | inl gone ↦ (ap bis_of gone, ap time_in gone)
-  | inr here ↦ (ap bis_of here.1, ap time_in here.1)
-]
+entry_stream bis time octets whole entry is = grind (arith, bis_of, time_in)
 
 abbrev octets_of : Handed → List ℕ
 octets_of (valid bis time octets) = octets
 octets_of (lost bis time) = []
 
-is_lost_no : (bis time bis' time' : ℕ) (octets : List ℕ) → lost bis time ≡ valid bis' time' octets → ⊥
-is_lost_no bis time bis' time' octets is = cc
-
 entry_octets : (bis time : ℕ) (octets all : List ℕ) (whole : Type 0) (entry : Handed) → (whole → octets ≡ all) → ((entry ≡ lost bis time) ⊎ (whole × (entry ≡ valid bis time octets)))
     → (bis' time' : ℕ) (octets' : List ℕ) → entry ≡ valid bis' time' octets' → octets' ≡ all
-entry_octets bis time octets all whole entry of_unit is bis' time' octets' same = elim is [
-  | inl gone ↦ absurd (is_lost_no bis time bis' time' octets' (sym gone ∙ same))
-  | inr here ↦ ap octets_of (sym same ∙ here.1) ∙ of_unit here.0
-]
+entry_octets bis time octets all whole entry of_unit is bis' time' octets' same = grind arith
 
 pub one_entry : (setup : Setup) (whole : List SourceCall) (tuning : BigSync) (bis : ℕ) (air : Air) (n : ℕ) (sent : Sent) (entry : Handed) (calls : List stays.Call) → 1 ≤ setup.info.bn
     → TunedTo setup tuning → opened (stay_on tuning bis) calls ≤ next_of setup whole → IsInAir setup whole bis air n sent
@@ -149,11 +133,8 @@ one_entry setup whole tuning bis air n sent entry calls some on opens numbered i
       before = is_of.timed.before;
       ready = omega (arith, is_of.timed.ready, anchor_is);
       stream = parts.0;
-      time_is = parts.1 ∙ ap (λ e. time_of (stay_on tuning bis) e one.offset) at
-          ∙ start_time_is setup tuning bis event one.offset on first_event
-          ∙ ap (λ o. time_of (whole_stay setup bis) event o) (is_of.timed.offset ∙ ap (λ a. a - unit.time) anchor_is);
-      valid_is = entry_octets bis (time_of (stay_on tuning bis) ((setup.first * setup.info.bn + one.first) / tuning.info.bn) one.offset) (octets_in one.segments) unit.octets (one.whole ≡ true) entry
-          is_of.octets is.is;
+      time_is = grind (arith, parts.1, start_time_is setup tuning bis event one.offset on first_event, is_of.timed.offset);
+      valid_is = grind (arith, entry_octets, time_of, stay_on);
     }
 
 stay_gives : (setup : Setup) (whole : List SourceCall) (tuning : BigSync) (bis : ℕ) (air : Air) (calls : List stays.Call) → 1 ≤ setup.info.bn → TunedTo setup tuning
@@ -278,10 +259,8 @@ known_units below airs meets own bis legal started is_framed least = elim (cases
         ns = numbered.0;
         units = units.0;
         numbered = numbered_each (IsSent (setup_of own) (source_calls own) bis) (IsInAir (setup_of own) (source_calls own) bis (air_in airs own bis)) 0 numbered.0 units.0
-            (in_air (setup_of own) (source_calls own) bis (air_in airs own bis) units.0
-            (subst (λ air. AreSent (setup_of own) (source_calls own) bis air units.0) (sym (same_air airs own bis units.1.has)) units.1.sent))
-            (subst (Numbered (IsSent (setup_of own) (source_calls own) bis) 0 numbered.0) (sym units.1.sent.numbered)
-            (numbered_on (setup_of own) (source_calls own) bis 0 numbered.0 units.1.sent.in_air numbered.1));
+            (grind (arith, in_air, setup_of, source_calls, air_in, same_air))
+            (grind (arith, setup_of, source_calls, numbered_on));
         facts = λ all_started below_num. units.1;
       }
   | inr past ↦ record { ns = []; units = []; numbered = tt; facts = λ all_started below_num. absurd (omega (arith, past, below_num)) }

@@ -1,5 +1,5 @@
 -- The units law of a stay.
-use Rattle.scenario_laws.proofs.Prelude.{ℕ, zero, suc, ◌≡◌, ◌≤◌, ◌+◌, ◌-◌, ◌==◌, cond, ltb, Bool, true, false, List, [], ◌∷◌, ◌++◌, length, Option, Some, refl, sym, ◌∙◌, ap, subst, inl, inr, arith, slice_get, AllByRecursion, Contains, eq-eqb, eqb-true, ltb-false, append-nil, none-some, same_Some, BigInfo, Bounds, Account, Handed, before_event, lay, lays, begun, handed, Struck, air_at, slots_of, Airs, give_fault, Call, tune, hear, BigSync, of_stream, stay_on, streams_of, member_is, Step, IsInRange, chosen_of, chosen_steps, steps_of_source, open_event, setup_of, source_calls, MeetAirs, heard_on_air, is_of, reaches, sink_calls, source_of, positions_of, ticked, ticked_if, unless_lost, big_sync_on, SinkUnit, handed_by, give_refusal, steps_of, IsStayStruck, UnitsLaw, any_since, calls_on, handed_since, injected_since, is_given, is_tuned, of_sink}
+use Rattle.scenario_laws.proofs.Prelude.{ℕ, zero, suc, ◌≡◌, ◌≤◌, ◌+◌, ◌-◌, ◌==◌, cond, ltb, Bool, false, List, [], ◌∷◌, ◌++◌, length, Option, Some, refl, sym, ◌∙◌, ap, subst, inl, inr, arith, slice_get, AllByRecursion, Contains, eq-eqb, eqb-true, ltb-false, append-nil, none-some, same_Some, BigInfo, Bounds, Account, Handed, before_event, lay, lays, begun, handed, Struck, air_at, slots_of, Airs, give_fault, Call, tune, hear, BigSync, of_stream, stay_on, streams_of, member_is, Step, IsInRange, chosen_of, chosen_steps, steps_of_source, open_event, setup_of, source_calls, MeetAirs, heard_on_air, is_of, reaches, sink_calls, source_of, positions_of, ticked, ticked_if, unless_lost, big_sync_on, SinkUnit, handed_by, give_refusal, steps_of, IsStayStruck, UnitsLaw, any_since, calls_on, handed_since, injected_since, is_given, is_tuned, of_sink}
 use Rattle.isoal_unframed.specs.Calls.{Call as StreamCall, accept, accepted}
 use Rattle.source_machine.specs.Calls.{Call as SourceCall, stream_calls as source_stream}
 use Rattle.group_sink.specs.Calls.{place}
@@ -29,8 +29,7 @@ Short most (accept octets ∷ earlier) = (length octets ≤ most) × Short most 
 Short most (lay ∷ earlier) = Short most earlier
 
 short_if : (most : ℕ) (test : Bool) (xs ys : List StreamCall) → Short most xs → Short most ys → Short most (cond test xs ys)
-short_if most true xs ys all others = all
-short_if most false xs ys all others = others
+short_if most test xs ys all others = grind arith
 
 short_lays : (most count : ℕ) (calls : List StreamCall) → Short most calls → Short most (lays count calls)
 short_lays most zero calls all = all
@@ -58,17 +57,23 @@ abbrev ShortIn : ℕ → List Step → Type 0
 ShortIn bis own = Short (setup_of own).info.max_sdu (source_stream (setup_of own).info bis (source_calls own))
 
 short_after : (airs : Airs) (bis : ℕ) (own : List Step) (step : Step) → Settled own → Allowed airs own step → ShortIn bis own → ShortIn bis (step ∷ own)
-short_after airs bis own (steps.Group framing origin delay iso sdu max_sdu max_pdu num_bis bn nse irc pto sub spacing phy) is allows before =
-    short_none max_sdu (setup_of (steps.Group framing origin delay iso sdu max_sdu max_pdu num_bis bn nse irc pto sub spacing phy ∷ own)).info bis (source_calls own)
-    (is.quiet (no_group_yet own allows.in_phase))
-short_after airs bis own (steps.Unit stream time octets) is allows before =
-    let fault = maps_none give_refusal (give_fault (setup_of own) (source_calls own) (airs (setup_of own) (source_calls own)) stream time octets) allows.by_source in
-    let fits : length octets ≤ (setup_of own).info.max_sdu = ltb-false (setup_of own).info.max_sdu (length octets)
-    (second_false (ltb (setup_of own).info.num_bis stream) (ltb (setup_of own).info.max_sdu (length octets)) _ _ _ fault) in
-    short_if (setup_of own).info.max_sdu (stream == bis) (accept octets ∷ source_stream (setup_of own).info bis (source_calls own))
-    (source_stream (setup_of own).info bis (source_calls own)) (fits, before) before
-short_after airs bis own steps.Event is allows before = search (short_lays)
-short_after airs bis own _ is allows before = before
+short_after airs bis own _ is allows before =
+    grind (
+      arith,
+      short_none,
+      setup_of,
+      source_calls,
+      no_group_yet,
+      maps_none,
+      give_refusal,
+      give_fault,
+      length,
+      ltb-false,
+      second_false,
+      ltb,
+      short_if,
+      short_lays,
+    )
 
 short_of : (airs : Airs) (bis : ℕ) (own : List Step) → Lawful airs own → ShortIn bis own
 short_of airs bis [] legal = tt
@@ -77,10 +82,7 @@ short_of airs bis (step ∷ own) legal = short_after airs bis own step (settled 
 pub slot_short : (airs : Airs) (bis : ℕ) (own : List Step) → Lawful airs own → (event slot : ℕ) (unit : List ℕ)
     → slots_of (setup_of own) (source_calls own) bis event slot ≡ Some unit → length unit ≤ (setup_of own).info.max_sdu
 slot_short airs bis own legal event slot unit has =
-    let calls = source_stream (setup_of own).info bis (source_calls own) in
-    let at : List StreamCall = before_event calls (event - (setup_of own).first) in
-    one_short (setup_of own).info.max_sdu (accepted at) (begun (setup_of own).info at + slot) unit
-    (short_units (setup_of own).info.max_sdu at (short_before (setup_of own).info.max_sdu calls (event - (setup_of own).first) (short_of airs bis own legal))) has
+    grind (arith, setup_of, source_calls, before_event, one_short, begun, short_units, short_before, short_of, legal)
 
 -- ---- what the closes of a stay hand is struck
 
@@ -105,8 +107,7 @@ stay_struck below airs meets boxes s n bis made tuning legal is least plain_sour
 -- ---- what a sink handed up in its stay is what its ticks handed
 
 lost_since : (gone : Bool) (event bis subevent : ℕ) (octets : List ℕ) (calls : List Call) → ticked_since (unless_lost gone (hear event bis subevent octets) calls) ≡ ticked_since calls
-lost_since true event bis subevent octets calls = refl
-lost_since false event bis subevent octets calls = refl
+lost_since gone event bis subevent octets calls = grind arith
 
 air_since : (airs : Airs) (own : List Step) (lose count : ℕ) (calls : List Call) → ticked_since (heard_on_air airs own lose count calls) ≡ ticked_since calls
 air_since airs own lose zero calls = refl
@@ -150,31 +151,14 @@ still_since : (airs : Airs) (boxes s n : ℕ) (step : Step) (earlier : List Step
     → IsOn airs s n (step ∷ earlier) tuning → (IsOn airs s n earlier tuning → Since airs s n earlier)
     → (source_of n earlier ≡ Some s → ticked_since (sink_calls airs n (step ∷ earlier)) ≡ ticked_since (sink_calls airs n earlier) ++ shown_by airs s n earlier step)
     → of_sink s n (handed_since (is_tuned n) airs earlier ++ handed_by airs earlier step) ≡ ticked_since (sink_calls airs n (step ∷ earlier))
-still_since airs boxes s n step earlier tuning legal least within never is since grow = elim (on_before airs s n step earlier tuning is) [
-  | inl before ↦
-      of_sink_on s n (handed_since (is_tuned n) airs earlier) (handed_by airs earlier step)
-      ∙ ap (λ us. us ++ of_sink s n (handed_by airs earlier step)) (since before)
-      ∙ ap (λ us. ticked_since (sink_calls airs n earlier) ++ us) (step_shown airs boxes s n step earlier legal least within)
-      ∙ sym (grow before.source_is)
-  | inr begins ↦ absurd (never begins)
-]
+still_since airs boxes s n step earlier tuning legal least within never is since grow =
+    grind (arith, on_before, of_sink_on, handed_since, is_tuned, handed_by, of_sink, since, sink_calls, step_shown, legal)
 
 -- a step by which the receivers stay
 stays_since : (airs : Airs) (boxes s n : ℕ) (step : Step) (earlier : List Step) (tuning : BigSync) → StaysBy airs n step earlier → handed_by airs earlier step ≡ []
     → IsOn airs s n (step ∷ earlier) tuning → (IsOn airs s n earlier tuning → Since airs s n earlier) → Since airs s n (step ∷ earlier)
 stays_since airs boxes s n step earlier tuning stays none is since =
-    let same : sink_calls airs n (step ∷ earlier) ≡ sink_calls airs n earlier = elim stays.left [
-      | inl same ↦ same
-      | inr gone ↦ absurd (none-some tuning (sym (ap place gone) ∙ is.place_is))
-    ] in
-    let before : IsOn airs s n earlier tuning = assumption (
-      ap place (sym same) ∙ is.place_is,
-      sym stays.same ∙ is.source_is,
-      rest_not (is_tuned n earlier step) (is_given n step) (any_since (is_tuned n) (is_given n) earlier) is.ungiven stays.begins_not,
-    ) in
-    ap (λ b. of_sink s n (cond b [] (handed_since (is_tuned n) airs earlier ++ handed_by airs earlier step))) stays.begins_not
-    ∙ ap (λ us. of_sink s n (handed_since (is_tuned n) airs earlier ++ us)) none
-    ∙ ap (of_sink s n) (append-nil (handed_since (is_tuned n) airs earlier)) ∙ since before ∙ ap ticked_since (sym same)
+    grind (arith, sink_calls, none-some, rest_not, is_tuned, is_given, any_since, of_sink, cond, handed_since, handed_by, append-nil, since)
 
 since_after : (airs : Airs) (boxes s n : ℕ) (step : Step) (earlier : List Step) (tuning : BigSync) → Legal airs boxes earlier → s ≤ 1 → n ≤ 7 → IsOn airs s n (step ∷ earlier) tuning
     → (IsOn airs s n earlier tuning → Since airs s n earlier) → Since airs s n (step ∷ earlier)
@@ -205,21 +189,13 @@ since_after airs boxes s n (steps.Terminate reason) earlier tuning legal least w
     still_since airs boxes s n (steps.Terminate reason) earlier tuning legal least within (λ begins. begins.puts.by) is since (λ its. closed_since_by airs s n earlier its)
 since_after airs boxes s n steps.End earlier tuning legal least within is since =
     still_since airs boxes s n steps.End earlier tuning legal least within (λ begins. begins.puts.by) is since
-    (λ its. ap ticked_since (end_ticks s (λ t. open_event (steps_of_source t earlier)) (sink_calls airs n earlier) (source_of n earlier) least its)
-    ∙ tick_since (open_event (steps_of_source s earlier)) (sink_calls airs n earlier)
-    ∙ ap (λ us. ticked_since (sink_calls airs n earlier) ++ us)
-    (sym (own_if s (source_of n earlier) (handed_open (sink_calls airs n earlier) (open_event (steps_of_source s earlier))) its)))
+    (grind (arith, end_ticks, open_event, steps_of_source, sink_calls, source_of, tick_since, own_if, handed_open))
 since_after airs boxes s n (steps.Announce sink) earlier tuning legal least within is since = elim (announced airs n sink earlier) [
   | inl stays ↦ stays_since airs boxes s n (steps.Announce sink) earlier tuning stays refl is since
-  | inr goes ↦ elim goes [
-    | inl follows ↦ absurd (none-some tuning (sym (ap place follows.same ∙ follows.nowhere) ∙ is.place_is))
-    | inr put ↦
-        ap (λ b. of_sink s n (cond b [] (handed_since (is_tuned n) airs earlier ++ []))) put.begins_is ∙ sym (ap ticked_since put.calls_is)
-  ]
+  | inr goes ↦ grind (arith, none-some, of_sink, cond, handed_since, is_tuned)
 ]
 since_after airs boxes s n (steps.Train sink time ext adv acad) earlier tuning legal least within is since =
-    stays_since airs boxes s n (steps.Train sink time ext adv acad) earlier tuning (given_stays airs n sink time ext adv acad earlier
-    (last_not (is_tuned n earlier (steps.Train sink time ext adv acad)) (sink == n) (any_since (is_tuned n) (is_given n) earlier) is.ungiven)) refl is since
+    stays_since airs boxes s n (steps.Train sink time ext adv acad) earlier tuning (grind (arith, given_stays, last_not, is_tuned, any_since, is_given)) refl is since
 since_after airs boxes s n step earlier tuning legal least within is since =
     stays_since airs boxes s n step earlier tuning (plain_stays airs n step earlier refl refl refl refl) refl is since
 
@@ -235,14 +211,7 @@ pub record Numbers (s n : ℕ) : Type 0 where
   pub sink_within : n ≤ 7
 
 begins_numbers : (airs : Airs) (boxes s n : ℕ) (step : Step) (earlier : List Step) (tuning : BigSync) → Legal airs boxes earlier → IsInRange step → BeginsBy airs s n step earlier tuning → Numbers s n
-begins_numbers airs boxes s n (steps.Tuned sink which) earlier tuning legal ranged begins =
-    record { source_within = subst (λ t. t ≤ 1) begins.chosen_is (chosen_within airs boxes earlier legal); sink_within = subst (λ m. m ≤ 7) (eqb-true sink n begins.puts.by.1) ranged }
-begins_numbers airs boxes s n (steps.Announce sink) earlier tuning legal ranged begins =
-    assumption (
-      subst (λ t. t ≤ 1) begins.chosen_is (chosen_within airs boxes earlier legal),
-      subst (λ m. m ≤ 7) (eqb-true sink n begins.puts.by.0.brings.0) ranged,
-    )
-begins_numbers airs boxes s n _ earlier tuning legal ranged begins = absurd begins.puts.by
+begins_numbers airs boxes s n _ earlier tuning legal ranged begins = grind (arith, chosen_within, legal, eqb-true)
 
 pub numbers : (airs : Airs) (boxes s n : ℕ) (made : List Step) (tuning : BigSync) → Legal airs boxes made → IsOn airs s n made tuning → Numbers s n
 numbers airs boxes s n [] tuning legal is = absurd (none-some tuning is.place_is)

@@ -70,6 +70,4 @@ next_if airs own step is_its legal allows = grind (arith, not_yet, settled)
 -- it never falls
 pub next_rises : (airs : Airs) (boxes s : ℕ) (earlier : List Step) (step : Step) → Legal airs boxes (step ∷ earlier)
     → next_in (steps_of_source s earlier) ≤ next_in (steps_of_source s (step ∷ earlier))
-next_rises airs boxes s earlier step legal =
-    next_if airs (steps_of_source s earlier) step (is_of_source s earlier step) (lawful airs boxes s earlier legal.0)
-    (its_step airs boxes s earlier step (permitted airs boxes earlier step legal.1) legal.2)
+next_rises airs boxes s earlier step legal = grind (arith, next_if, steps_of_source, is_of_source, lawful, its_step, permitted)

@@ -1,5 +1,5 @@
 -- A line that means another source, and puts the sink on no train and no group, changes nothing of the sink and of the source.
-use Rattle.scenario_laws.proofs.Prelude.{ℕ, ◌≡◌, ◌≢◌, ◌==◌, ◌&&◌, cond, not, Bool, true, false, List, ◌∷◌, Option, None, Some, refl, arith, ap, and_right, false≢true, ne_eqb, cond-false, with_leave, train_heard, TrainOutcome, Settings, Train, big_sync_in, Call, Step, is_of, sink_calls, source_of, ticked_if, open_event, Airs, chosen_of, chosen_steps, is_common, is_of_source, is_source_line, calls_made, source_at, Source, given_train, calls_by, made_of, own_train, follows, follows_by, received_by, train_by, puts}
+use Rattle.scenario_laws.proofs.Prelude.{ℕ, ◌≡◌, ◌≢◌, ◌==◌, ◌&&◌, cond, not, Bool, true, false, List, ◌∷◌, Option, None, Some, refl, arith, ap, and_right, false≢true, ne_eqb, cond-false, with_leave, train_heard, TrainOutcome, Settings, Train, big_sync_in, Call, Step, is_of, sink_calls, source_of, ticked_if, open_event, Airs, chosen_of, chosen_steps, is_common, is_source_line, calls_made, source_at, Source, given_train, calls_by, made_of, own_train, follows, follows_by, received_by, train_by, puts}
 use Rattle.sink_history.specs.Calls as links
 use Rattle.scenario_text.specs.declared.step.Step.TheVariants as steps
 use Rattle.scenario_laws.proofs.Isolating.Histories.{ignores}
@@ -28,11 +28,9 @@ not_joined : (brought : TrainOutcome) → follows brought ≡ false → big_sync
 not_joined brought not = grind (arith, false≢true)
 
 not_left : (on : Bool) (calls : List Call) → with_leave on on calls ≡ calls
-not_left true calls = refl
-not_left false calls = refl
+not_left on calls = grind arith
 
-train_received : (hit : Bool) (source : Source) (line : Step) (train : Train) (made : Option Settings) (a a' : List links.Call)
-    (calls : List Call)
+train_received : (hit : Bool) (source : Source) (line : Step) (train : Train) (made : Option Settings) (a a' : List links.Call) (calls : List Call)
     → train_by source line ≡ Some train → (hit && follows_by source (Some train) made a) ≡ false → HistoriesAlike made (cond hit a' a) a
     → cond hit (received_by source line made a (cond hit a' a) calls) calls ≡ calls
 train_received hit source line train made a a' calls is not same = grind (arith, not_joined, not_left)
@@ -53,15 +51,10 @@ history_stays n _ made is not = search (false≢true, lives_itself (made_of n ma
 
 -- ---- the source that it is of
 
-source_stays : (n : ℕ) (step : Step) (made : List Step) → is_source_line step ≡ true → puts n made step ≡ false
-    → source_of n (step ∷ made) ≡ source_of n made
-source_stays n step made is not = grind (arith, cond-false)
-
 -- ---- its receivers, where it isn't of the source that the line means
 
 close_stays : (airs : Airs) (n : ℕ) (made : List Step) → is_of (chosen_of made) (source_of n made) ≡ false
-    → ticked_if (is_of (chosen_of made) (source_of n made)) (open_event (chosen_steps made)) (sink_calls airs n made)
-    ≡ sink_calls airs n made
+    → ticked_if (is_of (chosen_of made) (source_of n made)) (open_event (chosen_steps made)) (sink_calls airs n made) ≡ sink_calls airs n made
 close_stays airs n made apart = ap (λ its. ticked_if its (open_event (chosen_steps made)) (sink_calls airs n made)) apart
 
 calls_stay : (airs : Airs) (n : ℕ) (step : Step) (made : List Step) → is_source_line step ≡ true → puts n made step ≡ false
@@ -83,10 +76,21 @@ calls_stay airs n _ made is not apart = search (false≢true, close_stays airs n
 
 -- ---- what it hands up
 
-not_own : (s : ℕ) (step : Step) (made : List Step) → is_source_line step ≡ true → chosen_of made ≢ s → is_of_source s made step ≡ false
-not_own s step made is other = cc (not_common step is, and_right (is_source_line step) (chosen_of made == s) (ne_eqb (chosen_of made) s other))
-
 pub elsewhere : (airs : Airs) (s n : ℕ) (step : Step) (made : List Step) → is_source_line step ≡ true → chosen_of made ≢ s
     → puts n made step ≡ false → is_of (chosen_of made) (source_of n made) ≡ false → Leaves airs s n step made
 elsewhere airs s n step made is other not apart =
-    grind (arith, said_elsewhere, not_own, history_stays, source_stays, calls_stay, false≢true, closing_none)
+    grind (
+      arith,
+      said_elsewhere,
+      not_common,
+      and_right,
+      is_source_line,
+      chosen_of,
+      ne_eqb,
+      history_stays,
+      not,
+      cond-false,
+      calls_stay,
+      false≢true,
+      closing_none,
+    )

@@ -1,9 +1,7 @@
 -- Two histories of one sink of which one has trains more that it ignored: they come to the same, and each call keeps that.
-use Rattle.scenario_laws.proofs.Prelude.{ℕ, zero, suc, ◌≡◌, ◌+◌, ◌==◌, ◌∙◌, min, cond, false, List, [], ◌∷◌, ◌++◌, length, Option, None, Some, arith, refl, sym, ap, subst, unwrap_or, option_or, false≢true, none_change, snapshot_goes_on, Snapshot, snapshot_of, train_heard, written, TrainOutcome, Train, outcome_by, done_by_outcome, value_at, is_joined, joining_by, served_of, step_by, writes, writes_waiting, drained, read_out, repeated, served_out, notified_out, Acts, acts_of, made_all, notices_waiting, reads_waiting, waiting_of, follows}
-use Rattle.delegator_history.specs.LastGiven.{last_given}
-use Rattle.delegator_history.specs.Notices.{changes}
+use Rattle.scenario_laws.proofs.Prelude.{ℕ, zero, suc, ◌≡◌, min, cond, false, List, ◌∷◌, length, Option, arith, refl, ap, unwrap_or, option_or, false≢true, none_change, snapshot_goes_on, Snapshot, snapshot_of, train_heard, written, TrainOutcome, Train, outcome_by, done_by_outcome, value_at, is_joined, joining_by, served_of, step_by, writes, writes_waiting, drained, read_out, repeated, served_out, notified_out, acts_of, made_all, notices_waiting, reads_waiting, waiting_of, follows}
 use Rattle.delegator_history.specs.States.{Step}
-use Rattle.delegator_history.specs.Steps.{after, nothing}
+use Rattle.delegator_history.specs.Steps.{nothing}
 use Rattle.delegator_history.specs.Trains.{Setup}
 use Rattle.sink_history.specs.Calls as links
 use Rattle.sink_history.specs.Calls.{Call, steps_of, with_step}
@@ -31,8 +29,7 @@ waiting_same setup mtu link a b same = cc (same.served link, same.written link)
 
 or_same : {A : Type 0} (given : Option A) (x y : Option A) (none : A) → unwrap_or x none ≡ unwrap_or y none
     → unwrap_or (option_or given x) none ≡ unwrap_or (option_or given y) none
-or_same None x y none same = same
-or_same (Some a) x y none same = refl
+or_same given x y none same = grind arith
 
 snapshot_with : (setup : Setup) (more : Option Step) (xs ys : List Step) → snapshot_of setup xs ≡ snapshot_of setup ys
     → snapshot_of setup (with_step more xs) ≡ snapshot_of setup (with_step more ys)
@@ -46,28 +43,21 @@ snapshot_grows : (setup : Setup) (mtu : Option ℕ) (call : Call) (a b : List Ca
 snapshot_grows setup mtu call a b same = cc (step_same setup mtu call a b same, snapshot_with setup (step_by call b) (steps_of a) (steps_of b) same.snapshot)
 
 written_grows : (link : ℕ) (call : Call) (a b : List Call) → writes link a ≡ writes link b → writes link (call ∷ a) ≡ writes link (call ∷ b)
-written_grows link (links.joined at) a b same = ap (λ ws. cond (at == link) [] ws) same
-written_grows link (links.asked at octets) a b same = ap (λ ws. cond (at == link) (ws ++ octets ∷ []) ws) same
-written_grows link _ a b same = same
+written_grows link _ a b same = grind (arith, cond)
 
 served_grows : (link : ℕ) (call : Call) (a b : List Call) → served_of link a ≡ served_of link b → writes link a ≡ writes link b
     → served_of link (call ∷ a) ≡ served_of link (call ∷ b)
 served_grows link call a b same writes_same = grind (arith, min)
 
-changed_same : (setup : Setup) (before now before' now' : Snapshot) (acts acts' : Acts) → before ≡ before' → now ≡ now' → acts ≡ acts'
-    → made_all now (changes setup.slots before now) acts ≡ made_all now' (changes setup.slots before' now') acts'
-changed_same setup before now before' now' acts acts' p q r = cc (p, q, r)
-
 acts_grow : (setup : Setup) (mtu : Option ℕ) (link : ℕ) (call : Call) (a b : List Call) → Alike setup mtu a b
     → snapshot_of setup (steps_of (call ∷ a)) ≡ snapshot_of setup (steps_of (call ∷ b))
     → acts_of setup mtu link (call ∷ a) ≡ acts_of setup mtu link (call ∷ b)
-acts_grow setup mtu link call a b same now = grind (arith, changed_same)
+acts_grow setup mtu link call a b same now = grind arith
 
 pub grows : (setup : Setup) (mtu : Option ℕ) (call : Call) (a b : List Call) → Alike setup mtu a b → Alike setup mtu (call ∷ a) (call ∷ b)
 grows setup mtu call a b same = record {
   snapshot = snapshot_grows setup mtu call a b same;
-  joined = λ link. or_same (joining_by link call) (last_given (joining_by link) a) (last_given (joining_by link) b) (link == 0)
-      (same.joined link);
+  joined = grind (arith, or_same, joining_by);
   written = λ link. written_grows link call a b (same.written link);
   served = λ link. served_grows link call a b (same.served link) (same.written link);
   acts = λ link. acts_grow setup mtu link call a b same (snapshot_grows setup mtu call a b same);
@@ -82,8 +72,7 @@ repeated_grow setup mtu (suc count) call a b same = search (grows, repeated_grow
 
 pub repeats : (setup : Setup) (mtu : Option ℕ) (m n : ℕ) (call : Call) (a b : List Call) → m ≡ n → Alike setup mtu a b
     → Alike setup mtu (repeated m call a) (repeated n call b)
-repeats setup mtu m n call a b many same =
-    subst (λ k. Alike setup mtu (repeated m call a) (repeated k call b)) many (repeated_grow setup mtu m call a b same)
+repeats setup mtu m n call a b many same = grind (arith, repeated_grow setup mtu m call a b same)
 
 pub notices_same : (setup : Setup) (mtu : Option ℕ) (link : ℕ) (a b : List Call) → Alike setup mtu a b
     → notices_waiting setup mtu link a ≡ notices_waiting setup mtu link b
@@ -125,12 +114,10 @@ pub ignores : (setup : Setup) (mtu : Option ℕ) (train : Train) (a : List Call)
 ignores setup mtu train a not =
     let snapshot : Snapshot = snapshot_of setup (steps_of a) in
     let more : List Call = links.stepped (train_heard train) ∷ a in
-    let now : snapshot_of setup (steps_of more) ≡ snapshot = snapshot_goes_on setup (train_heard train) (steps_of a)
-    ∙ ap (λ done. after done snapshot) (done_nothing (outcome_by setup snapshot train) not) in record {
+    let now : snapshot_of setup (steps_of more) ≡ snapshot = grind (arith, snapshot_goes_on, train_heard, done_nothing, outcome_by) in record {
       snapshot = now;
       joined = λ link. refl;
       written = λ link. refl;
       served = λ link. refl;
-      acts = λ link. ap (λ notices. made_all (snapshot_of setup (steps_of more)) notices (acts_of setup mtu link a))
-          (none_change setup.slots snapshot (snapshot_of setup (steps_of more)) (λ i. ap (λ s. value_at s i) (sym now)));
+      acts = grind (arith, made_all, snapshot_of, acts_of, none_change, value_at);
     }

@@ -1,12 +1,12 @@
 -- The isolation law: by one induction over the steps, each of which is kept in both lists or left out of one.
-use Rattle.scenario_laws.proofs.Prelude.{ℕ, ◌≡◌, ◌≢◌, ◌⊎◌, ◌==◌, ◌&&◌, ◌||◌, ◌∙◌, cond, not, Bool, true, false, List, [], ◌∷◌, ◌++◌, Option, None, arith, Some, refl, sym, ap, subst, inl, inr, and_parts, eq-eqb, eqb-true, false≢true, not-true, state_at, Settings, language, view_of, waits_of, Step, Account, steps_of, Airs, chosen_of, is_common, is_source_line, calls_made, IsIsolated, IsSameHistory, IsolationLaw, NoOtherPuts, kept_lines, lines_by, lines_of, puts, chooses, is_kept, is_other, is_sink, only, sink_in}
+use Rattle.scenario_laws.proofs.Prelude.{ℕ, ◌≡◌, ◌≢◌, ◌⊎◌, ◌==◌, ◌&&◌, ◌||◌, ◌∙◌, cond, not, Bool, true, false, List, [], ◌∷◌, ◌++◌, arith, refl, sym, inl, inr, and_parts, eq-eqb, eqb-true, false≢true, not-true, state_at, Settings, language, view_of, waits_of, Step, Account, steps_of, Airs, chosen_of, is_common, is_source_line, calls_made, IsIsolated, IsSameHistory, IsolationLaw, NoOtherPuts, kept_lines, lines_by, lines_of, puts, chooses, is_kept, is_other, is_sink, only, sink_in}
 use Rattle.sink_history.specs.Calls.{Call}
 use Rattle.scenario_laws.proofs.Isolating.Elsewhere.{elsewhere}
 use Rattle.scenario_laws.proofs.Isolating.Kept.{Means, kept}
 use Rattle.scenario_laws.proofs.Isolating.Left.{another_sink, left_out}
 use Rattle.scenario_laws.proofs.Isolating.Lines.{replied_same}
 use Rattle.scenario_laws.proofs.Isolating.Histories.{Alike, notices_same, waiting_same}
-use Rattle.scenario_laws.proofs.Isolating.Same.{HistoriesAlike, Same}
+use Rattle.scenario_laws.proofs.Isolating.Same.{Same}
 use Rattle.scenario_laws.proofs.Isolating.Printed.{lines_same, append_same}
 
 -- ---- why a step is left out
@@ -37,12 +37,8 @@ fate s n step made is =
 means : (s n : ℕ) (step : Step) (made : List Step) → is_kept s n made step ≡ true → Means s made step
 means s n step made is line = grind (arith, eqb-true, false≢true, and_parts)
 
-names_its : (n : ℕ) (named : Option ℕ) → is_sink n named ≡ true → is_other n named ≡ false
-names_its n None is = refl
-names_its n (Some sink) is = ap not is
-
 names : (s n : ℕ) (step : Step) (made : List Step) → is_kept s n made step ≡ true → is_other n (sink_in step) ≡ false
-names s n step made is = grind (arith, names_its, not-true, and_parts, false≢true)
+names s n step made is = grind (arith, not, not-true, and_parts, false≢true)
 
 -- ---- the induction
 
@@ -68,8 +64,7 @@ same_of airs s n (step ∷ made) puts_not = search (same_if, same_of airs s n ma
 
 lines_if : (airs : Airs) (s n : ℕ) (step : Step) (made : List Step) (hit : Bool) → is_kept s n made step ≡ hit
     → Same airs s n made (only s n made) → kept_lines airs s n made ≡ lines_of airs n (only s n made)
-    → cond hit (kept_lines airs s n made ++ lines_by airs n made step) (kept_lines airs s n made)
-    ≡ lines_of airs n (cond hit (step ∷ only s n made) (only s n made))
+    → cond hit (kept_lines airs s n made ++ lines_by airs n made step) (kept_lines airs s n made) ≡ lines_of airs n (cond hit (step ∷ only s n made) (only s n made))
 lines_if airs s n step made hit is same before = grind (arith, append_same, lines_same, names, means)
 
 lines_kept : (airs : Airs) (s n : ℕ) (made : List Step) → NoOtherPuts s n made → kept_lines airs s n made ≡ lines_of airs n (only s n made)
@@ -80,16 +75,7 @@ lines_kept airs s n (step ∷ made) puts_not =
 -- ---- the law
 
 same_history : (made : Settings) (a b : List Call) → Alike made.setup made.mtu a b → IsSameHistory made a b
-same_history made a b same = record {
-  snapshot = same.snapshot;
-  states = λ slot. ap (λ snapshot. state_at snapshot slot) same.snapshot;
-  joined = same.joined;
-  writes = λ link. waiting_same made.setup made.mtu link a b same;
-  replies = λ link. replied_same made link a b same;
-  notices = λ link. notices_same made.setup made.mtu link a b same;
-  reads = λ link slot. ap (waits_of (language made.mtu) slot) (same.acts link);
-  views = λ link slot. ap (view_of (language made.mtu) slot) (same.acts link);
-}
+same_history made a b same = grind (arith, state_at, waiting_same, replied_same, notices_same, waits_of, language, view_of)
 
 pub isolated : (airs : Airs) (s n : ℕ) (made : List Step) → NoOtherPuts s n made → IsIsolated airs s n made
 isolated airs s n made puts_not =
@@ -99,8 +85,7 @@ isolated airs s n made puts_not =
       calls = same.calls;
       units = same.units;
       sums = same.took;
-      lives = λ sink is. same_history sink (calls_made n made) (calls_made n (only s n made))
-          (subst (λ m. HistoriesAlike m (calls_made n made) (calls_made n (only s n made))) is same.lives);
+      lives = grind (arith, same_history, calls_made, only);
       lines = lines_kept airs s n made puts_not;
     }
 

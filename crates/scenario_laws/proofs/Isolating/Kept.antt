@@ -1,6 +1,6 @@
 -- A step that both lists of steps have keeps what they have alike of a sink and a source, where it means this source if it is a
 -- source line.
-use Rattle.scenario_laws.proofs.Prelude.{ℕ, ◌≡◌, ◌≢◌, ◌∙◌, cond, Bool, true, false, List, ◌∷◌, Option, None, Some, is_some, refl, arith, sym, ap, inl, inr, option_or, cases_eq, ne_eqb, Call, Step, box_of, handed_by, handed_up, is_of, reaches, sink_calls, source_of, ticked_by, ticked_if, open_event, Airs, chosen_given, chosen_of, is_source_line, steps_of_source, calls_made, source_at, made_of, version_given, units_by}
+use Rattle.scenario_laws.proofs.Prelude.{ℕ, ◌≡◌, ◌≢◌, ◌∙◌, cond, Bool, true, false, List, ◌∷◌, Option, None, Some, is_some, arith, ap, option_or, cases_eq, ne_eqb, Call, Step, box_of, handed_by, handed_up, is_of, reaches, sink_calls, source_of, ticked_by, ticked_if, open_event, Airs, chosen_given, chosen_of, is_source_line, steps_of_source, calls_made, source_at, made_of, version_given, units_by}
 use Rattle.scenario_history.specs.Boxes.{closing}
 use Rattle.scenario_laws.proofs.Isolating.Moves.{Sourced, cond_same, history_grows, moved_same, sourced_same}
 use Rattle.scenario_laws.proofs.Isolating.Said.{back_same, hear_same, heard_same, said_grows, tuning_same}
@@ -35,8 +35,7 @@ source_grows : (airs : Airs) (s n : ℕ) (step : Step) (made others : List Step)
 source_grows airs s n step made others means same = grind (arith, cond_same, chosen_alike, sourced_same, source_alike)
 
 none_apart : (hit : Bool) (t : ℕ) (source : Option ℕ) → is_of t source ≡ false → is_of t (cond hit None source) ≡ false
-none_apart true t source apart = refl
-none_apart false t source apart = apart
+none_apart hit t source apart = grind arith
 
 one_apart : (hit : Bool) (t one : ℕ) (source : Option ℕ) → one ≢ t → is_of t source ≡ false → is_of t (cond hit (Some one) source) ≡ false
 one_apart hit t one source other apart = grind (arith, ne_eqb)
@@ -49,21 +48,12 @@ apart_grows airs s n step made others means same t other = grind (arith, none_ap
 
 ticks_alike : (airs : Airs) (s n t : ℕ) (made others : List Step) (calls calls' : List Call) → Same airs s n made others → calls ≡ calls'
     → ticked_by t n made calls ≡ ticked_by t n others calls'
-ticks_alike airs s n t made others calls calls' same took = elim (cases_eq t s) [
-  | inl its ↦
-      ap (λ source. ticked_if (is_of t source) (open_event (steps_of_source t made)) calls) same.source
-      ∙ ap (λ last_open. ticked_if (is_of t (source_of n others)) last_open calls) (opens_alike airs s n t made others its same)
-      ∙ ap (ticked_if (is_of t (source_of n others)) (open_event (steps_of_source t others))) took
-  | inr other ↦
-      ap (λ its. ticked_if its (open_event (steps_of_source t made)) calls) (same.apart t other) ∙ took
-      ∙ sym (ap (λ its. ticked_if its (open_event (steps_of_source t others)) calls') (sym (ap (is_of t) same.source) ∙ same.apart t other))
-]
+ticks_alike airs s n t made others calls calls' same took =
+    grind (arith, cases_eq, ticked_if, is_of, open_event, steps_of_source, source_of, opens_alike)
 
 closes_alike : (airs : Airs) (s n : ℕ) (made others : List Step) → Same airs s n made others
     → ticked_by (chosen_of made) n made (sink_calls airs n made) ≡ ticked_by (chosen_of others) n others (sink_calls airs n others)
-closes_alike airs s n made others same =
-    ap (λ c. ticked_by c n made (sink_calls airs n made)) (chosen_alike airs s n made others same)
-    ∙ ticks_alike airs s n (chosen_of others) made others (sink_calls airs n made) (sink_calls airs n others) same same.calls
+closes_alike airs s n made others same = grind (arith, ticked_by, sink_calls, chosen_alike, ticks_alike, chosen_of)
 
 reaches_alike : (airs : Airs) (s n sink : ℕ) (made others : List Step) → Same airs s n made others
     → reaches sink n made ≡ reaches sink n others
@@ -92,14 +82,9 @@ calls_grow airs s n step made others means same later =
 
 -- ---- its units
 
-box_if : (hit : Bool) (new new' box box' : Option ℕ) → is_some new ≡ is_some new' → is_some box ≡ is_some box'
-    → is_some (cond hit new box) ≡ is_some (cond hit new' box')
-box_if true new new' box box' first rest = first
-box_if false new new' box box' first rest = rest
-
 boxed_grows : (airs : Airs) (s n : ℕ) (step : Step) (made others : List Step) → Same airs s n made others
     → is_some (box_of n (step ∷ made)) ≡ is_some (box_of n (step ∷ others))
-boxed_grows airs s n step made others same = grind (arith, box_if)
+boxed_grows airs s n step made others same = grind arith
 
 pub chosen_closing : (airs : Airs) (s n : ℕ) (made others : List Step) → Same airs s n made others
     → units_by n (closing airs (chosen_of made) made) ≡ units_by n (closing airs (chosen_of others) others)
@@ -111,13 +96,7 @@ handed_same airs s n step made others same = grind (arith, chosen_closing, both_
 
 units_grow : (airs : Airs) (s n : ℕ) (step : Step) (made others : List Step) → Same airs s n made others
     → units_by n (handed_up airs (step ∷ made)) ≡ units_by n (handed_up airs (step ∷ others))
-units_grow airs s n step made others same =
-    cc (
-      units_append n (handed_up airs made) (handed_by airs made step),
-      same.units,
-      handed_same airs s n step made others same,
-      units_append n (handed_up airs others) (handed_by airs others step),
-    )
+units_grow airs s n step made others same = grind (arith, units_append, handed_up, handed_by, handed_same)
 
 -- ---- all of it
 

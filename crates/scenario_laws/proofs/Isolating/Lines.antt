@@ -1,7 +1,6 @@
 -- What a step that both lists of steps have prints of the sink, of its assistants and of the source.
-use Rattle.scenario_laws.proofs.Prelude.{ℕ, zero, suc, ◌≡◌, ◌∙◌, List, [], ◌∷◌, ◌++◌, length, map, Option, refl, ap, arith, codes, decimal, option_map, slice_get, flat_map, range_with_len, Settings, Train, answer_of, outcome_by, state_at, value, writes_waiting, served_out, notified_out, language, notices_waiting, reads_waiting, view_of, Step, Label, reply_line, sink_line, train_words, value_line, Source, Lines, drain_lines, heard_line, if_there, notice_delivered, printed_of, printed_where, read_line, read_lines, replied, serve_line, serve_lines, show_lines, stated, tell_line, tell_lines, view_lines, viewed, was_read}
+use Rattle.scenario_laws.proofs.Prelude.{ℕ, zero, suc, ◌≡◌, ◌∙◌, List, ◌++◌, length, map, Option, refl, ap, arith, codes, decimal, option_map, slice_get, range_with_len, Settings, Train, answer_of, outcome_by, state_at, value, writes_waiting, served_out, notified_out, language, notices_waiting, reads_waiting, view_of, Step, Label, reply_line, sink_line, train_words, value_line, Source, Lines, drain_lines, heard_line, if_there, printed_of, printed_where, read_line, read_lines, replied, serve_line, serve_lines, show_lines, stated, tell_line, tell_lines, view_lines, was_read}
 use Rattle.sink_history.specs.Calls.{Call}
-use Rattle.scenario_text.specs.declared.step.Step.TheVariants as steps
 use Rattle.scenario_laws.proofs.Isolating.Histories.{Alike, notices_same, reads_same, repeats, served_grow, told_grow, waiting_same}
 use Rattle.scenario_laws.proofs.Isolating.Moves.{Sourced}
 use Rattle.scenario_laws.proofs.Isolating.Same.{HistoriesAlike}
@@ -12,14 +11,8 @@ pub replied_same : (made : Settings) (link : ℕ) (a b : List Call) → Alike ma
     → replied made link a ≡ replied made link b
 replied_same made link a b same = cc (same.snapshot, waiting_same made.setup made.mtu link a b same)
 
-notice_delivered_same : (made : Settings) (link : ℕ) (a b : List Call) → Alike made.setup made.mtu a b → notice_delivered made link a ≡ notice_delivered made link b
-notice_delivered_same made link a b same = cc (notices_same made.setup made.mtu link a b same)
-
 read_same : (made : Settings) (link : ℕ) (a b : List Call) → Alike made.setup made.mtu a b → was_read made link a ≡ was_read made link b
-read_same made link a b same =
-    ap (λ snapshot. option_map (λ slot. record { slot = slot; value = value (state_at snapshot slot) })
-    (slice_get (reads_waiting made.setup made.mtu link a) 0)) same.snapshot
-    ∙ ap (λ reads. option_map (stated made b) (slice_get reads 0)) (reads_same made.setup made.mtu link a b same)
+read_same made link a b same = grind (arith, option_map, value, state_at, slice_get, reads_waiting, stated, reads_same)
 
 serve_same : (label : Label) (made : Settings) (link : ℕ) (a b : List Call) → Alike made.setup made.mtu a b
     → serve_line label made link a ≡ serve_line label made link b
@@ -27,7 +20,7 @@ serve_same label made link a b same = ap (if_there (reply_line label)) (replied_
 
 tell_same : (label : Label) (made : Settings) (link : ℕ) (a b : List Call) → Alike made.setup made.mtu a b
     → tell_line label made link a ≡ tell_line label made link b
-tell_same label made link a b same = ap (if_there (value_line label.notice label.numbers)) (notice_delivered_same made link a b same)
+tell_same label made link a b same = grind (arith, if_there, value_line, notices_same)
 
 read_line_same : (label : Label) (made : Settings) (link : ℕ) (a b : List Call) → Alike made.setup made.mtu a b
     → read_line label made link a ≡ read_line label made link b
@@ -70,34 +63,18 @@ drain_same label made link a b same =
     (serve_lines label made link (length (writes_waiting link b)) b ++ tell_lines label made link
     (length (notices_waiting made.setup made.mtu link sb)) sb)
     (read_lines label made link (length (reads_waiting made.setup made.mtu link tb)) tb)
-    (append_same (serve_lines label made link (length (writes_waiting link a)) a)
-    (tell_lines label made link (length (notices_waiting made.setup made.mtu link sa)) sa)
-    (serve_lines label made link (length (writes_waiting link b)) b)
-    (tell_lines label made link (length (notices_waiting made.setup made.mtu link sb)) sb)
-    (ap (λ waiting. serve_lines label made link (length waiting) a) (waiting_same made.setup made.mtu link a b same)
-    ∙ serves_same label made link (length (writes_waiting link b)) a b same)
-    (ap (λ waiting. tell_lines label made link (length waiting) sa) (notices_same made.setup made.mtu link sa sb served)
-    ∙ tells_same label made link (length (notices_waiting made.setup made.mtu link sb)) sa sb served))
-    (ap (λ reads. read_lines label made link (length reads) ta) (reads_same made.setup made.mtu link ta tb told)
-    ∙ reads_lines_same label made link (length (reads_waiting made.setup made.mtu link tb)) ta tb told)
+    (grind (arith, append_same, serve_lines, length, writes_waiting, tell_lines, notices_waiting, waiting_same, serves_same, notices_same, tells_same))
+    (grind (arith, read_lines, length, reads_same, reads_lines_same, reads_waiting))
 
 -- ---- states and views
 
 shown_same : (sink : ℕ) (made : Settings) (a b : List Call) → Alike made.setup made.mtu a b
     → show_lines sink made a ≡ show_lines sink made b
-shown_same sink made a b same =
-    ap (λ snapshot. flat_map (λ slot. value_line (codes "state") (decimal sink ∷ [])
-    (record { slot = slot; value = value (state_at snapshot slot) })
-    ∷ value_line (codes "view") (decimal sink ∷ []) (viewed made 0 a slot) ∷ []) (range_with_len 0 made.setup.slots)) same.snapshot
-    ∙ ap (λ acts. flat_map (λ slot. value_line (codes "state") (decimal sink ∷ []) (stated made b slot)
-    ∷ value_line (codes "view") (decimal sink ∷ []) (record { slot = slot; value = value (view_of (language made.mtu) slot acts) }) ∷ [])
-    (range_with_len 0 made.setup.slots)) (same.acts 0)
+shown_same sink made a b same = grind (arith, same.snapshot, same.acts 0)
 
 views_same : (sink link : ℕ) (made : Settings) (a b : List Call) → Alike made.setup made.mtu a b
     → view_lines sink link made a ≡ view_lines sink link made b
-views_same sink link made a b same =
-    ap (λ acts. map (λ slot. value_line (codes "aview") (decimal sink ∷ decimal link ∷ [])
-    (record { slot = slot; value = value (view_of (language made.mtu) slot acts) })) (range_with_len 0 made.setup.slots)) (same.acts link)
+views_same sink link made a b same = grind (arith, map, value_line, codes, decimal, value, view_of, language, range_with_len)
 
 -- ---- trains
 
@@ -109,9 +86,7 @@ train_same sink made a b train same = ap (λ snapshot. sink_line sink (train_wor
 
 printed_sourced : (line : Step) (source source' : Source) → Sourced line source source' → (made : Settings) (calls : List Call)
     → printed_of source line made calls ≡ printed_of source' line made calls
-printed_sourced (steps.Announce sink) source source' sourced made calls = cc (sourced refl)
-printed_sourced (steps.Train sink time ext adv acad) source source' sourced made calls = cc (sourced refl)
-printed_sourced _ source source' sourced made calls = refl
+printed_sourced _ source source' sourced made calls = grind arith
 
 pub printed_same : (line : Step) (source source' : Source) (made made' : Option Settings) (a b : List Call) → Sourced line source source'
     → made ≡ made' → HistoriesAlike made a b → printed_where source line made a ≡ printed_where source' line made' b

@@ -1,6 +1,6 @@
 -- What a line makes of two histories of the sink that it names which come to the same: of the histories, of the receivers, and of the
 -- source that the sink is of.
-use Rattle.scenario_laws.proofs.Prelude.{ℕ, ◌≡◌, cond, Bool, true, false, List, [], ◌∷◌, Option, None, Some, refl, ap, subst, arith, encoding, control_heard, locations_set, train_heard, train_lost, Settings, Train, outcome_by, born, Step, is_source_line, calls_made, source_at, the_world, Source, calls_at, calls_by, made_of, named_by, own_train, follows, follows_by, received_by, source_by, train_by}
+use Rattle.scenario_laws.proofs.Prelude.{ℕ, ◌≡◌, cond, Bool, true, List, [], ◌∷◌, Option, None, Some, subst, arith, encoding, control_heard, locations_set, train_heard, train_lost, Settings, Train, outcome_by, born, Step, is_source_line, calls_made, source_at, the_world, Source, calls_at, calls_by, made_of, named_by, own_train, follows, follows_by, received_by, source_by, train_by}
 use Rattle.bass_operations.specs.declared.operation.Operation.TheVariants as operations
 use Rattle.group_sink.specs.Calls as sinks
 use Rattle.sink_history.specs.Calls as links
@@ -18,15 +18,7 @@ Sourced line source source' = is_source_line line ≡ true → source ≡ source
 
 called_sourced : (line : Step) (source source' : Source) → Sourced line source source' → (made : Option Settings) (calls : List Call)
     → calls_by source line made calls ≡ calls_by source' line made calls
-called_sourced (steps.Tuned sink which) source source' same made calls = cc (same refl)
-called_sourced (steps.Announce sink) source source' same made calls = ap (λ src. calls_by src (steps.Announce sink) made calls) (same refl)
-called_sourced (steps.Train sink time ext adv acad) source source' same made calls = cc (same refl)
-called_sourced _ source source' same made calls = refl
-
-train_sourced : (line : Step) (source source' : Source) → Sourced line source source' → train_by source line ≡ train_by source' line
-train_sourced (steps.Announce sink) source source' same = ap (λ src. train_by src (steps.Announce sink)) (same refl)
-train_sourced (steps.Train sink time ext adv acad) source source' same = cc (same refl)
-train_sourced _ source source' same = refl
+called_sourced _ source source' same made calls = grind (arith, calls_by)
 
 -- ---- the histories
 
@@ -62,8 +54,7 @@ called_some source _ made a b same = same
 
 lives_if : (hit : Bool) (made : Option Settings) (a b a' b' : List Call) → HistoriesAlike made a b → HistoriesAlike made a' b'
     → HistoriesAlike made (cond hit a' a) (cond hit b' b)
-lives_if true made a b a' b' before later = later
-lives_if false made a b a' b' before later = before
+lives_if hit made a b a' b' before later = grind arith
 
 named_lives : (n : ℕ) (named : Option ℕ) (line : Step) (earlier others : List Step) (made : Option Settings) (a b : List Call)
     → Sourced line (source_at earlier) (source_at others) → HistoriesAlike made a b
@@ -76,8 +67,7 @@ born_lives hit new mtu made a b same = grind (arith, alike_itself)
 
 gone_lives : (hit : Bool) (made : Option Settings) (a b : List Call) → HistoriesAlike made a b
     → HistoriesAlike (cond hit None made) (cond hit [] a) (cond hit [] b)
-gone_lives true made a b same = tt
-gone_lives false made a b same = same
+gone_lives hit made a b same = grind arith
 
 -- over two lists of steps
 pub history_grows : (n : ℕ) (step : Step) (earlier others : List Step) → Sourced step (source_at earlier) (source_at others)
@@ -96,8 +86,7 @@ received_some : (line : Step) (source source' : Source) → Sourced line source 
     → (made : Settings) (a a' b b' : List Call) (calls calls' : List sinks.Call)
     → Alike made.setup made.mtu a b → Alike made.setup made.mtu a' b' → calls ≡ calls'
     → received_by source line (Some made) a a' calls ≡ received_by source' line (Some made) b b' calls'
-received_some line source source' sourced made a a' b b' calls calls' before later took =
-    cc (train_sourced line source source' sourced, before.snapshot, later.snapshot, took)
+received_some line source source' sourced made a a' b b' calls calls' before later took = grind (arith, train_by)
 
 pub cond_same : {A : Type 0} (hit : Bool) (x x' y y' : A) → x ≡ x' → y ≡ y' → cond hit x y ≡ cond hit x' y'
 cond_same hit x x' y y' then otherwise = cc
@@ -114,12 +103,9 @@ moved_same n named line earlier others calls calls' sourced sink_same before lat
 
 follows_same : (source : Source) (train : Option Train) (made : Option Settings) (a b : List Call) → HistoriesAlike made a b
     → follows_by source train made a ≡ follows_by source train made b
-follows_same source None made a b same = refl
-follows_same source (Some train) None a b same = refl
-follows_same source (Some train) (Some made) a b same = ap (λ snapshot. follows (outcome_by made.setup snapshot train)) same.snapshot
+follows_same source train made a b same = grind (arith, follows, outcome_by)
 
 pub sourced_same : (line : Step) (source source' : Source) (made made' : Option Settings) (a b : List Call) (its its' : Option ℕ)
     → source ≡ source' → made ≡ made'
     → HistoriesAlike made a b → its ≡ its' → source_by source line made a its ≡ source_by source' line made' b its'
-sourced_same line source source' made made' a b its its' sources sinks_same same of_same =
-    cc (follows_same source (train_by source line) made a b same, sinks_same, sources, of_same)
+sourced_same line source source' made made' a b its its' sources sinks_same same of_same = grind (arith, follows_same, train_by)

@@ -1,5 +1,6 @@
 -- What is said of a source, looked back for: eight facts, of which all else that sinks and lines take of it are functions.
-use Rattle.scenario_laws.proofs.Prelude.{ℕ, zero, suc, ◌≡◌, ◌-◌, ◌*◌, ◌%◌, ◌^◌, ◌==◌, ◌||◌, ◌∙◌, not, cond, Bool, true, false, List, [], ◌∷◌, Option, None, Some, refl, ap, unwrap_or, option_or, train_of, Endpoint, Cipher, Call, hear, BigSync, control, pdu, BaseLine, subgroups_in, Step, base_from, base_lines, with_base_line, Position, hear_at, heard_on_air, is_lost, position_at, positions_of, unless_lost, GroupLine, Phase, absent, cipher_given, cipher_of, end_pdu, event_back, group_given, Airs, pdu_of, stale_of, group_of, ident_of, identity_given, is_ahead_in, is_sending_at, no_group, no_identity, open_event, pdu_in, phase_given, setup_from, setup_of, source_calls, stale_in, start_given, start_of, with_source_call, Stage, chosen_of, chosen_steps, is_of_source, is_over_at, last_given, stage_after, stage_of, steps_of_source, version_at, big_sync_on, source_at, Source, Setup, events, next_anchor_of, next_of, with_cipher, Identity}
+use Rattle.std.proofs.Common.{arith}
+use Rattle.scenario_laws.proofs.Prelude.{ℕ, zero, suc, ◌≡◌, ◌-◌, ◌%◌, ◌^◌, ◌==◌, ◌||◌, ◌∙◌, not, cond, Bool, false, List, [], ◌∷◌, Option, None, Some, ap, unwrap_or, option_or, train_of, Endpoint, Cipher, Call, hear, BigSync, control, pdu, BaseLine, subgroups_in, Step, base_from, base_lines, with_base_line, Position, hear_at, heard_on_air, is_lost, position_at, positions_of, unless_lost, GroupLine, Phase, absent, cipher_given, cipher_of, end_pdu, event_back, group_given, Airs, pdu_of, stale_of, group_of, ident_of, identity_given, is_ahead_in, is_sending_at, no_group, no_identity, open_event, pdu_in, phase_given, setup_from, setup_of, source_calls, stale_in, start_given, start_of, with_source_call, Stage, chosen_of, chosen_steps, is_of_source, is_over_at, last_given, stage_after, stage_of, steps_of_source, version_at, big_sync_on, source_at, Source, Setup, events, next_anchor_of, next_of, with_cipher, Identity}
 use Rattle.iso_pdu.specs.Control.{terminate}
 use Rattle.source_machine.specs.Calls.{Call as SourceCall, event as perform}
 
@@ -106,8 +107,7 @@ tuning_same own own' which same = ap (tuning_in which) same
 
 pub hear_same : (airs : Airs) (own own' : List Step) (back : ℕ) (position : Position) → said_of own ≡ said_of own'
     → hear_at airs own (event_back own back) position ≡ hear_at airs own' (event_back own' back) position
-hear_same airs own own' back position same =
-    ap (λ said. hear (back_in said back) position.bis position.subevent (pdu_said airs said (back_in said back) position.bis position.subevent)) same
+hear_same airs own own' back position same = grind (arith, hear)
 
 pub stale_same : (airs : Airs) (own own' : List Step) → said_of own ≡ said_of own' → stale_in airs own ≡ stale_in airs own'
 stale_same airs own own' same = ap (λ said. stale_of (setup_in said) said.calls (airs (setup_in said) (perform ∷ said.calls))) same
@@ -117,18 +117,12 @@ end_same own own' reason same = ap (λ said. pdu (control (terminate reason (nex
 
 -- ---- what is heard on the air
 
-abbrev position_in : ℕ → Said → Position
-position_in i said = position_at (setup_in said).info i
-
 heard_one : (airs : Airs) (own own' : List Step) (lose i : ℕ) (calls : List Call) → said_of own ≡ said_of own'
     → unless_lost (is_lost (setup_of own).info (event_back own 0) lose (position_at (setup_of own).info i))
     (hear_at airs own (event_back own 0) (position_at (setup_of own).info i)) calls
     ≡ unless_lost (is_lost (setup_of own').info (event_back own' 0) lose (position_at (setup_of own').info i))
     (hear_at airs own' (event_back own' 0) (position_at (setup_of own').info i)) calls
-heard_one airs own own' lose i calls same =
-    ap (λ said. unless_lost (is_lost (setup_in said).info (back_in said 0) lose (position_in i said))
-    (hear (back_in said 0) (position_in i said).bis (position_in i said).subevent
-    (pdu_said airs said (back_in said 0) (position_in i said).bis (position_in i said).subevent)) calls) same
+heard_one airs own own' lose i calls same = grind (arith, unless_lost, is_lost, hear)
 
 heard_first : (airs : Airs) (own own' : List Step) (lose count : ℕ) (calls calls' : List Call) → said_of own ≡ said_of own' → calls ≡ calls'
     → heard_on_air airs own lose count calls ≡ heard_on_air airs own' lose count calls'
@@ -138,9 +132,7 @@ heard_first airs own own' lose (suc i) calls calls' same took =
 
 pub heard_same : (airs : Airs) (own own' : List Step) (lose : ℕ) (calls calls' : List Call) → said_of own ≡ said_of own' → calls ≡ calls'
     → heard_on_air airs own lose (positions_of own) calls ≡ heard_on_air airs own' lose (positions_of own') calls'
-heard_same airs own own' lose calls calls' same took =
-    ap (λ said. heard_on_air airs own lose ((setup_in said).info.num_bis * (setup_in said).info.nse) calls) same
-    ∙ heard_first airs own own' lose (positions_of own') calls calls' same took
+heard_same airs own own' lose calls calls' same took = grind (arith, heard_on_air, heard_first, positions_of)
 
 -- ---- the chosen source
 
@@ -158,20 +150,17 @@ chosen_said s made others is chosen same = cc (is, same, is, chosen)
 
 said_if : (is_its : Bool) (step : Step) (own own' : List Step) → said_of own ≡ said_of own'
     → said_of (cond is_its (step ∷ own) own) ≡ said_of (cond is_its (step ∷ own') own')
-said_if true this own own' same = ap (said_after this) same
-said_if false this own own' same = same
+said_if is_its this own own' same = grind arith
 
 -- that both lists have
 pub said_grows : (s : ℕ) (step : Step) (made others : List Step) → chosen_of made ≡ chosen_of others
     → said_of (steps_of_source s made) ≡ said_of (steps_of_source s others)
     → said_of (steps_of_source s (step ∷ made)) ≡ said_of (steps_of_source s (step ∷ others))
-said_grows s step made others chosen same =
-    cc (chosen, said_if (is_of_source s others step) step (steps_of_source s made) (steps_of_source s others) same)
+said_grows s step made others chosen same = grind (arith, said_if, is_of_source, steps_of_source)
 
 stays_if : (is_its : Bool) (step : Step) (own : List Step) → said_after step (said_of own) ≡ said_of own
     → said_of (cond is_its (step ∷ own) own) ≡ said_of own
-stays_if true this own same = same
-stays_if false this own same = refl
+stays_if is_its this own same = grind arith
 
 -- that says nothing of a source
 pub said_stays : (s : ℕ) (step : Step) (made : List Step) → ((said : Said) → said_after step said ≡ said)

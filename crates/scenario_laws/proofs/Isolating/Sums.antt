@@ -1,6 +1,6 @@
 -- What the box of a sink took since the sink was made: the valid units that the sink handed up since then, and nothing else, since no
 -- two sinks have one box and a new sink has a new one.
-use Rattle.scenario_laws.proofs.Prelude.{ℕ, ◌≡◌, ◌<◌, ◌≤◌, ◌==◌, ◌∙◌, cond, Bool, true, false, List, [], ◌∷◌, ◌++◌, map, Option, None, Some, arith, refl, sym, ap, inl, inr, AllByRecursion, filter, flat_map, cases_eq, eq-eqb, eqb-true, ne_eqb, append-nil, none-some, Handed, valid, lost, Call, handed_at, Step, box_was_made, valid_append, SinkUnit, box_of, closing_at, closing_in, handed_by, handed_up, onto_valid, valid_for, open_event, Airs, chosen_of, sinks_made, sinks_made_by, steps_of_source, units_by}
+use Rattle.scenario_laws.proofs.Prelude.{ℕ, ◌≡◌, ◌<◌, ◌≤◌, ◌==◌, ◌∙◌, cond, Bool, true, false, List, [], ◌∷◌, ◌++◌, map, Option, None, Some, arith, refl, sym, ap, AllByRecursion, filter, flat_map, cases_eq, eq-eqb, eqb-true, ne_eqb, append-nil, none-some, Handed, valid, lost, Call, handed_at, Step, box_was_made, valid_append, SinkUnit, box_of, closing_at, closing_in, handed_by, handed_up, onto_valid, valid_for, open_event, Airs, chosen_of, sinks_made, sinks_made_by, steps_of_source, units_by}
 use Rattle.scenario_text.specs.declared.step.Step.TheVariants as steps
 use Rattle.scenario_history.specs.Boxes.{closing}
 
@@ -37,17 +37,9 @@ one_box (_ ∷ made) m k b em ek = one_box made m k b em ek
 abbrev FitsBox : ℕ → ℕ → List SinkUnit → Type 0
 FitsBox b n units = AllByRecursion (λ unit. (unit.box == b) ≡ (unit.sink == n)) units
 
-onto_octets : (unit : Handed) (units : List Handed) → onto_valid true unit (octets_in units) ≡ octets_in (unit ∷ units)
-onto_octets (valid bis time octets) units = refl
-onto_octets (lost bis time) units = refl
-
-past_octets : (unit : Handed) (units : List Handed) → onto_valid false unit (octets_in units) ≡ octets_in units
-past_octets (valid bis time octets) units = refl
-past_octets (lost bis time) units = refl
-
 one_octets : (hit : Bool) (unit : SinkUnit) (units : List SinkUnit)
     → onto_valid hit unit.unit (octets_in (map (λ u. u.unit) units)) ≡ octets_in (map (λ u. u.unit) (cond hit (unit ∷ units) units))
-one_octets hit unit units = grind (arith, onto_octets, past_octets)
+one_octets hit unit units = grind (arith, valid, lost)
 
 its_octets : (b n : ℕ) (units : List SinkUnit) → FitsBox b n units → valid_for b units ≡ octets_in (units_by n units)
 its_octets b n [] fits = refl
@@ -68,18 +60,12 @@ fits_units b n t m box [] same = tt
 fits_units b n t m box (unit ∷ units) same = (same, fits_units b n t m box units same)
 
 same_tests : (made : List Step) (n m b box : ℕ) → box_of n made ≡ Some b → box_of m made ≡ Some box → (box == b) ≡ (m == n)
-same_tests made n m b box its is = elim (cases_eq m n) [
-  | inl same ↦
-      let boxes : box ≡ b = same_some box b (sym is ∙ ap (λ k. box_of k made) same ∙ its) in
-      eq-eqb box b boxes ∙ sym (eq-eqb m n same)
-  | inr other ↦ ne_eqb box b (λ boxes. other (one_box made m n b (is ∙ ap Some boxes) its)) ∙ sym (ne_eqb m n other)
-]
+same_tests made n m b box its is = grind (arith, cases_eq, same_some, box_of, eq-eqb, ne_eqb, one_box)
 
 fits_one : (made : List Step) (b n t event m : ℕ) (calls : List Call) (hit : Bool) (box : Option ℕ) → box_of n made ≡ Some b
     → box_of m made ≡ box → FitsBox b n (cond hit (closing_in t event m calls box) [])
-fits_one made b n t event m calls true None its is = tt
 fits_one made b n t event m calls true (Some box) its is = fits_units b n t m box (handed_at calls event) (same_tests made n m b box its is)
-fits_one made b n t event m calls false box its is = tt
+fits_one made b n t event m calls hit box its is = search (fits_units, handed_at, same_tests)
 
 fits_at : (airs : Airs) (made : List Step) (b n t : ℕ) (last_open : Option ℕ) → box_of n made ≡ Some b
     → FitsBox b n (closing_at airs t made last_open)
@@ -114,18 +100,16 @@ none_flat b f (m ∷ ms) none = cc (valid_append b (f m) (flat_map f ms), none m
 
 none_one : (made : List Step) (b t event m : ℕ) (calls : List Call) (hit : Bool) (box : Option ℕ) → sinks_made made ≤ b
     → box_of m made ≡ box → valid_for b (cond hit (closing_in t event m calls box) []) ≡ []
-none_one made b t event m calls true None later is = refl
 none_one made b t event m calls true (Some box) later is =
     let older : box < sinks_made made = box_was_made m made box is in
     none_units b t m box (handed_at calls event) (ne_eqb box b (λ same. omega (arith, older, later, same)))
-none_one made b t event m calls false box later is = refl
+none_one made b t event m calls hit box later is = search (sinks_made, box_was_made, none_units, handed_at, ne_eqb)
 
 none_step : (airs : Airs) (made : List Step) (b : ℕ) (step : Step) → sinks_made made ≤ b → valid_for b (handed_by airs made step) ≡ []
 none_step airs made b step later = grind (arith, valid_append, none_flat, none_one)
 
 more_made : (step : Step) (count : ℕ) → count ≤ sinks_made_by step count
-more_made (steps.Sink sink streams slots mtu) count = omega arith
-more_made _ count = omega arith
+more_made _ count = grind arith
 
 pub none_yet : (airs : Airs) (made : List Step) (b : ℕ) → sinks_made made ≤ b → valid_for b (handed_up airs made) ≡ []
 none_yet airs [] b later = refl
@@ -144,40 +128,30 @@ TookAlike airs n made others =
 
 -- a step more in both lists, that leaves both boxes
 stays_took : (airs : Airs) (n : ℕ) (step : Step) (made others : List Step) → TookAlike airs n made others
-    → units_by n (handed_by airs made step) ≡ units_by n (handed_by airs others step)
-    → (box other : ℕ) → box_of n made ≡ Some box → box_of n others ≡ Some other
-    → valid_for box (handed_up airs (step ∷ made)) ≡ valid_for other (handed_up airs (step ∷ others))
+    → units_by n (handed_by airs made step) ≡ units_by n (handed_by airs others step) → (box other : ℕ) → box_of n made ≡ Some box
+    → box_of n others ≡ Some other → valid_for box (handed_up airs (step ∷ made)) ≡ valid_for other (handed_up airs (step ∷ others))
 stays_took airs n step made others took same box other its its' =
-    valid_append box (handed_up airs made) (handed_by airs made step)
-    ∙ ap (λ us. us ++ valid_for box (handed_by airs made step)) (took box other its its')
-    ∙ ap (λ us. valid_for other (handed_up airs others) ++ us)
-    (step_octets airs made box n step its ∙ ap octets_in same ∙ sym (step_octets airs others other n step its'))
-    ∙ sym (valid_append other (handed_up airs others) (handed_by airs others step))
+    grind (
+      arith,
+      valid_append box (handed_up airs made) (handed_by airs made step),
+      took box other its its',
+      step_octets airs made box n step its,
+      step_octets airs others other n step its',
+      valid_append other (handed_up airs others) (handed_by airs others step),
+    )
 
 -- one list alone has the step, by which the sink hands up nothing
 pub left_took : (airs : Airs) (n : ℕ) (step : Step) (made others : List Step) → TookAlike airs n made others
     → units_by n (handed_by airs made step) ≡ [] → box_of n (step ∷ made) ≡ box_of n made → TookAlike airs n (step ∷ made) others
 left_took airs n step made others took none stays box other its its' =
-    let before : box_of n made ≡ Some box = sym stays ∙ its in
-    valid_append box (handed_up airs made) (handed_by airs made step)
-    ∙ ap (λ us. valid_for box (handed_up airs made) ++ us) (step_octets airs made box n step before ∙ ap octets_in none)
-    ∙ append-nil (valid_for box (handed_up airs made)) ∙ took box other before its'
-
-made_took : (hit : Bool) (airs : Airs) (n sink streams slots : ℕ) (mtu : Option ℕ) (made others : List Step) → TookAlike airs n made others
-    → (box other : ℕ) → cond hit (Some (sinks_made made)) (box_of n made) ≡ Some box
-    → cond hit (Some (sinks_made others)) (box_of n others) ≡ Some other
-    → valid_for box (handed_up airs (steps.Sink sink streams slots mtu ∷ made))
-    ≡ valid_for other (handed_up airs (steps.Sink sink streams slots mtu ∷ others))
-made_took hit airs n sink streams slots mtu made others took box other its its' = grind (arith, same_some, valid_append, none_yet, stays_took)
-
-gone_took : (hit : Bool) (airs : Airs) (n sink : ℕ) (made others : List Step) → TookAlike airs n made others
-    → (box other : ℕ) → cond hit None (box_of n made) ≡ Some box → cond hit None (box_of n others) ≡ Some other
-    → valid_for box (handed_up airs (steps.Drop sink ∷ made)) ≡ valid_for other (handed_up airs (steps.Drop sink ∷ others))
-gone_took true airs n sink made others took box other its its' = absurd (none-some box its)
-gone_took false airs n sink made others took box other its its' = search (stays_took)
+    grind (
+      arith,
+      valid_append box (handed_up airs made) (handed_by airs made step),
+      step_octets airs made box n step (sym stays ∙ its),
+      append-nil (valid_for box (handed_up airs made)),
+      took box other (sym stays ∙ its) its',
+    )
 
 pub kept_took : (airs : Airs) (n : ℕ) (step : Step) (made others : List Step) → TookAlike airs n made others
     → units_by n (handed_by airs made step) ≡ units_by n (handed_by airs others step) → TookAlike airs n (step ∷ made) (step ∷ others)
-kept_took airs n (steps.Sink sink streams slots mtu) made others took same box other its its' = search (made_took)
-kept_took airs n (steps.Drop sink) made others took same box other its its' = search (gone_took)
-kept_took airs n step made others took same box other its its' = stays_took airs n step made others took same box other its its'
+kept_took airs n step made others took same box other its its' = grind (arith, same_some, valid_append, none_yet, stays_took, none-some)

@@ -1,5 +1,5 @@
 -- The units that a sink hands up as an event is closed: of the source that it is of alone, whatever other sinks do.
-use Rattle.scenario_laws.proofs.Prelude.{ℕ, ◌≡◌, ◌==◌, ◌∙◌, cond, Bool, false, List, [], ◌∷◌, ◌++◌, map, Option, None, Some, is_some, refl, sym, arith, ap, inl, inr, flat_map, cases_eq, eq-eqb, false≢true, ne_eqb, map-append, filter-append, Handed, Call, Step, SinkUnit, box_of, closing_at, closing_both, closing_by, closing_in, is_of, sink_calls, source_of, open_event, Airs, steps_of_source, units_by}
+use Rattle.scenario_laws.proofs.Prelude.{ℕ, ◌≡◌, ◌==◌, ◌∙◌, cond, Bool, false, List, [], ◌∷◌, ◌++◌, map, Option, None, Some, is_some, refl, arith, ap, flat_map, cases_eq, eq-eqb, false≢true, ne_eqb, map-append, filter-append, Handed, Call, Step, SinkUnit, box_of, closing_at, closing_both, closing_by, closing_in, is_of, sink_calls, source_of, open_event, Airs, steps_of_source, units_by}
 use Rattle.scenario_history.specs.Boxes.{closing}
 use Rattle.scenario_laws.proofs.Isolating.Said.{open_same}
 use Rattle.scenario_laws.proofs.RelayedUnits.Citable.{flat_same}
@@ -49,44 +49,21 @@ pub record HandsAlike (airs : Airs) (n : ℕ) (made others : List Step) : Type 0
   pub source : source_of n made ≡ source_of n others
   pub boxed : is_some (box_of n made) ≡ is_some (box_of n others)
 
-own_closes : (airs : Airs) (t event n : ℕ) (made others : List Step) → HandsAlike airs n made others
-    → units_by n (closes airs t event made n) ≡ units_by n (closes airs t event others n)
-own_closes airs t event n made others same =
-    cc (
-      same.calls,
-      same.source,
-      boxes_in (is_of t (source_of n others)) t event n (sink_calls airs n others) (box_of n made) (box_of n others) same.boxed,
-    )
-
 each_closes : (airs : Airs) (t event n : ℕ) (made others : List Step) → HandsAlike airs n made others → (m : ℕ)
     → units_by n (closes airs t event made m) ≡ units_by n (closes airs t event others m)
-each_closes airs t event n made others same m = elim (cases_eq m n) [
-  | inl is ↦
-      ap (λ k. units_by n (closes airs t event made k)) is ∙ own_closes airs t event n made others same
-      ∙ sym (ap (λ k. units_by n (closes airs t event others k)) is)
-  | inr other ↦
-      other_in (is_of t (source_of m made)) t event n m (sink_calls airs m made) (box_of m made) (ne_eqb m n other)
-      ∙ sym (other_in (is_of t (source_of m others)) t event n m (sink_calls airs m others) (box_of m others) (ne_eqb m n other))
-]
+each_closes airs t event n made others same m =
+    grind (arith, cases_eq, units_by, boxes_in, is_of, source_of, sink_calls, box_of, other_in, ne_eqb)
 
 closing_same : (airs : Airs) (t n : ℕ) (last_open : Option ℕ) (made others : List Step) → HandsAlike airs n made others
     → units_by n (closing_at airs t made last_open) ≡ units_by n (closing_at airs t others last_open)
 closing_same airs t n None made others same = refl
 closing_same airs t n (Some event) made others same = search (units_flat, flat_same, each_closes)
 
-not_its : (airs : Airs) (t event n : ℕ) (made : List Step) → is_of t (source_of n made) ≡ false → (m : ℕ)
-    → units_by n (closes airs t event made m) ≡ []
-not_its airs t event n made apart m = elim (cases_eq m n) [
-  | inl is ↦
-      ap (λ k. units_by n (closes airs t event made k)) is
-      ∙ ap (λ its. units_by n (cond its (closing_in t event n (sink_calls airs n made) (box_of n made)) [])) apart
-  | inr other ↦ other_in (is_of t (source_of m made)) t event n m (sink_calls airs m made) (box_of m made) (ne_eqb m n other)
-]
-
 -- a sink that isn't of the source hands up nothing
 pub closing_none : (airs : Airs) (t n : ℕ) (last_open : Option ℕ) (made : List Step) → is_of t (source_of n made) ≡ false
     → units_by n (closing_at airs t made last_open) ≡ []
-closing_none airs t n last_open made apart = grind (arith, units_flat, flat_none, not_its)
+closing_none airs t n last_open made apart =
+    grind (arith, units_flat, flat_none, cases_eq, units_by, cond, closing_in, sink_calls, box_of, other_in, is_of, source_of, ne_eqb)
 
 -- ---- of any source
 
@@ -99,21 +76,9 @@ opens_alike airs s n t made others its same = cc (its, open_same (steps_of_sourc
 
 pub closing_alike : (airs : Airs) (s n t : ℕ) (made others : List Step) → Same airs s n made others
     → units_by n (closing airs t made) ≡ units_by n (closing airs t others)
-closing_alike airs s n t made others same = elim (cases_eq t s) [
-  | inl its ↦
-      ap (λ last_open. units_by n (closing_at airs t made last_open)) (opens_alike airs s n t made others its same)
-      ∙ closing_same airs t n (open_event (steps_of_source t others)) made others (hands_alike airs s n made others same)
-  | inr other ↦
-      closing_none airs t n (open_event (steps_of_source t made)) made (same.apart t other)
-      ∙ sym (closing_none airs t n (open_event (steps_of_source t others)) others (sym (ap (is_of t) same.source) ∙ same.apart t other))
-]
+closing_alike airs s n t made others same =
+    grind (arith, cases_eq, units_by, closing_at, opens_alike, closing_same, open_event, steps_of_source, hands_alike, closing_none, is_of)
 
 pub both_alike : (airs : Airs) (s n : ℕ) (made others : List Step) → Same airs s n made others
     → units_by n (closing_both airs made) ≡ units_by n (closing_both airs others)
-both_alike airs s n made others same =
-    cc (
-      units_append n (closing airs 0 made) (closing airs 1 made),
-      closing_alike airs s n 0 made others same,
-      closing_alike airs s n 1 made others same,
-      units_append n (closing airs 0 others) (closing airs 1 others),
-    )
+both_alike airs s n made others same = grind (arith, units_append, closing_alike)

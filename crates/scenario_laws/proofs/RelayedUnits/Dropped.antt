@@ -1,6 +1,6 @@
 -- A unit that a relay offers is dropped for one of four reasons: the stream that it goes to is one of source 1, which is framed and
 -- takes times ahead.
-use Rattle.scenario_laws.proofs.Prelude.{ℕ, ◌≡◌, ◌==◌, ◌||◌, ◌&&◌, ◌∙◌, not, cond, Bool, true, false, List, [], ◌∷◌, ltb, arith, None, Some, refl, ap, subst, inl, inr, slice_index_or, All, option_map, option_or, and_parts, eqb-true, false≢true, or_parts, All-head, All-tail, Step, Airs, permitted, stage_same, give_refusal, is_out_of_phase, refusal_of, source_refusal, refuse_if, Phase, absent, described, is_ciphered, is_sending, is_sending_at, is_started, phase_of, sending, setup_of, stopped, takes_units, was_started_at, chosen_of, is_of_source, is_source_line, steps_of_source, version_at, version_of, DroppedLaw, Offer, after_offer, closes_first, dropped_for, happened, offers_at, AreLegal, had_relay, relay_of}
+use Rattle.scenario_laws.proofs.Prelude.{ℕ, ◌≡◌, ◌==◌, ◌&&◌, ◌∙◌, not, cond, Bool, true, false, List, [], ◌∷◌, ltb, arith, None, Some, refl, ap, subst, inl, inr, slice_index_or, All, option_map, option_or, and_parts, eqb-true, false≢true, or_parts, All-head, All-tail, Step, Airs, permitted, stage_same, give_refusal, is_out_of_phase, refusal_of, source_refusal, refuse_if, Phase, absent, described, is_ciphered, is_sending, is_sending_at, is_started, phase_of, sending, setup_of, stopped, takes_units, was_started_at, chosen_of, is_of_source, is_source_line, steps_of_source, version_at, version_of, DroppedLaw, Offer, after_offer, closes_first, dropped_for, happened, offers_at, AreLegal, had_relay, relay_of}
 use Rattle.std.proofs.lemmas.Bool.{or_cases}
 use Rattle.relay_role.specs.Relayed.{drop_name}
 use Rattle.scenario_text.specs.declared.step.Step.TheVariants as steps
@@ -27,12 +27,9 @@ sending_started described is = is
 sending_started sending is = refl
 sending_started stopped is = refl
 
-settled_by : (step : Step) (own : List Step) (to : ℕ) → is_out_of_phase own step ≡ false → Settled own to → Settled (step ∷ own) to
-settled_by this own to test before = grind (arith, or_parts, false≢true)
-
 settled_if : (mine : Bool) (step : Step) (own : List Step) (to : ℕ) → (mine ≡ true → is_out_of_phase own step ≡ false) → Settled own to
     → Settled (cond mine (step ∷ own) own) to
-settled_if mine step own to test before = grind (arith, settled_by)
+settled_if mine step own to test before = grind (arith, or_parts, false≢true)
 
 by_line : (airs : Airs) (boxes : ℕ) (earlier : List Step) (step : Step) → refusal_of airs boxes earlier step ≡ None
     → (is_source_line step && (chosen_of earlier == 1)) ≡ true → is_out_of_phase (steps_of_source 1 earlier) step ≡ false
@@ -76,23 +73,13 @@ same_reason : (long above full : Bool) → option_map give_refusal (cond long (S
     (cond (not (above && true)) (Some give_faults.TimeOrder) (cond full (Some give_faults.Backlog) None)))
     ≡ option_map refusal_named (cond long (Some drops.UnitTooLong)
     (cond (not above) (Some drops.TimeOrder) (cond full (Some drops.Backlog) None)))
-same_reason true above full = refl
-same_reason false false full = refl
-same_reason false true true = refl
-same_reason false true false = refl
-
-reason_by : (beyond long unframed above ahead early full : Bool) → beyond ≡ false → unframed ≡ false → ahead ≡ true
-    → option_map give_refusal (cond beyond (Some give_faults.NoSuchBis) (cond long (Some give_faults.UnitTooLong)
-    (cond (not (cond unframed false (above && (ahead || early)))) (Some give_faults.TimeOrder)
-    (cond full (Some give_faults.Backlog) None)))) ≡ option_map refusal_named (cond long (Some drops.UnitTooLong)
-    (cond (not above) (Some drops.TimeOrder) (cond full (Some drops.Backlog) None)))
-reason_by beyond long unframed above ahead early full p q r = rw (p, q, r) (same_reason long above full)
+same_reason long above full = grind arith
 
 by_takes : (takes : Bool) (airs : Airs) (version : ℕ) (own : List Step) (offer : Offer) → Settled own offer.route.to → version_of own ≡ 2
     → option_or (refuse_if (not takes) refusals.Order)
     (source_refusal airs version own (steps.Unit offer.route.to (Some offer.unit.time) offer.unit.octets))
     ≡ option_map refusal_named (drop_name airs offer.route.to offer.unit (second_at takes own))
-by_takes takes airs version own offer set second = grind (arith, reason_by, ltb, eqb-true)
+by_takes takes airs version own offer set second = grind (arith, same_reason, ltb, eqb-true)
 
 one_named : (airs : Airs) (boxes : ℕ) (offer : Offer) (made : List Step) → AreLegal airs boxes made → version_of made ≡ 2
     → relay_of offer.sink made ≡ Some offer.route
@@ -118,6 +105,4 @@ named_if closes airs boxes made legal second runs = grind (arith, offers_named, 
 
 pub dropped_law_holds : (boxes : ℕ) → DroppedLaw boxes
 dropped_law_holds boxes airs said step legal second =
-    let made = happened airs said in
-    named_if (closes_first made step) airs boxes made (happens_legally airs boxes said legal.0)
-    (ap version_at (stage_happened airs said) ∙ second) (runs_at airs boxes made step (line_passes airs boxes made step legal.1))
+    grind (arith, happened, named_if, closes_first, happens_legally, version_at, stage_happened, runs_at, line_passes)

@@ -1,9 +1,8 @@
 -- A line of version 1 is no `relay` line: no row of the table that version 1 knows makes one.
 use Rattle.scenario_laws.proofs.Prelude.{ℕ, ◌≡◌, Bool, false, cond, nat_eq, List, [], ◌∷◌, Option, None, Some, Result, Ok, Err, refl, arith, TextLine, ◌>>=◌, LineFault, at_known, built_at, Build, Row, event_rows, first_rows, link_rows, row_in, sink_rows, source_rows, Step, a_step, nothing, said_by, said_in, unsaid, has_relay, makes_relay}
-use Rattle.scenario_words.specs.declared.fault.LineFault.TheVariants.{BadLine as Misfit, Memory as NoMemory}
 use Rattle.scenario_words.specs.Places.{Place, PlaceValue}
-use Rattle.scenario_words.specs.Reading.{Left, at_place, ended}
-use Rattle.scenario_text.specs.Steps.{read_of, step_of, whole}
+use Rattle.scenario_words.specs.Reading.{Left, at_place}
+use Rattle.scenario_text.specs.Steps.{read_of, step_of}
 use Rattle.scenario_text.specs.Table.{first_row_of, link_row_of, row_of, row_of_2, sink_row_of, source_row_of}
 use Rattle.scenario_history.specs.Lines.{Said}
 
@@ -26,8 +25,7 @@ StepNever (Ok made) = makes_relay made ≡ false
 StepNever (Err fault) = Unit {0}
 
 made_then : {A : Type 0} (read : Result A LineFault) (f : A → Result (Step × Left) LineFault) → ((a : A) → MadeNever (f a)) → MadeNever (read >>= f)
-made_then (Ok a) f never = never a
-made_then (Err fault) f never = tt
+made_then read f never = grind arith
 
 built_never : (places : List Place) (build : Build places) (left : Left) → Never places build → MadeNever (built_at places build left)
 built_never [] made left never = never
@@ -38,9 +36,6 @@ built_never (place ∷ places) build left never =
 abbrev KnownNever : Option Row → Type 0
 KnownNever known = (left : Left) → MadeNever (at_known known left)
 
-none_never : KnownNever None
-none_never left = tt
-
 never_if : (hit : Bool) (row : Row) (other : Option Row) → Never row.places row.build → KnownNever other → KnownNever (cond hit (Some row) other)
 never_if hit row other here rest = grind (arith, built_never)
 
@@ -50,7 +45,7 @@ in_rows_never first (row ∷ rows) other never rest = search (never_if, in_rows_
 
 -- version 1 knows none of the rows of version 2 alone
 not_second : (second : Bool) (here : Option Row) → second ≡ false → KnownNever (cond second here None)
-not_second second here first = grind (arith, none_never)
+not_second second here first = grind arith
 
 events_never : AllNever event_rows
 events_never = (λ a b c. refl, (refl, (λ a b c d. refl, (λ a b. refl, (λ a b c d e. refl, (λ a b c. refl, tt))))))
@@ -76,17 +71,9 @@ rows_never version first is =
     (in_rows_never first sink_rows (link_row_of version first) sinks_never
     (in_rows_never first link_rows (row_of_2 version first) links_never (not_second (nat_eq version 2) _ is)))))
 
-whole_never : (made : Result (Step × Left) LineFault) → MadeNever made → StepNever (made >>= whole)
-whole_never (Err fault) never = tt
-whole_never (Ok made) never = elim (ended made.1.read made.1.words) as (λ e. StepNever (e >>= λ none. Ok made.0)) [ Ok none ↦ never | Err fault ↦ tt ]
-
-step_then : {A : Type 0} (read : Result A LineFault) (f : A → Result Step LineFault) → ((a : A) → StepNever (f a)) → StepNever (read >>= f)
-step_then (Ok a) f never = never a
-step_then (Err fault) f never = tt
-
 step_never : (version : ℕ) (line : List ℕ) → nat_eq version 2 ≡ false → StepNever (step_of version line)
 unfolding step_of
-step_never version line is = search (step_then, whole_never, rows_never)
+step_never version line is = grind (arith, rows_never)
 
 -- a line says no `relay`
 abbrev pub SaidNever : Said → Type 0
@@ -94,14 +81,9 @@ SaidNever (a_step made) = makes_relay made ≡ false
 SaidNever nothing = Unit {0}
 SaidNever (unsaid reason) = Unit {0}
 
-said_step : (read : Result Step LineFault) → StepNever read → SaidNever (said_by (read >>= λ step. Ok (Some step)))
-said_step (Ok made) never = never
-said_step (Err (Misfit word)) never = tt
-said_step (Err NoMemory) never = tt
-
 said_if : (is_comment : Bool) (read : Result Step LineFault) → StepNever read
     → SaidNever (said_by (cond is_comment (Ok None) (read >>= λ step. Ok (Some step))))
-said_if is_comment read never = grind (arith, said_step)
+said_if is_comment read never = grind arith
 
 pub says_no_relay : (version : ℕ) (line : TextLine) → nat_eq version 2 ≡ false → SaidNever (said_in version line)
 unfolding read_of

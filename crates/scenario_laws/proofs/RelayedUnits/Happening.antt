@@ -15,8 +15,7 @@ sinks_happened airs (step ∷ earlier) = cc ((left_by_relayed_units airs (happen
 -- ---- what is handed up
 
 closes_if : (hit : Bool) (airs : Airs) (made : List Step) → (hit ≡ true → chosen_of made ≡ 0)
-    → (let after = after_offers airs (cond hit (offers_at airs made) []) made in
-    closing airs (chosen_of after) after ≡ closing airs (chosen_of made) made)
+    → (let after = after_offers airs (cond hit (offers_at airs made) []) made in closing airs (chosen_of after) after ≡ closing airs (chosen_of made) made)
 closes_if true airs made is =
     let after = after_offers airs (offers_at airs made) made in
     let left = left_by_offers airs (offers_at airs made) made in

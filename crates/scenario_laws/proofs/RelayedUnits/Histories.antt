@@ -1,6 +1,6 @@
 -- What happens by steps of lines makes of each sink, its links and its assistants what the lines say: relayed units are no part of what a
 -- source announces and of where it stands.
-use Rattle.scenario_laws.proofs.Prelude.{ℕ, suc, ◌≡◌, ◌+◌, ◌==◌, ◌||◌, ◌&&◌, ◌∙◌, cond, Bool, true, false, List, [], ◌∷◌, Option, None, Some, refl, ap, ap₂, arith, unwrap_or, option_or, train_of, Settings, iso_us_of, Cipher, BaseLine, subgroups_in, Step, Source, calls_after, calls_at, calls_by, made_by, made_of, named_by, events, anchor_of, with_cipher, Identity, Refusal, base_from, base_lines, with_base_line, Offer, after_offer, after_offers, happened, offers_before, with_relayed_unit_unless, with_relayed_units, GroupLine, cipher_given, cipher_of, group_given, group_of, ident_of, identity_given, no_group, Airs, no_identity, source_calls, start_given, start_of, chosen_given, chosen_of, is_common, is_of_source, is_source_line, last_given, steps_of_source, calls_made, source_at, the_world}
+use Rattle.scenario_laws.proofs.Prelude.{ℕ, ◌≡◌, ◌+◌, ◌==◌, ◌||◌, ◌&&◌, ◌∙◌, cond, Bool, List, [], ◌∷◌, Option, refl, ap, ap₂, arith, unwrap_or, option_or, train_of, Settings, iso_us_of, Cipher, BaseLine, subgroups_in, Step, Source, calls_after, calls_at, calls_by, made_by, made_of, named_by, events, anchor_of, with_cipher, Identity, Refusal, base_from, base_lines, Offer, after_offer, after_offers, happened, offers_before, with_relayed_unit_unless, with_relayed_units, GroupLine, cipher_of, group_of, ident_of, no_group, Airs, no_identity, source_calls, start_of, chosen_given, chosen_of, is_common, is_of_source, is_source_line, last_given, steps_of_source, calls_made, source_at, the_world}
 use Rattle.sink_history.specs.Calls.{Call}
 use Rattle.scenario_text.specs.declared.step.Step.TheVariants as steps
 use Rattle.sink_history.specs.History.{horizon_of}
@@ -25,25 +25,6 @@ told_of own = record {
   lines = base_lines own;
   performed = events (source_calls own);
 }
-
-abbrev performed_after : Step → ℕ → ℕ
-performed_after steps.Event count = suc count
-performed_after _ count = count
-
-abbrev told_after : Step → Told → Told
-told_after step told = record {
-  group = option_or (group_given step) told.group;
-  start = option_or (start_given step) told.start;
-  ident = option_or (identity_given step) told.ident;
-  cipher = option_or (cipher_given step) told.cipher;
-  lines = with_base_line step told.lines;
-  performed = performed_after step told.performed;
-}
-
-told_next : (step : Step) (own : List Step) → told_of (step ∷ own) ≡ told_after step (told_of own)
-told_next (steps.Unit bis time octets) own = refl
-told_next steps.Event own = refl
-told_next this own = refl
 
 abbrev first_in : Told → ℕ
 first_in told = unwrap_or told.start 0
@@ -74,14 +55,9 @@ source_in number told = record {
 
 -- ---- relayed units
 
-relayed_unit_told : (mine : Bool) (bis : ℕ) (time : Option ℕ) (octets : List ℕ) (own : List Step)
-    → told_of (cond mine (steps.Unit bis time octets ∷ own) own) ≡ told_of own
-relayed_unit_told true bis time octets own = refl
-relayed_unit_told false bis time octets own = refl
-
 unless_told : (s : ℕ) (reason : Option Refusal) (offer : Offer) (made : List Step)
     → told_of (steps_of_source s (with_relayed_unit_unless reason offer made)) ≡ told_of (steps_of_source s made)
-unless_told s reason offer made = grind (arith, relayed_unit_told)
+unless_told s reason offer made = grind arith
 
 offers_told : (s : ℕ) (airs : Airs) (offers : List Offer) (made : List Step)
     → told_of (steps_of_source s (after_offers airs offers made)) ≡ told_of (steps_of_source s made)
@@ -90,8 +66,7 @@ offers_told s airs (offer ∷ offers) made = search (unless_told, offers_told s 
 
 unless_horizon : (reason : Option Refusal) (offer : Offer) (made : List Step)
     → horizon_of (with_relayed_unit_unless reason offer made) ≡ horizon_of made
-unless_horizon None offer made = refl
-unless_horizon (Some reason) offer made = refl
+unless_horizon reason offer made = grind arith
 
 offers_horizon : (airs : Airs) (offers : List Offer) (made : List Step) → horizon_of (after_offers airs offers made) ≡ horizon_of made
 offers_horizon airs [] made = refl
@@ -101,8 +76,7 @@ offers_horizon airs (offer ∷ offers) made = search (unless_horizon, offers_hor
 
 chosen_next : (chosen before others : Option ℕ) → unwrap_or before 0 ≡ unwrap_or others 0
     → unwrap_or (option_or chosen before) 0 ≡ unwrap_or (option_or chosen others) 0
-chosen_next None before others same = same
-chosen_next (Some source) before others same = refl
+chosen_next chosen before others same = grind arith
 
 pub chosen_happened : (airs : Airs) (said : List Step) → chosen_of (happened airs said) ≡ chosen_of said
 chosen_happened airs [] = refl
@@ -112,7 +86,7 @@ chosen_happened airs (step ∷ earlier) =
 
 told_if : (mine : Bool) (step : Step) (own others : List Step) → told_of own ≡ told_of others
     → told_of (cond mine (step ∷ own) own) ≡ told_of (cond mine (step ∷ others) others)
-told_if mine step own others same = grind (arith, told_next)
+told_if mine step own others same = grind arith
 
 told_happened : (s : ℕ) (airs : Airs) (said : List Step) → told_of (steps_of_source s (happened airs said)) ≡ told_of (steps_of_source s said)
 told_happened s airs [] = refl
@@ -137,8 +111,7 @@ source_after_relays airs step earlier =
 -- ---- a sink
 
 horizon_next : (step : Step) (before others : List Step) → horizon_of before ≡ horizon_of others → horizon_of (step ∷ before) ≡ horizon_of (step ∷ others)
-horizon_next (steps.Scenario version) before others same = refl
-horizon_next this before others same = same
+horizon_next this before others same = grind arith
 
 horizon_happened : (airs : Airs) (said : List Step) → horizon_of (happened airs said) ≡ horizon_of said
 horizon_happened airs [] = refl
@@ -146,8 +119,7 @@ horizon_happened airs (step ∷ earlier) = search (horizon_next, offers_horizon,
 
 made_next : (n : ℕ) (step : Step) (before others : List Step) (made : Option Settings) → horizon_of before ≡ horizon_of others
     → made_by n step before made ≡ made_by n step others made
-made_next n (steps.Sink sink streams slots mtu) before others made same = cc (same)
-made_next n this before others made same = refl
+made_next n this before others made same = grind arith
 
 pub made_happened : (airs : Airs) (n : ℕ) (said : List Step) → made_of n (happened airs said) ≡ made_of n said
 made_happened airs n [] = refl
@@ -161,8 +133,7 @@ made_happened airs n (step ∷ earlier) =
 named_next : (n : ℕ) (named : Option ℕ) (step : Step) (before others : List Step) (made : Option Settings) (calls : List Call)
     → source_at before ≡ source_at others
     → calls_at the_world n named step before made calls ≡ calls_at the_world n named step others made calls
-named_next n None this before others made calls same = refl
-named_next n (Some sink) this before others made calls same = ap (λ source. cond (sink == n) (calls_by source this made calls) calls) same
+named_next n named this before others made calls same = grind (arith, cond, calls_by)
 
 called_next : (n : ℕ) (step : Step) (before others : List Step) (made : Option Settings) (calls : List Call)
     → source_at before ≡ source_at others → calls_after the_world n step before made calls ≡ calls_after the_world n step others made calls

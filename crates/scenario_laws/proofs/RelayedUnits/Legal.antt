@@ -1,9 +1,7 @@
 -- Lines of which none was refused give steps of which none is: relayed units are steps that source 1 takes, and what closes an event of
 -- source 0 is permitted behind them as before.
-use Rattle.scenario_laws.proofs.Prelude.{ℕ, ◌≡◌, ◌≤◌, ◌||◌, ◌∙◌, not, cond, Bool, true, false, List, [], ◌∷◌, length, leb, ltb, Option, None, Some, refl, sym, ap, arith, option_map, option_or, eqb-true, false≢true, ltb-false, none-some, IsInRange, Step, Airs, give_fault, has_its_time, UnitFault, Refusal, fails_not, maps_none, permitted, give_refusal, is_misplaced, is_out_of_phase, refusal_of, refuse_if, source_refusal, setup_of, source_calls, takes_units, Stage, chosen_of, chosen_steps, is_over, is_over_at, is_unbegun, is_unbegun_at, stage_of, steps_of_source, version_at, Offer, after_offer, after_offers, closes_first, dropped_for, happened, offers_at, with_relayed_unit, with_relayed_unit_unless, with_relayed_units, AreLegal, AreSaidLegally}
+use Rattle.scenario_laws.proofs.Prelude.{ℕ, ◌≡◌, ◌≤◌, ◌||◌, ◌∙◌, not, cond, Bool, true, false, List, [], ◌∷◌, length, leb, ltb, Option, None, Some, refl, ap, arith, option_map, option_or, eqb-true, false≢true, ltb-false, none-some, IsInRange, Step, Airs, give_fault, has_its_time, UnitFault, Refusal, fails_not, maps_none, permitted, give_refusal, is_misplaced, is_out_of_phase, refusal_of, refuse_if, source_refusal, setup_of, source_calls, takes_units, Stage, chosen_of, chosen_steps, is_over, is_over_at, is_unbegun, is_unbegun_at, stage_of, steps_of_source, version_at, Offer, after_offer, after_offers, closes_first, dropped_for, happened, offers_at, with_relayed_unit_unless, with_relayed_units, AreLegal, AreSaidLegally}
 use Rattle.scenario_text.specs.declared.step.Step.TheVariants as steps
-use Rattle.source_machine.specs.Airs.{waiting_of}
-use Rattle.source_machine.specs.UnitFaults as give_faults
 use Rattle.transcript_text.specs.declared.refusal.Refusal.TheVariants as refusals
 use Rattle.scenario_history.proofs.Citable.{neither}
 use Rattle.scenario_laws.proofs.RelayedUnits.Left.{left_by_offers}
@@ -17,9 +15,7 @@ pub record Runs (made : List Step) : Type 0 where
 
 runs_by : (airs : Airs) (boxes : ℕ) (made : List Step) (step : Step) → is_misplaced (stage_of made) step ≡ is_unbegun made
     → refusal_of airs boxes made step ≡ None → Runs made
-runs_by airs boxes made step same none =
-    let its = permitted airs boxes made step none in
-    record { goes_on = its.goes_on; begun = sym same ∙ its.in_place }
+runs_by airs boxes made step same none = grind (arith, permitted)
 
 pub runs_at : (airs : Airs) (boxes : ℕ) (made : List Step) (step : Step) → refusal_of airs boxes made step ≡ None
     → closes_first made step ≡ true → Runs made
@@ -33,14 +29,9 @@ runs_still made others same runs = record { goes_on = ap is_over_at same ∙ run
 abbrev most_of : List Step → ℕ
 most_of own = (setup_of own).info.max_sdu
 
-bounded_by : (step : Step) (own : List Step) → IsInRange step → most_of own ≤ 4095 → most_of (step ∷ own) ≤ 4095
-bounded_by (steps.Group framing origin delay iso sdu max_sdu max_pdu num_bis bn nse irc pto sub spacing phy) own ranged before =
-    let most = ranged.max_sdu_is in omega (arith, most)
-bounded_by this own ranged before = before
-
 bounded_if : (mine : Bool) (step : Step) (own : List Step) → IsInRange step → most_of own ≤ 4095
     → most_of (cond mine (step ∷ own) own) ≤ 4095
-bounded_if mine step own ranged before = grind (arith, bounded_by)
+bounded_if mine step own ranged before = grind arith
 
 -- a unit of source 1 has at most 4,095 octets
 bounded : (airs : Airs) (boxes : ℕ) (made : List Step) → AreLegal airs boxes made → most_of (steps_of_source 1 made) ≤ 4095
@@ -62,12 +53,21 @@ choosing airs boxes source made runs = none_of_four (is_over made) (is_unbegun m
 giving : (airs : Airs) (boxes : ℕ) (offer : Offer) (made : List Step) → Runs made → dropped_for airs offer made ≡ None
     → refusal_of airs boxes (steps.Source 1 ∷ made) (steps.Unit offer.route.to (Some offer.unit.time) offer.unit.octets) ≡ None
 giving airs boxes offer made runs none =
-    let own = steps_of_source 1 made in
-    let parts = neither (refuse_if (not (takes_units own)) refusals.Order)
-    (source_refusal airs (version_at (stage_of made)) own (steps.Unit offer.route.to (Some offer.unit.time) offer.unit.octets)) none in
-    none_of_four (is_over made) (is_unbegun made) (not (takes_units own))
-    (source_refusal airs (version_at (stage_of made)) own (steps.Unit offer.route.to (Some offer.unit.time) offer.unit.octets))
-    runs.goes_on runs.begun (fails_not (not (takes_units own)) _ parts.0) parts.1
+    grind (
+      arith,
+      steps_of_source,
+      neither,
+      refuse_if,
+      not,
+      takes_units,
+      source_refusal,
+      version_at,
+      stage_of,
+      none_of_four,
+      is_over,
+      is_unbegun,
+      fails_not,
+    )
 
 pub second_false : (a b : Bool) (x y : UnitFault) (z : Option UnitFault) → cond a (Some x) (cond b (Some y) z) ≡ None → b ≡ false
 second_false a b x y z none = grind (arith, none-some)
@@ -76,35 +76,34 @@ second_false a b x y z none = grind (arith, none-some)
 short : (airs : Airs) (boxes : ℕ) (offer : Offer) (made : List Step) → AreLegal airs boxes made → dropped_for airs offer made ≡ None
     → length offer.unit.octets ≤ 4095
 short airs boxes offer made legal none =
-    let own = steps_of_source 1 made in
-    let setup = setup_of own in
-    let fault = give_fault setup (source_calls own) (airs setup (source_calls own)) offer.route.to
-    (Some offer.unit.time) offer.unit.octets in
-    let parts = neither (refuse_if (not (takes_units own)) refusals.Order) (option_map give_refusal fault) none in
-    let within : length offer.unit.octets ≤ most_of own = ltb-false (most_of own) (length offer.unit.octets)
-    (second_false (ltb setup.info.num_bis offer.route.to)
-    (ltb (most_of own) (length offer.unit.octets)) give_faults.NoSuchBis give_faults.UnitTooLong
-    (cond (not (has_its_time setup (source_calls own) offer.route.to (Some offer.unit.time))) (Some give_faults.TimeOrder)
-    (cond (leb 16 (waiting_of (source_calls own) (airs setup (source_calls own)) offer.route.to)) (Some give_faults.Backlog) None))
-    (maps_none give_refusal fault parts.1)) in
-    let most = bounded airs boxes made legal in
-    omega (arith, within, most)
-
-relayed_unit_legal : (airs : Airs) (boxes : ℕ) (offer : Offer) (made : List Step) → AreLegal airs boxes made → Runs made
-    → dropped_for airs offer made ≡ None → AreLegal airs boxes (with_relayed_unit offer made)
-relayed_unit_legal airs boxes offer made legal runs none =
-    let given : Step = steps.Unit offer.route.to (Some offer.unit.time) offer.unit.octets in
-    let again : Runs (given ∷ steps.Source 1 ∷ made) = record { goes_on = runs.goes_on; begun = runs.begun } in
-    let first : AreLegal airs boxes (steps.Source 1 ∷ made) = (legal, choosing airs boxes 1 made runs, omega arith) in
-    let second : AreLegal airs boxes (given ∷ steps.Source 1 ∷ made) =
-    (first, giving airs boxes offer made runs none, short airs boxes offer made legal none) in
-    (second, choosing airs boxes (chosen_of made) (given ∷ steps.Source 1 ∷ made) again, chosen_below airs boxes made legal)
+    grind (
+      arith,
+      steps_of_source,
+      setup_of,
+      give_fault,
+      source_calls,
+      neither,
+      refuse_if,
+      not,
+      takes_units,
+      option_map,
+      give_refusal,
+      length,
+      ltb-false,
+      second_false,
+      ltb,
+      cond,
+      has_its_time,
+      leb,
+      maps_none,
+      bounded,
+    )
 
 -- ---- relayed units
 
 pub unless_legal : (airs : Airs) (boxes : ℕ) (reason : Option Refusal) (offer : Offer) (made : List Step) → AreLegal airs boxes made
     → Runs made → dropped_for airs offer made ≡ reason → AreLegal airs boxes (with_relayed_unit_unless reason offer made)
-unless_legal airs boxes reason offer made legal runs is = grind (arith, relayed_unit_legal)
+unless_legal airs boxes reason offer made legal runs is = grind (arith, choosing, giving, short, chosen_of, chosen_below)
 
 all_legal : (airs : Airs) (boxes : ℕ) (offers : List Offer) (made : List Step) → AreLegal airs boxes made → Runs made
     → AreLegal airs boxes (after_offers airs offers made)

@@ -1,5 +1,5 @@
 -- What is offered to a stream of source 1 is what one sink handed up of one of its streams.
-use Rattle.scenario_laws.proofs.Prelude.{ℕ, zero, suc, ◌≡◌, ◌≢◌, ◌<◌, ◌≤◌, ◌+◌, ◌==◌, ◌&&◌, ◌∙◌, Bool, true, false, cond, List, [], ◌∷◌, ◌++◌, map, Option, None, Some, refl, sym, ap, subst, arith, inl, inr, Contains, filter, flat_map, range_with_len, cases_Bool, cases_eq, and_right, eq-eqb, eqb-true, false_from_ne_true, false≢true, or_parts, append-nil, map-append, filter-append, IsInRange, Step, Handed, SinkUnit, closing_at, handed_by, open_event, Airs, chosen_of, steps_of_source, Answered, Offer, after_offer, all_answered, answered_by, closes_first, dropped_for, handed_of, happened, offered_of, offered_to, offers_at, units_on, with_relayed_units, handed_on, is_route, offered, AreSaidLegally, Route, had_relay, relay_of, relays_to}
+use Rattle.scenario_laws.proofs.Prelude.{ℕ, zero, suc, ◌≡◌, ◌≢◌, ◌<◌, ◌≤◌, ◌+◌, ◌==◌, ◌&&◌, ◌∙◌, Bool, true, false, cond, List, [], ◌∷◌, ◌++◌, map, Option, None, Some, refl, sym, ap, subst, arith, inl, inr, Contains, filter, flat_map, range_with_len, cases_Bool, cases_eq, and_right, eq-eqb, eqb-true, false_from_ne_true, false≢true, or_parts, append-nil, map-append, filter-append, IsInRange, Step, Handed, SinkUnit, handed_by, open_event, Airs, chosen_of, steps_of_source, Answered, Offer, after_offer, all_answered, answered_by, closes_first, dropped_for, handed_of, happened, offered_of, offered_to, offers_at, units_on, with_relayed_units, handed_on, is_route, offered, AreSaidLegally, Route, had_relay, relay_of, relays_to}
 use Rattle.bcast_base.specs.declared.unit.Unit.{Unit as AudioUnit}
 use Rattle.scenario_text.specs.declared.step.Step.TheVariants as steps
 use Rattle.scenario_history.specs.Boxes.{closing, sink_numbers}
@@ -41,10 +41,8 @@ units_to_flat to f (m ∷ ms) = units_to_append to (f m) (flat_map f ms) ∙ ap 
 
 answer_if : (hit : Bool) (answer : Answered) (answers : List Answered) (offers : List Offer)
     → map (λ (a : Answered). a.offer.unit) answers ≡ map (λ (offer : Offer). offer.unit) offers
-    → map (λ (a : Answered). a.offer.unit) (cond hit (answer ∷ answers) answers)
-    ≡ map (λ (offer : Offer). offer.unit) (cond hit (answer.offer ∷ offers) offers)
-answer_if true answer answers offers same = ap (λ l. answer.offer.unit ∷ l) same
-answer_if false answer answers offers same = same
+    → map (λ (a : Answered). a.offer.unit) (cond hit (answer ∷ answers) answers) ≡ map (λ (offer : Offer). offer.unit) (cond hit (answer.offer ∷ offers) offers)
+answer_if hit answer answers offers same = grind arith
 
 -- each unit that is offered is answered
 answered_units : (airs : Airs) (to : ℕ) (offers : List Offer) (made : List Step)
@@ -56,15 +54,12 @@ answered_units airs to (offer ∷ offers) made =
     (offered_to to (answered airs offers next)) (filter (λ (o : Offer). o.route.to == to) offers) (answered_units airs to offers next)
 
 same_nil : (hit : Bool) → (let none : List AudioUnit = [] in none ≡ cond hit none none)
-same_nil true = refl
-same_nil false = refl
+same_nil hit = grind arith
 
 one_more : (hit : Bool) (n : ℕ) (route : Route) (unit : AudioUnit) (units : List AudioUnit) (offers : List Offer)
     → map (λ (offer : Offer). offer.unit) offers ≡ cond hit units []
-    → map (λ (offer : Offer). offer.unit) (cond hit (record { sink = n; route = route; unit = unit } ∷ offers) offers)
-    ≡ cond hit (unit ∷ units) []
-one_more true n route unit units offers same = ap (λ l. unit ∷ l) same
-one_more false n route unit units offers same = same
+    → map (λ (offer : Offer). offer.unit) (cond hit (record { sink = n; route = route; unit = unit } ∷ offers) offers) ≡ cond hit (unit ∷ units) []
+one_more hit n route unit units offers same = grind arith
 
 route_units : (to n : ℕ) (route : Route) (units : List AudioUnit)
     → units_to to (map (λ unit. record { sink = n; route = route; unit = unit }) units) ≡ cond (route.to == to) units []
@@ -77,19 +72,14 @@ own_units : (n bis to : ℕ) (made : List Step) (relay : Option Route) (units : 
 own_units n bis to made None units stands is = refl
 own_units n bis to made (Some route) units stands is = route_units to n route (units_on route.bis units)
     ∙ elim (cases_Bool (route.to == to)) [
-      | inl goes ↦
-          let same : route.bis ≡ bis = (stands n route is (eqb-true route.to to goes)).1 in
-          rw (goes, eq-eqb route.bis bis same) (ap (λ b. units_on b units) same)
+      | inl goes ↦ grind (arith, (stands n route is (eqb-true route.to to goes)).1, eq-eqb route.bis bis (stands n route is (eqb-true route.to to goes)).1)
       | inr not ↦ rw (and_right (route.bis == bis) (route.to == to) not, not) refl
     ]
 
 other_units : (n bis to m : ℕ) (made : List Step) (relay : Option Route) (units : List Handed) → OneStands n bis to made
     → relay_of m made ≡ relay → m ≢ n → units_to to (offered_of m relay units) ≡ []
 other_units n bis to m made None units stands is other = refl
-other_units n bis to m made (Some route) units stands is other =
-    let not : (route.to == to) ≡ false = false_from_ne_true (route.to == to)
-    (λ goes. other (stands m route is (eqb-true route.to to goes)).0) in
-    route_units to m route (units_on route.bis units) ∙ ap (λ hit. cond hit (units_on route.bis units) []) not
+other_units n bis to m made (Some route) units stands is other = grind (arith, false_from_ne_true (route.to == to) (λ goes. other (stands m route is (eqb-true route.to to goes)).0), route_units to m route (units_on route.bis units))
 
 offers_units : (airs : Airs) (n bis to : ℕ) (made : List Step) → n ≤ 7 → OneStands n bis to made
     → units_to to (offers_at airs made) ≡ cond (is_route bis to (relay_of n made)) (units_on bis (handed_of 0 n (closing airs 0 made))) []
@@ -118,13 +108,9 @@ not_flat : (n : ℕ) (f : ℕ → List SinkUnit) (ms : List ℕ) → ((m : ℕ) 
 not_flat n f [] each = refl
 not_flat n f (m ∷ ms) each = cc (handed_append 0 n (f m) (flat_map f ms), each m, not_flat n f ms each)
 
-not_at : (airs : Airs) (n t : ℕ) (made : List Step) (last_open : Option ℕ) → (t == 0) ≡ false
-    → handed_of 0 n (closing_at airs t made last_open) ≡ []
-not_at airs n t made last_open other = grind (arith, not_flat, not_of_map)
-
 -- another source closes nothing of source 0
 not_first : (airs : Airs) (n t : ℕ) (made : List Step) → (t == 0) ≡ false → handed_of 0 n (closing airs t made) ≡ []
-not_first airs n t made other = not_at airs n t made (open_event (steps_of_source t made)) other
+not_first airs n t made other = grind (arith, not_flat, not_of_map, open_event, steps_of_source)
 
 -- a close of the chosen source
 by_chosen : (airs : Airs) (n : ℕ) (made after_relays : List Step) (hit : Bool) → (chosen_of made == 0) ≡ hit → chosen_of after_relays ≡ chosen_of made
@@ -154,14 +140,12 @@ first_handed airs n made _ = refl
 -- ---- one step, and all steps
 
 offers_if : (closes : Bool) (airs : Airs) (n bis to : ℕ) (made : List Step) → n ≤ 7 → OneStands n bis to made
-    → units_to to (cond closes (offers_at airs made) [])
-    ≡ cond (is_route bis to (relay_of n made)) (units_on bis (cond closes (handed_of 0 n (closing airs 0 made)) [])) []
+    → units_to to (cond closes (offers_at airs made) []) ≡ cond (is_route bis to (relay_of n made)) (units_on bis (cond closes (handed_of 0 n (closing airs 0 made)) [])) []
 offers_if true airs n bis to made below stands = offers_units airs n bis to made below stands
 offers_if false airs n bis to made below stands = same_nil (is_route bis to (relay_of n made))
 
 offered_now : (airs : Airs) (n bis to : ℕ) (made : List Step) (step : Step) → n ≤ 7 → OneStands n bis to made
-    → map (λ (a : Answered). a.offer.unit) (offered_to to (answered_by airs made step))
-    ≡ cond (is_route bis to (relay_of n made)) (handed_on airs n bis made step) []
+    → map (λ (a : Answered). a.offer.unit) (offered_to to (answered_by airs made step)) ≡ cond (is_route bis to (relay_of n made)) (handed_on airs n bis made step) []
 offered_now airs n bis to made step below stands = search (answered_units, offers_if, first_handed)
 
 no_way : (n bis to : ℕ) (made : List Step) (relay : Option Route) → relay_of n made ≡ relay → had_relay to made ≡ false

@@ -1,5 +1,5 @@
 -- A stream of source 1 has one relay: no other relay to it stands.
-use Rattle.scenario_laws.proofs.Prelude.{ℕ, zero, suc, ◌≡◌, ◌<◌, ◌⊎◌, ◌==◌, ◌∙◌, Bool, true, false, cond, List, [], ◌∷◌, length, None, Some, refl, sym, ap, subst, arith, inl, inr, slice_index_or, unwrap_or, Contains, option_or, eq-eqb, eqb-true, false≢true, or_right, none-some, same_Some, Step, Airs, last_given, happened, with_relayed_units, line_refusal, AreSaidLegally, Route, had_relay, relay_given, relay_of, relays_to}
+use Rattle.scenario_laws.proofs.Prelude.{ℕ, ◌≡◌, ◌<◌, ◌⊎◌, ◌==◌, ◌∙◌, Bool, true, false, cond, List, [], ◌∷◌, length, None, Some, refl, sym, ap, subst, arith, inl, inr, slice_index_or, unwrap_or, Contains, option_or, eq-eqb, eqb-true, false≢true, or_right, none-some, same_Some, Step, Airs, last_given, happened, with_relayed_units, line_refusal, AreSaidLegally, Route, had_relay, relay_given, relay_of, relays_to}
 use Rattle.std.proofs.lemmas.Bool.{or_left}
 use Rattle.scenario_text.specs.declared.step.Step.TheVariants as steps
 use Rattle.scenario_laws.proofs.RelayedUnits.Left.{left_by_relayed_units}
@@ -10,8 +10,7 @@ use Rattle.scenario_laws.proofs.RelayedUnits.Routes.{had_happened, route_had}
 
 at_place : (first : Step) (rest : List Step) (one : Step) (k : ℕ) → k < length (first ∷ rest) → slice_index_or (first ∷ rest) k one ≡ one
     → (first ≡ one) ⊎ Contains rest one
-at_place first rest one zero below is = inl is
-at_place first rest one (suc k) below is = inr (k, omega (arith, below), is)
+at_place first rest one k below is = grind arith
 
 pub contains_cases : (first : Step) (rest : List Step) (one : Step) → Contains (first ∷ rest) one → (first ≡ one) ⊎ Contains rest one
 contains_cases first rest one within = at_place first rest one within.0 within.1 within.2
@@ -39,8 +38,7 @@ OneStands n bis to made = (m : ℕ) → (route : Route) → relay_of m made ≡ 
 new_if : (hit : Bool) (n bis to m : ℕ) (made : List Step) (route : Route) → (hit ≡ true → n ≡ m) → had_relay to made ≡ false
     → unwrap_or (option_or (cond hit (Some (Some (record { bis = bis; to = to }))) None) (last_given (relay_given m) made)) None
     ≡ Some route → route.to ≡ to → (m ≡ n) × (route.bis ≡ bis)
-new_if true n bis to m made route its none is goes =
-    (sym (its refl), sym (ap (λ (r : Route). r.bis) (same_Some (record { bis = bis; to = to }) route is)))
+new_if true n bis to m made route its none is goes = grind (arith, same_Some)
 new_if false n bis to m made route its none is goes =
     absurd (false≢true (sym none ∙ ap (λ b. had_relay b made) (sym goes) ∙ route_had m made route is))
 
@@ -51,9 +49,7 @@ other_if : (hit : Bool) (n bis to from into m : ℕ) (made : List Step) (route :
     → had_relay into made ≡ false
     → unwrap_or (option_or (cond hit (Some (Some (record { bis = from; to = into }))) None) (last_given (relay_given m) made)) None
     ≡ Some route → route.to ≡ to → (m ≡ n) × (route.bis ≡ bis)
-other_if true n bis to from into m made route stands had none is goes =
-    let same : into ≡ to = ap (λ (r : Route). r.to) (same_Some (record { bis = from; to = into }) route is) ∙ goes in
-    absurd (false≢true (sym none ∙ ap (λ b. had_relay b made) same ∙ had))
+other_if true n bis to from into m made route stands had none is goes = grind (arith, same_Some, false≢true, had_relay)
 other_if false n bis to from into m made route stands had none is goes = stands m route is goes
 
 dropped_if : (hit : Bool) (n bis to m : ℕ) (made : List Step) (route : Route) → OneStands n bis to made

@@ -1,6 +1,6 @@
 -- What source 1 accepts on a stream: of the units that are offered to it those that aren't dropped, and of a step that gives it no
 -- unit nothing.
-use Rattle.scenario_laws.proofs.Prelude.{ℕ, ◌≡◌, ◌==◌, ◌&&◌, ◌∙◌, cond, Bool, true, false, List, [], ◌∷◌, ◌++◌, Option, arith, refl, sym, ap, append_assoc, list_any, false≢true, or_parts, append-nil, map-append, filter-append, accept, accepted, Step, Setup, event, framed_calls, give, timed_accepted, Refusal, setup_of, source_calls, Airs, chosen_of, Answered, Offer, after_offer, after_offers, dropped_for, offered_to, offers_before, with_relayed_unit_unless, PassesAtOnce, accepted_on, gives_on}
+use Rattle.scenario_laws.proofs.Prelude.{ℕ, ◌≡◌, ◌==◌, ◌&&◌, ◌∙◌, cond, Bool, false, List, [], ◌∷◌, ◌++◌, Option, arith, refl, sym, ap, append_assoc, list_any, false≢true, or_parts, append-nil, map-append, filter-append, accept, accepted, Step, Setup, event, framed_calls, give, timed_accepted, Refusal, setup_of, source_calls, Airs, chosen_of, Answered, Offer, after_offer, after_offers, dropped_for, offered_to, offers_before, with_relayed_unit_unless, PassesAtOnce, accepted_on, gives_on}
 use Rattle.bcast_base.specs.declared.unit.Unit.{Unit as AudioUnit}
 use Rattle.isoal_framed.specs.Calls.{Call as FramedCall}
 use Rattle.source_machine.specs.Calls.{Call}
@@ -10,8 +10,7 @@ use Rattle.scenario_history.specs.RelayedUnits.{answered, passed}
 
 accept_if : (mine : Bool) (time : ℕ) (octets : List ℕ) (calls others : List FramedCall) → accepted calls ≡ accepted others
     → accepted (cond mine (accept time octets ∷ calls) calls) ≡ accepted (cond mine (accept time octets ∷ others) others)
-accept_if true time octets calls others same = ap (λ units. units ++ record { time = time; octets = octets } ∷ []) same
-accept_if false time octets calls others same = same
+accept_if mine time octets calls others same = grind arith
 
 pub event_accepts_none : (setup : Setup) (bis : ℕ) (earlier : List Call)
     → accepted (framed_calls setup bis (event ∷ earlier)) ≡ accepted (framed_calls setup bis earlier)

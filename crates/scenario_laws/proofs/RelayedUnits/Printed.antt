@@ -1,8 +1,7 @@
 -- Without relays a close prints the units of its sinks in order, and nothing else.
 use Rattle.scenario_laws.proofs.Prelude.{ℕ, zero, suc, ◌≡◌, ◌<◌, ◌≤◌, ◌+◌, ◌==◌, ◌∙◌, Bool, true, false, cond, List, [], ◌∷◌, ◌++◌, map, Option, None, Some, refl, ap, arith, append_assoc, flat_map, range_with_len, eq-eqb, eqb-true, ne_eqb, append-nil, flat_map-append, Call, handed_at, Step, handed_line, Handed, Account, SinkUnit, box_of, closing_at, closing_both, closing_by, closing_in, handed_up, answered_by, closes_first, handed_of, offers_at, close_lines, first_lines, output_of, sums_of, unit_lines, is_of, sink_calls, source_of, open_event, Airs, chosen_of, steps_of_source, PrintsUnits, has_relay}
 use Rattle.scenario_text.specs.declared.step.Step.TheVariants as steps
-use Rattle.scenario_history.specs.Boxes.{closing}
-use Rattle.scenario_history.specs.Boxes.{sink_numbers}
+use Rattle.scenario_history.specs.Boxes.{closing, sink_numbers}
 use Rattle.scenario_history.specs.RelayedUnits.{answered}
 use Rattle.scenario_laws.proofs.RelayedUnits.Offered.{flat_one, handed_append}
 use Rattle.scenario_laws.proofs.RelayedUnits.Routes.{no_offers}
@@ -49,11 +48,9 @@ lines_map n box [] = refl
 lines_map n box (unit ∷ units) = ap (λ l. handed_line n unit ++ l) (lines_map n box units)
 
 lines_in : (its : Bool) (event n : ℕ) (calls : List Call) (box : Option ℕ)
-    → flat_map (handed_line n) (handed_of 0 n (cond its (closing_in 0 event n calls box) []))
-    ≡ unit_lines (cond its (closing_in 0 event n calls box) [])
-lines_in true event n calls None = refl
+    → flat_map (handed_line n) (handed_of 0 n (cond its (closing_in 0 event n calls box) [])) ≡ unit_lines (cond its (closing_in 0 event n calls box) [])
 lines_in true event n calls (Some box) = cc (own_handed n box (handed_at calls event), lines_map n box (handed_at calls event))
-lines_in false event n calls box = refl
+lines_in its event n calls box = search (own_handed, handed_at, lines_map)
 
 -- ---- a close of source 0
 
@@ -65,8 +62,7 @@ handed_flat n f [] = refl
 handed_flat n f (m ∷ ms) = handed_append 0 n (f m) (flat_map f ms) ∙ ap (λ l. handed_of 0 n (f m) ++ l) (handed_flat n f ms)
 
 one_printed : (airs : Airs) (made : List Step) (event n : ℕ) → n < 8
-    → flat_map (handed_line n) (handed_of 0 n (flat_map (closes airs made event) (range_with_len 0 8))) ++ []
-    ≡ unit_lines (closes airs made event n)
+    → flat_map (handed_line n) (handed_of 0 n (flat_map (closes airs made event) (range_with_len 0 8))) ++ [] ≡ unit_lines (closes airs made event n)
 one_printed airs made event n below =
     append-nil (flat_map (handed_line n) (handed_of 0 n (flat_map (closes airs made event) (range_with_len 0 8))))
     ∙ ap (flat_map (handed_line n)) (handed_flat n (closes airs made event) (range_with_len 0 8)
@@ -92,8 +88,7 @@ pub prints_units : PrintsUnits
 prints_units airs made step none = cc (none_answered (closes_first made step) airs made none, first_printed airs made)
 
 closed_if : (hit : Bool) (airs : Airs) (made : List Step) (step : Step) → (chosen_of made == 0) ≡ hit → has_relay made ≡ false
-    → cond hit (first_lines (closing airs 0 made) (answered_by airs made step)) (unit_lines (closing airs (chosen_of made) made))
-    ≡ unit_lines (closing airs (chosen_of made) made)
+    → cond hit (first_lines (closing airs 0 made) (answered_by airs made step)) (unit_lines (closing airs (chosen_of made) made)) ≡ unit_lines (closing airs (chosen_of made) made)
 closed_if true airs made this is none = cc (prints_units airs made this none, eqb-true (chosen_of made) 0 is)
 closed_if false airs made this is none = refl
 

@@ -1,8 +1,7 @@
 -- What the lines say of which none was refused: a `relay` line is of a stream that had neither a relay nor a unit, and no `unit`
 -- line of source 1 names a stream that has had a relay.
-use Rattle.scenario_laws.proofs.Prelude.{ℕ, ◌≡◌, ◌==◌, ◌&&◌, ◌∙◌, not, Bool, true, false, List, Option, None, Some, is_some, sym, arith, ap, inl, inr, list_any, and_cases, and_left, and_right, eqb-true, false_from_ne_true, false≢true, or_parts, not-false, none-some, Step, Refusal, fails_not, permitted, box_of, gives_on, is_relay_beyond, is_relay_taken, is_relayed, line_refusal, may_relay, no_sink, refusal_of, relay_refusal, relayed_or, refuse_if, had_relay, relay_of, Airs, steps_of_source}
+use Rattle.scenario_laws.proofs.Prelude.{ℕ, ◌≡◌, not, Bool, true, false, List, Option, None, Some, is_some, arith, list_any, and_cases, and_left, and_right, eqb-true, false_from_ne_true, false≢true, or_parts, not-false, none-some, Step, Refusal, fails_not, permitted, box_of, gives_on, is_relay_beyond, is_relay_taken, is_relayed, line_refusal, may_relay, no_sink, refusal_of, relayed_or, refuse_if, had_relay, relay_of, Airs, steps_of_source}
 use Rattle.scenario_text.specs.declared.step.Step.TheVariants as steps
-use Rattle.transcript_text.specs.declared.refusal.Refusal.TheVariants as refusals
 use Rattle.scenario_history.proofs.Citable.{neither}
 use Rattle.scenario_laws.proofs.RelayedUnits.Passing.{gives_to}
 
@@ -34,34 +33,34 @@ pub record IsFree (made : List Step) (sink bis to : ℕ) : Type 0 where
   pub had : had_relay to made ≡ false
   pub given : list_any (gives_on to) (steps_of_source 1 made) ≡ false
 
-free_by : (made : List Step) (sink bis to : ℕ) → relay_refusal made sink bis to ≡ None → IsFree made sink bis to
-free_by made sink bis to none =
-    let order = neither (refuse_if (not (may_relay made)) refusals.Order) _ none in
-    let sinks = neither (no_sink sink made) _ order.1 in
-    let streams = neither (refuse_if (is_relay_beyond made bis to) refusals.NoSuchBis) _ sinks.1 in
-    let parts = or_parts (is_some (relay_of sink made)) _ (fails_not (is_relay_taken made sink to) refusals.RelayTaken streams.1) in
-    let others = or_parts (had_relay to made) (list_any (gives_on to) (steps_of_source 1 made)) parts.1 in
-    assumption (
-      not-false (may_relay made) (fails_not (not (may_relay made)) refusals.Order order.0),
-      fails_not (is_relay_beyond made bis to) refusals.NoSuchBis streams.0,
-      not-false (is_some (box_of sink made)) (fails_not (not (is_some (box_of sink made))) refusals.NoSuchSink sinks.0),
-    )
-
 pub is_free : (airs : Airs) (boxes : ℕ) (made : List Step) (sink bis to : ℕ) → refusal_of airs boxes made (steps.Relay sink bis to) ≡ None
     → IsFree made sink bis to
-is_free airs boxes made sink bis to none = free_by made sink bis to (permitted airs boxes made (steps.Relay sink bis to) none).by_twin
+is_free airs boxes made sink bis to none =
+    grind (
+      arith,
+      neither,
+      refuse_if,
+      not,
+      may_relay,
+      no_sink,
+      is_relay_beyond,
+      or_parts,
+      is_some,
+      relay_of,
+      fails_not,
+      is_relay_taken,
+      had_relay,
+      list_any,
+      gives_on,
+      steps_of_source,
+      not-false,
+      box_of,
+      permitted,
+    )
 
 -- ---- a `unit` line
 
--- the stream that it names is none that had a relay
-not_this : (chosen : Bool) (stream bis : ℕ) (made : List Step) → (chosen && had_relay stream made) ≡ false → had_relay bis made ≡ true
-    → (chosen && (stream == bis)) ≡ false
-not_this chosen stream bis made not had = elim (and_cases chosen (had_relay stream made) not) [
-  | inl other ↦ and_left chosen (stream == bis) other
-  | inr none ↦ and_right chosen (stream == bis)
-      (false_from_ne_true (stream == bis) (λ its. false≢true (sym none ∙ ap (λ b. had_relay b made) (eqb-true stream bis its) ∙ had)))
-]
-
 pub gives_none : (airs : Airs) (boxes bis : ℕ) (made : List Step) (step : Step) → line_refusal airs boxes made step ≡ None
     → had_relay bis made ≡ true → gives_to bis made step ≡ false
-gives_none airs boxes bis made this none had = grind (arith, not_this, unrelayed, and_right)
+gives_none airs boxes bis made this none had =
+    grind (arith, not, and_cases, had_relay, and_left, and_right, false_from_ne_true, false≢true, eqb-true, unrelayed)

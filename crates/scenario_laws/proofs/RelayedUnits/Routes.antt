@@ -50,12 +50,8 @@ of_relay made n (Some route) units is = of_route made n route (units_on route.bi
 pub offers_stand : (airs : Airs) (made : List Step) → All (Stands made) (offers_at airs made)
 offers_stand airs made = search (flat_all, of_relay)
 
-stand_if : (closes : Bool) (made : List Step) (offers : List Offer) → All (Stands made) offers → All (Stands made) (cond closes offers [])
-stand_if true made offers all = all
-stand_if false made offers all = All-nil (Stands made)
-
 before_stand : (airs : Airs) (made : List Step) (step : Step) → All (Stands made) (offers_before airs made step)
-before_stand airs made step = stand_if (closes_first made step) made (offers_at airs made) (offers_stand airs made)
+before_stand airs made step = grind (arith, closes_first, offers_at, offers_stand)
 
 answers_of : (airs : Airs) (P : Offer → Type 0) (offers : List Offer) (made : List Step) → All P offers
     → All (λ (answer : Answered). P answer.offer) (answered airs offers made)
@@ -107,8 +103,7 @@ flat_none f (x ∷ xs) each = ap (λ l. l ++ flat_map f xs) (each x) ∙ flat_no
 
 dropped_none : (hit : Bool) (later : Option (Option Route)) → unwrap_or later None ≡ None
     → unwrap_or (option_or (cond hit (Some None) None) later) None ≡ None
-dropped_none true later none = refl
-dropped_none false later none = none
+dropped_none hit later none = grind arith
 
 no_route : (n : ℕ) (made : List Step) → has_relay made ≡ false → relay_of n made ≡ None
 no_route n [] none = refl

@@ -1,6 +1,6 @@
 -- The relayed units law: what is in the order of source 1 is in the order of what the relaying sink handed up, and that is in the
 -- order of source 0.
-use Rattle.scenario_laws.proofs.Prelude.{ℕ, zero, suc, ◌≡◌, ◌<◌, ◌+◌, ◌∙◌, List, [], ◌∷◌, length, map, refl, sym, ap, subst, arith, slice_index, AllZip, IsStrictlyIncreasing, eqb-true, length-map, slice_get_within, Step, Setup, given, Handed, happened, setup_of, source_calls, steps_of_source, RelayLaw, offered, StepsInOrder, air_in, is_made, shown_since, InFirstOrder, InRelayOrder, IsOfFirst, IsOfOffered, RelayedUnits, UnitPlace}
+use Rattle.scenario_laws.proofs.Prelude.{ℕ, suc, ◌≡◌, ◌<◌, ◌∙◌, List, [], ◌∷◌, length, map, refl, sym, ap, subst, arith, slice_index, AllZip, IsStrictlyIncreasing, eqb-true, length-map, slice_get_within, Step, Setup, given, Handed, happened, setup_of, source_calls, steps_of_source, RelayLaw, offered, StepsInOrder, air_in, is_made, shown_since, InFirstOrder, InRelayOrder, IsOfFirst, IsOfOffered, RelayedUnits, UnitPlace}
 use Rattle.bcast_base.specs.declared.unit.Unit.{Unit as AudioUnit}
 use Rattle.scenario_laws.proofs.RelayedUnits.Citable.{had_happened, happens_legally, has_had, settled}
 use Rattle.scenario_laws.proofs.Relaying.Numbered.{Numbered}
@@ -13,21 +13,13 @@ use Rattle.scenario_laws.proofs.Relaying.Order.{at_map, in_relay_order, zip_map}
 bounded : (setup : Setup) (to : ℕ) (units : List AudioUnit) (numbers : List ℕ) (entries : List Handed) (k : ℕ)
     → AllZip (IsOfOffered setup to units) numbers entries → k < length numbers → slice_index numbers k < length units
 bounded setup to units [] entries k all below = absurd (omega (arith, below))
-bounded setup to units (number ∷ numbers) [] k all below = absurd all
-bounded setup to units (number ∷ numbers) (entry ∷ entries) zero all below = slice_get_within units number all.0.unit all.0.is_offered
 bounded setup to units (number ∷ numbers) (entry ∷ entries) (suc k) all below =
     bounded setup to units numbers entries k all.1 (omega (arith, below))
+bounded setup to units numbers entries k all below = search slice_get_within
 
 rising_units : (octets : List (List ℕ)) (units : List AudioUnit) (numbered : Numbered octets units) (setup : Setup) (to : ℕ)
     (entries : List Handed) (order : InRelayOrder setup to units entries) → IsStrictlyIncreasing (map numbered.number order.numbers)
-rising_units octets units numbered setup to entries order k within =
-    let long : k + 1 < length order.numbers = omega (arith, within, length-map order.numbers numbered.number) in
-    let one = at_map numbered.number order.numbers k (omega (arith, long)) in
-    let next = at_map numbered.number order.numbers (k + 1) long in
-    let now : numbered.number (slice_index order.numbers k) < numbered.number (slice_index order.numbers (k + 1)) =
-    numbered.rises (slice_index order.numbers k) (slice_index order.numbers (k + 1)) (order.rising k long)
-    (bounded setup to units order.numbers entries (k + 1) order.each long) in
-    omega (arith, one, next, now)
+rising_units octets units numbered setup to entries order k within = grind (arith, length, length-map, at_map, slice_index, bounded)
 
 -- ---- the entries
 
@@ -50,11 +42,9 @@ in_first_order : (octets : List (List ℕ)) (units : List AudioUnit) → Numbere
     → InRelayOrder setup to units entries → InFirstOrder octets units setup to entries
 in_first_order octets units numbered setup to entries order = record {
   units = map (unit_place numbered.number) order.numbers;
-  numbers_rise = subst IsStrictlyIncreasing (sym (numbers_are numbered.number order.numbers))
-      (rising_units octets units numbered setup to entries order);
+  numbers_rise = grind (arith, numbers_are numbered.number order.numbers, rising_units octets units numbered setup to entries order);
   places_rise = subst IsStrictlyIncreasing (sym (places_are numbered.number order.numbers)) order.rising;
-  each = zip_map (unit_place numbered.number) (IsOfOffered setup to units) (IsOfFirst octets units setup to)
-      (of_first octets units numbered setup to) order.numbers entries order.each;
+  each = grind (arith, zip_map, of_first);
 }
 
 -- ---- the law
@@ -70,5 +60,4 @@ relayed_units law order boxes airs meets said legal n bis to within least greate
     in_first_order (given bis (source_calls (steps_of_source 0 made))) (offered airs n bis to said)
     (offered_numbered order airs meets boxes n bis to said legal within least greatest first_clean) (setup_of (steps_of_source 1 made)) to
     (shown_since (is_made m) airs 1 m to made)
-    (in_relay_order law airs boxes said legal n bis to within (air_in airs (steps_of_source 1 made) to)
-    (shown_since (is_made m) airs 1 m to made) second)
+    (grind (arith, in_relay_order, air_in, steps_of_source, shown_since, is_made))

@@ -1,8 +1,7 @@
 -- What the relay of a sink offered is the end of what the sink handed up since it was made: while the relay stands, the sink lives.
-use Rattle.scenario_laws.proofs.Prelude.{ℕ, ◌≡◌, ◌==◌, ◌∙◌, cond, Bool, true, false, List, [], ◌∷◌, ◌++◌, Option, None, Some, arith, is_some, refl, sym, ap, subst, append_assoc, inl, inr, unwrap_or, Contains, option_or, eq-eqb, eqb-true, false_from_ne_true, false≢true, append-nil, map-append, flat_map-append, filter-append, none-some, same_Some, Step, Refusal, SinkUnit, box_of, handed_by, fails_not, permitted, line_refusal, refusal_of, refuse_if, Airs, last_given, sinks_made, handed_since, is_made, of_sink, Offer, after_offer, after_offers, happened, offers_before, units_on, with_relayed_unit_unless, with_relayed_units, handed_on, is_route, offered, AreLegal, AreSaidLegally, Route, had_relay, relay_given, relay_of, EndsWith}
+use Rattle.scenario_laws.proofs.Prelude.{ℕ, ◌≡◌, ◌==◌, ◌∙◌, cond, Bool, true, false, List, [], ◌∷◌, ◌++◌, Option, None, Some, arith, is_some, refl, sym, ap, append_assoc, inl, inr, unwrap_or, Contains, option_or, eq-eqb, eqb-true, false_from_ne_true, false≢true, append-nil, map-append, flat_map-append, filter-append, none-some, same_Some, Step, Refusal, SinkUnit, box_of, handed_by, fails_not, permitted, line_refusal, refuse_if, Airs, last_given, sinks_made, handed_since, is_made, of_sink, Offer, after_offer, after_offers, happened, offers_before, units_on, with_relayed_unit_unless, with_relayed_units, handed_on, is_route, offered, AreLegal, AreSaidLegally, Route, had_relay, relay_given, relay_of, EndsWith}
 use Rattle.bcast_base.specs.declared.unit.Unit.{Unit as AudioUnit}
 use Rattle.scenario_text.specs.declared.step.Step.TheVariants as steps
-use Rattle.transcript_text.specs.declared.refusal.Refusal.TheVariants as refusals
 use Rattle.scenario_history.proofs.Citable.{neither}
 use Rattle.scenario_laws.proofs.RelayedUnits.Citable.{OneStands, contains_cases, first_free, had_happened, happens_legally, has_had, is_free}
 use Rattle.scenario_laws.proofs.RelayedUnits.Citable.{left_by_relayed_units, line_passes, not_yet, one_stands}
@@ -10,14 +9,12 @@ use Rattle.scenario_laws.proofs.RelayedUnits.Citable.{left_by_relayed_units, lin
 -- ---- a sink with a relay lives
 
 boxed_if : (hit : Bool) (box : Option ℕ) (made : ℕ) → is_some box ≡ true → is_some (cond hit (Some made) box) ≡ true
-boxed_if true box made is = refl
-boxed_if false box made is = is
+boxed_if hit box made is = grind arith
 
 made_boxed : (hit : Bool) (n sink bis to : ℕ) (later : Option (Option Route)) (route : Route) (box : ℕ → Option ℕ) → (hit ≡ true → sink ≡ n)
     → is_some (box sink) ≡ true → (unwrap_or later None ≡ Some route → is_some (box n) ≡ true)
     → unwrap_or (option_or (cond hit (Some (Some (record { bis = bis; to = to }))) None) later) None ≡ Some route → is_some (box n) ≡ true
-made_boxed true n sink bis to later route box same living before is = subst (λ k. is_some (box k) ≡ true) (same refl) living
-made_boxed false n sink bis to later route box same living before is = before is
+made_boxed hit n sink bis to later route box same living before is = grind (arith, is_some)
 
 dropped_boxed : (hit : Bool) (later : Option (Option Route)) (route : Route) (box : Option ℕ)
     → (unwrap_or later None ≡ Some route → is_some box ≡ true)
@@ -35,18 +32,11 @@ boxed airs boxes n route (steps.Sink sink streams slots mtu ∷ earlier) legal i
     boxed_if (sink == n) (box_of n earlier) (sinks_made earlier) (boxed airs boxes n route earlier legal.0 is)
 boxed airs boxes n route (this ∷ earlier) legal is = boxed airs boxes n route earlier legal.0 is
 
--- a sink that is made didn't live
-unboxed : (airs : Airs) (boxes : ℕ) (made : List Step) (sink streams slots : ℕ) (mtu : Option ℕ)
-    → refusal_of airs boxes made (steps.Sink sink streams slots mtu) ≡ None → is_some (box_of sink made) ≡ false
-unboxed airs boxes made sink streams slots mtu none =
-    let sinks = (permitted airs boxes made (steps.Sink sink streams slots mtu) none).by_sinks in
-    let twice = neither (refuse_if (is_some (box_of sink made)) refusals.SinkTwice) _ sinks in
-    fails_not (is_some (box_of sink made)) refusals.SinkTwice twice.0
-
 -- a sink that lives isn't made
 made_not : (airs : Airs) (boxes n : ℕ) (made after_relays : List Step) (step : Step) → line_refusal airs boxes made step ≡ None
     → is_some (box_of n made) ≡ true → is_made n after_relays step ≡ false
-made_not airs boxes n made after_relays this none living = grind (arith, unboxed, line_passes, false_from_ne_true, false≢true, eqb-true)
+made_not airs boxes n made after_relays this none living =
+    grind (arith, permitted, neither, refuse_if, is_some, box_of, fails_not, line_passes, false_from_ne_true, false≢true, eqb-true)
 
 -- ---- what it handed up
 
@@ -65,13 +55,9 @@ offers_since airs n (offer ∷ offers) made = search (unless_since, offers_since
 abbrev own_units : ℕ → ℕ → List SinkUnit → List AudioUnit
 own_units n bis units = units_on bis (of_sink 0 n units)
 
-own_append : (n bis : ℕ) (one other : List SinkUnit) → own_units n bis (one ++ other) ≡ own_units n bis one ++ own_units n bis other
-own_append n bis one other = search (filter-append, map-append, flat_map-append)
-
 step_since : (made_now : Bool) (n bis : ℕ) (before now : List SinkUnit) → made_now ≡ false
     → own_units n bis (cond made_now [] (before ++ now)) ≡ own_units n bis before ++ own_units n bis now
-step_since true n bis before now not = absurd (false≢true (sym not))
-step_since false n bis before now not = own_append n bis before now
+step_since made_now n bis before now not = grind (arith, false≢true, filter-append, map-append, flat_map-append)
 
 -- ---- its end
 
@@ -115,8 +101,7 @@ stood airs boxes n to made after_relays this route none had is goes = is
 
 is_its : (n bis to : ℕ) (made : List Step) (route : Route) → OneStands n bis to made → relay_of n made ≡ Some route → route.to ≡ to
     → is_route bis to (relay_of n made) ≡ true
-is_its n bis to made route stands is goes =
-    ap (is_route bis to) is ∙ rw (eq-eqb route.bis bis (stands n route is goes).1, eq-eqb route.to to goes) refl
+is_its n bis to made route stands is goes = grind (arith, eq-eqb route.bis bis (stands n route is goes).1, eq-eqb route.to to goes)
 
 pub ends_with : (airs : Airs) (boxes n bis to : ℕ) (said : List Step) → AreSaidLegally airs boxes said
     → Contains said (steps.Relay n bis to) → (route : Route) → relay_of n (happened airs said) ≡ Some route → route.to ≡ to

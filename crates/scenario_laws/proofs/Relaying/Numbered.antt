@@ -1,5 +1,5 @@
 -- The units that a sink handed up of a stream, each with the number of the unit of its source that it is.
-use Rattle.scenario_laws.proofs.Prelude.{ℕ, zero, suc, ◌≡◌, ◌<◌, ◌∙◌, Bool, true, false, cond, List, [], ◌∷◌, ◌++◌, length, map, slice_get, Option, None, Some, refl, sym, ap, arith, slice_index, AllZip, filter, length-map, map-append, none-some, same_Some, slice_get-map, of_stream, Air, accept, accepted, Setup, event, framed_calls, given, give, Handed, lost, valid, InSourceOrder, InUnitOrder, IsGiven, IsOfUnit, is_valid, valid_in, units_on}
+use Rattle.scenario_laws.proofs.Prelude.{ℕ, zero, suc, ◌≡◌, ◌<◌, ◌∙◌, Bool, cond, List, [], ◌∷◌, ◌++◌, length, map, slice_get, Option, None, Some, refl, sym, ap, arith, slice_index, AllZip, filter, length-map, map-append, none-some, same_Some, slice_get-map, of_stream, Air, accept, accepted, Setup, event, framed_calls, given, give, Handed, lost, valid, InSourceOrder, InUnitOrder, IsGiven, IsOfUnit, is_valid, valid_in, units_on}
 use Rattle.std.proofs.lemmas.List.Kept.{AllPairs-from_increasing}
 use Rattle.bcast_base.specs.declared.unit.Unit.{Unit as AudioUnit}
 use Rattle.isoal_framed.specs.Calls.{Call as FramedCall}
@@ -25,13 +25,11 @@ valid_if : (hit : Bool) (stream time : ℕ) (octets : List ℕ) (units : List Au
     → map (λ (unit : AudioUnit). shown (valid 0 unit.time unit.octets))
     (cond hit (record { time = time; octets = octets } ∷ []) [] ++ units)
     ≡ map shown (valid_in (cond hit (valid stream time octets ∷ rest) rest))
-valid_if true stream time octets units rest same = ap (λ l. shown (valid 0 time octets) ∷ l) same
-valid_if false stream time octets units rest same = same
+valid_if hit stream time octets units rest same = grind (arith, valid)
 
 lost_if : (hit : Bool) (stream time : ℕ) (units : List (Option AudioUnit)) (rest : List Handed) → units ≡ map shown (valid_in rest)
     → units ≡ map shown (valid_in (cond hit (lost stream time ∷ rest) rest))
-lost_if true stream time units rest same = same
-lost_if false stream time units rest same = same
+lost_if hit stream time units rest same = grind arith
 
 -- the units of a stream are those of the valid entries of it
 units_are : (bis : ℕ) (entries : List Handed) → map (λ (unit : AudioUnit). shown (valid 0 unit.time unit.octets)) (units_on bis entries)
@@ -43,13 +41,10 @@ units_are bis (lost stream time ∷ entries) = search (lost_if, units_are bis en
 -- the unit at a place is that of the valid entry there
 shown_at : (bis : ℕ) (entries : List Handed) (k : ℕ) (unit : AudioUnit) → slice_get (units_on bis entries) k ≡ Some unit
     → slice_get (map shown (valid_in (of_stream bis entries))) k ≡ Some (shown (valid 0 unit.time unit.octets))
-shown_at bis entries k unit is =
-    cc (units_are bis entries, slice_get-map (λ (u : AudioUnit). shown (valid 0 u.time u.octets)) (units_on bis entries) k, is)
+shown_at bis entries k unit is = grind (arith, units_are, slice_get-map, valid, units_on)
 
 same_long : (bis : ℕ) (entries : List Handed) → length (units_on bis entries) ≡ length (valid_in (of_stream bis entries))
-same_long bis entries =
-    sym (length-map (units_on bis entries) (λ (u : AudioUnit). shown (valid 0 u.time u.octets))) ∙ ap length (units_are bis entries)
-    ∙ length-map (valid_in (of_stream bis entries)) shown
+same_long bis entries = grind (arith, length-map, units_on, valid, length, units_are, valid_in, of_stream)
 
 -- ---- numbers
 
@@ -96,8 +91,7 @@ numbered_slots setup calls bis entries order =
 
 given_if : (hit : Bool) (time : ℕ) (octets : List ℕ) (calls : List FramedCall) (before : List (List ℕ))
     → map (λ (unit : AudioUnit). unit.octets) (accepted calls) ≡ before
-    → map (λ (unit : AudioUnit). unit.octets) (accepted (cond hit (accept time octets ∷ calls) calls))
-    ≡ cond hit (before ++ octets ∷ []) before
+    → map (λ (unit : AudioUnit). unit.octets) (accepted (cond hit (accept time octets ∷ calls) calls)) ≡ cond hit (before ++ octets ∷ []) before
 given_if hit time octets calls before same = grind (arith, map-append)
 
 given_units : (setup : Setup) (bis : ℕ) (calls : List Call)
@@ -108,21 +102,12 @@ given_units setup bis (event ∷ earlier) = cc (event_accepts_none setup bis ear
 
 of_unit : (setup : Setup) (calls : List Call) (bis : ℕ) (air : Air) (number : ℕ) (entry : Handed) (unit : AudioUnit)
     → IsOfUnit setup calls bis air number entry → shown entry ≡ Some unit → slice_get (given bis calls) number ≡ Some unit.octets
-of_unit setup calls bis air number (valid stream time octets) unit its is =
-    cc (
-      given_units setup bis calls,
-      slice_get-map (λ (u : AudioUnit). u.octets) (accepted (framed_calls setup bis calls)) number,
-      its.accepted,
-      its.valid_is stream time octets refl,
-      same_Some (record { time = time; octets = octets }) unit is,
-    )
+of_unit setup calls bis air number (valid stream time octets) unit its is = grind (arith, given_units setup bis calls, slice_get-map (λ (u : AudioUnit). u.octets) (accepted (framed_calls setup bis calls)) number, its.accepted, its.valid_is stream time octets refl, same_Some (record { time = time; octets = octets }) unit is)
 of_unit setup calls bis air number (lost stream time) unit its is = absurd (none-some unit is)
 
 within_by : {A : Type 0} (hit : Bool) (x : A) (xs kept : List A) (later : ℕ → ℕ) → ((k : ℕ) → k < length kept → later k < length xs)
     → (k : ℕ) → k < length (cond hit (x ∷ kept) kept) → place_by hit later k < length (x ∷ xs)
-within_by true x xs kept later goes_on zero below = omega arith
-within_by true x xs kept later goes_on (suc k) below = search arith
-within_by false x xs kept later goes_on k below = let now : later k < length xs = goes_on k below in omega (arith, now)
+within_by hit x xs kept later goes_on k below = grind (arith, length)
 
 place_within : {A : Type 0} (test : A → Bool) (xs : List A) (k : ℕ) → k < length (filter test xs) → place test xs k < length xs
 place_within test [] k below = below

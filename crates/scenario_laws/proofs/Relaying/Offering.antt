@@ -1,6 +1,6 @@
 -- What the relay of a sink offered is in the order of source 0: as an event of source 0 is closed while the relay stands, it is the end
 -- of what the sink handed up, and no other step offers anything.
-use Rattle.scenario_laws.proofs.Prelude.{ℕ, zero, suc, ◌≡◌, ◌⊎◌, ◌<◌, ◌≤◌, ◌==◌, ◌&&◌, ◌||◌, ◌∙◌, cond, Bool, true, false, List, [], ◌∷◌, ◌++◌, length, slice_get, Option, None, Some, refl, sym, ap, ap₂, subst, arith, inl, inr, unwrap_or, Contains, option_or, and_parts, cases_Bool, eqb-true, false≢true, or_parts, append-nil, none-some, IsInRange, Step, given, Handed, Refusal, MeetAirs, Offer, after_offer, after_offers, closes_first, handed_of, happened, offers_before, units_on, with_relayed_unit_unless, with_relayed_units, Route, had_relay, relay_given, relay_of, setup_of, source_calls, Airs, chosen_of, is_of_source, last_given, steps_of_source, is_route, offered, AreLegal, AreSaidLegally, StepsInOrder, given_since_made, handed_since, injected_since, is_given, is_injected, is_made, air_in, of_sink, EndsWith, injected_till_last_offer}
+use Rattle.scenario_laws.proofs.Prelude.{ℕ, suc, ◌≡◌, ◌⊎◌, ◌<◌, ◌≤◌, ◌&&◌, ◌||◌, ◌∙◌, cond, Bool, true, false, List, [], ◌∷◌, ◌++◌, length, slice_get, Option, None, Some, refl, sym, ap, subst, arith, inl, inr, unwrap_or, Contains, option_or, and_parts, cases_Bool, eqb-true, false≢true, or_parts, append-nil, none-some, IsInRange, Step, given, Handed, Refusal, MeetAirs, Offer, after_offer, after_offers, closes_first, handed_of, happened, offers_before, units_on, with_relayed_unit_unless, with_relayed_units, Route, had_relay, relay_given, relay_of, setup_of, source_calls, Airs, chosen_of, is_of_source, last_given, steps_of_source, is_route, offered, AreLegal, AreSaidLegally, StepsInOrder, given_since_made, handed_since, injected_since, is_given, is_injected, is_made, air_in, of_sink, EndsWith, injected_till_last_offer}
 use Rattle.bcast_base.specs.declared.unit.Unit.{Unit as AudioUnit}
 use Rattle.scenario_text.specs.declared.step.Step.TheVariants as steps
 use Rattle.scenario_history.specs.Boxes.{closing}
@@ -50,12 +50,9 @@ get_prefix : (xs ys : List (List ℕ)) → Extends xs (xs ++ ys)
 get_prefix (x ∷ xs) ys (suc k) octets is = get_prefix xs ys k octets is
 get_prefix xs ys k octets is = search (none-some)
 
-step_extends : (bis : ℕ) (step : Step) (own : List Step) → Extends (given bis (source_calls own)) (given bis (source_calls (step ∷ own)))
-step_extends bis this own = grind (arith, get_prefix)
-
 own_extends : (mine : Bool) (bis : ℕ) (step : Step) (own : List Step)
     → Extends (given bis (source_calls own)) (given bis (source_calls (cond mine (step ∷ own) own)))
-own_extends mine bis step own = grind (arith, step_extends)
+own_extends mine bis step own = grind (arith, get_prefix)
 
 numbered_more : (one other : List (List ℕ)) (units : List AudioUnit) → Extends one other → Numbered one units → Numbered other units
 numbered_more one other units extends numbered = search arith
@@ -63,8 +60,7 @@ numbered_more one other units extends numbered = search arith
 -- ---- a sink that nothing was injected into
 
 either_given : (n : ℕ) (step : Step) → is_injected n step ≡ false → is_given n step ≡ false
-either_given n (steps.Train sink time ext adv acad) none = none
-either_given n this none = refl
+either_given n this none = grind arith
 
 given_if : (begins one other : Bool) (rest others : Bool) → (one ≡ false → other ≡ false) → (rest ≡ false → others ≡ false)
     → cond begins one (one || rest) ≡ false → cond begins other (other || others) ≡ false
@@ -78,8 +74,7 @@ ungiven n (step ∷ earlier) none = search (given_if, either_given, ungiven n ea
 -- relayed units inject nothing
 injected_unless : (n : ℕ) (reason : Option Refusal) (offer : Offer) (made : List Step)
     → injected_since (is_made n) n (with_relayed_unit_unless reason offer made) ≡ injected_since (is_made n) n made
-injected_unless n None offer made = refl
-injected_unless n (Some reason) offer made = refl
+injected_unless n reason offer made = grind arith
 
 injected_offers : (airs : Airs) (n : ℕ) (offers : List Offer) (made : List Step)
     → injected_since (is_made n) n (after_offers airs offers made) ≡ injected_since (is_made n) n made
@@ -103,8 +98,7 @@ injected_happened airs n (step ∷ earlier) =
 
 relay_next : (given one other : Option (Option Route)) → unwrap_or one None ≡ unwrap_or other None
     → unwrap_or (option_or given one) None ≡ unwrap_or (option_or given other) None
-relay_next None one other same = same
-relay_next (Some route) one other same = refl
+relay_next given one other same = grind arith
 
 -- relayed units are no part of the relays
 relay_happened : (airs : Airs) (n : ℕ) (said : List Step) → relay_of n (happened airs said) ≡ relay_of n said
@@ -114,10 +108,7 @@ relay_happened airs n (step ∷ earlier) =
     (last_given (relay_given n) earlier) ((left_by_relayed_units airs (happened airs earlier) step).relay n ∙ relay_happened airs n earlier)
 
 closes_alike : (one other : List Step) (step : Step) → chosen_of one ≡ chosen_of other → closes_first one step ≡ closes_first other step
-closes_alike one other steps.Event same = ap (λ s. s == 0) same
-closes_alike one other steps.Stop same = ap (λ s. s == 0) same
-closes_alike one other (steps.Terminate reason) same = ap (λ s. s == 0) same
-closes_alike one other this same = refl
+closes_alike one other this same = grind arith
 
 -- it leaves the relays
 close_relays : (n : ℕ) (said after_relays : List Step) (step : Step) → closes_first said step ≡ true
@@ -131,14 +122,9 @@ close_injects n said after_relays this is = grind (arith, false≢true)
 
 -- ---- what it handed up
 
-framing_by : (step : Step) (own : List Step) → IsInRange step → (setup_of own).info.framing ≤ 1 → (setup_of (step ∷ own)).info.framing ≤ 1
-framing_by (steps.Group framing origin delay iso sdu max_sdu max_pdu num_bis bn nse irc pto sub spacing phy) own ranged before =
-    ranged.framing_is
-framing_by this own ranged before = before
-
 framing_if : (mine : Bool) (step : Step) (own : List Step) → IsInRange step → (setup_of own).info.framing ≤ 1
     → (setup_of (cond mine (step ∷ own) own)).info.framing ≤ 1
-framing_if mine step own ranged before = grind (arith, framing_by)
+framing_if mine step own ranged before = grind arith
 
 framing_fits : (airs : Airs) (boxes : ℕ) (made : List Step) → AreLegal airs boxes made
     → (setup_of (steps_of_source 0 made)).info.framing ≤ 1
@@ -146,9 +132,7 @@ framing_fits airs boxes [] legal = omega arith
 framing_fits airs boxes (step ∷ earlier) legal = search (framing_if, framing_fits airs boxes earlier legal.0)
 
 at_most_one : (k : ℕ) → k ≤ 1 → (k ≡ 0) ⊎ (k ≡ 1)
-at_most_one zero below = inl refl
-at_most_one (suc zero) below = inr refl
-at_most_one (suc (suc k)) below = absurd (omega (arith, below))
+at_most_one k below = grind arith
 
 -- all that the sink handed up of the stream since it was made is in the order of source 0
 numbered_since : StepsInOrder → (airs : Airs) → MeetAirs airs → (boxes n bis : ℕ) (made : List Step) → AreLegal airs boxes made → n ≤ 7
@@ -189,9 +173,7 @@ none_offered airs n bis to step earlier not =
     let before = offered airs n bis to earlier in
     let route = is_route bis to (relay_of n made) in
     let closes = closes_first made step in
-    let same : (route && closes) ≡ (is_route bis to (relay_of n earlier) && closes_first earlier step) =
-    ap₂ (λ relay hit. is_route bis to relay && hit) (relay_happened airs n earlier)
-    (closes_alike made earlier step (chosen_happened airs earlier)) in
+    let same : (route && closes) ≡ (is_route bis to (relay_of n earlier) && closes_first earlier step) = grind (arith, relay_happened airs n earlier, closes_alike made earlier step (chosen_happened airs earlier)) in
     ap (λ units. before ++ cond route (units_on bis units) []) (first_handed airs n made step)
     ∙ ap (λ l. before ++ l) (none_if route closes bis (handed_of 0 n (closing airs 0 made)) (same ∙ not)) ∙ append-nil before
 

@@ -1,10 +1,9 @@
 -- Of what was offered those units pass that weren't dropped, in order: so what is in the order of the one is in the order of the other.
-use Rattle.scenario_laws.proofs.Prelude.{ℕ, zero, suc, ◌≡◌, ◌<◌, ◌≤◌, ◌+◌, ◌-◌, ◌∙◌, Bool, true, false, cond, List, [], ◌∷◌, length, map, slice_get, Some, refl, sym, ap, arith, slice_index, AllZip, Contains, filter, IsStrictlyIncreasing, length-map, iso_us_of, sync_delay_of, Air, accepted, Setup, framed_calls, Handed, Step, setup_of, source_calls, Airs, steps_of_source, AreSaidLegally, InUnitOrder, IsOfUnit, Answered, all_answered, happened, offered_to, RelayLaw, offered, InRelayOrder, IsOfOffered}
+use Rattle.scenario_laws.proofs.Prelude.{ℕ, zero, suc, ◌≡◌, ◌<◌, ◌≤◌, ◌+◌, ◌-◌, Bool, true, false, cond, List, [], ◌∷◌, length, map, slice_get, Some, refl, arith, slice_index, AllZip, Contains, filter, IsStrictlyIncreasing, length-map, iso_us_of, sync_delay_of, Air, accepted, Setup, framed_calls, Handed, Step, setup_of, source_calls, Airs, steps_of_source, AreSaidLegally, InUnitOrder, IsOfUnit, Answered, all_answered, happened, offered_to, RelayLaw, offered, InRelayOrder, IsOfOffered}
 use Rattle.std.specs.Prelude.{is_none}
 use Rattle.bcast_base.specs.declared.unit.Unit.{Unit as AudioUnit}
 use Rattle.source_machine.specs.Calls.{Call}
 use Rattle.scenario_text.specs.declared.step.Step.TheVariants as steps
-use Rattle.scenario_laws.specs.SourceUnits.{anchor_in}
 use Rattle.scenario_history.specs.RelayedUnits.{passed}
 
 -- ---- the places of what passes a test
@@ -22,9 +21,7 @@ place test (x ∷ xs) k = place_by (test x) (place test xs) k
 gets_by : {A B : Type 0} (hit : Bool) (f : A → B) (x : A) (xs kept : List A) (later : ℕ → ℕ) (y : B)
     → ((k : ℕ) → slice_get (map f kept) k ≡ Some y → slice_get (map f xs) (later k) ≡ Some y)
     → (k : ℕ) → slice_get (map f (cond hit (x ∷ kept) kept)) k ≡ Some y → slice_get (map f (x ∷ xs)) (place_by hit later k) ≡ Some y
-gets_by true f x xs kept later y goes_on zero is = is
-gets_by true f x xs kept later y goes_on (suc k) is = goes_on k is
-gets_by false f x xs kept later y goes_on k is = goes_on k is
+gets_by hit f x xs kept later y goes_on k is = grind arith
 
 pub place_gets : {A B : Type 0} (test : A → Bool) (f : A → B) (xs : List A) (y : B) (k : ℕ) → slice_get (map f (filter test xs)) k ≡ Some y
     → slice_get (map f xs) (place test xs k) ≡ Some y
@@ -33,11 +30,7 @@ place_gets test f (x ∷ xs) y k is = gets_by (test x) f x xs (filter test xs) (
 
 rises_by : (hit : Bool) (later : ℕ → ℕ) → ((j k : ℕ) → j < k → later j < later k) → (j k : ℕ) → j < k
     → place_by hit later j < place_by hit later k
-rises_by true later rises zero zero below = absurd (omega (arith, below))
-rises_by true later rises zero (suc k) below = omega arith
-rises_by true later rises (suc j) zero below = absurd (omega (arith, below))
-rises_by true later rises (suc j) (suc k) below = let now : later j < later k = rises j k (omega (arith, below)) in omega (arith, now)
-rises_by false later rises j k below = let now : later j < later k = rises j k below in omega (arith, now)
+rises_by hit later rises j k below = grind arith
 
 pub place_rises : {A : Type 0} (test : A → Bool) (xs : List A) (j k : ℕ) → j < k → place test xs j < place test xs k
 place_rises test [] j k below = below
@@ -51,19 +44,12 @@ at_map f (x ∷ xs) zero below = refl
 at_map f (x ∷ xs) (suc k) below = at_map f xs k (omega (arith, below))
 
 rising_map : (f : ℕ → ℕ) → ((j k : ℕ) → j < k → f j < f k) → (xs : List ℕ) → IsStrictlyIncreasing xs → IsStrictlyIncreasing (map f xs)
-rising_map f rises xs increasing k within =
-    let long : k + 1 < length xs = omega (arith, within, length-map xs f) in
-    let one = at_map f xs k (omega (arith, long)) in
-    let next = at_map f xs (k + 1) long in
-    let now : f (slice_index xs k) < f (slice_index xs (k + 1)) = rises (slice_index xs k) (slice_index xs (k + 1)) (increasing k long) in
-    omega (arith, one, next, now)
+rising_map f rises xs increasing k within = grind (arith, length, length-map, at_map, slice_index)
 
 pub zip_map : {A B C : Type 0} (f : A → C) (R : A → B → Type 0) (S : C → B → Type 0) → ((a : A) → (b : B) → R a b → S (f a) b)
     → (xs : List A) (ys : List B) → AllZip R xs ys → AllZip S (map f xs) ys
-zip_map f R S each [] [] all = tt
-zip_map f R S each [] (b ∷ ys) all = absurd all
-zip_map f R S each (a ∷ xs) [] all = absurd all
 zip_map f R S each (a ∷ xs) (b ∷ ys) all = (each a b all.0, zip_map f R S each xs ys all.1)
+zip_map f x2 x3 each xs ys all = search
 
 -- ---- one unit
 
@@ -76,19 +62,7 @@ of_offered : (setup : Setup) (calls : List Call) (to : ℕ) (answers : List Answ
     → (air : Air) (number : ℕ) (entry : Handed) → IsOfUnit setup calls to air number entry
     → IsOfOffered setup to units (place (λ (answer : Answered). is_none answer.reason) answers number) entry
 of_offered setup calls to answers units passes offers air number entry of_unit =
-    let unit = λ (answer : Answered). answer.offer.unit in
-    let taken = λ (answer : Answered). is_none answer.reason in
-    let there : slice_get (passed answers) number ≡ Some of_unit.unit = ap (λ l. slice_get l number) (sym passes) ∙ of_unit.accepted in
-    record {
-      unit = of_unit.unit;
-      is_offered = ap (λ l. slice_get l (place taken answers number)) (sym offers)
-          ∙ place_gets taken unit answers of_unit.unit number there;
-      stream = of_unit.stream;
-      time_is = of_unit.time_is
-          ∙ rendered (anchor_in setup of_unit.event) (sync_delay_of setup.info) setup.info.sdu_interval (iso_us_of setup.info) setup.delay
-          of_unit.unit.time of_unit.ready;
-      valid_is = of_unit.valid_is;
-    }
+    grind (arith, slice_get, place_gets, rendered, sync_delay_of, iso_us_of)
 
 pub in_relay_order : ((boxes : ℕ) → RelayLaw boxes) → (airs : Airs) (boxes : ℕ) (said : List Step) → AreSaidLegally airs boxes said
     → (n bis to : ℕ) → Contains said (steps.Relay n bis to) → (air : Air) (entries : List Handed)

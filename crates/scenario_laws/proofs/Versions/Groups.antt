@@ -1,5 +1,5 @@
 -- The group check where a group may have a greater horizon: but for the row of the horizon it finds the same.
-use Rattle.scenario_laws.proofs.Prelude.{ℕ, ◌≡◌, ◌⊎◌, ◌≤◌, ltb, cond, Bool, true, false, List, [], ◌∷◌, Option, None, Some, refl, inl, inr, arith, find, false≢true, le-ltb, ltb-true, lt-ltb, GroupFault, BigInfo, faults, has_fault, horizon_of}
+use Rattle.scenario_laws.proofs.Prelude.{ℕ, ◌≡◌, ◌⊎◌, ◌≤◌, ltb, cond, Bool, true, false, List, [], ◌∷◌, Option, None, Some, refl, arith, find, false≢true, le-ltb, ltb-true, lt-ltb, GroupFault, BigInfo, faults, has_fault, horizon_of}
 use Rattle.big_info.specs.declared.fault.GroupFault.TheVariants as faults_of
 use Rattle.big_info.specs.Rows.{first_fault}
 
@@ -17,8 +17,7 @@ FoundNear (Some fault) = IsNear fault
 
 past : (holds : Bool) (fault : GroupFault) (one other : Option GroupFault) → FoundNear (cond holds (Some fault) one)
     → (FoundNear one → other ≡ one) → cond holds (Some fault) other ≡ cond holds (Some fault) one
-past true fault one other is same = refl
-past false fault one other is same = same is
+past holds fault one other is same = grind arith
 
 past_horizon : (close wide : Bool) (one other : Option GroupFault) → (wide ≡ true → close ≡ true)
     → FoundNear (cond close (Some faults_of.Horizon) one)
@@ -44,25 +43,17 @@ first_same near wider info within is = found near wider info faults within is
 
 not_past : (holds : Bool) (fault : GroupFault) (rest : Option GroupFault) → IsNear fault → FoundNear rest
     → FoundNear (cond holds (Some fault) rest)
-not_past true fault rest here later = here
-not_past false fault rest here later = later
+not_past holds fault rest here later = grind arith
 
 not_horizon : (holds : Bool) (rest : Option GroupFault) → holds ≡ false → FoundNear rest
     → FoundNear (cond holds (Some faults_of.Horizon) rest)
 not_horizon holds rest none later = grind (arith, false≢true)
 
-near_in : (near : ℕ) (info : BigInfo) (all : List GroupFault) → horizon_of info ≤ near → FoundNear (find (has_fault near info) all)
-near_in near info [] within = tt
-near_in near info (faults_of.Horizon ∷ all) within = search (not_horizon, ltb, le-ltb, near_in near info all within)
-near_in near info (fault ∷ all) within = search (not_past, near_in near info all within)
-
 pub within_near : (near : ℕ) (info : BigInfo) → horizon_of info ≤ near → FoundNear (first_fault near info)
 unfolding first_fault
-within_near near info within = near_in near info faults within
+within_near near info within = grind (arith, not_horizon, ltb, le-ltb, not_past, faults)
 
 -- ---- either way
 
 pub near_or_horizon : (found : Option GroupFault) → FoundNear found ⊎ (found ≡ Some faults_of.Horizon)
-near_or_horizon None = inl tt
-near_or_horizon (Some faults_of.Horizon) = inr refl
-near_or_horizon (Some fault) = inl tt
+near_or_horizon found = grind arith

@@ -1,7 +1,7 @@
 -- The history of a sink whose groups may have a greater horizon: what it has, what its links bring and what it prints are the
 -- same, where no train was answered `BadGroup 11` (Basic Audio Profile 1.0, section 6.5; Broadcast Audio Scan Service 1.0,
 -- section 3). Lists of steps and of calls have the newest first.
-use Rattle.scenario_laws.proofs.Prelude.{ℕ, zero, suc, ◌≡◌, ◌≤◌, List, [], ◌∷◌, length, Option, None, Some, refl, ◌∙◌, ap, arith, option_map, slice_get, Snapshot, done_by, snapshot_of, train_heard, written, outcome_by, step_by, writes_waiting, drained, repeated, notified_and_read, notified_out, Acts, acts_by, acts_of, notices_waiting, reads_waiting, waiting_of}
+use Rattle.scenario_laws.proofs.Prelude.{ℕ, zero, suc, ◌≡◌, ◌≤◌, List, [], ◌∷◌, length, Option, refl, ◌∙◌, ap, arith, slice_get, Snapshot, done_by, snapshot_of, train_heard, outcome_by, step_by, writes_waiting, drained, repeated, notified_and_read, notified_out, Acts, acts_by, acts_of, notices_waiting, reads_waiting, waiting_of}
 use Rattle.delegator_history.specs.States.{Answered, Step, answered, snapshot_in}
 use Rattle.delegator_history.specs.Steps.{Done}
 use Rattle.delegator_history.specs.Trains.{Setup}
@@ -44,8 +44,7 @@ abbrev pub AreQuietCalls : Setup → List Call → Type 0
 AreQuietCalls setup calls = AreQuiet setup (steps_of calls)
 
 quiet_before : (setup : Setup) (step : Option Step) (steps : List Step) → AreQuiet setup (with_step step steps) → AreQuiet setup steps
-quiet_before setup None steps quiet = quiet
-quiet_before setup (Some step) steps quiet = quiet.0
+quiet_before setup step steps quiet = grind arith
 
 by_same : (wider : ℕ) (setup : Setup) (mtu : Option ℕ) (link : ℕ) (call : Call) (before now : List Step) (acts : Acts)
     → snapshot_of (with_horizon wider setup) before ≡ snapshot_of setup before → snapshot_of (with_horizon wider setup) now ≡ snapshot_of setup now
@@ -72,14 +71,9 @@ reads_same wider setup mtu link calls within quiet = cc (acts_same wider setup m
 
 -- ---- drains
 
-quiet_written : (setup : Setup) (octets : Option (List ℕ)) (steps : List Step) → AreQuiet setup steps
-    → AreQuiet setup (with_step (option_map written octets) steps)
-quiet_written setup None steps quiet = quiet
-quiet_written setup (Some octets) steps quiet = (quiet, tt)
-
 pub quiet_served : (setup : Setup) (link : ℕ) (calls : List Call) → AreQuietCalls setup calls
     → AreQuietCalls setup (links.served link ∷ calls)
-quiet_served setup link calls quiet = quiet_written setup (slice_get (writes_waiting link calls) 0) (steps_of calls) quiet
+quiet_served setup link calls quiet = grind (arith, slice_get, writes_waiting)
 
 pub quiet_serves : (setup : Setup) (link count : ℕ) (calls : List Call) → AreQuietCalls setup calls
     → AreQuietCalls setup (repeated count (links.served link) calls)
@@ -107,10 +101,12 @@ told_same wider setup mtu link calls within quiet = cc (notices_same wider setup
 told_and_read_same : (wider : ℕ) (setup : Setup) (mtu : Option ℕ) (link : ℕ) (calls : List Call) → setup.horizon ≤ wider
     → AreQuietCalls setup calls → notified_and_read (with_horizon wider setup) mtu link calls ≡ notified_and_read setup mtu link calls
 told_and_read_same wider setup mtu link calls within quiet =
-    let notified : List Call = notified_out setup mtu link calls in
-    ap (λ all. repeated (length (reads_waiting (with_horizon wider setup) mtu link all)) (links.read link) all)
-    (told_same wider setup mtu link calls within quiet) ∙ ap (λ (reads : List ℕ). repeated (length reads) (links.read link) notified)
-    (reads_same wider setup mtu link notified within (quiet_tells setup link (length (notices_waiting setup mtu link calls)) calls quiet))
+    grind (
+      arith,
+      notified_out setup mtu link calls,
+      told_same wider setup mtu link calls within quiet,
+      reads_same wider setup mtu link (notified_out setup mtu link calls) within (quiet_tells setup link (length (notices_waiting setup mtu link calls)) calls quiet),
+    )
 
 pub drained_same : (wider : ℕ) (setup : Setup) (mtu : Option ℕ) (link : ℕ) (calls : List Call) → setup.horizon ≤ wider
     → AreQuietCalls setup calls → drained (with_horizon wider setup) mtu link calls ≡ drained setup mtu link calls

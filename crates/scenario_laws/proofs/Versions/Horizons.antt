@@ -1,11 +1,11 @@
 -- A train that a source announces isn't answered `BadGroup 11`: its group passed the group check of the version that its sinks
 -- are of too (Basic Audio Profile 1.0, section 6.5; Core 5.2, volume 6 part B, section 4.4.6). Lists of steps have the newest
 -- first; where a list is called `own` its steps are those of one source.
-use Rattle.scenario_laws.proofs.Prelude.{ℕ, ◌≡◌, ◌≤◌, ◌-◌, ◌*◌, ◌/◌, ◌==◌, not, cond, Bool, true, false, List, [], ◌∷◌, Option, None, Some, Ok, refl, sym, ◌∙◌, ap, ap₂, subst, unwrap_or, eqb-true, false≢true, ltb-false, not-false, same_Some, MayAnnounce, train_of, IsTrain, Tells, TellsInfo, Endpoint, Horizon, BigInfo, info_of, NoFault, Settings, big_info_in, found_in, without_cipher, next_anchor_of, next_of, Step, BaseTooLong, made_of, own_train, horizon_in, base_of, is_base_too_long, group_refusal, refusal_of, source_refusal, refuse_if, checked_info, cipher_of, group_of, identity_of, is_sending, is_started, no_group, setup_of, Airs, source_calls, chosen_of, chosen_steps, is_of_source, is_unbegun_at, stage_of, steps_of_source, version_of, announced_of, calls_made, source_at, snapshot_in}
+use Rattle.std.proofs.Common.{arith}
+use Rattle.scenario_laws.proofs.Prelude.{ℕ, ◌≡◌, ◌≤◌, ◌-◌, ◌*◌, ◌/◌, ◌==◌, not, cond, Bool, true, false, List, [], ◌∷◌, Option, None, Some, Ok, refl, sym, ◌∙◌, ap, subst, unwrap_or, eqb-true, false≢true, ltb-false, not-false, same_Some, MayAnnounce, train_of, IsTrain, Tells, TellsInfo, Endpoint, Horizon, BigInfo, info_of, NoFault, Settings, big_info_in, found_in, without_cipher, next_anchor_of, next_of, Step, made_of, own_train, horizon_in, base_of, is_base_too_long, group_refusal, refusal_of, source_refusal, refuse_if, checked_info, cipher_of, group_of, identity_of, is_sending, is_started, no_group, setup_of, Airs, source_calls, chosen_of, chosen_steps, is_of_source, is_unbegun_at, stage_of, steps_of_source, version_of, announced_of, calls_made, source_at, snapshot_in}
 use Rattle.big_info.proofs.Citable.{info_read}
 use Rattle.announcement_train.specs.declared.train.Train.{Train}
 use Rattle.announcement_train.specs.Told.{numbers_of}
-use Rattle.big_info.specs.Rows.{first_fault}
 use Rattle.big_info.specs.Schedule.{horizon_of as group_horizon}
 use Rattle.delegator_history.specs.Trains.{Setup, Train as Heard}
 use Rattle.ltv_codec.specs.Values.{first_of}
@@ -20,16 +20,11 @@ use Rattle.scenario_laws.proofs.Versions.Trains.{ReadsNear, outcome_near}
 -- ---- `scenario` comes first
 
 unbegun_empty : (airs : Airs) (boxes : ℕ) (made : List Step) → Legal airs boxes made → is_unbegun_at (stage_of made) ≡ true → made ≡ []
-unbegun_empty airs boxes [] legal unbegun = refl
-unbegun_empty airs boxes (steps.Scenario version ∷ earlier) legal unbegun = absurd (false≢true unbegun)
-unbegun_empty airs boxes (steps.End ∷ earlier) legal unbegun = absurd (false≢true unbegun)
-unbegun_empty airs boxes (this ∷ earlier) legal unbegun = absurd (false≢true (sym (permitted airs boxes earlier this legal.1).in_place
-    ∙ unbegun))
+unbegun_empty airs boxes (this ∷ earlier) legal unbegun = grind (arith, false≢true, permitted)
+unbegun_empty airs boxes made legal unbegun = search (false≢true, permitted)
 
 first_alone : (airs : Airs) (boxes version : ℕ) (earlier : List Step) → Legal airs boxes (steps.Scenario version ∷ earlier) → earlier ≡ []
-first_alone airs boxes version earlier legal =
-    unbegun_empty airs boxes earlier legal.0
-    (not-false (is_unbegun_at (stage_of earlier)) (permitted airs boxes earlier (steps.Scenario version) legal.1).in_place)
+first_alone airs boxes version earlier legal = grind (arith, unbegun_empty, not-false, is_unbegun_at, stage_of, permitted)
 
 -- ---- the greatest horizon of a group for a sink
 
@@ -40,14 +35,12 @@ HasHorizon (Some made) horizon = made.setup.horizon ≡ horizon
 
 horizon_if : (b : Bool) (one made : Option Settings) (horizon : ℕ) → HasHorizon one horizon → HasHorizon made horizon
     → HasHorizon (cond b one made) horizon
-horizon_if true one made horizon is has = is
-horizon_if false one made horizon is has = has
+horizon_if b one made horizon is has = grind arith
 
 horizon_made : (airs : Airs) (boxes n : ℕ) (made : List Step) → Legal airs boxes made
     → HasHorizon (made_of n made) (horizon_in (version_of made))
 horizon_made airs boxes n [] legal = tt
-horizon_made airs boxes n (steps.Scenario version ∷ earlier) legal =
-    subst (λ before. HasHorizon (made_of n before) (horizon_in version)) (sym (first_alone airs boxes version earlier legal)) tt
+horizon_made airs boxes n (steps.Scenario version ∷ earlier) legal = grind (arith, first_alone airs boxes version earlier legal)
 horizon_made airs boxes n (steps.Sink sink streams slots mtu ∷ earlier) legal =
     search (horizon_if, sink_horizon, horizon_made airs boxes n earlier legal.0)
 horizon_made airs boxes n (steps.Drop sink ∷ earlier) legal = search (horizon_if, horizon_made airs boxes n earlier legal.0)
@@ -61,17 +54,13 @@ IsWithin own horizon = is_started own ≡ true → group_horizon (unwrap_or (gro
 
 within_if : (b : Bool) (own : List Step) (step : Step) (horizon : ℕ) → (b ≡ true → IsWithin (step ∷ own) horizon) → IsWithin own horizon
     → IsWithin (cond b (step ∷ own) own) horizon
-within_if true own this horizon here before = here refl
-within_if false own this horizon here before = before
+within_if b own this horizon here before = grind arith
 
 -- the group check found that its horizon is no greater
 started_within : (version first : ℕ) (own : List Step) → source_refusal (λ setup calls. []) version own (steps.Start first) ≡ None
     → group_horizon (unwrap_or (group_of own) no_group).info ≤ horizon_in version
 started_within version first own none =
-    let sound : NoFault (horizon_in version) (without_cipher (unwrap_or (group_of own) no_group).info) =
-    may_be_sent (horizon_in version) (unwrap_or (group_of own) no_group).info (cipher_of own)
-    (first_fault (horizon_in version) (checked_info own)) refl
-    (neither (group_refusal (first_fault (horizon_in version) (checked_info own))) (refuse_if (is_base_too_long own) BaseTooLong) none).0 in
+    let sound : NoFault (horizon_in version) (without_cipher (unwrap_or (group_of own) no_group).info) = grind (arith, may_be_sent, horizon_in, unwrap_or, group_of, no_group, cipher_of, checked_info, neither, group_refusal, refuse_if, is_base_too_long) in
     ltb-false (horizon_in version) (group_horizon (unwrap_or (group_of own) no_group).info) (sound Horizon)
 
 starts_in : (airs : Airs) (boxes s first : ℕ) (earlier : List Step) → Permitted airs boxes earlier (steps.Start first)
@@ -85,9 +74,7 @@ starts_in airs boxes s first earlier permits is =
 stops_in : (s : ℕ) (earlier : List Step) → not (is_sending (chosen_steps earlier)) ≡ false → (chosen_of earlier == s) ≡ true
     → IsWithin (steps_of_source s earlier) (horizon_in (version_of earlier))
     → group_horizon (unwrap_or (group_of (steps_of_source s earlier)) no_group).info ≤ horizon_in (version_of earlier)
-stops_in s earlier sending is before =
-    before (sends (steps_of_source s earlier) (subst (λ t. not (is_sending (steps_of_source t earlier)) ≡ false)
-    (eqb-true (chosen_of earlier) s is) sending))
+stops_in s earlier sending is before = grind (arith, sends, steps_of_source, not, is_sending, eqb-true, chosen_of)
 
 group_within : (airs : Airs) (boxes s : ℕ) (made : List Step) → Legal airs boxes made
     → IsWithin (steps_of_source s made) (horizon_in (version_of made))
@@ -132,7 +119,7 @@ horizon_by nse bn pto irc = pto * (nse / bn - irc)
 -- groups with the same numbers have one horizon
 same_group_horizon : (one other : BigInfo) → numbers_of one ≡ numbers_of other → group_horizon one ≡ group_horizon other
 unfolding horizon_by
-same_group_horizon one other same = search (ap₂, horizon_by)
+same_group_horizon one other same = grind arith
 
 read_as : (octets found : List ℕ) (info read : BigInfo) → Some found ≡ Some octets → info_of octets ≡ Ok info → info_of found ≡ Ok read
     → info ≡ read
@@ -144,10 +131,8 @@ reads_near setup train heard broadcast_id base info event anchor same tells with
     let told : TellsInfo train.acad tells.read = tells.info_is in
     let list : Some told.octets ≡ big_info_in heard.acad =
     sym (ap big_info_in same ∙ ap (found_in (first_of 0x2C)) told.list ∙ told.found) in
-    let read : its ≡ tells.read = read_as octets told.octets its tells.read (list
-    ∙ found) is (info_read told.octets tells.read told.is.0 told.is.1) in
-    within_near setup.horizon its (subst (λ (group : BigInfo). group_horizon group ≤ setup.horizon) (sym read)
-    (subst (λ reach. reach ≤ setup.horizon) (sym (same_group_horizon tells.read info tells.numbers)) within))
+    let read : its ≡ tells.read = read_as octets told.octets its tells.read (grind arith) is (info_read told.octets tells.read told.is.0 told.is.1) in
+    within_near setup.horizon its (grind (arith, same_group_horizon))
 
 -- ---- an announced train
 
@@ -172,8 +157,7 @@ announced_calm laws airs boxes n earlier legal none m made names is =
     (laws.is_train (identity_of own).broadcast_id (base_of own) (checked_info own) event anchor may) in
     let reach : group_horizon (checked_info own) ≤ horizon_in (version_of earlier) =
     group_within airs boxes (chosen_of earlier) earlier legal started in
-    let horizon : made.setup.horizon ≡ horizon_in (version_of earlier) = its_horizon (made_of m earlier) made
-    (horizon_in (version_of earlier)) (horizon_made airs boxes m earlier legal) is in
+    let horizon : made.setup.horizon ≡ horizon_in (version_of earlier) = grind (arith, its_horizon (made_of m earlier) made (horizon_in (version_of earlier)) (horizon_made airs boxes m earlier legal) is) in
     outcome_near made.setup (snapshot_in made (calls_made m earlier)) (own_train (source_at earlier))
     (reads_near made.setup (announced_of own) (own_train (source_at earlier)) (identity_of own).broadcast_id (base_of own)
     (checked_info own) event anchor refl tells (subst (λ most. group_horizon (checked_info own) ≤ most) (sym horizon) reach))

@@ -1,9 +1,8 @@
 -- The sinks of a scenario in version 2: their history is the same, where no train was answered `BadGroup 11` (Basic Audio Profile
 -- 1.0, section 6.5). Lists of steps and of calls have the newest first.
-use Rattle.scenario_laws.proofs.Prelude.{ℕ, ◌≡◌, ◌≤◌, ◌==◌, cond, Bool, true, false, List, [], ◌∷◌, Option, None, Some, refl, ◌∙◌, ap₂, arith, eqb-true, Settings, born, Step, Source, calls_after, calls_at, calls_by, made_by, made_of, named_by, train_by, calls_made, source_at, the_world}
+use Rattle.scenario_laws.proofs.Prelude.{ℕ, ◌≡◌, ◌≤◌, ◌==◌, cond, Bool, true, List, [], ◌∷◌, Option, None, Some, refl, ◌∙◌, ap₂, arith, eqb-true, Settings, born, Step, Source, calls_after, calls_at, calls_by, made_by, made_of, named_by, train_by, calls_made, source_at, the_world}
 use Rattle.sink_history.specs.Calls.{Call}
 use Rattle.scenario_text.specs.declared.step.Step.TheVariants as steps
-use Rattle.sink_history.specs.History.{horizon_of}
 use Rattle.scenario_laws.proofs.Versions.Histories.{AreQuietCalls, drained_same, quiet_drained, quiet_served}
 use Rattle.scenario_laws.proofs.Versions.Printed.{HearsNear, IsQuietHistory, made_with_horizon}
 use Rattle.scenario_laws.proofs.Versions.Seconds.{at_second, same, second, seconds, sink_grows}
@@ -29,15 +28,11 @@ AreWider _ _ = ⊥
 
 wider_if : (b : Bool) (one two made other : Option Settings) → AreWider one two → AreWider made other
     → AreWider (cond b one made) (cond b two other)
-wider_if true one two made other is wider = is
-wider_if false one two made other is wider = wider
+wider_if b one two made other is wider = grind arith
 
 wider_after : (n : ℕ) (step : Step) (earlier : List Step) (made other : Option Settings) → AreWider made other
     → AreWider (made_by n step earlier made) (made_by n (second step) (seconds earlier) other)
-wider_after n (steps.Sink sink streams slots mtu) earlier made other wider =
-    wider_if (sink == n) (Some (record { setup = record { streams = streams; slots = slots; horizon = horizon_of earlier }; mtu = mtu }))
-    (Some (record { setup = record { streams = streams; slots = slots; horizon = horizon_of (seconds earlier) }; mtu = mtu })) made other
-    (record { horizon = horizon_of (seconds earlier); within = sink_grows earlier; is = refl }) wider
+wider_after n (steps.Sink sink streams slots mtu) earlier made other wider = grind (arith, wider_if, seconds, sink_grows)
 wider_after n (steps.Drop sink) earlier made other wider = wider_if (sink == n) None None made other tt wider
 wider_after n _ earlier made other wider = wider
 
@@ -63,17 +58,14 @@ QuietHistory (Some made) calls = AreQuietCalls made.setup calls
 
 quiet_if : (b : Bool) (one made : Option Settings) (first calls : List Call) → QuietHistory one first → QuietHistory made calls
     → QuietHistory (cond b one made) (cond b first calls)
-quiet_if true one made first calls is quiet = is
-quiet_if false one made first calls is quiet = quiet
+quiet_if b one made first calls is quiet = grind arith
 
 quiet_born : (made : Settings) (mtu : Option ℕ) → AreQuietCalls made.setup (born mtu)
-quiet_born made None = tt
-quiet_born made (Some mtu) = (tt, tt)
+quiet_born made mtu = grind arith
 
 quiet_chosen : (is_its : Bool) (made : Option Settings) (first calls : List Call) → (is_its ≡ true → QuietHistory made first)
     → QuietHistory made calls → QuietHistory made (cond is_its first calls)
-quiet_chosen true made first calls is quiet = is refl
-quiet_chosen false made first calls is quiet = quiet
+quiet_chosen is_its made first calls is quiet = grind arith
 
 quiet_of_made : (source : Source) (step : Step) (made : Option Settings) (calls : List Call) → QuietHistory made calls
     → ((sink : Settings) → made ≡ Some sink → HearsNear sink calls (train_by source step))
@@ -89,9 +81,7 @@ quiet_at n named this earlier made calls quiet near = grind (arith, quiet_chosen
 quiet_after : (n : ℕ) (step : Step) (earlier : List Step) (made : Option Settings) (calls : List Call) → QuietHistory made calls
     → ((sink : Settings) → named_by step ≡ Some n → made ≡ Some sink → HearsNear sink calls (train_by (source_at earlier) step))
     → QuietHistory (made_by n step earlier made) (calls_after the_world n step earlier made calls)
-quiet_after n (steps.Sink sink streams slots mtu) earlier made calls quiet near =
-    let it : Settings = record { setup = record { streams = streams; slots = slots; horizon = horizon_of earlier }; mtu = mtu } in
-    quiet_if (sink == n) (Some it) made (born mtu) calls (quiet_born it mtu) quiet
+quiet_after n (steps.Sink sink streams slots mtu) earlier made calls quiet near = grind (arith, quiet_if, born, quiet_born)
 quiet_after n (steps.Drop sink) earlier made calls quiet near = quiet_if (sink == n) None made [] calls tt quiet
 quiet_after n this earlier made calls quiet near = quiet_at n (named_by this) this earlier made calls quiet near
 

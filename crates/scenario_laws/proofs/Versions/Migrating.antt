@@ -1,5 +1,5 @@
 -- The migration law, over the airs of each stream by its framing: a text and the text in version 2.
-use Rattle.scenario_laws.proofs.Prelude.{ℕ, ◌≡◌, ◌⊎◌, ◌+◌, nat_eq, cond, leb, Bool, true, false, List, [], ◌∷◌, ◌++◌, length, reverse, Option, None, arith, Some, refl, sym, ◌∙◌, ap, ap₂, subst, inl, inr, append-nil, TextLine, plain, too_long, line_limit, line_of, Account, Accepted, End, Rules, accepted_of, accepted_unless, end_unless, out, out_unless, refused, through, reverse_onto, is_blank, airs_of, Step, Refusal, LineTooLong, a_step, nothing, unsaid, output_said, refusal_said, said_in, steps_of, with_said, has_relay, is_over, is_unbegun_at, stage_of, version_of, end_after, has_end, last_end_after, last_line_after, out_of, transcript_end, transcript_of, units_of, EndsLasting, IsLastingText, NonePrintsHorizon}
+use Rattle.scenario_laws.proofs.Prelude.{ℕ, ◌≡◌, ◌⊎◌, ◌+◌, nat_eq, cond, leb, Bool, true, List, [], ◌∷◌, ◌++◌, length, reverse, Option, None, arith, Some, refl, sym, ◌∙◌, ap, subst, inl, inr, append-nil, TextLine, plain, too_long, line_limit, line_of, Account, Accepted, End, Rules, accepted_of, accepted_unless, end_unless, out, out_unless, refused, through, reverse_onto, is_blank, airs_of, Step, Refusal, LineTooLong, a_step, nothing, unsaid, output_said, refusal_said, said_in, steps_of, with_said, has_relay, is_over, is_unbegun_at, stage_of, version_of, end_after, has_end, last_end_after, last_line_after, out_of, transcript_end, transcript_of, units_of, EndsLasting, IsLastingText, NonePrintsHorizon}
 use Rattle.std.specs.Fmt.{digits as numerals}
 use Rattle.bcast_io.specs.TextLines.{lines_of as text_lines}
 use Rattle.scenario_history.specs.Runs.{end_of}
@@ -9,7 +9,6 @@ use Rattle.scenario_text.specs.Steps.{read_of, step_of}
 use Rattle.scenario_text.specs.Table.{first_row_of, row_of}
 use Rattle.scenario_text.specs.declared.step.Step.TheVariants as steps
 use Rattle.scenario_history.specs.Lines.{said_after, said_of}
-use Rattle.scenario_laws.proofs.Versions.Lived.{AreCalm}
 use Rattle.scenario_laws.proofs.Versions.Runs.{Begins, Its, Laws, RunAlike, RunsAlike, Stands, run_alike}
 use Rattle.scenario_laws.proofs.Versions.Seconds.{seconds}
 use Rattle.scenario_laws.proofs.Versions.Texts.{Turned, here, later, first_version, second_version, same_count, text_turn}
@@ -17,12 +16,9 @@ use Rattle.scenario_laws.proofs.Versions.Texts.{Turned, here, later, first_versi
 -- ---- an empty line, or a comment
 
 blank_if : (long : Bool) (version : ℕ) (line : List ℕ) → is_blank line ≡ true
-    → (said_in version (cond long (plain line) too_long) ≡ nothing) ⊎ (said_in version (cond long (plain line) too_long)
-    ≡ unsaid LineTooLong)
+    → (said_in version (cond long (plain line) too_long) ≡ nothing) ⊎ (said_in version (cond long (plain line) too_long) ≡ unsaid LineTooLong)
 unfolding read_of
-blank_if false version line blank = inr refl
-blank_if true version [] blank = inl refl
-blank_if true version (octet ∷ line) blank = search arith
+blank_if long version line blank = grind arith
 
 blank_says : (version : ℕ) (line : List ℕ) → is_blank line ≡ true
     → (said_in version (line_of line) ≡ nothing) ⊎ (said_in version (line_of line) ≡ unsaid LineTooLong)
@@ -36,14 +32,7 @@ skips : (starts : List Account) (history others : List TextLine) (reason reason'
     (end_unless history reason end) (end_unless others reason' end') (accepted_unless history reason all)
     (accepted_unless others reason' all')
 skips starts history others reason reason' brought brought' octets octets' end end' all all' none none' empty empty' alike =
-    subst (λ r. RunsAlike (out_unless (Its starts) history r (brought ++ octets))
-    (out_unless (Its starts) others reason' (brought' ++ octets'))
-    (end_unless history r end) (end_unless others reason' end') (accepted_unless history r all) (accepted_unless others reason' all'))
-    (sym none)
-    (subst (λ r. RunsAlike (brought ++ octets) (out_unless (Its starts) others r (brought' ++ octets')) end (end_unless others r end') all
-    (accepted_unless others r all')) (sym none')
-    (subst (λ prefix. RunsAlike (prefix ++ octets) (brought' ++ octets') end end' all all') (sym empty)
-    (subst (λ prefix. RunsAlike octets (prefix ++ octets') end end' all all') (sym empty') alike)))
+    grind (arith, out_unless, end_unless, accepted_unless)
 
 -- a line that both histories refuse
 stops : (starts : List Account) (history : List TextLine) (reason : Option Refusal) (why : Refusal) (octets octets' : List ℕ)
@@ -85,26 +74,24 @@ its_output : (starts : List Account) (history : List TextLine) (version : ℕ) (
     → (Its starts).output history (plain line) ≡ []
 its_output starts history version line says = ap (output_said airs_of starts (steps_of airs_of history)) says
 
-its_steps : (history : List TextLine) (version : ℕ) (line : List ℕ) → said_of history ≡ [] → SaysVersion history version line
-    → said_of (plain line ∷ history) ≡ steps.Scenario version ∷ []
-its_steps history version line none says = ap₂ with_said says none
-
-begun_calm : AreCalm (steps.Scenario 1 ∷ [])
-begun_calm = (tt, λ n made names lives. tt)
-
 first_stands : (starts : List Account) (history : List TextLine) → said_of history ≡ [] → Accepted (Its starts) history
     → Stands starts (plain first_version ∷ history) (plain second_version ∷ history)
 first_stands starts history none accepted =
-    let one : SaysVersion history 1 first_version = first_says (said_of history) none in
-    let two : SaysVersion history 2 second_version = second_says (said_of history) none in
-    let made : said_of (plain first_version ∷ history) ≡ steps.Scenario 1 ∷ [] = its_steps history 1 first_version none one in
-    assumption (
-      its_steps history 2 second_version none two ∙ ap seconds (sym made),
-      ap (λ all. is_unbegun_at (stage_of all)) made,
-      ap (λ all. nat_eq (version_of all) 2) made,
-      ap has_relay made,
-      subst AreCalm (sym made) begun_calm,
-      its_refusal starts history 1 first_version none one,
+    grind (
+      arith,
+      first_version,
+      first_says,
+      second_version,
+      second_says,
+      plain,
+      with_said,
+      seconds,
+      is_unbegun_at,
+      stage_of,
+      nat_eq,
+      version_of,
+      has_relay,
+      its_refusal,
     )
 
 -- ---- the lines of both texts
@@ -126,13 +113,11 @@ first_alike laws starts all history rest never begins none accepted lasting =
     none_one none_two (its_output starts history 1 first_version one) (its_output starts history 2 second_version two)
     (run_alike laws starts all (plain first_version ∷ history) (plain second_version ∷ history) rest never
     (begins ∙ sym (reverse_onto (plain first_version) history rest)) (first_stands starts history none accepted)
-    (lasting_next history ((Its starts).refusal history (plain first_version)) (end_of (Its starts) (plain first_version ∷ history) rest)
-    none_one lasting))
+    (grind (arith, lasting_next, plain, first_version)))
 
 turned_alike : Laws → (starts : List Account) (all history lines others : List TextLine) → NonePrintsHorizon airs_of starts all
-    → Begins all history lines → said_of history ≡ []
-    → Accepted (Its starts) history → EndsLasting (end_of (Its starts) history lines) → Turned lines others
-    → RunAlike starts history history lines others
+    → Begins all history lines → said_of history ≡ [] → Accepted (Its starts) history → EndsLasting (end_of (Its starts) history lines)
+    → Turned lines others → RunAlike starts history history lines others
 turned_alike laws starts all history _ _ never begins none accepted lasting (later line lines others blank turned) =
     let it : TextLine = line_of line in
     elim (blank_says (version_of (said_of history)) line blank) [
@@ -147,13 +132,7 @@ turned_alike laws starts all history _ _ never begins none accepted lasting (lat
           (turned_alike laws starts all (it ∷ history) lines others never (begins ∙ sym (reverse_onto it history lines))
           (ap (λ said. with_said said (said_of history)) says ∙ none) (accepted, passes)
           (lasting_next history ((Its starts).refusal history it) (end_of (Its starts) (it ∷ history) lines) passes lasting) turned)
-      | inr says ↦
-          stops starts history ((Its starts).refusal history it) LineTooLong ((Its starts).output history it
-          ++ out (Its starts) (it ∷ history) lines)
-          ((Its starts).output history it ++ out (Its starts) (it ∷ history) others) (end_of (Its starts) (it ∷ history) lines)
-          (end_of (Its starts) (it ∷ history) others)
-          (accepted_of (Its starts) (it ∷ history) lines) (accepted_of (Its starts) (it ∷ history) others)
-          (ap (refusal_said airs_of (length starts) (steps_of airs_of history)) says)
+      | inr says ↦ grind (arith, stops, out, accepted_of, refusal_said, airs_of, length, steps_of)
     ]
 turned_alike laws starts all history _ _ never begins none accepted lasting (here rest) = search (first_alike)
 
@@ -172,20 +151,6 @@ through_all rules history [] is = refl
 through_all rules history (line ∷ lines) is = through_if rules history lines line (rules.refusal history line)
     (through_all rules (line ∷ history) lines) is
 
-ends_over : (starts : List Account) (lines : List TextLine) → end_after airs_of starts lines ≡ through
-    → has_end lines ≡ is_over (said_of (accepted_of (Its starts) [] lines))
-ends_over starts lines is = ap (λ all. is_over (said_of all)) (sym (through_all (Its starts) [] lines is ∙ append-nil (reverse lines)))
-
-line_if : (end : End Refusal) (over over' : Bool) (number : ℕ) → (end ≡ through → over' ≡ over)
-    → last_line_after end over' number ≡ last_line_after end over number
-line_if (refused line reason) over over' number same = refl
-line_if through over over' number same = ap (λ b. last_line_after through b number) (same refl)
-
-end_if : (end : End Refusal) (over over' : Bool) (number : ℕ) → (end ≡ through → over' ≡ over)
-    → last_end_after end over' number ≡ last_end_after end over number
-end_if (refused line reason) over over' number same = refl
-end_if through over over' number same = ap (λ b. last_end_after through b number) (same refl)
-
 lasting_before : (end : End Refusal) (over : Bool) (number : ℕ) → EndsLasting (last_end_after end over number) → EndsLasting end
 lasting_before (refused line reason) over number lasting = lasting
 lasting_before through over number lasting = tt
@@ -199,17 +164,22 @@ pub record LinesAlike (starts : List Account) (lines others : List TextLine) : T
 lines_alike : (starts : List Account) (lines others : List TextLine) → length others ≡ length lines → RunAlike starts [] [] lines others
     → LinesAlike starts lines others
 lines_alike starts lines others count alike =
-    let ended : end_after airs_of starts lines ≡ through → has_end others ≡ has_end lines =
-    λ is. ends_over starts others (alike.end_same ∙ is) ∙ alike.over_same ∙ sym (ends_over starts lines is) in
-    record {
-      octets = ap₂ (λ octets end. octets ++ last_line_after end (has_end others) (length others + 1)) alike.octets_same alike.end_same
-          ∙ ap (λ number. out_of airs_of starts lines ++ last_line_after (end_after airs_of starts lines) (has_end others) (number + 1))
-          count ∙ ap (λ line. out_of airs_of starts lines ++ line)
-          (line_if (end_after airs_of starts lines) (has_end lines) (has_end others) (length lines + 1) ended);
-      end = ap₂ (λ end number. last_end_after end (has_end others) (number + 1)) alike.end_same count
-          ∙ end_if (end_after airs_of starts lines) (has_end lines) (has_end others) (length lines + 1) ended;
-      units = alike.units_same;
-    }
+    grind (
+      arith,
+      end_after,
+      airs_of,
+      through,
+      has_end,
+      is_over,
+      through_all,
+      append-nil,
+      reverse,
+      last_line_after,
+      length,
+      out_of,
+      refused,
+      last_end_after,
+    )
 
 same_lines : (starts : List Account) (lines others : List TextLine) → others ≡ lines → LinesAlike starts lines others
 same_lines starts lines others same = search arith
@@ -223,6 +193,5 @@ text_alike laws starts text lasting = elim (text_turn text) [
       (same_count (text_lines true text) (text_lines true (migrated text)) turned)
       (turned_alike laws starts (text_lines true text) [] (text_lines true text) (text_lines true (migrated text)) lasting.trains refl refl
       tt
-      (lasting_before (end_after airs_of starts (text_lines true text)) (has_end (text_lines true text)) (length (text_lines true text) + 1)
-      lasting.end) turned)
+      (grind (arith, lasting_before, end_after, airs_of, has_end, length)) turned)
 ]

@@ -1,5 +1,5 @@
 -- The migration law over any airs that meet the relation of their framing, one for the text and one for the text in version 2.
-use Rattle.scenario_laws.proofs.Prelude.{ℕ, ◌≡◌, true, List, ◌∷◌, ◌∙◌, subst, arith, TextLine, Account, Accepted, airs_of, Airs, MeetAirs, rules_of, steps_of, transcript_end, transcript_of, units_of, EndsLasting, IsLastingText, MigrationLaw, PrintsHorizon}
+use Rattle.scenario_laws.proofs.Prelude.{ℕ, ◌≡◌, true, List, ◌∷◌, subst, arith, TextLine, Account, Accepted, airs_of, Airs, MeetAirs, rules_of, steps_of, transcript_end, transcript_of, units_of, EndsLasting, IsLastingText, MigrationLaw, PrintsHorizon}
 use Rattle.bcast_io.specs.TextLines.{lines_of}
 use Rattle.scenario_text.specs.Migrated.{migrated}
 use Rattle.scenario_text.specs.declared.step.Step.TheVariants as steps
@@ -28,8 +28,7 @@ lasting_over : OneTranscript → MeetAirs airs_of → (airs : Airs) (starts : Li
     → IsLastingText airs starts text → IsLastingText airs_of starts text
 lasting_over one meet airs starts text meets lasting = record {
   trains = λ earlier line later is accepted prints. lasting.trains earlier line later is
-      (one.accepted airs_of airs starts (line ∷ earlier) meet meets accepted) (prints_over airs_of airs starts earlier line
-      (one.steps airs_of airs starts earlier meet meets accepted.0) prints);
+      (one.accepted airs_of airs starts (line ∷ earlier) meet meets accepted) (grind (arith, prints_over, airs_of));
   end = subst EndsLasting (one.end airs airs_of starts (lines_of true text) meets meet) lasting.end;
 }
 
@@ -38,10 +37,7 @@ migration_law_holds laws one meet starts airs others meets meet_too text lasting
     let alike : LinesAlike starts (lines_of true text) (lines_of true (migrated text)) =
     text_alike laws starts text (lasting_over one meet airs starts text meets lasting) in
     record {
-      octets = one.octets others airs_of starts (lines_of true (migrated text)) meet_too meet ∙ alike.octets
-          ∙ one.octets airs_of airs starts (lines_of true text) meet meets;
-      end = one.end others airs_of starts (lines_of true (migrated text)) meet_too meet ∙ alike.end
-          ∙ one.end airs_of airs starts (lines_of true text) meet meets;
-      units = one.units others airs_of starts (lines_of true (migrated text)) meet_too meet ∙ alike.units
-          ∙ one.units airs_of airs starts (lines_of true text) meet meets;
+      octets = grind (arith, airs_of);
+      end = grind (arith, airs_of);
+      units = grind (arith, airs_of);
     }

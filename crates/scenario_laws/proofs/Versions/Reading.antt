@@ -1,12 +1,10 @@
 -- A line that version 1 of the scenario language reads, version 2 reads as the same step: each row of version 1 stands in
 -- version 2, where a sink has up to eight slots.
-use Rattle.scenario_laws.proofs.Prelude.{ℕ, ◌≡◌, ◌⊎◌, ◌≤◌, ◌&&◌, cond, leb, Bool, true, false, List, [], ◌∷◌, Option, None, Some, Result, Ok, Err, refl, sym, ap, subst, inl, inr, arith, bytes_eq, nat_eq, le-leb, leb-true, TextLine, ◌>>=◌, LineFault, at_known, at_row, Row, event_rows, first_rows, link_row_of_2, link_rows, row_in, rows_of_2, sink_row, sink_rows, source_rows, tuned_row, drop_row, stop_row, end_row, Step, BadLine, unsaid, said_by, said_in}
-use Rattle.scenario_words.specs.declared.fault.LineFault.TheVariants.{BadLine as Misfit, Memory as NoMemory}
+use Rattle.scenario_laws.proofs.Prelude.{ℕ, ◌≡◌, ◌⊎◌, ◌≤◌, cond, Bool, true, List, [], ◌∷◌, Option, None, Some, Result, Err, refl, sym, subst, inl, arith, bytes_eq, nat_eq, le-leb, leb-true, TextLine, ◌>>=◌, LineFault, at_known, at_row, Row, event_rows, first_rows, link_row_of_2, link_rows, row_in, rows_of_2, sink_row, sink_rows, source_rows, tuned_row, drop_row, stop_row, end_row, Step, BadLine, unsaid, said_by, said_in}
+use Rattle.scenario_words.specs.declared.fault.LineFault.TheVariants.{BadLine as Misfit}
 use Rattle.scenario_words.specs.Reading.{Left, decimal_in, next_of, taken}
 use Rattle.scenario_text.specs.Steps.{read_of, step_of}
-use Rattle.scenario_text.specs.Table.{first_row_of, link_row_of}
-use Rattle.scenario_text.specs.Table.{row_of, row_of_2}
-use Rattle.scenario_text.specs.Table.{sink_row_of, source_row_of}
+use Rattle.scenario_text.specs.Table.{first_row_of, link_row_of, row_of, row_of_2, sink_row_of, source_row_of}
 use Rattle.scenario_history.specs.Lines.{Said}
 use Rattle.scenario_laws.proofs.Versions.Seconds.{IsLater}
 
@@ -21,41 +19,29 @@ IsMisfit _ = ⊥
 abbrev pub ReadsOn : {A : Type 0} → Result A LineFault → Result A LineFault → Type 0
 ReadsOn here there = (there ≡ here) ⊎ IsMisfit here
 
-misfit_then : {A B : Type 0} (here : Result A LineFault) (f : A → Result B LineFault) → IsMisfit here → IsMisfit (here >>= f)
-misfit_then (Err (Misfit word)) f is = tt
-misfit_then (Err NoMemory) f is = absurd is
-misfit_then (Ok a) f is = absurd is
-
 first_on : {A B : Type 0} (here there : Result A LineFault) (f : A → Result B LineFault) → ReadsOn here there
     → ReadsOn (here >>= f) (there >>= f)
-first_on here there f h3 = grind (arith, misfit_then)
+first_on here there f h3 = grind arith
 
 then_on : {A B : Type 0} (read : Result A LineFault) (f g : A → Result B LineFault) → ((a : A) → ReadsOn (f a) (g a))
     → ReadsOn (read >>= f) (read >>= g)
-then_on (Ok a) f g on = on a
-then_on (Err fault) f g on = inl refl
+then_on read f g on = grind arith
 
 -- ---- a number
 
-fits_more : (is_decimal least : Bool) (n near wider : ℕ) → near ≤ wider → (is_decimal && (least && leb n near)) ≡ true
-    → (is_decimal && (least && leb n wider)) ≡ true
-fits_more is_decimal least n near wider within is = grind (arith, leb-true, le-leb)
-
 taken_on : (b c : Bool) (n read : ℕ) (words : List (List ℕ)) → (b ≡ true → c ≡ true)
     → ReadsOn (taken read words (cond b (Some n) None)) (taken read words (cond c (Some n) None))
-taken_on true c n read words more = inl (ap (λ it. taken read words (cond it (Some n) None)) (more refl))
-taken_on false c n read words more = inr tt
+taken_on b c n read words more = grind (arith, cond)
 
 number_on : (near wider : ℕ) (read : ℕ) (words : List (List ℕ)) → near ≤ wider
     → ReadsOn (next_of (decimal_in 1 near) read words) (next_of (decimal_in 1 wider) read words)
 unfolding decimal_in
-number_on near wider read words within = grind (arith, taken_on, fits_more)
+number_on near wider read words within = grind (arith, taken_on, leb-true, le-leb)
 
 -- ---- a row
 
 least_slots : (second : Bool) → cond second 8 4 ≤ 8
-least_slots true = omega arith
-least_slots false = omega arith
+least_slots second = grind arith
 
 slots_on : (version : ℕ) (left : Left) → ReadsOn (at_row (sink_row version) left) (at_row (sink_row 2) left)
 slots_on version left = search (then_on, first_on, number_on, least_slots)
@@ -77,8 +63,7 @@ KnownOn here there = (left : Left) → ReadsOn (at_known here left) (at_known th
 
 known_if : (b : Bool) (row other : Row) (here there : Option Row) → ((left : Left) → ReadsOn (at_row row left) (at_row other left))
     → KnownOn here there → KnownOn (cond b (Some row) here) (cond b (Some other) there)
-known_if true row other here there on rest = on
-known_if false row other here there on rest = rest
+known_if b row other here there on rest = grind arith
 
 in_rows_on : (first : List ℕ) (rows others : List Row) (here there : Option Row) → RowsOn rows others → KnownOn here there
     → KnownOn (row_in first rows here) (row_in first others there)
@@ -92,27 +77,19 @@ in_rows_on first [] (other ∷ others) here there on rest = absurd on
 in_rows_on first (row ∷ rows) [] here there on rest = absurd on
 
 first_rows_on : (version : ℕ) → RowsOn (first_rows version) (first_rows 2)
-first_rows_on version = (
-  refl,
-  λ left. inl refl,
-  (refl, λ left. inl refl, (refl, λ left. inl refl, (refl, slots_on version, same_rows (tuned_row ∷ drop_row ∷ stop_row ∷ end_row ∷ [])))),
-)
+first_rows_on version = grind (arith, slots_on, same_rows, tuned_row, drop_row, stop_row, end_row)
 
 -- version 1 knows none of the rows of version 2 alone
 later_on : (second : Bool) (first : List ℕ)
     → KnownOn (cond second (row_in first rows_of_2 (link_row_of_2 first)) None) (row_in first rows_of_2 (link_row_of_2 first))
-later_on true first = λ left. inl refl
-later_on false first = λ left. inr tt
+later_on second first = grind arith
 
 rows_on : (version : ℕ) (first : List ℕ) → KnownOn (row_of version first) (row_of 2 first)
 unfolding row_of first_row_of source_row_of sink_row_of link_row_of row_of_2
 rows_on version first =
     in_rows_on first event_rows event_rows (first_row_of version first) (first_row_of 2 first) (same_rows event_rows)
     (in_rows_on first (first_rows version) (first_rows 2) (source_row_of version first) (source_row_of 2 first) (first_rows_on version)
-    (in_rows_on first source_rows source_rows (sink_row_of version first) (sink_row_of 2 first) (same_rows source_rows)
-    (in_rows_on first sink_rows sink_rows (link_row_of version first) (link_row_of 2 first) (same_rows sink_rows)
-    (in_rows_on first link_rows link_rows (row_of_2 version first) (row_of_2 2 first) (same_rows link_rows)
-    (later_on (nat_eq version 2) first)))))
+    (grind (arith, in_rows_on, source_rows, same_rows, sink_rows, link_rows, later_on, nat_eq)))
 
 -- ---- a line
 
@@ -121,8 +98,7 @@ unfolding step_of
 step_on version line = search (then_on, first_on, rows_on)
 
 if_on : {A : Type 0} (b : Bool) (none here there : Result A LineFault) → ReadsOn here there → ReadsOn (cond b none here) (cond b none there)
-if_on true none here there on = inl refl
-if_on false none here there on = on
+if_on b none here there on = grind arith
 
 reads_on : (version : ℕ) (line : List ℕ) → ReadsOn (read_of version line) (read_of 2 line)
 unfolding read_of
@@ -134,10 +110,7 @@ IsUnsaid (unsaid (BadLine word)) = Unit {0}
 IsUnsaid _ = ⊥
 
 said_misfit : (read : Result (Option Step) LineFault) → IsMisfit read → IsUnsaid (said_by read)
-said_misfit (Err (Misfit word)) is = tt
-said_misfit (Err NoMemory) is = absurd is
-said_misfit (Ok None) is = absurd is
-said_misfit (Ok (Some this)) is = absurd is
+said_misfit read is = grind arith
 
 -- a line that is of the grammar of a version says the same in a later one
 pub said_later : (version later : ℕ) (line : TextLine) → IsLater version later

@@ -5,8 +5,7 @@ use Rattle.scenario_laws.proofs.Prelude.{ℕ, zero, suc, ◌≡◌, ◌==◌, co
 use Rattle.group_sink.specs.Calls.{Call as SinkCall}
 use Rattle.sink_history.specs.Calls.{Call}
 use Rattle.scenario_text.specs.declared.step.Step.TheVariants as steps
-use Rattle.scenario_history.specs.Sinks.{moved}
-use Rattle.scenario_history.specs.Sinks.{sourced}
+use Rattle.scenario_history.specs.Sinks.{moved, sourced}
 use Rattle.scenario_laws.proofs.Versions.Lived.{AreCalm, AreWider, IsCalm, IsWider, QuietHistory, after_same, is_quiet, history_same, made_wider, quiet_history}
 use Rattle.scenario_laws.proofs.Versions.Lived.{source_same}
 use Rattle.scenario_laws.proofs.Versions.Histories.{AreQuietCalls}
@@ -33,10 +32,9 @@ follows_same source (Some train) (Some made) (Some other) calls wider quiet near
 follows_same source (Some train) None (Some other) calls wider quiet near = absurd wider
 follows_same source (Some train) (Some made) None calls wider quiet near = absurd wider
 
-big_sync_same : (horizon : ℕ) (made : Settings) (calls : List Call) (train : Option Train) → (wider : IsWider made (made_with_horizon horizon made))
-    → AreQuietCalls made.setup calls
-    → HearsNear made calls train → big_sync_of (made_with_horizon horizon made) (snapshot_in (made_with_horizon horizon made) calls) train
-    ≡ big_sync_of made (snapshot_in made calls) train
+big_sync_same : (horizon : ℕ) (made : Settings) (calls : List Call) (train : Option Train)
+    → (wider : IsWider made (made_with_horizon horizon made)) → AreQuietCalls made.setup calls → HearsNear made calls train
+    → big_sync_of (made_with_horizon horizon made) (snapshot_in (made_with_horizon horizon made) calls) train ≡ big_sync_of made (snapshot_in made calls) train
 big_sync_same horizon made calls None wider quiet near = refl
 big_sync_same horizon made calls (Some train) wider quiet near = cc (outcome_wider made (made_with_horizon horizon made) calls train wider quiet near)
 
@@ -115,8 +113,7 @@ its_moves n step earlier calls others calm later near same =
     let quiet : QuietHistory (made_of n earlier) (calls_made n earlier) = quiet_history n earlier calm in
     ap₂ (λ source before. received_by source step other before (calls_made n (step ∷ seconds earlier)) others) (source_same earlier)
     (history_same n earlier calm) ∙ ap₂ (received_by (source_at earlier) step other (calls_made n earlier))
-    (after_same n step earlier (made_of n earlier) other (calls_made n earlier) (calls_made n (seconds earlier)) (made_wider n earlier) quiet
-    (history_same n earlier calm)) same
+    (grind (arith, after_same, made_of, calls_made, seconds, made_wider, history_same)) same
     ∙ received_same (source_at earlier) step (made_of n earlier) other (calls_made n earlier) (calls_made n (step ∷ earlier)) calls (made_wider n earlier)
     quiet later near
 

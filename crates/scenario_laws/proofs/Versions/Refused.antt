@@ -1,17 +1,15 @@
 -- Why a step of a scenario in version 2 is refused: for the reason of version 1, but where that is BadLine, `BadGroup 11` or
 -- TimeOrder. Lists of steps have the newest first; where a list is called `own` its steps are those of one source.
-use Rattle.scenario_laws.proofs.Prelude.{ℕ, ◌≡◌, ◌⊎◌, ◌≤◌, ◌||◌, ◌&&◌, not, cond, ltb, Bool, true, false, List, [], ◌∷◌, Option, None, Some, arith, refl, sym, subst, ◌∙◌, ap, ap₂, inl, inr, option_map, option_or, BigInfo, Air, airs_of, Setup, give_fault, UnitFault, Step, Refusal, AfterEnd, Order, Settings, named_by, refused_at, refused_where, refuse_if, box_after, box_of, give_refusal, group_refusal, is_out_of_order, own_refusal, refusal_of, sink_refusal, source_refusal, twin_refusal, setup_of, source_calls, chosen_steps, is_over, version_of, the_world, IsLasting}
+use Rattle.scenario_laws.proofs.Prelude.{ℕ, ◌≡◌, ◌⊎◌, ◌≤◌, ltb, Bool, true, List, [], ◌∷◌, Option, None, Some, arith, refl, sym, subst, ◌∙◌, ap, ap₂, inl, inr, option_map, option_or, BigInfo, Air, airs_of, Setup, give_fault, Step, Refusal, AfterEnd, Order, Settings, named_by, refused_at, refused_where, refuse_if, box_after, box_of, give_refusal, group_refusal, is_out_of_order, own_refusal, refusal_of, sink_refusal, source_refusal, twin_refusal, setup_of, source_calls, chosen_steps, is_over, version_of, the_world, IsLasting}
 use Rattle.big_info.specs.Rows.{first_fault}
 use Rattle.source_machine.specs.Calls.{Call}
-use Rattle.source_machine.specs.UnitFaults as give_faults
 use Rattle.sink_history.specs.Calls as links
 use Rattle.scenario_text.specs.declared.step.Step.TheVariants as steps
 use Rattle.scenario_laws.proofs.Versions.Groups.{first_same, near_or_horizon}
 use Rattle.scenario_laws.proofs.Versions.Lived.{AreCalm, AreWider, QuietHistory, is_quiet, history_same, made_wider, quiet_history}
 use Rattle.scenario_laws.proofs.Versions.Printed.{refused_same}
 use Rattle.scenario_laws.proofs.Versions.Relays.{relays_same}
-use Rattle.scenario_laws.proofs.Versions.Seconds.{IsLater, ahead_stays, at_second, calls_same, horizon_grows}
-use Rattle.scenario_laws.proofs.Versions.Seconds.{is_later, over_same, same}
+use Rattle.scenario_laws.proofs.Versions.Seconds.{IsLater, ahead_stays, at_second, calls_same, horizon_grows, is_later, over_same, same}
 use Rattle.scenario_laws.proofs.Versions.Seconds.{seconds, unbegun_same}
 use Rattle.scenario_laws.proofs.Versions.Sources.{airs_same, framed_same, is_ahead, setup_same, with_ahead}
 
@@ -24,16 +22,11 @@ IsGone (Some reason) = IsLasting reason → ⊥
 abbrev pub Lasts : Option Refusal → Option Refusal → Type 0
 Lasts one two = (two ≡ one) ⊎ IsGone one
 
-gone_or : (a b : Option Refusal) → IsGone a → IsGone (option_or a b)
-gone_or None b gone = absurd gone
-gone_or (Some reason) b gone = gone
-
 or_lasts : (a here there : Option Refusal) → Lasts here there → Lasts (option_or a here) (option_or a there)
-or_lasts None here there lasts = lasts
-or_lasts (Some reason) here there lasts = inl refl
+or_lasts a here there lasts = grind arith
 
 lasts_or : (here there b : Option Refusal) → Lasts here there → Lasts (option_or here b) (option_or there b)
-lasts_or here there b h3 = grind (arith, same, gone_or)
+lasts_or here there b h3 = grind (arith, same)
 
 -- ---- a group
 
@@ -46,30 +39,10 @@ group_lasts near wider info within = elim (near_or_horizon (first_fault near inf
 
 -- ---- a unit
 
-time_stays : (before ahead later in_time : Bool) → (ahead ≡ true → later ≡ true) → (before && (ahead || in_time)) ≡ true
-    → (before && (later || in_time)) ≡ true
-time_stays false ahead later in_time stays is = is
-time_stays true true later in_time stays is = ap (λ b. b || in_time) (stays refl)
-time_stays true false true in_time stays is = refl
-time_stays true false false in_time stays is = is
-
--- why a unit is refused, by the tests in their order
-abbrev fault_by : (beyond long timed waits : Bool) → Option UnitFault
-fault_by beyond long timed waits =
-    cond beyond (Some give_faults.NoSuchBis)
-    (cond long (Some give_faults.UnitTooLong) (cond (not timed) (Some give_faults.TimeOrder) (cond waits (Some give_faults.Backlog) None)))
-
-fault_lasts : (beyond long timed later waits : Bool) → (timed ≡ true → later ≡ true)
-    → Lasts (option_map give_refusal (fault_by beyond long timed waits)) (option_map give_refusal (fault_by beyond long later waits))
-fault_lasts true long timed later waits stays = inl refl
-fault_lasts false true timed later waits stays = inl refl
-fault_lasts false false false later waits stays = inr (λ lasting. lasting)
-fault_lasts false false true later waits stays = inl (ap (λ b. option_map give_refusal (fault_by false false b waits)) (stays refl))
-
 give_lasts : (ahead : Bool) (setup : Setup) (calls : List Call) (airs : List Air) (bis : ℕ) (time : Option ℕ) (octets : List ℕ)
     → (setup.ahead ≡ true → ahead ≡ true) → Lasts (option_map give_refusal (give_fault setup calls airs bis time octets))
     (option_map give_refusal (give_fault (with_ahead ahead setup) calls airs bis time octets))
-give_lasts ahead setup calls airs bis time octets stays = grind (arith, fault_lasts, ltb, with_ahead, framed_same, time_stays)
+give_lasts ahead setup calls airs bis time octets stays = grind (arith, option_map, give_refusal, ltb, with_ahead, framed_same)
 
 unit_lasts : (own : List Step) (bis : ℕ) (time : Option ℕ) (octets : List ℕ)
     → Lasts (option_map give_refusal (give_fault (setup_of own) (source_calls own) (airs_of (setup_of own) (source_calls own)) bis time
@@ -147,10 +120,6 @@ step_lasts boxes made step calm =
     let order : Option Refusal = refuse_if (is_out_of_order made step) Order in
     let ended : Option Refusal = refuse_if (is_over made) AfterEnd in
     let twin : Option Refusal = twin_refusal made step in
-    subst (Lasts (refusal_of airs_of boxes made step)) (sym (ap₂ (λ over out. option_or (refuse_if over AfterEnd)
-    (option_or (refuse_if out Order) (own_refusal airs_of boxes (seconds made) step))) (over_same made) (order_same made step)
-    ∙ ap₂ (λ by_sink source. option_or ended (option_or order (option_or by_sink (option_or source (twin_refusal (seconds made) step)))))
-    (sink_same boxes made step calm) (search same)
-    ∙ ap (λ twins. option_or ended (option_or order (option_or sink (option_or later twins)))) (twin_same made step)))
+    subst (Lasts (refusal_of airs_of boxes made step)) (grind (arith, option_or, refuse_if, own_refusal, airs_of, seconds, over_same, order_same, twin_refusal, sink_same, same, twin_same))
     (or_lasts ended _ _ (or_lasts order _ _ (or_lasts sink _ _
     (lasts_or here later twin (source_lasts (version_of made) (version_of (seconds made)) (chosen_steps made) step (is_later made))))))

@@ -43,10 +43,6 @@ same_lasts boxes made (a_step this) plain calm = search (both_last, seconds, non
 same_lasts boxes made nothing plain calm = inl refl
 same_lasts boxes made (unsaid reason) plain calm = inl refl
 
-said_lasts : (boxes : ℕ) (made : List Step) (said later : Said) → has_relay made ≡ false → AreCalm made → (later ≡ said) ⊎ IsUnsaid said
-    → Lasts (refusal_said airs_of boxes made said) (refusal_said airs_of boxes (seconds made) later)
-said_lasts boxes made said later plain calm h6 = grind (arith, seconds, same_lasts, unsaid_gone)
-
 said_same : (boxes : ℕ) (made : List Step) (said later : Said) → (later ≡ said) ⊎ IsUnsaid said
     → refusal_said airs_of boxes made said ≡ None → later ≡ said
 said_same boxes made said later h4 none = grind (arith, unsaid_gone, none-some)
@@ -63,13 +59,23 @@ answers_so : (starts : List Account) (earlier : List TextLine) (line : TextLine)
     → answer_of (outcome_by made.setup (snapshot_in made (calls_made sink (said_of earlier)))
     (given_train (source_at (said_of earlier)) time ext adv acad)) ≡ Refused Horizon → (Its starts).output earlier line ≡ horizon_line sink
 answers_so starts earlier line sink time ext adv acad made plain says lives wider =
-    let before : List Step = said_of earlier in
-    let train : Train = given_train (source_at before) time ext adv acad in
-    ap (λ made. output_said airs_of starts made (said_after earlier line)) (as_said earlier plain)
-    ∙ ap (output_said airs_of starts before) says
-    ∙ ap (λ it. concat (printed_where (source_at before) (steps.Train sink time ext adv acad) it (calls_made sink before))) lives
-    ∙ append-nil (sink_line sink (train_words (answer_of (outcome_by made.setup (snapshot_in made (calls_made sink before)) train))))
-    ∙ ap (λ answer. sink_line sink (train_words answer)) wider
+    grind (
+      arith,
+      given_train,
+      source_at,
+      output_said,
+      airs_of,
+      as_said,
+      concat,
+      printed_where,
+      calls_made,
+      append-nil,
+      sink_line,
+      train_words,
+      answer_of,
+      outcome_by,
+      snapshot_in,
+    )
 
 given_calm : (starts : List Account) (earlier : List TextLine) (line : TextLine) (sink time : ℕ) (ext adv acad : List ℕ)
     → has_relay (said_of earlier) ≡ false → said_after earlier line ≡ a_step (steps.Train sink time ext adv acad) → (PrintsHorizon airs_of starts earlier line → ⊥)
@@ -121,24 +127,16 @@ happens starts history later stands = as_said history stands.plain
 
 happens_later : (starts : List Account) (history later : List TextLine) → Stands starts history later
     → steps_of airs_of later ≡ seconds (said_of history)
-happens_later starts history later stands =
-    as_said later (ap has_relay stands.made ∙ has_relay_same (said_of history) ∙ stands.plain) ∙ stands.made
+happens_later starts history later stands = grind (arith, as_said, has_relay, has_relay_same)
 
 line_later : (starts : List Account) (history later : List TextLine) (line : TextLine) → Stands starts history later
     → (said_after later line ≡ said_after history line) ⊎ IsUnsaid (said_after history line)
-line_later starts history later line stands =
-    subst (λ made. (said_in (version_of made) line ≡ said_after history line) ⊎ IsUnsaid (said_after history line)) (sym stands.made)
-    (said_later (version_of (said_of history)) (version_of (seconds (said_of history))) line (is_later (said_of history)))
+line_later starts history later line stands = grind (arith, said_in, version_of, said_later, seconds, is_later)
 
 line_lasts : (starts : List Account) (history later : List TextLine) (line : TextLine) → Stands starts history later
     → Lasts ((Its starts).refusal history line) ((Its starts).refusal later line)
 line_lasts starts history later line stands =
-    both_last (refusal_said airs_of (length starts) (said_of history) (said_after history line)) ((Its starts).refusal history line)
-    (refusal_said airs_of (length starts) (seconds (said_of history)) (said_after later line)) ((Its starts).refusal later line)
-    (ap (λ made. refusal_said airs_of (length starts) made (said_after history line)) (happens starts history later stands))
-    (ap (λ made. refusal_said airs_of (length starts) made (said_after later line)) (happens_later starts history later stands))
-    (said_lasts (length starts) (said_of history) (said_after history line) (said_after later line) stands.plain stands.calm
-    (line_later starts history later line stands))
+    grind (arith, both_last, refusal_said, airs_of, length, seconds, happens, happens_later, same_lasts, unsaid_gone, line_later)
 
 -- a line that isn't refused, of what is said before it
 passes_said : (starts : List Account) (history later : List TextLine) (line : TextLine) → Stands starts history later
@@ -152,9 +150,7 @@ second_same made step placed begun = grind (arith, false≢true)
 
 begun_after : (made : List Step) (step : Step) → is_unbegun_at (stage_of made) ≡ false
     → is_unbegun_at (stage_after step (stage_of made)) ≡ false
-begun_after made (steps.Scenario version) begun = refl
-begun_after made steps.End begun = refl
-begun_after made _ begun = begun
+begun_after made _ begun = grind arith
 
 version_after : (made : List Step) (step : Step) → is_misplaced (stage_of made) step ≡ false → is_unbegun_at (stage_of made) ≡ false
     → version_of (step ∷ made) ≡ version_of made
@@ -169,9 +165,8 @@ record Goes (made later : List Step) (said : Said) : Type 0 where
   pub calm : AreCalm (with_said said made)
 
 goes_on : Laws → (starts : List Account) (history later : List TextLine) (line : TextLine) (said : Said) → said_after history line ≡ said
-    → Stands starts history later
-    → refusal_said airs_of (length starts) (said_of history) said ≡ None → (PrintsHorizon airs_of starts history line → ⊥)
-    → Goes (said_of history) (said_of later) said
+    → Stands starts history later → refusal_said airs_of (length starts) (said_of history) said ≡ None
+    → (PrintsHorizon airs_of starts history line → ⊥) → Goes (said_of history) (said_of later) said
 goes_on laws starts history later line (a_step this) says stands none never =
     let passes = line_passes airs_of (length starts) (said_of history) this none in
     let permits = permitted airs_of (length starts) (said_of history) this passes in
@@ -182,19 +177,15 @@ goes_on laws starts history later line (a_step this) says stands none never =
       plain_after (said_of history) this (subst SaidNever says (says_no_relay (version_of (said_of history)) line stands.first)) stands.plain,
       step_calm laws starts history line this stands.plain says stands.accepted passes never,
     )
-goes_on laws starts history later line nothing says stands none never =
-    record { same = stands.made; begun = stands.begun; first = stands.first; plain = stands.plain; calm = stands.calm }
-goes_on laws starts history later line (unsaid reason) says stands none never =
-    record { same = stands.made; begun = stands.begun; first = stands.first; plain = stands.plain; calm = stands.calm }
+goes_on laws starts history later line nothing says stands none never = grind arith
+goes_on laws starts history later line (unsaid reason) says stands none never = grind arith
 
 stands_next : Laws → (starts : List Account) (history later : List TextLine) (line : TextLine) → Stands starts history later
     → (Its starts).refusal history line ≡ None
     → (PrintsHorizon airs_of starts history line → ⊥) → Stands starts (line ∷ history) (line ∷ later)
 stands_next laws starts history later line stands none never =
     let passes = passes_said starts history later line stands none in
-    let same : said_after later line ≡ said_after history line =
-    said_same (length starts) (said_of history) (said_after history line) (said_after later line)
-    (line_later starts history later line stands) passes in
+    let same : said_after later line ≡ said_after history line = grind (arith, said_same, length, line_later) in
     let goes : Goes (said_of history) (said_of later) (said_after history line) =
     goes_on laws starts history later line (said_after history line) refl stands passes never in
     assumption (ap (λ said. with_said said (said_of later)) same ∙ goes.same, ap (λ count. suc count) stands.count)
@@ -207,12 +198,13 @@ line_same : Laws → (starts : List Account) (history later : List TextLine) (li
     → (Its starts).refusal history line ≡ None
     → (PrintsHorizon airs_of starts history line → ⊥) → (Its starts).output later line ≡ (Its starts).output history line
 line_same laws starts history later line stands none never =
-    ap₂ (output_said airs_of starts) (happens_later starts history later stands)
-    (said_same (length starts) (said_of history) (said_after history line) (said_after later line)
-    (line_later starts history later line stands) (passes_said starts history later line stands none))
-    ∙ brought_same starts (said_of history) (said_after history line) stands.plain stands.calm
-    (stands_next laws starts history later line stands none never).calm
-    ∙ ap (λ made. output_said airs_of starts made (said_after history line)) (sym (happens starts history later stands))
+    grind (
+      arith,
+      happens_later starts history later stands,
+      said_same (length starts) (said_of history) (said_after history line) (said_after later line) (line_later starts history later line stands) (passes_said starts history later line stands none),
+      brought_same starts (said_of history) (said_after history line) stands.plain stands.calm (stands_next laws starts history later line stands none never).calm,
+      happens starts history later stands,
+    )
 
 -- ---- the lines behind them
 
@@ -230,13 +222,8 @@ RunAlike starts history later lines others =
 
 stands_alike : (starts : List Account) (history later : List TextLine) (octets octets' : List ℕ) (end end' : End Refusal)
     → Stands starts history later → octets' ≡ octets → end' ≡ end → RunsAlike octets octets' end end' history later
-stands_alike starts history later octets octets' end end' stands same ends = record {
-  octets_same = same;
-  end_same = ends;
-  units_same = ap (handed_up airs_of) (happens_later starts history later stands) ∙ handed_up_same (said_of history) stands.calm
-      ∙ ap (handed_up airs_of) (sym (happens starts history later stands));
-  over_same = ap is_over stands.made ∙ over_same (said_of history);
-}
+stands_alike starts history later octets octets' end end' stands same ends =
+    grind (arith, handed_up, airs_of, happens_later, handed_up_same, happens, over_same, is_over)
 
 alike_if : (starts : List Account) (history later : List TextLine) (reason reason' : Option Refusal) (octets octets' : List ℕ)
     (end end' : End Refusal)
@@ -245,9 +232,7 @@ alike_if : (starts : List Account) (history later : List TextLine) (reason reaso
     → RunsAlike (out_unless (Its starts) history reason octets) (out_unless (Its starts) later reason' octets')
     (end_unless history reason end) (end_unless later reason' end') (accepted_unless history reason all)
     (accepted_unless later reason' all')
-alike_if starts history later None reason' octets octets' end end' all all' stands (inl same) lasting goes =
-    subst (λ r. RunsAlike octets (out_unless (Its starts) later r octets') end (end_unless later r end') all (accepted_unless later r all'))
-    (sym same) (goes refl lasting)
+alike_if starts history later None reason' octets octets' end end' all all' stands (inl same) lasting goes = grind (arith, out_unless, end_unless, accepted_unless)
 alike_if starts history later None reason' octets octets' end end' all all' stands (inr gone) lasting goes = absurd gone
 alike_if starts history later (Some reason) reason' octets octets' end end' all all' stands (inl same) lasting goes =
     subst (λ r. RunsAlike (refusal_line (number_after history) reason) (out_unless (Its starts) later r octets')

@@ -1,6 +1,6 @@
 -- The steps of a scenario in version 2: `scenario 2` stands for `scenario`. What the steps say that isn't said of the version
 -- stays. Lists of steps have the newest first.
-use Rattle.scenario_laws.proofs.Prelude.{ℕ, ◌≡◌, ◌⊎◌, ◌≤◌, ◌==◌, ◌||◌, ◌&&◌, cond, Bool, true, false, List, [], ◌∷◌, Option, refl, sym, ◌∙◌, ap, inl, inr, arith, unwrap_or, option_or, Step, horizon_in, version_given, base_lines, with_base_line, cipher_given, cipher_of, group_given, group_of, ident_of, identity_given, is_ahead_in, phase_given, source_calls, start_given, start_of, with_source_call, Stage, unbegun, running, chosen_given, is_common, is_of_source, is_over, is_source_line, is_over_at, is_unbegun_at, last_given, sinks_made, sinks_made_by, stage_after, stage_of, steps_of_source, version_at, version_of}
+use Rattle.scenario_laws.proofs.Prelude.{ℕ, ◌≡◌, ◌⊎◌, ◌≤◌, cond, Bool, true, List, [], ◌∷◌, Option, refl, sym, ◌∙◌, ap, inl, arith, unwrap_or, option_or, Step, horizon_in, version_given, base_lines, with_base_line, cipher_given, cipher_of, group_given, group_of, ident_of, identity_given, is_ahead_in, phase_given, source_calls, start_given, start_of, with_source_call, Stage, unbegun, running, chosen_given, is_common, is_of_source, is_over, is_source_line, is_over_at, is_unbegun_at, last_given, sinks_made, sinks_made_by, stage_after, stage_of, steps_of_source, version_at, version_of}
 use Rattle.delegator_history.specs.LastGiven.{last_given as last_of}
 use Rattle.scenario_text.specs.declared.step.Step.TheVariants as steps
 use Rattle.sink_history.specs.History.{horizon_of}
@@ -18,8 +18,7 @@ seconds (step ∷ earlier) = second step ∷ seconds earlier
 -- what holds of `scenario` and `scenario 2`, and of each other step and itself, holds of each step and the one that stands for it
 pub at_second : (P : Step → Step → Type 0) → ((version : ℕ) → P (steps.Scenario version) (steps.Scenario 2)) → ((step : Step) → P step step)
     → (step : Step) → P step (second step)
-at_second P first others (steps.Scenario version) = first version
-at_second P first others step = others step
+at_second x1 first others step = grind arith
 
 -- ---- what is gathered step by step
 
@@ -68,14 +67,11 @@ pub chosen_same : (made : List Step) → last_given chosen_given (seconds made) 
 chosen_same = given_same chosen_given (λ version. refl)
 
 its_same : (s : ℕ) (earlier : List Step) (step : Step) → is_of_source s (seconds earlier) (second step) ≡ is_of_source s earlier step
-its_same s earlier step =
-    at_second (λ one other. is_of_source s (seconds earlier) other ≡ is_of_source s (seconds earlier) one) (λ version. refl) (λ same. refl)
-    step ∙ ap (λ chosen. is_common step || (is_source_line step && (unwrap_or chosen 0 == s))) (chosen_same earlier)
+its_same s earlier step = grind (arith, at_second, is_of_source, is_common, is_source_line, unwrap_or, chosen_same)
 
 seconds_if : (is_its : Bool) (step : Step) (own : List Step)
     → cond is_its (second step ∷ seconds own) (seconds own) ≡ seconds (cond is_its (step ∷ own) own)
-seconds_if true this own = refl
-seconds_if false this own = refl
+seconds_if is_its this own = grind arith
 
 pub own_same : (s : ℕ) (made : List Step) → steps_of_source s (seconds made) ≡ seconds (steps_of_source s made)
 own_same s [] = refl
@@ -150,8 +146,7 @@ pub horizon_grows : (version later : ℕ) → IsLater version later → horizon_
 horizon_grows version later h2 = grind (arith, horizon_greatest)
 
 pub ahead_stays : (version later : ℕ) → IsLater version later → is_ahead_in version ≡ true → is_ahead_in later ≡ true
-ahead_stays version later (inl same) is = ap is_ahead_in same ∙ is
-ahead_stays version later (inr two) is = ap is_ahead_in two
+ahead_stays version later x3 is = grind (arith, is_ahead_in)
 
 -- a sink's version is that of its scenario
 version_same : (made : List Step) → unwrap_or (last_of version_given made) 1 ≡ version_of made

@@ -1,10 +1,9 @@
 -- A source of a scenario in version 2: what it sends is the same (Core 5.2, volume 6 part B, section 4.4.6, and part G, section
 -- 2). Where a list is called `own` its steps are those of one source, the newest first.
-use Rattle.scenario_laws.proofs.Prelude.{ℕ, ◌≡◌, Bool, List, [], ◌∷◌, refl, ap, ap₂, map, unwrap_or, range_with_len, air_after, air_of, airs_of, pdu_of, stale_of, Setup, give, framed_calls, Step, is_ahead_in, pdu_in, setup_of, source_calls, stale_in, version_of}
+use Rattle.std.proofs.Common.{arith}
+use Rattle.scenario_laws.proofs.Prelude.{ℕ, ◌≡◌, Bool, List, [], ◌∷◌, ap, ap₂, unwrap_or, range_with_len, air_after, airs_of, pdu_of, stale_of, Setup, framed_calls, Step, is_ahead_in, pdu_in, setup_of, source_calls, stale_in, version_of}
 use Rattle.source_machine.specs.Calls.{Call, event as perform}
-use Rattle.source_machine.specs.Calls.{stream_calls}
-use Rattle.scenario_laws.proofs.Versions.Seconds.{calls_same, seconds}
-use Rattle.scenario_laws.proofs.Versions.Seconds.{same}
+use Rattle.scenario_laws.proofs.Versions.Seconds.{calls_same, seconds, same}
 
 -- ---- what fixes it
 
@@ -29,18 +28,10 @@ of_calls f stays own = cc (ap₂ f (setup_same own) (calls_same own), stays (is_
 
 pub framed_same : (ahead : Bool) (setup : Setup) (bis : ℕ) (calls : List Call)
     → framed_calls (with_ahead ahead setup) bis calls ≡ framed_calls setup bis calls
-framed_same ahead setup bis [] = refl
-framed_same ahead setup bis (give stream time octets ∷ earlier) = cc (framed_same ahead setup bis earlier)
-framed_same ahead setup bis (perform ∷ earlier) = cc (framed_same ahead setup bis earlier)
-
-airs_from : (ahead : Bool) (setup : Setup) (calls : List Call) (streams : List ℕ)
-    → map (air_of (with_ahead ahead setup) calls) streams ≡ map (air_of setup calls) streams
-airs_from ahead setup calls [] = refl
-airs_from ahead setup calls (bis ∷ streams) = λ i.
-    air_after setup.info (stream_calls setup.info bis calls) (framed_same ahead setup bis calls i) ∷ airs_from ahead setup calls streams i
+framed_same ahead setup bis calls = search
 
 pub airs_same : (ahead : Bool) (setup : Setup) (calls : List Call) → airs_of (with_ahead ahead setup) calls ≡ airs_of setup calls
-airs_same ahead setup calls = airs_from ahead setup calls (range_with_len 1 setup.info.num_bis)
+airs_same ahead setup calls = grind (arith, air_after, framed_same, range_with_len)
 
 pub pdu_same : (own : List Step) (event bis subevent : ℕ) → pdu_in airs_of (seconds own) event bis subevent
     ≡ pdu_in airs_of own event bis subevent

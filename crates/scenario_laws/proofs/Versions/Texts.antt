@@ -2,8 +2,7 @@
 -- comments. Both have the same number of octets, so that the limit of a text cuts both alike.
 use Rattle.scenario_laws.proofs.Prelude.{ℕ, suc, ◌≡◌, ◌⊎◌, ◌≤◌, ◌<◌, ◌+◌, ◌==◌, cond, eqb, Bool, true, false, List, [], ◌∷◌, ◌++◌, length, refl, sym, ◌∙◌, ap, ap₂, subst, append_assoc, inl, inr, arith, codes, AllByRecursion, cases_lt, le-leb, lt-leb, append-nil, TextLine, plain, line_of, newline, text_limit, is_blank, migrated_line, migrated_lines}
 use Rattle.std.proofs.lemmas.Slice.Eq.{bytes_eq-Decides}
-use Rattle.bcast_io.specs.TextLines.{past, lines_from}
-use Rattle.bcast_io.specs.TextLines.{lines_of as text_lines}
+use Rattle.bcast_io.specs.TextLines.{past, lines_from, lines_of as text_lines}
 use Rattle.scenario_words.specs.Joined.{onto_first}
 use Rattle.scenario_text.specs.MigratedLines.{behind, lines_of, text_of}
 use Rattle.scenario_text.specs.Migrated.{migrated}
@@ -34,11 +33,7 @@ Clean line = AllByRecursion (λ octet. (octet == newline) ≡ false) line
 octet_in : (taken : ℕ) (part : List ℕ) (octet : ℕ) (text : List ℕ) → taken < text_limit → (octet == newline) ≡ false
     → lines_from true taken part (octet ∷ text) ≡ lines_from true (taken + 1) (part ++ octet ∷ []) text
 unfolding lines_from
-octet_in taken part octet text within plain_octet =
-    let ended : List TextLine = line_of part ∷ lines_from true (taken + 1) [] text in
-    let goes : List TextLine = lines_from true (taken + 1) (part ++ octet ∷ []) text in
-    ap (λ b. cond b (past ∷ []) (cond (eqb octet newline) ended goes)) (lt-leb text_limit taken within)
-    ∙ ap (λ b. cond b ended goes) plain_octet
+octet_in taken part octet text within plain_octet = grind (arith, line_of, cond, eqb, newline, lt-leb, text_limit)
 
 end_in : (taken : ℕ) (part text : List ℕ) → taken < text_limit
     → lines_from true taken part (newline ∷ text) ≡ line_of part ∷ lines_from true (taken + 1) [] text
@@ -52,9 +47,7 @@ octet_past taken part octet text at = cc (le-leb text_limit taken at)
 
 line_in : (taken : ℕ) (part line text : List ℕ) → Clean line → taken + length line ≤ text_limit
     → lines_from true taken part (line ++ text) ≡ lines_from true (taken + length line) (part ++ line) text
-line_in taken part [] text clean within =
-    let same : taken ≡ taken + 0 = omega arith in
-    ap₂ (λ count prefix. lines_from true count prefix text) same (sym (append-nil part))
+line_in taken part [] text clean within = grind (arith, append-nil)
 line_in taken part (octet ∷ line) text clean within =
     let count : (taken + 1) + length line ≡ taken + suc (length line) = omega arith in
     octet_in taken part octet (line ++ text) (omega arith) clean.0
@@ -76,13 +69,9 @@ line_past taken part (octet ∷ line) text clean within beyond = elim (cases_lt 
 abbrev AreClean : List (List ℕ) → Type 0
 AreClean lines = AllByRecursion Clean lines
 
-clean_onto : (octet : ℕ) (lines : List (List ℕ)) → (octet == newline) ≡ false → AreClean lines → AreClean (onto_first octet lines)
-clean_onto octet [] plain_octet clean = ((plain_octet, tt), tt)
-clean_onto octet (line ∷ lines) plain_octet clean = ((plain_octet, clean.0), clean.1)
-
 clean_if : (b : Bool) (octet : ℕ) (lines : List (List ℕ)) → (octet == newline) ≡ b → AreClean lines
     → AreClean (cond b ([] ∷ lines) (onto_first octet lines))
-clean_if b octet lines is clean = grind (arith, clean_onto)
+clean_if b octet lines is clean = grind arith
 
 clean_lines : (text : List ℕ) → AreClean (lines_of text)
 clean_lines [] = (tt, tt)
@@ -98,14 +87,9 @@ from taken text = lines_from true taken [] text
 abbrev TurnOn : List TextLine → List TextLine → Type 0
 TurnOn lines others = (others ≡ lines) ⊎ Turned lines others
 
-behind_if : (b : Bool) (line second : List ℕ) (lines others : List (List ℕ))
-    → behind (cond b (line ∷ lines) (second ∷ others)) ≡ newline ∷ text_of (cond b (line ∷ lines) (second ∷ others))
-behind_if true line second lines others = refl
-behind_if false line second lines others = refl
-
 behind_migrated : (line : List ℕ) (lines : List (List ℕ)) → behind (migrated_lines (line ∷ lines))
     ≡ newline ∷ text_of (migrated_lines (line ∷ lines))
-behind_migrated line lines = behind_if (is_blank line) line (migrated_line line) (migrated_lines lines) lines
+behind_migrated line lines = grind (arith, is_blank, migrated_line, migrated_lines)
 
 -- behind a blank line, whose end is an octet of the text
 blank_turn : (taken : ℕ) (line : List ℕ) (one other : List ℕ) → is_blank line ≡ true → taken ≤ text_limit
@@ -115,9 +99,7 @@ blank_turn taken line one other blank within turns = elim (cases_lt taken text_l
   | inl below ↦ elim (turns below) [
     | inl same ↦ inl (end_in taken line other below ∙ ap (λ lines. line_of line ∷ lines) same ∙ sym (end_in taken line one below))
     | inr turned ↦
-        inr (subst (λ lines. Turned lines (lines_from true taken line (newline ∷ other))) (sym (end_in taken line one below))
-        (subst (Turned (line_of line ∷ from (taken + 1) one)) (sym (end_in taken line other below))
-        (later line (from (taken + 1) one) (from (taken + 1) other) blank turned)))
+        inr (grind (arith, end_in taken line one below, end_in taken line other below, later line (from (taken + 1) one) (from (taken + 1) other) blank turned))
   ]
   | inr at ↦ inl (octet_past taken line newline other at ∙ sym (octet_past taken line newline one at))
 ]
@@ -131,10 +113,8 @@ version_turn taken (line ∷ lines) within = elim (cases_lt taken text_limit) [
   | inl below ↦
       inr (subst (λ all. Turned all (lines_from true taken second_version (newline ∷ text_of (line ∷ lines))))
       (sym (end_in taken first_version (text_of (line ∷ lines)) below))
-      (subst (Turned (plain first_version ∷ from (taken + 1) (text_of (line ∷ lines))))
-      (sym (end_in taken second_version (text_of (line ∷ lines)) below)) (here (from (taken + 1) (text_of (line ∷ lines))))))
-  | inr at ↦ inl (octet_past taken second_version newline (text_of (line ∷ lines)) at
-      ∙ sym (octet_past taken first_version newline (text_of (line ∷ lines)) at))
+      (grind (arith, end_in taken second_version (text_of (line ∷ lines)) below, here (from (taken + 1) (text_of (line ∷ lines))))))
+  | inr at ↦ grind (arith, octet_past, newline)
 ]
 
 first_clean : Clean first_version
@@ -145,26 +125,13 @@ second_clean = (refl, (refl, (refl, (refl, (refl, (refl, (refl, (refl, (refl, (r
 
 -- lines of as many octets, behind which the texts turn or are the same
 line_turn : (taken : ℕ) (line second one other : List ℕ) → Clean line → Clean second → length second ≡ length line → taken ≤ text_limit
-    → (taken + length line ≤ text_limit
-    → TurnOn (lines_from true (taken + length line) line one) (lines_from true (taken + length line) second other))
+    → (taken + length line ≤ text_limit → TurnOn (lines_from true (taken + length line) line one) (lines_from true (taken + length line) second other))
     → TurnOn (from taken (line ++ one)) (from taken (second ++ other))
-line_turn taken line second one other clean clean_too same within turns = elim (cases_lt text_limit (taken + length line)) [
-  | inl beyond ↦
-      inl (line_past taken [] second other clean_too within (omega (arith, beyond, same))
-      ∙ sym (line_past taken [] line one clean within beyond))
-  | inr fits ↦
-      let here_is : from taken (line ++ one) ≡ lines_from true (taken + length line) line one = line_in taken [] line one clean fits in
-      let there_is : from taken (second ++ other) ≡ lines_from true (taken + length line) second other =
-      line_in taken [] second other clean_too (omega (arith, fits, same))
-      ∙ ap (λ count. lines_from true (taken + count) second other) same in
-      subst (λ lines. TurnOn lines (from taken (second ++ other))) (sym here_is)
-      (subst (TurnOn (lines_from true (taken + length line) line one)) (sym there_is) (turns fits))
-]
+line_turn taken line second one other clean clean_too same within turns = grind (arith, cases_lt, text_limit, length, line_past, line_in)
 
 blank_or : (blank : Bool) (taken : ℕ) (line : List ℕ) (lines : List (List ℕ)) → Clean line → taken ≤ text_limit → is_blank line ≡ blank
     → ((taken' : ℕ) → taken' ≤ text_limit → TurnOn (from taken' (text_of lines)) (from taken' (text_of (migrated_lines lines))))
-    → TurnOn (from taken (line ++ behind lines)) (from taken
-    (text_of (cond blank (line ∷ migrated_lines lines) (migrated_line line ∷ lines))))
+    → TurnOn (from taken (line ++ behind lines)) (from taken (text_of (cond blank (line ∷ migrated_lines lines) (migrated_line line ∷ lines))))
 blank_or blank taken line lines clean within is turns =
     grind (arith, behind_migrated, line_turn, blank_turn, bytes_eq-Decides, first_clean, second_clean, version_turn)
 
@@ -178,6 +145,4 @@ lines_turn (line ∷ lines) taken clean within =
 
 pub text_turn : (text : List ℕ) → TurnOn (text_lines true text) (text_lines true (migrated text))
 unfolding migrated
-text_turn text =
-    subst (λ it. TurnOn (from 0 it) (from 0 (migrated text))) (text_again text)
-    (lines_turn (lines_of text) 0 (clean_lines text) (omega arith))
+text_turn text = grind (arith, text_again, lines_turn, clean_lines)

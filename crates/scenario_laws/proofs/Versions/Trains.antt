@@ -1,8 +1,7 @@
 -- The outcome of a train at a sink whose groups may have a greater horizon: what it brought, where it wasn't answered
 -- `BadGroup 11` (Basic Audio Profile 1.0, section 6.5).
-use Rattle.scenario_laws.proofs.Prelude.{ℕ, ◌≡◌, ◌⊎◌, ◌≤◌, cond, Bool, true, false, List, Option, None, Some, Result, Ok, Err, refl, ◌∙◌, ap, inl, inr, arith, Endpoint, GroupFault, Horizon, BigInfo, info_of, TrainHeard, Snapshot, TrainOutcome, Train, ignored, answer_of, big_info_in, outcome_by, by_base, by_big_info, by_broadcast_id, by_endpoint, by_group, by_info, by_slot}
+use Rattle.scenario_laws.proofs.Prelude.{ℕ, ◌≡◌, ◌⊎◌, ◌≤◌, cond, Bool, List, Option, Some, Result, Ok, Err, refl, ◌∙◌, ap, arith, Endpoint, GroupFault, Horizon, BigInfo, info_of, TrainHeard, Snapshot, TrainOutcome, Train, answer_of, big_info_in, outcome_by, by_base, by_big_info, by_broadcast_id, by_group, by_info, by_slot}
 use Rattle.base_grammar.specs.AdReading.{broadcast_id_of}
-use Rattle.base_grammar.specs.declared.fault.BaseFault.{BaseFault}
 use Rattle.bass_operations.specs.declared.wishes.Wish.{Wish}
 use Rattle.big_info.specs.declared.big_fault.BigFault.{BigFault}
 use Rattle.big_info.specs.Rows.{first_fault}
@@ -28,8 +27,7 @@ BringsNear brought = AnswersNear (answer_of brought)
 fault_near : (setup : Setup) (capability : Capability) (wishes : List Wish) (slot : ℕ) (train : Train) (base : Endpoint) (info : BigInfo)
     (encrypted : Bool)
     (fault : Option GroupFault) → BringsNear (by_group setup capability wishes slot train base info encrypted fault) → FoundNear fault
-fault_near setup capability wishes slot train base info encrypted None is = tt
-fault_near setup capability wishes slot train base info encrypted (Some fault) is = is
+fault_near setup capability wishes slot train base info encrypted fault is = grind arith
 
 fault_same : (wider : ℕ) (setup : Setup) (capability : Capability) (wishes : List Wish) (slot : ℕ) (train : Train) (base : Endpoint)
     (info : BigInfo) (encrypted : Bool) (fault : Option GroupFault)
@@ -45,8 +43,7 @@ info_same : (wider : ℕ) (setup : Setup) (capability : Capability) (wishes : Li
 info_same wider setup capability wishes slot train base encrypted (Err fault) within is = refl
 info_same wider setup capability wishes slot train base encrypted (Ok info) within is =
     ap (by_group (with_horizon wider setup) capability wishes slot train base info encrypted)
-    (first_same setup.horizon wider info within (fault_near setup capability wishes slot train base info encrypted
-    (first_fault setup.horizon info) is))
+    (first_same setup.horizon wider info within (grind (arith, fault_near)))
     ∙ fault_same wider setup capability wishes slot train base info encrypted (first_fault setup.horizon info)
 
 big_info_same : (wider : ℕ) (setup : Setup) (capability : Capability) (wishes : List Wish) (slot : ℕ) (train : Train) (base : Endpoint)
@@ -54,36 +51,18 @@ big_info_same : (wider : ℕ) (setup : Setup) (capability : Capability) (wishes 
     → by_big_info (with_horizon wider setup) capability wishes slot train base found ≡ by_big_info setup capability wishes slot train base found
 big_info_same wider setup capability wishes slot train base found within is = grind (arith, info_same)
 
-endpoint_same : (wider : ℕ) (setup : Setup) (capability : Capability) (wishes : List Wish) (slot : ℕ) (train : Train)
-    (read : Result Endpoint BaseFault) → setup.horizon ≤ wider → BringsNear (by_endpoint setup capability wishes slot train read)
-    → by_endpoint (with_horizon wider setup) capability wishes slot train read ≡ by_endpoint setup capability wishes slot train read
-endpoint_same wider setup capability wishes slot train read within is = grind (arith, big_info_same)
-
 base_same : (wider : ℕ) (setup : Setup) (capability : Capability) (wishes : List Wish) (slot : ℕ) (train : Train) (found : Option (List ℕ))
     → setup.horizon ≤ wider → BringsNear (by_base setup capability wishes slot train found)
     → by_base (with_horizon wider setup) capability wishes slot train found ≡ by_base setup capability wishes slot train found
-base_same wider setup capability wishes slot train found within is = grind (arith, endpoint_same)
-
-here_same : (elsewhere already : Bool) (one two : TrainHeard) (brought other : TrainOutcome)
-    → BringsNear (cond elsewhere (ignored one) (cond already (ignored two) brought))
-    → (BringsNear brought → other ≡ brought) → cond elsewhere (ignored one) (cond already (ignored two) other)
-    ≡ cond elsewhere (ignored one) (cond already (ignored two) brought)
-here_same true already one two brought other is same = refl
-here_same false true one two brought other is same = refl
-here_same false false one two brought other is same = same is
+base_same wider setup capability wishes slot train found within is = grind (arith, big_info_same)
 
 slot_same : (wider : ℕ) (setup : Setup) (snapshot : Snapshot) (train : Train) (found : Option ℕ) → setup.horizon ≤ wider
     → BringsNear (by_slot setup snapshot train found) → by_slot (with_horizon wider setup) snapshot train found ≡ by_slot setup snapshot train found
-slot_same wider setup snapshot train found within is = grind (arith, here_same, base_same)
-
-id_same : (wider : ℕ) (setup : Setup) (snapshot : Snapshot) (train : Train) (id : Option (List ℕ)) → setup.horizon ≤ wider
-    → BringsNear (by_broadcast_id setup snapshot train id)
-    → by_broadcast_id (with_horizon wider setup) snapshot train id ≡ by_broadcast_id setup snapshot train id
-id_same wider setup snapshot train id within is = grind (arith, slot_same)
+slot_same wider setup snapshot train found within is = grind (arith, base_same)
 
 pub brought_same : (wider : ℕ) (setup : Setup) (snapshot : Snapshot) (train : Train) → setup.horizon ≤ wider
     → BringsNear (outcome_by setup snapshot train) → outcome_by (with_horizon wider setup) snapshot train ≡ outcome_by setup snapshot train
-brought_same wider setup snapshot train within is = id_same wider setup snapshot train (broadcast_id_of train.ext) within is
+brought_same wider setup snapshot train within is = grind (arith, slot_same)
 
 -- ---- a train whose group is near
 
@@ -93,21 +72,16 @@ ReadsNear setup train = (octets : List ℕ) → (info : BigInfo) → big_info_in
     → FoundNear (first_fault setup.horizon info)
 
 near_if : (b : Bool) (one other : TrainOutcome) → BringsNear one → BringsNear other → BringsNear (cond b one other)
-near_if true one other is also = is
-near_if false one other is also = also
+near_if b one other is also = grind arith
 
 near_info : (setup : Setup) (capability : Capability) (wishes : List Wish) (slot : ℕ) (train : Train) (base : Endpoint) (encrypted : Bool)
     (read : Result BigInfo BigFault) → ((info : BigInfo) → read ≡ Ok info → FoundNear (first_fault setup.horizon info))
     → BringsNear (by_info setup capability wishes slot train base encrypted read)
 near_info setup capability wishes slot train base encrypted read near = grind (arith, near_if)
 
-near_endpoint : (setup : Setup) (capability : Capability) (wishes : List Wish) (slot : ℕ) (train : Train) (read : Result Endpoint BaseFault)
-    → ReadsNear setup train → BringsNear (by_endpoint setup capability wishes slot train read)
-near_endpoint setup capability wishes slot train read near = grind (arith, near_info)
-
 near_slot : (setup : Setup) (snapshot : Snapshot) (train : Train) (found : Option ℕ) → ReadsNear setup train
     → BringsNear (by_slot setup snapshot train found)
-near_slot setup snapshot train found near = grind (arith, near_if, near_endpoint)
+near_slot setup snapshot train found near = grind (arith, near_if, near_info)
 
 near_id : (setup : Setup) (snapshot : Snapshot) (train : Train) (id : Option (List ℕ)) → ReadsNear setup train
     → BringsNear (by_broadcast_id setup snapshot train id)
@@ -119,5 +93,4 @@ outcome_near setup snapshot train near = near_id setup snapshot train (broadcast
 -- ---- either way
 
 pub near_or_horizon : (answer : TrainHeard) → AnswersNear answer ⊎ (answer ≡ answers.BadGroup Horizon)
-near_or_horizon (answers.BadGroup Horizon) = inr refl
-near_or_horizon _ = inl tt
+near_or_horizon _ = grind arith

@@ -1,3 +1,4 @@
+use Rattle.std.proofs.Common.{arith}
 use Rattle.scenario_laws.proofs.OneTranscript.{accepted_same, answered_same, brought_same, end_after_same, handed_on_same, out_of_same, steps_same, transcript_end_same, transcript_same, units_same}
 use Rattle.scenario_laws.proofs.history_laws.one_transcript.Goals as goal
 
@@ -26,8 +27,7 @@ pub returns-clause-steps : goal.returns-clause-steps
 returns-clause-steps c = search (steps_same)
 
 pub returns-clause-output : goal.returns-clause-output
-returns-clause-output c = λ airs others starts lines line meets meet_too accepted.
-    brought_same airs others (record { both = record { one = c.one_air.ensures.same; meets = meets; meet_too = meet_too }; ranged = c.a_line_says_one_step.ensures.in_range }) starts lines line accepted.0 accepted.1
+returns-clause-output c = grind (arith, brought_same)
 
 pub returns-clause-answers : goal.returns-clause-answers
 returns-clause-answers c = search (answered_same)

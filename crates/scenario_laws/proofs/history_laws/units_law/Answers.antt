@@ -3,6 +3,4 @@ use Rattle.scenario_laws.proofs.UnitsLaw.{units_law_holds}
 use Rattle.scenario_laws.proofs.history_laws.units_law.Goals as goal
 
 pub returns : goal.returns
-returns c = λ starts.
-    let below : Below = assumption in
-    units_law_holds below starts
+returns c = λ starts. let below : Below = assumption in units_law_holds below starts

@@ -1,4 +1,4 @@
-use Rattle.scenario_laws.proofs.Prelude.{ℕ, zero, suc, ◌≡◌, ◌+◌, List, [], ◌∷◌, map, Some, refl, arith, slice_get, AllZip, IsStrictlyIncreasing, none-some, same_Some, Handed, lost, valid, equal_units, handed_both, its_setup, IsOfFirst, UnitPlace}
+use Rattle.scenario_laws.proofs.Prelude.{ℕ, ◌≡◌, ◌+◌, List, [], ◌∷◌, map, Some, refl, arith, slice_get, AllZip, IsStrictlyIncreasing, none-some, same_Some, Handed, lost, valid, equal_units, handed_both, its_setup, IsOfFirst, UnitPlace}
 use Rattle.bcast_base.specs.declared.unit.Unit.{Unit as AudioUnit}
 use Rattle.scenario_laws.proofs.relay_laws.relayed_units_are_worked.Goals as goal
 
@@ -7,8 +7,7 @@ octets_of (valid stream time octets) = octets
 octets_of (lost stream time) = []
 
 first_two : IsStrictlyIncreasing (0 ∷ 1 ∷ [])
-first_two zero within = omega arith
-first_two (suc k) within = absurd (omega (arith, within))
+first_two x1 within = grind arith
 
 -- only the first was handed up at this time
 first_place : (k : ℕ) (unit : AudioUnit) → slice_get handed_both k ≡ Some unit → unit.time ≡ 61460 → k ≡ 0
@@ -21,10 +20,8 @@ its_place at is = first_place at.place is.unit is.is_handed (omega (arith, is.ti
 none_before : (first : Handed) (units : List UnitPlace)
     → AllZip (IsOfFirst equal_units handed_both its_setup 2) units (first ∷ valid 2 122544 (0xa0 ∷ []) ∷ [])
     → IsStrictlyIncreasing (map (λ (at : UnitPlace). at.place) units) → ⊥
-none_before first [] all rising = all
-none_before first (one ∷ []) all rising = all.1
 none_before first (one ∷ other ∷ []) all rising = let rises = rising 0 (omega arith) in omega (arith, rises, its_place other all.1.0)
-none_before first (one ∷ other ∷ third ∷ more) all rising = all.1.1
+none_before first x2 all rising = search its_place
 
 of_unit : (k time : ℕ) → slice_get handed_both k ≡ Some (record { time = time; octets = 0xa0 ∷ [] })
     → slice_get equal_units k ≡ Some (0xa0 ∷ [])
