@@ -223,6 +223,11 @@ typedef struct {
     uint8_t source_id, address_type, address[6], sid, broadcast_id[3], pa_sync_state, encryption, bad_code[16];
 } air_state_t;
 
+/* A subgroup and a stream of a BASE that is written. Configurations and metadata stand among octets beside them, each from a place on, so
+ * many; parts may share them. A stream names the place of its subgroup, from 0. */
+typedef struct { vm_size_t config_place, config_count, metadata_place, metadata_count; uint8_t codec[5]; } air_base_subgroup_t;
+typedef struct { vm_size_t config_place, config_count; uint8_t subgroup, bis; } air_base_stream_t;
+
 /* VM_LAYOUT where there are neither 33 nor 57 octets. */
 vm_status_t air_big_info_read(const uint8_t *from, vm_size_t count, air_big_info_t *into);
 /* VM_RANGE where a field doesn't fit its width, VM_ROOM. */
@@ -231,7 +236,14 @@ vm_status_t air_big_info_write(const air_big_info_t *info, uint8_t *room, vm_siz
 vm_status_t air_group_check(const air_big_info_t *info, uint8_t *row);
 /* Whether octets are a BASE, or VM_LAYOUT with the fault. Takes memory. */
 vm_status_t air_base_check(const uint8_t *from, vm_size_t count, air_fault_t *fault);
-/* The streams of a BASE: bit n for BIS n + 1. VM_LAYOUT. Takes memory. */
+/* Writes a BASE at the front of the room: a presentation delay in µs, the subgroups, and the streams of each, in their order. VM_RANGE where
+ * the delay isn't below 2^24, a bis isn't 1 to 31, a subgroup isn't there, or a run passes the octets; VM_LAYOUT where the parts are no BASE,
+ * with the fault that air_base_check would find in what they give, as no subgroup, one without a stream, an index that stands twice,
+ * configurations or metadata that are no LTV lists, or more than 252 octets; VM_ROOM: 252 octets are always enough. Takes memory. */
+vm_status_t air_base_write(uint32_t delay, const air_base_subgroup_t *subgroups, vm_size_t subgroup_count, const air_base_stream_t *streams,
+                           vm_size_t stream_count, const uint8_t *octets, vm_size_t octet_count, uint8_t *room, vm_size_t room_count,
+                           vm_size_t *count, air_fault_t *fault);
+/* The streams of a BASE: bit n for BIS n + 1, as each index stands once. VM_LAYOUT. Takes memory. */
 vm_status_t air_base_streams(const uint8_t *from, vm_size_t count, uint32_t *streams);
 /* What a BASE says of a stream, of all its levels. VM_RANGE where bis isn't 1 to 31; VM_LAYOUT; VM_NO_BIS. Takes memory. */
 vm_status_t air_base_effective(const uint8_t *from, vm_size_t count, uint8_t bis, air_effective_t *into);

@@ -59,7 +59,7 @@ inline Status status(vm_status_t of) noexcept { return static_cast<Status>(of); 
 // The library wants an address for no items too, at which it neither reads nor writes.
 template <typename Item> inline Item *at(Span<Item> of) noexcept
 {
-    static std::remove_const_t<Item> none = 0;
+    static std::remove_const_t<Item> none{};
     return of.size() != 0 ? of.data() : &none;
 }
 
@@ -378,6 +378,22 @@ inline Result<air_fault_t> check_base(Octets from) noexcept
     Result<air_fault_t> it{};
     it.status = detail::status(air_base_check(detail::at(from), from.size(), &it.value));
     return it;
+}
+// The octets that the parts give, at the front of the room. The octets hold configurations and metadata.
+struct Base {
+    Status status;
+    Room octets;
+    air_fault_t fault;
+    explicit operator bool() const noexcept { return status == Status::ok; }
+};
+inline Base write_base(std::uint32_t delay, Span<const air_base_subgroup_t> subgroups, Span<const air_base_stream_t> streams, Octets octets,
+                       Room room) noexcept
+{
+    vm_size_t count = 0;
+    air_fault_t fault{};
+    Status status = detail::status(air_base_write(delay, detail::at(subgroups), subgroups.size(), detail::at(streams), streams.size(),
+                                                  detail::at(octets), octets.size(), detail::at(room), room.size(), &count, &fault));
+    return { status, room.first(static_cast<std::size_t>(count)), fault };
 }
 // Bit n for BIS n + 1.
 inline Result<std::uint32_t> base_streams(Octets from) noexcept

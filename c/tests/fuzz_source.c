@@ -274,6 +274,36 @@ static void run_base(void)
     free(records.at);
 }
 
+static void run_base_write(void)
+{
+    octets_t runs = octets(40), room = room_of(octet());
+    air_base_subgroup_t subgroups[3] = { { 0, 0, 0, 0, { 0 } } };
+    air_base_stream_t streams[4] = { { 0, 0, 0, 0 } };
+    vm_size_t subgroup_count = octet() % 4, stream_count = octet() % 5, count = 0;
+    air_fault_t fault;
+    MARKED(fault);
+    for (unsigned i = 0; i < subgroup_count; i++) {
+        air_base_subgroup_t it = { octet() % 8, octet() % 8, octet() % 8, octet() % 8, { 6, 0, 0, 0, octet() % 2 } };
+        subgroups[i] = it;
+    }
+    for (unsigned i = 0; i < stream_count; i++) {
+        air_base_stream_t it = { octet() % 8, octet() % 8, octet() % 4, octet() % 8 };
+        streams[i] = it;
+    }
+    vm_status_t status = CALL(air_base_write, (octet() % 8 != 0 ? 40000 : (uint32_t)wide(), subgroups, subgroup_count, streams, stream_count, runs.at,
+                                               runs.count, room.at, room.count, &count, &fault),
+                              ONE(VM_RANGE) | ONE(VM_LAYOUT) | ONE(VM_ROOM) | ONE(VM_MEMORY));
+    NEED((status == VM_OK) == (count != 0) && count <= room.count);
+    if (status == VM_LAYOUT)
+        NEED(fault.number >= 1 && fault.number <= 8);
+    else
+        KEEPS(fault);
+    if (status == VM_OK)
+        CALL(air_base_check, (room.at, count, &fault), ONE(VM_MEMORY));
+    free(runs.at);
+    free(room.at);
+}
+
 static void run_state(void)
 {
     octets_t value = octets(60);
@@ -289,4 +319,4 @@ static void run_state(void)
     free(value.at);
 }
 
-call_t *const OF_LAYOUTS[] = { run_big_info, run_read, run_checks, run_checks, run_base, run_state, NULL };
+call_t *const OF_LAYOUTS[] = { run_big_info, run_read, run_checks, run_checks, run_base, run_base_write, run_state, NULL };

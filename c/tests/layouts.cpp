@@ -1,6 +1,7 @@
 // The layouts and the stream of vicemint.hpp: what is written is read again, each reader names its fault, and one stream alone hands up what a
 // source was given.
 #include "group.hpp"
+#include <algorithm>
 #include <cstdio>
 
 namespace layouts = vicemint::layouts;
@@ -34,6 +35,28 @@ bool bases()
     return layouts::check_base(BASE) && fault.status == Status::layout && fault.value.number == 1 && fault.value.place == 5 && streams && streams.value == 1
         && effective && effective.value.has_frequency && effective.value.frequency == 8 && !effective.value.has_allocation
         && layouts::base_effective(BASE, 2).status == Status::no_bis && layouts::base_effective(BASE, 32).status == Status::range;
+}
+
+// The parts of BASE, and its octets again; and a second subgroup, whose stream shares the first one's configuration.
+bool parts()
+{
+    std::array<std::uint8_t, 252> room{};
+    const Octets octets(BASE + 11, 15); // the configuration, the count of the metadata, and the metadata
+    const air_base_subgroup_t subgroups[] = { { 0, 10, 11, 4, { 6, 0, 0, 0, 0 } }, { 0, 0, 11, 4, { 6, 0, 0, 0, 0 } } };
+    const air_base_stream_t streams[] = { { 0, 10, 1, 2 }, { 0, 0, 0, 1 } };
+    using Subgroups = vicemint::Span<const air_base_subgroup_t>;
+    using Streams = vicemint::Span<const air_base_stream_t>;
+    auto one = layouts::write_base(40000, Subgroups(subgroups, 1), Streams(streams + 1, 1), octets, room);
+    if (!one || one.octets.size() != sizeof BASE || !std::equal(one.octets.begin(), one.octets.end(), BASE))
+        return false;
+    auto both = layouts::write_base(40000, subgroups, streams, octets, room);
+    auto second = layouts::base_effective(Octets(room.data(), both.octets.size()), 2);
+    auto none = layouts::write_base(40000, {}, {}, {}, room);
+    return both && layouts::base_streams(Octets(room.data(), both.octets.size())).value == 3 && second && second.value.subgroup == 1
+        && second.value.frequency == 8 && none.status == Status::layout && none.fault.number == 2 && none.fault.place == 3
+        && layouts::write_base(1 << 24, subgroups, streams, octets, room).status == Status::range
+        && layouts::write_base(40000, Subgroups(subgroups, 1), streams, octets, room).status == Status::range
+        && layouts::write_base(40000, subgroups, streams, octets, vicemint::Room(room.data(), 27)).status == Status::room;
 }
 
 bool capabilities()
@@ -92,7 +115,7 @@ bool alone()
 
 int main()
 {
-    const bool all[] = { groups(), bases(), capabilities(), links(), alone() };
+    const bool all[] = { groups(), bases(), parts(), capabilities(), links(), alone() };
     for (std::size_t place = 0; place < sizeof all / sizeof *all; place++)
         if (!all[place])
             return static_cast<int>(place) + 1;

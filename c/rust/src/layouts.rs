@@ -2,7 +2,7 @@
 //!
 //! A check is `Ok` where the octets have the layout, and else names the first fault beside `Refusal::Layout`.
 use crate::raw;
-use crate::{done, front, waiting, BigInfo, Fault, Refusal};
+use crate::{done, front, waiting, BaseStream, BaseSubgroup, BigInfo, Fault, Refusal};
 
 /// Reads a BIGInfo of 33 or of 57 octets.
 pub fn read_big_info(from: &[u8]) -> Result<BigInfo, Refusal> {
@@ -58,7 +58,24 @@ pub fn check_pdu(from: &[u8], max_pdu: u8) -> Result<(), (Refusal, Fault)> {
     done(unsafe { raw::air_pdu_check(from.as_ptr(), from.len() as u64, max_pdu, &mut fault) }).map_err(|it| (it, fault))
 }
 
-/// The streams of a BASE: bit n for BIS n + 1.
+/// Writes a BASE: its presentation delay in µs, its subgroups, and the streams of each, in their order; a room of 252 octets is always
+/// enough. Configurations and metadata are runs of `octets`, and may be shared. `Refusal::Range` where a number or a run is out of its range;
+/// beside `Refusal::Layout` stands the fault that `check_base` would find in what the parts give.
+pub fn write_base<'a>(
+    delay: u32, subgroups: &[BaseSubgroup], streams: &[BaseStream], octets: &[u8], room: &'a mut [u8],
+) -> Result<&'a [u8], (Refusal, Fault)> {
+    let (mut count, mut fault) = (0, Fault::default());
+    done(unsafe {
+        raw::air_base_write(
+            delay, subgroups.as_ptr(), subgroups.len() as u64, streams.as_ptr(), streams.len() as u64, octets.as_ptr(), octets.len() as u64,
+            room.as_mut_ptr(), room.len() as u64, &mut count, &mut fault,
+        )
+    })
+    .map_err(|it| (it, fault))?;
+    Ok(front(room, count))
+}
+
+/// The streams of a BASE: bit n for BIS n + 1, as each index stands once.
 pub fn base_streams(from: &[u8]) -> Result<u32, Refusal> {
     let mut streams = 0;
     done(unsafe { raw::air_base_streams(from.as_ptr(), from.len() as u64, &mut streams) })?;

@@ -47,7 +47,7 @@ pub use link::Link;
 pub use sink::Sink;
 pub use source::Source;
 pub use stream::Stream;
-pub use values::{BigInfo, Fault, Heard, Identity, Reply, Stay, Train, TrainHeard};
+pub use values::{BaseStream, BaseSubgroup, BigInfo, Fault, Heard, Identity, Reply, Stay, Train, TrainHeard};
 
 /// Why a call did nothing, by the statuses of `vicemint.h`.
 #[derive(Clone, Copy, Debug, PartialEq, Eq)]

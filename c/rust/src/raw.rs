@@ -1,5 +1,5 @@
 //! The calls of vicemint.h as they are, and the structs that this crate turns into others.
-use crate::values::{BigInfo, Fault, Heard, Identity, Reply, Stay, Train, TrainHeard};
+use crate::values::{BaseStream, BaseSubgroup, BigInfo, Fault, Heard, Identity, Reply, Stay, Train, TrainHeard};
 use core::ffi::c_void;
 
 /// A handle: one word, null where there is none.
@@ -115,6 +115,7 @@ extern "C" {
     pub fn air_big_info_write(info: *const BigInfo, room: *mut u8, room_count: u64, count: *mut u64) -> u32;
     pub fn air_group_check(info: *const BigInfo, row: *mut u8) -> u32;
     pub fn air_base_check(from: *const u8, count: u64, fault: *mut Fault) -> u32;
+    pub fn air_base_write(delay: u32, subgroups: *const BaseSubgroup, subgroup_count: u64, streams: *const BaseStream, stream_count: u64, octets: *const u8, octet_count: u64, room: *mut u8, room_count: u64, count: *mut u64, fault: *mut Fault) -> u32;
     pub fn air_base_streams(from: *const u8, count: u64, streams: *mut u32) -> u32;
     pub fn air_base_effective(from: *const u8, count: u64, bis: u8, into: *mut Effective) -> u32;
     pub fn air_pac_check(from: *const u8, count: u64, fault: *mut Fault) -> u32;

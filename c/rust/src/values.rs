@@ -95,6 +95,36 @@ pub struct BigInfo {
     pub gskd: [u8; 16],
 }
 
+/// A subgroup of a BASE that is written. Its configuration and its metadata stand among octets beside it.
+#[repr(C)]
+#[derive(Clone, Copy, Debug, Default, PartialEq, Eq)]
+pub struct BaseSubgroup {
+    /// Where its configuration begins, from 0.
+    pub config_place: u64,
+    /// How many octets that has.
+    pub config_count: u64,
+    /// Where its metadata begins, from 0.
+    pub metadata_place: u64,
+    /// How many octets that has.
+    pub metadata_count: u64,
+    /// Codec_ID.
+    pub codec: [u8; 5],
+}
+
+/// A stream of a BASE that is written.
+#[repr(C)]
+#[derive(Clone, Copy, Debug, Default, PartialEq, Eq)]
+pub struct BaseStream {
+    /// Where its own configuration begins, from 0.
+    pub config_place: u64,
+    /// How many octets that has.
+    pub config_count: u64,
+    /// The place of its subgroup, from 0.
+    pub subgroup: u8,
+    /// BIS_index, from 1.
+    pub bis: u8,
+}
+
 /// Who a source is.
 #[repr(C)]
 #[derive(Clone, Copy, Debug, Default, PartialEq, Eq)]

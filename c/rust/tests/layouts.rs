@@ -2,7 +2,7 @@
 mod common;
 use common::{group, sink, BASE, CAPS, CODEC, IDENTITY};
 use vicemint::layouts::{self, Encryption, NotTaken};
-use vicemint::{BigInfo, Fault, Refusal};
+use vicemint::{BaseStream, BaseSubgroup, BigInfo, Fault, Refusal};
 
 /// A value of published capabilities with one record.
 fn records(frequencies: u8) -> Vec<u8> {
@@ -46,6 +46,28 @@ fn a_base_tells_of_its_streams() {
     assert_eq!((it.frame_octets, it.contexts, it.allocation, it.blocks), (Some(100), Some(4), None, None));
     assert_eq!(layouts::base_effective(&BASE, 2), Err(Refusal::NoBis));
     assert_eq!(layouts::base_effective(&BASE, 0), Err(Refusal::Range));
+}
+
+#[test]
+fn a_base_is_written_by_its_parts() {
+    let octets = [&BASE[11..21], &BASE[22..26]].concat();
+    let subgroup = BaseSubgroup { config_place: 0, config_count: 10, metadata_place: 10, metadata_count: 4, codec: CODEC };
+    let stream = BaseStream { bis: 1, ..BaseStream::default() };
+    let mut room = [0; 252];
+    let write = |subgroups: &[BaseSubgroup], streams: &[BaseStream], room: &mut [u8]| {
+        layouts::write_base(40000, subgroups, streams, &octets, room).map(<[u8]>::to_vec)
+    };
+    assert_eq!(write(&[subgroup], &[stream], &mut room), Ok(BASE.to_vec()));
+    assert_eq!(write(&[subgroup], &[stream], &mut room[..BASE.len()]), Ok(BASE.to_vec()));
+    let refused = |it: Result<Vec<u8>, (Refusal, Fault)>| it.unwrap_err();
+    assert_eq!(refused(write(&[subgroup], &[stream], &mut room[..27])).0, Refusal::Room);
+    assert_eq!(refused(write(&[], &[], &mut room)), (Refusal::Layout, Fault { number: 2, place: 3 }));
+    assert_eq!(refused(write(&[subgroup], &[], &mut room)), (Refusal::Layout, Fault { number: 3, place: 4 }));
+    assert_eq!(refused(write(&[subgroup], &[stream, stream], &mut room)), (Refusal::Layout, Fault { number: 5, place: 28 }));
+    assert_eq!(refused(write(&[subgroup], &[BaseStream { subgroup: 1, ..stream }], &mut room)).0, Refusal::Range);
+    assert_eq!(refused(write(&[subgroup], &[BaseStream { bis: 32, ..stream }], &mut room)).0, Refusal::Range);
+    let past = BaseSubgroup { metadata_count: 5, ..subgroup };
+    assert_eq!(refused(write(&[past], &[stream], &mut room)).0, Refusal::Range);
 }
 
 #[test]

@@ -3,6 +3,7 @@ pub mod Again
 pub mod Checks
 pub mod Cuts
 pub mod Drafts
+pub mod Encoded
 pub mod Firsts
 pub mod Indices
 pub mod Loops

@@ -66,6 +66,9 @@ pub record SubgroupFits (s : Subgroup) : Type 0 where
   pub metadata : AreLtvs s.metadata
   pub entries : AllByRecursion (EntryFits (is_lc3 s.codec)) s.entries
 
+abbrev pub HasCodec : Subgroup → Type 0
+HasCodec s = length s.codec ≡ 5
+
 abbrev pub HasEntry : Subgroup → Type 0
 HasEntry s = 1 ≤ length s.entries
 

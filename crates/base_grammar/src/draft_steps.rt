@@ -12,7 +12,7 @@ use bcast_base::{Bis, Octets};
 use std::alloc::Global;
 
 // The octets of a BASE behind its delay and its number of subgroups: 252 less 4.
-const ROOM: usize = 248;
+pub(crate) const ROOM: usize = 248;
 
 // Whether the last subgroup has no entry yet.
 fn is_last_empty(subgroups: &[Subgroup]) -> bool

@@ -1,6 +1,6 @@
-ghost use Rattle.std.specs.Prelude.{◌≡◌, ◌<◌, ◌≤◌, ◌++◌, length, IfOk, OnOk};
+ghost use Rattle.std.specs.Prelude.{◌≡◌, ◌<◌, ◌≤◌, ◌++◌, ◌^◌, length, IfOk, OnOk};
 ghost use Rattle.std.specs.List.{flat_map};
-ghost use Rattle.base_grammar.specs.Layout.{entry, subgroup, BaseIs};
+ghost use Rattle.base_grammar.specs.Layout.{endpoint, encoding, entry, subgroup, BaseIs};
 
 use crate::base::Base;
 use crate::subgroup::{BaseEntry, Subgroup};
@@ -11,9 +11,21 @@ use std::alloc::Global;
 pub fn encode_base(alloc: Global, base: &Base) -> Result<Octets, Memory>
     ensures { IfOk result (λ octets. BaseIs base.now octets) }
 {
+    encode_fields(alloc, base.delay(), base.as_slice())
+}
+
+// The octets of these fields, which are few enough for a BASE.
+pub(crate) fn encode_fields(
+    alloc: Global,
+    delay: u32,
+    subgroups: &[Subgroup],
+) -> Result<Octets, Memory>
+    requires delay { delay < 2 ^ 24 }
+    requires few { length (flat_map subgroup subgroups.now) ≤ 248 }
+    ensures { IfOk result (λ octets. octets ≡ encoding (endpoint delay subgroups.now)) }
+{
     let mut out = Octets::new(alloc);
-    put_number(&mut out, u64::from(base.delay()), 3)?;
-    let subgroups = base.as_slice();
+    put_number(&mut out, u64::from(delay), 3)?;
     out.push(subgroups.len() as u8)?;
     for subgroup in subgroups {
         put_subgroup(&mut out, subgroup)?;

@@ -1,3 +1,4 @@
+pub mod BaseParts
 pub mod Bases
 pub mod Checks
 pub mod States

@@ -100,7 +100,7 @@ fn has_stream(base: &Base, bis: Bis) -> bool
 }
 
 /// The stream of this index, which is from 1 to 31.
-fn stream(n: u8) -> Bis
+pub(crate) fn stream(n: u8) -> Bis
     requires least { 1 ≤ n }
     requires greatest { n ≤ 31 }
     ensures { result ≡ n }

@@ -4,4 +4,5 @@
 mod base;
 mod checks;
 mod info;
+mod parts;
 mod state;
