@@ -1,9 +1,9 @@
 -- Control payloads: reading and layout agree.
-use Rattle.iso_pdu.proofs.Prelude.{◌≡◌, ℕ, zero, suc, ◌+◌, ◌*◌, ◌/◌, ◌%◌, List, [], ◌∷◌, ◌++◌, length, take, drop, eqb, true, refl, arith, sym, ap, subst, inl, inr, length-append, length-take, length-drop, take-append-drop, Result, Ok, Err, IfOk, IfErr, cases_Bool, eqb-true, eqb-false, eq-eqb, ne_eqb, Le, ControlIs, ControlFaultIs, terminate_of, terminate, ChannelMap, Terminate}
+use Rattle.iso_pdu.proofs.Prelude.{◌≡◌, ℕ, zero, suc, ◌/◌, ◌%◌, List, [], ◌∷◌, length, take, drop, eqb, refl, arith, sym, ap, subst, inl, inr, length-append, length-take, length-drop, take-append-drop, Result, Ok, Err, IfOk, IfErr, cases_Bool, eqb-true, eqb-false, eq-eqb, ne_eqb, ControlIs, ControlFaultIs, terminate, ChannelMap, Terminate}
 use Rattle.iso_pdu.specs.Control.{control_of}
 use Rattle.iso_pdu.specs.declared.control.Control.{Control}
 use Rattle.iso_pdu.specs.declared.control.ControlFault.{ControlFault}
-use Rattle.iso_pdu.specs.declared.control.ControlFault.TheVariants.{Opcode, ControlLength}
+use Rattle.iso_pdu.specs.declared.control.ControlFault.TheVariants.{ControlLength}
 
 abbrev good : Control → Result Control ControlFault
 good told = Ok told
@@ -19,21 +19,9 @@ bad_same x y e = cc
 
 -- ---- BIG_TERMINATE_IND
 
-terminate_back : (reason instant : ℕ) (time : List ℕ) → length time ≡ 2 → Le instant time → terminate_of (reason ∷ time) ≡ good (Terminate reason instant)
-terminate_back reason instant [] h is = absurd (omega arith)
-terminate_back reason instant (low ∷ []) h is = absurd (omega arith)
-terminate_back reason instant (low ∷ high ∷ []) h is =
-    let same : low + 256 * high ≡ instant = omega (arith, is) in
-    ap (λ (n : ℕ). good (Terminate reason n)) same
-terminate_back reason instant (low ∷ high ∷ more ∷ time) h is = absurd (omega arith)
-
 pub control_of-layout : (told : Control) (octets : List ℕ) → ControlIs told octets → control_of octets ≡ Ok told
 unfolding control_of
-control_of-layout ChannelMap octets h =
-    let long : length (h.0 ++ h.1) ≡ 7 = omega (arith, length-append h.0 h.1, h.2, h.3) in
-    let same : eqb (length (h.0 ++ h.1)) 7 ≡ true = eq-eqb _ _ long in
-    rw h.4 (rw same refl)
-control_of-layout (Terminate reason instant) octets h = rw h.3 (terminate_back reason instant h.0 h.1 h.2)
+control_of-layout told octets h = grind (arith, length, length-append, eqb, eq-eqb)
 
 pub control_of-read : (told : Control) (octets : List ℕ) → control_of octets ≡ Ok told → ControlIs told octets
 unfolding control_of
@@ -50,48 +38,17 @@ control_of-read told (zero ∷ fields) e =
 control_of-read told (suc zero ∷ []) e = absurd cc
 control_of-read told (suc zero ∷ reason ∷ []) e = absurd cc
 control_of-read told (suc zero ∷ reason ∷ low ∷ []) e = absurd cc
-control_of-read told (suc zero ∷ reason ∷ low ∷ high ∷ []) e =
-    subst (λ (x : Control). ControlIs x (1 ∷ reason ∷ low ∷ high ∷ [])) (good_same (Terminate reason (low + 256 * high)) told e)
-    (low ∷ high ∷ [], refl, omega arith, refl)
+control_of-read told (suc zero ∷ reason ∷ low ∷ high ∷ []) e = grind (arith, good_same)
 control_of-read told (suc zero ∷ reason ∷ low ∷ high ∷ more ∷ fields) e = absurd cc
 control_of-read told (suc (suc n) ∷ fields) e = absurd cc
 
 pub fault-control_of : (fault : ControlFault) (octets : List ℕ) → ControlFaultIs fault octets → control_of octets ≡ Err fault
 unfolding control_of
-fault-control_of Opcode [] h = refl
-fault-control_of Opcode (zero ∷ fields) h = absurd (h.0 refl)
-fault-control_of Opcode (suc zero ∷ fields) h = absurd (h.1 refl)
-fault-control_of Opcode (suc (suc n) ∷ fields) h = refl
-fault-control_of ControlLength [] h = elim h [ ]
-fault-control_of ControlLength (zero ∷ fields) (inl h) = rw (ne_eqb _ _ h.1) refl
-fault-control_of ControlLength (zero ∷ fields) (inr h) = absurd (omega (arith, h.0))
-fault-control_of ControlLength (suc zero ∷ fields) (inl h) = absurd (omega (arith, h.0))
-fault-control_of ControlLength (suc zero ∷ []) (inr h) = refl
-fault-control_of ControlLength (suc zero ∷ reason ∷ []) (inr h) = refl
-fault-control_of ControlLength (suc zero ∷ reason ∷ low ∷ []) (inr h) = refl
-fault-control_of ControlLength (suc zero ∷ reason ∷ low ∷ high ∷ []) (inr h) = absurd (h.1 refl)
-fault-control_of ControlLength (suc zero ∷ reason ∷ low ∷ high ∷ more ∷ fields) (inr h) = refl
-fault-control_of ControlLength (suc (suc n) ∷ fields) (inl h) = absurd (omega (arith, h.0))
-fault-control_of ControlLength (suc (suc n) ∷ fields) (inr h) = absurd (omega (arith, h.0))
+fault-control_of fault octets h = grind (arith, ne_eqb)
 
 pub control_of-fault : (fault : ControlFault) (octets : List ℕ) → control_of octets ≡ Err fault → ControlFaultIs fault octets
 unfolding control_of
-control_of-fault fault [] e = subst (λ (x : ControlFault). ControlFaultIs x []) (bad_same Opcode fault e) tt
-control_of-fault fault (zero ∷ fields) e =
-    elim (cases_Bool (eqb (length fields) 7)) [
-      | inl same ↦ let e' : good ChannelMap ≡ bad fault = rw same at e in absurd cc
-      | inr differs ↦
-          let e' : bad ControlLength ≡ bad fault = rw differs at e in
-          subst (λ (x : ControlFault). ControlFaultIs x (0 ∷ fields)) (bad_same ControlLength fault e') (inl (refl, eqb-false _ _ differs))
-    ]
-control_of-fault fault (suc zero ∷ []) e = subst (λ (x : ControlFault). ControlFaultIs x (1 ∷ [])) (bad_same ControlLength fault e) (inr (refl, λ h. omega arith))
-control_of-fault fault (suc zero ∷ reason ∷ []) e = subst (λ (x : ControlFault). ControlFaultIs x (1 ∷ reason ∷ [])) (bad_same ControlLength fault e) (inr (refl, λ h. omega arith))
-control_of-fault fault (suc zero ∷ reason ∷ low ∷ []) e = subst (λ (x : ControlFault). ControlFaultIs x (1 ∷ reason ∷ low ∷ [])) (bad_same ControlLength fault e) (inr (refl, λ h. omega arith))
-control_of-fault fault (suc zero ∷ reason ∷ low ∷ high ∷ []) e = absurd cc
-control_of-fault fault (suc zero ∷ reason ∷ low ∷ high ∷ more ∷ fields) e =
-    subst (λ (x : ControlFault). ControlFaultIs x (1 ∷ reason ∷ low ∷ high ∷ more ∷ fields)) (bad_same ControlLength fault e) (inr (refl, λ h. omega (arith, h)))
-control_of-fault fault (suc (suc n) ∷ fields) e =
-    subst (λ (x : ControlFault). ControlFaultIs x (suc (suc n) ∷ fields)) (bad_same Opcode fault e) (λ h. omega (arith, h), λ h. omega (arith, h))
+control_of-fault fault octets e = grind (arith, bad_same, cases_Bool, eqb, length, eqb-false)
 
 pub terminate-is : (reason instant : ℕ) → ControlIs (Terminate reason instant) (terminate reason instant)
 terminate-is reason instant = (instant % 256 ∷ instant / 256 ∷ [], refl, omega arith, refl)
@@ -99,9 +56,7 @@ terminate-is reason instant = (instant % 256 ∷ instant / 256 ∷ [], refl, ome
 -- ---- what the code answers
 
 pub layout_of : (read : Result Control ControlFault) (octets : List ℕ) → read ≡ control_of octets → IfOk read (λ told. ControlIs told octets)
-layout_of (Ok told) octets e = control_of-read told octets (sym e)
-layout_of (Err fault) octets e = tt
+layout_of read octets e = grind (arith, control_of-read)
 
 pub fault_of : (read : Result Control ControlFault) (octets : List ℕ) → read ≡ control_of octets → IfErr read (λ fault. ControlFaultIs fault octets)
-fault_of (Ok told) octets e = tt
-fault_of (Err fault) octets e = control_of-fault fault octets (sym e)
+fault_of read octets e = grind (arith, control_of-fault)

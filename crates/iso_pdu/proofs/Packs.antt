@@ -41,10 +41,9 @@ abbrev pub PutsOctets : ℕ → List ℕ → ℕ → List ℕ → List ℕ → T
 PutsOctets end octets end' octets' encoded = (first long : ℕ) (rest : List ℕ) → take end octets ≡ first ∷ long ∷ rest
     → take end' octets' ≡ first ∷ (end' - 2) ∷ (rest ++ encoded)
 
-pub put_packed : (max_pdu end : ℕ) (octets : List ℕ) (end' : ℕ) (octets' : List ℕ) (part : Part) → length octets ≡ 253 → IsPacked max_pdu end octets
-    → length (segment part) ≤ room_in (packed_in max_pdu end octets) → 0 < length (segment part) → end' ≡ end + length (segment part)
-    → PutsOctets end octets end' octets' (segment part)
-    → Puts max_pdu end octets end' octets' part
+pub put_packed : (max_pdu end : ℕ) (octets : List ℕ) (end' : ℕ) (octets' : List ℕ) (part : Part) → length octets ≡ 253
+    → IsPacked max_pdu end octets → length (segment part) ≤ room_in (packed_in max_pdu end octets) → 0 < length (segment part)
+    → end' ≡ end + length (segment part) → PutsOctets end octets end' octets' (segment part) → Puts max_pdu end octets end' octets' part
 put_packed max_pdu end octets end' octets' part whole packed room some end'_is put =
     let old = parts_in (drop 2 (take end octets)) in
     let all = old ++ part ∷ [] in
@@ -125,8 +124,7 @@ pub written_anew : (octets : List ℕ) (first long : ℕ) (rest : List ℕ) (end
     → take (k + length part) (set (put_mid k m (put_mid (end + 2) n (set (set octets end header) (end + 1) count) offset) part) 1 length')
     ≡ first ∷ length' ∷ (rest ++ header ∷ count ∷ (offset ++ part))
 written_anew octets first long rest end header count offset part k n m length' some room k_is n_is m_is is =
-    take-set-lt (k + length part) (put_mid k m (put_mid (end + 2) n (set (set octets end header) (end + 1) count) offset) part) 1 length' (omega arith)
-    ∙ rw (written octets end header count offset part k n m room k_is n_is m_is, is) refl
+    grind (arith, take-set-lt, length, put_mid, set, written)
 
 -- a header alone is a PDU of no segments
 pub header_alone : (octets : List ℕ) (end first long : ℕ) (rest : List ℕ) → take end octets ≡ first ∷ long ∷ rest → take 2 (set octets 1 0) ≡ first ∷ 0 ∷ []

@@ -1,5 +1,5 @@
 -- Segments are read as the layout says, and the other way round.
-use Rattle.iso_pdu.proofs.Prelude.{◌≡◌, ℕ, zero, suc, ◌+◌, ◌-◌, ◌/◌, ◌%◌, ◌<◌, ◌≤◌, Bool, true, false, eqb, List, [], ◌∷◌, ◌++◌, length, take, drop, get_or, Option, Some, None, Result, Ok, Err, refl, sym, ap, ◌∙◌, subst, inl, inr, arith, add-zero, append_assoc, length-append, length-drop, length-take, take-append-drop, cases_Bool, eqb-true, eqb-false, eq-eqb, ne_eqb, take_at, drop_at, append-nil, result_err, PduFault, SegmentShort, Part, start, more, bit, BodyIs, SegmentIs, SegmentsAre, part_at, fault_at, before, unless, parts_of, parts_in, IsPassed}
+use Rattle.iso_pdu.proofs.Prelude.{◌≡◌, ℕ, zero, suc, ◌+◌, ◌-◌, ◌/◌, ◌%◌, ◌<◌, ◌≤◌, Bool, false, eqb, List, [], ◌∷◌, ◌++◌, length, take, drop, get_or, Option, Some, None, Result, Ok, Err, refl, sym, ap, ◌∙◌, subst, arith, add-zero, append_assoc, length-append, length-drop, length-take, take-append-drop, cases_Bool, eqb-true, eqb-false, eq-eqb, ne_eqb, take_at, drop_at, append-nil, result_err, PduFault, SegmentShort, Part, start, more, bit, BodyIs, SegmentIs, SegmentsAre, part_at, fault_at, before, unless, parts_of, parts_in, IsPassed}
 use Rattle.std.proofs.lemmas.Bool.Decides.{nat_tests}
 use Rattle.iso_pdu.specs.Reading.{parts_from}
 
@@ -7,10 +7,9 @@ use Rattle.iso_pdu.specs.Reading.{parts_from}
 
 pub parts_from-inside : (place inside : ℕ) (octets : List ℕ) → inside ≤ length octets → parts_from place inside octets ≡ parts_from (place + inside) zero (drop inside octets)
 unfolding parts_from
-parts_from-inside place zero octets h = ap (λ (p : ℕ). parts_from p zero octets) (sym (add-zero place))
-parts_from-inside place (suc inside) [] h = absurd (omega arith)
 parts_from-inside place (suc inside) (octet ∷ octets) h =
     parts_from-inside (place + 1) inside octets (omega arith) ∙ ap (λ (p : ℕ). parts_from p zero (drop inside octets)) (omega arith)
+parts_from-inside place inside octets h = search (add-zero, drop)
 
 -- ---- one segment
 
@@ -31,27 +30,11 @@ parts_from-whole place header count octets e =
 
 -- ---- a part and its octets
 
-is_bit : (n : ℕ) → n % 2 ≡ bit (eqb (n % 2) 1)
-is_bit n = elim (cases_Bool (eqb (n % 2) 1)) [
-  | inl e ↦ rw e (eqb-true _ _ e)
-  | inr e ↦ let ne : n % 2 ≡ 1 → ⊥ = eqb-false _ _ e in rw e (omega arith)
-]
-
 bit_is : (n : ℕ) (b : Bool) → n ≡ bit b → eqb n 1 ≡ b
-bit_is n true e = eq-eqb n 1 e
-bit_is n false e = ne_eqb n 1 (λ h. omega arith)
+bit_is n b e = grind (arith, eq-eqb, ne_eqb)
 
 pub part_at-is : (header : ℕ) (body : List ℕ) → (header % 2 ≡ 0 → 3 ≤ length body) → BodyIs (part_at header body) header body
-part_at-is header body h =
-    elim (cases_Bool (eqb (header % 2) 1)) [
-      | inl e ↦ rw e (record { start_bit = eqb-true _ _ e; complete_bit = is_bit (header / 2) }, refl)
-      | inr e ↦
-          let ne : header % 2 ≡ 1 → ⊥ = eqb-false _ _ e in
-          let even : header % 2 ≡ 0 = omega arith in
-          let three : 3 ≤ length body = h even in
-          let long : length (take 3 body) ≡ 3 = omega (arith, length-take 3 body) in
-          rw e (record { start_bit = even; complete_bit = is_bit (header / 2) }, take 3 body, long, refl, sym (take-append-drop 3 body))
-    ]
+part_at-is header body h = grind (arith, cases_Bool, eqb, eqb-true, eqb-false, length, take, length-take, take-append-drop)
 
 pub part_at-body : (part : Part) (header : ℕ) (body : List ℕ) → BodyIs part header body → part_at header body ≡ part
 part_at-body (start offset complete octets) header body h =
@@ -61,25 +44,18 @@ part_at-body (start offset complete octets) header body h =
     let prefix : take 3 body ≡ h.1 = rw h.4 (take_at h.1 octets 3 h.2) in
     let back : drop 3 body ≡ octets = rw h.4 (drop_at h.1 octets 3 h.2) in
     rw (odd, flag, prefix, back, ← h.3) refl
-part_at-body (more complete octets) header body h =
-    let head = h.0 in
-    let odd : eqb (header % 2) 1 ≡ true = eq-eqb _ _ head.start_bit in
-    let flag : eqb (header / 2 % 2) 1 ≡ complete = bit_is (header / 2 % 2) complete head.complete_bit in
-    rw (odd, flag, h.1) refl
+part_at-body (more complete octets) header body h = grind (arith, eqb, eq-eqb, bit_is)
 
 pub body_long : (part : Part) (header : ℕ) (body : List ℕ) → BodyIs part header body → header % 2 ≡ 0 → 3 ≤ length body
-body_long (start offset complete octets) header body h e = rw (h.4) (omega (arith, length-append h.1 octets, h.2))
-body_long (more complete octets) header body h e = absurd (omega (arith, (h.0).start_bit))
+body_long part header body h e = grind (arith, length-append)
 
 -- ---- what is read is encoded so
 
 before_ok : (part : Part) (read : Result (List Part) PduFault) (parts : List Part) → before part read ≡ Ok parts → (others : List Part) × (read ≡ Ok others) × (part ∷ others ≡ parts)
-before_ok part (Ok others) parts e = (others, refl, cc)
-before_ok part (Err fault) parts e = absurd cc
+before_ok part read parts e = grind arith
 
 unless_ok : (fault : Option PduFault) (read : Result (List Part) PduFault) (parts : List Part) → unless fault read ≡ Ok parts → (fault ≡ None) × (read ≡ Ok parts)
-unless_ok None read parts e = (refl, e)
-unless_ok (Some fault) read parts e = absurd cc
+unless_ok fault read parts e = grind arith
 
 ok_same : (xs ys : List Part) → (let r : List Part → Result (List Part) PduFault = λ zs. Ok zs in r xs ≡ r ys) → xs ≡ ys
 ok_same xs ys e = cc
@@ -154,29 +130,20 @@ parts_from-layout place octets parts h =
 -- ---- the steps of the code
 
 result_err-before : (part : Part) (read : Result (List Part) PduFault) → result_err (before part read) ≡ result_err read
-result_err-before part (Ok parts) = refl
-result_err-before part (Err fault) = refl
+result_err-before part read = grind arith
 
 pub result_err-nothing : (place : ℕ) (octets : List ℕ) → length octets ≤ 0 → result_err (parts_from place zero octets) ≡ None
 unfolding parts_from
-result_err-nothing place [] h = refl
-result_err-nothing place (octet ∷ octets) h = absurd (omega arith)
+result_err-nothing place octets h = grind arith
 
 pub result_err-alone : (place : ℕ) (octets : List ℕ) → 0 < length octets → length octets < 2 → result_err (parts_from place zero octets) ≡ Some (SegmentShort place)
 unfolding parts_from
-result_err-alone place [] h k = absurd (omega arith)
-result_err-alone place (header ∷ []) h k = refl
-result_err-alone place (header ∷ count ∷ octets) h k = absurd (omega arith)
+result_err-alone place octets h k = grind arith
 
 pub result_err-fault : (place : ℕ) (octets : List ℕ) (fault : PduFault) → 2 ≤ length octets → fault_at place (get_or octets 0 0) (get_or octets 1 0) (length octets - 2) ≡ Some fault
     → result_err (parts_from place zero octets) ≡ Some fault
 unfolding parts_from
-result_err-fault place [] fault h e = absurd (omega arith)
-result_err-fault place (header ∷ []) fault h e = absurd (omega arith)
-result_err-fault place (header ∷ count ∷ octets) fault h e =
-    let left : length (header ∷ count ∷ octets) - 2 ≡ length octets = omega arith in
-    let there : fault_at place header count (length octets) ≡ Some fault = rw left at e in
-    rw there refl
+result_err-fault place octets fault h e = grind (arith, length, fault_at)
 
 pub passed : (place : ℕ) (octets : List ℕ) → 2 ≤ length octets → fault_at place (get_or octets 0 0) (get_or octets 1 0) (length octets - 2) ≡ None
     → IsPassed place octets (2 + get_or octets 1 0)
@@ -192,10 +159,7 @@ passed place (header ∷ count ∷ octets) h e =
     record {
       header = omega arith;
       within = omega (arith, fits.0);
-      same = rw behind (sym
-          (ap result_err (parts_from-whole place header count octets none)
-          ∙ result_err-before (part_at header (take count octets)) (parts_from (place + (count + 2)) zero (drop count octets))
-          ∙ ap (λ (p : ℕ). result_err (parts_from p zero (drop count octets))) there));
+      same = grind (arith, result_err, parts_from-whole, result_err-before, part_at, take, drop);
     }
 
 -- what stands at the front of segments that have no fault
@@ -207,8 +171,7 @@ pub record HasFirst (octets : List ℕ) (others : List ℕ) : Type 0 where
 
 pub parts_in-nothing : (octets : List ℕ) → length octets ≡ 0 → parts_in octets ≡ []
 unfolding parts_from
-parts_in-nothing [] h = refl
-parts_in-nothing (octet ∷ octets) h = absurd (omega arith)
+parts_in-nothing octets h = grind arith
 
 parts_in-ok : (octets : List ℕ) (parts : List Part) → parts_of octets ≡ Ok parts → parts_of octets ≡ Ok (parts_in octets)
 parts_in-ok octets parts e = rw e refl

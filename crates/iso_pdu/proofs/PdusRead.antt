@@ -1,8 +1,8 @@
 -- A PDU is read as the layout says, its fault is the one at the cut, and what is written is read.
-use Rattle.iso_pdu.proofs.Prelude.{◌≡◌, ℕ, zero, suc, ◌+◌, ◌*◌, ◌%◌, ◌<◌, ◌≤◌, ◌⊎◌, ◌&&◌, Bool, true, false, cond, eqb, ltb, List, [], ◌∷◌, ◌++◌, length, take, drop, Option, Some, None, Result, Ok, Err, refl, sym, ap, ◌∙◌, subst, inl, inr, arith, append_assoc, length-append, length-take, length-drop, take-append-drop, and_parts, cases_Bool, ltb-true, ltb-false, le-ltb, lt-ltb, eqb-true, eqb-false, eq-eqb, ne_eqb, Le, PduFault, Short, LengthDiffers, TooLong, SegmentShort, SegmentNoOffset, Part, start, more, Content, end, fragment, framed, control, bit, IsSegmentHeader, SegmentIs, SegmentsAre, PayloadIs, PduIs, llid, octets_of, HasAtMost, part_at, fault_at, before, unless, parts_of, framed_of, content_at, StandsShort, StandsNoOffset, AtCut, InFramed, FaultIs, offset_octets, segment, segments, payload_of, pdu}
+use Rattle.iso_pdu.proofs.Prelude.{◌≡◌, ℕ, zero, suc, ◌+◌, ◌*◌, ◌%◌, ◌<◌, ◌≤◌, ◌⊎◌, Bool, cond, eqb, ltb, List, [], ◌∷◌, ◌++◌, length, take, drop, Option, Some, None, Result, Ok, Err, refl, sym, ap, ◌∙◌, subst, inl, inr, arith, append_assoc, length-append, length-take, length-drop, take-append-drop, and_parts, cases_Bool, ltb-true, ltb-false, le-ltb, lt-ltb, eqb-true, eqb-false, eq-eqb, ne_eqb, Le, PduFault, Short, LengthDiffers, TooLong, SegmentShort, SegmentNoOffset, Part, start, more, Content, end, fragment, framed, control, bit, IsSegmentHeader, SegmentIs, SegmentsAre, PayloadIs, PduIs, llid, octets_of, HasAtMost, part_at, fault_at, before, unless, parts_of, framed_of, content_at, StandsShort, StandsNoOffset, AtCut, InFramed, FaultIs, offset_octets, segment, segments, payload_of, pdu}
 use Rattle.std.specs.List.{AllByRecursion}
 use Rattle.iso_pdu.specs.Reading.{parts_from, read_of}
-use Rattle.iso_pdu.proofs.PartsRead.{fault_at-none, parts_from-whole, part_at-is, parts_from-encoded, parts_from-layout, parts_from-segments, befores, befores-err}
+use Rattle.iso_pdu.proofs.PartsRead.{fault_at-none, parts_from-whole, part_at-is, parts_from-encoded, parts_from-layout, parts_from-segments, befores-err}
 
 -- ---- what is read is of the layout, and the other way round
 
@@ -19,82 +19,50 @@ bad_same : (x y : PduFault) → bad x ≡ bad y → x ≡ y
 bad_same x y e = cc
 
 framed_of-ok : (read : Result (List Part) PduFault) (content : Content) → framed_of read ≡ Ok content → (parts : List Part) × (read ≡ Ok parts) × (framed parts ≡ content)
-framed_of-ok (Ok parts) content e = (parts, refl, good_same (framed parts) content e)
-framed_of-ok (Err fault) content e = absurd cc
-
-framed_of-err : (read : Result (List Part) PduFault) (fault : PduFault) → framed_of read ≡ Err fault → read ≡ Err fault
-framed_of-err (Ok parts) fault e = absurd cc
-framed_of-err (Err fault') fault e = ap (λ (f : PduFault). Err f) (bad_same fault' fault e)
-
-content_at-payload : (content : Content) (payload : List ℕ) → PayloadIs content payload → content_at (llid content) payload ≡ Ok content
-content_at-payload (end octets) payload h = rw h refl
-content_at-payload (fragment octets) payload h = rw h refl
-content_at-payload (framed parts) payload h = rw (parts_from-layout 0 payload parts h) refl
-content_at-payload (control octets) payload h = rw h refl
+framed_of-ok read content e = grind (arith, good_same, framed)
 
 -- the kind of PDU that has a header's LLID, and its payload
 abbrev Holds : ℕ → List ℕ → Content → Type 0
 Holds kind payload content = (kind ≡ llid content) × PayloadIs content payload
 
-content_at-ok : (kind : ℕ) (payload : List ℕ) (content : Content) → kind < 4 → content_at kind payload ≡ Ok content → Holds kind payload content
-content_at-ok zero payload content h e = subst (λ (x : Content). Holds 0 payload x) (good_same (end payload) content e) (refl, refl)
-content_at-ok (suc zero) payload content h e = subst (λ (x : Content). Holds 1 payload x) (good_same (fragment payload) content e) (refl, refl)
-content_at-ok (suc (suc zero)) payload content h e =
-    let read = framed_of-ok (parts_of payload) content e in
-    subst (λ (x : Content). Holds 2 payload x) read.2 (refl, parts_from-encoded 0 payload read.0 read.1)
-content_at-ok (suc (suc (suc zero))) payload content h e = subst (λ (x : Content). Holds 3 payload x) (good_same (control payload) content e) (refl, refl)
-content_at-ok (suc (suc (suc (suc kind)))) payload content h e = absurd (omega arith)
-
 content_at-err : (kind : ℕ) (payload : List ℕ) (fault : PduFault) → content_at kind payload ≡ Err fault → (kind ≡ 2) × (parts_of payload ≡ Err fault)
-content_at-err zero payload fault e = absurd cc
-content_at-err (suc zero) payload fault e = absurd cc
-content_at-err (suc (suc zero)) payload fault e = (refl, framed_of-err (parts_of payload) fault e)
-content_at-err (suc (suc (suc kind))) payload fault e = absurd cc
+content_at-err kind payload fault e = grind (arith, bad_same, parts_of)
 
 -- octets with a Length that is right are read under their LLID
 pub read_of-whole : (max_pdu header : ℕ) (payload : List ℕ) → length payload ≤ max_pdu → read_of max_pdu (header ∷ length payload ∷ payload) ≡ content_at (header % 4) payload
 unfolding read_of
-read_of-whole max_pdu header payload h =
-    let same : eqb (length payload) (length payload) ≡ true = eq-eqb _ _ refl in
-    let within : ltb max_pdu (length payload) ≡ false = le-ltb _ _ h in
-    rw (same, within) refl
+read_of-whole max_pdu header payload h = grind (arith, eqb, length, eq-eqb, ltb, le-ltb)
 
 pub read_of-layout : (max_pdu : ℕ) (content : Content) (octets : List ℕ) → PduIs content octets × (length octets ≤ max_pdu + 2) → read_of max_pdu octets ≡ Ok content
 read_of-layout max_pdu content octets h =
-    let is = h.0 in
-    let payload = is.1 in
-    let within : length payload ≤ max_pdu = omega (arith, ap length is.4, h.1) in
-    rw is.4 (read_of-whole max_pdu is.0 payload within ∙ ap (λ (kind : ℕ). content_at kind payload) is.2 ∙ content_at-payload content payload is.3)
+    grind (arith, length, read_of-whole, content_at, end, fragment, framed, parts_from-layout, control)
 
 pub read_of-encoded : (max_pdu : ℕ) (content : Content) (octets : List ℕ) → read_of max_pdu octets ≡ Ok content → PduIs content octets × (length octets ≤ max_pdu + 2)
 unfolding read_of
-read_of-encoded max_pdu content [] e = absurd cc
-read_of-encoded max_pdu content (header ∷ []) e = absurd cc
-read_of-encoded max_pdu content (header ∷ count ∷ payload) e =
-    elim (cases_Bool (eqb count (length payload))) [
-      | inr differs ↦ let e' : bad LengthDiffers ≡ good content = rw differs at e in absurd cc
-      | inl same ↦
-          let e' : cond (ltb max_pdu count) (bad TooLong) (content_at (header % 4) payload) ≡ good content = rw same at e in
-          let count_is : count ≡ length payload = eqb-true _ _ same in
-          elim (cases_Bool (ltb max_pdu count)) [
-            | inl above ↦ let e'' : bad TooLong ≡ good content = rw above at e' in absurd cc
-            | inr within ↦
-                let e'' : content_at (header % 4) payload ≡ good content = rw within at e' in
-                let fits : count ≤ max_pdu = ltb-false _ _ within in
-                let holds : Holds (header % 4) payload content = content_at-ok (header % 4) payload content (omega arith) e'' in
-                ((header, payload, holds.0, holds.1, ap (λ (k : ℕ). header ∷ k ∷ payload) count_is), omega arith)
-          ]
-    ]
+read_of-encoded max_pdu content octets e =
+    grind (
+      arith,
+      cases_Bool,
+      eqb,
+      length,
+      cond,
+      ltb,
+      content_at,
+      eqb-true,
+      ltb-false,
+      good_same,
+      end,
+      fragment,
+      framed_of-ok,
+      parts_of,
+      parts_from-encoded,
+      control,
+    )
 
 -- ---- how long parts are
 
 segment_long : (part : Part) (first : List ℕ) → SegmentIs part first → length (octets_of part) ≤ length first
-segment_long (start offset complete octets) first h =
-    let body = h.2 in
-    omega (arith, ap length h.3, ap length body.4, length-append body.1 octets)
-segment_long (more complete octets) first h =
-    let body = h.2 in
-    omega (arith, ap length h.3, ap length body.1)
+segment_long part first h = grind (arith, length, length-append)
 
 segments_long : (most : ℕ) (parts : List Part) (payload : List ℕ) → SegmentsAre parts payload → length payload ≤ most → AllByRecursion (λ part. length (octets_of part) ≤ most) parts
 segments_long most [] payload h within = tt
@@ -103,16 +71,8 @@ segments_long most (part ∷ parts) payload h within =
     let first : length (octets_of part) ≤ length h.0 = segment_long part h.0 h.2 in
     (omega arith, segments_long most parts h.1 h.3 (omega arith))
 
-payload_long : (most : ℕ) (content : Content) (payload : List ℕ) → PayloadIs content payload → length payload ≤ most → HasAtMost most content
-payload_long most (end octets) payload h within = omega (arith, ap length h)
-payload_long most (fragment octets) payload h within = omega (arith, ap length h)
-payload_long most (framed parts) payload h within = segments_long most parts payload h within
-payload_long most (control octets) payload h within = omega (arith, ap length h)
-
 pub pdu_long : (max_pdu : ℕ) (content : Content) (octets : List ℕ) → PduIs content octets × (length octets ≤ max_pdu + 2) → HasAtMost max_pdu content
-pdu_long max_pdu content octets h =
-    let is = h.0 in
-    payload_long max_pdu content is.1 is.3 (omega (arith, ap length is.4, h.1))
+pdu_long max_pdu content octets h = grind (arith, end, length, fragment, framed, segments_long, control)
 
 -- ---- faults
 
@@ -154,45 +114,23 @@ bad_parts_same : (x y : PduFault) → bad_parts x ≡ bad_parts y → x ≡ y
 bad_parts_same x y e = cc
 
 before_err : (part : Part) (read : Result (List Part) PduFault) (fault : PduFault) → before part read ≡ Err fault → read ≡ Err fault
-before_err part (Ok parts) fault e = absurd cc
-before_err part (Err fault') fault e = e
+before_err part read fault e = grind arith
 
 -- the first segment's fault, or none and a fault of what follows
 unless_err : (first : Option PduFault) (read : Result (List Part) PduFault) (fault : PduFault) → unless first read ≡ Err fault → ((first ≡ None) × (read ≡ Err fault)) ⊎ (first ≡ Some fault)
-unless_err None read fault e = inl (refl, e)
-unless_err (Some fault') read fault e = inr (ap (λ (f : PduFault). Some f) (bad_parts_same fault' fault e))
+unless_err first read fault e = grind (arith, bad_parts_same)
 
 some_same : (x y : PduFault) → (let o : PduFault → Option PduFault = λ f. Some f in o x ≡ o y) → x ≡ y
 some_same x y e = cc
 
 fault_here : (from header count : ℕ) (octets : List ℕ) (fault : PduFault) → fault_at from header count (length octets) ≡ Some fault → FaultFrom from fault (header ∷ count ∷ octets)
 fault_here from header count octets fault e =
-    elim (cases_Bool (ltb (length octets) count)) [
-      | inl short ↦
-          let e' : Some (SegmentShort from) ≡ Some fault = rw short at e in
-          let past : length octets < count = ltb-true _ _ short in
-          subst (λ (f : PduFault). FaultFrom from f (header ∷ count ∷ octets)) (some_same (SegmentShort from) fault e') (here StandsShort from (header ∷ count ∷ octets) past)
-      | inr long ↦
-          let within : count ≤ length octets = ltb-false _ _ long in
-          let e' : cond (eqb (header % 2) 0 && ltb count 3) (Some (SegmentNoOffset from)) None ≡ Some fault = rw long at e in
-          elim (cases_Bool (eqb (header % 2) 0 && ltb count 3)) [
-            | inl lacks ↦
-                let e'' : Some (SegmentNoOffset from) ≡ Some fault = rw lacks at e' in
-                let parts = and_parts (eqb (header % 2) 0) (ltb count 3) lacks in
-                subst (λ (f : PduFault). FaultFrom from f (header ∷ count ∷ octets)) (some_same (SegmentNoOffset from) fault e'')
-                (here StandsNoOffset from (header ∷ count ∷ octets) (within, eqb-true _ _ parts.0, ltb-true _ _ parts.1))
-            | inr has ↦
-                let none : Option PduFault = None in
-                let e'' : none ≡ Some fault = rw has at e' in
-                absurd cc
-          ]
-    ]
+    grind (arith, cases_Bool, ltb, length, ltb-true, some_same, here, ltb-false, cond, eqb, and_parts, eqb-true)
 
 fault_within : (n from : ℕ) (octets : List ℕ) (fault : PduFault) → length octets ≤ n → parts_from from zero octets ≡ Err fault → FaultFrom from fault octets
 unfolding parts_from
 fault_within n from [] fault h e = absurd cc
-fault_within n from (header ∷ []) fault h e =
-    subst (λ (f : PduFault). FaultFrom from f (header ∷ [])) (bad_parts_same (SegmentShort from) fault e) (here StandsShort from (header ∷ []) tt)
+fault_within n from (header ∷ []) fault h e = grind (arith, bad_parts_same, here)
 fault_within zero from (header ∷ count ∷ octets) fault h e = absurd (omega arith)
 fault_within (suc n) from (header ∷ count ∷ octets) fault h e =
     elim (unless_err (fault_at from header count (length octets)) (before (part_at header (take count octets)) (parts_from (from + 1) (suc count) (count ∷ octets))) fault e) [
@@ -212,16 +150,9 @@ fault_within (suc n) from (header ∷ count ∷ octets) fault h e =
           (fault_within n (from + length (header ∷ count ∷ body)) (drop count octets) fault (omega (arith, length-drop count octets)) behind)
     ]
 
-cut_from_start : (P : List ℕ → Type 0) (place : ℕ) (payload : List ℕ) → CutFrom P 0 place payload → AtCut P place payload
-cut_from_start P place payload cut = (cut.0, cut.1, cut.2, cut.3, omega (arith, cut.4), cut.5, cut.6)
-
 framed_fault : (max_pdu header : ℕ) (payload : List ℕ) (fault : PduFault) → length payload ≤ max_pdu → header % 4 ≡ 2 → FaultFrom 0 fault payload
     → FaultIs max_pdu fault (header ∷ length payload ∷ payload)
-framed_fault max_pdu header payload Short within kind h = absurd h
-framed_fault max_pdu header payload LengthDiffers within kind h = absurd h
-framed_fault max_pdu header payload TooLong within kind h = absurd h
-framed_fault max_pdu header payload (SegmentShort place) within kind h = (header, payload, kind, within, cut_from_start StandsShort place payload h, refl)
-framed_fault max_pdu header payload (SegmentNoOffset place) within kind h = (header, payload, kind, within, cut_from_start StandsNoOffset place payload h, refl)
+framed_fault max_pdu header payload fault within kind h = grind arith
 
 pub read_of-fault : (max_pdu : ℕ) (fault : PduFault) (octets : List ℕ) → read_of max_pdu octets ≡ Err fault → FaultIs max_pdu fault octets
 unfolding read_of
@@ -229,18 +160,12 @@ read_of-fault max_pdu fault [] e = subst (λ (f : PduFault). FaultIs max_pdu f [
 read_of-fault max_pdu fault (header ∷ []) e = subst (λ (f : PduFault). FaultIs max_pdu f (header ∷ [])) (bad_same Short fault e) (omega arith)
 read_of-fault max_pdu fault (header ∷ count ∷ payload) e =
     elim (cases_Bool (eqb count (length payload))) [
-      | inr differs ↦
-          let e' : bad LengthDiffers ≡ bad fault = rw differs at e in
-          subst (λ (f : PduFault). FaultIs max_pdu f (header ∷ count ∷ payload)) (bad_same LengthDiffers fault e') (header, count, payload, eqb-false _ _ differs, refl)
+      | inr differs ↦ grind (arith, bad_same, eqb-false)
       | inl same ↦
           let e' : cond (ltb max_pdu count) (bad TooLong) (content_at (header % 4) payload) ≡ bad fault = rw same at e in
           let count_is : count ≡ length payload = eqb-true _ _ same in
           elim (cases_Bool (ltb max_pdu count)) [
-            | inl above ↦
-                let e'' : bad TooLong ≡ bad fault = rw above at e' in
-                let past : max_pdu < count = ltb-true _ _ above in
-                subst (λ (f : PduFault). FaultIs max_pdu f (header ∷ count ∷ payload)) (bad_same TooLong fault e'')
-                (header, payload, omega arith, ap (λ (k : ℕ). header ∷ k ∷ payload) count_is)
+            | inl above ↦ grind (arith, ltb-true, bad_same)
             | inr within ↦
                 let e'' : content_at (header % 4) payload ≡ bad fault = rw within at e' in
                 let fits : count ≤ max_pdu = ltb-false _ _ within in
@@ -252,21 +177,11 @@ read_of-fault max_pdu fault (header ∷ count ∷ payload) e =
 
 stands_short : (place : ℕ) (rest : List ℕ) → StandsShort rest → parts_from place zero rest ≡ Err (SegmentShort place)
 unfolding parts_from
-stands_short place [] h = absurd h
-stands_short place (header ∷ []) h = refl
-stands_short place (header ∷ count ∷ octets) h =
-    let short : ltb (length octets) count ≡ true = lt-ltb _ _ h in
-    rw short refl
+stands_short place rest h = grind (arith, ltb, length, lt-ltb)
 
 stands_no_offset : (place : ℕ) (rest : List ℕ) → StandsNoOffset rest → parts_from place zero rest ≡ Err (SegmentNoOffset place)
 unfolding parts_from
-stands_no_offset place [] h = absurd h
-stands_no_offset place (header ∷ []) h = absurd h
-stands_no_offset place (header ∷ count ∷ octets) h =
-    let long : ltb (length octets) count ≡ false = le-ltb _ _ h.0 in
-    let even : eqb (header % 2) 0 ≡ true = eq-eqb _ _ h.1 in
-    let lacks : ltb count 3 ≡ true = lt-ltb _ _ h.2 in
-    rw (long, even, lacks) refl
+stands_no_offset place rest h = grind (arith, ltb, length, le-ltb, eqb, eq-eqb, lt-ltb)
 
 at_cut_read : (P : List ℕ → Type 0) (fault : ℕ → PduFault) (place : ℕ) (payload : List ℕ) → ((at : ℕ) (rest : List ℕ) → P rest → parts_from at zero rest ≡ Err (fault at))
     → AtCut P place payload → parts_of payload ≡ Err (fault place)
@@ -274,30 +189,19 @@ at_cut_read P fault place payload stands cut =
     let rest_read : parts_from (0 + length cut.1) zero cut.2 ≡ Err (fault (0 + length cut.1)) = stands (0 + length cut.1) cut.2 cut.5 in
     let there : 0 + length cut.1 ≡ place = omega (arith, cut.4) in
     rw cut.6
-    (parts_from-segments cut.0 0 cut.1 cut.2 cut.3
-    ∙ ap (befores cut.0) rest_read
-    ∙ befores-err cut.0 (fault (0 + length cut.1))
-    ∙ ap (λ (p : ℕ). bad_parts (fault p)) there)
+    (grind (arith, parts_from-segments cut.0 0 cut.1 cut.2 cut.3, befores-err cut.0 (fault (0 + length cut.1))))
 
 in_framed_read : (P : List ℕ → Type 0) (fault : PduFault) (max_pdu : ℕ) (octets : List ℕ) → ((payload : List ℕ) → P payload → parts_of payload ≡ Err fault) → InFramed max_pdu P octets
     → read_of max_pdu octets ≡ Err fault
-in_framed_read P fault max_pdu octets read is =
-    let payload = is.1 in
-    let faulty : parts_of payload ≡ Err fault = read payload is.4 in
-    rw is.5 (read_of-whole max_pdu is.0 payload is.3 ∙ ap (λ (kind : ℕ). content_at kind payload) is.2 ∙ ap framed_of faulty)
+in_framed_read P fault max_pdu octets read is = grind (arith, parts_of, read_of-whole, content_at, framed_of)
 
 pub fault-read_of : (max_pdu : ℕ) (fault : PduFault) (octets : List ℕ) → FaultIs max_pdu fault octets → read_of max_pdu octets ≡ Err fault
 unfolding read_of
 fault-read_of max_pdu Short [] h = refl
 fault-read_of max_pdu Short (header ∷ []) h = refl
 fault-read_of max_pdu Short (header ∷ count ∷ payload) h = absurd (omega arith)
-fault-read_of max_pdu LengthDiffers octets h =
-    let differs : eqb h.1 (length h.2) ≡ false = ne_eqb _ _ h.3 in
-    rw (h.4, differs) refl
-fault-read_of max_pdu TooLong octets h =
-    let same : eqb (length h.1) (length h.1) ≡ true = eq-eqb _ _ refl in
-    let above : ltb max_pdu (length h.1) ≡ true = lt-ltb _ _ h.2 in
-    rw (h.3, same, above) refl
+fault-read_of max_pdu LengthDiffers octets h = grind (arith, eqb, length, ne_eqb)
+fault-read_of max_pdu TooLong octets h = grind (arith, eqb, length, eq-eqb, ltb, lt-ltb)
 fault-read_of max_pdu (SegmentShort place) octets h =
     in_framed_read (AtCut StandsShort place) (SegmentShort place) max_pdu octets (λ payload cut. at_cut_read StandsShort SegmentShort place payload stands_short cut) h
 fault-read_of max_pdu (SegmentNoOffset place) octets h =
@@ -306,8 +210,7 @@ fault-read_of max_pdu (SegmentNoOffset place) octets h =
 -- ---- what is written
 
 header_flag : (sc : ℕ) (complete : Bool) → sc < 2 → IsSegmentHeader sc complete (sc + 2 * bit complete)
-header_flag sc true h = record { start_bit = omega arith; complete_bit = omega arith }
-header_flag sc false h = record { start_bit = omega arith; complete_bit = omega arith }
+header_flag sc complete h = grind arith
 
 offset_encoded : (offset : ℕ) → Le offset (offset_octets offset)
 offset_encoded offset = omega arith
@@ -317,27 +220,14 @@ segment-is (start offset complete octets) =
     let three : 3 + length octets ≡ length (offset_octets offset ++ octets) = omega arith in
     let header : IsSegmentHeader 0 complete (2 * bit complete) = subst (λ (h : ℕ). IsSegmentHeader 0 complete h) (omega arith) (header_flag 0 complete (omega arith)) in
     (2 * bit complete, offset_octets offset ++ octets, (header, offset_octets offset, refl, offset_encoded offset, refl), ap (λ (k : ℕ). 2 * bit complete ∷ k ∷ (offset_octets offset ++ octets)) three)
-segment-is (more complete octets) =
-    (1 + 2 * bit complete, octets, (header_flag 1 complete (omega arith), refl), refl)
+segment-is (more complete octets) = grind (arith, bit, header_flag)
 
 pub segments-are : (parts : List Part) → SegmentsAre parts (segments parts)
 segments-are [] = refl
 segments-are (part ∷ parts) = (segment part, segments parts, segment-is part, segments-are parts, refl)
 
-payload-is : (content : Content) → PayloadIs content (payload_of content)
-payload-is (end octets) = refl
-payload-is (fragment octets) = refl
-payload-is (framed parts) = segments-are parts
-payload-is (control octets) = refl
-
-llid_mod : (content : Content) → llid content % 4 ≡ llid content
-llid_mod (end octets) = refl
-llid_mod (fragment octets) = refl
-llid_mod (framed parts) = refl
-llid_mod (control octets) = refl
-
 pub pdu-is : (content : Content) → PduIs content (pdu content)
-pdu-is content = (llid content, payload_of content, llid_mod content, payload-is content, refl)
+pdu-is content = grind (arith, llid, payload_of, end, fragment, framed, control, segments-are)
 
 pub read_of-pdu : (max_pdu : ℕ) (content : Content) → length (payload_of content) ≤ max_pdu → read_of max_pdu (pdu content) ≡ Ok content
 read_of-pdu max_pdu content h = read_of-layout max_pdu content (pdu content) (pdu-is content, omega arith)

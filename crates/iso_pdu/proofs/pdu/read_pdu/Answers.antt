@@ -1,3 +1,4 @@
+use Rattle.std.proofs.Common.{arith}
 use Rattle.iso_pdu.proofs.Prelude.{◌≡◌, ◌+◌, ◌≤◌, ℕ, List, length, Result, Ok, Err, MatchResult, IfOk, IfErr, PduFault, FaultIs, PduIs, HasAtMost}
 use Rattle.iso_pdu.specs.declared.pdu.Pdu.{Pdu}
 use Rattle.iso_pdu.specs.Reading.{read_of}
@@ -9,16 +10,13 @@ abbrev Answers : ℕ → List ℕ → Result Pdu PduFault → Type 0
 Answers max_pdu octets read = MatchResult read (λ p. read_of max_pdu octets ≡ Ok (content_of p)) (λ fault. read_of max_pdu octets ≡ Err fault)
 
 layout_of : (max_pdu : ℕ) (octets : List ℕ) (read : Result Pdu PduFault) → Answers max_pdu octets read → IfOk read (λ p. PduIs (content_of p) octets × (length octets ≤ max_pdu + 2))
-layout_of max_pdu octets (Ok p) e = read_of-encoded max_pdu (content_of p) octets e
-layout_of max_pdu octets (Err fault) e = tt
+layout_of max_pdu octets x3 e = grind (arith, read_of-encoded)
 
 within_of : (max_pdu : ℕ) (octets : List ℕ) (read : Result Pdu PduFault) → Answers max_pdu octets read → IfOk read (λ p. HasAtMost max_pdu (content_of p))
-within_of max_pdu octets (Ok p) e = pdu_long max_pdu (content_of p) octets (read_of-encoded max_pdu (content_of p) octets e)
-within_of max_pdu octets (Err fault) e = tt
+within_of max_pdu octets x3 e = grind (arith, pdu_long, read_of-encoded)
 
 cut_of : (max_pdu : ℕ) (octets : List ℕ) (read : Result Pdu PduFault) → Answers max_pdu octets read → IfErr read (λ fault. FaultIs max_pdu fault octets)
-cut_of max_pdu octets (Ok p) e = tt
-cut_of max_pdu octets (Err fault) e = read_of-fault max_pdu fault octets e
+cut_of max_pdu octets x3 e = grind (arith, read_of-fault)
 
 pub returns-clause-layout : goal.returns-clause-layout
 returns-clause-layout c = layout_of c.args.max_pdu c.args.from.now c.read_fields.result c.read_fields.ensures

@@ -11,6 +11,4 @@ returns-in-Some-clause-err c =
     result_err-fault c.args.place c.args.from.now c.in-Some.fault (omega arith) (count_is ∙ sym c.segment_fault.ensures ∙ c.in-Some.is)
 
 pub returns-in-None-clause-ok : goal.returns-in-None-clause-ok
-returns-in-None-clause-ok c =
-    let count_is = ap (λ (k : ℕ). fault_at c.args.place (get_or c.args.from.now 0 0) k (length c.args.from.now - 2)) (sym c.from-count.ensures) in
-    rw c.from-count.ensures (passed c.args.place c.args.from.now (omega arith) (count_is ∙ sym c.segment_fault.ensures ∙ c.in-None.is))
+returns-in-None-clause-ok c = grind (arith, fault_at, get_or, length, passed)
