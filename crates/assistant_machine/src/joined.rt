@@ -21,10 +21,11 @@ use crate::apart::AssistApart;
 use crate::fault::{NoticeFault, NoticeTaken};
 use bass_operations::{AddSource, ModifySource, Operation, encode_operation};
 use bcast_base::{Memory, Octets};
-use receive_state::{ReceiveState, StateFault, decode_state};
+use receive_state::{GroupStates, ReceiveState, StateFault, decode_state_over};
 use std::alloc::Global;
 use std::collections::VecDeque;
 use std::marker::Model;
+use std::mem::replace;
 
 /// An assistant on a link to a server (Broadcast Audio Scan Service 1.0, section 3): the writes that wait to be sent, and
 /// of each slot what it was told last and whether a read of it waits.
@@ -35,6 +36,8 @@ pub struct AssistJoined {
     writes: VecDeque<Octets>,
     views: Vec<Option<ReceiveState>>,
     reads: Vec<bool>,
+    /// The memory of an earlier view, for the next.
+    spare: GroupStates,
 }
 
 impl Model for AssistJoined {
@@ -66,6 +69,7 @@ impl AssistJoined {
             writes: VecDeque::new(alloc),
             views,
             reads,
+            spare: GroupStates::new(alloc),
         })
     }
 
@@ -330,20 +334,26 @@ impl AssistJoined {
         ensures step { result ≢ Err NoMemory → self.new ≡ with_reading place (reading_of value.now) self.old }
         ensures err { OnErr result (self.new ≡ self.old) }
     {
-        let view = view_in(self.alloc, value)?;
-        self.views[place] = view;
+        let view = view_in(self.alloc, &mut self.spare, value)?;
+        if let Some(earlier) = replace(&mut self.views[place], view) {
+            self.spare = earlier.groups;
+        }
         Ok(())
     }
 }
 
-/// What a slot has by its octets: a state, or no source.
-fn view_in(alloc: Global, value: &[u8]) -> Result<Option<ReceiveState>, NoticeFault>
+/// What a slot has by its octets: a state, or no source. It is read into the memory of an earlier one, which is given away.
+fn view_in(
+    alloc: Global,
+    spare: &mut GroupStates,
+    value: &[u8],
+) -> Result<Option<ReceiveState>, NoticeFault>
     ensures ok { IfOk result (λ view. state_of value.now ≡ Ok view) }
     ensures encoded { IfOk result IsEncodedView }
     ensures cause { IfErr result (λ fault. IsCause fault (by_reading (state_of value.now))) }
     ensures memory { result ≡ Err NoMemory → IsFault state_faults.Memory value.now }
 {
-    match decode_state(alloc, value) {
+    match decode_state_over(alloc, spare, value) {
         Ok(view) => Ok(view),
         Err(StateFault::Memory) => Err(NoticeFault::Memory),
         Err(fault) => Err(NoticeFault::BadNotice(fault)),

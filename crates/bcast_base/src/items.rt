@@ -1,9 +1,10 @@
-ghost use Rattle.std.specs.Prelude.{◌≡◌, ◌<◌, ◌++◌, ◌∷◌, [], length, slice_get, Some, OnOk, OnErr};
+ghost use Rattle.std.specs.Prelude.{◌≡◌, ◌<◌, ◌++◌, ◌∷◌, [], length, slice_get, slice_set, take, Some, OnOk, OnErr};
 
 use crate::memory::Memory;
 use crate::octets::Octets;
 use std::alloc::Global;
 use std::marker::Model;
+use std::mem::replace;
 
 /// A list that keeps the allocator that it was made with. Places count from 0.
 #[derive(Drop)]
@@ -35,6 +36,22 @@ impl<T: Drop> Items<T> {
         ensures err { OnErr result (self.new ≡ self.old) }
     {
         Ok(self.items.push(item)?)
+    }
+
+    /// Puts an item in the place of the one at place `i`, from 0, which is the answer. It takes no memory.
+    pub fn replace(&mut self, i: usize, item: T) -> T
+        requires { i < length self.old }
+        ensures was { slice_get self.old i ≡ Some result }
+        ensures is { self.new ≡ slice_set self.old i item }
+    {
+        replace(&mut self.items[i], item)
+    }
+
+    /// Keeps the first `count` items, or all where there are fewer. It takes no memory.
+    pub fn truncate(&mut self, count: usize)
+        ensures { self.new ≡ take count self.old }
+    {
+        self.items.truncate(count);
     }
 
     /// How many items there are.

@@ -1,5 +1,5 @@
 //! The subgroups of a receive state, looked through where they lie before any memory is taken.
-ghost use Rattle.std.specs.Prelude.{◌≡◌, ◌<◌, ◌≤◌, length, is_some, true, IfOk, OnErr, Some};
+ghost use Rattle.std.specs.Prelude.{◌≡◌, ◌<◌, ◌≤◌, ◌+◌, ◌∷◌, ◌++◌, [], length, max, take, is_some, true, IfOk, OnOk, OnErr, Some};
 ghost use Rattle.bcast_base.specs.Subgroups.{subgroups_in};
 ghost use Rattle.receive_state.specs.Reading.{end_in, group_end_in, groups_of};
 ghost use Rattle.bcast_base.specs.Tries.{ReadsAs};
@@ -8,6 +8,7 @@ use crate::fields::{ShortAt, octet_of, octets_of};
 use crate::state::{GroupState, GroupStates};
 use bcast_base::{Memory, Octets, subgroup_at};
 use std::alloc::Global;
+use std::mem::replace;
 
 // The octets behind so many subgroups at the front of `octets`, the last octets of `whole`, or the place of the field that
 // passes the end.
@@ -35,24 +36,59 @@ fn group_end<'a>(whole: &[u8], octets: &'a [u8]) -> Result<&'a [u8], ShortAt>
     Ok(rest)
 }
 
-// What is told of so many subgroups.
-pub(crate) fn read_groups(alloc: Global, count: u8, octets: &[u8]) -> Result<GroupStates, Memory>
+// What is told of so many subgroups, in the memory of earlier ones, which are given away.
+pub(crate) fn read_groups(
+    alloc: Global,
+    spare: &mut GroupStates,
+    count: u8,
+    octets: &[u8],
+) -> Result<GroupStates, Memory>
     requires { is_some (subgroups_in count octets.now) ≡ true }
     ensures ok { IfOk result (λ groups. groups_of count octets.now ≡ Some groups) }
     ensures err { OnErr result (0 < count) }
 {
-    let mut groups = GroupStates::new(alloc);
+    let most = usize::from(count);
+    let mut groups = replace(spare, GroupStates::new(alloc));
+    groups.truncate(most);
     let mut rest = octets;
-    'groups: for _ in 0..count {
+    'groups: for place in 0..most {
         let Some((group, after)) = subgroup_at(rest) else {
             unreachable!()
         };
-        let metadata = Octets::copy(alloc, group.metadata)?;
-        groups.push(GroupState {
-            bis_sync_state: group.bits,
-            metadata,
-        })?;
+        put_group(alloc, &mut groups, place, group.bits, group.metadata)?;
         rest = after;
     }
     Ok(groups)
+}
+
+// Puts what is told of a subgroup at a place: in the memory of what stands there, or at the end.
+fn put_group(
+    alloc: Global,
+    groups: &mut GroupStates,
+    place: usize,
+    bits: u32,
+    metadata: &[u8],
+) -> Result<(), Memory>
+    requires { place ≤ length groups.old }
+    ensures put { OnOk result (take (place + 1) groups.new
+        ≡ take place groups.old ++ record { bis_sync_state = bits; metadata = metadata.now } ∷ []) }
+    ensures count { OnOk result (length groups.new ≡ max (length groups.old) (place + 1)) }
+{
+    if place == groups.count() {
+        let metadata = Octets::copy(alloc, metadata)?;
+        return groups.push(GroupState {
+            bis_sync_state: bits,
+            metadata,
+        });
+    }
+    let empty = GroupState {
+        bis_sync_state: bits,
+        metadata: Octets::new(alloc),
+    };
+    let mut group = groups.replace(place, empty);
+    group.bis_sync_state = bits;
+    group.metadata.clear();
+    group.metadata.append(metadata)?;
+    groups.replace(place, group);
+    Ok(())
 }

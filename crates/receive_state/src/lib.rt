@@ -11,6 +11,6 @@ mod writing;
 
 pub use fault::StateFault;
 pub use laws::{fault_is_cause, fits_is_encoded, read_is_state};
-pub use reading::decode_state;
+pub use reading::{decode_state, decode_state_over};
 pub use state::{Encryption, GroupState, GroupStates, ReceiveState};
 pub use writing::{begin_state, encode_state};

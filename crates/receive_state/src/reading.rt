@@ -10,7 +10,7 @@ ghost use Rattle.receive_state.specs.declared.state.ReceiveState.{ReceiveState};
 use crate::fault::StateFault;
 use crate::fields::{ShortAt, octet_of, octets_of};
 use crate::groups::{groups_end, read_groups};
-use crate::state::{Encryption, ReceiveState};
+use crate::state::{Encryption, GroupStates, ReceiveState};
 use bcast_base::{Memory, place_of, reserved_subgroup};
 use std::alloc::Global;
 
@@ -50,11 +50,30 @@ pub fn decode_state(alloc: Global, from: &[u8]) -> Result<Option<ReceiveState>, 
     ensures only { (state : Option ReceiveState) → StateIs state from.now → Answers told result (Ok state) }
     ensures fault { IfErr result (λ fault. IsFault fault from.now) }
 {
-    read_value(alloc, from)
+    let mut spare = GroupStates::new(alloc);
+    read_value(alloc, &mut spare, from)
+}
+
+/// Reads a receive state as `decode_state` does. Its subgroups are in the memory of earlier ones, which are given away.
+pub fn decode_state_over(
+    alloc: Global,
+    spare: &mut GroupStates,
+    from: &[u8],
+) -> Result<Option<ReceiveState>, StateFault>
+    ensures exact { Answers told result (state_of from.now) }
+    ensures layout { IfOk result (λ state. StateIs state from.now) }
+    ensures only { (state : Option ReceiveState) → StateIs state from.now → Answers told result (Ok state) }
+    ensures fault { IfErr result (λ fault. IsFault fault from.now) }
+{
+    read_value(alloc, spare, from)
 }
 
 // The empty value, or a state.
-fn read_value(alloc: Global, from: &[u8]) -> Result<Option<ReceiveState>, StateFault>
+fn read_value(
+    alloc: Global,
+    spare: &mut GroupStates,
+    from: &[u8],
+) -> Result<Option<ReceiveState>, StateFault>
     ensures exact { Answers told result (state_of from.now) }
     ensures memory { result ≡ Err NoMemory
         → (state : ReceiveState) × (state_of from.now ≡ Ok (Some state)) × (0 < length state.groups) }
@@ -62,12 +81,16 @@ fn read_value(alloc: Global, from: &[u8]) -> Result<Option<ReceiveState>, StateF
     if from.is_empty() {
         return Ok(None);
     }
-    let state = read_state(alloc, from)?;
+    let state = read_state(alloc, spare, from)?;
     Ok(Some(state))
 }
 
 // A state.
-fn read_state(alloc: Global, from: &[u8]) -> Result<ReceiveState, StateFault>
+fn read_state(
+    alloc: Global,
+    spare: &mut GroupStates,
+    from: &[u8],
+) -> Result<ReceiveState, StateFault>
     ensures exact { Answers told result (judged_of from.now) }
     ensures memory { result ≡ Err NoMemory
         → (state : ReceiveState) × (judged_of from.now ≡ Ok state) × (0 < length state.groups) }
@@ -85,7 +108,7 @@ fn read_state(alloc: Global, from: &[u8]) -> Result<ReceiveState, StateFault>
             place: place_of(from, rest),
         });
     }
-    let state = own_state(alloc, &lent)?;
+    let state = own_state(alloc, spare, &lent)?;
     Ok(state)
 }
 
@@ -160,7 +183,11 @@ fn reserved_in_head(lent: &LentState<'_>) -> Option<usize>
 }
 
 // The state in memory of its own.
-fn own_state(alloc: Global, lent: &LentState<'_>) -> Result<ReceiveState, Memory>
+fn own_state(
+    alloc: Global,
+    spare: &mut GroupStates,
+    lent: &LentState<'_>,
+) -> Result<ReceiveState, Memory>
     requires address { length lent.now.address.now ≡ 6 }
     requires broadcast_id { length lent.now.broadcast_id.now ≡ 3 }
     requires bad_code { length lent.now.bad_code.now ≡ code_width lent.now.encryption }
@@ -184,7 +211,7 @@ fn own_state(alloc: Global, lent: &LentState<'_>) -> Result<ReceiveState, Memory
     let mut broadcast_id = [0; 3];
     broadcast_id.copy_from_slice(lent.broadcast_id);
     let encryption = own_encryption(lent.encryption, lent.bad_code);
-    let groups = read_groups(alloc, lent.count, lent.groups)?;
+    let groups = read_groups(alloc, spare, lent.count, lent.groups)?;
     Ok(ReceiveState {
         source_id: lent.source_id,
         address_type: lent.address_type,

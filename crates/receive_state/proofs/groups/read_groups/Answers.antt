@@ -1,15 +1,30 @@
-use Rattle.receive_state.proofs.Prelude.{◌≡◌, ◌++◌, ◌∷◌, [], Subgroup, state_of_group}
+use Rattle.std.proofs.Common.{arith, ◌+◌, ◌<◌, ◌≤◌, take, ap, ◌∙◌, Some}
+use Rattle.std.proofs.lemmas.List.{take_all}
+use Rattle.receive_state.proofs.Prelude.{◌≡◌, ◌++◌, ◌∷◌, [], List, GroupState, Subgroup, state_of_group}
 use Rattle.receive_state.proofs.Loops.{read_next, read_never, read_end}
 use Rattle.receive_state.proofs.groups.read_groups.Goals as goal
 
 pub unreachable-requires : goal.unreachable-requires
-unreachable-requires c = read_never c.groups.groups c.args.count c.groups.counter c.groups.rest.now c.args.octets.now c.groups-test.true c.in_default.ensures c.groups.invariant c.requires
+unreachable-requires c =
+    let more : c.groups.place < c.args.count = omega arith in
+    read_never (take c.groups.place c.groups.groups) c.args.count c.groups.place c.groups.rest.now c.args.octets.now more c.in_default.ensures
+    c.groups.invariant.read c.requires
 
 pub groups-preserved : goal.groups-preserved
 groups-preserved c =
+    let more : c.groups.place < c.args.count = omega arith in
     let group : Subgroup = record { bits = c.in-Some.group.bits; metadata = c.in-Some.group.metadata.now } in
-    let pushed : c.push.new.self ≡ c.groups.groups ++ state_of_group group ∷ [] = rw (← c.in_ok-metadata.ensures) c.in_ok-push.ensures.ok in
-    rw pushed (read_next c.groups.groups c.args.count c.groups.counter c.groups.rest.now group c.in-Some.after.now _ c.groups-test.true c.in-Some.ensures c.groups.invariant)
+    let put : take (c.groups.place + 1) c.put_group.new.groups ≡ take c.groups.place c.groups.groups ++ state_of_group group ∷ [] = c.in_ok-put_group.ensures.put in
+    record {
+      read =
+          rw put (read_next (take c.groups.place c.groups.groups) c.args.count c.groups.place c.groups.rest.now group c.in-Some.after.now _ more c.in-Some.ensures
+          c.groups.invariant.read);
+      some = omega (arith, c.in_ok-put_group.ensures.count);
+      most = omega (arith, c.in_ok-put_group.ensures.count);
+    }
 
 pub returns-clause-ok : goal.returns-clause-ok
-returns-clause-ok c = read_end c.groups.groups c.args.count c.groups.counter c.groups.rest.now _ c.groups-test.false c.groups.invariant
+returns-clause-ok c =
+    let done : c.args.count ≤ c.groups.place = omega arith in
+    read_end (take c.groups.place c.groups.groups) c.args.count c.groups.place c.groups.rest.now _ done c.groups.invariant.read
+    ∙ ap (λ (groups : List GroupState). Some groups) (take_all c.groups.place c.groups.groups (omega arith))
