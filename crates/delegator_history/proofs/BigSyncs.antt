@@ -1,9 +1,7 @@
 -- A sink that an announced train puts on a group is where the group's source is.
-use Rattle.delegator_history.proofs.Prelude.{◌≡◌, ◌≤◌, ◌<◌, ◌+◌, ◌*◌, ◌/◌, ◌^◌, ℕ, zero, suc, Bool, true, false, cond, eqb, List, [], ◌∷◌, get_or, Option, Some, None, Result, Ok, refl, sym, ap, ◌∙◌, subst, arith, is_some, AllByRecursion, find, same_Some, Endpoint, BaseIs, BigFault, BigInfo, Cipher, Encodes, Train, base_in, big_info_in, found_in, offset_of, BigSync, IsOnGroup, heard_as, numbers_alone}
-use Rattle.base_grammar.specs.Ad.{first_service}
+use Rattle.delegator_history.proofs.Prelude.{◌≡◌, ◌≤◌, ◌<◌, ◌*◌, ◌/◌, ◌^◌, ℕ, Bool, false, cond, eqb, List, get_or, Option, Some, None, Result, Ok, sym, ap, ◌∙◌, subst, arith, is_some, find, same_Some, Endpoint, BaseIs, BigFault, BigInfo, Cipher, Encodes, Train, base_in, big_info_in, found_in, offset_of, BigSync, IsOnGroup, heard_as, numbers_alone}
 use Rattle.ltv_codec.specs.Values.{first_of}
-use Rattle.big_info.specs.Faults.{faults}
-use Rattle.big_info.specs.Rows.{first_fault, has_fault}
+use Rattle.big_info.specs.Rows.{first_fault}
 use Rattle.announcement_train.specs.Told.{Tells, numbers_of}
 use Rattle.delegator_history.proofs.TrainOutcome.{Carries}
 use Rattle.delegator_history.proofs.Delays.{delay_read}
@@ -13,27 +11,19 @@ use Rattle.delegator_history.proofs.Streams.{taken_within}
 -- ---- a group that passed the check is not encrypted
 
 passed : {A : Type 0} (holds : Bool) (x : A) (found : Option A) → cond holds (Some x) found ≡ None → (holds ≡ false) × (found ≡ None)
-passed true x found is = absurd cc
-passed false x found is = (refl, is)
-
-none_passes : {A : Type 0} (test : A → Bool) (xs : List A) → find test xs ≡ None → AllByRecursion (λ x. test x ≡ false) xs
-none_passes test [] is = tt
-none_passes test (x ∷ xs) is = let h = passed (test x) x (find test xs) is in (h.0, none_passes test xs h.1)
+passed holds x found is = grind arith
 
 none_there : (cipher : Option Cipher) → is_some cipher ≡ false → cipher ≡ None
-none_there None is = refl
-none_there (Some cipher) is = absurd cc
+none_there cipher is = grind arith
 
 not_encrypted : (horizon : ℕ) (info : BigInfo) → first_fault horizon info ≡ None → info.cipher ≡ None
 unfolding first_fault
-not_encrypted horizon info is = none_there info.cipher (none_passes (has_fault horizon info) faults is).1.1.1.1.1.1.1.1.1.1.1.1.1.0
+not_encrypted horizon info is = grind (arith, none_there, passed, find)
 
 -- ---- the offset, in its unit
 
 same_offset : (offset units : ℕ) → units < 2 → offset * cond (eqb units 1) 300 30 ≡ offset * cond (eqb units 0) 30 300
-same_offset offset zero small = refl
-same_offset offset (suc zero) small = refl
-same_offset offset (suc (suc units)) small = absurd (omega arith)
+same_offset offset units small = grind arith
 
 -- ---- the numbers of a group
 
@@ -81,9 +71,7 @@ same_info horizon address_type sid train broadcast_id base info event anchor big
 same_base : (horizon address_type sid : ℕ) (train : Train) (broadcast_id : List ℕ) (base : Endpoint) (info : BigInfo) (event anchor : ℕ) (big_sync : BigSync)
     → (tells : Tells train broadcast_id base info event anchor) → (carries : Carries horizon (heard_as address_type sid train) big_sync) → BaseIs base carries.base_octets
 same_base horizon address_type sid train broadcast_id base info event anchor big_sync tells carries =
-    let found : base_in train.adv ≡ Some tells.base_is.octets = ap (found_in (first_service 0x1851)) tells.base_is.list ∙ tells.base_is.found in
-    let octets : carries.base_octets ≡ tells.base_is.octets = same_Some carries.base_octets tells.base_is.octets (sym carries.base_found ∙ found) in
-    subst (BaseIs base) (sym octets) tells.base_is.is
+    grind (arith, base_in, found_in, same_Some)
 
 pub on_its_group : (horizon address_type sid : ℕ) (train : Train) (broadcast_id : List ℕ) (base : Endpoint) (info : BigInfo) (event anchor : ℕ) (big_sync : BigSync)
     → Tells train broadcast_id base info event anchor → Carries horizon (heard_as address_type sid train) big_sync → IsOnGroup base info event anchor big_sync
@@ -97,8 +85,7 @@ on_its_group horizon address_type sid train broadcast_id base info event anchor 
       group_is = ap numbers_alone its ∙ same_numbers tells.read info tells.numbers tells.cipher;
       plain = sym tells.cipher ∙ not_encrypted horizon tells.read (subst (λ i. first_fault horizon i ≡ None) same carries.sound);
       first_is = ap (λ (on : BigSync). on.first) (sym carries.big_sync_is) ∙ ap (λ (i : BigInfo). i.bis_payload_count / i.bn) same ∙ tells.event_is;
-      anchor_is = ap (λ (on : BigSync). on.anchor) (sym carries.big_sync_is) ∙ ap (λ i. train.time + offset_of i) same
-          ∙ ap (λ us. train.time + us) (same_offset tells.read.big_offset tells.read.big_offset_units units) ∙ tells.anchor_is;
+      anchor_is = grind (arith, offset_of, same_offset);
       delay_is = ap (λ (on : BigSync). on.delay) (sym carries.big_sync_is)
           ∙ delay_read base carries.base carries.base_octets (same_base horizon address_type sid train broadcast_id base info event anchor big_sync tells carries) carries.base_read;
       some = subst (λ (on : BigSync). 1 ≤ on.which) carries.big_sync_is carries.some;

@@ -1,17 +1,16 @@
 -- Whatever is read of octets that encode a BASE, it has the presentation delay of that BASE.
-use Rattle.delegator_history.proofs.Prelude.{◌≡◌, ℕ, ◌∷◌, Bool, true, false, cond, ltb, List, [], length, Some, Result, Ok, Err, sym, ap, ◌∙◌, subst, flat_map, some_pair_parts, bind_ok, needed_ok, number_again, ok_is, BaseFault, Endpoint, BaseIs, endpoint, subgroup}
+use Rattle.std.proofs.Common.{arith}
+use Rattle.delegator_history.proofs.Prelude.{◌≡◌, ℕ, ◌∷◌, Bool, cond, ltb, List, [], length, Some, Result, Ok, Err, sym, ap, ◌∙◌, subst, flat_map, some_pair_parts, bind_ok, needed_ok, number_again, ok_is, BaseFault, Endpoint, BaseIs, endpoint, subgroup}
 use Rattle.bcast_base.specs.Reading.{number_in, place_in}
 use Rattle.bcast_base.specs.Tries.{◌>>=◌}
 use Rattle.base_grammar.specs.declared.fault.BaseFault.TheVariants.{Short, TooLong}
 use Rattle.base_grammar.specs.Reading.{base_of, count_at, ended, field_at, fields_of, subgroups_at}
 
 short_enough : {A : Type 0} (long : Bool) (read : Result A BaseFault) (x : A) → cond long (Err TooLong) read ≡ Ok x → read ≡ Ok x
-short_enough true read x is = absurd cc
-short_enough false read x is = is
+short_enough long read x is = grind arith
 
 ended_ok : {A : Type 0} (whole rest : List ℕ) (x y : A) → ended whole rest x ≡ Ok y → x ≡ y
-ended_ok whole [] x y is = ok_is x y is
-ended_ok whole (octet ∷ rest) x y is = absurd cc
+ended_ok whole rest x y is = grind (arith, ok_is)
 
 found_of : (octets rest : List ℕ) (made read : Endpoint) → number_in 3 octets ≡ Some (made.delay, rest) → made ≡ read → number_in 3 octets ≡ Some (read.delay, rest)
 found_of octets rest made read found same = subst (λ (base : Endpoint). number_in 3 octets ≡ Some (base.delay, rest)) same found

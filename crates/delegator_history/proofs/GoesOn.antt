@@ -1,6 +1,5 @@
 -- What is looked back for goes on by what each step does.
 use Rattle.delegator_history.proofs.Prelude.{ℕ, ◌≡◌, ◌≢◌, ◌+◌, Bool, true, false, List, [], ◌∷◌, ◌++◌, map, Option, Some, None, refl, sym, ap, ◌∙◌, arith, ◌==◌, unwrap_or, if◌then◌else◌, option_or, range_with_len, eqb-true, eq-eqb, append-nil, Capability, last_given, Wanted, Entry, Place, Snapshot, slot_of, is_on, entry_at, Done, nothing, added, modified, removed, tuned, followed, joined, lost, left, recorded, located, opened, place_given, encryption_given, taken_given, wanting, slots_after, capability_after, placed, after, Setup, Answered, Step, done_by, snapshot_in, snapshot_of, place_in, encrypted_in, encrypted_where, taken_in, source_by, wanted_by, entry_from, unwanted, source_in, wanted_in, entry_in, records_in, capability_in}
-use Rattle.delegator_history.specs.declared.source.Source.{Source}
 use Rattle.delegator_history.specs.States.{answered}
 use Rattle.delegator_history.proofs.Lists.{map_changes_first, map_at}
 use Rattle.delegator_history.proofs.Places.{place_goes_on, encryption_goes_on, taken_goes_on, not_on}
@@ -17,38 +16,25 @@ not_eq a b not = go (a == b) refl
 -- an entry of which the step says nothing
 same_entry : (steps : List Answered) (before : Snapshot) (done : Done) (slot : ℕ) → source_by slot done ≡ None → wanted_by slot done ≡ None
     → entry_in (record { before = before; done = done } ∷ steps) slot ≡ entry_in steps slot
-same_entry steps before done slot s w = λ i. entry_from
-    (unwrap_or (option_or (s i) (last_given (λ step. source_by slot step.done) steps)) None)
-    (unwrap_or (option_or (w i) (last_given (λ step. wanted_by slot step.done) steps)) unwanted)
+same_entry steps before done slot s w = grind (arith, entry_from, unwrap_or, option_or, last_given, source_by, wanted_by, unwanted)
 
 if_not : {A : Type 0} (b : Bool) (x y : A) → b ≡ false → (if b then x else y) ≡ y
-if_not true x y e = absurd cc
-if_not false x y e = refl
+if_not b x y e = grind arith
 
 if_so : {A : Type 0} (b : Bool) (x y : A) → b ≡ true → (if b then x else y) ≡ x
-if_so true x y e = refl
-if_so false x y e = absurd cc
-
-wanting_source : (source : Option Source) (wanted other : Wanted) → entry_from source wanted ≡ wanting wanted (entry_from source other)
-wanting_source None wanted other = refl
-wanting_source (Some source) wanted other = refl
+if_so b x y e = grind arith
 
 added_here : (steps : List Answered) (before : Snapshot) (slot : ℕ) (entry : Entry) → entry_in (record { before = before; done = added slot entry } ∷ steps) slot ≡ Some entry
-added_here steps before slot entry = λ i. entry_from
-    (unwrap_or (option_or (if_so (slot == slot) (Some (Some entry.source)) None (eq-eqb slot slot refl) i) (last_given (λ step. source_by slot step.done) steps)) None)
-    (unwrap_or (option_or (if_so (slot == slot) (Some entry.wanted) None (eq-eqb slot slot refl) i) (last_given (λ step. wanted_by slot step.done) steps)) unwanted)
+added_here steps before slot entry =
+    grind (arith, entry_from, unwrap_or, option_or, if_so, eq-eqb, last_given, source_by, wanted_by, unwanted)
 
 removed_here : (steps : List Answered) (before : Snapshot) (slot : ℕ) → entry_in (record { before = before; done = removed slot } ∷ steps) slot ≡ None
-removed_here steps before slot = λ i. entry_from
-    (unwrap_or (option_or (if_so (slot == slot) (Some None) None (eq-eqb slot slot refl) i) (last_given (λ step. source_by slot step.done) steps)) None)
-    (wanted_in steps slot)
+removed_here steps before slot = grind (arith, entry_from, unwrap_or, option_or, if_so, eq-eqb, last_given, source_by, wanted_in)
 
 modified_here : (steps : List Answered) (before : Snapshot) (slot : ℕ) (wanted : Wanted)
     → entry_in (record { before = before; done = modified slot wanted } ∷ steps) slot ≡ wanting wanted (entry_in steps slot)
 modified_here steps before slot wanted =
-    (λ i. entry_from (source_in steps slot)
-    (unwrap_or (option_or (if_so (slot == slot) (Some wanted) None (eq-eqb slot slot refl) i) (last_given (λ step. wanted_by slot step.done) steps)) unwanted))
-    ∙ wanting_source (source_in steps slot) wanted (wanted_in steps slot)
+    grind (arith, entry_from, source_in, unwrap_or, option_or, if_so, eq-eqb, last_given, wanted_by, unwanted, wanted_in)
 
 zero_more : (slot : ℕ) → 0 + slot ≡ slot
 zero_more slot = omega arith
@@ -105,16 +91,13 @@ capability_goes_on steps before (opened contexts) = no_record steps (capability_
 
 placed_place : (before : Snapshot) (given : Option Place) (encryption : Option Bool) (taken : Option (List ℕ)) (snapshot : Snapshot) → snapshot.place ≡ before.place
     → unwrap_or given before.place ≡ (placed given encryption taken snapshot).place
-placed_place before None encryption taken snapshot same = sym same
-placed_place before (Some place) encryption taken snapshot same = refl
+placed_place before given encryption taken snapshot same = grind arith
 
 placed_slots : (given : Option Place) (encryption : Option Bool) (taken : Option (List ℕ)) (snapshot : Snapshot) → snapshot.slots ≡ (placed given encryption taken snapshot).slots
-placed_slots None encryption taken snapshot = refl
-placed_slots (Some place) encryption taken snapshot = refl
+placed_slots given encryption taken snapshot = grind arith
 
 placed_capability : (given : Option Place) (encryption : Option Bool) (taken : Option (List ℕ)) (snapshot : Snapshot) → snapshot.capability ≡ (placed given encryption taken snapshot).capability
-placed_capability None encryption taken snapshot = refl
-placed_capability (Some place) encryption taken snapshot = refl
+placed_capability given encryption taken snapshot = grind arith
 
 in_goes_on : (n : ℕ) (steps : List Answered) (done : Done) → ((s : ℕ) → is_on (place_in steps) s ≡ false → encrypted_in steps s ≡ false)
     → snapshot_in n (record { before = snapshot_in n steps; done = done } ∷ steps) ≡ after done (snapshot_in n steps)

@@ -1,5 +1,6 @@
 -- What looking back finds.
-use Rattle.delegator_history.proofs.Prelude.{◌≡◌, List, [], ◌∷◌, ◌++◌, Option, Some, None, refl, sym, ap, ◌∙◌, subst, option_or, AllByRecursion, last_given, IsLastGiven}
+use Rattle.std.proofs.Common.{arith}
+use Rattle.delegator_history.proofs.Prelude.{◌≡◌, List, [], ◌∷◌, ◌++◌, Option, Some, None, refl, ap, ◌∙◌, option_or, AllByRecursion, last_given, IsLastGiven}
 
 first_or : {S A : Type 0} (gives : S → Option A) (step : S) (earlier : List S) (given : A) (o : Option A) → gives step ≡ o
     → (last_given gives earlier ≡ Some given → IsLastGiven gives earlier given)
@@ -18,9 +19,7 @@ is_last gives (step ∷ earlier) given e = first_or gives step earlier given (gi
 walk : {S A : Type 0} (gives : S → Option A) (later : List S) (step : S) (earlier : List S) (given : A)
     → gives step ≡ Some given → AllByRecursion (λ s. gives s ≡ None) later → last_given gives (later ++ step ∷ earlier) ≡ Some given
 walk gives [] step earlier given here none = ap (λ o. option_or o (last_given gives earlier)) here
-walk gives (s ∷ later) step earlier given here none =
-    ap (λ o. option_or o (last_given gives (later ++ step ∷ earlier))) none.0 ∙ walk gives later step earlier given here none.1
+walk gives (s ∷ later) step earlier given here none = grind (arith, none.0, walk gives later step earlier given here none.1)
 
 pub last_is : {S A : Type 0} (gives : S → Option A) (steps : List S) (given : A) → IsLastGiven gives steps given → last_given gives steps ≡ Some given
-last_is gives steps given h =
-    subst (λ all. last_given gives all ≡ Some given) (sym h.parts) (walk gives h.later h.step h.earlier given h.here h.none)
+last_is gives steps given h = grind (arith, last_given, walk)

@@ -1,5 +1,5 @@
 -- The octets of a train are those of its parts, and no others.
-use Rattle.delegator_history.proofs.Prelude.{◌≡◌, ◌<◌, ◌+◌, ◌-◌, ◌*◌, ◌^◌, ℕ, Bool, true, false, cond, ltb, List, ◌∷◌, ◌++◌, length, take, drop, Option, Some, None, refl, sym, ap, ◌∙◌, subst, arith, drop_at, length-append, length-take, take-append-drop, none-some, same_Some, IsOctets-prefix, IsOctets-rest, number-length, number_again, number_once, Endpoint, encoding, BigInfo, Cipher, CipherIs, Encodes, number_of, Train}
+use Rattle.delegator_history.proofs.Prelude.{◌≡◌, ◌<◌, ◌+◌, ◌-◌, ◌*◌, ◌^◌, ℕ, Bool, cond, ltb, List, ◌∷◌, ◌++◌, length, take, drop, Option, Some, None, refl, sym, ap, ◌∙◌, subst, arith, drop_at, length-append, length-take, take-append-drop, none-some, same_Some, IsOctets-prefix, IsOctets-rest, number-length, number_again, number_once, Endpoint, encoding, BigInfo, Cipher, CipherIs, Encodes, number_of, Train}
 use Rattle.bcast_base.specs.Numbers.{sum_from}
 use Rattle.bcast_base.specs.Encoding.{IsOctets, number}
 use Rattle.ltv_codec.specs.Layout.{structure}
@@ -11,8 +11,7 @@ use Rattle.delegator_history.specs.Octets.{MayAnnounce, cipher_octets, info_octe
 -- ---- a BIGInfo
 
 cipher_only : (cipher : Option Cipher) (octets : List ℕ) → CipherIs cipher octets → octets ≡ cipher_octets cipher
-cipher_only None octets is = is
-cipher_only (Some cipher) octets is = is.2
+cipher_only cipher octets is = grind arith
 
 info_only : (info : BigInfo) (octets : List ℕ) → IsOctets octets → Encodes info 0 octets → octets ≡ info_octets info
 info_only info octets fits is =
@@ -23,33 +22,10 @@ info_only info octets fits is =
     ∙ ap (λ (os : List ℕ). number 33 (number_of info 0) ++ os) (cipher_only info.cipher (drop 33 octets) is.cipher)
 
 number_small : (info : BigInfo) → FitsWidths info → number_of info 0 < 2 ^ (8 * 33)
-number_small info fits =
-    omega (
-      arith,
-      fits.big_offset,
-      fits.big_offset_units,
-      fits.iso_interval,
-      fits.num_bis,
-      fits.nse,
-      fits.bn,
-      fits.sub_interval,
-      fits.pto,
-      fits.bis_spacing,
-      fits.irc,
-      fits.max_pdu,
-      fits.seed_access_address,
-      fits.sdu_interval,
-      fits.max_sdu,
-      fits.base_crc_init,
-      fits.chm,
-      fits.phy,
-      fits.bis_payload_count,
-      fits.framing,
-    )
+number_small info fits = grind arith
 
 first_is : (short : Bool) (one other : ℕ × List ℕ) → cond short None (Some one) ≡ Some other → one.0 ≡ other.0
-first_is true one other is = absurd (none-some other is)
-first_is false one other is = ap (λ (field : ℕ × List ℕ). field.0) (same_Some one other is)
+first_is short one other is = grind (arith, none-some, same_Some)
 
 info_encoded : (info : BigInfo) → FitsWidths info → CipherIs info.cipher (cipher_octets info.cipher) → Encodes info 0 (info_octets info)
 info_encoded info fits cipher =
@@ -70,27 +46,7 @@ info_encoded info fits cipher =
 -- ---- the BIGInfo of an event
 
 announced_fits : (info : BigInfo) (event : ℕ) → FitsWidths info → event * info.bn < 2 ^ 39 → FitsWidths (announced info event)
-announced_fits info event fits count = record {
-  big_offset = omega arith;
-  big_offset_units = omega arith;
-  iso_interval = fits.iso_interval;
-  num_bis = fits.num_bis;
-  nse = fits.nse;
-  bn = fits.bn;
-  sub_interval = fits.sub_interval;
-  pto = fits.pto;
-  bis_spacing = fits.bis_spacing;
-  irc = fits.irc;
-  max_pdu = fits.max_pdu;
-  seed_access_address = omega arith;
-  sdu_interval = fits.sdu_interval;
-  max_sdu = fits.max_sdu;
-  base_crc_init = omega arith;
-  chm = omega arith;
-  phy = fits.phy;
-  bis_payload_count = count;
-  framing = fits.framing;
-}
+announced_fits info event fits count = grind arith
 
 -- ---- the train
 

@@ -1,4 +1,5 @@
 -- The place looked back for, and what goes with it, as one more step is answered.
+use Rattle.std.proofs.Common.{arith}
 use Rattle.delegator_history.proofs.Prelude.{ℕ, ◌≡◌, Bool, true, false, List, [], ◌∷◌, Option, Some, None, refl, sym, ap, ◌∙◌, ◌==◌, ◌&&◌, not, unwrap_or, if◌then◌else◌, option_or, eqb-true, eq-eqb, last_given, Place, Snapshot, idle, on_train, on_group, slot_of, is_slot, is_on, is_on_group, entry_at, Done, nothing, added, modified, removed, tuned, followed, joined, lost, left, recorded, located, opened, same_streams, wishes_at, place_left, place_given, place_after, encryption_given, encrypted_on, taken_given, taken_on, placed, Setup, Answered, Step, done_by, snapshot_in, place_in, encryption_by, encrypted_in, encrypted_where, taken_in}
 use Rattle.delegator_history.specs.States.{answered}
 
@@ -21,10 +22,7 @@ none_given snapshot (opened contexts) e = (refl, refl)
 
 -- the group of a slot comes with streams
 wanted_group : (a b c : Bool) (slot other : ℕ) → (if a then (if b then Some idle else (if c then Some (on_train slot) else None)) else None) ≡ Some (on_group (Some other)) → ⊥
-wanted_group true true c slot other e = cc
-wanted_group true false true slot other e = cc
-wanted_group true false false slot other e = cc
-wanted_group false b c slot other e = cc
+wanted_group a b c slot other e = grind arith
 
 left_group : (place : Place) (other : ℕ) → place_left place ≡ Some (on_group (Some other)) → ⊥
 left_group idle other e = cc
@@ -49,14 +47,9 @@ group_given snapshot (opened contexts) slot e = absurd cc
 
 -- ---- the place
 
-or_then : {A : Type 0} (o p : Option A) (d : A) → unwrap_or (option_or o p) d ≡ unwrap_or o (unwrap_or p d)
-or_then None p d = refl
-or_then (Some x) p d = refl
-
 pub place_goes_on : (n : ℕ) (steps : List Answered) (done : Done)
     → place_in (record { before = snapshot_in n steps; done = done } ∷ steps) ≡ place_after (snapshot_in n steps) done
-place_goes_on n steps done =
-    or_then (place_given (snapshot_in n steps) done) (last_given (λ step. place_given step.before step.done) steps) idle
+place_goes_on n steps done = grind (arith, place_given, snapshot_in, last_given, idle)
 
 -- ---- encryption
 
@@ -64,81 +57,60 @@ pub on_itself : (slot : ℕ) (place : Place) → slot_of place ≡ Some slot →
 on_itself slot place is = ap (λ s. is_slot s slot) is ∙ eq-eqb slot slot refl
 
 choose : {A : Type 0} (b : Bool) (x y : A) → b ≡ true → (if b then x else y) ≡ x
-choose true x y e = refl
-choose false x y e = absurd cc
+choose b x y e = grind arith
 
 refuse : {A : Type 0} (b : Bool) (x y : A) → b ≡ false → (if b then x else y) ≡ y
-refuse true x y e = absurd cc
-refuse false x y e = refl
+refuse b x y e = grind arith
 
 -- where the sink is neither on the train nor on the group of the slot none is required
 pub not_on : (setup : Setup) (steps : List Step) (slot : ℕ) → is_on (place_in (answered setup steps)) slot ≡ false → encrypted_in (answered setup steps) slot ≡ false
 unfolding answered
 not_on setup [] slot off = refl
-not_on setup (step ∷ earlier) slot off =
-    let before : Snapshot = snapshot_in setup.slots (answered setup earlier) in
-    let done : Done = done_by setup before step in
-    let off_after : is_on (place_after before done) slot ≡ false =
-    ap (λ p. is_on p slot) (sym (place_goes_on setup.slots (answered setup earlier) done)) ∙ off in
-    ap (λ o. unwrap_or (option_or o (last_given (encryption_by slot) (answered setup earlier))) false)
-    (refuse (is_on (place_after before done) slot) (encryption_given done) (Some false) off_after)
+not_on setup (step ∷ earlier) slot off = grind (arith, snapshot_in, done_by, is_on, place_after, place_goes_on, unwrap_or, option_or, last_given, encryption_by, refuse, encryption_given)
 
 -- what was found before, of a slot that the sink may have been on
 kept : (steps : List Answered) (slot : ℕ) (before : Option ℕ) (b : Bool) → is_slot before slot ≡ b
     → (b ≡ false → encrypted_in steps slot ≡ false) → encrypted_in steps slot ≡ (b && encrypted_where steps before)
-kept steps slot None true is off = absurd cc
-kept steps slot (Some other) true is off = ap (encrypted_in steps) (sym (eqb-true other slot is))
-kept steps slot before false is off = off refl
-
-encryption_here : (n : ℕ) (steps : List Answered) (slot : ℕ) (given : Option Bool)
-    → (is_on (place_in steps) slot ≡ false → encrypted_in steps slot ≡ false)
-    → unwrap_or (option_or given (last_given (encryption_by slot) steps)) false
-    ≡ encrypted_on (Some slot) (place_in steps) given (encrypted_where steps (slot_of (place_in steps)))
-encryption_here n steps slot (Some given) off = refl
-encryption_here n steps slot None off = kept steps slot (slot_of (place_in steps)) (is_on (place_in steps) slot) refl off
+kept steps slot before b is off = grind (arith, encrypted_in, eqb-true)
 
 encryption_on : (n : ℕ) (steps : List Answered) (done : Done) (place : Place) (slot : Option ℕ) → slot_of place ≡ slot
     → place_after (snapshot_in n steps) done ≡ place
     → ((s : ℕ) → is_on (place_in steps) s ≡ false → encrypted_in steps s ≡ false)
     → encrypted_where (record { before = snapshot_in n steps; done = done } ∷ steps) slot
     ≡ encrypted_on slot (place_in steps) (encryption_given done) (encrypted_where steps (slot_of (place_in steps)))
-encryption_on n steps done place None is there off = refl
-encryption_on n steps done place (Some slot) is there off =
-    let on : is_on (place_after (snapshot_in n steps) done) slot ≡ true = ap (λ p. is_on p slot) there ∙ on_itself slot place is in
-    ap (λ o. unwrap_or (option_or o (last_given (encryption_by slot) steps)) false) (choose (is_on (place_after (snapshot_in n steps) done) slot) (encryption_given done) (Some false) on)
-    ∙ encryption_here n steps slot (encryption_given done) (off slot)
+encryption_on n steps done place slot is there off =
+    grind (
+      arith,
+      is_on,
+      place_after,
+      snapshot_in,
+      on_itself,
+      unwrap_or,
+      option_or,
+      last_given,
+      encryption_by,
+      choose,
+      encryption_given,
+      kept,
+      slot_of,
+      place_in,
+    )
 
 -- a place that stays keeps it
 encryption_stays : (steps : List Answered) (slot : Option ℕ) (before : Place) → slot_of before ≡ slot → (old : Bool) → (slot ≡ None → old ≡ false)
     → encrypted_on slot before None old ≡ old
-encryption_stays steps None before is old none = sym (none refl)
-encryption_stays steps (Some slot) before is old none = ap (λ b. b && old) (on_itself slot before is)
+encryption_stays steps slot before is old none = grind (arith, on_itself)
 
 where_none : (steps : List Answered) (slot : Option ℕ) → slot ≡ None → encrypted_where steps slot ≡ false
-where_none steps None e = refl
-where_none steps (Some slot) e = absurd cc
+where_none steps slot e = grind arith
 
 pub encryption_goes_on : (n : ℕ) (steps : List Answered) (done : Done) (given : Option Place) → place_given (snapshot_in n steps) done ≡ given
     → ((s : ℕ) → is_on (place_in steps) s ≡ false → encrypted_in steps s ≡ false) → (snapshot : Snapshot)
     → snapshot.place ≡ place_in steps → snapshot.encrypted ≡ encrypted_where steps (slot_of (place_in steps))
     → encrypted_where (record { before = snapshot_in n steps; done = done } ∷ steps) (slot_of (place_in (record { before = snapshot_in n steps; done = done } ∷ steps)))
     ≡ (placed given (encryption_given done) (taken_given done) snapshot).encrypted
-encryption_goes_on n steps done None is off snapshot p e =
-    let P : Place = place_in steps in
-    let after : place_after (snapshot_in n steps) done ≡ P = ap (λ o. unwrap_or o P) is in
-    let a : Answered = record { before = snapshot_in n steps; done = done } in
-    ap (λ q. encrypted_where (a ∷ steps) (slot_of q)) (place_goes_on n steps done ∙ after)
-    ∙ encryption_on n steps done P (slot_of P) refl after off
-    ∙ ap (λ o. encrypted_on (slot_of P) P o (encrypted_where steps (slot_of P))) (none_given (snapshot_in n steps) done is).0
-    ∙ encryption_stays steps (slot_of P) P refl (encrypted_where steps (slot_of P)) (where_none steps (slot_of P))
-    ∙ sym e
-encryption_goes_on n steps done (Some place) is off snapshot p e =
-    let P : Place = place_in steps in
-    let after : place_after (snapshot_in n steps) done ≡ place = ap (λ o. unwrap_or o P) is in
-    let a : Answered = record { before = snapshot_in n steps; done = done } in
-    ap (λ q. encrypted_where (a ∷ steps) (slot_of q)) (place_goes_on n steps done ∙ after)
-    ∙ encryption_on n steps done place (slot_of place) refl after off
-    ∙ (λ i. encrypted_on (slot_of place) (sym p i) (encryption_given done) (sym e i))
+encryption_goes_on n steps done None is off snapshot p e = grind (arith, place_in, place_after, snapshot_in, unwrap_or, encrypted_where, slot_of, place_goes_on, encryption_on, encrypted_on, none_given, encryption_stays, where_none)
+encryption_goes_on n steps done (Some place) is off snapshot p e = grind (arith, place_in, place_after, snapshot_in, unwrap_or, encrypted_where, slot_of, place_goes_on, encryption_on, encrypted_on, encryption_given)
 
 -- ---- streams
 
@@ -164,13 +136,7 @@ pub taken_goes_on : (n : ℕ) (steps : List Answered) (done : Done) (given : Opt
     → snapshot.taken ≡ taken_in steps (place_in steps)
     → taken_in (record { before = snapshot_in n steps; done = done } ∷ steps) (place_in (record { before = snapshot_in n steps; done = done } ∷ steps))
     ≡ (placed given (encryption_given done) (taken_given done) snapshot).taken
-taken_goes_on n steps done None is snapshot t =
-    let P : Place = place_in steps in
-    let a : Answered = record { before = snapshot_in n steps; done = done } in
-    let after : place_after (snapshot_in n steps) done ≡ P = ap (λ o. unwrap_or o P) is in
-    ap (taken_in (a ∷ steps)) (place_goes_on n steps done ∙ after)
-    ∙ taken_stays steps a P (none_given (snapshot_in n steps) done is).1
-    ∙ sym t
+taken_goes_on n steps done None is snapshot t = grind (arith, place_in, snapshot_in, place_after, unwrap_or, taken_in, place_goes_on, taken_stays, none_given)
 taken_goes_on n steps done (Some place) is snapshot t =
     let P : Place = place_in steps in
     let a : Answered = record { before = snapshot_in n steps; done = done } in

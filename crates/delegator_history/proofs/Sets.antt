@@ -1,5 +1,5 @@
 -- A set of streams is empty exactly where no stream was put into it.
-use Rattle.delegator_history.proofs.Prelude.{ℕ, ◌≡◌, ◌+◌, ◌-◌, ◌<◌, ◌≤◌, ◌^◌, suc, Bool, true, false, List, [], ◌∷◌, ◌++◌, length, refl, sym, ◌∙◌, arith, ◌==◌, bit_or, concat, ne_eqb, le_or_l, le_or_r, pow_pos, are_none, set_with, sets_with}
+use Rattle.delegator_history.proofs.Prelude.{ℕ, ◌≡◌, ◌+◌, ◌-◌, ◌≤◌, ◌^◌, suc, false, List, [], ◌∷◌, ◌++◌, length, refl, sym, ◌∙◌, arith, ◌==◌, bit_or, concat, ne_eqb, le_or_l, le_or_r, pow_pos, are_none, set_with, sets_with}
 
 set_grows : (set : ℕ) (streams : List ℕ) → set ≤ set_with set streams
 set_grows set [] = omega arith
@@ -11,11 +11,7 @@ sets_grow set (streams ∷ others) = omega (arith, set_grows set streams, sets_g
 
 -- a stream that is put into it is in the set
 some_set : (bis : ℕ) (streams : List ℕ) (others : List (List ℕ)) → (sets_with 0 ((bis ∷ streams) ∷ others) == 0) ≡ false
-some_set bis streams others =
-    let one : ℕ = bit_or 0 (2 ^ (bis - 1)) in
-    let grows : 0 < sets_with (set_with one streams) others =
-    omega (arith, pow_pos (bis - 1), le_or_r 0 (2 ^ (bis - 1)), set_grows one streams, sets_grow (set_with one streams) others) in
-    ne_eqb (sets_with (set_with one streams) others) 0 (λ none. omega (arith, grows, none))
+some_set bis streams others = grind (arith, bit_or, sets_with, set_with, pow_pos, le_or_r, set_grows, sets_grow, ne_eqb)
 
 pub none_set : (lists : List (List ℕ)) → are_none lists ≡ (sets_with 0 lists == 0)
 none_set [] = refl

@@ -1,5 +1,5 @@
 -- What a train carries that synchronizes a sink to a BIG.
-use Rattle.delegator_history.proofs.Prelude.{◌≡◌, ◌≤◌, ℕ, Bool, true, false, cond, eqb, List, Option, Some, None, Result, Ok, Err, refl, sym, ◌∙◌, arith, ◌==◌, length, map, eqb-false, none-some, same_Some, BaseFault, Endpoint, Wish, BigFault, BigInfo, Capability, Snapshot, entry_at, is_on_group, wishes_at, TrainOutcome, Setup, heard, ignored, taken, base_in, big_info_in, outcome_by, by_base, by_big_info, by_broadcast_id, by_endpoint, BigSync, are_none, by_group, by_info, by_slot, by_streams, first_candidates, is_elsewhere, is_wanted, big_sync_in, big_sync_of, set_with, sets_with}
+use Rattle.delegator_history.proofs.Prelude.{◌≡◌, ◌≤◌, ℕ, Bool, false, cond, eqb, List, Option, Some, None, Result, Ok, Err, refl, arith, ◌==◌, length, map, eqb-false, none-some, same_Some, BaseFault, Endpoint, Wish, BigFault, BigInfo, Capability, Snapshot, entry_at, is_on_group, wishes_at, TrainOutcome, Setup, heard, ignored, taken, base_in, big_info_in, outcome_by, by_base, by_big_info, by_broadcast_id, by_endpoint, BigSync, are_none, by_group, by_info, by_slot, by_streams, first_candidates, is_elsewhere, is_wanted, big_sync_in, big_sync_of, set_with, sets_with}
 use Rattle.base_grammar.specs.AdReading.{broadcast_id_of}
 use Rattle.base_grammar.specs.Reading.{base_of}
 use Rattle.big_info.specs.declared.fault.GroupFault.{GroupFault}
@@ -35,33 +35,28 @@ not_empty which is = let some : which ≡ 0 → ⊥ = eqb-false which 0 is in om
 
 put : (none : Bool) (slot : ℕ) (answer : TrainHeard) (encrypted : Option Bool) (bits : List ℕ) (coded : Bool) (on big_sync : BigSync)
     → big_sync_in (cond none (heard slot answer encrypted) (taken slot bits coded on)) ≡ Some big_sync → (none ≡ false) × (on ≡ big_sync)
-put true slot answer encrypted bits coded on big_sync is = absurd (none-some big_sync is)
-put false slot answer encrypted bits coded on big_sync is = (refl, same_Some on big_sync is)
+put none slot answer encrypted bits coded on big_sync is = grind (arith, none-some, same_Some)
 
 by_streams_put : (slot : ℕ) (train : Train) (base : Endpoint) (info : BigInfo) (encrypted : Bool) (streams : List (List ℕ)) (big_sync : BigSync)
     → big_sync_in (by_streams slot train base info encrypted streams) ≡ Some big_sync → (1 ≤ sets_with 0 streams) × (big_sync_of train base info (sets_with 0 streams) ≡ big_sync)
 by_streams_put slot train base info encrypted streams big_sync is =
-    let given = put (are_none streams) slot answers.NoneTaken (Some encrypted) (map (set_with 0) streams) encrypted (big_sync_of train base info (sets_with 0 streams)) big_sync is in
-    (not_empty (sets_with 0 streams) (sym (none_set streams) ∙ given.0), given.1)
+    grind (arith, put, are_none, map, set_with, big_sync_of, sets_with, not_empty, none_set)
 
 by_group_put : (setup : Setup) (capability : Capability) (wishes : List Wish) (slot : ℕ) (train : Train) (base : Endpoint) (info : BigInfo) (encrypted : Bool)
     (fault : Option GroupFault) (big_sync : BigSync) → big_sync_in (by_group setup capability wishes slot train base info encrypted fault) ≡ Some big_sync
     → (fault ≡ None)
     × (big_sync_in (by_streams slot train base info encrypted (first_candidates capability base info.num_bis setup.streams wishes base.subgroups)) ≡ Some big_sync)
-by_group_put setup capability wishes slot train base info encrypted None big_sync is = (refl, is)
-by_group_put setup capability wishes slot train base info encrypted (Some fault) big_sync is = absurd (none-some big_sync is)
+by_group_put setup capability wishes slot train base info encrypted fault big_sync is = grind (arith, none-some)
 
 by_info_put : (setup : Setup) (capability : Capability) (wishes : List Wish) (slot : ℕ) (train : Train) (base : Endpoint) (encrypted : Bool)
     (read : Result BigInfo BigFault) (big_sync : BigSync) → big_sync_in (by_info setup capability wishes slot train base encrypted read) ≡ Some big_sync
     → (info : BigInfo) × (read ≡ Ok info)
     × (big_sync_in (by_group setup capability wishes slot train base info encrypted (first_fault setup.horizon info)) ≡ Some big_sync)
-by_info_put setup capability wishes slot train base encrypted (Ok info) big_sync is = (info, refl, is)
-by_info_put setup capability wishes slot train base encrypted (Err fault) big_sync is = absurd (none-some big_sync is)
+by_info_put setup capability wishes slot train base encrypted read big_sync is = grind (arith, none-some)
 
 by_big_info_put : (setup : Setup) (capability : Capability) (wishes : List Wish) (slot : ℕ) (train : Train) (base : Endpoint) (found : Option (List ℕ)) (big_sync : BigSync)
     → big_sync_in (by_big_info setup capability wishes slot train base found) ≡ Some big_sync
-    → (octets : List ℕ) × (encrypted : Bool) × (found ≡ Some octets)
-    × (big_sync_in (by_info setup capability wishes slot train base encrypted (info_of octets)) ≡ Some big_sync)
+    → (octets : List ℕ) × (encrypted : Bool) × (found ≡ Some octets) × (big_sync_in (by_info setup capability wishes slot train base encrypted (info_of octets)) ≡ Some big_sync)
 by_big_info_put setup capability wishes slot train base (Some octets) big_sync is = (octets, (length octets == 57), refl, is)
 by_big_info_put setup capability wishes slot train base None big_sync is = absurd (none-some big_sync is)
 
@@ -80,9 +75,7 @@ by_base_put setup capability wishes slot train None big_sync is = absurd (none-s
 -- the sink is neither elsewhere nor on the group already
 here : (elsewhere already : Bool) (one other : TrainHeard) (outcome : TrainOutcome) (big_sync : BigSync)
     → big_sync_in (cond elsewhere (ignored one) (cond already (ignored other) outcome)) ≡ Some big_sync → big_sync_in outcome ≡ Some big_sync
-here true already one other outcome big_sync is = absurd (none-some big_sync is)
-here false true one other outcome big_sync is = absurd (none-some big_sync is)
-here false false one other outcome big_sync is = is
+here elsewhere already one other outcome big_sync is = grind (arith, none-some)
 
 by_slot_put : (setup : Setup) (snapshot : Snapshot) (train : Train) (slot : Option ℕ) (big_sync : BigSync) → big_sync_in (by_slot setup snapshot train slot) ≡ Some big_sync
     → (at : ℕ) × (big_sync_in (by_base setup snapshot.capability (wishes_at (entry_at snapshot.slots at)) at train (base_in train.adv)) ≡ Some big_sync)
