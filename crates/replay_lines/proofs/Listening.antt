@@ -1,5 +1,5 @@
 -- What a listener was told once one line more was run, or where a run ended.
-use Rattle.replay_lines.proofs.Prelude.{◌≡◌, ℕ, ◌+◌, ◌∙◌, Bool, true, false, List, [], ◌∷◌, ◌++◌, length, refl, sym, ap, subst, arith, Option, None, Some, inl, inr, append_assoc, append-nil, Appends, Keeps, Reading, TextLine, plain, AppendsPrefix, Appends-nothing, Appends-then, AppendsPrefix-then, NoEnd, Comes, Puts, ReadTo, Refuses, TextIs, Listened, Telling, Tells, begun, rows_of, tellings, was_run, Refusal, Ending}
+use Rattle.replay_lines.proofs.Prelude.{◌≡◌, ℕ, ◌+◌, ◌∙◌, true, false, List, [], ◌∷◌, ◌++◌, length, refl, sym, ap, subst, arith, Option, None, Some, inl, inr, append_assoc, Appends, Keeps, Reading, TextLine, plain, AppendsPrefix, Appends-nothing, Appends-then, AppendsPrefix-then, NoEnd, Comes, Puts, ReadTo, Refuses, TextIs, Listened, Telling, Tells, begun, rows_of, tellings, was_run, Ending}
 use Rattle.replay_lines.specs.Listening.{EndsAt, EndsText, HasTold, LineTold, StepTold, Told, ToldAll, ToldBefore, ToldUpTo}
 use Rattle.replay_lines.specs.declared.ending.Ending.TheVariants as endings
 use Rattle.replay_lines.proofs.Hearing.{kept_on}

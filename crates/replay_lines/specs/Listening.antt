@@ -1,7 +1,7 @@
 -- What a listener is told of a run, and what it puts beside the transcript for that. Listeners are this project's own.
-use Rattle.std.specs.Prelude.{ℕ, ◌≡◌, ◌⊎◌, ◌+◌, Bool, true, false, List, [], ◌∷◌, ◌++◌, length, Option, None, Some}
+use Rattle.std.specs.Prelude.{ℕ, ◌≡◌, ◌⊎◌, ◌+◌, Bool, true, false, List, [], ◌∷◌, length, Option, None, Some}
 use Rattle.std.specs.Io.KnownBytes.{Appends}
-use Rattle.bcast_io.specs.TextLines.{TextLine, plain, too_long, past}
+use Rattle.bcast_io.specs.TextLines.{TextLine, plain}
 use Rattle.bcast_io.specs.Writing.{AppendsPrefix}
 use Rattle.transcript_text.specs.declared.refusal.Refusal.TheVariants.{NoEnd}
 use Rattle.replay_lines.specs.Replayed.{Comes}

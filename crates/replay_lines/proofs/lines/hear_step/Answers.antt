@@ -1,4 +1,4 @@
-use Rattle.replay_lines.proofs.Prelude.{◌∷◌, inl, inr, map, airs_of, plain, Listened, listened}
+use Rattle.replay_lines.proofs.Prelude.{◌∷◌, inl, inr, map, airs_of, plain, listened}
 use Rattle.replay_lines.proofs.Hearing.{broken_before, failed_told, run_kept, step_told, wanted_told}
 use Rattle.replay_lines.proofs.Listening.{has_run, told_at, told_before}
 use Rattle.replay_lines.proofs.lines.hear_step.Goals as goal

@@ -1,4 +1,4 @@
-use Rattle.replay_lines.proofs.Prelude.{◌∙◌, ◌∷◌, Some, ap, map, Ok, past, plain, too_long, airs_of, listened, tellings}
+use Rattle.replay_lines.proofs.Prelude.{◌∙◌, Some, ap, map, Ok, past, plain, too_long, airs_of, listened, tellings}
 use Rattle.replay_lines.proofs.Endings.{ends_faulted}
 use Rattle.replay_lines.proofs.Hearing.{ended_told}
 use Rattle.replay_lines.proofs.LineSteps.{next_at, line_past, line_long, line_read, line_comes, line_ahead, step_line}

@@ -1,4 +1,4 @@
-use Rattle.replay_lines.proofs.Prelude.{◌+◌, ◌∙◌, inr, true, map, refl, arith, lines_of, none_run, airs_of, listened}
+use Rattle.replay_lines.proofs.Prelude.{◌+◌, ◌∙◌, inr, true, Some, ap, map, refl, arith, lines_of, none_run, airs_of, listened}
 use Rattle.replay_lines.proofs.Endings.{ends_at_once}
 use Rattle.replay_lines.proofs.Hearing.{wanted_told}
 use Rattle.replay_lines.proofs.ReadingOn.{none_within}
@@ -7,29 +7,62 @@ use Rattle.replay_lines.proofs.Listening.{has_none, telling_ends, telling_more, 
 use Rattle.replay_lines.proofs.Unassigned.{unassigned_at}
 use Rattle.replay_lines.proofs.lines.run_lines.Goals as goal
 
-pub returns-in_default-clause-ended : goal.returns-in_default-clause-ended
-returns-in_default-clause-ended g c =
+pub returns-in_default : goal.returns-in_default
+returns-in_default g c =
     let boxes = map (λ b. (goal.Outlet-dyn g (b.vtable, b.value)).account b.value) c.args.outlets.now.items in
     let left = g.S.ByteSource.left c.args.source.now in
-    let kept = g.K.ByteSink.contents c.args.sink.now in
-    wanted_told airs_of boxes boxes left left kept kept g.L.Listener.may_fail (ends_at_once boxes left kept)
+    let kept = g.K.ByteSink.contents c.args.sink.now in record {
+      ended = wanted_told airs_of boxes boxes left left kept kept g.L.Listener.may_fail (ends_at_once boxes left kept);
+      unassigned = λ text is. none_run boxes (lines_of true text) c.args.outlets.now.items;
+      told = inr (inr (inr (has_none g.L.Listener.row_of (listened g.L.Listener.told g.L.Listener.rows c.args.listener.now c.args.sink.now))));
+      within = none_within left;
+      read_fault = λ e. absurd (cc);
+      no_read_fault = λ e. refl;
+      write_fault = λ e. absurd (cc);
+      no_write_fault = λ e. refl;
+    }
 
-pub returns-in_default-new-clause-ended : goal.returns-in_default-new-clause-ended
-returns-in_default-new-clause-ended g c =
+pub returns-in_default-new : goal.returns-in_default-new
+returns-in_default-new g c =
     let boxes = map (λ b. (goal.Outlet-dyn g (b.vtable, b.value)).account b.value) c.args.outlets.now.items in
     let left = g.S.ByteSource.left c.args.source.now in
-    let kept = g.K.ByteSink.contents c.args.sink.now in
-    wanted_told airs_of boxes boxes left left kept kept g.L.Listener.may_fail (ends_at_once boxes left kept)
+    let kept = g.K.ByteSink.contents c.args.sink.now in record {
+      ended = wanted_told airs_of boxes boxes left left kept kept g.L.Listener.may_fail (ends_at_once boxes left kept);
+      unassigned = λ text is. none_run boxes (lines_of true text) c.args.outlets.now.items;
+      told = inr (inr (inr (has_none g.L.Listener.row_of (listened g.L.Listener.told g.L.Listener.rows c.args.listener.now c.args.sink.now))));
+      within = none_within left;
+      read_fault = λ e. absurd (cc);
+      no_read_fault = λ e. refl;
+      write_fault = λ e. absurd (cc);
+      no_write_fault = λ e. refl;
+    }
 
-pub returns-in_default-clause-within : goal.returns-in_default-clause-within
-returns-in_default-clause-within g c = none_within (g.S.ByteSource.left c.args.source.now)
-
-pub returns-in_default-new-clause-within : goal.returns-in_default-new-clause-within
-returns-in_default-new-clause-within g c = none_within (g.S.ByteSource.left c.args.source.now)
-
-pub returns-in-Some-clause-within : goal.returns-in-Some-clause-within
-returns-in-Some-clause-within g c =
-    c.run_line.ensures.within (g.S.ByteSource.left c.args.source.now) c.lines.invariant.running.lines c.lines.invariant.running.read
+pub returns-in-Some : goal.returns-in-Some
+returns-in-Some g c =
+    let starts = map (λ b. (goal.Outlet-dyn g (b.vtable, b.value)).account b.value) c.args.outlets.now.items in
+    let before = map (λ b. (goal.Outlet-dyn g (b.vtable, b.value)).account b.value) c.lines.outlets.items in
+    let left = g.S.ByteSource.left c.args.source.now in
+    let start = listened g.L.Listener.told g.L.Listener.rows c.args.listener.now c.args.sink.now in record {
+      ended = running_ends g.L.Listener.may_fail c.args.outlets.now.items c.lines.outlets.items starts before
+          (map (λ b. (goal.Outlet-dyn g (b.vtable, b.value)).account b.value) c.run_line.new.outlets.items)
+          left (g.S.ByteSource.left c.lines.source) (g.S.ByteSource.left c.run_line.new.source)
+          (g.K.ByteSink.contents c.args.sink.now) (g.K.ByteSink.contents c.lines.sink) (g.K.ByteSink.contents c.run_line.new.sink)
+          c.lines.number c.lines.reader c.run_line.new.reader c.lines.machine c.run_line.new.machine c.run_line.result c.in-Some.ending
+          c.lines.invariant.running c.in-Some.is (λ lines. c.run_line.ensures.runs starts lines left (g.K.ByteSink.contents c.args.sink.now));
+      unassigned = unassigned_at c.args.outlets.now.items c.lines.outlets.items c.run_line.new.outlets.items starts before
+          left (g.S.ByteSource.left c.lines.source) (g.K.ByteSink.contents c.args.sink.now) (g.K.ByteSink.contents c.lines.sink)
+          c.lines.number c.lines.reader c.lines.machine c.lines.invariant.running (λ lines. c.run_line.ensures.unassigned starts lines before);
+      told = telling_ends g.L.Listener.row_of left (g.S.ByteSource.left c.lines.source) (g.S.ByteSource.left c.run_line.new.source) start
+          (listened g.L.Listener.told g.L.Listener.rows c.lines.listener c.lines.sink)
+          (listened g.L.Listener.told g.L.Listener.rows c.run_line.new.listener c.run_line.new.sink)
+          c.lines.number c.lines.reader c.run_line.new.reader c.run_line.result c.in-Some.ending c.lines.invariant.telling c.in-Some.is
+          (λ lines. c.run_line.ensures.told lines left start);
+      within = c.run_line.ensures.within left c.lines.invariant.running.lines c.lines.invariant.running.read;
+      read_fault = λ e. rw c.lines.invariant.reads at (c.run_line.ensures.read_fault (c.in-Some.is ∙ ap Some e));
+      no_read_fault = λ other. c.run_line.ensures.no_read_fault (λ e. other (cc)) ∙ c.lines.invariant.reads;
+      write_fault = λ e. rw c.lines.invariant.writes at (c.run_line.ensures.write_fault (c.in-Some.is ∙ ap Some e));
+      no_write_fault = λ other. c.run_line.ensures.no_write_fault (λ e. other (cc)) ∙ c.lines.invariant.writes;
+    }
 
 pub lines-init : goal.lines-init
 lines-init g c = record {
@@ -66,49 +99,6 @@ lines-preserved g c = record {
   reads = c.in-None.ensures.no_read_fault (λ e. cc) ∙ c.lines.invariant.reads;
   writes = c.in-None.ensures.no_write_fault (λ e. cc) ∙ c.lines.invariant.writes;
 }
-
-pub returns-in-Some-clause-ended : goal.returns-in-Some-clause-ended
-returns-in-Some-clause-ended g c =
-    running_ends g.L.Listener.may_fail c.args.outlets.now.items c.lines.outlets.items (map (λ b. (goal.Outlet-dyn g (b.vtable, b.value)).account b.value) c.args.outlets.now.items)
-    (map (λ b. (goal.Outlet-dyn g (b.vtable, b.value)).account b.value) c.lines.outlets.items)
-    (map (λ b. (goal.Outlet-dyn g (b.vtable, b.value)).account b.value) c.run_line.new.outlets.items)
-    (g.S.ByteSource.left c.args.source.now) (g.S.ByteSource.left c.lines.source) (g.S.ByteSource.left c.run_line.new.source)
-    (g.K.ByteSink.contents c.args.sink.now) (g.K.ByteSink.contents c.lines.sink) (g.K.ByteSink.contents c.run_line.new.sink)
-    c.lines.number c.lines.reader c.run_line.new.reader c.lines.machine c.run_line.new.machine c.run_line.result c.in-Some.ending
-    c.lines.invariant.running c.in-Some.is
-    (λ lines. c.run_line.ensures.runs (map (λ b. (goal.Outlet-dyn g (b.vtable, b.value)).account b.value) c.args.outlets.now.items) lines
-    (g.S.ByteSource.left c.args.source.now) (g.K.ByteSink.contents c.args.sink.now))
-
-pub returns-in_default-clause-unassigned : goal.returns-in_default-clause-unassigned
-returns-in_default-clause-unassigned g c text is = none_run (map (λ b. (goal.Outlet-dyn g (b.vtable, b.value)).account b.value) c.args.outlets.now.items) (lines_of true text) c.args.outlets.now.items
-
-pub returns-in_default-new-clause-unassigned : goal.returns-in_default-new-clause-unassigned
-returns-in_default-new-clause-unassigned g c text is = none_run (map (λ b. (goal.Outlet-dyn g (b.vtable, b.value)).account b.value) c.args.outlets.now.items) (lines_of true text) c.args.outlets.now.items
-
-pub returns-in-Some-clause-unassigned : goal.returns-in-Some-clause-unassigned
-returns-in-Some-clause-unassigned g c =
-    let starts = (map (λ b. (goal.Outlet-dyn g (b.vtable, b.value)).account b.value) c.args.outlets.now.items) in
-    let before = (map (λ b. (goal.Outlet-dyn g (b.vtable, b.value)).account b.value) c.lines.outlets.items) in
-    unassigned_at c.args.outlets.now.items c.lines.outlets.items c.run_line.new.outlets.items starts before
-    (g.S.ByteSource.left c.args.source.now) (g.S.ByteSource.left c.lines.source) (g.K.ByteSink.contents c.args.sink.now) (g.K.ByteSink.contents c.lines.sink)
-    c.lines.number c.lines.reader c.lines.machine c.lines.invariant.running (λ lines. c.run_line.ensures.unassigned starts lines before)
-
-pub returns-in_default-clause-told : goal.returns-in_default-clause-told
-returns-in_default-clause-told g c =
-    inr (inr (inr (has_none g.L.Listener.row_of (listened g.L.Listener.told g.L.Listener.rows c.args.listener.now c.args.sink.now))))
-
-pub returns-in_default-new-clause-told : goal.returns-in_default-new-clause-told
-returns-in_default-new-clause-told g c =
-    inr (inr (inr (has_none g.L.Listener.row_of (listened g.L.Listener.told g.L.Listener.rows c.args.listener.now c.args.sink.now))))
-
-pub returns-in-Some-clause-told : goal.returns-in-Some-clause-told
-returns-in-Some-clause-told g c =
-    let start = listened g.L.Listener.told g.L.Listener.rows c.args.listener.now c.args.sink.now in
-    let old = listened g.L.Listener.told g.L.Listener.rows c.lines.listener c.lines.sink in
-    let new = listened g.L.Listener.told g.L.Listener.rows c.run_line.new.listener c.run_line.new.sink in
-    telling_ends g.L.Listener.row_of (g.S.ByteSource.left c.args.source.now) (g.S.ByteSource.left c.lines.source) (g.S.ByteSource.left c.run_line.new.source)
-    start old new c.lines.number c.lines.reader c.run_line.new.reader c.run_line.result c.in-Some.ending c.lines.invariant.telling c.in-Some.is
-    (λ lines. c.run_line.ensures.told lines (g.S.ByteSource.left c.args.source.now) start)
 
 pub run_line-requires : goal.run_line-requires
 run_line-requires g c = record {
