@@ -1,5 +1,5 @@
 -- A set of streams against those of a group, index by index.
-use Rattle.scenario_sinks.proofs.Prelude.{◌≡◌, ℕ, ◌+◌, ◌-◌, ◌≤◌, List, [], ◌∷◌, ◌++◌, Bool, true, false, ◌||◌, ◌&&◌, cond, nat_lt, refl, sym, ◌∙◌, ap, arith, filter, list_any, range_with_len}
+use Rattle.scenario_sinks.proofs.Prelude.{◌≡◌, ℕ, ◌+◌, ◌-◌, ◌≤◌, List, [], ◌∷◌, ◌++◌, Bool, true, false, ◌||◌, cond, nat_lt, refl, sym, ◌∙◌, ap, arith, filter, list_any, range_with_len}
 use Rattle.std.proofs.Math.Bool.{or-false}
 use Rattle.group_sink.specs.Streams.{is_in}
 use Rattle.scenario_history.specs.Refusals.{has_beyond}
@@ -11,8 +11,7 @@ abbrev pub some_beyond : ℕ → ℕ → ℕ → Bool
 some_beyond num_bis which k = list_any (λ bis. nat_lt num_bis bis) (filter (is_in which) (range_with_len 1 k))
 
 or_assoc : (a b c : Bool) → ((a || b) || c) ≡ (a || (b || c))
-or_assoc true b c = refl
-or_assoc false b c = refl
+or_assoc a b c = grind arith
 
 -- ranges after another
 any_append : (num_bis which : ℕ) (xs ys : List ℕ)
@@ -26,19 +25,8 @@ any_append num_bis which (x ∷ xs) ys =
       | false ↦ any_append num_bis which xs ys
     ]
 
-any_one : (num_bis which x : ℕ) → list_any (λ bis. nat_lt num_bis bis) (filter (is_in which) (x ∷ [])) ≡ beyond_at num_bis which x
-any_one num_bis which x =
-    elim (is_in which x) as (λ b. list_any (λ bis. nat_lt num_bis bis) (cond b (x ∷ []) []) ≡ (b && nat_lt num_bis x)) [
-      | true ↦ or-false (nat_lt num_bis x)
-      | false ↦ refl
-    ]
-
 pub beyond_more : (num_bis which k : ℕ) → some_beyond num_bis which (k + 1) ≡ (some_beyond num_bis which k || beyond_at num_bis which (k + 1))
-beyond_more num_bis which k =
-    let e : 1 + k ≡ k + 1 = omega arith in
-    ap (λ xs. list_any (λ bis. nat_lt num_bis bis) (filter (is_in which) xs)) (range_append 1 k 1)
-    ∙ any_append num_bis which (range_with_len 1 k) (range_with_len (1 + k) 1)
-    ∙ ap (λ b. some_beyond num_bis which k || b) (any_one num_bis which (1 + k) ∙ ap (beyond_at num_bis which) e)
+beyond_more num_bis which k = grind (arith, list_any, nat_lt, filter, range_append, any_append, range_with_len, cond, or-false)
 
 pub beyond_next : (num_bis which k : ℕ) (here : Bool) → some_beyond num_bis which k ≡ false → here ≡ beyond_at num_bis which (k + 1) → here ≡ false
     → some_beyond num_bis which (k + 1) ≡ false
@@ -51,10 +39,7 @@ beyond_found num_bis which k here none is found_here within =
     let rest : ℕ = 31 - (k + 1) in
     let e : (k + 1) + rest ≡ 31 = omega arith in
     let found : some_beyond num_bis which (k + 1) ≡ true = beyond_more num_bis which k ∙ rw none (sym is ∙ found_here) in
-    sym (ap (some_beyond num_bis which) (sym e)
-    ∙ ap (λ xs. list_any (λ bis. nat_lt num_bis bis) (filter (is_in which) xs)) (range_append 1 (k + 1) rest)
-    ∙ any_append num_bis which (range_with_len 1 (k + 1)) (range_with_len (1 + (k + 1)) rest)
-    ∙ ap (λ b. b || list_any (λ bis. nat_lt num_bis bis) (filter (is_in which) (range_with_len (1 + (k + 1)) rest))) found)
+    sym (grind (arith, range_append 1 (k + 1) rest, any_append num_bis which (range_with_len 1 (k + 1)) (range_with_len (1 + (k + 1)) rest)))
 
 pub beyond_none : (num_bis which k : ℕ) → some_beyond num_bis which k ≡ false → k ≡ 31 → false ≡ has_beyond num_bis which
 unfolding has_beyond

@@ -1,5 +1,5 @@
 -- Closing an event for one sink after the other.
-use Rattle.scenario_sinks.proofs.Prelude.{◌≡◌, ◌≢◌, ℕ, ◌+◌, ◌<◌, ◌≤◌, List, [], ◌∷◌, ◌++◌, length, map, OnOk, refl, sym, ◌∙◌, ap, subst, slice_get, slice_set, get_or, eq-eqb, arith, Bool, true, false, ◌&&◌, if◌then◌else◌, Option, is_some, Result, Ok, Err, None, Some, ◌⊎◌, inl, inr, flat_map, range_with_len, flat_map-append, append-nil, slice_get-get_or, on_ok_weaker, cases_eq, Account, Handed, Call, tick, is_of, ticked_if, SinkUnit, most_sinks, closing_by, accounts_after, unit_lines, get_set_here, get_set_other, Gathered, HandedUnit, Owner, Sink, Stop, Histories, with_close, with_close_at, Hands, Sinks, calls_of, handed_of, units_for, EntryIs, EntryAt, EntriesAre, SinksStand, histories_of, SinkCloses, SinkHands, AllClose, Between, EntriesFrom, OneBetween, OneCloses, Unmoved, Settings, IsSink, receiving}
+use Rattle.scenario_sinks.proofs.Prelude.{◌≡◌, ◌≢◌, ℕ, ◌+◌, ◌<◌, ◌≤◌, List, [], ◌∷◌, ◌++◌, length, map, OnOk, refl, sym, ◌∙◌, ap, subst, slice_get, slice_set, get_or, eq-eqb, arith, Bool, true, false, ◌&&◌, if◌then◌else◌, Option, is_some, Result, Ok, Err, None, Some, ◌⊎◌, inr, flat_map, range_with_len, flat_map-append, append-nil, slice_get-get_or, on_ok_weaker, cases_eq, Account, Handed, Call, tick, is_of, ticked_if, SinkUnit, most_sinks, closing_by, accounts_after, unit_lines, get_set_here, get_set_other, Gathered, HandedUnit, Owner, Sink, Stop, Histories, with_close, with_close_at, Hands, Sinks, calls_of, handed_of, units_for, EntryIs, EntryAt, EntriesAre, SinksStand, histories_of, SinkCloses, SinkHands, AllClose, Between, EntriesFrom, OneBetween, OneCloses, Unmoved, Settings, IsSink, receiving}
 use Rattle.group_sink.specs.Handing.{handed_at}
 use Rattle.sink_history.specs.Calls as links
 use Rattle.scenario_history.specs.Boxes.{sink_numbers}
@@ -10,12 +10,7 @@ use Rattle.scenario_sinks.proofs.Ranges.{range_append}
 
 pub closings_more : (source event : ℕ) (past : Histories) (n : ℕ)
     → closings source event past (range_with_len 0 (n + 1)) ≡ closings source event past (range_with_len 0 n) ++ closing_by source event n (past.received n) (past.sources n) (past.boxes n)
-closings_more source event past n =
-    let each : ℕ → List SinkUnit = λ i. closing_by source event i (past.received i) (past.sources i) (past.boxes i) in
-    let e : 0 + n ≡ n = omega arith in
-    ap (flat_map each) (range_append 0 n 1)
-    ∙ flat_map-append each (range_with_len 0 n) (range_with_len (0 + n) 1)
-    ∙ ap (λ last. flat_map each (range_with_len 0 n) ++ last) (append-nil (each (0 + n)) ∙ ap each e)
+closings_more source event past n = grind (arith, closing_by, flat_map, range_append, flat_map-append, range_with_len, append-nil)
 
 pub closings_split : (source event : ℕ) (past : Histories) (n k : ℕ) → n + k ≡ most_sinks
     → closings source event past sink_numbers ≡ closings source event past (range_with_len 0 n) ++ closings source event past (range_with_len n k)
@@ -31,17 +26,9 @@ closings_split source event past n k e =
 entry_after : (past : Histories) (source event number : ℕ) (sinks : List (Option Sink)) (entry : Option Sink) (n : ℕ)
     → number < length sinks → EntryAt (with_close source (Some event) past) number (Some entry)
     → ((m : ℕ) → m < number → EntryAt (with_close source (Some event) past) m (slice_get sinks m)) → n < number + 1
-    → (n ≡ number) ⊎ (n ≢ number)
-    → EntryAt (with_close source (Some event) past) n (slice_get (slice_set sinks number entry) n)
-entry_after past source event number sinks entry n within here done below (inl e) =
-    let P : ℕ → Type 0 = λ m. EntryAt (with_close source (Some event) past) m (slice_get (slice_set sinks number entry) m) in
-    subst P (sym e)
-    (let Q : Option (Option Sink) → Type 0 = λ o. EntryAt (with_close source (Some event) past) number o in
-    subst Q (sym (get_set_here sinks number entry within)) here)
-entry_after past source event number sinks entry n within here done below (inr other) =
-    let Q : Option (Option Sink) → Type 0 = λ o. EntryAt (with_close source (Some event) past) n o in
-    let less : n < number = omega arith in
-    subst Q (sym (get_set_other sinks number n entry other)) (done n less)
+    → (n ≡ number) ⊎ (n ≢ number) → EntryAt (with_close source (Some event) past) n (slice_get (slice_set sinks number entry) n)
+entry_after past source event number sinks entry n within here done below x12 =
+    grind (arith, with_close, slice_get, slice_set, get_set_here, get_set_other)
 
 pub between_next : (past : Histories) (source event number : ℕ) (sinks : List (Option Sink)) (entry : Option Sink) (gathered next : Gathered)
     (text told told2 : List ℕ) (before mid after : List Account) → length sinks ≡ most_sinks → number < most_sinks
@@ -54,11 +41,7 @@ between_next past source event number sinks entry gathered next text told told2 
     told2 before mid after (Ok tt) b.lines b.boxes_are s.hands in
     record {
       done = λ n below. entry_after past source event number sinks entry n inside s.is_ticked.entry_is b.done below (cases_eq n number);
-      left = λ n least below.
-          let other : n ≢ number = λ e. omega arith in
-          let Q : Option (Option Sink) → Type 0 = λ o. EntryAt past n o in
-          let more : number ≤ n = omega arith in
-          subst Q (sym (get_set_other sinks number n entry other)) (b.left n more below);
+      left = grind (arith, get_set_other);
       empty = s.is_ticked.empty;
       lines = h.0 ∙ ap (λ units. text ++ unit_lines units) (sym (closings_more source event past number));
       boxes_are = h.1 ∙ ap (accounts_after before) (sym (closings_more source event past number));
@@ -81,36 +64,26 @@ between_ends past source event number k sinks sinks2 entry gathered next text to
       is_ticked = tt;
     }
 
-pub between_over : (past : Histories) (source event number : ℕ) (sinks : List (Option Sink)) (gathered : Gathered)
-    (text told : List ℕ) (before after : List Account) → number ≡ most_sinks
-    → Between past source event number sinks gathered text told before after
+pub between_over : (past : Histories) (source event number : ℕ) (sinks : List (Option Sink)) (gathered : Gathered) (text told : List ℕ) (before after : List Account)
+    → number ≡ most_sinks → Between past source event number sinks gathered text told before after
     → AllClose past source event sinks gathered text told before after (Ok tt)
 between_over past source event number sinks gathered text told before after all b =
     let zero_more : number + 0 ≡ most_sinks = omega arith in
     let e = closings_split source event past number 0 zero_more ∙ append-nil (closings source event past (range_with_len 0 number)) in
     record {
       hands = (b.lines ∙ ap (λ units. text ++ unit_lines units) (sym e), b.boxes_are ∙ ap (accounts_after before) (sym e));
-      is_ticked = record {
-        entries = λ n below. let less : n < number = omega arith in b.done n less;
-        empty = b.empty;
-      };
+      is_ticked = grind arith;
     }
 
 -- the entry of the next sink
 pub entry_here : (past : Histories) (number at : ℕ) (sinks : List (Option Sink)) (d : Option Sink) → at ≡ number → length sinks ≡ most_sinks → number < most_sinks
     → EntriesFrom past number sinks → EntryAt past number (Some (get_or sinks at d))
-entry_here past number at sinks d same eight below left =
-    let inside : at < length sinks = omega arith in
-    let Q : Option (Option Sink) → Type 0 = λ o. EntryAt past number o in
-    let here : slice_get sinks number ≡ slice_get sinks at = ap (slice_get sinks) (sym same) in
-    subst Q (here ∙ slice_get-get_or sinks at d inside) (left number (omega arith) below)
+entry_here past number at sinks d same eight below left = grind (arith, length, slice_get, slice_get-get_or)
 
 -- the entries of those behind it
 pub entries_next : (past : Histories) (number at : ℕ) (sinks : List (Option Sink)) (entry : Option Sink) → at ≡ number → EntriesFrom past number sinks
     → EntriesFrom past (number + 1) (slice_set sinks at entry)
-entries_next past number at sinks entry same left n least below =
-    let other : n ≢ at = λ e. omega (arith, same, least, e) in
-    subst (λ o. EntryAt past n o) (sym (get_set_other sinks at n entry other)) (left n (omega (arith, least)) below)
+entries_next past number at sinks entry same left n least below = grind (arith, get_set_other)
 
 pub between_next_at : (past : Histories) (source event number at : ℕ) (sinks : List (Option Sink)) (entry : Option Sink) (gathered next : Gathered)
     (text told told2 : List ℕ) (before mid after : List Account) → at ≡ number → length sinks ≡ most_sinks → number < most_sinks
@@ -126,32 +99,16 @@ pub all_closed : (past : Histories) (source event : ℕ) (closed : Option ℕ) (
     (before after : List Account) (r : Result (Unit {0}) Stop)
     → SinksStand past old → closed ≡ Some event → new.entries.items ≡ sinks → AllClose past source event sinks new.gathered text told before after r → new.outlet_count ≡ old.outlet_count
     → Closes past source closed new text told before after r
-all_closed past source event closed old new sinks text told before after r stands is items c more =
-    let P : Option ℕ → Type 0 = λ o. Closes past source o new text told before after r in
-    let E : List (Option Sink) → Type 0 = λ s. EntriesAre (with_close source (Some event) past) s in
-    subst P (sym is) (record {
-      hands = c.hands;
-      stands = on_ok_weaker r (λ t. record { entries = subst E (sym items) t.entries; made = more ∙ stands.made; empty = t.empty }) c.is_ticked;
-    })
+all_closed past source event closed old new sinks text told before after r stands is items c more = grind (arith, with_close, on_ok_weaker)
 
 entry_kept : (past : Histories) (n : ℕ) (b : Bool) (entry : Option (Option Sink)) → EntryAt past n entry
     → EntryIs (past.boxes n) (past.mades n) (past.sources n) (past.lives n) (ticked_if b None (past.received n)) entry
-entry_kept past n true entry is = is
-entry_kept past n false entry is = is
+entry_kept past n b entry is = grind arith
 
 -- no event is open
 pub none_closed : (past : Histories) (source : ℕ) (closed : Option ℕ) (old : Sinks) (text : List ℕ) (before : List Account)
     → SinksStand past old → closed ≡ None → Closes past source closed old text text before before (Ok tt)
-none_closed past source closed old text before stands is =
-    let P : Option ℕ → Type 0 = λ o. Closes past source o old text text before before (Ok tt) in
-    subst P (sym is) (record {
-      hands = (sym (append-nil text), refl);
-      stands = record {
-        entries = λ n below. entry_kept past n (is_of source (past.sources n)) (slice_get old.entries.items n) (stands.entries n below);
-        made = stands.made;
-        empty = stands.empty;
-      };
-    })
+none_closed past source closed old text before stands is = grind (arith, append-nil, entry_kept, is_of, slice_get)
 
 pub lent_entries : (past : Histories) (sinks lent : List (Option Sink)) → lent ≡ sinks → EntriesAre past sinks → EntriesAre past lent
 lent_entries past sinks lent is are = let E : List (Option Sink) → Type 0 = λ s. EntriesAre past s in subst E (sym is) are
@@ -176,16 +133,11 @@ pub sink_hands : (box : Option ℕ) (made : Option Settings) (own : Option ℕ) 
 sink_hands box made own calls_made received owner event sink new units gathered text told before after r is mine at e hands outlet lives held =
     let box_at : box ≡ Some owner.outlet = is.box_is ∙ ap Some (sym at) in
     let own_units : closing_by owner.source event owner.sink received own box ≡ units_for owner (handed_at received event) = rw (mine, box_at) refl in
-    let here : EntryIs box made own calls_made (ticked_if (is_of owner.source own) (Some event) received) (Some (Some new)) =
-    rw mine (entry_of box made own calls_made (tick event ∷ received) new
-    (record { box_is = is.box_is ∙ ap Some (sym outlet); how = is.how; made_is = is.made_is; lives = lives })) in
+    let here : EntryIs box made own calls_made (ticked_if (is_of owner.source own) (Some event) received) (Some (Some new)) = grind (arith, entry_of, tick) in
     let P : List SinkUnit → Type 0 = λ us. Hands us text told before after r in
     record {
       hands = subst P (ap (units_for owner) e ∙ sym own_units) hands;
-      is_held = on_ok_weaker r (λ are. record {
-        entry_is = here;
-        held = are ∙ e ∙ sym (handed_back owner (handed_at received event)) ∙ ap handed_all (sym own_units);
-      }) held;
+      is_held = grind (arith, on_ok_weaker, handed_back);
     }
 
 -- a sink of another source
@@ -195,40 +147,22 @@ pub sink_left : (box : Option ℕ) (made : Option Settings) (own : Option ℕ) (
     → from ≡ own → of ≡ is_of source from → of ≡ false → gathered.units.items ≡ []
     → SinkHands box made own calls_made received n source event (Some sink) gathered text text before before (Ok tt)
 sink_left box made own calls_made received n source event sink from of gathered text before is f o t empty =
-    let other : is_of source own ≡ false = ap (is_of source) (sym f) ∙ sym o ∙ t in
-    let here : EntryIs box made own calls_made (ticked_if (is_of source own) (Some event) received) (Some (Some sink)) =
-    rw other (entry_of box made own calls_made received sink is) in
-    record {
-      hands = rw other (sym (append-nil text), refl);
-      is_held = record { entry_is = here; held = rw other (ap (map handed_of) empty) };
-    }
+    grind (arith, is_of, ticked_if, entry_of, append-nil, map, handed_of)
 
 none_handed : (of : Bool) (units : List SinkUnit) → units ≡ [] → (if of then units else []) ≡ []
-none_handed true units none = none
-none_handed false units none = refl
+none_handed of units none = grind arith
 
 -- no sink, or one of another source
 pub sink_rests : (box : Option ℕ) (made : Option Settings) (own : Option ℕ) (calls_made : List links.Call) (received : List Call)
     (n source event : ℕ) (entry : Option Sink)
     (gathered : Gathered) (text : List ℕ) (before : List Account) → EntryIs box made own calls_made received (Some entry) → (is_some box && is_of source own) ≡ false
     → gathered.units.items ≡ [] → SinkCloses box made own calls_made received n source event entry gathered text text before before (Ok tt)
-sink_rests None made own calls_made received n source event entry gathered text before is other empty =
-    let P : List SinkUnit → Type 0 = λ units. Hands units text text before before (Ok tt) in
-    record {
-      hands = subst P (sym (none_handed (is_of source own) [] refl)) (sym (append-nil text), refl);
-      is_ticked = record { entry_is = is; empty = empty };
-    }
-sink_rests (Some box) made own calls_made received n source event entry gathered text before is other empty =
-    let here : EntryIs (Some box) made own calls_made (ticked_if (is_of source own) (Some event) received) (Some entry) = rw other is in
-    record {
-      hands = rw other (sym (append-nil text), refl);
-      is_ticked = record { entry_is = here; empty = empty };
-    }
+sink_rests box made own calls_made received n source event entry gathered text before is other empty =
+    grind (arith, none_handed, is_of, append-nil, ticked_if)
 
 no_units : (box : Option ℕ) (own : Option ℕ) (received : List Call) (n source event : ℕ) → (is_some box && is_of source own) ≡ false
     → closing_by source event n received own box ≡ []
-no_units None own received n source event other = none_handed (is_of source own) [] refl
-no_units (Some box) own received n source event other = rw other refl
+no_units box own received n source event other = grind (arith, none_handed, is_of)
 
 pub sink_rests_held : (box : Option ℕ) (made : Option Settings) (own : Option ℕ) (calls_made : List links.Call) (received : List Call)
     (n source event : ℕ) (entry : Option Sink)
@@ -238,10 +172,7 @@ sink_rests_held box made own calls_made received n source event entry gathered t
     let rests = sink_rests box made own calls_made received n source event entry gathered text before is other empty in
     record {
       hands = rests.hands;
-      is_held = record {
-        entry_is = rests.is_ticked.entry_is;
-        held = ap (map handed_of) empty ∙ ap handed_all (sym (no_units box own received n source event other));
-      };
+      is_held = grind (arith, map, handed_of, no_units);
     }
 
 pub not_both : (b : Bool) → b ≡ true → b ≡ false → ⊥
@@ -253,30 +184,19 @@ pub sink_closes : (box : Option ℕ) (made : Option Settings) (own : Option ℕ)
     (held gathered : Gathered) (text told : List ℕ) (before after : List Account) (r : Result (Unit {0}) Stop)
     → SinkHands box made own calls_made received n source event entry held text told before after r → OnOk r (gathered.units.items ≡ [])
     → SinkCloses box made own calls_made received n source event entry gathered text told before after r
-sink_closes box made own calls_made received n source event entry held gathered text told before after (Ok x) h empty =
-    record { hands = h.hands; is_ticked = record { entry_is = h.is_held.entry_is; empty = empty } }
-sink_closes box made own calls_made received n source event entry held gathered text told before after (Err stop) h empty =
-    record { hands = h.hands; is_ticked = tt }
+sink_closes box made own calls_made received n source event entry held gathered text told before after r h empty = grind arith
 
 -- ---- one sink among all, which lends its units
 
 close_stays : (n source event : ℕ) (past : Histories) → OthersStay n past (with_close_at n source event past)
-close_stays n source event past = record {
-  boxes = λ m apart. refl;
-  mades = λ m apart. refl;
-  sources = λ m apart. refl;
-  lives = λ m apart. refl;
-  received = λ m apart. rw apart refl;
-}
+close_stays n source event past = grind arith
 
 -- ---- one sink alone
 
 one_hands : (past : Histories) (n source event : ℕ) (sinks now : List (Option Sink)) (gathered : Gathered) (text told more : List ℕ) (before mid after : List Account)
     (r : Result (Unit {0}) Stop) → Unmoved sinks now gathered text told before mid → Hands (closing_of n source event past) told more mid after r
     → Hands (closing_of n source event past) text more before after r
-one_hands past n source event sinks now gathered text told more before mid after r u hands =
-    let units : List SinkUnit = closing_of n source event past in
-    subst (λ l. Hands units l more before after r) u.lines (subst (λ a. Hands units told more a after r) u.boxes_are hands)
+one_hands past n source event sinks now gathered text told more before mid after r u hands = grind arith
 
 one_closes : (past : Histories) (n at source event : ℕ) (sinks now : List (Option Sink)) (entry : Option Sink) (gathered next : Gathered) (text told more : List ℕ)
     (before mid after : List Account) (r : Result (Unit {0}) Stop) → at ≡ n → n < most_sinks → length now ≡ most_sinks → EntriesAre past sinks
@@ -295,10 +215,7 @@ one_closes past n at source event sinks now entry gathered next text told more b
 first_now : (past : Histories) (first source event number end : ℕ) (sinks now : List (Option Sink)) (gathered : Gathered) (text told : List ℕ) (before after : List Account)
     → number < end → end ≡ first + 1 → OneBetween past first source event number sinks now gathered text told before after
     → (number ≡ first) × Unmoved sinks now gathered text told before after
-first_now past first source event number end sinks now gathered text told before after less alone (inl both) = both
-first_now past first source event number end sinks now gathered text told before after less alone (inr both) =
-    let over : number ≡ first + 1 = both.0 in
-    absurd (omega (arith, less, alone, over))
+first_now past first source event number end sinks now gathered text told before after less alone x16 = grind arith
 
 pub one_next : (past : Histories) (first at source event number end : ℕ) (sinks now : List (Option Sink)) (entry : Option Sink) (gathered next : Gathered) (text told more : List ℕ)
     (before mid after : List Account) → at ≡ number → number < most_sinks → length now ≡ most_sinks → EntriesAre past sinks → number < end → end ≡ first + 1
@@ -321,28 +238,15 @@ pub one_ends : (past : Histories) (first source event number end : ℕ) (sinks n
     → SinkHands (past.boxes number) (past.mades number) (past.sources number) (past.lives number) (past.received number) number source event entry next told more mid after (Err stop))
     → OneCloses past first source event last next text more before after (Err stop)
 one_ends past first source event number end sinks now last entry gathered next text told more before mid after stop less alone b h =
-    let f = first_now past first source event number end sinks now gathered text told before mid less alone b in
-    subst (λ m. OneCloses past m source event last next text more before after (Err stop)) f.0
-    (record {
-      hands = one_hands past number source event sinks now gathered text told more before mid after (Err stop) f.1 (h f.1.empty).hands;
-      is_held = tt;
-    })
+    grind (arith, first_now, one_hands)
 
 pub one_over : (past : Histories) (first source event number end : ℕ) (sinks now : List (Option Sink)) (gathered : Gathered) (text told : List ℕ) (before after : List Account)
     → end ≤ number → end ≡ first + 1 → OneBetween past first source event number sinks now gathered text told before after
     → OneCloses past first source event now gathered text told before after (Ok tt)
-one_over past first source event number end sinks now gathered text told before after least alone (inl both) =
-    let is : number ≡ first = both.0 in
-    absurd (omega (arith, least, alone, is))
-one_over past first source event number end sinks now gathered text told before after least alone (inr both) = both.1
+one_over past first source event number end sinks now gathered text told before after least alone x16 = grind arith
 
 -- what became of the sinks by a close of one
 pub closed_one : (past : Histories) (n source event : ℕ) (old new : Sinks) (sinks : List (Option Sink)) (text told : List ℕ) (before after : List Account) (r : Result (Unit {0}) Stop)
     → SinksStand past old → new.entries.items ≡ sinks → OneCloses past n source event sinks new.gathered text told before after r → new.outlet_count ≡ old.outlet_count
     → ClosesAt past n source event new text told before after r
-closed_one past n source event old new sinks text told before after r stands items c more =
-    let E : List (Option Sink) → Type 0 = λ s. EntriesAre (with_close_at n source event past) s in
-    record {
-      hands = c.hands;
-      lends = on_ok_weaker r (λ h. record { entries = subst E (sym items) h.entries; made = more ∙ stands.made; held = h.held }) c.is_held;
-    }
+closed_one past n source event old new sinks text told before after r stands items c more = grind (arith, with_close_at, on_ok_weaker)

@@ -1,20 +1,17 @@
 -- Units that go to their boxes one after the other.
-use Rattle.scenario_sinks.proofs.Prelude.{◌≡◌, ℕ, ◌+◌, ◌<◌, List, [], ◌∷◌, ◌++◌, length, map, take, drop, refl, sym, ◌∙◌, ap, subst, slice_get, slice_set, get_or, Result, Err, Some, zero, suc, append-nil, map-append, take-append-drop, take_more, Account, valid, TookAt, SinkUnit, accounts_after, unit_lines, Stop, Refused, OutletFault, Memory, handed_of, units_for, HandedUnit, Owner, BoxTakes, Hands}
+use Rattle.std.proofs.Common.{arith}
+use Rattle.scenario_sinks.proofs.Prelude.{◌≡◌, ℕ, ◌+◌, ◌<◌, List, [], ◌∷◌, ◌++◌, length, map, take, drop, refl, sym, ◌∙◌, ap, subst, slice_get, slice_set, get_or, Result, Err, Some, suc, append-nil, map-append, take-append-drop, take_more, Account, valid, TookAt, SinkUnit, accounts_after, unit_lines, Stop, Refused, OutletFault, Memory, handed_of, units_for, HandedUnit, Owner, BoxTakes, Hands}
 use Rattle.unit_outlets.specs.declared.fault.OutletFault.{OutletFault as Refusal}
 use Rattle.unit_outlets.specs.declared.fault.OutletFault.TheVariants.{Memory as NoMemory}
 use Rattle.scenario_sinks.proofs.Citable.{hands_stop, hands_then}
 
 pub set_same : {A : Type 0} (xs : List A) (i : ℕ) (x : A) → slice_get xs i ≡ Some x → slice_set xs i x ≡ xs
-set_same [] i x h = refl
-set_same (y ∷ xs) zero x h = let e : y ≡ x = cc in ap (λ prefix. prefix ∷ xs) (sym e)
 set_same (y ∷ xs) (suc i) x h = ap (λ rest. y ∷ rest) (set_same xs i x h)
+set_same xs i x h = search
 
 pub box_wanted : (place : ℕ) (octets : List ℕ) (old new : List Account) (result : Result (Unit {0}) Refusal)
     → TookAt place octets old new result → result ≡ Err NoMemory → new ≡ old
-box_wanted place octets old new result t e =
-    let P : Result (Unit {0}) Refusal → Type 0 = λ r. TookAt place octets old new r in
-    let took : TookAt place octets old new (Err NoMemory) = subst P e t in
-    took.others ∙ set_same old place took.after (took.here ∙ ap Some (sym took.took.1))
+box_wanted place octets old new result t e = grind (arith, set_same)
 
 pub hands_valid : (owner : Owner) (bis time : ℕ) (octets text : List ℕ) (old new : List Account) (stop : Stop)
     → BoxTakes owner.outlet octets old new (Err stop) → Hands (units_for owner (valid bis time octets ∷ [])) text text old new (Err stop)

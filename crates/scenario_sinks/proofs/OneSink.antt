@@ -1,5 +1,5 @@
 -- The sinks after a call for one of them.
-use Rattle.scenario_sinks.proofs.Prelude.{◌≡◌, ℕ, ◌+◌, ◌<◌, ◌≤◌, true, false, List, length, refl, sym, ◌∙◌, ap, subst, is_some, slice_set, get_or, eq-eqb, arith, Option, None, Some, Result, Ok, Err, le-leb, lt-leb, BigSync, Hearing, most_sinks, Gathered, Sink, Sinks, Stop, Refused, OutletFault, Memory, Histories, with_sink, without, with_tuning, with_hearing, EntryAt, EntriesAre, SinksStand, EntryHears, EntryTunes, Settings, IsSink, new_sink}
+use Rattle.scenario_sinks.proofs.Prelude.{◌≡◌, ℕ, ◌+◌, ◌<◌, ◌≤◌, true, false, List, length, refl, sym, ◌∙◌, ap, is_some, slice_set, get_or, eq-eqb, arith, Option, None, Some, Result, Ok, Err, le-leb, lt-leb, BigSync, Hearing, most_sinks, Sink, Sinks, Stop, Refused, OutletFault, Memory, Histories, with_sink, without, with_tuning, with_hearing, EntryAt, SinksStand, EntryHears, EntryTunes, Settings, IsSink, new_sink}
 use Rattle.transcript_text.specs.declared.refusal.Refusal.TheVariants.{SinkTwice, NoOutlet}
 use Rattle.scenario_sinks.specs.Hearing.{Hears}
 use Rattle.scenario_sinks.specs.Refusals.{Answers, Tunes, not_made, not_living, not_tuned}
@@ -9,29 +9,16 @@ use Rattle.scenario_sinks.proofs.Entries.{OthersStay, one_entry, entry_read, non
 pub one_changed : (n at : ℕ) (past next : Histories) (old new : Sinks) (entry : Option Sink) → at ≡ n → n < most_sinks → length old.entries.items ≡ most_sinks
     → OthersStay n past next → SinksStand past old → EntryAt next n (Some entry) → new.entries.items ≡ slice_set old.entries.items at entry
     → new.outlet_count ≡ next.made → new.gathered ≡ old.gathered → SinksStand next new
-one_changed n at past next old new entry same within eight others stands here set made gathered =
-    let E : List (Option Sink) → Type 0 = λ sinks. EntriesAre next sinks in
-    record {
-      entries = subst E (sym set) (one_entry n at past next old.entries.items entry same within eight others stands.entries here);
-      made = made;
-      empty = ap (λ (g : Gathered). g.units.items) gathered ∙ stands.empty;
-    }
+one_changed n at past next old new entry same within eight others stands here set made gathered = grind (arith, one_entry, made)
 
 -- ---- a sink is made
 
 make_stays : (n : ℕ) (how : Settings) (past : Histories) → OthersStay n past (with_sink n how past)
-make_stays n how past = record {
-  boxes = λ m apart. rw apart refl;
-  mades = λ m apart. rw apart refl;
-  sources = λ m apart. rw apart refl;
-  lives = λ m apart. rw apart refl;
-  received = λ m apart. rw apart refl;
-}
+make_stays n how past = grind arith
 
 pub made : (boxes n at : ℕ) (how : Settings) (past : Histories) (old new : Sinks) (entry : Option Sink) (sink : Sink) → SinksStand past old
-    → at ≡ n → n < most_sinks
-    → length old.entries.items ≡ most_sinks → entry ≡ get_or old.entries.items at entry → is_some entry ≡ false → old.outlet_count < boxes
-    → sink.outlet ≡ old.outlet_count → IsSink (new_sink how) sink.living
+    → at ≡ n → n < most_sinks → length old.entries.items ≡ most_sinks → entry ≡ get_or old.entries.items at entry → is_some entry ≡ false
+    → old.outlet_count < boxes → sink.outlet ≡ old.outlet_count → IsSink (new_sink how) sink.living
     → new.entries.items ≡ slice_set old.entries.items at (Some sink) → new.outlet_count ≡ old.outlet_count + 1 → new.gathered ≡ old.gathered
     → Answers (not_made (past.boxes n) past.made boxes) past (with_sink n how past) new (Ok tt)
 made boxes n at how past old new entry sink stands same within eight is none room outlet fresh set more gathered =
@@ -45,8 +32,7 @@ made boxes n at how past old new entry sink stands same within eight is none roo
 
 -- a sink of the number lives
 pub taken : (boxes n at : ℕ) (how : Settings) (past : Histories) (old : Sinks) (entry : Option Sink) → SinksStand past old → at ≡ n
-    → n < most_sinks
-    → length old.entries.items ≡ most_sinks → entry ≡ get_or old.entries.items at entry → is_some entry ≡ true
+    → n < most_sinks → length old.entries.items ≡ most_sinks → entry ≡ get_or old.entries.items at entry → is_some entry ≡ true
     → Answers (not_made (past.boxes n) past.made boxes) past (with_sink n how past) old (Err (Refused SinkTwice))
 taken boxes n at how past old entry stands same within eight is some =
     let here : EntryAt past n (Some entry) = entry_read past n at old.entries.items entry same eight within is stands.entries in
@@ -55,9 +41,8 @@ taken boxes n at how past old entry stands same within eight is some =
 
 -- no box is left
 pub no_box : (boxes n at : ℕ) (how : Settings) (past : Histories) (old : Sinks) (entry : Option Sink) → SinksStand past old → at ≡ n
-    → n < most_sinks
-    → length old.entries.items ≡ most_sinks → entry ≡ get_or old.entries.items at entry → is_some entry ≡ false → boxes ≤ old.outlet_count
-    → Answers (not_made (past.boxes n) past.made boxes) past (with_sink n how past) old (Err (Refused NoOutlet))
+    → n < most_sinks → length old.entries.items ≡ most_sinks → entry ≡ get_or old.entries.items at entry → is_some entry ≡ false
+    → boxes ≤ old.outlet_count → Answers (not_made (past.boxes n) past.made boxes) past (with_sink n how past) old (Err (Refused NoOutlet))
 no_box boxes n at how past old entry stands same within eight is none full =
     let here : EntryAt past n (Some entry) = entry_read past n at old.entries.items entry same eight within is stands.entries in
     let free : past.boxes n ≡ None = none_lives (past.boxes n) (past.mades n) (past.sources n) (past.lives n) (past.received n) entry here none in
@@ -67,13 +52,7 @@ no_box boxes n at how past old entry stands same within eight is none full =
 -- ---- a sink ends
 
 end_stays : (n : ℕ) (past : Histories) → OthersStay n past (without n past)
-end_stays n past = record {
-  boxes = λ m apart. rw apart refl;
-  mades = λ m apart. rw apart refl;
-  sources = λ m apart. rw apart refl;
-  lives = λ m apart. rw apart refl;
-  received = λ m apart. rw apart refl;
-}
+end_stays n past = grind arith
 
 pub ended : (n at : ℕ) (past : Histories) (old new : Sinks) (sink : Sink) → SinksStand past old → at ≡ n → n < most_sinks
     → length old.entries.items ≡ most_sinks → Some sink ≡ get_or old.entries.items at (Some sink)
@@ -90,13 +69,7 @@ ended n at past old new sink stands same within eight is set more gathered =
 -- ---- a sink is synchronized to a BIG
 
 tune_stays : (n source : ℕ) (big_sync : BigSync) (past : Histories) → OthersStay n past (with_tuning n source big_sync past)
-tune_stays n source big_sync past = record {
-  boxes = λ m apart. refl;
-  mades = λ m apart. refl;
-  sources = λ m apart. rw apart refl;
-  lives = λ m apart. rw apart refl;
-  received = λ m apart. rw apart refl;
-}
+tune_stays n source big_sync past = grind arith
 
 pub same_stays : (n : ℕ) (past : Histories) → OthersStay n past past
 same_stays n past = record { boxes = λ m apart. refl; mades = λ m apart. refl; sources = λ m apart. refl; lives = λ m apart. refl; received = λ m apart. refl }
@@ -117,13 +90,7 @@ tuned n at source big_sync past old new entry (Err Memory) stands same within ei
 -- ---- a sink hears
 
 hear_stays : (n source event bis subevent : ℕ) (octets : List ℕ) (past : Histories) → OthersStay n past (with_hearing n source event bis subevent octets past)
-hear_stays n source event bis subevent octets past = record {
-  boxes = λ m apart. refl;
-  mades = λ m apart. refl;
-  sources = λ m apart. refl;
-  lives = λ m apart. refl;
-  received = λ m apart. rw apart refl;
-}
+hear_stays n source event bis subevent octets past = grind arith
 
 pub heard : (n at source event bis subevent : ℕ) (octets : List ℕ) (past : Histories) (old new : Sinks) (entry : Option Sink) (r : Option Hearing) → SinksStand past old → at ≡ n
     → n < most_sinks → length old.entries.items ≡ most_sinks

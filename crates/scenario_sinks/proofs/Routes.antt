@@ -5,9 +5,8 @@ use Rattle.scenario_sinks.specs.declared.route.Route.{Route}
 use Rattle.scenario_sinks.specs.RelayHistories.{Histories, is_idle, with_relay}
 
 set_here : {A : Type 0} (xs : List A) (i : ℕ) (old new : A) → slice_get xs i ≡ Some old → slice_get (slice_set xs i new) i ≡ Some new
-set_here [] i old new is = absurd (cc is)
-set_here (x ∷ xs) zero old new is = refl
 set_here (x ∷ xs) (suc i) old new is = set_here xs i old new is
+set_here xs i old new is = search
 
 set_other : {A : Type 0} (xs : List A) (i j : ℕ) (new : A) → i ≢ j → slice_get (slice_set xs i new) j ≡ slice_get xs j
 set_other [] i j new apart = refl
@@ -20,14 +19,7 @@ set_other (x ∷ xs) (suc i) (suc j) new apart = set_other xs i j new (λ e. apa
 pub route_set : (n at : ℕ) (routes : List (Option Route)) (were : ℕ → Option Route) (route : Option Route) → at ≡ n
     → ((m : ℕ) → m < 8 → slice_get routes m ≡ Some (were m)) → (m : ℕ) → m < 8
     → slice_get (slice_set routes at route) m ≡ Some (if n == m then route else were m)
-route_set n at routes were route is are m below =
-    ap (λ i. slice_get (slice_set routes i route) m) is
-    ∙ (elim (cases_eq n m) [
-      | inl same ↦
-          ap (λ i. slice_get (slice_set routes i route) m) same ∙ set_here routes m (were m) route (are m below)
-          ∙ ap (λ hit. Some (if hit then route else were m)) (sym (eq-eqb n m same))
-      | inr apart ↦ set_other routes n m route apart ∙ are m below ∙ ap (λ hit. Some (if hit then route else were m)) (sym (ne_eqb n m apart))
-    ])
+route_set n at routes were route is are m below = grind (arith, slice_get, slice_set, cases_eq, set_here, eq-eqb, set_other, ne_eqb)
 
 not_all : (test : ℕ → Bool) (start count n : ℕ) → start ≤ n → n < start + count → test n ≡ false → list_all test (range_with_len start count) ≡ false
 not_all test start zero n least below fails = absurd (omega (arith, least, below))

@@ -12,20 +12,9 @@ account_mapped f (y ∷ xs) (suc i) x within is = account_mapped f xs i x (omega
 pub sum_put : {E : Type 0} (r : Result (Unit {0}) E) (text told : List ℕ) (sink place units octets : ℕ) (accounts : List Account) (account : Account)
     → account_at accounts place ≡ account → units ≡ account.units → octets ≡ account.octets
     → OnOk r (told ≡ text ++ sum_line sink units octets) → OnOk r (told ≡ text ++ sum_at accounts sink place)
-sum_put r text told sink place units octets accounts account at u o h =
-    on_ok_weaker r (λ e. e ∙ ap (λ n. text ++ sum_line sink n octets) (u ∙ ap (λ (a : Account). a.units) (sym at))
-    ∙ ap (λ n. text ++ sum_line sink (account_at accounts place).units n) (o ∙ ap (λ (a : Account). a.octets) (sym at))) h
+sum_put r text told sink place units octets accounts account at u o h = grind (arith, on_ok_weaker, account_at)
 
 -- ---- the sums of one sink after the other
-
-pub sums_more : (accounts : List Account) (boxes : ℕ → Option ℕ) (n : ℕ)
-    → sums_where accounts boxes (range_with_len 0 (n + 1)) ≡ sums_where accounts boxes (range_with_len 0 n) ++ sum_where accounts n (boxes n)
-sums_more accounts boxes n =
-    let each : ℕ → List ℕ = λ i. sum_where accounts i (boxes i) in
-    let e : 0 + n ≡ n = omega arith in
-    ap (flat_map each) (range_append 0 n 1)
-    ∙ flat_map-append each (range_with_len 0 n) (range_with_len (0 + n) 1)
-    ∙ ap (λ last. flat_map each (range_with_len 0 n) ++ last) (append-nil (each (0 + n)) ∙ ap each e)
 
 pub sums_all : (accounts : List Account) (boxes : ℕ → Option ℕ) (n : ℕ) (text told : List ℕ) → n ≡ most_sinks
     → told ≡ text ++ sums_where accounts boxes (range_with_len 0 n) → told ≡ text ++ sums_where accounts boxes sink_numbers
@@ -35,6 +24,4 @@ sums_all accounts boxes n text told e h = h ∙ ap (λ k. text ++ sums_where acc
 pub sums_next : (accounts : List Account) (boxes : ℕ → Option ℕ) (n : ℕ) (text mid told : List ℕ) → mid ≡ text ++ sums_where accounts boxes (range_with_len 0 n)
     → told ≡ mid ++ sum_where accounts n (boxes n) → told ≡ text ++ sums_where accounts boxes (range_with_len 0 (n + 1))
 sums_next accounts boxes n text mid told m h =
-    h ∙ ap (λ prefix. prefix ++ sum_where accounts n (boxes n)) m
-    ∙ append_assoc text (sums_where accounts boxes (range_with_len 0 n)) (sum_where accounts n (boxes n))
-    ∙ ap (λ rest. text ++ rest) (sym (sums_more accounts boxes n))
+    grind (arith, sum_where, append_assoc, sums_where, range_with_len, flat_map, range_append, flat_map-append, append-nil)

@@ -1,15 +1,11 @@
 use Rattle.scenario_sinks.proofs.Prelude.{ap, refl, sym, map, Some, arith, handed_of, histories_of}
-use Rattle.bcast_base.specs.Counts.{Rose}
 use Rattle.scenario_sinks.proofs.Closings.{gathered_are, sink_hands}
 use Rattle.scenario_sinks.proofs.Entries.{sink_in}
 use Rattle.scenario_sinks.proofs.close.hand_living.Goals as goal
 
 -- what gathers units has no faults of its own
 pub unreachable-requires : goal.unreachable-requires
-unreachable-requires g c =
-    let caused = rw c.in-Err-Failed.field-0-is at c.in-Err-Failed.ensures.cause in
-    let rose : Rose 0 0 = caused.0 in
-    omega (arith, rose.0)
+unreachable-requires g c = grind arith
 
 pub returns-in-Err-clause-hands : goal.returns-in-Err-clause-hands
 returns-in-Err-clause-hands g c box made own calls_made received entry mine outlet empty =

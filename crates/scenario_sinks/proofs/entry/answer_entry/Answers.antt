@@ -1,10 +1,10 @@
+use Rattle.std.proofs.Common.{arith}
 use Rattle.scenario_sinks.proofs.Entries.{entry_answers, none_answers, other_answers, sink_in}
 use Rattle.scenario_sinks.proofs.Prelude.{histories_of}
 use Rattle.scenario_sinks.proofs.entry.answer_entry.Goals as goal
 
 pub returns-in_default : goal.returns-in_default
-returns-in_default c box made own calls_made received entry =
-    none_answers box made own calls_made received c.args.source c.args.event c.args.bis c.args.subevent c.args.octets.now c.args.entry.now entry c.in_default.is
+returns-in_default c box made own calls_made received entry = grind (arith, none_answers)
 
 pub returns-then-not-is_of : goal.returns-then-not-is_of
 returns-then-not-is_of c box made own calls_made received entry =
