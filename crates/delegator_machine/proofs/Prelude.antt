@@ -5,6 +5,7 @@ pub use Rattle.bass_operations.specs.Reading.{op_of}
 pub use Rattle.bass_operations.specs.declared.fault.OpFault.{OpFault}
 pub use Rattle.bass_operations.specs.declared.operation.Operation.{Operation}
 pub use Rattle.delegator_control.proofs.Wanting.{on_any_err}
+pub use Rattle.delegator_control.specs.Following.{is_followed, has_base}
 pub use Rattle.delegator_control.specs.Groups.{has_group}
 pub use Rattle.delegator_control.specs.State.Machines.{Machine, moved, machine}
 pub use Rattle.delegator_history.specs.Snapshots.{Place, idle, on_train, on_group, Snapshot, entry_at, is_on_group, slot_of, is_on}

@@ -1,5 +1,5 @@
 -- A train that is heard synchronizes the sink to a BIG, or leaves it off one.
-use Rattle.delegator_machine.proofs.Prelude.{ℕ, ◌≡◌, Bool, true, false, List, ◌∷◌, Option, Some, None, refl, sym, ◌∙◌, ap, not, if◌then◌else◌, Place, idle, on_train, on_group, Snapshot, entry_at, is_on_group, train_heard, snapshot_of, nothing, after, wishes_at, TrainOutcome, Setup, Train, ignored, heard, taken, base_in, outcome_by, by_base, by_broadcast_id, by_slot, done_by_outcome, is_elsewhere, is_wanted, big_sync_in, BigSync, has_group, Machine, moved, Call, control, steps_of, group_calls, by_numbers, Halves, StandsFor}
+use Rattle.delegator_machine.proofs.Prelude.{ℕ, ◌≡◌, Bool, true, false, List, ◌∷◌, Option, Some, None, option_map, refl, sym, ◌∙◌, ap, not, is_some, if◌then◌else◌, Place, idle, on_train, on_group, Snapshot, entry_at, is_on_group, train_heard, snapshot_of, nothing, after, wishes_at, TrainOutcome, Setup, Train, ignored, heard, taken, base_in, outcome_by, by_base, by_broadcast_id, by_slot, done_by_outcome, is_elsewhere, is_wanted, big_sync_in, BigSync, OnGroup, fresh_on, has_base, is_followed, has_group, Machine, moved, Call, control, steps_of, group_calls, by_numbers, Halves, StandsFor}
 use Rattle.base_grammar.specs.AdReading.{broadcast_id_of}
 use Rattle.delegator_history.specs.declared.train_heard.TrainHeard.{TrainHeard}
 use Rattle.delegator_history.specs.declared.train_heard.TrainHeard.TheVariants as answers
@@ -49,26 +49,39 @@ brings_none setup snapshot train none = at snapshot.place refl
 
 -- ---- the step
 
-module _ (setup : Setup) (train : Train) (calls : List Call) (old new : Halves) where
-  -- what the train brings, by the sink as it is and by its steps
-  same_brought : StandsFor setup calls old
-      → big_sync_in (outcome_by old.scan.setup old.scan.snapshot train) ≡ big_sync_in (outcome_by setup (snapshot_of setup (steps_of calls)) train)
-  same_brought stands = λ i. big_sync_in (outcome_by (stands.setup_is i) (snapshot_is setup calls old stands i) train)
+pub stands_trained : (setup : Setup) (train : Train) (calls : List Call) (old new : Halves) (given : Option BigSync) (made : Option OnGroup)
+    → given ≡ big_sync_in (outcome_by old.scan.setup old.scan.snapshot train) → made ≡ option_map (λ big_sync. fresh_on (by_numbers big_sync)) given
+    → (made ≡ None → new.sink ≡ old.sink)
+    → ((tuning : BigSync) → (past : List sinks.Call) → made ≡ Some (fresh_on tuning) → SinkStands (sinks.tune tuning ∷ past) new.sink)
+    → new.scan ≡ moved (done_by_outcome (outcome_by old.scan.setup old.scan.snapshot train)) old.scan
+    → ScanStands (train_heard train ∷ steps_of calls) new.scan
+    → StandsFor setup calls old → StandsFor setup (control (train_heard train) ∷ calls) new
+stands_trained setup train calls old new None made is makes quiet puts step steps stands =
+    let none : big_sync_in (outcome_by old.scan.setup old.scan.snapshot train) ≡ None = sym is in
+    let same : big_sync_in (outcome_by old.scan.setup old.scan.snapshot train) ≡ big_sync_in (outcome_by setup (snapshot_of setup (steps_of calls)) train) =
+    λ i. big_sync_in (outcome_by (stands.setup_is i) (snapshot_is setup calls old stands i) train) in
+    stands_quiet setup (train_heard train) calls old new (sym same ∙ none) (ap (λ (m : Machine). m.setup) step) steps
+    (ap (λ (m : Machine). has_group m.snapshot.place) step ∙ brings_none old.scan.setup old.scan.snapshot train none) (quiet makes) stands
+stands_trained setup train calls old new (Some big_sync) made is makes quiet puts step steps stands =
+    let same : big_sync_in (outcome_by old.scan.setup old.scan.snapshot train) ≡ big_sync_in (outcome_by setup (snapshot_of setup (steps_of calls)) train) =
+    λ i. big_sync_in (outcome_by (stands.setup_is i) (snapshot_is setup calls old stands i) train) in
+    stands_joined setup (train_heard train) calls old new big_sync (sym same ∙ sym is) (ap (λ (m : Machine). m.setup) step) steps
+    (puts (by_numbers big_sync) (group_calls setup calls) makes) stands
 
-  -- a train that brings no group leaves the sink where it was
-  pub stands_untrained : big_sync_in (outcome_by old.scan.setup old.scan.snapshot train) ≡ None → new.sink ≡ old.sink
-      → new.scan ≡ moved (done_by_outcome (outcome_by old.scan.setup old.scan.snapshot train)) old.scan
-      → ScanStands (train_heard train ∷ steps_of calls) new.scan
-      → StandsFor setup calls old → StandsFor setup (control (train_heard train) ∷ calls) new
-  stands_untrained none quiet step steps stands =
-      stands_quiet setup (train_heard train) calls old new (sym (same_brought stands) ∙ none) (ap (λ (m : Machine). m.setup) step) steps
-      (ap (λ (m : Machine). has_group m.snapshot.place) step ∙ brings_none old.scan.setup old.scan.snapshot train none) quiet stands
+-- ---- where memory may be wanted
 
-  -- a train that brings one puts it on that
-  pub stands_trained : (big_sync : BigSync) → big_sync_in (outcome_by old.scan.setup old.scan.snapshot train) ≡ Some big_sync
-      → SinkStands (sinks.tune (by_numbers big_sync) ∷ group_calls setup calls) new.sink
-      → new.scan ≡ moved (done_by_outcome (outcome_by old.scan.setup old.scan.snapshot train)) old.scan
-      → ScanStands (train_heard train ∷ steps_of calls) new.scan
-      → StandsFor setup calls old → StandsFor setup (control (train_heard train) ∷ calls) new
-  stands_trained big_sync brings puts step steps stands =
-      stands_joined setup (train_heard train) calls old new big_sync (sym (same_brought stands) ∙ brings) (ap (λ (m : Machine). m.setup) step) steps puts stands
+pub base_followed : (outcome : TrainOutcome) → has_base outcome ≡ true → is_followed outcome ≡ true
+base_followed (ignored answer) is = absurd cc
+base_followed (heard slot answer encrypted) is = refl
+base_followed (taken slot bits encrypted big_sync) is = refl
+
+pub joined_followed : (big_sync : Option BigSync) (outcome : TrainOutcome) → big_sync ≡ big_sync_in outcome → is_some big_sync ≡ true → is_followed outcome ≡ true
+joined_followed None outcome is some = absurd cc
+joined_followed (Some big_sync) (ignored answer) is some = absurd cc
+joined_followed (Some big_sync) (heard slot answer encrypted) is some = refl
+joined_followed (Some big_sync) (taken slot bits encrypted other) is some = refl
+
+pub followed_so : (setup : Setup) (calls : List Call) (old : Halves) (train : Train) → StandsFor setup calls old
+    → is_followed (outcome_by old.scan.setup old.scan.snapshot train) ≡ true → is_followed (outcome_by setup (snapshot_of setup (steps_of calls)) train) ≡ true
+followed_so setup calls old train stands is =
+    (λ i. is_followed (outcome_by (sym stands.setup_is i) (sym (snapshot_is setup calls old stands) i) train)) ∙ is

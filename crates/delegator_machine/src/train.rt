@@ -1,9 +1,14 @@
 //! A train that is heard.
-ghost use Rattle.std.specs.Prelude.{◌≡◌, ◌≤◌, ◌^◌, ◌∷◌, List, true, IfOk, OnOk, OnErr};
+ghost use Rattle.std.specs.Prelude.{◌≡◌, ◌≤◌, ◌^◌, ◌∷◌, List, option_copied, option_map, true, None, Some, IfOk, IsSome, OnOk, OnErr};
 ghost use Rattle.delegator_history.specs.States.{snapshot_of, train_heard};
 ghost use Rattle.delegator_history.specs.Trains.{Setup, Train, answer_of, outcome_by};
+ghost use Rattle.group_sink.specs.Calls as sinks;
+ghost use Rattle.sync_reference.specs.BigSync.{BigSync};
+ghost use Rattle.group_sink.specs.State.Sinks.{StandsFor as SinkStands};
+ghost use Rattle.group_sink.specs.State.Steps.{fresh_on};
 ghost use Rattle.delegator_control.specs.Following.{is_followed};
 ghost use Rattle.delegator_machine.specs.Calls.{Call, control, steps_of};
+ghost use Rattle.delegator_machine.specs.Groups.{by_numbers};
 ghost use Rattle.delegator_machine.specs.State.Halves.{StandsFor, settings_of};
 ghost use Rattle.delegator_machine.specs.Trains.{train_of};
 
@@ -11,6 +16,8 @@ use crate::delegator::Delegator;
 use crate::numbers::by_numbers;
 use bcast_base::Memory;
 use delegator_history::TrainHeard;
+use group_sink::{GroupReceivers, GroupSink};
+use sync_reference::BigSync;
 
 impl Delegator {
     /// Hears a train, at this time in µs: the data of its extended advertising, of its periodic advertising, and its additional
@@ -40,12 +47,35 @@ impl Delegator {
             → OnErr result (is_followed (outcome_by setup (snapshot_of setup (steps_of calls)) train) ≡ true) }
     {
         let outcome = self.scan.bring(address_type, sid, ext, adv, acad, now)?;
-        let Some(big_sync) = outcome.big_sync() else {
-            return self.scan.follow(outcome);
-        };
-        let receivers = self.sink.receivers(&by_numbers(big_sync))?;
+        let made = receivers_of(&self.sink, outcome.big_sync())?;
         let heard = self.scan.follow(outcome)?;
-        self.sink.sync_to_group(receivers);
+        join(&mut self.sink, made);
         Ok(heard)
+    }
+}
+
+/// The receivers of a group that a train brings.
+fn receivers_of(
+    sink: &GroupSink,
+    big_sync: Option<&BigSync>,
+) -> Result<Option<GroupReceivers>, Memory>
+    ensures made { IfOk result (λ made. made ≡ option_map (λ big_sync. fresh_on (by_numbers big_sync)) (option_copied big_sync.entry)) }
+    ensures memory { OnErr result (IsSome (option_copied big_sync.entry)) }
+{
+    let Some(big_sync) = big_sync else {
+        return Ok(None);
+    };
+    let made = sink.receivers(&by_numbers(big_sync))?;
+    Ok(Some(made))
+}
+
+/// Puts the sink on the group of these receivers, where there are any.
+fn join(sink: &mut GroupSink, made: Option<GroupReceivers>)
+    ensures none { made ≡ None → sink.new ≡ sink.old }
+    ensures some { (big_sync : BigSync) (calls : List sinks.Call) → made ≡ Some (fresh_on big_sync)
+        → SinkStands (sinks.tune big_sync ∷ calls) sink.new }
+{
+    if let Some(receivers) = made {
+        sink.sync_to_group(receivers);
     }
 }
