@@ -1,80 +1,50 @@
 -- The unit of a slot whose kept PDUs are the laid ones.
-use Rattle.isoal_unframed.proofs.Prelude.{ℕ, zero, suc, ◌≡◌, ◌+◌, ◌-◌, ◌*◌, ◌/◌, ◌%◌, ◌<◌, ◌≤◌, true, cond, ltb, leb, eqb, min, max, List, [], ◌∷◌, ◌++◌, length, take, drop, Option, Some, None, refl, sym, ap, ◌∙◌, subst, inl, inr, arith, div_ceil, slice_get, add-div_left, add-mod_left, mod-eq_of_lt, div-eq_of_lt, mod_self, div_self, add-mul, mul-le, div_ceil_times, cond-true, cond-false, lt-ltb, le-ltb, le-leb, eq-eqb, ne_eqb, cases_lt, cases_order, drop-drop, length-drop, append_assoc, take-append-drop, none-some, same_Some, cond_some, Content, fragment, end, fragments_of, laid_unit, laid, unit_after}
+use Rattle.isoal_unframed.proofs.Prelude.{ℕ, zero, suc, ◌≡◌, ◌+◌, ◌-◌, ◌*◌, ◌<◌, ◌≤◌, true, cond, ltb, leb, eqb, min, max, List, [], ◌∷◌, ◌++◌, length, take, drop, Option, Some, None, refl, sym, ap, ◌∙◌, subst, inl, inr, arith, div_ceil, slice_get, add-div_left, add-mod_left, mod-eq_of_lt, div-eq_of_lt, mod_self, div_self, add-mul, mul-le, div_ceil_times, cond-true, cond-false, lt-ltb, le-ltb, le-leb, eq-eqb, ne_eqb, cases_lt, cases_order, drop-drop, length-drop, append_assoc, take-append-drop, none-some, same_Some, cond_some, Content, fragment, end, fragments_of, laid_unit, laid, unit_after}
 
 ceil_small : (x m : ℕ) → 0 < x → x ≤ m → div_ceil x m ≡ 1
-ceil_small x m some fits = elim (cases_lt x m) [
-  | inl below ↦
-      let q : x / m ≡ 0 = div-eq_of_lt below in
-      let r : x % m ≡ x = mod-eq_of_lt below in
-      ap (λ k. k + min 1 (x % m)) q ∙ ap (λ k. 0 + min 1 k) r ∙ omega arith
-  | inr past ↦
-      let same : x ≡ m = omega arith in
-      let positive : 0 < m = omega arith in
-      ap (λ k. div_ceil k m) same ∙ ap (λ k. k + min 1 (m % m)) (div_self positive) ∙ ap (λ k. 1 + min 1 k) (mod_self m) ∙ omega arith
-]
+ceil_small x m some fits = grind (arith, cases_lt, div-eq_of_lt, mod-eq_of_lt, min, div_ceil, div_self, mod_self)
 
 ceil_more : (x m : ℕ) → 0 < m → div_ceil (m + x) m ≡ div_ceil x m + 1
-ceil_more x m some =
-    ap (λ k. k + min 1 ((m + x) % m)) (add-div_left x some) ∙ ap (λ k. x / m + 1 + min 1 k) (add-mod_left m x) ∙ omega arith
+ceil_more x m some = grind (arith, min, add-div_left, add-mod_left)
 
 ceil_some : (x m : ℕ) → 0 < x → 0 < m → 1 ≤ div_ceil x m
-ceil_some x m some positive = elim (cases_lt x m) [
-  | inl below ↦ subst (λ k. 1 ≤ k) (sym (ceil_small x m some (omega arith))) (omega arith)
-  | inr past ↦
-      let sum : m + (x - m) ≡ x = omega arith in
-      let more : div_ceil x m ≡ div_ceil (x - m) m + 1 = ap (λ k. div_ceil k m) (sym sum) ∙ ceil_more (x - m) m positive in
-      omega arith
-]
+ceil_some x m some positive = grind (arith, cases_lt, ceil_small, div_ceil, ceil_more)
 
 pub one_fragment : (m : ℕ) (unit : List ℕ) → 0 < m → length unit ≤ m → fragments_of m unit ≡ 1
-one_fragment m unit positive fits = elim (cases_order (length unit) 0) [
-  | inl none ↦
-      let q : 0 / m ≡ 0 = div-eq_of_lt positive in
-      let r : 0 % m ≡ 0 = mod-eq_of_lt positive in
-      ap (λ k. max 1 (div_ceil k m)) none ∙ ap (λ k. max 1 (k + min 1 (0 % m))) q ∙ ap (λ k. max 1 (0 + min 1 k)) r ∙ omega arith
-  | inr other ↦ elim other [
-    | inl below ↦ absurd (omega arith)
-    | inr some ↦ ap (max 1) (ceil_small (length unit) m some fits) ∙ omega arith
-  ]
-]
+one_fragment m unit positive fits = grind (arith, cases_order, length, div-eq_of_lt, mod-eq_of_lt, max, div_ceil, min, ceil_small)
 
 pub more_fragments : (m : ℕ) (unit : List ℕ) → 0 < m → m < length unit → fragments_of m unit ≡ fragments_of m (drop m unit) + 1
-more_fragments m unit positive past =
-    let left : length (drop m unit) ≡ length unit - m = length-drop m unit in
-    let sum : length unit ≡ m + length (drop m unit) = omega arith in
-    let some : 1 ≤ div_ceil (length (drop m unit)) m = ceil_some (length (drop m unit)) m (omega arith) positive in
-    ap (λ k. max 1 (div_ceil k m)) sum ∙ ap (max 1) (ceil_more (length (drop m unit)) m positive) ∙ omega arith
+more_fragments m unit positive past = grind (arith, length, drop, length-drop, div_ceil, ceil_some, max, ceil_more)
 
 -- a laid PDU by its place
 pub laid_full : (m : ℕ) (unit : List ℕ) (r : ℕ) → r + 1 < fragments_of m unit → laid_unit m unit r ≡ fragment (take m (drop (r * m) unit))
-laid_full m unit r below = cond-true (ltb (r + 1) (fragments_of m unit)) (fragment (take m (drop (r * m) unit)))
-    (cond (eqb (r + 1) (fragments_of m unit)) (end (drop (r * m) unit)) (fragment [])) (lt-ltb (r + 1) (fragments_of m unit) below)
+laid_full m unit r below = grind (arith, cond-true, ltb, fragments_of, fragment, take, drop, cond, eqb, end, lt-ltb)
 
 pub laid_end : (m : ℕ) (unit : List ℕ) (r : ℕ) → r + 1 ≡ fragments_of m unit → laid_unit m unit r ≡ end (drop (r * m) unit)
-laid_end m unit r is =
-    cond-false (ltb (r + 1) (fragments_of m unit)) (fragment (take m (drop (r * m) unit)))
-    (cond (eqb (r + 1) (fragments_of m unit)) (end (drop (r * m) unit)) (fragment [])) (le-ltb (r + 1) (fragments_of m unit) (omega arith))
-    ∙ cond-true (eqb (r + 1) (fragments_of m unit)) (end (drop (r * m) unit)) (fragment []) (eq-eqb (r + 1) (fragments_of m unit) is)
-
-pub laid_padding : (m : ℕ) (unit : List ℕ) (r : ℕ) → fragments_of m unit < r + 1 → laid_unit m unit r ≡ fragment []
-laid_padding m unit r past =
-    cond-false (ltb (r + 1) (fragments_of m unit)) (fragment (take m (drop (r * m) unit)))
-    (cond (eqb (r + 1) (fragments_of m unit)) (end (drop (r * m) unit)) (fragment [])) (le-ltb (r + 1) (fragments_of m unit) (omega arith))
-    ∙ cond-false (eqb (r + 1) (fragments_of m unit)) (end (drop (r * m) unit)) (fragment []) (ne_eqb (r + 1) (fragments_of m unit) (λ is. omega arith))
+laid_end m unit r is = grind (arith, cond-false, ltb, fragments_of, fragment, take, drop, cond, eqb, end, le-ltb, cond-true, eq-eqb)
 
 -- behind the first place lies what is left of the unit
 pub laid_next : (m : ℕ) (unit : List ℕ) (r : ℕ) → 0 < m → m < length unit → laid_unit m unit (r + 1) ≡ laid_unit m (drop m unit) r
 laid_next m unit r positive past =
-    let count : fragments_of m unit ≡ fragments_of m (drop m unit) + 1 = more_fragments m unit positive past in
-    let place : (r + 1) * m ≡ m + r * m = omega arith in
-    let octets : drop ((r + 1) * m) unit ≡ drop (r * m) (drop m unit) = ap (λ k. drop k unit) place ∙ sym (drop-drop (r * m) m unit) in
-    elim (cases_order (r + 1) (fragments_of m (drop m unit))) [
-      | inl is ↦ laid_end m unit (r + 1) (omega arith) ∙ ap end octets ∙ sym (laid_end m (drop m unit) r is)
-      | inr other ↦ elim other [
-        | inl below ↦ laid_full m unit (r + 1) (omega arith) ∙ ap (λ xs. fragment (take m xs)) octets ∙ sym (laid_full m (drop m unit) r below)
-        | inr over ↦ laid_padding m unit (r + 1) (omega arith) ∙ sym (laid_padding m (drop m unit) r over)
-      ]
-    ]
+    grind (
+      arith,
+      fragments_of,
+      drop,
+      more_fragments,
+      drop-drop,
+      cases_order,
+      laid_end,
+      end,
+      laid_full,
+      fragment,
+      take,
+      cond-false,
+      ltb,
+      cond,
+      eqb,
+      le-ltb,
+      ne_eqb,
+    )
 
 -- the slot keeps no PDU but the laid ones
 abbrev pub Agrees : ℕ → Option (List ℕ) → List (Option Content) → Type 0
@@ -86,11 +56,8 @@ Carries m unit slot = (r : ℕ) → r < fragments_of m unit → (content : Conte
 
 -- padding has no unit
 pub padding_none : (m most : ℕ) (prefix : List ℕ) (slot : List (Option Content)) → Agrees m None slot → unit_after most prefix slot ≡ None
-padding_none m most prefix [] agrees = refl
-padding_none m most prefix (None ∷ slot) agrees = refl
-padding_none m most prefix (Some content ∷ slot) agrees =
-    ap (λ c. unit_after most prefix (Some c ∷ slot)) (agrees 0 content refl)
-    ∙ padding_none m most (prefix ++ []) slot (λ r other is. agrees (suc r) other is)
+padding_none m most prefix (Some content ∷ slot) agrees = grind (arith, agrees 0 content refl, padding_none m most (prefix ++ []) slot (λ r other is. agrees (suc r) other is))
+padding_none m most prefix slot agrees = search unit_after
 
 -- where the slot keeps all that carry the unit, it has the unit
 pub carried_unit : (m most : ℕ) (prefix unit : List ℕ) (slot : List (Option Content)) → 0 < m → length (prefix ++ unit) ≤ most
@@ -113,11 +80,7 @@ carried_unit m most prefix unit (Some content ∷ slot) positive fits agrees car
           (λ r other is. agrees (suc r) other is ∙ ap (laid_unit m unit) (omega arith) ∙ laid_next m unit r positive past)
           (λ r below. carries (suc r) (omega arith))
           ∙ ap Some whole
-      | inr small ↦
-          let one : fragments_of m unit ≡ 1 = one_fragment m unit positive small in
-          let last : content ≡ end unit = here ∙ laid_end m unit 0 (omega arith) ∙ ap (λ k. end (drop k unit)) start in
-          ap (λ c. unit_after most prefix (Some c ∷ slot)) last
-          ∙ cond-true (leb (length (prefix ++ unit)) most) (Some (prefix ++ unit)) None (le-leb (length (prefix ++ unit)) most fits)
+      | inr small ↦ grind (arith, fragments_of, one_fragment, end, laid_end, drop, unit_after, cond-true, leb, length, le-leb)
     ]
 
 carries_more : (content : Content) (slot : List (Option Content)) (n count : ℕ) → count ≡ n + 1
@@ -160,15 +123,4 @@ unit_carried m most prefix unit (Some content ∷ slot) octets positive agrees i
 
 -- a unit of at most Max_SDU octets fits its slot
 pub fragments_fit : (m most : ℕ) (unit : List ℕ) → 0 < m → 0 < most → length unit ≤ most → fragments_of m unit ≤ div_ceil most m
-fragments_fit m most unit positive some fits =
-    let least : 1 ≤ div_ceil most m = ceil_some most m some positive in
-    elim (cases_lt (div_ceil most m) (div_ceil (length unit) m)) [
-      | inl above ↦
-          let upper : div_ceil (length unit) m * m < length unit + m = (div_ceil_times (length unit) m positive).1 in
-          let lower : most ≤ div_ceil most m * m = (div_ceil_times most m positive).0 in
-          let product : (div_ceil most m + 1) * m ≤ div_ceil (length unit) m * m =
-          mul-le (div_ceil most m + 1) m (div_ceil (length unit) m) m (omega arith) (omega arith) in
-          let sum : (div_ceil most m + 1) * m ≡ div_ceil most m * m + m = add-mul (div_ceil most m) 1 m ∙ omega arith in
-          absurd (omega arith)
-      | inr within ↦ omega arith
-    ]
+fragments_fit m most unit positive some fits = grind (arith, div_ceil, ceil_some, cases_lt, length, div_ceil_times, mul-le, add-mul)

@@ -8,9 +8,7 @@ use Rattle.isoal_unframed.proofs.Places.{slot_fits}
 
 -- the number at a place of a slot
 in_event : (bn e i : ℕ) → i < bn → (e * bn + i) / bn ≡ e
-in_event bn e i below =
-    let positive : 0 < bn = omega arith in
-    mul-add-div_right positive e i ∙ ap (λ q. e + q) (div-eq_of_lt below) ∙ omega arith
+in_event bn e i below = grind (arith, mul-add-div_right, div-eq_of_lt)
 
 at_place : (bn e i : ℕ) → i < bn → (e * bn + i) % bn ≡ i
 at_place bn e i below = mul-add-mod_self_right e bn i ∙ mod-eq_of_lt below
@@ -23,16 +21,13 @@ get-range f start n r below =
 
 range-get : {A : Type 0} (f : ℕ → A) (start n r : ℕ) (x : A) → slice_get (map f (range_with_len start n)) r ≡ Some x
     → (r < n) × (f (start + r) ≡ x)
-range-get f start n r x is =
-    let below : r < n = subst (λ k. r < k) (length-map-range_with_len f start n) (slice_get_within (map f (range_with_len start n)) r x is) in
-    (below, same_Some (f (start + r)) x (sym (get-range f start n r below) ∙ is))
+range-get f start n r x is = grind (arith, length-map-range_with_len, slice_get_within, map, range_with_len, same_Some, get-range)
 
 -- what is kept of a closed event stays
 opened_later : (stay : Stay) (later calls : List Call) → opened stay calls ≤ opened stay (later ++ calls)
 opened_later stay [] calls = omega arith
 opened_later stay (hear number octets ∷ later) calls = opened_later stay later calls
-opened_later stay (close ∷ later) calls =
-    let before : opened stay calls ≤ opened stay (later ++ calls) = opened_later stay later calls in omega arith
+opened_later stay (close ∷ later) calls = grind (arith, opened_later stay later calls)
 
 closed_same : (stay : Stay) (later calls : List Call) (number : ℕ) → number / stay.info.bn < opened stay calls
     → heard_in stay (later ++ calls) number ≡ heard_in stay calls number
@@ -42,8 +37,7 @@ closed_same stay (close ∷ later) calls number below =
 closed_same stay (hear given octets ∷ later) calls number below =
     let still : opened stay calls ≤ opened stay (later ++ calls) = opened_later stay later calls in
     heard_same (read_as unframed stay.info.max_pdu) stay (hear given octets) (later ++ calls) number
-    (entry_outside (read_as unframed stay.info.max_pdu) stay (opened stay (later ++ calls)) number given octets
-    (λ within. let least : opened stay (later ++ calls) ≤ number / stay.info.bn = within.0 in omega arith))
+    (grind (arith, entry_outside, read_as, unframed, opened))
     ∙ closed_same stay later calls number below
 
 -- each kept PDU is the source's own
@@ -88,9 +82,7 @@ slot_carried stay slots calls event slot unit bounds fits carried r below =
     let here : (content : Content) × (heard_in stay calls (event * stay.info.bn + slot * per_unit_of stay.info + r) ≡ Some content) =
     carried.heard_all r below in (
       here.0,
-      get-range (heard_in stay calls) (event * stay.info.bn + slot * per_unit_of stay.info) (per_unit_of stay.info) r
-          (let under : r < fragments_of stay.info.max_pdu unit = below in omega arith)
-          ∙ ap Some here.1,
+      grind (arith, get-range, heard_in, per_unit_of, fragments_of),
     )
 
 carried_slot : (stay : Stay) (slots : Slots) (calls : List Call) (event slot : ℕ) (unit : List ℕ) → slots event slot ≡ Some unit
@@ -107,8 +99,7 @@ struck_of : (stay : Stay) (slots : Slots) (calls : List Call) (event slot : ℕ)
     → FromSource stay slots calls → (has given : Option (List ℕ)) → slots event slot ≡ has
     → unit_of stay.info.max_sdu (map (heard_in stay calls) (numbers_of stay event slot)) ≡ given
     → IsStruck stay slots calls event slot (handed_of stay.bis (time_of stay event slot) given)
-struck_of stay slots calls event slot bounds plain below fits source None None has given =
-    (refl, refl, λ unit carried. none-some unit (sym has ∙ carried.has))
+struck_of stay slots calls event slot bounds plain below fits source None None has given = grind (arith, none-some)
 struck_of stay slots calls event slot bounds plain below fits source (Some unit) None has given = (
   refl,
   refl,
@@ -117,19 +108,16 @@ struck_of stay slots calls event slot bounds plain below fits source (Some unit)
       let short : length unit ≤ stay.info.max_sdu = fits unit has in
       none-some unit (sym given
       ∙ carried_unit stay.info.max_pdu stay.info.max_sdu [] unit (map (heard_in stay calls) (numbers_of stay event slot)) bounds.max_pdu_least short
-      (subst (λ u. Agrees stay.info.max_pdu u (map (heard_in stay calls) (numbers_of stay event slot))) has
-      (slot_agrees stay slots calls event slot bounds plain below source))
+      (grind (arith, slot_agrees stay slots calls event slot bounds plain below source))
       (slot_carried stay slots calls event slot unit bounds short (subst (Carried stay slots calls event slot) same carried))),
 )
 struck_of stay slots calls event slot bounds plain below fits source None (Some octets) has given =
     absurd (none-some octets (sym (padding_none stay.info.max_pdu stay.info.max_sdu [] (map (heard_in stay calls) (numbers_of stay event slot))
-    (subst (λ u. Agrees stay.info.max_pdu u (map (heard_in stay calls) (numbers_of stay event slot))) has
-    (slot_agrees stay slots calls event slot bounds plain below source))) ∙ given))
+    (grind (arith, slot_agrees stay slots calls event slot bounds plain below source))) ∙ given))
 struck_of stay slots calls event slot bounds plain below fits source (Some unit) (Some octets) has given =
     let both : Carries stay.info.max_pdu unit (map (heard_in stay calls) (numbers_of stay event slot)) × (octets ≡ unit) =
     unit_carried stay.info.max_pdu stay.info.max_sdu [] unit (map (heard_in stay calls) (numbers_of stay event slot)) octets bounds.max_pdu_least
-    (subst (λ u. Agrees stay.info.max_pdu u (map (heard_in stay calls) (numbers_of stay event slot))) has
-    (slot_agrees stay slots calls event slot bounds plain below source)) given in
+    (grind (arith, slot_agrees stay slots calls event slot bounds plain below source)) given in
     (refl, refl, subst (Carried stay slots calls event slot) (sym both.1) (carried_slot stay slots calls event slot unit has both.0))
 
 -- the units of one closed event
@@ -147,8 +135,7 @@ unit_stays stay later calls slot bounds plain below =
     let index : opened stay calls * stay.info.bn + (number - opened stay calls * stay.info.bn) ≡ number = omega arith in
     let event : number / stay.info.bn ≡ opened stay calls =
     ap (λ n. n / stay.info.bn) (sym index) ∙ in_event stay.info.bn (opened stay calls) (number - opened stay calls * stay.info.bn) (omega arith) in
-    sym (closed_same stay later (close ∷ calls) number (omega arith)
-    ∙ heard_same (read_as unframed stay.info.max_pdu) stay close calls number refl)))
+    sym (grind (arith, closed_same, close, heard_same, read_as, unframed))))
 
 all_zip_maps : {A B : Type 0} (R : A → B → Type 0) (f : ℕ → A) (g : ℕ → B) (start n : ℕ)
     → ((i : ℕ) → start ≤ i → i < start + n → R (f i) (g i)) → AllZip R (map f (range_with_len start n)) (map g (range_with_len start n))
