@@ -1,5 +1,5 @@
 -- The sources after a step that means one of them.
-use Rattle.scenario_sources.proofs.Prelude.{◌≡◌, ◌≢◌, ℕ, ◌<◌, ◌==◌, Bool, true, false, List, ◌∷◌, length, refl, sym, ◌∙◌, ap, subst, eq-eqb, ne_eqb, slice_get, slice_set, get_or, if◌then◌else◌, ◌&&◌, arith, Option, None, Some, ◌⊎◌, inl, inr, Result, Ok, Err, get_or_from_slice_get, slice_get-get_or, cases_eq, Refusal, IdentTwice, Stop, Refused, OutletFault, Memory, Step, Event, Start, Terminate, chosen_given, chosen_of, chosen_steps, is_of_source, other_of, steps_of_source, identity_of, is_started, get_set_here, get_set_other, refuse_if, Identity, Phase, Sources, fault_in, fault_of, Becomes, IsReady, PhaseAt, PhaseIs, PhasesAre, SourcesStand}
+use Rattle.scenario_sources.proofs.Prelude.{◌≡◌, ◌≢◌, ℕ, ◌<◌, ◌==◌, Bool, true, false, List, ◌∷◌, length, refl, sym, ◌∙◌, ap, eq-eqb, ne_eqb, slice_get, slice_set, get_or, ◌&&◌, arith, Option, None, Some, ◌⊎◌, Result, Ok, Err, get_or_from_slice_get, slice_get-get_or, cases_eq, Refusal, IdentTwice, Stop, Refused, OutletFault, Memory, Step, Event, Start, Terminate, chosen_given, chosen_of, chosen_steps, is_of_source, other_of, steps_of_source, identity_of, is_started, get_set_here, get_set_other, refuse_if, Identity, Phase, Sources, fault_in, fault_of, Becomes, IsReady, PhaseAt, PhaseIs, PhasesAre, SourcesStand}
 use Rattle.scenario_history.specs.Refusals.{is_ident_twice, twin_refusal}
 use Rattle.source_machine.specs.Setups.{are_twins}
 use Rattle.scenario_sources.specs.declared.performed.Performed.{Performed}
@@ -10,25 +10,17 @@ use Rattle.scenario_sources.specs.State.Phases as state
 -- the phase of a source that was read
 pub phase_read : (steps : List Step) (s at : ℕ) (phases : List Phase) (phase : Phase) → at ≡ s → s < 2 → length phases ≡ 2
     → phase ≡ get_or phases at phase → PhasesAre steps phases → PhaseIs (steps_of_source s steps) phase
-phase_read steps s at phases phase same below two is are =
-    let inside : at < length phases = omega arith in
-    let Q : Option Phase → Type 0 = λ o. PhaseAt (steps_of_source s steps) o in
-    let here : slice_get phases s ≡ slice_get phases at = ap (slice_get phases) (sym same) in
-    subst Q (here ∙ slice_get-get_or phases at phase inside ∙ ap Some (sym is)) (are s below)
+phase_read steps s at phases phase same below two is are = grind (arith, length, steps_of_source, slice_get, slice_get-get_or)
 
 -- two reads of one place
 pub same_read : (phases : List Phase) (s t : ℕ) (first second : Phase) → s ≡ t → s < length phases
     → first ≡ get_or phases s first → second ≡ get_or phases t second → second ≡ first
-same_read phases s t first second same inside one two =
-    let here : slice_get phases s ≡ Some first = slice_get-get_or phases s first inside ∙ ap Some (sym one) in
-    two ∙ get_or_from_slice_get phases t first second (subst (λ n. slice_get phases n ≡ Some first) same here)
+same_read phases s t first second same inside one two = grind (arith, slice_get, slice_get-get_or, get_or_from_slice_get)
 
 -- the phase of the chosen source
 pub chosen_read : (steps : List Step) (at : ℕ) (sources : Sources) (phase : Phase) → at ≡ sources.chosen → sources.chosen < 2 → length sources.phases.items ≡ 2
     → phase ≡ get_or sources.phases.items at phase → SourcesStand steps sources → PhaseIs (chosen_steps steps) phase
-chosen_read steps at sources phase same below two is stands =
-    let P : ℕ → Type 0 = λ s. PhaseIs (steps_of_source s steps) phase in
-    subst P stands.chosen (phase_read steps sources.chosen at sources.phases.items phase same below two is stands.phases)
+chosen_read steps at sources phase same below two is stands = grind (arith, steps_of_source, phase_read)
 
 -- the step means the chosen source
 pub record MeansChosen (made : Step) : Type 0 where
@@ -36,12 +28,10 @@ pub record MeansChosen (made : Step) : Type 0 where
   pub chooses : chosen_given made ≡ None
 
 own_grows : (made : Step) (steps : List Step) → MeansChosen made → steps_of_source (chosen_of steps) (made ∷ steps) ≡ made ∷ chosen_steps steps
-own_grows made steps means =
-    ap (λ (b : Bool). if b then made ∷ chosen_steps steps else chosen_steps steps) (means.line (chosen_of steps) steps ∙ eq-eqb (chosen_of steps) (chosen_of steps) refl)
+own_grows made steps means = grind (arith, chosen_steps, chosen_of, eq-eqb)
 
 other_stays : (made : Step) (steps : List Step) (s : ℕ) → MeansChosen made → s ≢ chosen_of steps → steps_of_source s (made ∷ steps) ≡ steps_of_source s steps
-other_stays made steps s means other =
-    ap (λ (b : Bool). if b then made ∷ steps_of_source s steps else steps_of_source s steps) (means.line s steps ∙ ne_eqb (chosen_of steps) s (λ e. other (sym e)))
+other_stays made steps s means other = grind (arith, steps_of_source, ne_eqb, chosen_of)
 
 chosen_stays : (made : Step) (steps : List Step) → chosen_given made ≡ None → chosen_of (made ∷ steps) ≡ chosen_of steps
 chosen_stays made steps none = rw none refl
@@ -49,59 +39,31 @@ chosen_stays made steps none = rw none refl
 phase_after : (made : Step) (steps : List Step) (s : ℕ) (phases : List Phase) (phase : Phase) → MeansChosen made → chosen_of steps < length phases
     → s < 2 → PhasesAre steps phases → PhaseIs (made ∷ chosen_steps steps) phase → (s ≡ chosen_of steps) ⊎ (s ≢ chosen_of steps)
     → PhaseAt (steps_of_source s (made ∷ steps)) (slice_get (slice_set phases (chosen_of steps) phase) s)
-phase_after made steps s phases phase means inside below are here (inl e) =
-    let c : ℕ = chosen_of steps in
-    let P : ℕ → Type 0 = λ n. PhaseAt (steps_of_source n (made ∷ steps)) (slice_get (slice_set phases c phase) n) in
-    let O : List Step → Type 0 = λ own. PhaseAt own (slice_get (slice_set phases c phase) c) in
-    let Q : Option Phase → Type 0 = λ o. PhaseAt (made ∷ chosen_steps steps) o in
-    subst P (sym e) (subst O (sym (own_grows made steps means)) (subst Q (sym (get_set_here phases c phase inside)) here))
-phase_after made steps s phases phase means inside below are here (inr other) =
-    let O : List Step → Type 0 = λ own. PhaseAt own (slice_get (slice_set phases (chosen_of steps) phase) s) in
-    let Q : Option Phase → Type 0 = λ o. PhaseAt (steps_of_source s steps) o in
-    subst O (sym (other_stays made steps s means other)) (subst Q (sym (get_set_other phases (chosen_of steps) s phase other)) (are s below))
+phase_after made steps s phases phase means inside below are here x11 =
+    grind (arith, chosen_of, steps_of_source, slice_get, slice_set, chosen_steps, own_grows, get_set_here, other_stays, get_set_other)
 
 -- the chosen source has a new phase
 pub lifted : (made : Step) (steps : List Step) (at : ℕ) (old new : Sources) (phase : Phase) → MeansChosen made → at ≡ old.chosen → old.chosen < 2
     → length old.phases.items ≡ 2 → SourcesStand steps old → PhaseIs (made ∷ chosen_steps steps) phase
     → new.chosen ≡ old.chosen → new.phases.items ≡ slice_set old.phases.items at phase → SourcesStand (made ∷ steps) new
 lifted made steps at old new phase means same within two stands here chosen set =
-    let inside : chosen_of steps < length old.phases.items = omega (arith, stands.chosen) in
-    let P : List Phase → Type 0 = λ phases. PhasesAre (made ∷ steps) phases in
-    record {
-      chosen = chosen ∙ stands.chosen ∙ sym (chosen_stays made steps means.chooses);
-      phases = subst P (sym (set ∙ ap (λ i. slice_set old.phases.items i phase) (same ∙ stands.chosen)))
-          (λ s below. phase_after made steps s old.phases.items phase means inside below stands.phases here (cases_eq s (chosen_of steps)));
-    }
+    grind (arith, chosen_of, length, chosen_stays, slice_set, phase_after, cases_eq)
 
 -- the phase was read and put back
 again_at : (steps : List Step) (s : ℕ) (phases : List Phase) (phase : Phase) → chosen_of steps < length phases → s < 2 → PhasesAre steps phases
     → PhaseIs (chosen_steps steps) phase → (s ≡ chosen_of steps) ⊎ (s ≢ chosen_of steps)
     → PhaseAt (steps_of_source s steps) (slice_get (slice_set phases (chosen_of steps) phase) s)
-again_at steps s phases phase inside below are here (inl e) =
-    let c : ℕ = chosen_of steps in
-    let P : ℕ → Type 0 = λ n. PhaseAt (steps_of_source n steps) (slice_get (slice_set phases c phase) n) in
-    let Q : Option Phase → Type 0 = λ o. PhaseAt (chosen_steps steps) o in
-    subst P (sym e) (subst Q (sym (get_set_here phases c phase inside)) here)
-again_at steps s phases phase inside below are here (inr other) =
-    let Q : Option Phase → Type 0 = λ o. PhaseAt (steps_of_source s steps) o in
-    subst Q (sym (get_set_other phases (chosen_of steps) s phase other)) (are s below)
+again_at steps s phases phase inside below are here x9 =
+    grind (arith, chosen_of, steps_of_source, slice_get, slice_set, chosen_steps, get_set_here, get_set_other)
 
 again : (steps : List Step) (at : ℕ) (old new : Sources) (phase : Phase) → at ≡ old.chosen → old.chosen < 2
     → length old.phases.items ≡ 2 → SourcesStand steps old → PhaseIs (chosen_steps steps) phase
     → new.chosen ≡ old.chosen → new.phases.items ≡ slice_set old.phases.items at phase → SourcesStand steps new
-again steps at old new phase same within two stands here chosen set =
-    let inside : chosen_of steps < length old.phases.items = omega (arith, stands.chosen) in
-    let P : List Phase → Type 0 = λ phases. PhasesAre steps phases in
-    record {
-      chosen = chosen ∙ stands.chosen;
-      phases = subst P (sym (set ∙ ap (λ i. slice_set old.phases.items i phase) (same ∙ stands.chosen)))
-          (λ s below. again_at steps s old.phases.items phase inside below stands.phases here (cases_eq s (chosen_of steps)));
-    }
+again steps at old new phase same within two stands here chosen set = grind (arith, chosen_of, length, slice_set, again_at, cases_eq)
 
 fault_same : (version : ℕ) (steps : List Step) (made : Step) → twin_refusal steps made ≡ None → (fault : Option Refusal) → fault_in version (chosen_steps steps) made ≡ fault
     → fault_of version steps made ≡ fault
-fault_same version steps made twin None e = rw (e, twin) refl
-fault_same version steps made twin (Some reason) e = rw e refl
+fault_same version steps made twin fault e = grind arith
 
 -- what became of the chosen source became of all
 pub answers : (version : ℕ) (made : Step) (steps : List Step) (at : ℕ) (old new : Sources) (phase : Phase) (r : Result (Unit {0}) Stop) → MeansChosen made
@@ -161,20 +123,15 @@ performs version steps at old new phase (Err Memory) same within two stands b ch
 pub twice_is : (steps : List Step) (own : Identity) (other : List Step) (r : Bool) → own ≡ identity_of (chosen_steps steps)
     → other ≡ steps_of_source (other_of (chosen_of steps)) steps
     → r ≡ (is_started other && are_twins own (identity_of other)) → r ≡ is_ident_twice steps
-twice_is steps own other r is same e =
-    e ∙ ap (λ o. is_started o && are_twins own (identity_of o)) same
-    ∙ ap (λ i. is_started (steps_of_source (other_of (chosen_of steps)) steps) && are_twins i (identity_of (steps_of_source (other_of (chosen_of steps)) steps))) is
+twice_is steps own other r is same e = grind (arith, is_started, identity_of, steps_of_source, other_of, chosen_of)
 
 -- all but the proofs of what is always true of them is the same
 pub stands_as : (steps : List Step) (old new : Sources) → SourcesStand steps old → new.chosen ≡ old.chosen → new.phases.items ≡ old.phases.items → SourcesStand steps new
-stands_as steps old new stands chosen items =
-    let P : List Phase → Type 0 = λ phases. PhasesAre steps phases in record { chosen = chosen ∙ stands.chosen; phases = subst P (sym items) stands.phases }
+stands_as steps old new stands chosen items = grind arith
 
 pub start_refused : (version first : ℕ) (steps : List Step) (old new : Sources) (stop : Stop) → SourcesStand steps old → new.chosen ≡ old.chosen
     → new.phases.items ≡ old.phases.items → IsReady version first (chosen_steps steps) (Err stop) → Answers version steps (Start first) new (Err stop)
-start_refused version first steps old new (Refused reason) stands chosen items e = (rw e refl, stands_as steps old new stands chosen items)
-start_refused version first steps old new OutletFault stands chosen items e = e
-start_refused version first steps old new Memory stands chosen items e = tt
+start_refused version first steps old new stop stands chosen items e = grind (arith, stands_as)
 
 pub start_twice : (version first : ℕ) (steps : List Step) (twice : Bool) → fault_in version (chosen_steps steps) (Start first) ≡ None → twice ≡ is_ident_twice steps → twice ≡ true
     → fault_of version steps (Start first) ≡ Some IdentTwice

@@ -1,5 +1,6 @@
 -- The start of a source: why it is refused, and what it begins with.
-use Rattle.scenario_sources.proofs.Prelude.{ℕ, ◌≡◌, ◌≤◌, ◌||◌, nat_lt, not, Bool, true, false, cond, List, [], ◌∷◌, length, Option, None, Some, Err, refl, sym, ap, subst, is_some, unwrap_or, ◌∙◌, option_or, false≢true, none-some, finish_fault, is_empty_last, last_of, size_fault, Endpoint, endpoint, encoding, Subgroup, BigInfo, Call, Setup, without_cipher, Source, StandsFor, Refusal, BadGroup, BaseTooLong, Order, Stop, Refused, OutletFault, Memory, Step, Start, base_from, base_of, has_subgroup, is_base_too_long, is_last_bare, subgroups_of, refuse_if, GroupLine, checked_info, described, identity_of, is_ahead_in, is_described_at, no_identity, phase_of, is_unbegun_at, running, stage_of, neither, fails_not, fault_in, Identity, identity_or_none, Described, Becomes, Begins, DescribedIs, MayStart, StartedIs, line_of}
+use Rattle.std.proofs.Common.{arith}
+use Rattle.scenario_sources.proofs.Prelude.{ℕ, ◌≡◌, ◌≤◌, nat_lt, not, Bool, true, false, cond, List, [], ◌∷◌, length, Option, None, Some, Err, refl, sym, ap, is_some, unwrap_or, ◌∙◌, option_or, false≢true, none-some, finish_fault, is_empty_last, last_of, size_fault, Endpoint, endpoint, encoding, Subgroup, BigInfo, Setup, without_cipher, Source, StandsFor, Refusal, BadGroup, BaseTooLong, Order, Stop, Refused, Step, Start, base_from, base_of, has_subgroup, is_base_too_long, is_last_bare, subgroups_of, refuse_if, GroupLine, checked_info, described, identity_of, is_ahead_in, is_described_at, no_identity, phase_of, is_unbegun_at, running, stage_of, neither, fails_not, fault_in, Identity, identity_or_none, Described, Becomes, Begins, DescribedIs, MayStart, StartedIs, line_of}
 use Rattle.base_grammar.specs.declared.fault.DraftFault.TheVariants as of_draft
 use Rattle.big_info.specs.Rows.{first_fault}
 use Rattle.big_info.specs.declared.fault.GroupFault.{GroupFault}
@@ -8,10 +9,9 @@ use Rattle.announcement_train.specs.PlainBase.{plain_base_of}
 use Rattle.announcement_train.proofs.Citable.{plain_is_small}
 use Rattle.source_machine.specs.Faults.{ConfigureFails}
 use Rattle.source_machine.specs.declared.fault.ConfigureFault.{ConfigureFault}
-use Rattle.source_machine.specs.declared.fault.ConfigureFault.TheVariants.{BadGroup as Misfit, Memory as NoMemory}
+use Rattle.source_machine.specs.declared.fault.ConfigureFault.TheVariants.{BadGroup as Misfit}
 use Rattle.scenario_history.specs.Refusals.{fault_refusal, group_refusal}
 use Rattle.sink_history.specs.History.{horizon_in}
-use Rattle.scenario_history.specs.Source.{Phase}
 use Rattle.scenario_sources.specs.Bases.{is_long}
 use Rattle.scenario_sources.specs.declared.phase.Phase.{Phase as Phases}
 use Rattle.scenario_sources.specs.declared.phase.Phase.TheVariants as phases
@@ -33,17 +33,14 @@ base_is own said is = rw is.group refl
 start_fault : (version first horizon : ℕ) (own : List Step) (said : Described) (g : Option Refusal) → horizon ≡ horizon_in version → DescribedSo own said
     → is_last_bare own ≡ false → g ≡ group_refusal (first_fault horizon said.info)
     → fault_in version own (Start first) ≡ option_or g (refuse_if (is_base_too_long own) BaseTooLong)
-start_fault version first horizon own said g h is bare e =
-    rw (is.0, bare) (ap (λ (f : Option Refusal). option_or f (refuse_if (is_base_too_long own) BaseTooLong))
-    (ap (λ i. group_refusal (first_fault (horizon_in version) i)) (checked_is own said is.1) ∙ ap (λ n. group_refusal (first_fault n said.info)) (sym h) ∙ sym e))
+start_fault version first horizon own said g h is bare e = grind (arith, is.0, checked_is own said is.1)
 
 bare_own : (own : List Step) (said : Described) (bare : Bool) → DescribedIs own said → bare ≡ is_empty_last (last_of said.base.subgroups) → bare ≡ is_last_bare own
 bare_own own said bare is e = e ∙ ap (λ (v : Endpoint). is_empty_last (last_of v.subgroups)) is.base
 
 pub start_bare : (version first : ℕ) (own : List Step) (said : Described) (bare : Bool) → DescribedSo own said → bare ≡ is_empty_last (last_of said.base.subgroups)
     → bare ≡ true → fault_in version own (Start first) ≡ Some Order
-start_bare version first own said bare is e t =
-    let lacks : is_last_bare own ≡ true = sym (bare_own own said bare is.1 e) ∙ t in rw (is.0, lacks) refl
+start_bare version first own said bare is e t = grind (arith, is_last_bare, bare_own)
 
 pub start_bad : (version first horizon : ℕ) (own : List Step) (said : Described) (bare : Bool) (reason : Refusal) → horizon ≡ horizon_in version → DescribedSo own said
     → bare ≡ is_empty_last (last_of said.base.subgroups) → bare ≡ false → Some reason ≡ group_refusal (first_fault horizon said.info)
@@ -52,29 +49,20 @@ start_bad version first horizon own said bare reason h is e f g = start_fault ve
 
 -- ---- the size of its BASE
 
-long_sized : (long : Bool) → is_long (cond long (Some of_draft.TooLong) None) ≡ long
-long_sized true = refl
-long_sized false = refl
-
 long_closed : (bare : Bool) (octets : ℕ) → bare ≡ false → is_long (size_fault (cond bare (Some of_draft.NoBis) None) octets) ≡ nat_lt 252 octets
-long_closed true octets f = absurd (false≢true (sym f))
-long_closed false octets f = long_sized (nat_lt 252 octets)
+long_closed bare octets f = grind (arith, false≢true, nat_lt)
 
 -- the draft of a BASE that was said has too many octets exactly where the BASE has
 long_said : (group : GroupLine) (ss : List Subgroup) → is_empty_last (last_of ss) ≡ false → is_some (last_of ss) ≡ true
     → is_long (finish_fault (endpoint group.delay ss)) ≡ nat_lt 252 (length (encoding (base_from group ss)))
-long_said group [] bare has = absurd (false≢true has)
-long_said group (s ∷ others) bare has = long_closed (is_empty_last (last_of (s ∷ others))) (length (encoding (endpoint group.delay (s ∷ others)))) bare
+long_said group ss bare has = grind (arith, false≢true, long_closed, is_empty_last, last_of, length, encoding, endpoint)
 
 too_long : (group : GroupLine) (ss : List Subgroup) → is_empty_last (last_of ss) ≡ false → is_long (finish_fault (endpoint group.delay ss)) ≡ true
     → nat_lt 252 (length (encoding (base_from group ss))) ≡ true
-too_long group [] bare long = absurd (false≢true long)
-too_long group (s ∷ others) bare long =
-    sym (long_closed (is_empty_last (last_of (s ∷ others))) (length (encoding (endpoint group.delay (s ∷ others)))) bare) ∙ long
+too_long group ss bare long = grind (arith, false≢true, long_closed, is_empty_last, last_of, length, encoding, endpoint)
 
 none_said : (group : GroupLine) (ss : List Subgroup) → group.info.num_bis ≤ 31 → is_some (last_of ss) ≡ false → nat_lt 252 (length (encoding (base_from group ss))) ≡ false
-none_said group [] few none = plain_is_small group.delay group.info.num_bis few
-none_said group (s ∷ others) few none = absurd (false≢true (sym none ∙ has_last s others))
+none_said group ss few none = grind (arith, plain_is_small, false≢true, has_last)
 
 draft_is : (own : List Step) (said : Described) → DescribedIs own said → finish_fault said.base ≡ finish_fault (endpoint said.delay (subgroups_of own))
 draft_is own said is = ap finish_fault is.base
@@ -83,11 +71,13 @@ pub start_long : (version first horizon : ℕ) (own : List Step) (said : Describ
     → bare ≡ is_empty_last (last_of said.base.subgroups) → bare ≡ false → None ≡ group_refusal (first_fault horizon said.info)
     → long ≡ is_long (finish_fault said.base) → long ≡ true → fault_in version own (Start first) ≡ Some BaseTooLong
 start_long version first horizon own said bare long h is e f g l t =
-    let closed : is_last_bare own ≡ false = sym (bare_own own said bare is.1 e) ∙ f in
-    let much : is_base_too_long own ≡ true =
-    ap (λ v. nat_lt 252 (length (encoding v))) (base_is own said is.1)
-    ∙ too_long (line_of said) (subgroups_of own) closed (sym (ap is_long (draft_is own said is.1)) ∙ sym l ∙ t) in
-    start_fault version first horizon own said None h is closed g ∙ ap (λ b. refuse_if b BaseTooLong) much
+    grind (
+      arith,
+      bare_own own said bare is.1 e,
+      base_is own said is.1,
+      too_long (line_of said) (subgroups_of own) (sym (bare_own own said bare is.1 e) ∙ f) (sym (ap is_long (draft_is own said is.1)) ∙ sym l ∙ t),
+      start_fault version first horizon own said None h is (sym (bare_own own said bare is.1 e) ∙ f) g,
+    )
 
 -- ---- it may be started
 
@@ -100,14 +90,11 @@ pub may_start_said : (version first horizon : ℕ) (own : List Step) (said : Des
 may_start_said version first horizon own said bare long has h is e f g l n k t =
     let closed : is_last_bare own ≡ false = sym (bare_own own said bare is.1 e) ∙ f in
     let some : has_subgroup own ≡ true = sym (has_own own said has is.1 k) ∙ t in
-    let little : is_base_too_long own ≡ false =
-    ap (λ v. nat_lt 252 (length (encoding v))) (base_is own said is.1)
-    ∙ sym (long_said (line_of said) (subgroups_of own) closed some) ∙ sym (ap is_long (draft_is own said is.1)) ∙ sym l ∙ n in
+    let little : is_base_too_long own ≡ false = grind (arith, nat_lt, length, encoding, base_is, long_said, line_of, subgroups_of, draft_is) in
     (start_fault version first horizon own said None h is closed g ∙ ap (λ b. refuse_if b BaseTooLong) little, some)
 
 no_subgroups : (group : GroupLine) (ss : List Subgroup) → is_some (last_of ss) ≡ false → base_from group ss ≡ plain_base_of group.delay group.info.num_bis
-no_subgroups group [] none = refl
-no_subgroups group (s ∷ others) none = absurd (false≢true (sym none ∙ has_last s others))
+no_subgroups group ss none = grind (arith, false≢true, has_last)
 
 pub may_start_plain : (version first horizon : ℕ) (own : List Step) (said : Described) (bare has : Bool) (base : Endpoint) → said.info.num_bis ≤ 31 → horizon ≡ horizon_in version
     → DescribedSo own said → bare ≡ is_empty_last (last_of said.base.subgroups) → bare ≡ false → None ≡ group_refusal (first_fault horizon said.info)
@@ -130,49 +117,22 @@ record Passes (version first : ℕ) (own : List Step) : Type 0 where
 
 passes : (version first : ℕ) (own : List Step) → phase_of own ≡ described → fault_in version own (Start first) ≡ None → Passes version first own
 passes version first own phase none =
-    let group : Option Refusal = group_refusal (first_fault (horizon_in version) (checked_info own)) in
-    let size : Option Refusal = refuse_if (is_base_too_long own) BaseTooLong in
-    let F : Phase → Type 0 = λ p. option_or (refuse_if (not (is_described_at p) || is_last_bare own) Order) (option_or group size) ≡ None in
-    let order = neither (refuse_if (is_last_bare own) Order) (option_or group size) (subst F phase none) in
-    let both = neither group size order.1 in
-    record { closed = fails_not (is_last_bare own) Order order.0; group = both.0; little = fails_not (is_base_too_long own) BaseTooLong both.1 }
+    grind (arith, checked_info, refuse_if, is_base_too_long, option_or, not, is_described_at, is_last_bare, neither, fails_not)
 
 closed_none : (bare : Bool) (octets : ℕ) → bare ≡ false → nat_lt 252 octets ≡ false → size_fault (cond bare (Some of_draft.NoBis) None) octets ≡ None
-closed_none true octets f l = absurd (false≢true (sym f))
-closed_none false octets f l = ap (λ (b : Bool). cond b (Some of_draft.TooLong) None) l
+closed_none bare octets f l = grind (arith, false≢true, cond)
 
 said_ends : (group : GroupLine) (ss : List Subgroup) → is_some (last_of ss) ≡ true → is_empty_last (last_of ss) ≡ false
     → nat_lt 252 (length (encoding (base_from group ss))) ≡ false → finish_fault (endpoint group.delay ss) ≡ None
-said_ends group [] has bare little = absurd (false≢true has)
-said_ends group (s ∷ others) has bare little =
-    closed_none (is_empty_last (last_of (s ∷ others))) (length (encoding (endpoint group.delay (s ∷ others)))) bare little
-
-finish_none : (version first : ℕ) (own : List Step) (said : Described) → DescribedSo own said → MayStart version first own None → finish_fault said.base ≡ None
-finish_none version first own said is may =
-    let all = passes version first own is.0 may.0 in
-    draft_is own said is.1
-    ∙ said_ends (line_of said) (subgroups_of own) may.1 all.closed (sym (ap (λ v. nat_lt 252 (length (encoding v))) (base_is own said is.1)) ∙ all.little)
+said_ends group ss has bare little = grind (arith, false≢true, closed_none, is_empty_last, last_of, length, encoding, endpoint)
 
 pub finish_fails : (version first : ℕ) (own : List Step) (said : Described) (plain : Option Endpoint) (stop : Stop) → DescribedSo own said → MayStart version first own plain
     → FinishStops said.base plain stop → Begins first own (Err stop)
-finish_fails version first own said None stop is may fails = absurd (none-some fails.0 (sym (finish_none version first own said is may) ∙ fails.1))
-finish_fails version first own said (Some plain) stop is may fails = absurd fails
+finish_fails version first own said plain stop is may fails =
+    grind (arith, none-some, passes, draft_is, said_ends, line_of, subgroups_of, nat_lt, length, encoding, base_is)
 
 refused_for : (fault : GroupFault) → (fault ≡ of_group.Encrypted → ⊥) → fault_refusal fault ≡ Some (BadGroup fault)
-refused_for of_group.RangeIso other = refl
-refused_for of_group.RangeSdu other = refl
-refused_for of_group.RangePdu other = refl
-refused_for of_group.Bn other = refl
-refused_for of_group.NseNotMultiple other = refl
-refused_for of_group.Irc other = refl
-refused_for of_group.PhyNotSupported other = refl
-refused_for of_group.FramedPduSmall other = refl
-refused_for of_group.UnframedMultiple other = refl
-refused_for of_group.UnframedBn other = refl
-refused_for of_group.Horizon other = refl
-refused_for of_group.SubInterval other = refl
-refused_for of_group.SyncDelay other = refl
-refused_for of_group.Encrypted other = absurd (other refl)
+refused_for fault other = grind arith
 
 pub bad_refusal : (horizon : ℕ) (info : BigInfo) (fault : GroupFault) → first_fault horizon info ≡ Some fault → (fault ≡ of_group.Encrypted → ⊥)
     → Some (BadGroup fault) ≡ group_refusal (first_fault horizon info)
@@ -185,24 +145,12 @@ group_fails version first horizon own said plain (Misfit fault) (Refused reason)
     let none : group_refusal (first_fault horizon said.info) ≡ None =
     ap (λ n. group_refusal (first_fault n said.info)) h ∙ ap (λ i. group_refusal (first_fault (horizon_in version) i)) (sym (checked_is own said is.1)) ∙ all.group in
     absurd (none-some (BadGroup fault) (sym none ∙ sym (bad_refusal horizon said.info fault fails.first fails.other)))
-group_fails version first horizon own said plain NoMemory (Refused reason) h is may fails g = absurd g
-group_fails version first horizon own said plain fault OutletFault h is may fails g = g
-group_fails version first horizon own said plain fault Memory h is may fails g = tt
+group_fails version first horizon own said plain fault stop h is may fails g =
+    search (false≢true, passes, checked_is, none-some, bad_refusal)
 
 -- the BASE that it begins with
 said_base : (group : GroupLine) (ss : List Subgroup) → is_some (last_of ss) ≡ true → endpoint group.delay ss ≡ base_from group ss
-said_base group [] has = absurd (false≢true has)
-said_base group (s ∷ others) has = refl
-
-based : (version first : ℕ) (own : List Step) (said : Described) (plain : Option Endpoint) (base : Endpoint) → DescribedSo own said → MayStart version first own plain
-    → Finishes said.base plain base → base ≡ base_of own
-based version first own said None base is may finishes =
-    finishes.0 ∙ is.1.base ∙ said_base (line_of said) (subgroups_of own) may.1 ∙ sym (base_is own said is.1)
-based version first own said (Some plain) base is may finishes = finishes ∙ may.1
-
-delay_from : (group : GroupLine) (ss : List Subgroup) → (base_from group ss).delay ≡ group.delay
-delay_from group [] = refl
-delay_from group (s ∷ others) = refl
+said_base group ss has = grind (arith, false≢true)
 
 setup_same : (i j : BigInfo) (o p d e first : ℕ) (f g : Bool) → i ≡ j → o ≡ p → d ≡ e → f ≡ g
     → let one : Setup = record { info = i; origin = o; delay = d; first = first; ahead = f } in
@@ -219,27 +167,10 @@ pub begins : (version first : ℕ) (ahead : Bool) (own : List Step) (said : Desc
     → (let setup : Setup = record { info = without_cipher said.info; origin = said.origin; delay = base.delay; first = first; ahead = ahead } in started.setup ≡ setup)
     → started.base ≡ base → started.cipher ≡ said.info.cipher → StandsFor [] started → StartedIs (Start first ∷ own) started
 begins version first ahead own said plain base started a stage is may finishes identity setup b c stands =
-    let same : base ≡ base_of own = based version first own said plain base is may finishes in
-    let delay : base.delay ≡ said.delay =
-    ap (λ (v : Endpoint). v.delay) (same ∙ base_is own said is.1) ∙ delay_from (line_of said) (subgroups_of own) in
-    record {
-      identity = identity_is own said started.identity is.1 identity;
-      setup = setup
-          ∙ setup_same (without_cipher said.info) (without_cipher said.info) said.origin said.origin base.delay said.delay first ahead (is_ahead_in version) refl refl delay a
-          ∙ rw (is.1.group, stage) refl;
-      under_way = ap is_unbegun_at stage;
-      base = b ∙ same;
-      cipher = c ∙ is.1.cipher;
-      calls = let P : List Call → Type 0 = λ calls. StandsFor calls started in subst P (sym is.1.calls) stands;
-    }
+    grind (arith, base_of, said_base, line_of, subgroups_of, base_is, identity_is, setup_same, without_cipher, is_ahead_in, is_unbegun_at)
 
 pub is_not_other : (phase : Phases) → is_described_phase phase ≡ true → ((said : Described) → phase ≡ phases.Described said → ⊥) → ⊥
-is_not_other phases.Absent is other = false≢true is
-is_not_other (phases.Described said) is other = other said refl
-is_not_other (phases.Sending started) is other = false≢true is
-is_not_other (phases.Stopped started) is other = false≢true is
+is_not_other phase is other = grind (arith, false≢true)
 
 pub begin_stops : (version first : ℕ) (own : List Step) (phase : Phases) (stop : Stop) → Begins first own (Err stop) → Becomes version own (Start first) phase (Err stop)
-begin_stops version first own phase (Refused reason) b = absurd b
-begin_stops version first own phase OutletFault b = b
-begin_stops version first own phase Memory b = tt
+begin_stops version first own phase stop b = grind arith

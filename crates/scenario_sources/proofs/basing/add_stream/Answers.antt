@@ -3,18 +3,13 @@ use Rattle.scenario_sources.proofs.Drafts.{adds, adds_beyond, adds_early, adds_n
 use Rattle.scenario_sources.proofs.basing.add_stream.Goals as goal
 
 pub returns-then-not-has_subgroup : goal.returns-then-not-has_subgroup
-returns-then-not-has_subgroup c version own is =
-    adds_early version own c.args.bis c.args.config.now c.in-Described.described c.has_subgroup.result (rw c.in-Described.is at is) c.has_subgroup.ensures
-    c.if-not-has_subgroup.true
+returns-then-not-has_subgroup c version own is = grind (arith, adds_early)
 
 pub returns-then-is_beyond : goal.returns-then-is_beyond
-returns-then-is_beyond c version own is =
-    adds_beyond version own c.args.bis c.get.result c.args.config.now c.in-Described.described (rw c.in-Described.is at is)
-    (some_then c.has_subgroup.result _ c.has_subgroup.ensures c.if-not-has_subgroup.false) c.get.ensures.same c.if-is_beyond.true
+returns-then-is_beyond c version own is = grind (arith, adds_beyond, some_then)
 
 pub bis-requires : goal.bis-requires
-bis-requires c =
-    list_for c.in-Described.described.base.subgroups c.args.config.now (are_read c.args.config.now (λ i. omega (arith, c.type_inv.config i)) c.requires)
+bis-requires c = grind (arith, list_for, are_read)
 
 pub returns-in-Ok : goal.returns-in-Ok
 returns-in-Ok c version own is =
@@ -23,7 +18,4 @@ returns-in-Ok c version own is =
     c.get.ensures.same c.if-is_beyond.false c.in-Ok.ensures.refuses c.in-Ok.ensures.ok
 
 pub returns-in-Err : goal.returns-in-Err
-returns-in-Err c version own is =
-    adds_not version own c.args.bis c.get.result c.args.config.now c.in-Described.described _ c.in-Err.fault c.draft_stop.result (rw c.in-Described.is at is)
-    (record { info = refl; origin = refl; delay = refl; identity = refl }) (some_then c.has_subgroup.result _ c.has_subgroup.ensures c.if-not-has_subgroup.false)
-    c.get.ensures.same c.if-is_beyond.false c.in-Err.ensures.refuses c.in-Err.ensures.err c.draft_stop.ensures
+returns-in-Err c version own is = grind (arith, adds_not, some_then)

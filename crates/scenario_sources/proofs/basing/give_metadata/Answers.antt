@@ -8,9 +8,7 @@ returns-in-Ok c version own is =
     c.in-Ok.ensures.refuses c.in-Ok.ensures.ok
 
 pub returns-in-Err : goal.returns-in-Err
-returns-in-Err c version own is =
-    gives_no_metadata version own c.args.metadata.now c.in-Described.described _ c.in-Err.fault c.draft_stop.result (rw c.in-Described.is at is)
-    (record { info = refl; origin = refl; delay = refl; identity = refl }) c.in-Err.ensures.refuses c.in-Err.ensures.err c.draft_stop.ensures
+returns-in-Err c version own is = grind (arith, gives_no_metadata)
 
 pub metadata-requires : goal.metadata-requires
 metadata-requires c = are_read c.args.metadata.now (λ i. omega (arith, c.type_inv.metadata i)) c.requires

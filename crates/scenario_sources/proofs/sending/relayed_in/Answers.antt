@@ -1,10 +1,10 @@
-use Rattle.scenario_sources.proofs.Prelude.{refl, sym, ◌∙◌, source_calls}
+use Rattle.std.proofs.Common.{arith}
+use Rattle.scenario_sources.proofs.Prelude.{sym, ◌∙◌, source_calls}
 use Rattle.scenario_sources.proofs.Phasing.{coded, relays_not}
 use Rattle.scenario_sources.proofs.sending.relayed_in.Goals as goal
 
 pub returns-then-is_ciphered : goal.returns-then-is_ciphered
-returns-then-is_ciphered c version own is =
-    let here = rw c.in-Sending.is at is in rw (coded own c.in-Sending.started here (sym c.is_ciphered.ensures ∙ c.if-is_ciphered.true)) refl
+returns-then-is_ciphered c version own is = grind (arith, coded)
 
 pub returns : goal.returns
 returns c version own is =

@@ -3,8 +3,7 @@ use Rattle.scenario_sources.proofs.Starts.{identity_is, may_start_plain, may_sta
 use Rattle.scenario_sources.proofs.starting.check_start.Goals as goal
 
 pub returns-then-is_last_bare-clause-ready : goal.returns-then-is_last_bare-clause-ready
-returns-then-is_last_bare-clause-ready c version first own h is =
-    start_bare version first own c.in-Described.described c.is_last_bare.result (rw c.in-Described.is at is) c.is_last_bare.ensures c.if-is_last_bare.true
+returns-then-is_last_bare-clause-ready c version first own h is = grind (arith, start_bare)
 
 pub returns-in-Some-clause-ready : goal.returns-in-Some-clause-ready
 returns-in-Some-clause-ready c version first own h is =

@@ -1,16 +1,9 @@
-use Rattle.scenario_sources.proofs.Prelude.{◌≡◌, ◌-◌, ◌<◌, length, true, refl, sym, subst, ◌∙◌, ap, arith, chosen_of, chosen_steps, steps_of_source, stage_same, Start, is_described}
+use Rattle.scenario_sources.proofs.Prelude.{◌-◌, ◌<◌, length, true, refl, sym, ◌∙◌, ap, arith, chosen_of, chosen_steps, steps_of_source, stage_same, Start, is_described}
 use Rattle.scenario_sources.proofs.Lifting.{answers, chosen_read, is_single, phase_read, same_read, start_refused, start_twice, stands_as, twice_is}
 use Rattle.scenario_sources.proofs.sources.Sources.start.Goals as goal
 
 pub begin-requires-clause-described : goal.begin-requires-clause-described
-begin-requires-clause-described c =
-    let two = sym c.args.self.now.phases.ok.0 ∙ c.args.self.now.two in
-    let one = c.args.self.now.is_one in
-    let at = c.from.ensures in
-    let inside : c.from.result < length c.args.self.now.phases.items = omega arith in
-    let same = same_read c.args.self.now.phases.items c.from.result c.from-3.result c.index.result.now c.index_mut.result.now
-    (c.from.ensures ∙ sym c.from-3.ensures) inside c.index.ensures c.index_mut.ensures.value in
-    subst (λ phase. is_described phase ≡ true) (sym same) c.in-Ok.ensures.described
+begin-requires-clause-described c = grind (arith, length, same_read, is_described)
 
 pub returns-in-Err : goal.returns-in-Err
 returns-in-Err c version steps h a running stands =
