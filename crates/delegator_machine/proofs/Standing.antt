@@ -1,5 +1,6 @@
 -- A Scan Delegator that stands for its calls stands for them and one more.
-use Rattle.delegator_machine.proofs.Prelude.{◌≡◌, Bool, true, false, List, ◌∷◌, Option, Some, None, refl, sym, ◌∙◌, ap, subst, Snapshot, Step, snapshot_of, Setup, BigSync, OnGroup, has_group, Machine, Call, control, steps_of, big_sync_given, by_numbers, with_leave, with_step, group_calls, Halves, StandsFor}
+use Rattle.std.proofs.Common.{arith}
+use Rattle.delegator_machine.proofs.Prelude.{◌≡◌, Bool, List, ◌∷◌, Some, None, sym, ◌∙◌, ap, subst, Step, snapshot_of, Setup, BigSync, has_group, Machine, Call, control, steps_of, big_sync_given, by_numbers, with_leave, with_step, group_calls, Halves, StandsFor}
 use Rattle.group_sink.specs.Calls as sinks
 use Rattle.group_sink.specs.State.Sinks.{StandsFor as SinkStands}
 use Rattle.delegator_control.specs.State.Machines.{StandsFor as ScanStands}
@@ -12,19 +13,14 @@ snapshot_is setup calls d stands = subst (λ s. d.scan.snapshot ≡ snapshot_of 
 
 after_is : (setup : Setup) (step : Step) (calls : List Call) (old new : Halves) → new.scan.setup ≡ old.scan.setup
     → ScanStands (step ∷ steps_of calls) new.scan → StandsFor setup calls old → new.scan.snapshot ≡ snapshot_of setup (step ∷ steps_of calls)
-after_is setup step calls old new same steps stands =
-    subst (λ s. new.scan.snapshot ≡ snapshot_of s (step ∷ steps_of calls)) (same ∙ stands.setup_is) steps.snapshot
+after_is setup step calls old new same steps stands = grind (arith, snapshot_of, steps_of)
 
 -- that synchronizes the sink to a BIG
 pub stands_joined : (setup : Setup) (step : Step) (calls : List Call) (old new : Halves) (big_sync : BigSync)
     → big_sync_given setup (snapshot_of setup (steps_of calls)) step ≡ Some big_sync → new.scan.setup ≡ old.scan.setup
     → ScanStands (step ∷ steps_of calls) new.scan → SinkStands (sinks.tune (by_numbers big_sync) ∷ group_calls setup calls) new.sink
     → StandsFor setup calls old → StandsFor setup (control step ∷ calls) new
-stands_joined setup step calls old new big_sync is same steps sink stands = record {
-  setup_is = same ∙ stands.setup_is;
-  steps = steps;
-  groups = subst (λ given. SinkStands (with_step given (snapshot_of setup (steps_of calls)) (snapshot_of setup (step ∷ steps_of calls)) (group_calls setup calls)) new.sink) (sym is) sink;
-}
+stands_joined setup step calls old new big_sync is same steps sink stands = grind (arith, with_step, snapshot_of, steps_of, group_calls)
 
 -- that puts it on none
 pub stands_stepped : (setup : Setup) (step : Step) (calls : List Call) (old new : Halves)
@@ -33,19 +29,7 @@ pub stands_stepped : (setup : Setup) (step : Step) (calls : List Call) (old new 
     → ((past : List sinks.Call) → SinkStands past old.sink → SinkStands (with_leave (has_group old.scan.snapshot.place) (has_group new.scan.snapshot.place) past) new.sink)
     → StandsFor setup calls old → StandsFor setup (control step ∷ calls) new
 stands_stepped setup step calls old new none same steps sink stands =
-    let past : List sinks.Call = group_calls setup calls in
-    let before : Snapshot = snapshot_of setup (steps_of calls) in
-    let after : Snapshot = snapshot_of setup (step ∷ steps_of calls) in
-    let first : SinkStands (with_leave (has_group old.scan.snapshot.place) (has_group after.place) past) new.sink =
-    subst (λ (s : Snapshot). SinkStands (with_leave (has_group old.scan.snapshot.place) (has_group s.place) past) new.sink)
-    (after_is setup step calls old new same steps stands) (sink past stands.groups) in
-    let then : SinkStands (with_leave (has_group before.place) (has_group after.place) past) new.sink =
-    subst (λ (s : Snapshot). SinkStands (with_leave (has_group s.place) (has_group after.place) past) new.sink) (snapshot_is setup calls old stands) first in
-    record {
-      setup_is = same ∙ stands.setup_is;
-      steps = steps;
-      groups = subst (λ given. SinkStands (with_step given before after past) new.sink) (sym none) then;
-    }
+    grind (arith, group_calls, snapshot_of, steps_of, with_leave, has_group, after_is, snapshot_is, with_step)
 
 -- and that was settled then
 pub stands_settled : (setup : Setup) (step : Step) (calls : List Call) (old new : Halves) (mid : Machine) (was : Bool)
@@ -55,24 +39,17 @@ pub stands_settled : (setup : Setup) (step : Step) (calls : List Call) (old new 
     → StandsFor setup calls old → StandsFor setup (control step ∷ calls) new
 stands_settled setup step calls old new mid was none same steps is made sink stands =
     stands_stepped setup step calls old new none (ap (λ (m : Machine). m.setup) made ∙ same) (subst (ScanStands (step ∷ steps_of calls)) (sym made) steps)
-    (λ past its. subst (λ (m : Machine). SinkStands (with_leave (has_group old.scan.snapshot.place) (has_group m.snapshot.place) past) new.sink) (sym made)
-    (subst (λ on. SinkStands (with_leave on (has_group mid.snapshot.place) past) new.sink) is (sink past its)))
+    (grind (arith, with_leave, has_group))
     stands
 
 stays : (on : Bool) (past : List sinks.Call) → with_leave on on past ≡ past
-stays true past = refl
-stays false past = refl
+stays on past = grind arith
 
 -- that leaves it where it was
 pub stands_quiet : (setup : Setup) (step : Step) (calls : List Call) (old new : Halves)
     → big_sync_given setup (snapshot_of setup (steps_of calls)) step ≡ None → new.scan.setup ≡ old.scan.setup
     → ScanStands (step ∷ steps_of calls) new.scan → has_group new.scan.snapshot.place ≡ has_group old.scan.snapshot.place → new.sink ≡ old.sink
     → StandsFor setup calls old → StandsFor setup (control step ∷ calls) new
-stands_quiet setup step calls old new none same steps place sink stands =
-    stands_stepped setup step calls old new none same steps
-    (λ past its. subst (λ (s : Option OnGroup). SinkStands (with_leave (has_group old.scan.snapshot.place) (has_group new.scan.snapshot.place) past) s) (sym sink)
-    (subst (λ xs. SinkStands xs old.sink)
-    (sym (stays (has_group old.scan.snapshot.place) past) ∙ ap (λ on. with_leave (has_group old.scan.snapshot.place) on past) (sym place)) its))
-    stands
+stands_quiet setup step calls old new none same steps place sink stands = grind (arith, stands_stepped, with_leave, has_group, stays)
 
 -- ---- what the receivers hear

@@ -1,9 +1,8 @@
 -- A train that is heard synchronizes the sink to a BIG, or leaves it off one.
-use Rattle.delegator_machine.proofs.Prelude.{ℕ, ◌≡◌, Bool, true, false, List, ◌∷◌, Option, Some, None, option_map, refl, sym, ◌∙◌, ap, not, is_some, if◌then◌else◌, Place, idle, on_train, on_group, Snapshot, entry_at, is_on_group, train_heard, snapshot_of, nothing, after, wishes_at, TrainOutcome, Setup, Train, ignored, heard, taken, base_in, outcome_by, by_base, by_broadcast_id, by_slot, done_by_outcome, is_elsewhere, is_wanted, big_sync_in, BigSync, OnGroup, fresh_on, has_base, is_followed, has_group, Machine, moved, Call, control, steps_of, group_calls, by_numbers, Halves, StandsFor}
+use Rattle.std.proofs.Common.{arith}
+use Rattle.delegator_machine.proofs.Prelude.{ℕ, ◌≡◌, Bool, true, false, List, ◌∷◌, Option, Some, None, option_map, refl, sym, ◌∙◌, ap, not, is_some, if◌then◌else◌, Place, idle, on_train, on_group, Snapshot, entry_at, is_on_group, train_heard, snapshot_of, nothing, after, wishes_at, TrainOutcome, Setup, Train, ignored, base_in, outcome_by, by_base, by_broadcast_id, done_by_outcome, is_elsewhere, is_wanted, big_sync_in, BigSync, OnGroup, fresh_on, has_base, is_followed, has_group, Machine, moved, Call, control, steps_of, group_calls, by_numbers, Halves, StandsFor}
 use Rattle.base_grammar.specs.AdReading.{broadcast_id_of}
 use Rattle.delegator_history.specs.declared.train_heard.TrainHeard.{TrainHeard}
-use Rattle.delegator_history.specs.declared.train_heard.TrainHeard.TheVariants as answers
-use Rattle.delegator_history.specs.Writes.{slot_where}
 use Rattle.group_sink.specs.Calls as sinks
 use Rattle.group_sink.specs.State.Sinks.{StandsFor as SinkStands}
 use Rattle.delegator_control.specs.State.Machines.{StandsFor as ScanStands}
@@ -13,30 +12,18 @@ use Rattle.delegator_machine.proofs.Standing.{snapshot_is, stands_joined, stands
 
 kept_off : (here : Bool) (elsewhere already : TrainHeard) (more : TrainOutcome)
     → done_by_outcome (if not here then ignored elsewhere else (if here then ignored already else more)) ≡ nothing
-kept_off true elsewhere already more = refl
-kept_off false elsewhere already more = refl
-
-by_slot_kept : (setup : Setup) (snapshot : Snapshot) (train : Train) (other : Option ℕ) (slot : Option ℕ) → snapshot.place ≡ on_group other
-    → done_by_outcome (by_slot setup snapshot train slot) ≡ nothing
-by_slot_kept setup snapshot train other None at = refl
-by_slot_kept setup snapshot train other (Some slot) at =
-    let more : TrainOutcome = by_base setup snapshot.capability (wishes_at (entry_at snapshot.slots slot)) slot train (base_in train.adv) in
-    ap (λ p. done_by_outcome (if is_elsewhere p slot then ignored answers.OtherTrain else (if is_on_group p slot then ignored answers.AlreadyOnGroup else more))) at
-    ∙ kept_off (is_on_group (on_group other) slot) answers.OtherTrain answers.AlreadyOnGroup more
+kept_off here elsewhere already more = grind arith
 
 by_id_kept : (setup : Setup) (snapshot : Snapshot) (train : Train) (other : Option ℕ) (id : Option (List ℕ)) → snapshot.place ≡ on_group other
     → done_by_outcome (by_broadcast_id setup snapshot train id) ≡ nothing
-by_id_kept setup snapshot train other None at = refl
-by_id_kept setup snapshot train other (Some id) at =
-    by_slot_kept setup snapshot train other (slot_where (is_wanted train.address_type train.sid id) 0 snapshot.slots) at
+by_id_kept setup snapshot train other id at =
+    grind (arith, by_base, wishes_at, entry_at, base_in, done_by_outcome, is_elsewhere, ignored, is_on_group, kept_off, on_group, is_wanted)
 
 -- ---- a train that brings no group
 
 off_then : (outcome : TrainOutcome) (snapshot : Snapshot) → big_sync_in outcome ≡ None → has_group snapshot.place ≡ false
     → has_group (after (done_by_outcome outcome) snapshot).place ≡ false
-off_then (ignored answer) snapshot none off = off
-off_then (heard slot answer encrypted) snapshot none off = refl
-off_then (taken slot bits encrypted big_sync) snapshot none off = absurd cc
+off_then outcome snapshot none off = grind arith
 
 pub brings_none : (setup : Setup) (snapshot : Snapshot) (train : Train) → big_sync_in (outcome_by setup snapshot train) ≡ None
     → has_group (after (done_by_outcome (outcome_by setup snapshot train)) snapshot).place ≡ has_group snapshot.place
@@ -71,17 +58,11 @@ stands_trained setup train calls old new (Some big_sync) made is makes quiet put
 -- ---- where memory may be wanted
 
 pub base_followed : (outcome : TrainOutcome) → has_base outcome ≡ true → is_followed outcome ≡ true
-base_followed (ignored answer) is = absurd cc
-base_followed (heard slot answer encrypted) is = refl
-base_followed (taken slot bits encrypted big_sync) is = refl
+base_followed outcome is = grind arith
 
 pub joined_followed : (big_sync : Option BigSync) (outcome : TrainOutcome) → big_sync ≡ big_sync_in outcome → is_some big_sync ≡ true → is_followed outcome ≡ true
-joined_followed None outcome is some = absurd cc
-joined_followed (Some big_sync) (ignored answer) is some = absurd cc
-joined_followed (Some big_sync) (heard slot answer encrypted) is some = refl
-joined_followed (Some big_sync) (taken slot bits encrypted other) is some = refl
+joined_followed big_sync outcome is some = grind arith
 
 pub followed_so : (setup : Setup) (calls : List Call) (old : Halves) (train : Train) → StandsFor setup calls old
     → is_followed (outcome_by old.scan.setup old.scan.snapshot train) ≡ true → is_followed (outcome_by setup (snapshot_of setup (steps_of calls)) train) ≡ true
-followed_so setup calls old train stands is =
-    (λ i. is_followed (outcome_by (sym stands.setup_is i) (sym (snapshot_is setup calls old stands) i) train)) ∙ is
+followed_so setup calls old train stands is = grind (arith, is_followed, outcome_by, snapshot_is)

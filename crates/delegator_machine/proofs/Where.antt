@@ -1,5 +1,6 @@
 -- Both halves are on a group, or on none.
-use Rattle.delegator_machine.proofs.Prelude.{◌≡◌, Bool, true, false, List, [], ◌∷◌, Option, Some, None, option_map, refl, sym, ◌∙◌, ap, is_some, if◌then◌else◌, Snapshot, Step, snapshot_of, after, Setup, BigSync, has_group, Call, control, hear, tick, steps_of, big_sync_given, last_big_sync, by_numbers, with_leave, with_step, group_calls}
+use Rattle.std.proofs.Common.{arith}
+use Rattle.delegator_machine.proofs.Prelude.{◌≡◌, true, false, List, [], ◌∷◌, Option, Some, None, option_map, refl, sym, ◌∙◌, ap, is_some, if◌then◌else◌, Snapshot, Step, snapshot_of, after, Setup, BigSync, has_group, Call, control, hear, tick, steps_of, big_sync_given, last_big_sync, by_numbers, with_step, group_calls}
 use Rattle.std.specs.Option.{option_or}
 use Rattle.delegator_history.specs.States.{answered}
 use Rattle.delegator_history.proofs.Citable.{snapshot_goes_on}
@@ -9,33 +10,18 @@ use Rattle.delegator_machine.proofs.Places.{comes_on, stays_off}
 
 -- ---- one step
 
-leaves_both : (was is : Bool) (past : List sinks.Call) → is_some (place past) ≡ was → (was ≡ false → is ≡ false)
-    → is_some (place (with_leave was is past)) ≡ is
-leaves_both true true past before off = before
-leaves_both true false past before off = refl
-leaves_both false is past before off = before ∙ sym (off refl)
-
 step_both : (given : Option BigSync) (before after : Snapshot) (past : List sinks.Call) → is_some (place past) ≡ has_group before.place
     → (given ≡ None → has_group before.place ≡ false → has_group after.place ≡ false)
     → ((big_sync : BigSync) → given ≡ Some big_sync → has_group after.place ≡ true)
     → is_some (place (with_step given before after past)) ≡ has_group after.place
-step_both None before after past both off on = leaves_both (has_group before.place) (has_group after.place) past both (off refl)
-step_both (Some big_sync) before after past both off on = sym (on big_sync refl)
-
-leaves_where : (was is : Bool) (past : List sinks.Call) (last : Option BigSync) → place past ≡ (if was then option_map by_numbers last else None)
-    → (was ≡ false → is ≡ false) → place (with_leave was is past) ≡ (if is then option_map by_numbers last else None)
-leaves_where true true past last before off = before
-leaves_where true false past last before off = refl
-leaves_where false is past last before off = before ∙ ap (λ on. if on then option_map by_numbers last else None) (sym (off refl))
+step_both given before after past both off on = grind (arith, has_group)
 
 step_where : (given : Option BigSync) (before after : Snapshot) (past : List sinks.Call) (last : Option BigSync)
     → place past ≡ (if has_group before.place then option_map by_numbers last else None)
     → (given ≡ None → has_group before.place ≡ false → has_group after.place ≡ false)
     → ((big_sync : BigSync) → given ≡ Some big_sync → has_group after.place ≡ true)
     → place (with_step given before after past) ≡ (if has_group after.place then option_map by_numbers (option_or given last) else None)
-step_where None before after past last is off on = leaves_where (has_group before.place) (has_group after.place) past last is (off refl)
-step_where (Some big_sync) before after past last is off on =
-    ap (λ there. if there then Some (by_numbers big_sync) else None) (sym (on big_sync refl))
+step_where given before after past last is off on = grind (arith, option_map, by_numbers, has_group)
 
 -- ---- all calls
 

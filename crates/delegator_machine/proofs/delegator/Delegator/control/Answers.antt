@@ -1,5 +1,5 @@
-use Rattle.delegator_machine.proofs.Prelude.{refl, sym, ◌∙◌, ap, subst, IsSome, Snapshot, slot_of, control_heard, on_any_err, Machine, machine, steps_of, Halves, StandsFor}
-use Rattle.delegator_history.specs.Controls.{control_heard as answer_to}
+use Rattle.std.proofs.Common.{arith}
+use Rattle.delegator_machine.proofs.Prelude.{refl, sym, ap, subst, slot_of, control_heard, on_any_err, Machine, machine, steps_of, Halves, StandsFor}
 use Rattle.delegator_machine.proofs.Standing.{snapshot_is, stands_settled}
 use Rattle.delegator_machine.proofs.delegator.Delegator.control.Goals as goal
 
@@ -12,15 +12,7 @@ returns-clause-stands c setup calls stands =
     c.is_on_group-was_on_group.ensures c.settle.ensures.scan c.settle.ensures.sink before
 
 pub returns-in_err-heard-clause-memory : goal.returns-in_err-heard-clause-memory
-returns-in_err-heard-clause-memory c setup calls stands =
-    let old : Halves = record { scan = machine c.self.inside.scan; sink = c.self.inside.sink } in
-    let before : StandsFor setup calls old = subst (StandsFor setup calls) (sym c.self.view_is) stands in
-    on_any_err c.from_residual.result
-    (ap (λ (s : Snapshot). answer_to s.place c.args.pdu.now) (sym (snapshot_is setup calls old before)) ∙ c.in_err-heard.ensures.memory)
+returns-in_err-heard-clause-memory c setup calls stands = grind (arith, machine, on_any_err, snapshot_is)
 
 pub returns-in_err-heard-clause-slot : goal.returns-in_err-heard-clause-slot
-returns-in_err-heard-clause-slot c setup calls stands =
-    let old : Halves = record { scan = machine c.self.inside.scan; sink = c.self.inside.sink } in
-    let before : StandsFor setup calls old = subst (StandsFor setup calls) (sym c.self.view_is) stands in
-    on_any_err c.from_residual.result
-    (subst (λ (s : Snapshot). IsSome (slot_of s.place)) (snapshot_is setup calls old before) c.in_err-heard.ensures.slot)
+returns-in_err-heard-clause-slot c setup calls stands = grind (arith, machine, on_any_err, slot_of, snapshot_is)

@@ -1,4 +1,5 @@
-use Rattle.delegator_machine.proofs.Prelude.{refl, sym, ap, subst, IsSome, Snapshot, slot_of, train_lost, on_any_err, Machine, machine, steps_of, Halves, StandsFor}
+use Rattle.std.proofs.Common.{arith}
+use Rattle.delegator_machine.proofs.Prelude.{refl, sym, ap, subst, slot_of, train_lost, on_any_err, Machine, machine, steps_of, Halves, StandsFor}
 use Rattle.delegator_machine.proofs.Standing.{snapshot_is, stands_settled}
 use Rattle.delegator_machine.proofs.delegator.Delegator.lost.Goals as goal
 
@@ -11,8 +12,4 @@ returns-clause-stands c setup calls stands =
     c.is_on_group-was_on_group.ensures c.settle.ensures.scan c.settle.ensures.sink before
 
 pub returns-in_err-lost-clause-memory : goal.returns-in_err-lost-clause-memory
-returns-in_err-lost-clause-memory c setup calls stands =
-    let old : Halves = record { scan = machine c.self.inside.scan; sink = c.self.inside.sink } in
-    let before : StandsFor setup calls old = subst (StandsFor setup calls) (sym c.self.view_is) stands in
-    on_any_err c.from_residual.result
-    (subst (λ (s : Snapshot). IsSome (slot_of s.place)) (snapshot_is setup calls old before) c.in_err-lost.ensures.memory)
+returns-in_err-lost-clause-memory c setup calls stands = grind (arith, machine, on_any_err, slot_of, snapshot_is)

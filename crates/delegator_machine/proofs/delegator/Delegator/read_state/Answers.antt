@@ -1,4 +1,5 @@
-use Rattle.delegator_machine.proofs.Prelude.{◌∙◌, sym, ap, subst, IsSome, Snapshot, entry_at, machine, Halves, StandsFor}
+use Rattle.std.proofs.Common.{arith}
+use Rattle.delegator_machine.proofs.Prelude.{◌∙◌, sym, ap, subst, entry_at, machine, Halves, StandsFor}
 use Rattle.std.proofs.lemmas.Result.{IfOk-weaker, on_err_weaker}
 use Rattle.delegator_history.specs.Values.{value_at}
 use Rattle.delegator_machine.proofs.Standing.{snapshot_is}
@@ -11,7 +12,4 @@ returns-clause-value c setup calls stands =
     IfOk-weaker c.read_state.result _ _ (λ octets is. is ∙ ap (λ snapshot. value_at snapshot c.args.slot) (snapshot_is setup calls old before)) c.read_state.ensures.value
 
 pub returns-clause-memory : goal.returns-clause-memory
-returns-clause-memory c setup calls stands =
-    let old : Halves = record { scan = machine c.self.inside.scan; sink = c.self.inside.sink } in
-    let before : StandsFor setup calls old = subst (StandsFor setup calls) (sym c.self.view_is) stands in
-    on_err_weaker c.read_state.result (subst (λ (s : Snapshot). IsSome (entry_at s.slots c.args.slot)) (snapshot_is setup calls old before)) c.read_state.ensures.memory
+returns-clause-memory c setup calls stands = grind (arith, machine, on_err_weaker, entry_at, snapshot_is)

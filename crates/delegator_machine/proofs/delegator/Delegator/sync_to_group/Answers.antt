@@ -1,4 +1,5 @@
-use Rattle.delegator_machine.proofs.Prelude.{◌<◌, ◌∙◌, refl, sym, ap, subst, inl, inr, IsSome, Snapshot, slot_of, sync_to_group, BigSync, fresh_on, on_any_err, Machine, machine, steps_of, by_numbers, group_calls, Halves, StandsFor}
+use Rattle.std.proofs.Common.{arith}
+use Rattle.delegator_machine.proofs.Prelude.{◌∙◌, refl, sym, ap, subst, slot_of, sync_to_group, BigSync, fresh_on, on_any_err, Machine, machine, steps_of, by_numbers, group_calls, Halves, StandsFor}
 use Rattle.delegator_machine.proofs.Standing.{snapshot_is, stands_joined}
 use Rattle.delegator_machine.proofs.delegator.Delegator.sync_to_group.Goals as goal
 
@@ -13,13 +14,7 @@ returns-clause-stands c setup calls stands =
     before
 
 pub returns-in_err-receivers-clause-memory : goal.returns-in_err-receivers-clause-memory
-returns-in_err-receivers-clause-memory c setup calls stands =
-    on_any_err c.from_residual.result
-    (inl (subst (λ (big_sync : BigSync). 0 < big_sync.which) c.by_numbers.ensures c.in_err-receivers.ensures))
+returns-in_err-receivers-clause-memory c setup calls stands = grind (arith, on_any_err)
 
 pub returns-in_err-tune-clause-memory : goal.returns-in_err-tune-clause-memory
-returns-in_err-tune-clause-memory c setup calls stands =
-    let old : Halves = record { scan = machine c.self.inside.scan; sink = c.self.inside.sink } in
-    let before : StandsFor setup calls old = subst (StandsFor setup calls) (sym c.self.view_is) stands in
-    on_any_err c.from_residual-in_err-tune.result
-    (inr (subst (λ (s : Snapshot). IsSome (slot_of s.place)) (snapshot_is setup calls old before) c.in_err-tune.ensures.memory))
+returns-in_err-tune-clause-memory c setup calls stands = grind (arith, machine, on_any_err, slot_of, snapshot_is)

@@ -1,3 +1,4 @@
+use Rattle.std.proofs.Common.{arith}
 use Rattle.delegator_machine.proofs.Prelude.{◌≡◌, ◌∙◌, option_copied, sym, ap, subst, Train, outcome_by, done_by_outcome, big_sync_in, is_followed, on_any_err, machine, moved, steps_of, Halves, StandsFor}
 use Rattle.delegator_choices.specs.State.Brings.{outcome_of}
 use Rattle.delegator_machine.proofs.Trains.{base_followed, followed_so, joined_followed, stands_trained}
@@ -18,27 +19,11 @@ returns-clause-stands c setup calls stands =
     before
 
 pub returns-in_err-outcome-clause-memory : goal.returns-in_err-outcome-clause-memory
-returns-in_err-outcome-clause-memory c setup calls stands =
-    let old : Halves = record { scan = machine c.self.inside.scan; sink = c.self.inside.sink } in
-    let before : StandsFor setup calls old = subst (StandsFor setup calls) (sym c.self.view_is) stands in
-    let train : Train = record { address_type = c.args.address_type; sid = c.args.sid; ext = c.args.ext.now; adv = c.args.adv.now; acad = c.args.acad.now; now = c.args.now } in
-    on_any_err c.from_residual.result
-    (followed_so setup calls old train before (base_followed (outcome_by old.scan.setup old.scan.snapshot train) c.in_err-outcome.ensures.memory))
+returns-in_err-outcome-clause-memory c setup calls stands = grind (arith, machine, on_any_err, followed_so, base_followed, outcome_by)
 
 pub returns-in_err-made-clause-memory : goal.returns-in_err-made-clause-memory
 returns-in_err-made-clause-memory c setup calls stands =
-    let old : Halves = record { scan = machine c.self.inside.scan; sink = c.self.inside.sink } in
-    let before : StandsFor setup calls old = subst (StandsFor setup calls) (sym c.self.view_is) stands in
-    let train : Train = record { address_type = c.args.address_type; sid = c.args.sid; ext = c.args.ext.now; adv = c.args.adv.now; acad = c.args.acad.now; now = c.args.now } in
-    on_any_err c.from_residual-in_err-made.result
-    (followed_so setup calls old train before
-    (joined_followed (option_copied c.big_sync.result) (outcome_by old.scan.setup old.scan.snapshot train) (c.big_sync.ensures ∙ ap big_sync_in c.in_ok-outcome.ensures.outcome)
-    c.in_err-made.ensures.memory))
+    grind (arith, machine, on_any_err, followed_so, joined_followed, option_copied, outcome_by, big_sync_in)
 
 pub returns-in_err-heard-clause-memory : goal.returns-in_err-heard-clause-memory
-returns-in_err-heard-clause-memory c setup calls stands =
-    let old : Halves = record { scan = machine c.self.inside.scan; sink = c.self.inside.sink } in
-    let before : StandsFor setup calls old = subst (StandsFor setup calls) (sym c.self.view_is) stands in
-    let train : Train = record { address_type = c.args.address_type; sid = c.args.sid; ext = c.args.ext.now; adv = c.args.adv.now; acad = c.args.acad.now; now = c.args.now } in
-    on_any_err c.from_residual-in_err-heard.result
-    (followed_so setup calls old train before (ap is_followed (sym c.in_ok-outcome.ensures.outcome) ∙ c.in_err-heard.ensures.memory))
+returns-in_err-heard-clause-memory c setup calls stands = grind (arith, machine, on_any_err, followed_so, is_followed)
