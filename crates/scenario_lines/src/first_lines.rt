@@ -18,21 +18,21 @@ pub fn group(words: &mut Cursor<'_>) -> Result<Step, Misfit>
     ensures { ReadsNext (λ step. step) result words.new (at_row group_row words.old) }
 {
     Ok(Step::Group {
-        framing: read!(words.framing()),
-        origin: read!(words.number(3_000, 1 << 48)),
-        delay: read!(words.bits(24)),
-        iso: read!(words.bits(12)) as u16,
-        sdu: read!(words.bits(20)),
-        max_sdu: read!(words.bits(12)) as u16,
-        max_pdu: read!(words.bits(8)) as u8,
-        num_bis: read!(words.bits(5)) as u8,
-        bn: read!(words.bits(3)) as u8,
-        nse: read!(words.bits(5)) as u8,
-        irc: read!(words.bits(4)) as u8,
-        pto: read!(words.bits(4)) as u8,
-        sub: read!(words.bits(20)),
-        spacing: read!(words.bits(20)),
-        phy: read!(words.bits(3)) as u8,
+        framing: words.framing()?,
+        origin: words.number(3_000, 1 << 48)?,
+        delay: words.bits(24)?,
+        iso: words.bits(12)? as u16,
+        sdu: words.bits(20)?,
+        max_sdu: words.bits(12)? as u16,
+        max_pdu: words.bits(8)? as u8,
+        num_bis: words.bits(5)? as u8,
+        bn: words.bits(3)? as u8,
+        nse: words.bits(5)? as u8,
+        irc: words.bits(4)? as u8,
+        pto: words.bits(4)? as u8,
+        sub: words.bits(20)?,
+        spacing: words.bits(20)?,
+        phy: words.bits(3)? as u8,
     })
 }
 
@@ -49,10 +49,10 @@ pub fn sink(version: u8, words: &mut Cursor<'_>) -> Result<Step, Misfit>
     ensures { ReadsNext (λ step. step) result words.new (at_row (sink_row version) words.old) }
 {
     Ok(Step::Sink {
-        sink: read!(words.octet(0, 7)),
-        streams: read!(words.octet(1, 31)),
-        slots: read!(words.octet(1, most_slots(version))),
-        mtu: read!(words.perhaps(23, 517)),
+        sink: words.octet(0, 7)?,
+        streams: words.octet(1, 31)?,
+        slots: words.octet(1, most_slots(version))?,
+        mtu: words.perhaps(23, 517)?,
     })
 }
 
@@ -61,8 +61,8 @@ pub fn tuned(words: &mut Cursor<'_>) -> Result<Step, Misfit>
     ensures { ReadsNext (λ step. step) result words.new (at_row tuned_row words.old) }
 {
     Ok(Step::Tuned {
-        sink: read!(words.octet(0, 7)),
-        which: read!(words.rising()),
+        sink: words.octet(0, 7)?,
+        which: words.rising()?,
     })
 }
 
@@ -73,9 +73,9 @@ pub fn unit(alloc: Global, spare: &mut Octets, words: &mut Cursor<'_>) -> Result
     ensures memory { result ≡ Err NoMemory → some_takes unit_row.places words.old ≡ true }
 {
     Ok(Step::Unit {
-        bis: fit!(words.bis(1)),
-        time: fit!(words.time()),
-        octets: read!(words.octets_over(alloc, spare, 4_095)),
+        bis: words.bis(1)?,
+        time: words.time()?,
+        octets: words.octets_over(alloc, spare, 4_095)?,
     })
 }
 
@@ -84,10 +84,10 @@ pub fn hear(words: &mut Cursor<'_>) -> Result<Step, Misfit>
     ensures { ReadsNext (λ step. step) result words.new (at_row hear_row words.old) }
 {
     Ok(Step::Hear {
-        sink: read!(words.octet(0, 7)),
-        back: read!(words.octet(0, 31)),
-        bis: read!(words.bis(1)),
-        subevent: read!(words.octet(0, 30)),
+        sink: words.octet(0, 7)?,
+        back: words.octet(0, 31)?,
+        bis: words.bis(1)?,
+        subevent: words.octet(0, 30)?,
     })
 }
 
@@ -96,8 +96,8 @@ pub fn air(words: &mut Cursor<'_>) -> Result<Step, Misfit>
     ensures { ReadsNext (λ step. step) result words.new (at_row air_row words.old) }
 {
     Ok(Step::Air {
-        sink: read!(words.octet(0, 7)),
-        lose: read!(words.octet(0, 255)),
+        sink: words.octet(0, 7)?,
+        lose: words.octet(0, 255)?,
     })
 }
 
@@ -108,11 +108,11 @@ pub fn inject(alloc: Global, words: &mut Cursor<'_>) -> Result<Step, LineFault>
     ensures memory { result ≡ Err NoMemory → some_takes inject_row.places words.old ≡ true }
 {
     Ok(Step::Inject {
-        sink: fit!(words.octet(0, 7)),
-        back: fit!(words.octet(0, 31)),
-        bis: fit!(words.bis(1)),
-        subevent: fit!(words.octet(0, 30)),
-        octets: read!(words.octets(alloc, 300)),
+        sink: words.octet(0, 7)?,
+        back: words.octet(0, 31)?,
+        bis: words.bis(1)?,
+        subevent: words.octet(0, 30)?,
+        octets: words.octets(alloc, 300)?,
     })
 }
 
@@ -121,8 +121,8 @@ pub fn sniff(words: &mut Cursor<'_>) -> Result<Step, Misfit>
     ensures { ReadsNext (λ step. step) result words.new (at_row sniff_row words.old) }
 {
     Ok(Step::Sniff {
-        back: read!(words.octet(0, 31)),
-        bis: read!(words.bis(1)),
-        subevent: read!(words.octet(0, 30)),
+        back: words.octet(0, 31)?,
+        bis: words.bis(1)?,
+        subevent: words.octet(0, 30)?,
     })
 }

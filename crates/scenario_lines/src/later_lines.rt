@@ -22,7 +22,7 @@ pub fn sink_and_link(words: &mut Cursor<'_>) -> Result<(u8, u8), Misfit>
     ensures adrain { ReadsNext (λ x. steps.ADrain x.0 x.1) result words.new (at_row adrain_row words.old) }
     ensures ashow { ReadsNext (λ x. steps.AShow x.0 x.1) result words.new (at_row ashow_row words.old) }
 {
-    Ok((read!(words.octet(0, 7)), read!(words.octet(0, 3))))
+    Ok((words.octet(0, 7)?, words.octet(0, 3)?))
 }
 
 /// `apart N L`: the assistant leaves the link, 1 to 3. Else Misfit.
@@ -30,8 +30,8 @@ pub fn apart(words: &mut Cursor<'_>) -> Result<Step, Misfit>
     ensures { ReadsNext (λ step. step) result words.new (at_row apart_row words.old) }
 {
     Ok(Step::Apart {
-        sink: read!(words.octet(0, 7)),
-        link: read!(words.octet(1, 3)),
+        sink: words.octet(0, 7)?,
+        link: words.octet(1, 3)?,
     })
 }
 
@@ -42,9 +42,9 @@ pub fn awrite(alloc: Global, words: &mut Cursor<'_>) -> Result<Step, LineFault>
     ensures memory { result ≡ Err NoMemory → some_takes awrite_row.places words.old ≡ true }
 {
     Ok(Step::AWrite {
-        sink: fit!(words.octet(0, 7)),
-        link: fit!(words.octet(0, 3)),
-        octets: read!(words.octets(alloc, 512)),
+        sink: words.octet(0, 7)?,
+        link: words.octet(0, 3)?,
+        octets: words.octets(alloc, 512)?,
     })
 }
 
@@ -53,8 +53,8 @@ pub fn relay(words: &mut Cursor<'_>) -> Result<Step, Misfit>
     ensures { ReadsNext (λ step. step) result words.new (at_row relay_row words.old) }
 {
     Ok(Step::Relay {
-        sink: read!(words.octet(0, 7)),
-        bis: read!(words.bis(1)),
-        to: read!(words.bis(1)),
+        sink: words.octet(0, 7)?,
+        bis: words.bis(1)?,
+        to: words.bis(1)?,
     })
 }

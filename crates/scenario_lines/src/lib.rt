@@ -2,26 +2,6 @@
 //! scenario of a seed and a number of events.
 #![tactic(auto)]
 
-// What was read, or else its fault as the answer. `?` would call `From::from` besides, and a proof bears each call.
-macro_rules! read {
-    ($read:expr) => {
-        match $read {
-            Ok(value) => value,
-            Err(fault) => return Err(fault),
-        }
-    };
-}
-
-// As `read`, where a word that doesn't fit makes a bad line.
-macro_rules! fit {
-    ($read:expr) => {
-        match $read {
-            Ok(value) => value,
-            Err(Misfit { word }) => return Err(LineFault::BadLine { word }),
-        }
-    };
-}
-
 mod first_lines;
 mod later_lines;
 mod laws;

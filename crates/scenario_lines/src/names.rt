@@ -135,23 +135,23 @@ fn named_of_link_2(name: &[u8], words: &mut Cursor<'_>) -> Result<Step, Misfit>
     ensures { ReadsNext (λ step. step) result words.new (at_known (link_row_of_2 name.now) words.old) }
 {
     if is_word(name, b"aserve") {
-        let (sink, link) = read!(later_lines::sink_and_link(words));
+        let (sink, link) = later_lines::sink_and_link(words)?;
         return Ok(Step::AServe { sink, link });
     }
     if is_word(name, b"atell") {
-        let (sink, link) = read!(later_lines::sink_and_link(words));
+        let (sink, link) = later_lines::sink_and_link(words)?;
         return Ok(Step::ATell { sink, link });
     }
     if is_word(name, b"aread") {
-        let (sink, link) = read!(later_lines::sink_and_link(words));
+        let (sink, link) = later_lines::sink_and_link(words)?;
         return Ok(Step::ARead { sink, link });
     }
     if is_word(name, b"adrain") {
-        let (sink, link) = read!(later_lines::sink_and_link(words));
+        let (sink, link) = later_lines::sink_and_link(words)?;
         return Ok(Step::ADrain { sink, link });
     }
     if is_word(name, b"ashow") {
-        let (sink, link) = read!(later_lines::sink_and_link(words));
+        let (sink, link) = later_lines::sink_and_link(words)?;
         return Ok(Step::AShow { sink, link });
     }
     Err(Misfit { word: 0 })

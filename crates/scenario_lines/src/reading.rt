@@ -12,7 +12,7 @@ ghost use Rattle.scenario_text.specs.declared.step.Step.{Step};
 use crate::{first_lines, named_of_sink, source_lines};
 use bcast_base::Octets;
 use scenario_text::Step;
-use scenario_words::{Cursor, LineFault, Misfit, is_word};
+use scenario_words::{Cursor, LineFault, is_word};
 use std::alloc::Global;
 
 /// Reads a line of a scenario of version 1: `None` for an empty line or a comment.
@@ -103,9 +103,9 @@ fn step_of(alloc: Global, spare: &mut Octets, version: u8, line: &[u8]) -> Resul
     ensures memory { result ≡ Err NoMemory → LineTakes version line.now }
 {
     let mut words = Cursor::new(line);
-    let name = fit!(words.word());
-    let step = read!(named(alloc, spare, version, name, &mut words));
-    read!(words.finish());
+    let name = words.word()?;
+    let step = named(alloc, spare, version, name, &mut words)?;
+    words.finish()?;
     Ok(step)
 }
 

@@ -21,10 +21,10 @@ pub fn pac(alloc: Global, words: &mut Cursor<'_>) -> Result<Step, LineFault>
     ensures memory { result ≡ Err NoMemory → some_takes pac_row.places words.old ≡ true }
 {
     Ok(Step::Pac {
-        sink: fit!(words.octet(0, 7)),
-        codec: fit!(words.array()),
-        caps: read!(words.list(alloc, 255)),
-        metadata: read!(words.list(alloc, 255)),
+        sink: words.octet(0, 7)?,
+        codec: words.array()?,
+        caps: words.list(alloc, 255)?,
+        metadata: words.list(alloc, 255)?,
     })
 }
 
@@ -33,8 +33,8 @@ pub fn locate(words: &mut Cursor<'_>) -> Result<Step, Misfit>
     ensures { ReadsNext (λ step. step) result words.new (at_row locate_row words.old) }
 {
     Ok(Step::Locate {
-        sink: read!(words.octet(0, 7)),
-        bits: read!(words.four_octets()),
+        sink: words.octet(0, 7)?,
+        bits: words.four_octets()?,
     })
 }
 
@@ -43,9 +43,9 @@ pub fn context(words: &mut Cursor<'_>) -> Result<Step, Misfit>
     ensures { ReadsNext (λ step. step) result words.new (at_row context_row words.old) }
 {
     Ok(Step::Context {
-        sink: read!(words.octet(0, 7)),
-        sink_bits: read!(words.two_octets()),
-        source_bits: read!(words.two_octets()),
+        sink: words.octet(0, 7)?,
+        sink_bits: words.two_octets()?,
+        source_bits: words.two_octets()?,
     })
 }
 
@@ -56,8 +56,8 @@ pub fn write(alloc: Global, words: &mut Cursor<'_>) -> Result<Step, LineFault>
     ensures memory { result ≡ Err NoMemory → some_takes write_row.places words.old ≡ true }
 {
     Ok(Step::Write {
-        sink: fit!(words.octet(0, 7)),
-        octets: read!(words.octets(alloc, 512)),
+        sink: words.octet(0, 7)?,
+        octets: words.octets(alloc, 512)?,
     })
 }
 
@@ -67,15 +67,15 @@ pub fn add(alloc: Global, words: &mut Cursor<'_>) -> Result<Step, LineFault>
     ensures gives { GivesNext (λ step. step) result words.new (at_row add_row words.old) }
     ensures memory { result ≡ Err NoMemory → some_takes add_row.places words.old ≡ true }
 {
-    let sink = fit!(words.octet(0, 7));
+    let sink = words.octet(0, 7)?;
     let op = AddSource {
-        address_type: fit!(words.octet(0, 1)),
-        address: fit!(words.array()),
-        sid: fit!(words.octet(0, 15)),
-        broadcast_id: fit!(words.array()),
-        pa_sync: fit!(words.octet(0, 2)),
-        pa_interval: fit!(words.number(0, 65_535)) as u16,
-        wishes: read!(words.wishes(alloc, MOST_OF_OPERATION - BEFORE_ADD)),
+        address_type: words.octet(0, 1)?,
+        address: words.array()?,
+        sid: words.octet(0, 15)?,
+        broadcast_id: words.array()?,
+        pa_sync: words.octet(0, 2)?,
+        pa_interval: words.number(0, 65_535)? as u16,
+        wishes: words.wishes(alloc, MOST_OF_OPERATION - BEFORE_ADD)?,
     };
     Ok(Step::Add { sink, op })
 }
@@ -86,12 +86,12 @@ pub fn modify(alloc: Global, words: &mut Cursor<'_>) -> Result<Step, LineFault>
     ensures gives { GivesNext (λ step. step) result words.new (at_row modify_row words.old) }
     ensures memory { result ≡ Err NoMemory → some_takes modify_row.places words.old ≡ true }
 {
-    let sink = fit!(words.octet(0, 7));
+    let sink = words.octet(0, 7)?;
     let op = ModifySource {
-        source_id: fit!(words.octet(0, 255)),
-        pa_sync: fit!(words.octet(0, 2)),
-        pa_interval: fit!(words.number(0, 65_535)) as u16,
-        wishes: read!(words.wishes(alloc, MOST_OF_OPERATION - BEFORE_MODIFY)),
+        source_id: words.octet(0, 255)?,
+        pa_sync: words.octet(0, 2)?,
+        pa_interval: words.number(0, 65_535)? as u16,
+        wishes: words.wishes(alloc, MOST_OF_OPERATION - BEFORE_MODIFY)?,
     };
     Ok(Step::Modify { sink, op })
 }
@@ -101,8 +101,8 @@ pub fn remove(words: &mut Cursor<'_>) -> Result<Step, Misfit>
     ensures { ReadsNext (λ step. step) result words.new (at_row remove_row words.old) }
 {
     Ok(Step::Remove {
-        sink: read!(words.octet(0, 7)),
-        source_id: read!(words.octet(0, 255)),
+        sink: words.octet(0, 7)?,
+        source_id: words.octet(0, 255)?,
     })
 }
 
@@ -111,9 +111,9 @@ pub fn code(words: &mut Cursor<'_>) -> Result<Step, Misfit>
     ensures { ReadsNext (λ step. step) result words.new (at_row code_row words.old) }
 {
     Ok(Step::Code {
-        sink: read!(words.octet(0, 7)),
-        source_id: read!(words.octet(0, 255)),
-        code: read!(words.array()),
+        sink: words.octet(0, 7)?,
+        source_id: words.octet(0, 255)?,
+        code: words.array()?,
     })
 }
 
@@ -124,8 +124,8 @@ pub fn control(alloc: Global, words: &mut Cursor<'_>) -> Result<Step, LineFault>
     ensures memory { result ≡ Err NoMemory → some_takes control_row.places words.old ≡ true }
 {
     Ok(Step::Control {
-        sink: fit!(words.octet(0, 7)),
-        octets: read!(words.octets(alloc, 300)),
+        sink: words.octet(0, 7)?,
+        octets: words.octets(alloc, 300)?,
     })
 }
 
@@ -136,8 +136,8 @@ pub fn forge(alloc: Global, words: &mut Cursor<'_>) -> Result<Step, LineFault>
     ensures memory { result ≡ Err NoMemory → some_takes forge_row.places words.old ≡ true }
 {
     Ok(Step::Forge {
-        sink: fit!(words.octet(0, 7)),
-        slot: fit!(words.octet(0, 255)),
-        octets: read!(words.octets(alloc, 1_024)),
+        sink: words.octet(0, 7)?,
+        slot: words.octet(0, 255)?,
+        octets: words.octets(alloc, 1_024)?,
     })
 }

@@ -16,10 +16,10 @@ pub fn ident(words: &mut Cursor<'_>) -> Result<Step, Misfit>
     ensures { ReadsNext (λ step. step) result words.new (at_row ident_row words.old) }
 {
     Ok(Step::Ident {
-        address_type: read!(words.octet(0, 1)),
-        address: read!(words.array()),
-        sid: read!(words.octet(0, 15)),
-        broadcast_id: read!(words.array()),
+        address_type: words.octet(0, 1)?,
+        address: words.array()?,
+        sid: words.octet(0, 15)?,
+        broadcast_id: words.array()?,
     })
 }
 
@@ -30,8 +30,8 @@ pub fn subgroup(alloc: Global, words: &mut Cursor<'_>) -> Result<Step, LineFault
     ensures memory { result ≡ Err NoMemory → some_takes subgroup_row.places words.old ≡ true }
 {
     Ok(Step::Subgroup {
-        codec: fit!(words.array()),
-        config: read!(words.list(alloc, 255)),
+        codec: words.array()?,
+        config: words.list(alloc, 255)?,
     })
 }
 
@@ -41,7 +41,7 @@ pub fn meta(alloc: Global, words: &mut Cursor<'_>) -> Result<Step, LineFault>
     ensures gives { GivesNext (λ step. step) result words.new (at_row meta_row words.old) }
     ensures memory { result ≡ Err NoMemory → some_takes meta_row.places words.old ≡ true }
 {
-    let metadata = read!(words.list(alloc, 255));
+    let metadata = words.list(alloc, 255)?;
     Ok(Step::Meta { metadata })
 }
 
@@ -52,8 +52,8 @@ pub fn bis(alloc: Global, words: &mut Cursor<'_>) -> Result<Step, LineFault>
     ensures memory { result ≡ Err NoMemory → some_takes bis_row.places words.old ≡ true }
 {
     Ok(Step::Bis {
-        bis: fit!(words.bis(1)),
-        config: read!(words.list(alloc, 255)),
+        bis: words.bis(1)?,
+        config: words.list(alloc, 255)?,
     })
 }
 
@@ -62,8 +62,8 @@ pub fn cipher(words: &mut Cursor<'_>) -> Result<Step, Misfit>
     ensures { ReadsNext (λ step. step) result words.new (at_row cipher_row words.old) }
 {
     Ok(Step::Cipher {
-        giv: read!(words.array()),
-        gskd: read!(words.array()),
+        giv: words.array()?,
+        gskd: words.array()?,
     })
 }
 
@@ -74,10 +74,10 @@ pub fn train(alloc: Global, words: &mut Cursor<'_>) -> Result<Step, LineFault>
     ensures memory { result ≡ Err NoMemory → some_takes train_row.places words.old ≡ true }
 {
     Ok(Step::Train {
-        sink: fit!(words.octet(0, 7)),
-        time: fit!(words.number(0, 1 << 48)),
-        ext: read!(words.octets(alloc, 255)),
-        adv: read!(words.octets(alloc, 1_650)),
-        acad: read!(words.octets(alloc, 255)),
+        sink: words.octet(0, 7)?,
+        time: words.number(0, 1 << 48)?,
+        ext: words.octets(alloc, 255)?,
+        adv: words.octets(alloc, 1_650)?,
+        acad: words.octets(alloc, 255)?,
     })
 }
