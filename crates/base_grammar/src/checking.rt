@@ -20,9 +20,9 @@ pub(crate) fn check_base(whole: &[u8]) -> Result<(), BaseFault>
     if whole.len() > MAX_OCTETS {
         return Err(BaseFault::TooLong);
     }
-    let (_delay, rest) = read!(delay_field(whole));
-    let (count, rest) = read!(count_field(whole, rest));
-    let rest = read!(subgroups_end(whole, rest, count));
+    let (_delay, rest) = delay_field(whole)?;
+    let (count, rest) = count_field(whole, rest)?;
+    let rest = subgroups_end(whole, rest, count)?;
     if !rest.is_empty() {
         let place = place_of(whole, rest);
         return Err(BaseFault::Trailing { place });

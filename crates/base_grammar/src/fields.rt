@@ -59,7 +59,7 @@ pub(crate) fn codec_field<'a>(
     ensures reads { Reads (λ x. (x.0, x.1.now)) result (field_at whole.now rest.now (octets_in 5 rest.now)) }
     ensures shorter { IfOk result (λ x. length x.1.now ≤ length rest.now) }
 {
-    let (codec, after) = read!(octets_field(whole, rest, 5));
+    let (codec, after) = octets_field(whole, rest, 5)?;
     Ok((five_octets(codec), after))
 }
 
@@ -82,8 +82,8 @@ pub(crate) fn run_field<'a>(
     ensures reads { Reads (λ x. (x.0.now, x.1.now)) result (run_at whole.now is_list rest.now) }
     ensures shorter { IfOk result (λ x. length x.1.now ≤ length rest.now) }
 {
-    let (count, behind) = read!(octet_field(whole, rest));
-    let (run, after) = read!(octets_field(whole, behind, usize::from(count)));
+    let (count, behind) = octet_field(whole, rest)?;
+    let (run, after) = octets_field(whole, behind, usize::from(count))?;
     if is_list && let Err(fault) = check_ltvs(run) {
         let place = place_of(whole, behind);
         return Err(BaseFault::Ltv { place, fault });
@@ -104,7 +104,7 @@ pub(crate) fn index_field<'a>(
     ensures shorter { IfOk result (λ x. length x.1.now ≤ length rest.now) }
 {
     let place = place_of(whole, rest);
-    let (number, after) = read!(octet_field(whole, rest));
+    let (number, after) = octet_field(whole, rest)?;
     let Some(bis) = Bis::new(number) else {
         return Err(BaseFault::BadIndex { place });
     };
@@ -121,7 +121,7 @@ pub(crate) fn streams_field<'a>(whole: &[u8], rest: &'a [u8]) -> Result<(u8, &'a
     ensures reads { Reads (λ x. (x.0, x.1.now)) result (streams_at whole.now rest.now) }
     ensures shorter { IfOk result (λ x. length x.1.now ≤ length rest.now) }
 {
-    let (count, after) = read!(octet_field(whole, rest));
+    let (count, after) = octet_field(whole, rest)?;
     if count == 0 {
         let place = place_of(whole, rest);
         return Err(BaseFault::NoBis { place });
@@ -136,7 +136,7 @@ pub(crate) fn count_field<'a>(whole: &[u8], rest: &'a [u8]) -> Result<(u8, &'a [
     ensures reads { Reads (λ x. (x.0, x.1.now)) result (count_at whole.now rest.now) }
     ensures shorter { IfOk result (λ x. length x.1.now ≤ length rest.now) }
 {
-    let (count, after) = read!(octet_field(whole, rest));
+    let (count, after) = octet_field(whole, rest)?;
     if count == 0 {
         return Err(BaseFault::NoSubgroup);
     }

@@ -1,16 +1,6 @@
 //! The BASE of a broadcast: its octets, its draft, and what holds for each of its streams; and the AD lists around it.
 #![tactic(auto)]
 
-// What was read, or else its fault as the answer. `?` would call `From::from` besides, and a proof bears each call.
-macro_rules! read {
-    ($read:expr) => {
-        match $read {
-            Ok(field) => field,
-            Err(fault) => return Err(fault),
-        }
-    };
-}
-
 mod ad;
 mod ad_laws;
 mod base;

@@ -30,8 +30,11 @@ fn entry_of<'a>(
         (entry_at whole.now is_lc3 (indices subgroups.now ++ map bis_of entries.now) rest.now) }
     ensures shorter { IfOk result (λ x. length x.1.now ≤ length rest.now) }
 {
-    let (bis, rest) = read!(index_field(whole, rest, subgroups, entries.as_slice()));
-    let (config, rest) = read!(run_field(whole, rest, is_lc3));
+    let (bis, rest) = match index_field(whole, rest, subgroups, entries.as_slice()) {
+        Ok(field) => field,
+        Err(fault) => return Err(fault),
+    };
+    let (config, rest) = run_field(whole, rest, is_lc3)?;
     let config = Octets::copy(alloc, config)?;
     Ok((BaseEntry { bis, config }, rest))
 }
@@ -52,7 +55,10 @@ fn entries_of<'a>(
     let mut entries = Entries::new(alloc);
     let mut rest = from;
     for _ in 0..count {
-        let (entry, after) = read!(entry_of(alloc, whole, rest, subgroups, &entries, is_lc3));
+        let (entry, after) = match entry_of(alloc, whole, rest, subgroups, &entries, is_lc3) {
+            Ok(field) => field,
+            Err(fault) => return Err(fault),
+        };
         entries.push(entry)?;
         rest = after;
     }
@@ -71,12 +77,15 @@ fn subgroup_of<'a>(
     ensures gives { GivesOrWants told (λ x. (x.0, x.1.now)) result (subgroup_at whole.now (indices subgroups.now) rest.now) }
     ensures shorter { IfOk result (λ x. length x.1.now ≤ length rest.now) }
 {
-    let (count, rest) = read!(streams_field(whole, rest));
-    let (codec, rest) = read!(codec_field(whole, rest));
+    let (count, rest) = streams_field(whole, rest)?;
+    let (codec, rest) = codec_field(whole, rest)?;
     let is_lc3 = is_lc3_codec(&codec);
-    let (config, rest) = read!(run_field(whole, rest, is_lc3));
-    let (metadata, rest) = read!(run_field(whole, rest, true));
-    let (entries, rest) = read!(entries_of(alloc, whole, rest, subgroups, count, is_lc3));
+    let (config, rest) = run_field(whole, rest, is_lc3)?;
+    let (metadata, rest) = run_field(whole, rest, true)?;
+    let (entries, rest) = match entries_of(alloc, whole, rest, subgroups, count, is_lc3) {
+        Ok(field) => field,
+        Err(fault) => return Err(fault),
+    };
     let config = Octets::copy(alloc, config)?;
     let metadata = Octets::copy(alloc, metadata)?;
     let subgroup = Subgroup {
@@ -102,7 +111,10 @@ fn subgroups_of<'a>(
     let mut subgroups = Vec::new(alloc);
     let mut rest = from;
     for _ in 0..count {
-        let (subgroup, after) = read!(subgroup_of(alloc, whole, rest, &subgroups));
+        let (subgroup, after) = match subgroup_of(alloc, whole, rest, &subgroups) {
+            Ok(field) => field,
+            Err(fault) => return Err(fault),
+        };
         subgroups.push(subgroup)?;
         rest = after;
     }
@@ -114,9 +126,12 @@ fn subgroups_of<'a>(
 fn read_fields(alloc: Global, whole: &[u8]) -> Result<(u32, Vec<Subgroup>), BaseFault>
     ensures { GivesOrWants told (λ x. endpoint x.0 x.1.items) result (fields_of whole.now) }
 {
-    let (delay, rest) = read!(delay_field(whole));
-    let (count, rest) = read!(count_field(whole, rest));
-    let (subgroups, rest) = read!(subgroups_of(alloc, whole, rest, count));
+    let (delay, rest) = delay_field(whole)?;
+    let (count, rest) = count_field(whole, rest)?;
+    let (subgroups, rest) = match subgroups_of(alloc, whole, rest, count) {
+        Ok(field) => field,
+        Err(fault) => return Err(fault),
+    };
     if !rest.is_empty() {
         let place = place_of(whole, rest);
         return Err(BaseFault::Trailing { place });
