@@ -112,8 +112,7 @@ stay_decided below airs meets boxes s n bis setup whole units all made tuning le
     (omega (arith, bn_is, all.bounds.bn)) (sent_in_order setup whole bis all.has.air units all.sent)
     (subst (λ (b : ℕ). opened (stay_on tuning bis) (calls_on airs made n tuning bis) * b ≤ laid_end setup all.has.air) (sym bn_is) closes_within)
     (subst (λ (i : BigInfo). Fit i.max_sdu units) (sym to.info) (sent_fit setup whole bis all.has.air units all.sent))
-    (framed_from_source (stay_on tuning bis) units (calls_on airs made n tuning bis)
-    (all_own below.announcing airs setup whole (laid_of units) tuning boxes s n bis made (framed_sends below airs meets setup whole tuning bis units all to.info) legal within all.least is clean))
+    (search (framed_from_source, stay_on, calls_on, all_own, laid_of, framed_sends))
 
 -- ---- the framed units law of a stay
 

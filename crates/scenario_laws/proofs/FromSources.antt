@@ -33,8 +33,7 @@ all_at P (y ∷ later) x earlier all = all_at P later x earlier all.1
 
 pub from_source : (stay : Stay) (slots : Slots) (calls : List stays.Call) → AllByRecursion (Own (air_at stay slots)) calls → FromSource stay slots calls
 from_source stay slots calls all later number octets earlier content is reads =
-    same_Some content (air_at stay slots number) (sym (grind (arith, read_own, unframed, air_at, all_at))
-    ∙ slot_unframed stay.info.max_pdu _ _)
+    cc (same_Some content (air_at stay slots number) (sym (grind (arith, read_own, unframed, air_at, all_at)) ∙ slot_unframed stay.info.max_pdu _ _))
 
 pub framed_from_source : (stay : Stay) (units : List Sent) (calls : List stays.Call) → AllByRecursion (Own (λ number. framed (parts_at units number))) calls → FramedFromSource stay units calls
 framed_from_source stay units calls all number parts is =

@@ -180,12 +180,7 @@ orders below airs meets boxes s n bis setup whole (step ∷ earlier) ready =
     let legal_before : Legal airs boxes earlier = ready.legal_is.0 in
     again_orders setup whole s n bis (its_prefix airs s n (step ∷ earlier)) (is_made n earlier step) (handed_since (is_made n) airs earlier) (handed_by airs earlier step)
     (λ on.
-    let before : Ready airs boxes s n bis setup whole earlier =
-    assumption (
-      within_before airs boxes s setup whole earlier step ready.legal_is ready.within,
-      rest_not (is_made n earlier step) (is_given n step) (given_since_made n earlier) ready.ungiven on,
-      rest_not (is_made n earlier step) (is_injected n step) (injected_since (is_made n) n earlier) ready.clean on,
-    ) in
+    let before : Ready airs boxes s n bis setup whole earlier = search (within_before, rest_not, is_made, is_given, given_since_made, is_injected, injected_since) in
     let now = moved below.announcing airs boxes s n step earlier ready.legal_is (last_not (is_made n earlier step) (is_given n step) (given_since_made n earlier) ready.ungiven) ready.source_below
     (closing below.announcing airs boxes s n earlier legal_before before.ungiven ready.source_below).within in
     subst (λ (us : List Handed). Ordered setup whole bis (its_prefix airs s n (step ∷ earlier)) (valid_in (shown_since (is_made n) airs s n bis earlier) ++ valid_in (of_stream bis us)))

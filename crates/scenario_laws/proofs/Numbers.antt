@@ -218,9 +218,7 @@ close_batch below airs meets boxes s n bis setup whole tuning made legal within 
     let calls : List stays.Call = stream_calls (stay_on tuning bis) (sink_calls airs n made) in
     let short : (e : ℕ) → (slot : ℕ) → (unit : List ℕ) → slots_of setup whole bis e slot ≡ Some unit → length unit ≤ tuning.info.max_sdu =
     λ e slot unit has. subst (λ (i : BigInfo). length unit ≤ i.max_sdu) (sym on.info) (fits e slot unit has) in
-    let all : AllByRecursion (Own (air_at (stay_on tuning bis) (slots_of setup whole bis))) calls =
-    all_own below.announcing airs setup whole (air_at (stay_on tuning bis) (slots_of setup whole bis)) tuning boxes s n bis made
-    (λ part its_legal started inside. sends_own below airs meets setup whole tuning bis part its_legal started inside on.info plain_source) legal within least is clean in
+    let all : AllByRecursion (Own (air_at (stay_on tuning bis) (slots_of setup whole bis))) calls = search (all_own, air_at, stay_on, slots_of, sends_own) in
     let before : Struck (stay_on tuning bis) (slots_of setup whole bis) calls (handed (stay_on tuning bis) calls) =
     below.struck (stay_on tuning bis) (slots_of setup whole bis) calls bounds plain short (from_source (stay_on tuning bis) (slots_of setup whole bis) calls all) in
     let now : Struck (stay_on tuning bis) (slots_of setup whole bis) (stays.close ∷ calls) (handed (stay_on tuning bis) (stays.close ∷ calls)) =

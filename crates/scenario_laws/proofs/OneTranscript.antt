@@ -132,10 +132,7 @@ end_by history reason end end' same = grind arith
 end_same : (airs others : Airs) → Told airs others → (starts : List Account) (history lines : List TextLine) → Accepted (rules_of airs starts) history
     → end_of (rules_of airs starts) history lines ≡ end_of (rules_of others starts) history lines
 end_same airs others told starts history [] accepted = refl
-end_same airs others told starts history (line ∷ lines) accepted =
-    end_by history (refusal_said airs (length starts) (steps_of airs history) (said_after history line)) _ _
-    (λ none. end_same airs others told starts (line ∷ history) lines (accepted, none))
-    ∙ ap (λ reason. end_unless history reason (end_of (rules_of others starts) (line ∷ history) lines)) (refused_same airs others told starts history line accepted)
+end_same airs others told starts history (line ∷ lines) accepted = cc (end_by history (refusal_said airs (length starts) (steps_of airs history) (said_after history line)) _ _ (λ none. end_same airs others told starts (line ∷ history) lines (accepted, none)), refused_same airs others told starts history line accepted)
 
 -- the same lines come before the first refusal, and they are accepted
 pub record Runs (airs others : Airs) (starts : List Account) (one other : List TextLine) : Type 0 where

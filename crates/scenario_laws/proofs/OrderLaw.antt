@@ -1,5 +1,4 @@
 -- The order law, of both framings.
-use Rattle.std.proofs.Common.{arith}
 use Rattle.scenario_laws.proofs.Prelude.{List, length, Account, steps_of, OrderLaw, StepsInOrder}
 use Rattle.scenario_laws.proofs.Below.{Below}
 use Rattle.scenario_laws.proofs.Legals.{legal}
@@ -10,13 +9,8 @@ use Rattle.scenario_laws.proofs.StartOrder.{starts_in_order}
 use Rattle.scenario_laws.proofs.UnitOrder.{entries_in_order}
 
 pub stays_in_order : Below → StepsInOrder
-stays_in_order below airs meets boxes made lawful_steps s n source_below ungiven = record {
-  rising = closes_rise below.announcing airs boxes s n made lawful_steps ungiven source_below;
-  slots = grind (arith, slots_are_shown);
-  starts = grind (arith, starts_in_order);
-  in_source_order = grind (arith, units_in_order);
-  in_unit_order = grind (arith, entries_in_order);
-}
+stays_in_order below airs meets boxes made lawful_steps s n source_below ungiven =
+    search (closes_rise, slots_are_shown, starts_in_order, units_in_order, entries_in_order)
 
 pub order_law_holds : Below → (starts : List Account) → OrderLaw starts
 order_law_holds below starts airs meets lines accepted s n source_below ungiven =

@@ -107,8 +107,7 @@ all_starts : (airs : Airs) (all : List Step) (s n bis : ℕ) (made : List Step) 
     → IsStay airs all s n bis made tuning → RiseTo low places (closed_end (stay_on tuning bis) (calls_on airs made n tuning bis))
     → AllZip (AtStart (stay_on tuning bis) (calls_on airs made n tuning bis)) places entries → AllZip (IsOfStart airs all s n bis) places entries
 all_starts airs all s n bis made tuning low (at ∷ places) (entry ∷ entries) stay rise each = (
-  one_start airs all s n bis made tuning at entry stay
-      (behind_below at places (closed_end (stay_on tuning bis) (calls_on airs made n tuning bis)) rise.1) each.0,
+  search (one_start, behind_below, closed_end, stay_on, calls_on),
   all_behind airs all s n bis made tuning at places entries stay rise.1 each.1,
 )
 all_starts airs all s n bis made tuning low places entries stay rise each =
@@ -167,8 +166,7 @@ over below airs boxes s n bis all source_within sink_within least greatest is_fr
           (record {
             places = claim.places ++ told.places;
             rise = rise_on 0 claim.places (tuning.first * bn) told.places (next_in own * bn) claim.rise rises;
-            each = all_zip_append (IsOfStart airs all s n bis) claim.places told.places entries (decided (stay_on tuning bis) calls) claim.each
-                (all_starts airs all s n bis made tuning (tuning.first * tuning.info.bn) told.places (decided (stay_on tuning bis) calls) stay told.rise told.each);
+            each = search (all_zip_append, decided, stay_on, all_starts);
           })
     ]
 
@@ -183,11 +181,7 @@ starts_in_order below airs boxes s n bis made legal is_framed source_within sink
       legal = λ part fine. fine.legal_is;
       ungiven = λ part fine. fine.ungiven;
       before = λ step earlier still fine.
-          (assumption (
-            within_before airs boxes s (setup_in made s) (calls_in made s) earlier step fine.legal_is fine.within,
-            rest_not (is_made n earlier step) (is_given n step) (given_since_made n earlier) fine.ungiven still,
-            went_on n made step earlier still fine.goes,
-          ));
+          (search (within_before, rest_not, is_made, is_given, given_since_made, went_on));
       source_within = source_within;
       sink_within = sink_within;
     } in

@@ -172,7 +172,6 @@ numbers_give : (stay : Stay) (calls : List stays.Call) (max_sdu event number cou
     → NumbersGive stay calls max_sdu event number count rest
 numbers_give stay calls max_sdu event number zero of_event rest = ([], refl, none_told stay calls number (number + 0) (omega arith))
 numbers_give stay calls max_sdu event number (suc count) of_event rest =
-    let tokens : List Token = tokens_of stay event (heard_in stay calls number) in
     let others : List Token = flat_map (λ n. tokens_of stay event (heard_in stay calls n)) (range_with_len (number + 1) count) in
     let later = numbers_give stay calls max_sdu event (number + 1) count (λ n least below. of_event n (omega (arith, least)) (omega (arith, below))) rest in
     let first = number_gives stay calls max_sdu event number (heard_in stay calls number) refl (of_event number (omega arith) (omega arith)) (others ++ rest) in

@@ -208,8 +208,6 @@ pub put_turn : (Q : ℕ → List Closed → List Handed → Type 0) (Fine : List
     → sink_calls airs n (step ∷ earlier) ≡ tune on ∷ sink_calls airs n earlier → source_of n (step ∷ earlier) ≡ Some (chosen_of earlier) → on.first ≡ next_in (chosen_steps earlier)
     → InTurnAt Q airs s n bis (step ∷ earlier)
 put_turn Q Fine airs boxes s n bis step earlier on before no_closed no_shown begins calls_is source_is first_is =
-    let here : here_at airs s n (step ∷ earlier) ≡ stay_if (chosen_of earlier == s) (tune on ∷ sink_calls airs n earlier) =
-    ap (λ source. stay_if (is_of s source) (sink_calls airs n (step ∷ earlier))) source_is ∙ ap (stay_if (chosen_of earlier == s)) calls_is in
     anew_turn Q Fine airs boxes s n bis step earlier before no_closed no_shown
     (grind (arith, next_in, steps_of_source, put_least, chosen_of, sink_calls, eqb-true))
     (inr begins)

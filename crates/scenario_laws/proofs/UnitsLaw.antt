@@ -130,10 +130,11 @@ closed_since_by : (airs : Airs) (s n : ℕ) (earlier : List Step) → source_of 
     → ticked_since (ticked_if (is_of (chosen_of earlier) (source_of n earlier)) (open_event (chosen_steps earlier)) (sink_calls airs n earlier))
     ≡ ticked_since (sink_calls airs n earlier) ++ cond (chosen_of earlier == s) (shown_with airs s n earlier) []
 closed_since_by airs s n earlier its =
-    ap ticked_since (event_ticks (chosen_of earlier) s (λ t. open_event (steps_of_source t earlier)) (sink_calls airs n earlier) (source_of n earlier) its)
-    ∙ if_since (chosen_of earlier == s) (open_event (steps_of_source s earlier)) (sink_calls airs n earlier)
-    ∙ ap (λ us. ticked_since (sink_calls airs n earlier) ++ cond (chosen_of earlier == s) us [])
-    (sym (own_if s (source_of n earlier) (handed_open (sink_calls airs n earlier) (open_event (steps_of_source s earlier))) its))
+    cc (
+      event_ticks (chosen_of earlier) s (λ t. open_event (steps_of_source t earlier)) (sink_calls airs n earlier) (source_of n earlier) its,
+      if_since (chosen_of earlier == s) (open_event (steps_of_source s earlier)) (sink_calls airs n earlier),
+      own_if s (source_of n earlier) (handed_open (sink_calls airs n earlier) (open_event (steps_of_source s earlier))) its,
+    )
 
 gone_since : (gone : Bool) (calls : List Call) (tuning : BigSync) → place (cond gone [] calls) ≡ Some tuning → ticked_since (cond gone [] calls) ≡ ticked_since calls ++ []
 gone_since gone calls tuning is = grind (arith, none-some, append-nil)
@@ -169,9 +170,7 @@ since_after airs boxes s n (steps.Tuned sink which) earlier tuning legal least w
 since_after airs boxes s n (steps.Sink sink streams slots mtu) earlier tuning legal least within is since =
     still_since airs boxes s n (steps.Sink sink streams slots mtu) earlier tuning legal least within (λ begins. begins.puts.by) is since
     (λ its. gone_since (sink == n) (sink_calls airs n earlier) tuning is.place_is)
-since_after airs boxes s n (steps.Drop sink) earlier tuning legal least within is since =
-    still_since airs boxes s n (steps.Drop sink) earlier tuning legal least within (λ begins. begins.puts.by) is since
-    (λ its. gone_since (sink == n) (sink_calls airs n earlier) tuning is.place_is)
+since_after airs boxes s n (steps.Drop sink) earlier tuning legal least within is since = cc (still_since airs boxes s n (steps.Drop sink) earlier tuning legal least within (λ begins. begins.puts.by) is since (λ its. gone_since (sink == n) (sink_calls airs n earlier) tuning is.place_is))
 since_after airs boxes s n (steps.Hear sink back bis subevent) earlier tuning legal least within is since =
     still_since airs boxes s n (steps.Hear sink back bis subevent) earlier tuning legal least within (λ begins. begins.puts.by) is since
     (λ its. more_since (reaches sink n earlier) _ (sink_calls airs n earlier) refl)
@@ -234,14 +233,7 @@ stay_is_struck below airs meets boxes s n bis made tuning lawful_steps there of_
     let on : OnSource (steps_of_source s made) tuning = on_source below.announcing airs boxes s n made tuning lawful_steps is in
     let tuned_framing : tuning.info.framing ≡ (setup_of (steps_of_source s made)).info.framing = ap (λ (i : BigInfo). i.framing) on.tuned.info in
     record {
-      of_source = record {
-        info = on.tuned.info;
-        delay = on.tuned.delay;
-        streams = λ stream has. taken_within (setup_of (steps_of_source s made)).info.num_bis tuning.which stream on.streams has;
-        first_is = first_next below.announcing airs boxes s n made tuning lawful_steps is;
-        anchor = on.tuned.anchor;
-        open_is = stay_within below.announcing airs boxes s n made tuning lawful_steps are.source_within is;
-      };
+      of_source = search (taken_within, setup_of, steps_of_source, first_next, stay_within);
       unframed = λ plain.
           subst (λ units. Struck (stay_on tuning bis) (slots_of (setup_of (steps_of_source s made)) (source_calls (steps_of_source s made)) bis)
           (calls_on airs made n tuning bis) units)

@@ -103,17 +103,22 @@ units_grow airs s n step made others same = grind (arith, units_append, handed_u
 pub kept : (airs : Airs) (s n : ℕ) (step : Step) (made others : List Step) → Means s made step → Same airs s n made others
     → Same airs s n (step ∷ made) (step ∷ others)
 kept airs s n step made others means same =
-    let lives : HistoriesAlike (made_of n (step ∷ made)) (calls_made n (step ∷ made)) (calls_made n (step ∷ others)) =
-    history_grows n step made others (sourced airs s n step made others means same) same.sink same.lives in
-    assumption (
-      ap (option_or (chosen_given step)) same.chosen,
-      said_grows s step made others (chosen_alike airs s n made others same) same.own,
-      ap (option_or (version_given step)) same.version,
-      made_grows airs s n step made others same,
-      source_grows airs s n step made others means same,
-      apart_grows airs s n step made others means same,
-      calls_grow airs s n step made others means same lives,
-      boxed_grows airs s n step made others same,
-      units_grow airs s n step made others same,
-      kept_took airs n step made others same.took (handed_same airs s n step made others same),
+    search (
+      made_of,
+      calls_made,
+      history_grows,
+      sourced,
+      option_or,
+      chosen_given,
+      said_grows,
+      chosen_alike,
+      version_given,
+      made_grows,
+      source_grows,
+      apart_grows,
+      calls_grow,
+      boxed_grows,
+      units_grow,
+      kept_took,
+      handed_same,
     )

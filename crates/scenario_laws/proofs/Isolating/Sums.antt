@@ -26,9 +26,7 @@ gone_hits m k b bm bk hm hk before em ek = grind (arith, none-some)
 
 one_box : (made : List Step) (m k b : ℕ) → box_of m made ≡ Some b → box_of k made ≡ Some b → m ≡ k
 one_box [] m k b em ek = absurd (none-some b em)
-one_box (steps.Sink sink streams slots mtu ∷ made) m k b em ek =
-    made_hits sink m k (sinks_made made) b (box_of m made) (box_of k made) (sink == m) (sink == k) (box_was_made m made b)
-    (box_was_made k made b) (one_box made m k b) refl refl em ek
+one_box (steps.Sink sink streams slots mtu ∷ made) m k b em ek = cc (made_hits sink m k (sinks_made made) b (box_of m made) (box_of k made) (sink == m) (sink == k) (box_was_made m made b) (box_was_made k made b) (one_box made m k b) refl refl em ek)
 one_box (steps.Drop sink ∷ made) m k b em ek = search (gone_hits, one_box made m k b)
 one_box (_ ∷ made) m k b em ek = one_box made m k b em ek
 
@@ -131,8 +129,7 @@ stays_took : (airs : Airs) (n : ℕ) (step : Step) (made others : List Step) →
     → units_by n (handed_by airs made step) ≡ units_by n (handed_by airs others step) → (box other : ℕ) → box_of n made ≡ Some box
     → box_of n others ≡ Some other → valid_for box (handed_up airs (step ∷ made)) ≡ valid_for other (handed_up airs (step ∷ others))
 stays_took airs n step made others took same box other its its' =
-    grind (
-      arith,
+    cc (
       valid_append box (handed_up airs made) (handed_by airs made step),
       took box other its its',
       step_octets airs made box n step its,

@@ -66,10 +66,7 @@ rows_never : (version : ℕ) (first : List ℕ) → nat_eq version 2 ≡ false �
 unfolding row_of first_row_of source_row_of sink_row_of link_row_of row_of_2
 rows_never version first is =
     in_rows_never first event_rows (first_row_of version first) events_never
-    (in_rows_never first (first_rows version) (source_row_of version first) (first_never version)
-    (in_rows_never first source_rows (sink_row_of version first) sources_never
-    (in_rows_never first sink_rows (link_row_of version first) sinks_never
-    (in_rows_never first link_rows (row_of_2 version first) links_never (not_second (nat_eq version 2) _ is)))))
+    (search (in_rows_never, first_rows, first_never, source_rows, sources_never, sink_rows, sinks_never, link_rows, links_never, not_second, nat_eq))
 
 step_never : (version : ℕ) (line : List ℕ) → nat_eq version 2 ≡ false → StepNever (step_of version line)
 unfolding step_of

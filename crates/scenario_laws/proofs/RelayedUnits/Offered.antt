@@ -203,6 +203,5 @@ all_offered airs boxes n bis to (step ∷ earlier) legal within =
       | inr before ↦
           parts ∙ ap (λ l. l ++ units now) (all_offered airs boxes n bis to earlier legal.0 before)
           ∙ ap (λ l. offered airs n bis to earlier ++ l)
-          (offered_now airs n bis to made step (in_range airs boxes n bis to earlier legal.0 before)
-          (one_stands airs boxes n bis to earlier legal.0 before))
+          (cc (offered_now airs n bis to made step (in_range airs boxes n bis to earlier legal.0 before) (one_stands airs boxes n bis to earlier legal.0 before)))
     ]

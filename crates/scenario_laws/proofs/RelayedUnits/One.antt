@@ -26,8 +26,7 @@ has_had n bis to (step ∷ earlier) within = elim (contains_cases step earlier (
 pub first_free : (airs : Airs) (boxes n bis to : ℕ) (step : Step) (made : List Step) → step ≡ steps.Relay n bis to
     → line_refusal airs boxes made step ≡ None → had_relay to made ≡ false
 first_free airs boxes n bis to this made is none =
-    (is_free airs boxes made n bis to
-    (line_passes airs boxes made (steps.Relay n bis to) (subst (λ s. line_refusal airs boxes made s ≡ None) is none))).had
+    cc ((is_free airs boxes made n bis to (line_passes airs boxes made (steps.Relay n bis to) (subst (λ s. line_refusal airs boxes made s ≡ None) is none))).had)
 
 -- ---- the relays that stand
 

@@ -97,10 +97,7 @@ pub plain_close : (airs : Airs) (made : List Step) (step : Step) → has_relay m
     → close_lines airs made step ≡ unit_lines (closing airs (chosen_of made) made)
 plain_close airs made step none = closed_if (chosen_of made == 0) airs made step refl none
 
-flat_both : (one other : List SinkUnit) → unit_lines (one ++ other) ≡ unit_lines one ++ unit_lines other
-flat_both one other = flat_map-append (λ (unit : SinkUnit). handed_line unit.sink unit.unit) one other
-
 -- and `end` those of both sources, and the sums
 pub plain_end : (airs : Airs) (starts : List Account) (made : List Step) → has_relay made ≡ false → output_of airs starts made steps.End
     ≡ unit_lines (closing_both airs made) ++ sums_of starts (handed_up airs made ++ closing_both airs made) made
-plain_end airs starts made none = search (prints_units, append_assoc, flat_both)
+plain_end airs starts made none = search (prints_units, append_assoc, flat_map-append, handed_line)

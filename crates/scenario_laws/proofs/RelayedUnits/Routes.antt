@@ -19,9 +19,7 @@ dropped_had hit route later had before is = grind (arith, none-some)
 -- the stream that a relay goes to has had one
 pub route_had : (n : ℕ) (made : List Step) (route : Route) → relay_of n made ≡ Some route → had_relay route.to made ≡ true
 route_had n [] route is = absurd (none-some route is)
-route_had n (steps.Relay sink bis to ∷ earlier) route is =
-    made_had (sink == n) (record { bis = bis; to = to }) route (last_given (relay_given n) earlier) (had_relay route.to earlier)
-    (route_had n earlier route) is
+route_had n (steps.Relay sink bis to ∷ earlier) route is = cc (made_had (sink == n) (record { bis = bis; to = to }) route (last_given (relay_given n) earlier) (had_relay route.to earlier) (route_had n earlier route) is)
 route_had n (steps.Drop sink ∷ earlier) route is = search (dropped_had, route_had n earlier route)
 route_had n (this ∷ earlier) route is = route_had n earlier route is
 

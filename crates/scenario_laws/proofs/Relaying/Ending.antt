@@ -94,8 +94,7 @@ stood : (airs : Airs) (boxes n to : ℕ) (made after_relays : List Step) (step :
     → had_relay to made ≡ true → relay_of n (step ∷ after_relays) ≡ Some route → route.to ≡ to → relay_of n after_relays ≡ Some route
 stood airs boxes n to made after_relays (steps.Relay sink from into) route none had is goes =
     still_if (sink == n) (record { bis = from; to = into }) route (last_given (relay_given n) after_relays)
-    (λ its same. false≢true (sym (is_free airs boxes made sink from into
-    (line_passes airs boxes made (steps.Relay sink from into) none)).had ∙ ap (λ b. had_relay b made) (same ∙ goes) ∙ had)) is
+    (λ its same. false≢true (cc ((is_free airs boxes made sink from into (line_passes airs boxes made (steps.Relay sink from into) none)).had))) is
 stood airs boxes n to made after_relays (steps.Drop sink) route none had is goes = search (dropped_not)
 stood airs boxes n to made after_relays this route none had is goes = is
 

@@ -207,13 +207,10 @@ offered_numbered order airs meets boxes n bis to (step ∷ earlier) legal within
           let relay : relay_of n (step ∷ after_relays) ≡ relay_of n earlier =
           close_relays n earlier after_relays step parts.1 ∙ left.relay n ∙ relay_happened airs n earlier in
           let way = way_of bis to (relay_of n (step ∷ after_relays)) (ap (is_route bis to) relay ∙ parts.0) in
-          let clean_now : injected_since (is_made n) n (step ∷ after_relays) ≡ false = close_injects n earlier after_relays step parts.1
-          ∙ injected_offers airs n (offers_before airs made step) made
-          ∙ injected_happened airs n earlier ∙ ap (λ b. cond b one other) (sym here) ∙ clean in
+          let clean_now : injected_since (is_made n) n (step ∷ after_relays) ≡ false = cc (close_injects n earlier after_relays step parts.1, injected_offers airs n (offers_before airs made step) made, injected_happened airs n earlier) in
           numbered_end octets (units_on bis (of_sink 0 n (handed_since (is_made n) airs (step ∷ after_relays)))) (offered airs n bis to said)
           (ends_with airs boxes n bis to said legal within way.route way.is way.goes)
-          (numbered_since order airs meets boxes n bis (step ∷ after_relays) (happens_legally airs boxes said legal)
-          (in_range airs boxes n bis to said legal within) least greatest clean_now)
+          (search (numbered_since, happens_legally, in_range))
       | inr not ↦ elim (contains_cases step earlier (steps.Relay n bis to) within) [
         | inl is ↦
             let free : had_relay to earlier ≡ false =

@@ -76,8 +76,5 @@ in_relay_order law airs boxes said legal n bis to within air entries order =
     record {
       numbers = map (place taken answers) order.numbers;
       rising = rising_map (place taken answers) (place_rises taken answers) order.numbers order.rising;
-      each = zip_map (place taken answers) (IsOfUnit (setup_of own) (source_calls own) to air)
-          (IsOfOffered (setup_of own) to (offered airs n bis to said))
-          (of_offered (setup_of own) (source_calls own) to answers (offered airs n bis to said) relayed.passed_is relayed.offered_is air)
-          order.numbers entries order.each;
+      each = search (zip_map, setup_of, source_calls, offered, of_offered);
     }

@@ -2,13 +2,11 @@
 -- are of too (Basic Audio Profile 1.0, section 6.5; Core 5.2, volume 6 part B, section 4.4.6). Lists of steps have the newest
 -- first; where a list is called `own` its steps are those of one source.
 use Rattle.std.proofs.Common.{arith}
-use Rattle.scenario_laws.proofs.Prelude.{ℕ, ◌≡◌, ◌≤◌, ◌-◌, ◌*◌, ◌/◌, ◌==◌, not, cond, Bool, true, false, List, [], ◌∷◌, Option, None, Some, Ok, refl, sym, ◌∙◌, ap, subst, unwrap_or, eqb-true, false≢true, ltb-false, not-false, same_Some, MayAnnounce, train_of, IsTrain, Tells, TellsInfo, Endpoint, Horizon, BigInfo, info_of, NoFault, Settings, big_info_in, found_in, without_cipher, next_anchor_of, next_of, Step, made_of, own_train, horizon_in, base_of, is_base_too_long, group_refusal, refusal_of, source_refusal, refuse_if, checked_info, cipher_of, group_of, identity_of, is_sending, is_started, no_group, setup_of, Airs, source_calls, chosen_of, chosen_steps, is_of_source, is_unbegun_at, stage_of, steps_of_source, version_of, announced_of, calls_made, source_at, snapshot_in}
-use Rattle.big_info.proofs.Citable.{info_read}
+use Rattle.scenario_laws.proofs.Prelude.{ℕ, ◌≡◌, ◌≤◌, ◌-◌, ◌*◌, ◌/◌, ◌==◌, not, cond, Bool, true, false, List, [], ◌∷◌, Option, None, Some, Ok, refl, sym, subst, unwrap_or, eqb-true, false≢true, ltb-false, not-false, same_Some, MayAnnounce, train_of, IsTrain, Tells, TellsInfo, Endpoint, Horizon, BigInfo, info_of, NoFault, Settings, without_cipher, next_anchor_of, next_of, Step, made_of, own_train, horizon_in, base_of, is_base_too_long, group_refusal, refusal_of, source_refusal, refuse_if, checked_info, cipher_of, group_of, identity_of, is_sending, is_started, no_group, setup_of, Airs, source_calls, chosen_of, chosen_steps, is_of_source, is_unbegun_at, stage_of, steps_of_source, version_of, announced_of, calls_made, source_at, snapshot_in}
 use Rattle.announcement_train.specs.declared.train.Train.{Train}
 use Rattle.announcement_train.specs.Told.{numbers_of}
 use Rattle.big_info.specs.Schedule.{horizon_of as group_horizon}
 use Rattle.delegator_history.specs.Trains.{Setup, Train as Heard}
-use Rattle.ltv_codec.specs.Values.{first_of}
 use Rattle.scenario_text.specs.declared.step.Step.TheVariants as steps
 use Rattle.scenario_laws.proofs.Citable.{Lawful, Legal, Permitted, bounds_in, lawful, may_announce, may_be_sent, neither, permitted, sends}
 use Rattle.scenario_laws.proofs.Citable.{settled}
@@ -129,9 +127,6 @@ reads_near : (setup : Setup) (train : Train) (heard : Heard) (broadcast_id : Lis
     → heard.acad ≡ train.acad → Tells train broadcast_id base info event anchor → group_horizon info ≤ setup.horizon → ReadsNear setup heard
 reads_near setup train heard broadcast_id base info event anchor same tells within octets its found is =
     let told : TellsInfo train.acad tells.read = tells.info_is in
-    let list : Some told.octets ≡ big_info_in heard.acad =
-    sym (ap big_info_in same ∙ ap (found_in (first_of 0x2C)) told.list ∙ told.found) in
-    let read : its ≡ tells.read = read_as octets told.octets its tells.read (grind arith) is (info_read told.octets tells.read told.is.0 told.is.1) in
     within_near setup.horizon its (grind (arith, same_group_horizon))
 
 -- ---- an announced train

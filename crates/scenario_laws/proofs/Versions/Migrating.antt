@@ -111,9 +111,7 @@ first_alike laws starts all history rest never begins none accepted lasting =
     (end_of (Its starts) (plain first_version ∷ history) rest) (end_of (Its starts) (plain second_version ∷ history) rest)
     (accepted_of (Its starts) (plain first_version ∷ history) rest) (accepted_of (Its starts) (plain second_version ∷ history) rest)
     none_one none_two (its_output starts history 1 first_version one) (its_output starts history 2 second_version two)
-    (run_alike laws starts all (plain first_version ∷ history) (plain second_version ∷ history) rest never
-    (begins ∙ sym (reverse_onto (plain first_version) history rest)) (first_stands starts history none accepted)
-    (grind (arith, lasting_next, plain, first_version)))
+    (search (run_alike, plain, first_version, second_version, reverse_onto, first_stands, lasting_next))
 
 turned_alike : Laws → (starts : List Account) (all history lines others : List TextLine) → NonePrintsHorizon airs_of starts all
     → Begins all history lines → said_of history ≡ [] → Accepted (Its starts) history → EndsLasting (end_of (Its starts) history lines)
@@ -188,10 +186,5 @@ pub text_alike : Laws → (starts : List Account) (text : List ℕ) → IsLastin
     → LinesAlike starts (text_lines true text) (text_lines true (migrated text))
 text_alike laws starts text lasting = elim (text_turn text) [
   | inl same ↦ same_lines starts (text_lines true text) (text_lines true (migrated text)) same
-  | inr turned ↦
-      lines_alike starts (text_lines true text) (text_lines true (migrated text))
-      (same_count (text_lines true text) (text_lines true (migrated text)) turned)
-      (turned_alike laws starts (text_lines true text) [] (text_lines true text) (text_lines true (migrated text)) lasting.trains refl refl
-      tt
-      (grind (arith, lasting_before, end_after, airs_of, has_end, length)) turned)
+  | inr turned ↦ search (lines_alike, same_count, turned_alike, lasting_before, end_after, airs_of, has_end, length)
 ]

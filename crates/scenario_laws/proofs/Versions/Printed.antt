@@ -96,8 +96,7 @@ drains_same label link wider made calls is =
     ap (reads_waiting it.setup made.mtu link) now ∙ its_reads link wider made notified is_told in
     (λ i. serve_lines label it link count calls ++ tell_lines label it link (length (heard i)) served
     ++ read_lines label it link (length (reads i)) (now i))
-    ∙ (λ i. serves_same label link count wider made calls is i ++ tells_same label link notices wider made served is_served i
-    ++ reads_lines_same label link (length (reads_waiting made.setup made.mtu link notified)) wider made notified is_told i)
+    ∙ (search (serves_same, tells_same, reads_lines_same, length, reads_waiting))
 
 -- ---- states and views
 

@@ -88,8 +88,7 @@ rows_on : (version : ℕ) (first : List ℕ) → KnownOn (row_of version first) 
 unfolding row_of first_row_of source_row_of sink_row_of link_row_of row_of_2
 rows_on version first =
     in_rows_on first event_rows event_rows (first_row_of version first) (first_row_of 2 first) (same_rows event_rows)
-    (in_rows_on first (first_rows version) (first_rows 2) (source_row_of version first) (source_row_of 2 first) (first_rows_on version)
-    (grind (arith, in_rows_on, source_rows, same_rows, sink_rows, link_rows, later_on, nat_eq)))
+    (search (in_rows_on, first_rows, first_rows_on, source_rows, same_rows, sink_rows, link_rows, later_on, nat_eq))
 
 -- ---- a line
 

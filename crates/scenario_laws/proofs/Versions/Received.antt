@@ -66,8 +66,7 @@ its_source n step earlier source others calm near same =
     let other : Option Settings = made_of n (seconds earlier) in
     ap₂ (λ at calls. source_by at step other calls others) (source_same earlier) (history_same n earlier calm)
     ∙ ap₂ (λ b its. cond b (Some (source_at earlier).number) its)
-    (follows_same (source_at earlier) (train_by (source_at earlier) step) (made_of n earlier) other (calls_made n earlier) (made_wider n earlier)
-    (quiet_history n earlier calm) near) same
+    (search (follows_same, source_at, train_by, made_of, calls_made, made_wider, quiet_history)) same
 
 sourced_same : (n sink : ℕ) (step : Step) (earlier : List Step) (source others : Option ℕ) → named_by step ≡ Some sink → AreCalm earlier
     → IsCalm earlier step → others ≡ source → sourced n step sink (seconds earlier) others ≡ sourced n step sink earlier source

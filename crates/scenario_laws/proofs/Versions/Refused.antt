@@ -76,10 +76,7 @@ box_next n step earlier box other stays = grind (arith, same)
 
 pub box_same : (n : ℕ) (made : List Step) → box_of n (seconds made) ≡ box_of n made
 box_same n [] = refl
-box_same n (step ∷ earlier) =
-    at_second (λ one two. box_after n two (seconds earlier) (box_of n (seconds earlier))
-    ≡ box_after n one (seconds earlier) (box_of n (seconds earlier))) (λ version. refl) (λ same. refl) step
-    ∙ box_next n step earlier (box_of n earlier) (box_of n (seconds earlier)) (box_same n earlier)
+box_same n (step ∷ earlier) = cc (at_second (λ one two. box_after n two (seconds earlier) (box_of n (seconds earlier)) ≡ box_after n one (seconds earlier) (box_of n (seconds earlier))) (λ version. refl) (λ same. refl) step, box_next n step earlier (box_of n earlier) (box_of n (seconds earlier)) (box_same n earlier))
 
 where_same : (step : Step) (made other : Option Settings) (calls : List links.Call) → AreWider made other → QuietHistory made calls
     → refused_where step other calls ≡ refused_where step made calls

@@ -86,15 +86,7 @@ given_calm starts earlier line sink time ext adv acad plain says never n made na
     let here : made_of sink before ≡ Some made → HearsNear made (calls_made sink before) (Some train) =
     λ is. elim (near_or_horizon (answer_of (outcome_by made.setup (snapshot_in made (calls_made sink before)) train))) [
       | inl near ↦ near
-      | inr wider ↦ absurd (never (record {
-        sink = sink;
-        time = time;
-        ext = ext;
-        adv = adv;
-        acad = acad;
-        says = says;
-        prints = answers_so starts earlier line sink time ext adv acad made plain says is wider;
-      }))
+      | inr wider ↦ absurd (search answers_so)
     ] in
     subst (λ m. made_of m before ≡ Some made → HearsNear made (calls_made m before) (Some train)) (same_Some sink n names) here lives
 
@@ -198,8 +190,7 @@ line_same : Laws → (starts : List Account) (history later : List TextLine) (li
     → (Its starts).refusal history line ≡ None
     → (PrintsHorizon airs_of starts history line → ⊥) → (Its starts).output later line ≡ (Its starts).output history line
 line_same laws starts history later line stands none never =
-    grind (
-      arith,
+    cc (
       happens_later starts history later stands,
       said_same (length starts) (said_of history) (said_after history line) (said_after later line) (line_later starts history later line stands) (passes_said starts history later line stands none),
       brought_same starts (said_of history) (said_after history line) stands.plain stands.calm (stands_next laws starts history later line stands none never).calm,

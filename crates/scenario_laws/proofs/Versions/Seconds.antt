@@ -34,8 +34,7 @@ gathered f with next first (step ∷ earlier) =
 pub given_same : {A : Type 0} (gives : Step → Option A) → ((version : ℕ) → gives (steps.Scenario 2) ≡ gives (steps.Scenario version))
     → (made : List Step) → last_given gives (seconds made) ≡ last_given gives made
 given_same gives first made =
-    gathered (last_given gives) (λ step given. option_or (gives step) given) (λ step earlier. refl)
-    (λ version given. ap (λ one. option_or one given) (first version)) made
+    cc (gathered (last_given gives) (λ step given. option_or (gives step) given) (λ step earlier. refl) (λ version given. ap (λ one. option_or one given) (first version)) made)
 
 -- ---- what the steps of a source say, and which source a line means
 

@@ -41,5 +41,4 @@ pdu_same own event bis subevent =
 
 pub stale_same : (own : List Step) → stale_in airs_of (seconds own) ≡ stale_in airs_of own
 stale_same own =
-    of_calls (λ setup calls. stale_of setup calls (airs_of setup (perform ∷ calls)))
-    (λ ahead setup calls. ap (stale_of setup calls) (airs_same ahead setup (perform ∷ calls))) own
+    cc (of_calls (λ setup calls. stale_of setup calls (airs_of setup (perform ∷ calls))) (λ ahead setup calls. ap (stale_of setup calls) (airs_same ahead setup (perform ∷ calls))) own)

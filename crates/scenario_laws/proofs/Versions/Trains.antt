@@ -1,6 +1,6 @@
 -- The outcome of a train at a sink whose groups may have a greater horizon: what it brought, where it wasn't answered
 -- `BadGroup 11` (Basic Audio Profile 1.0, section 6.5).
-use Rattle.scenario_laws.proofs.Prelude.{ℕ, ◌≡◌, ◌⊎◌, ◌≤◌, cond, Bool, List, Option, Some, Result, Ok, Err, refl, ◌∙◌, ap, arith, Endpoint, GroupFault, Horizon, BigInfo, info_of, TrainHeard, Snapshot, TrainOutcome, Train, answer_of, big_info_in, outcome_by, by_base, by_big_info, by_broadcast_id, by_group, by_info, by_slot}
+use Rattle.scenario_laws.proofs.Prelude.{ℕ, ◌≡◌, ◌⊎◌, ◌≤◌, cond, Bool, List, Option, Some, Result, Ok, Err, refl, arith, Endpoint, GroupFault, Horizon, BigInfo, info_of, TrainHeard, Snapshot, TrainOutcome, Train, answer_of, big_info_in, outcome_by, by_base, by_big_info, by_broadcast_id, by_group, by_info, by_slot}
 use Rattle.base_grammar.specs.AdReading.{broadcast_id_of}
 use Rattle.bass_operations.specs.declared.wishes.Wish.{Wish}
 use Rattle.big_info.specs.declared.big_fault.BigFault.{BigFault}
@@ -41,10 +41,7 @@ info_same : (wider : ℕ) (setup : Setup) (capability : Capability) (wishes : Li
     → by_info (with_horizon wider setup) capability wishes slot train base encrypted read
     ≡ by_info setup capability wishes slot train base encrypted read
 info_same wider setup capability wishes slot train base encrypted (Err fault) within is = refl
-info_same wider setup capability wishes slot train base encrypted (Ok info) within is =
-    ap (by_group (with_horizon wider setup) capability wishes slot train base info encrypted)
-    (first_same setup.horizon wider info within (grind (arith, fault_near)))
-    ∙ fault_same wider setup capability wishes slot train base info encrypted (first_fault setup.horizon info)
+info_same wider setup capability wishes slot train base encrypted (Ok info) within is = cc (first_same setup.horizon wider info within (grind (arith, fault_near)), fault_same wider setup capability wishes slot train base info encrypted (first_fault setup.horizon info))
 
 big_info_same : (wider : ℕ) (setup : Setup) (capability : Capability) (wishes : List Wish) (slot : ℕ) (train : Train) (base : Endpoint)
     (found : Option (List ℕ)) → setup.horizon ≤ wider → BringsNear (by_big_info setup capability wishes slot train base found)
