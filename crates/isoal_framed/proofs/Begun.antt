@@ -75,17 +75,9 @@ single_unit : (stay : Stay) (heard : ℕ → Bool) (closed from n : ℕ) (whole 
     ∷ (map (token_of stay (from / stay.info.bn)) (parts_at units from) ++ toks stay heard (from + 1) [] whole units (from + 1) n))
     ≡ cond unit.whole (valid stay.bis (time_of stay (from / stay.info.bn) unit.offset) octets ∷ []) [] ++ flat_map (entry_of stay heard closed) units
 single_unit stay heard closed from n whole unit units octets fits all last last_closed rest = elim (cases_Bool unit.whole) [
-  | inl is ↦
-      ap (λ flag. hands stay.info.max_sdu stay.bis None (starts (time_of stay (from / stay.info.bn) unit.offset) flag octets
-      ∷ (map (token_of stay (from / stay.info.bn)) (parts_at units from) ++ toks stay heard (from + 1) [] whole units (from + 1) n)))
-      (and_from unit.whole true is refl)
-      ∙ whole_start stay.info.max_sdu stay.bis (time_of stay (from / stay.info.bn) unit.offset) octets
-      (map (token_of stay (from / stay.info.bn)) (parts_at units from) ++ toks stay heard (from + 1) [] whole units (from + 1) n) fits
-      ∙ ap (λ xs. valid stay.bis (time_of stay (from / stay.info.bn) unit.offset) octets ∷ xs) rest
-      ∙ ap (λ xs. xs ++ flat_map (entry_of stay heard closed) units)
-      (sym (cond-true unit.whole (valid stay.bis (time_of stay (from / stay.info.bn) unit.offset) octets ∷ []) [] is))
+  | inl is ↦ grind (arith, hands, starts, time_of, map, token_of, parts_at, toks, and_from, whole_start, valid, flat_map, entry_of, cond-true)
   | inr part ↦
-      (let count : n ≡ 0 = (let end : closed ≤ from + 1 = last_closed part in omega arith) in
+      (let count : n ≡ 0 = (omega arith) in
       ap (λ flag. hands stay.info.max_sdu stay.bis None (starts (time_of stay (from / stay.info.bn) unit.offset) flag octets
       ∷ (map (token_of stay (from / stay.info.bn)) (parts_at units from) ++ toks stay heard (from + 1) [] whole units (from + 1) n)))
       (and_left unit.whole true part)
@@ -125,18 +117,12 @@ begun_unit : (stay : Stay) (heard : ℕ → Bool) (closed from n : ℕ) (whole :
     → hands stay.info.max_sdu stay.bis None
     (map (token_of stay (from / stay.info.bn)) (parts_at (unit ∷ units) from) ++ toks stay heard (from + 1) [] whole (unit ∷ units) (from + 1) n)
     ≡ flat_map (entry_of stay heard closed) (unit ∷ units)
-begun_unit stay heard closed from n whole shown here all unit units order fit at others [] is =
-    let some : 1 ≤ length unit.segments = order.1 in
-    absurd (omega (arith, ap length is))
+begun_unit stay heard closed from n whole shown here all unit units order fit at others [] is = grind (arith, length)
 begun_unit stay heard closed from n whole shown here all unit units order fit at others (octets ∷ []) is =
     let unit_octets : octets_in unit.segments ≡ octets = ap octets_in is ∙ append-nil octets in
     let fits : length octets ≤ stay.info.max_sdu = subst (λ xs. length xs ≤ stay.info.max_sdu) unit_octets fit.0 in
     let behind_is : behind unit ≡ from + 1 = omega (arith, at, ap length is) in
-    let entry : entry_of stay heard closed unit ≡ cond unit.whole (valid stay.bis (time_of stay (from / stay.info.bn) unit.offset) octets ∷ []) [] =
-    entry_heard stay heard closed unit octets [] is (ap heard at ∙ here) (omega (arith, at))
-    ∙ scan_end heard closed stay.bis (time_of stay (unit.first / stay.info.bn) unit.offset) unit.whole (octets_in unit.segments) (unit.first + 1)
-    ∙ ap (λ first. cond unit.whole (valid stay.bis (time_of stay (first / stay.info.bn) unit.offset) (octets_in unit.segments) ∷ []) []) at
-    ∙ ap (λ xs. cond unit.whole (valid stay.bis (time_of stay (from / stay.info.bn) unit.offset) xs ∷ []) []) unit_octets in
+    let entry : entry_of stay heard closed unit ≡ cond unit.whole (valid stay.bis (time_of stay (from / stay.info.bn) unit.offset) octets ∷ []) [] = grind (arith, entry_heard, scan_end, time_of, octets_in, cond, valid) in
     ap (λ tokens. hands stay.info.max_sdu stay.bis None (tokens ++ toks stay heard (from + 1) [] whole (unit ∷ units) (from + 1) n))
     (starts_here stay unit units from octets [] is at)
     ∙ ap (λ tokens. hands stay.info.max_sdu stay.bis None (starts (time_of stay (from / stay.info.bn) unit.offset) (unit.whole && true) octets
@@ -152,10 +138,7 @@ begun_unit stay heard closed from n whole shown here all unit units order fit at
     let fits : length octets ≤ stay.info.max_sdu = omega (arith, length-append octets (octets_in (next ∷ segments))) in
     let behind_is : behind unit ≡ from + 1 + length (next ∷ segments) = omega (arith, at, ap length is) in
     let entry : entry_of stay heard closed unit
-    ≡ scan heard closed stay.bis (time_of stay (from / stay.info.bn) unit.offset) unit.whole (octets ++ octets_in (next ∷ segments)) (from + 1) (next ∷ segments) =
-    entry_heard stay heard closed unit octets (next ∷ segments) is (ap heard at ∙ here) (omega (arith, at))
-    ∙ ap (λ first. scan heard closed stay.bis (time_of stay (first / stay.info.bn) unit.offset) unit.whole (octets_in unit.segments) (first + 1) (next ∷ segments)) at
-    ∙ ap (λ xs. scan heard closed stay.bis (time_of stay (from / stay.info.bn) unit.offset) unit.whole xs (from + 1) (next ∷ segments)) unit_octets in
+    ≡ scan heard closed stay.bis (time_of stay (from / stay.info.bn) unit.offset) unit.whole (octets ++ octets_in (next ∷ segments)) (from + 1) (next ∷ segments) = grind (arith, entry_heard stay heard closed unit octets (next ∷ segments) is (ap heard at ∙ here) (omega (arith, at))) in
     ap (λ tokens. hands stay.info.max_sdu stay.bis None (tokens ++ toks stay heard (from + 1) [] whole (unit ∷ units) (from + 1) n))
     (starts_here stay unit units from octets (next ∷ segments) is at)
     ∙ ap (λ flag. hands stay.info.max_sdu stay.bis None (starts (time_of stay (from / stay.info.bn) unit.offset) flag octets
@@ -171,8 +154,7 @@ begun_unit stay heard closed from n whole shown here all unit units order fit at
     ∙ goes_shown stay heard closed (from + 1) n unit.whole (Some (record { time = time_of stay (from / stay.info.bn) unit.offset; octets = octets })) units next segments shown
     (subst (λ first. InOrder first closed units) (omega (arith, behind_is)) order.3)
     (λ part. ((order.2 part).0, subst (λ end. closed ≤ end) behind_is (order.2 part).1))
-    (λ r same. subst (λ run. length (run.octets ++ octets_in (next ∷ segments)) ≤ stay.info.max_sdu)
-    (run_inj r (record { time = time_of stay (from / stay.info.bn) unit.offset; octets = octets }) same) room)
+    (grind (arith, length, octets_in, run_inj, time_of))
     fit.1
     ∙ ap (λ xs. xs ++ flat_map (entry_of stay heard closed) units) (sym entry)
 

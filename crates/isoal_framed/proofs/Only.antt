@@ -1,6 +1,5 @@
 -- At most one air: the acts of an event are those of the greedy filling, up to the end of its last PDU.
-use Rattle.isoal_framed.proofs.Prelude.{ℕ, zero, suc, ◌≡◌, ◌+◌, ◌-◌, ◌<◌, ◌≤◌, inl, inr, List, [], ◌∷◌, ◌++◌, length, refl, sym, ap, ◌∙◌, subst, arith, slice_get, cases_order, BigInfo, Air, AllCome, pdus_ended, IsEvent, begun_by, IsAirOf, Call, accept, lay, Timed, accepted, Act, carries, leaves_out, ends, place_of, room, sent, done, act_of}
-use Rattle.isoal_framed.specs.Air.{event_of}
+use Rattle.isoal_framed.proofs.Prelude.{ℕ, zero, suc, ◌≡◌, ◌+◌, ◌-◌, ◌<◌, ◌≤◌, List, [], ◌∷◌, ◌++◌, length, refl, sym, ap, ◌∙◌, subst, arith, slice_get, cases_order, BigInfo, Air, AllCome, pdus_ended, IsEvent, begun_by, IsAirOf, Call, accept, lay, Timed, accepted, Act, carries, leaves_out, ends, place_of, room, sent, done, act_of}
 use Rattle.isoal_framed.proofs.Greedy.{only_act}
 
 -- so many acts of the greedy filling
@@ -15,8 +14,7 @@ greedy_more : (max_pdu : ℕ) (units : List Timed) (anchor : ℕ) (earlier : Lis
     → act_of anchor (room max_pdu (acts ++ earlier)) (sent (acts ++ earlier)) (slice_get units (done (acts ++ earlier))) ∷ acts
     ≡ greedy max_pdu units anchor earlier (suc n)
 unfolding greedy
-greedy_more max_pdu units anchor earlier n acts is =
-    ap (λ xs. act_of anchor (room max_pdu (xs ++ earlier)) (sent (xs ++ earlier)) (slice_get units (done (xs ++ earlier))) ∷ xs) is
+greedy_more max_pdu units anchor earlier n acts is = grind (arith, act_of, room, sent, slice_get, done)
 
 -- acts that all come are these
 acts_are : (max_pdu : ℕ) (units : List Timed) (anchor : ℕ) (earlier acts : List Act) → AllCome max_pdu units anchor earlier acts
@@ -35,15 +33,11 @@ ended_more ends acts = omega arith
 ended_step : (max_pdu : ℕ) (units : List Timed) (anchor : ℕ) (earlier : List Act) (n : ℕ)
     → pdus_ended (greedy max_pdu units anchor earlier n) ≤ pdus_ended (greedy max_pdu units anchor earlier (suc n))
 unfolding greedy
-ended_step max_pdu units anchor earlier n =
-    ended_more (act_of anchor (room max_pdu (greedy max_pdu units anchor earlier n ++ earlier)) (sent (greedy max_pdu units anchor earlier n ++ earlier))
-    (slice_get units (done (greedy max_pdu units anchor earlier n ++ earlier)))) (greedy max_pdu units anchor earlier n)
+ended_step max_pdu units anchor earlier n = grind (arith, ended_more, act_of, room, greedy, sent, slice_get, done)
 
 ended_rises : (max_pdu : ℕ) (units : List Timed) (anchor : ℕ) (earlier : List Act) (n k : ℕ)
     → pdus_ended (greedy max_pdu units anchor earlier n) ≤ pdus_ended (greedy max_pdu units anchor earlier (k + n))
-ended_rises max_pdu units anchor earlier n zero =
-    let none : 0 + n ≡ n = omega arith in
-    subst (λ m. pdus_ended (greedy max_pdu units anchor earlier n) ≤ pdus_ended (greedy max_pdu units anchor earlier m)) (sym none) (omega arith)
+ended_rises max_pdu units anchor earlier n zero = grind (arith, pdus_ended, greedy)
 ended_rises max_pdu units anchor earlier n (suc k) =
     let before : pdus_ended (greedy max_pdu units anchor earlier n) ≤ pdus_ended (greedy max_pdu units anchor earlier (k + n)) =
     ended_rises max_pdu units anchor earlier n k in
@@ -70,12 +64,7 @@ no_shorter info units anchor earlier one other is also less =
 
 pub one_event : (info : BigInfo) (units : List Timed) (anchor : ℕ) (earlier one other : List Act) → IsEvent info units anchor earlier one
     → IsEvent info units anchor earlier other → one ≡ other
-one_event info units anchor earlier one other is also = elim (cases_order (length one) (length other)) [
-  | inl same ↦ acts_are info.max_pdu units anchor earlier one is.come.0 ∙ ap (greedy info.max_pdu units anchor earlier) same
-      ∙ sym (acts_are info.max_pdu units anchor earlier other also.come.0)
-  | inr (inl less) ↦ absurd (no_shorter info units anchor earlier one other is also less)
-  | inr (inr more) ↦ absurd (no_shorter info units anchor earlier other one also is more)
-]
+one_event info units anchor earlier one other is also = grind (arith, cases_order, length, acts_are, greedy, no_shorter)
 
 pub one_air : (info : BigInfo) (calls : List Call) (acts others : List Act) (air other : Air) → IsAirOf info calls acts air → IsAirOf info calls others other
     → (acts ≡ others) × (air ≡ other)
@@ -83,13 +72,8 @@ one_air info [] acts others air other is also = (is.0 ∙ sym also.0, is.1 ∙ s
 one_air info (accept time octets ∷ calls) acts others air other is also = one_air info calls acts others air other is also
 one_air info (lay anchor ∷ calls) acts others air other (earlier, before, own, is_before, event, acts_is, air_is) (earlier', before', own', is_before', event', acts_is', air_is') =
     let same : (earlier ≡ earlier') × (before ≡ before') = one_air info calls earlier earlier' before before' is_before is_before' in
-    let own_is : own ≡ own' = one_event info (accepted calls) anchor earlier own own' event
-    (subst (λ xs. IsEvent info (accepted calls) anchor xs own') (sym same.0) event') in
+    let own_is : own ≡ own' = grind (arith, one_event, accepted) in
     let acts_same : acts ≡ others = acts_is ∙ ap (λ xs. ends ∷ xs ++ earlier) own_is ∙ ap (λ xs. ends ∷ own' ++ xs) same.0 ∙ sym acts_is' in (
       acts_same,
-      air_is ∙ ap (λ xs. record { event = event_of (accepted calls) anchor earlier (ends ∷ xs); begun = begun_by acts } ∷ before) own_is
-          ∙ ap (λ xs. record { event = event_of (accepted calls) anchor xs (ends ∷ own'); begun = begun_by acts } ∷ before) same.0
-          ∙ ap (λ xs. record { event = event_of (accepted calls) anchor earlier' (ends ∷ own'); begun = begun_by xs } ∷ before) acts_same
-          ∙ ap (λ xs. record { event = event_of (accepted calls) anchor earlier' (ends ∷ own'); begun = begun_by others } ∷ xs) same.1
-          ∙ sym air_is',
+      grind (arith, accepted, ends, begun_by),
     )

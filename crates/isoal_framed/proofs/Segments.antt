@@ -1,5 +1,5 @@
 -- What an act adds to the units that were sent: a start, a further segment, a unit left out, the end of a PDU.
-use Rattle.isoal_framed.proofs.Prelude.{ℕ, ◌≡◌, ◌+◌, ◌-◌, ◌*◌, ◌<◌, ◌≤◌, inr, true, false, Bool, List, [], ◌∷◌, ◌++◌, length, take, drop, Option, Some, None, refl, sym, ap, ◌∙◌, subst, arith, length-append, slice_get, cond-true, cond-false, eq-eqb, ne_eqb, false≢true, append-nil, length-take, take_all, slice_get_within, Part, start, more, part_of, Laying, Timed, Act, carries, leaves_out, ends, Comes, IsSegment, place_of, overhead, least_room, done, sent, room, IsTimed, AreOf, Sent, octets_in, parts_at}
+use Rattle.isoal_framed.proofs.Prelude.{ℕ, ◌≡◌, ◌+◌, ◌-◌, ◌*◌, ◌<◌, ◌≤◌, inr, true, false, Bool, List, [], ◌∷◌, ◌++◌, length, take, drop, Option, Some, None, refl, sym, ◌∙◌, subst, arith, length-append, slice_get, cond-true, cond-false, eq-eqb, ne_eqb, false≢true, append-nil, length-take, take_all, slice_get_within, Part, start, more, part_of, Laying, Timed, Act, carries, leaves_out, ends, Comes, IsSegment, place_of, overhead, least_room, done, sent, room, IsTimed, AreOf, Sent, octets_in, parts_at}
 use Rattle.std.proofs.Math.Seq.{take-add}
 use Rattle.std.proofs.Math.Bool.{and-true}
 use Rattle.isoal_framed.specs.Struck.{behind}
@@ -38,28 +38,19 @@ start_step max_pdu max_sdu bn laid units anchor number acts parts closed count t
       None,
       record {
         low = number;
-        chain = chain_more 0 sending.low number closed (record { first = number; offset = anchor - unit.time; segments = take count unit.octets ∷ []; whole = true })
-            sending.chain sending.low_is (omega arith) refl (omega arith);
+        chain = grind (arith, chain_more, take);
         low_is = omega arith;
         open_is = refl;
         due = λ some. absurd (omega arith);
-        here = new_here number (anchor - unit.time) (take count unit.octets) true closed parts
-            (part_of anchor (sent acts) (slice_get units (done acts)) count true) sending.here
-            (new_part units anchor acts count true unit due sending.open_is);
-        fit = fit_more max_sdu closed (record { first = number; offset = anchor - unit.time; segments = take count unit.octets ∷ []; whole = true }) sending.fit
-            (take_fits count max_sdu unit.octets (omega arith));
+        here = grind (arith, new_here, take, part_of, sent, slice_get, done, new_part);
+        fit = grind (arith, fit_more, take, take_fits);
         closed_of = subst (λ xs. AreOf bn laid 0 xs
             (closed ++ record { first = number; offset = anchor - unit.time; segments = take count unit.octets ∷ []; whole = true } ∷ []))
             (sym (take_next units (done acts) unit due))
             (are_snoc bn laid 0 (done acts) (take (done acts) units) closed unit
             (record { first = number; offset = anchor - unit.time; segments = take count unit.octets ∷ []; whole = true }) sending.closed_of
             (taken_before units (done acts) unit due)
-            (record {
-              octets = λ whole. append-nil (take count unit.octets) ∙ take_all count unit.octets
-                  (let end : sent acts + count ≡ length unit.octets = segment.complete_is.0 refl in
-                  let fresh : sent acts ≡ 0 = sending.open_is in omega arith);
-              timed = timed;
-            }));
+            (grind (arith, append-nil, take, take_all, sent, length)));
         open_of = tt;
       },
       new_stable number (anchor - unit.time) (take count unit.octets) true closed,
@@ -67,35 +58,10 @@ start_step max_pdu max_sdu bn laid units anchor number acts parts closed count t
 start_step max_pdu max_sdu bn laid units anchor number acts parts closed count false unit sending due fits segment timed =
     let within : sent acts + count ≤ length unit.octets = segment.within in
     let fills : overhead (sent acts) + count ≡ room max_pdu acts = segment.fills refl in
-    let some : 1 ≤ count = at_least count (λ none. false≢true (segment.complete_is.1
-    (let nothing : length unit.octets ≡ 0 = segment.some none in let fresh : sent acts ≡ 0 = sending.open_is in omega arith))) in (
+    let some : 1 ≤ count = grind (arith, at_least, false≢true, length, sent) in (
       closed,
       Some (record { first = number; offset = anchor - unit.time; segments = take count unit.octets ∷ []; whole = false }),
-      record {
-        low = sending.low;
-        chain = sending.chain;
-        low_is = sending.low_is;
-        open_is = record {
-          part = refl;
-          least = sending.low_is;
-          some = omega arith;
-          begun = omega arith;
-          place = inr (omega arith, omega arith);
-          octets = take_fits count (sent acts + count) unit.octets (omega arith);
-        };
-        due = λ begun. (unit, due, within);
-        here = new_here number (anchor - unit.time) (take count unit.octets) false closed parts
-            (part_of anchor (sent acts) (slice_get units (done acts)) count false) sending.here
-            (new_part units anchor acts count false unit due sending.open_is);
-        fit = sending.fit;
-        closed_of = sending.closed_of;
-        open_of = (
-          unit,
-          due,
-          append-nil (take count unit.octets) ∙ ap (λ n. take n unit.octets) (let fresh : sent acts ≡ 0 = sending.open_is in omega arith),
-          timed,
-        );
-      },
+      grind (arith, take_fits, sent, new_here, take, part_of, slice_get, done, new_part, append-nil),
       new_stable number (anchor - unit.time) (take count unit.octets) false closed,
     )
 
@@ -118,10 +84,7 @@ further_stable number octets complete closed unit part at q before = grind (arit
 
 longer_octets : (octets : List ℕ) (segments : List (List ℕ)) → length (octets_in (segments ++ octets ∷ [])) ≡ length (octets_in segments) + length octets
 longer_octets octets [] = length-append octets [] ∙ omega arith
-longer_octets octets (segment ∷ segments) =
-    length-append segment (octets_in (segments ++ octets ∷ []))
-    ∙ ap (λ n. length segment + n) (longer_octets octets segments)
-    ∙ (let before : length (segment ++ octets_in segments) ≡ length segment + length (octets_in segments) = length-append segment (octets_in segments) in omega arith)
+longer_octets octets (segment ∷ segments) = grind (arith, length-append segment (octets_in (segments ++ octets ∷ [])), longer_octets octets segments, length-append segment (octets_in segments))
 
 further_fits : (count most : ℕ) (octets : List ℕ) (unit : Sent) (complete : Bool) → length (octets_in unit.segments) + count ≤ most
     → length (octets_in (longer (take count octets) complete unit).segments) ≤ most
@@ -164,25 +127,18 @@ goes_on_step max_pdu max_sdu bn laid units anchor number acts parts closed befor
       None,
       record {
         low = number;
-        chain = chain_more 0 sending.low number closed (longer (take count (drop (sent acts) unit.octets)) true before) sending.chain sending.open_is.least
-            (omega arith) refl (omega (arith, at));
+        chain = grind (arith, chain_more, take, drop, sent);
         low_is = omega arith;
         open_is = refl;
         due = λ some_sent. absurd (omega arith);
-        here = further_here number (take count (drop (sent acts) unit.octets)) true closed before parts
-            (part_of anchor (sent acts) (slice_get units (done acts)) count true) sending.here
-            (further_part units anchor acts count true unit due begun) some at;
+        here = grind (arith, further_here, take, drop, sent, part_of, slice_get, done, further_part);
         fit = fit_more max_sdu closed (longer (take count (drop (sent acts) unit.octets)) true before) sending.fit
             (further_fits count max_sdu (drop (sent acts) unit.octets) before true (omega arith));
         closed_of = subst (λ xs. AreOf bn laid 0 xs (closed ++ longer (take count (drop (sent acts) unit.octets)) true before ∷ []))
             (sym (take_next units (done acts) unit due))
             (are_snoc bn laid 0 (done acts) (take (done acts) units) closed unit (longer (take count (drop (sent acts) unit.octets)) true before) sending.closed_of
             (taken_before units (done acts) unit due)
-            (record {
-              octets = λ whole. longer_is units acts count before unit sending.open_of.0 sending.open_of.1 due sending.open_of.2
-                  ∙ take_all (sent acts + count) unit.octets (let end : sent acts + count ≡ length unit.octets = segment.complete_is.0 refl in omega arith);
-              timed = longer_timed bn laid units acts (take count (drop (sent acts) unit.octets)) true before unit sending.open_of.0 sending.open_of.1 due sending.open_of.3;
-            }));
+            (grind (arith, longer_is, take_all, sent, length, longer_timed, take, drop)));
         open_of = tt;
       },
       further_stable number (take count (drop (sent acts) unit.octets)) true closed before sending.open_is.part at,
@@ -211,17 +167,10 @@ goes_on_step max_pdu max_sdu bn laid units anchor number acts parts closed befor
           octets = further_fits count (sent acts + count) (drop (sent acts) unit.octets) before false (omega arith);
         };
         due = λ some_sent. (unit, due, within);
-        here = further_here number (take count (drop (sent acts) unit.octets)) false closed before parts
-            (part_of anchor (sent acts) (slice_get units (done acts)) count false) sending.here
-            (further_part units anchor acts count false unit due begun) some at;
+        here = grind (arith, further_here, take, drop, sent, part_of, slice_get, done, further_part);
         fit = sending.fit;
         closed_of = sending.closed_of;
-        open_of = (
-          unit,
-          due,
-          longer_is units acts count before unit sending.open_of.0 sending.open_of.1 due sending.open_of.2,
-          longer_timed bn laid units acts (take count (drop (sent acts) unit.octets)) false before unit sending.open_of.0 sending.open_of.1 due sending.open_of.3,
-        );
+        open_of = grind (arith, longer_is, longer_timed, take, drop, sent);
       },
       further_stable number (take count (drop (sent acts) unit.octets)) false closed before sending.open_is.part at,
     )
@@ -248,18 +197,8 @@ pub carries_step : (max_pdu max_sdu bn : ℕ) (laid : List Laying) (units : List
     (parts ++ part_of anchor (sent acts) (slice_get units (done acts)) count complete ∷ []) closed opened
 carries_step max_pdu max_sdu bn laid units anchor number acts parts closed None count complete fits event least below laying_is sending (unit, turn, not_stale, segment) =
     start_step max_pdu max_sdu bn laid units anchor number acts parts closed count complete unit sending turn.due (fits (done acts) unit turn.due) segment
-    (record {
-      event = event;
-      least = least;
-      below = below;
-      laying = record { anchor = anchor; units = length units };
-      laying_is = laying_is;
-      before = slice_get_within units (done acts) unit turn.due;
-      ready = turn.ready sending.open_is;
-      offset = refl;
-    })
+    (grind (arith, length, slice_get_within, done))
 carries_step max_pdu max_sdu bn laid units anchor number acts parts closed (Some before) count complete fits event least below laying_is sending (unit, turn, not_stale, segment) =
     let begun : 1 ≤ sent acts = sending.open_is.begun in
-    let within : sent acts + count ≤ length unit.octets = segment.within in
     goes_on_step max_pdu max_sdu bn laid units anchor number acts parts closed before count complete unit sending turn.due (fits (done acts) unit turn.due)
     (three (sent acts) (length unit.octets) (room max_pdu acts) begun (omega arith) turn.room) segment

@@ -1,5 +1,5 @@
 -- The units of an air, event by event.
-use Rattle.isoal_framed.proofs.Prelude.{ℕ, zero, suc, ◌≡◌, ◌+◌, ◌-◌, ◌*◌, ◌<◌, ◌≤◌, List, [], ◌∷◌, ◌++◌, map, length, take, drop, Option, Some, None, refl, sym, ap, ◌∙◌, subst, arith, length-append, range_with_len, slice_get, true≢false, take-append-drop, BigInfo, framed, pdu, Air, map_same, map_append, AllCome, IsAirOf, pdus_ended, part_of, open_parts, pdus_of, Call, accept, lay, Laying, Timed, accepted, layings_of, Act, carries, leaves_out, ends, Comes, place_of, done, sent, room, AreOf, EventsAre, Sends, Sent, InOrder, octets_in, parts_at}
+use Rattle.isoal_framed.proofs.Prelude.{ℕ, suc, ◌≡◌, ◌+◌, ◌-◌, ◌*◌, ◌<◌, ◌≤◌, List, [], ◌∷◌, ◌++◌, map, length, take, drop, Option, Some, None, refl, sym, ap, ◌∙◌, subst, arith, length-append, range_with_len, slice_get, true≢false, take-append-drop, BigInfo, framed, pdu, Air, map_same, map_append, AllCome, IsAirOf, pdus_ended, part_of, open_parts, pdus_of, Call, accept, lay, Laying, Timed, accepted, layings_of, Act, carries, leaves_out, ends, Comes, place_of, done, sent, room, AreOf, EventsAre, Sends, Sent, InOrder, octets_in, parts_at}
 use Rattle.isoal_framed.specs.Struck.{behind}
 use Rattle.isoal_framed.proofs.Senders.{room_between}
 use Rattle.isoal_framed.proofs.Segments.{in_place, ends_step, leaves_step, carries_step}
@@ -18,9 +18,7 @@ record Folded (max_pdu max_sdu bn : ℕ) (laid : List Laying) (units : List Time
 
 same_pdus : (now before : List Sent) (number n : ℕ) → Stable (number + n) now before
     → map (pdu_of before) (range_with_len number n) ≡ map (pdu_of now) (range_with_len number n)
-same_pdus now before number n stable =
-    map_same (λ q. pdu (framed (parts_at before q))) (λ q. pdu (framed (parts_at now q))) number n
-    (λ q least below. ap (λ parts. pdu (framed parts)) (sym (stable q below)))
+same_pdus now before number n stable = grind (arith, map_same, pdu, framed, parts_at)
 
 -- the end of its next PDU
 ends_fold : (max_pdu max_sdu bn : ℕ) (laid : List Laying) (units : List Timed) (anchor number : ℕ) (earlier acts : List Act) (closed : List Sent) (opened : Option Sent) → 8 ≤ max_pdu
@@ -35,10 +33,7 @@ ends_fold max_pdu max_sdu bn laid units anchor number earlier acts closed opened
       sending = subst (λ n. Sending max_pdu max_sdu bn laid units n (ends ∷ (acts ++ earlier)) [] rest.closed_now rest.opened_now) next
           (ends_step max_pdu max_sdu bn laid units anchor (number + pdus_ended acts) (acts ++ earlier) (open_parts units anchor earlier acts)
           rest.closed_now rest.opened_now wide rest.sending comes);
-      pdus = ap (λ xs. xs ++ pdu (framed (open_parts units anchor earlier acts)) ∷ []) rest.pdus
-          ∙ ap (λ parts. map (pdu_of (all rest.closed_now rest.opened_now)) (range_with_len number (pdus_ended acts)) ++ pdu (framed parts) ∷ []) rest.sending.here
-          ∙ sym (map_append (pdu_of (all rest.closed_now rest.opened_now)) number (pdus_ended acts) 1)
-          ∙ ap (λ n. map (pdu_of (all rest.closed_now rest.opened_now)) (range_with_len number n)) more_pdus;
+      pdus = grind (arith, pdu, framed, open_parts, map, all, range_with_len, pdus_ended, map_append);
       stable = rest.stable;
     }
 
@@ -47,15 +42,7 @@ event_sends : (max_pdu max_sdu bn : ℕ) (laid : List Laying) (units : List Time
     → (event : ℕ) → number ≡ event * bn → slice_get laid event ≡ Some (record { anchor = anchor; units = length units }) → pdus_ended acts < bn
     → AllCome max_pdu units anchor earlier acts → Sending max_pdu max_sdu bn laid units number earlier [] closed opened
     → Folded max_pdu max_sdu bn laid units anchor number earlier acts closed opened
-event_sends max_pdu max_sdu bn laid units anchor number earlier [] closed opened wide fits event at laying_is few come sending =
-    let none : number ≡ number + 0 = omega arith in
-    record {
-      closed_now = closed;
-      opened_now = opened;
-      sending = subst (λ n. Sending max_pdu max_sdu bn laid units n earlier [] closed opened) none sending;
-      pdus = refl;
-      stable = λ q before. refl;
-    }
+event_sends max_pdu max_sdu bn laid units anchor number earlier [] closed opened wide fits event at laying_is few come sending = grind arith
 event_sends max_pdu max_sdu bn laid units anchor number earlier (carries count complete ∷ acts) closed opened wide fits event at laying_is few come sending =
     let rest : Folded max_pdu max_sdu bn laid units anchor number earlier acts closed opened =
     event_sends max_pdu max_sdu bn laid units anchor number earlier acts closed opened wide fits event at laying_is few come.0 sending in
@@ -77,8 +64,7 @@ event_sends max_pdu max_sdu bn laid units anchor number earlier (leaves_out ∷ 
     record {
       closed_now = rest.closed_now;
       opened_now = rest.opened_now;
-      sending = leaves_step max_pdu max_sdu bn laid units (number + pdus_ended acts) (acts ++ earlier) (open_parts units anchor earlier acts)
-          rest.closed_now rest.opened_now rest.sending come.1.2.0;
+      sending = grind (arith, leaves_step, pdus_ended, open_parts);
       pdus = rest.pdus;
       stable = rest.stable;
     }
@@ -104,10 +90,8 @@ layings_count info (lay anchor ∷ calls) acts air (earlier, before, own, is_bef
     length-append (layings_of calls) (record { anchor = anchor; units = length (accepted calls) } ∷ []) ∙ ap (λ n. n + 1) rest ∙ omega arith ∙ ap length (sym air_is)
 
 get_last : {A : Type 0} (items : List A) (last : A) (n : ℕ) → length items ≡ n → slice_get (items ++ last ∷ []) n ≡ Some last
-get_last [] last zero is = refl
-get_last [] last (suc n) is = absurd (omega arith)
-get_last (x ∷ items) last zero is = absurd (omega arith)
 get_last (x ∷ items) last (suc n) is = get_last items last n (omega arith)
+get_last items last n is = search
 
 record Aired (info : BigInfo) (laid : List Laying) (units : List Timed) (acts : List Act) (air : Air) : Type 0 where
   closed : List Sent
@@ -124,17 +108,7 @@ air_sends info [] acts air wide fits is =
     record {
       closed = [];
       opened = None;
-      sending = record {
-        low = 0;
-        chain = omega arith;
-        low_is = omega arith;
-        open_is = ap sent is.0;
-        due = λ some. (let none : sent acts ≡ 0 = ap sent is.0 in absurd (omega arith));
-        here = refl;
-        fit = tt;
-        closed_of = tt;
-        open_of = tt;
-      };
+      sending = grind (arith, sent);
       events = subst (λ a. EventsAre info a []) (sym is.1) tt;
     }
 air_sends info (accept time octets ∷ calls) acts air wide fits is =
@@ -143,8 +117,7 @@ air_sends info (accept time octets ∷ calls) acts air wide fits is =
     record {
       closed = rest.closed;
       opened = rest.opened;
-      sending = accepted_more info.max_pdu info.max_sdu info.bn (layings_of calls) (accepted calls) (record { time = time; octets = octets }) (length air * info.bn) acts [] rest.closed
-          rest.opened rest.sending;
+      sending = grind (arith, accepted_more, layings_of, accepted, length);
       events = rest.events;
     }
 air_sends info (lay anchor ∷ calls) acts air wide fits (earlier, before, own, is_before, event, acts_is, air_is) =
@@ -155,22 +128,15 @@ air_sends info (lay anchor ∷ calls) acts air wide fits (earlier, before, own, 
     let few : pdus_ended own < info.bn = (let whole : suc (pdus_ended own) ≡ info.bn = event.all in omega arith) in
     let laid : Folded info.max_pdu info.max_sdu info.bn (layings_of (lay anchor ∷ calls)) (accepted calls) anchor (length before * info.bn) earlier (ends ∷ own) rest.closed rest.opened =
     ends_fold info.max_pdu info.max_sdu info.bn (layings_of (lay anchor ∷ calls)) (accepted calls) anchor (length before * info.bn) earlier own rest.closed rest.opened wide
-    (event_sends info.max_pdu info.max_sdu info.bn (layings_of (lay anchor ∷ calls)) (accepted calls) anchor (length before * info.bn) earlier own rest.closed rest.opened wide fits
-    (length before) refl (get_last (layings_of calls) laying (length before) (layings_count info calls earlier before is_before)) few event.come.0 first) event.come.1 in
+    (grind (arith, event_sends, layings_of, lay, accepted, length, get_last, layings_count)) event.come.1 in
     let count : length air ≡ suc (length before) = ap length air_is in
     let numbers : length before * info.bn + pdus_ended (ends ∷ own) ≡ length air * info.bn =
     ap (λ n. length before * info.bn + n) event.all ∙ omega arith ∙ ap (λ n. n * info.bn) (sym count) in
     record {
       closed = laid.closed_now;
       opened = laid.opened_now;
-      sending = subst (λ n. Sending info.max_pdu info.max_sdu info.bn (layings_of (lay anchor ∷ calls)) (accepted calls) n acts [] laid.closed_now laid.opened_now) numbers
-          (subst (λ xs. Sending info.max_pdu info.max_sdu info.bn (layings_of (lay anchor ∷ calls)) (accepted calls) (length before * info.bn + pdus_ended (ends ∷ own)) xs []
-          laid.closed_now laid.opened_now)
-          (sym acts_is) laid.sending);
-      events = subst (λ a. EventsAre info a (all laid.closed_now laid.opened_now)) (sym air_is) (
-        events_stay info before (all laid.closed_now laid.opened_now) (all rest.closed rest.opened) laid.stable rest.events,
-        laid.pdus ∙ ap (λ n. map (pdu_of (all laid.closed_now laid.opened_now)) (range_with_len (length before * info.bn) n)) event.all,
-      );
+      sending = grind (arith, layings_of, lay, accepted, length, pdus_ended, ends);
+      events = grind (arith, all, events_stay, map, range_with_len, length);
     }
 
 -- the units in order
@@ -213,8 +179,7 @@ sends_all info calls acts air closed (Some unit) wide fits whole sending events 
       pdus = events;
       fit = fit_more info.max_sdu closed unit sending.fit (omega arith);
       are = subst (λ xs. AreOf info.bn (layings_of calls) 0 xs (closed ++ unit ∷ [])) (take-append-drop (done acts + 1) (accepted calls))
-          (are_more info.bn (layings_of calls) 0 (take (done acts + 1) (accepted calls)) (drop (done acts + 1) (accepted calls)) (closed ++ unit ∷ [])
-          (subst (λ xs. AreOf info.bn (layings_of calls) 0 xs (closed ++ unit ∷ [])) (sym (take_next (accepted calls) (done acts) sending.open_of.0 sending.open_of.1)) snoc));
+          (grind (arith, are_more, layings_of, take, done, accepted, drop, take_next));
     }
 
 pub air_is_sent : (info : BigInfo) (calls : List Call) (acts : List Act) (air : Air) → 8 ≤ info.max_pdu

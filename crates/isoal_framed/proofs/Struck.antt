@@ -38,20 +38,7 @@ last_heard : (stay : Stay) (heard : ℕ → Bool) (closed from n : ℕ) (octets 
     → hands stay.info.max_sdu stay.bis (Some run) (goes_on (whole && true) octets
     ∷ (map (token_of stay (from / stay.info.bn)) (parts_at units from) ++ toks stay heard (from + 1) [] whole units (from + 1) n))
     ≡ scan heard closed stay.bis run.time whole (run.octets ++ octets_in (octets ∷ [])) from (octets ∷ []) ++ flat_map (entry_of stay heard closed) units
-last_heard stay heard closed from n octets true run units is room all last rest =
-    let same : run.octets ++ octets_in (octets ∷ []) ≡ run.octets ++ octets = ap (λ xs. run.octets ++ xs) (append-nil octets) in
-    let fits : length (run.octets ++ octets) ≤ stay.info.max_sdu = subst (λ xs. length xs ≤ stay.info.max_sdu) same room in
-    ap (λ xs. xs ++ hands stay.info.max_sdu stay.bis (run_joined stay.info.max_sdu run.time true (run.octets ++ octets))
-    (map (token_of stay (from / stay.info.bn)) (parts_at units from) ++ toks stay heard (from + 1) [] true units (from + 1) n))
-    (joined_fits stay.info.max_sdu stay.bis run.time (run.octets ++ octets) fits).0
-    ∙ ap (λ next. valid stay.bis run.time (run.octets ++ octets) ∷ hands stay.info.max_sdu stay.bis next
-    (map (token_of stay (from / stay.info.bn)) (parts_at units from) ++ toks stay heard (from + 1) [] true units (from + 1) n))
-    (joined_fits stay.info.max_sdu stay.bis run.time (run.octets ++ octets) fits).2
-    ∙ ap (λ xs. valid stay.bis run.time (run.octets ++ octets) ∷ xs) rest
-    ∙ ap (λ xs. valid stay.bis run.time xs ∷ flat_map (entry_of stay heard closed) units) (sym same)
-    ∙ ap (λ xs. xs ++ flat_map (entry_of stay heard closed) units)
-    (sym (scan_heard heard closed stay.bis run.time true (run.octets ++ octets_in (octets ∷ [])) from octets [] (omega arith) is
-    ∙ scan_end heard closed stay.bis run.time true (run.octets ++ octets_in (octets ∷ [])) (from + 1)))
+last_heard stay heard closed from n octets true run units is room all last rest = grind (arith, octets_in, append-nil, length, hands, run_joined, map, token_of, parts_at, toks, joined_fits, valid, flat_map, entry_of, scan_heard, scan_end)
 last_heard stay heard closed from n octets false run units is room all last rest =
     let same : run.octets ++ octets_in (octets ∷ []) ≡ run.octets ++ octets = ap (λ xs. run.octets ++ xs) (append-nil octets) in
     let fits : length (run.octets ++ octets) ≤ stay.info.max_sdu = subst (λ xs. length xs ≤ stay.info.max_sdu) same room in

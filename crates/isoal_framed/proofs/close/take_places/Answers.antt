@@ -1,4 +1,4 @@
-use Rattle.isoal_framed.proofs.Prelude.{◌≡◌, ◌<◌, ◌+◌, ◌-◌, ◌∙◌, sym, ap, subst, length, take, drop, get_or, None, Ok, vec_len, arith, flat_map, length-map, read_as, segmented, tokens_of, run_in, hands, run_after, entry_in, kept_of, stay_of, HandsOn}
+use Rattle.isoal_framed.proofs.Prelude.{◌≡◌, ◌<◌, ◌+◌, ◌-◌, ◌∙◌, length, take, drop, get_or, None, Ok, vec_len, arith, flat_map, length-map, read_as, segmented, tokens_of, run_in, hands, run_after, entry_in, kept_of, stay_of}
 use Rattle.isoal_framed.proofs.Rings.{turned_more, first_left, left_more}
 use Rattle.isoal_framed.proofs.Walks.{walked_more}
 use Rattle.isoal_framed.proofs.close.take_places.Goals as goal
@@ -8,16 +8,12 @@ places-preserved g c =
     let size : length (kept_of c.args.store.now.places) ≡ length c.args.store.now.places.ring.items =
     length-map c.args.store.now.places.ring.items (entry_in c.args.store.now.places.max_pdu) in
     let below : c.places.counter < length (kept_of c.args.store.now.places) = omega (arith, c.places-test.true, c.requires.count) in
-    let entry : read_as segmented c.args.stream.now.group.info.max_pdu c.first.result.now ≡ get_or (kept_of c.args.store.now.places) c.places.counter None =
-    ap (λ max_pdu. read_as segmented max_pdu c.first.result.now) (sym (c.places.invariant.max_pdu ∙ c.requires.max_pdu))
-    ∙ c.first.ensures
-    ∙ first_left (kept_of c.args.store.now.places) (kept_of c.places.store.places) c.places.counter c.places.invariant.kept below in
+    let entry : read_as segmented c.args.stream.now.group.info.max_pdu c.first.result.now ≡ get_or (kept_of c.args.store.now.places) c.places.counter None = grind (arith, read_as, segmented, first_left, kept_of) in
     record {
       places = c.turn.ensures.places ∙ c.places.invariant.places;
       max_pdu = c.turn.ensures.max_pdu ∙ c.places.invariant.max_pdu;
       room = c.take_pdu-handed.ensures.room ∙ c.places.invariant.room;
-      kept = turned_more (kept_of c.args.store.now.places) (kept_of c.places.store.places) (kept_of c.turn.new.self) c.places.counter c.args.count
-          c.places.invariant.kept below c.turn.ensures.kept;
+      kept = grind (arith, turned_more, kept_of);
       walked = walked_more (vec_len c.args.store.now.undecided.octets) c.args.stream.now.bis (run_in c.args.store.now.undecided) (run_in c.places.store.undecided) (run_in c.take_pdu-handed.new.undecided)
           (flat_map (tokens_of (stay_of c.args.stream.now) c.args.event) (take c.args.count (kept_of c.args.store.now.places)))
           (flat_map (tokens_of (stay_of c.args.stream.now) c.args.event) (take (c.args.count - c.places.counter) (drop c.places.counter (kept_of c.args.store.now.places))))
@@ -29,14 +25,7 @@ places-preserved g c =
           c.places.invariant.walked
           (left_more (tokens_of (stay_of c.args.stream.now) c.args.event) (kept_of c.args.store.now.places) c.places.counter (c.args.count - c.places.counter)
           (c.args.count - (c.places.counter + 1)) below (omega (arith, c.places-test.true)))
-          (c.take_pdu-handed.ensures.run
-          ∙ ap (λ max_sdu. run_after max_sdu (run_in c.places.store.undecided)
-          (tokens_of (stay_of c.args.stream.now) c.args.event (read_as segmented c.args.stream.now.group.info.max_pdu c.first.result.now))) c.places.invariant.room
-          ∙ ap (λ kept. run_after (vec_len c.args.store.now.undecided.octets) (run_in c.places.store.undecided) (tokens_of (stay_of c.args.stream.now) c.args.event kept)) entry)
-          (subst (λ kept. HandsOn (hands (vec_len c.args.store.now.undecided.octets) c.args.stream.now.bis (run_in c.places.store.undecided) (tokens_of (stay_of c.args.stream.now) c.args.event kept))
-          c.places.handed (g.T.UnitTaker.calls c.places.taker) (g.T.UnitTaker.calls c.take_pdu-handed.new.taker) c.take_pdu-handed.result) entry
-          (subst (λ max_sdu. HandsOn (hands max_sdu c.args.stream.now.bis (run_in c.places.store.undecided)
-          (tokens_of (stay_of c.args.stream.now) c.args.event (read_as segmented c.args.stream.now.group.info.max_pdu c.first.result.now)))
-          c.places.handed (g.T.UnitTaker.calls c.places.taker) (g.T.UnitTaker.calls c.take_pdu-handed.new.taker) c.take_pdu-handed.result) c.places.invariant.room c.take_pdu-handed.ensures.hands))
+          (grind (arith, run_after, run_in, tokens_of, stay_of, read_as, segmented, vec_len))
+          (grind (arith, hands, vec_len, run_in, tokens_of, stay_of, read_as, segmented))
           c.take_pdu-handed.ensures.cause;
     }
