@@ -1,5 +1,5 @@
 -- The octets of the state of a slot.
-use Rattle.delegator_control.proofs.Prelude.{ℕ, zero, suc, ◌≡◌, ◌+◌, ◌<◌, ◌≤◌, Bool, true, false, List, [], ◌∷◌, ◌++◌, length, map, drop, slice_get, get_or, Some, append_assoc, refl, sym, ap, ◌∙◌, subst, arith, nat_lt, ◌&&◌, if◌then◌else◌, flat_map, list_any, AllByRecursion, append-nil, Wish, Field, laid, Subgroup, subgroup, subgroup_fields, fields_of, prefix_fields, group_of, encoding, Entry, Place, idle, on_train, on_group, is_on, is_on_group, Status, groups_from, received, status_of, is_synced, drop_get, groups_laid}
+use Rattle.delegator_control.proofs.Prelude.{ℕ, zero, suc, ◌≡◌, ◌+◌, ◌<◌, ◌≤◌, Bool, false, List, [], ◌∷◌, ◌++◌, length, map, drop, slice_get, get_or, Some, append_assoc, refl, sym, ap, ◌∙◌, arith, nat_lt, flat_map, list_any, AllByRecursion, append-nil, Wish, Field, laid, Subgroup, subgroup, subgroup_fields, fields_of, prefix_fields, group_of, encoding, Entry, Place, idle, on_train, on_group, is_on, is_on_group, Status, groups_from, received, status_of, is_synced, drop_get, groups_laid}
 use Rattle.std.proofs.lemmas.Grind.{flat_map-append}
 use Rattle.bcast_base.proofs.Citable.{subgroup_laid}
 use Rattle.bcast_base.specs.Encoding.{number}
@@ -39,9 +39,7 @@ last_laid place bits (first ∷ []) zero wish many is =
     let same : first ≡ wish = cc in
     let prefix : List ℕ = number 4 (get_or bits place 0) ++ length wish.metadata ∷ [] in (
       prefix,
-      ap (λ (w : Wish). groups_laid place bits (w ∷ [])) same
-          ∙ first_laid place bits wish [] ∙ append-nil (subgroup (record { bits = get_or bits place 0; metadata = wish.metadata }))
-          ∙ sym (append_assoc (number 4 (get_or bits place 0)) (length wish.metadata ∷ []) wish.metadata),
+      grind (arith, groups_laid, first_laid, append-nil, subgroup, get_or, append_assoc, length),
     )
 last_laid place bits (first ∷ []) (suc n) wish many is = absurd cc
 last_laid place bits (first ∷ second ∷ wishes) zero wish many is = absurd cc
@@ -63,9 +61,7 @@ ends_so status entry n wish many is =
 pub metadata_at : (wishes : List Wish) (place : ℕ) (wish : Wish) → AllByRecursion (λ wish. length wish.metadata ≤ 255) wishes → slice_get wishes place ≡ Some wish
     → length wish.metadata < 256
 metadata_at [] place wish all is = absurd cc
-metadata_at (first ∷ wishes) zero wish all is =
-    let same : first ≡ wish = cc in
-    subst (λ (w : Wish). length w.metadata < 256) same (omega (arith, all.0))
+metadata_at (first ∷ wishes) zero wish all is = grind (arith, length)
 metadata_at (first ∷ wishes) (suc place) wish all is = metadata_at wishes place wish all.1 is
 
 -- ---- synchronised to, as a test of the state, is to be on the train or the group
@@ -79,18 +75,6 @@ off_group idle slot off = refl
 off_group (on_train other) slot off = refl
 off_group (on_group other) slot off = off
 
-synced_so : (b : Bool) (encrypted : Bool) (bits : List ℕ) (entry : Entry) → (b ≡ false → bits ≡ [])
-    → is_synced (Some (received (record { is_synced = b; is_encrypted = encrypted; bits = bits }) entry)) ≡ b
-synced_so true encrypted bits entry none = refl
-synced_so false encrypted bits entry none =
-    ap (λ sets. list_any (λ group. nat_lt 0 group.bis_sync_state) (groups_from 0 sets entry.wanted.wishes)) (none refl) ∙ no_bit 0 entry.wanted.wishes
-
-no_taken : (b : Bool) (taken : List ℕ) → b ≡ false → (if b then taken else []) ≡ []
-no_taken true taken e = absurd cc
-no_taken false taken e = refl
-
 pub synced_is_on : (place : Place) (encrypted : Bool) (taken : List ℕ) (slot : ℕ) (entry : Entry)
     → is_synced (Some (received (status_of place encrypted taken slot) entry)) ≡ is_on place slot
-synced_is_on place encrypted taken slot entry =
-    synced_so (is_on place slot) (is_on place slot && encrypted) (if is_on_group place slot then taken else []) entry
-    (λ off. no_taken (is_on_group place slot) taken (off_group place slot off))
+synced_is_on place encrypted taken slot entry = grind (arith, list_any, nat_lt, groups_from, no_bit, is_on, is_on_group, off_group)

@@ -1,5 +1,6 @@
 -- The first cause that holds of an operation, and what is done where none does.
-use Rattle.delegator_control.proofs.Prelude.{ℕ, ◌≡◌, ◌<◌, Bool, true, false, List, [], ◌++◌, length, set, Option, Some, None, Ok, refl, sym, ap, ◌∙◌, subst, is_some, is_none, unwrap_or, nat_lt, option_map, if◌then◌else◌, Operation, Add, Modify, Code, Remove, encoding, Notice, Cause, Reply, Accepted, change, changes, Wanted, Entry, Snapshot, is_on, entry_at, Done, nothing, added, modified, removed, after, placed, place_given, place_wanted, wanting, received, status_of, state_at, value, value_at, slot_where, has_source, slot_with, empty_slot, least_unused, entry_of, operated, value_written, is_synced, cause_read, reply_by, done_read, Move, Stay, Replies, Machine, moved, place_by, status_at}
+use Rattle.std.proofs.Common.{arith}
+use Rattle.delegator_control.proofs.Prelude.{ℕ, ◌≡◌, ◌<◌, Bool, true, false, List, [], ◌++◌, length, set, Option, Some, None, Ok, refl, sym, ap, ◌∙◌, subst, is_some, is_none, unwrap_or, nat_lt, option_map, if◌then◌else◌, Operation, Add, Modify, Code, Remove, encoding, Notice, Cause, Reply, Accepted, change, changes, Wanted, Entry, Snapshot, is_on, entry_at, Done, added, modified, removed, after, placed, place_given, place_wanted, wanting, received, status_of, state_at, value, value_at, slot_where, has_source, slot_with, empty_slot, least_unused, entry_of, operated, value_written, is_synced, cause_read, reply_by, done_read, Move, Stay, Replies, Machine, moved, place_by, status_at}
 use Rattle.bass_operations.specs.declared.operation.AddSource.{AddSource}
 use Rattle.bass_operations.specs.declared.operation.ModifySource.{ModifySource}
 use Rattle.delegator_history.specs.declared.replies.Cause.TheVariants as causes
@@ -10,16 +11,10 @@ use Rattle.delegator_control.proofs.Encoded.{synced_is_on}
 use Rattle.delegator_control.proofs.Standing.{moved_nothing}
 
 pub refused : (op : Operation) (m : Machine) (cause : Cause) (reply : Reply) → cause_read m.snapshot (Ok op) ≡ Some cause → reply ≡ reply_by (Some cause) → Replies op m m reply
-refused op m cause reply holds is = record {
-  reply = is ∙ ap reply_by (sym holds);
-  step = sym (ap (λ c. moved (done_read m.snapshot (Ok op) c) m) holds ∙ moved_nothing m);
-}
+refused op m cause reply holds is = grind (arith, reply_by, moved, done_read, moved_nothing)
 
 pub accepted : (op : Operation) (m now : Machine) (reply : Reply) → cause_read m.snapshot (Ok op) ≡ None → reply ≡ Accepted → now ≡ moved (operated m.snapshot.slots op) m → Replies op m now reply
-accepted op m now reply none is done = record {
-  reply = is ∙ ap reply_by (sym none);
-  step = done ∙ ap (λ c. moved (done_read m.snapshot (Ok op) c) m) (sym none);
-}
+accepted op m now reply none is done = grind (arith, reply_by, moved, done_read)
 
 -- ---- Add Source
 
@@ -37,16 +32,12 @@ add_cause snapshot add = refl
 pub add_known : (snapshot : Snapshot) (add : AddSource) (found : Option ℕ) → found ≡ slot_where (has_source add.address_type add.sid add.broadcast_id) 0 snapshot.slots
     → is_some found ≡ true → cause_read snapshot (Ok (Add add)) ≡ Some causes.Known
 unfolding add_rows
-add_known snapshot add found is some =
-    add_cause snapshot add ∙ ap (λ known. add_rows known (is_none (empty_slot snapshot.slots)) (nat_lt 512 (length (value_written snapshot (operated snapshot.slots (Add add)))))) (ap is_some (sym is) ∙ some)
+add_known snapshot add found is some = grind (arith, add_cause snapshot add)
 
 pub add_full : (snapshot : Snapshot) (add : AddSource) (found : Option ℕ) → found ≡ slot_where (has_source add.address_type add.sid add.broadcast_id) 0 snapshot.slots
     → is_some found ≡ false → empty_slot snapshot.slots ≡ None → cause_read snapshot (Ok (Add add)) ≡ Some causes.NoRoom
 unfolding add_rows
-add_full snapshot add found is none full =
-    add_cause snapshot add
-    ∙ ap (λ known. add_rows known (is_none (empty_slot snapshot.slots)) (nat_lt 512 (length (value_written snapshot (operated snapshot.slots (Add add)))))) (ap is_some (sym is) ∙ none)
-    ∙ ap (λ o. add_rows false (is_none o) (nat_lt 512 (length (value_written snapshot (operated snapshot.slots (Add add)))))) full
+add_full snapshot add found is none full = grind (arith, add_cause snapshot add)
 
 pub add_long : (snapshot : Snapshot) (add : AddSource) (found : Option ℕ) (slot : ℕ) (long : Bool) → found ≡ slot_where (has_source add.address_type add.sid add.broadcast_id) 0 snapshot.slots
     → is_some found ≡ false → empty_slot snapshot.slots ≡ Some slot → slot < length snapshot.slots
@@ -54,20 +45,18 @@ pub add_long : (snapshot : Snapshot) (add : AddSource) (found : Option ℕ) (slo
     → cause_read snapshot (Ok (Add add)) ≡ (if long then Some causes.ValueTooLong else None)
 unfolding add_rows
 add_long snapshot add found slot long is none there within value =
-    let entry : Entry = entry_of (least_unused snapshot.slots) add in
-    let written : nat_lt 512 (length (value_written snapshot (operated snapshot.slots (Add add)))) ≡ long =
-    ap (λ o. nat_lt 512 (length (value_written snapshot (added (unwrap_or o 0) entry)))) there
-    ∙ ap (λ v. nat_lt 512 (length v)) (filled_value slot snapshot (Some entry) None within) ∙ value in
-    add_cause snapshot add
-    ∙ ap (λ known. add_rows known (is_none (empty_slot snapshot.slots)) (nat_lt 512 (length (value_written snapshot (operated snapshot.slots (Add add)))))) (ap is_some (sym is) ∙ none)
-    ∙ ap (λ o. add_rows false (is_none o) (nat_lt 512 (length (value_written snapshot (operated snapshot.slots (Add add)))))) there
-    ∙ ap (add_rows false false) written
+    grind (
+      arith,
+      entry_of (least_unused snapshot.slots) add,
+      filled_value slot snapshot (Some (entry_of (least_unused snapshot.slots) add)) None within,
+      value,
+      add_cause snapshot add,
+    )
 
 -- ---- Modify, Code and Remove
 
 pub modify_unknown : (snapshot : Snapshot) (modify : ModifySource) → slot_with modify.source_id snapshot.slots ≡ None → cause_read snapshot (Ok (Modify modify)) ≡ Some causes.SourceUnknown
-modify_unknown snapshot modify none =
-    ap (λ o. if is_none o then Some causes.SourceUnknown else (if nat_lt 512 (length (value_written snapshot (operated snapshot.slots (Modify modify)))) then Some causes.ValueTooLong else None)) none
+modify_unknown snapshot modify none = grind (arith, is_none, nat_lt, length, value_written, operated)
 
 abbrev pub wanted_by : ModifySource → Wanted
 wanted_by modify = record { pa_sync = modify.pa_sync; wishes = modify.wishes }
@@ -75,34 +64,20 @@ wanted_by modify = record { pa_sync = modify.pa_sync; wishes = modify.wishes }
 pub modify_long : (snapshot : Snapshot) (modify : ModifySource) (slot : ℕ) (long : Bool) → slot_with modify.source_id snapshot.slots ≡ Some slot
     → nat_lt 512 (length (value_at (after (modified slot (wanted_by modify)) snapshot) slot)) ≡ long
     → cause_read snapshot (Ok (Modify modify)) ≡ (if long then Some causes.ValueTooLong else None)
-modify_long snapshot modify slot long there value =
-    ap (λ o. if is_none o then Some causes.SourceUnknown
-    else (if nat_lt 512 (length (value_written snapshot (modified (unwrap_or o 0) (wanted_by modify)))) then Some causes.ValueTooLong else None)) there
-    ∙ ap (λ b. if b then Some causes.ValueTooLong else None) value
-
-code_by : (found : Option ℕ) (some : Bool) → is_some found ≡ some
-    → (if is_none found then Some causes.SourceUnknown else Some causes.NoDecrypt) ≡ (if some then Some causes.NoDecrypt else Some causes.SourceUnknown)
-code_by None true is = absurd cc
-code_by None false is = refl
-code_by (Some slot) true is = refl
-code_by (Some slot) false is = absurd cc
+modify_long snapshot modify slot long there value = grind (arith, is_none, nat_lt, length, value_written, modified, unwrap_or, value)
 
 pub code_cause : (snapshot : Snapshot) (source_id : ℕ) (found : Option ℕ) (some : Bool) (code : List ℕ) → found ≡ slot_with source_id snapshot.slots → is_some found ≡ some
     → cause_read snapshot (Ok (Code source_id code)) ≡ (if some then Some causes.NoDecrypt else Some causes.SourceUnknown)
-code_cause snapshot source_id found some code is holds =
-    ap (λ o. if is_none o then Some causes.SourceUnknown else Some causes.NoDecrypt) (sym is) ∙ code_by found some holds
+code_cause snapshot source_id found some code is holds = grind (arith, is_none)
 
 pub remove_unknown : (snapshot : Snapshot) (source_id : ℕ) → slot_with source_id snapshot.slots ≡ None → cause_read snapshot (Ok (Remove source_id)) ≡ Some causes.SourceUnknown
-remove_unknown snapshot source_id none =
-    ap (λ o. if is_none o then Some causes.SourceUnknown else (if is_synced (state_at snapshot (unwrap_or (slot_with source_id snapshot.slots) 0)) then Some causes.StillSynced else None)) none
+remove_unknown snapshot source_id none = grind (arith, is_none, is_synced, state_at, unwrap_or, slot_with)
 
 pub remove_synced : (snapshot : Snapshot) (source_id slot : ℕ) (entry : Entry) (synced : Bool) → slot_with source_id snapshot.slots ≡ Some slot
     → entry_at snapshot.slots slot ≡ Some entry → is_on snapshot.place slot ≡ synced
     → cause_read snapshot (Ok (Remove source_id)) ≡ (if synced then Some causes.StillSynced else None)
 remove_synced snapshot source_id slot entry synced there held on =
-    ap (λ o. if is_none o then Some causes.SourceUnknown else (if is_synced (state_at snapshot (unwrap_or o 0)) then Some causes.StillSynced else None)) there
-    ∙ ap (λ e. if is_synced (option_map (received (status_of snapshot.place snapshot.encrypted snapshot.taken slot)) e) then Some causes.StillSynced else None) held
-    ∙ ap (λ b. if b then Some causes.StillSynced else None) (synced_is_on snapshot.place snapshot.encrypted snapshot.taken slot entry ∙ on)
+    grind (arith, synced_is_on snapshot.place snapshot.encrypted snapshot.taken slot entry)
 
 -- ---- what is done
 
@@ -118,12 +93,7 @@ pub filled_done : (m : Machine) (slot : ℕ) (entry : Option Entry) (moves : Mov
     }
     ≡ moved done m
 filled_done m slot entry moves done value_now within there on does is =
-    let end : Snapshot = placed (place_by m.snapshot.place moves) None None (record m.snapshot { slots = set m.snapshot.slots slot entry }) in
-    let one : changes m.setup.slots m.snapshot end ≡ change slot (value_at m.snapshot slot) value_now =
-    filled_one m.setup.slots slot m.snapshot entry moves within on
-    ∙ ap (change slot (value_at m.snapshot slot)) (filled_value slot m.snapshot entry (place_by m.snapshot.place moves) there ∙ sym is) in
-    (λ i. record m { snapshot = end; waiting = m.waiting ++ sym one i })
-    ∙ (λ i. record m { snapshot = sym does i; waiting = m.waiting ++ changes m.setup.slots m.snapshot (sym does i) })
+    grind (arith, placed, place_by, set, changes, change, value_at, filled_one, filled_value)
 
 -- a slot that changes, and the place stays
 slot_done : (m now : Machine) (slot : ℕ) (entry : Option Entry) (slots : List (Option Entry)) (waiting : List Notice) (done : Done) (value_now : List ℕ)
@@ -149,34 +119,28 @@ add_done m now add slot slots waiting empty within there is filled waits =
     slot_done m now slot (Some entry) slots waiting (added slot entry) (encoding (received (status_of m.snapshot.place m.snapshot.encrypted m.snapshot.taken slot) entry)) within there is filled waits refl refl
     ∙ ap (λ o. moved (added (unwrap_or o 0) entry) m) (sym empty)
 
-pub remove_done : (m now : Machine) (source_id slot : ℕ) (slots : List (Option Entry)) (waiting : List Notice) → slot_with source_id m.snapshot.slots ≡ Some slot
-    → slot < m.setup.slots → slot < length m.snapshot.slots
-    → now ≡ record m { snapshot = record m.snapshot { slots = slots }; waiting = waiting }
-    → slots ≡ set m.snapshot.slots slot None → waiting ≡ m.waiting ++ change slot (value_at m.snapshot slot) []
-    → now ≡ moved (operated m.snapshot.slots (Remove source_id)) m
+pub remove_done : (m now : Machine) (source_id slot : ℕ) (slots : List (Option Entry)) (waiting : List Notice)
+    → slot_with source_id m.snapshot.slots ≡ Some slot → slot < m.setup.slots → slot < length m.snapshot.slots
+    → now ≡ record m { snapshot = record m.snapshot { slots = slots }; waiting = waiting } → slots ≡ set m.snapshot.slots slot None
+    → waiting ≡ m.waiting ++ change slot (value_at m.snapshot slot) [] → now ≡ moved (operated m.snapshot.slots (Remove source_id)) m
 remove_done m now source_id slot slots waiting held within there is emptied waits =
-    slot_done m now slot None slots waiting (removed slot) [] within there is emptied waits refl refl
-    ∙ ap (λ o. moved (removed (unwrap_or o 0)) m) (sym held)
+    grind (arith, slot_done m now slot None slots waiting (removed slot) [] within there is emptied waits refl refl)
 
 -- a slot that is modified, and a sink that moves
 pub modified_is : (snapshot : Snapshot) (slot : ℕ) (entry : Entry) (wanted : Wanted) (moves : Move) → entry_at snapshot.slots slot ≡ Some entry
     → place_by snapshot.place moves ≡ place_given snapshot (modified slot wanted)
     → after (modified slot wanted) snapshot ≡ placed (place_by snapshot.place moves) None None (record snapshot { slots = set snapshot.slots slot (Some (record entry { wanted = wanted })) })
-modified_is snapshot slot entry wanted moves held same =
-    λ i. placed (sym same i) None None (record snapshot { slots = set snapshot.slots slot (wanting wanted (held i)) })
+modified_is snapshot slot entry wanted moves held same = grind (arith, placed, set, wanting)
 
 stays_on : (b : Bool) (place : Option snapshots.Place) (now : snapshots.Place) → (if b then place else None) ≡ Some now → b ≡ true
-stays_on true place now e = refl
-stays_on false place now e = absurd cc
+stays_on b place now e = grind arith
 
 pub modify_value : (snapshot : Snapshot) (slot : ℕ) (entry : Entry) (wanted : Wanted) (moves : Move) → slot < length snapshot.slots → entry_at snapshot.slots slot ≡ Some entry
     → place_by snapshot.place moves ≡ place_given snapshot (modified slot wanted)
     → value_at (after (modified slot wanted) snapshot) slot
     ≡ encoding (received (status_of (placed (place_by snapshot.place moves) None None snapshot).place (placed (place_by snapshot.place moves) None None snapshot).encrypted
     (placed (place_by snapshot.place moves) None None snapshot).taken slot) (record entry { wanted = wanted }))
-modify_value snapshot slot entry wanted moves there held same =
-    ap (λ s. value_at s slot) (modified_is snapshot slot entry wanted moves held same)
-    ∙ filled_value slot snapshot (Some (record entry { wanted = wanted })) (place_by snapshot.place moves) there
+modify_value snapshot slot entry wanted moves there held same = grind (arith, value_at, modified_is, filled_value, place_by)
 
 pub modify_done : (m now : Machine) (modify : ModifySource) (slot : ℕ) (entry : Entry) (moves : Move) (slots : List (Option Entry)) (waiting : List Notice)
     → slot_with modify.source_id m.snapshot.slots ≡ Some slot → slot < m.setup.slots → slot < length m.snapshot.slots
@@ -199,14 +163,12 @@ modify_done m now modify slot entry moves slots waiting found within there held 
 
 pub puts_no : (v : List ℕ) (slot : ℕ) (entry : Entry) (before : List ℕ) (slots slots_now : List (Option Entry)) (waiting waiting_now : List Notice) (fits : Bool) → fits ≡ false
     → Puts v slot entry before slots slots_now waiting waiting_now (Ok fits) → (nat_lt 512 (length v) ≡ true) × (slots_now ≡ slots) × (waiting_now ≡ waiting)
-puts_no v slot entry before slots slots_now waiting waiting_now true is puts = absurd cc
-puts_no v slot entry before slots slots_now waiting waiting_now false is puts = puts
+puts_no v slot entry before slots slots_now waiting waiting_now fits is puts = grind arith
 
 pub puts_yes : (v : List ℕ) (slot : ℕ) (entry : Entry) (before : List ℕ) (slots slots_now : List (Option Entry)) (waiting waiting_now : List Notice) (fits : Bool) → fits ≡ true
     → Puts v slot entry before slots slots_now waiting waiting_now (Ok fits)
     → (nat_lt 512 (length v) ≡ false) × (slots_now ≡ set slots slot (Some entry)) × (waiting_now ≡ waiting ++ change slot before v)
-puts_yes v slot entry before slots slots_now waiting waiting_now true is puts = puts
-puts_yes v slot entry before slots slots_now waiting waiting_now false is puts = absurd cc
+puts_yes v slot entry before slots slots_now waiting waiting_now fits is puts = grind arith
 
 -- nothing changed
 pub same_rest : (m now : Machine) (slots : List (Option Entry)) (waiting : List Notice) → now ≡ record m { snapshot = record m.snapshot { slots = slots }; waiting = waiting }
@@ -252,9 +214,7 @@ pub modify_refused : (m now : Machine) (modify : ModifySource) (slot : ℕ) (ent
     → nat_lt 512 (length (encoding (received (status_at slot (placed (place_by m.snapshot.place moves) None None m.snapshot)) filled))) ≡ true
     → now ≡ m → reply ≡ reply_by (Some causes.ValueTooLong) → Replies (Modify modify) m now reply
 modify_refused m now modify slot entry moves filled reply found there held same fills long unchanged told =
-    let wide : nat_lt 512 (length (value_at (after (modified slot (wanted_by modify)) m.snapshot) slot)) ≡ true =
-    ap (λ v. nat_lt 512 (length v)) (modify_value m.snapshot slot entry (wanted_by modify) moves there held same
-    ∙ ap (λ f. encoding (received (status_at slot (placed (place_by m.snapshot.place moves) None None m.snapshot)) f)) (sym fills)) ∙ long in
+    let wide : nat_lt 512 (length (value_at (after (modified slot (wanted_by modify)) m.snapshot) slot)) ≡ true = grind (arith, nat_lt, length, modify_value, encoding, received, status_at, placed, place_by) in
     subst (λ (k : Machine). Replies (Modify modify) m k reply) (sym unchanged)
     (refused (Modify modify) m causes.ValueTooLong reply (modify_long m.snapshot modify slot true found wide) told)
 
@@ -267,22 +227,13 @@ pub modify_accepted : (m now : Machine) (modify : ModifySource) (slot : ℕ) (en
     → waiting ≡ m.waiting ++ change slot (value_at m.snapshot slot) (encoding (received (status_at slot (placed (place_by m.snapshot.place moves) None None m.snapshot)) filled))
     → Replies (Modify modify) m now Accepted
 modify_accepted m now modify slot entry moves filled slots waiting found within there held same fills short does filled_so waits =
-    let narrow : nat_lt 512 (length (value_at (after (modified slot (wanted_by modify)) m.snapshot) slot)) ≡ false =
-    ap (λ v. nat_lt 512 (length v)) (modify_value m.snapshot slot entry (wanted_by modify) moves there held same
-    ∙ ap (λ f. encoding (received (status_at slot (placed (place_by m.snapshot.place moves) None None m.snapshot)) f)) (sym fills)) ∙ short in
+    let narrow : nat_lt 512 (length (value_at (after (modified slot (wanted_by modify)) m.snapshot) slot)) ≡ false = grind (arith, nat_lt, length, modify_value, encoding, received, status_at, placed, place_by) in
     accepted (Modify modify) m now Accepted (modify_long m.snapshot modify slot false found narrow) refl
     (modify_done m now modify slot entry moves slots waiting found within there held same does (filled_so ∙ ap (λ f. set m.snapshot.slots slot (Some f)) fills)
     (waits ∙ ap (λ f. m.waiting ++ change slot (value_at m.snapshot slot) (encoding (received (status_at slot (placed (place_by m.snapshot.place moves) None None m.snapshot)) f))) fills))
 
-code_does : (snapshot : Snapshot) (source_id : ℕ) (code : List ℕ) (cause : Option Cause) → done_read snapshot (Ok (Code source_id code)) cause ≡ nothing
-code_does snapshot source_id code None = refl
-code_does snapshot source_id code (Some cause) = refl
-
 code_replies : (m : Machine) (source_id : ℕ) (code : List ℕ) (reply : Reply) → reply ≡ reply_by (cause_read m.snapshot (Ok (Code source_id code))) → Replies (Code source_id code) m m reply
-code_replies m source_id code reply is = record {
-  reply = is;
-  step = sym (ap (λ done. moved done m) (code_does m.snapshot source_id code (cause_read m.snapshot (Ok (Code source_id code)))) ∙ moved_nothing m);
-}
+code_replies m source_id code reply is = grind (arith, moved, cause_read, moved_nothing)
 
 pub code_case : (op : Operation) (source_id : ℕ) (code : List ℕ) (m : Machine) (reply : Reply) → op ≡ Code source_id code
     → ((other : List ℕ) → reply ≡ reply_by (cause_read m.snapshot (Ok (Code source_id other)))) → Replies op m m reply

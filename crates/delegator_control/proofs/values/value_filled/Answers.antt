@@ -1,12 +1,11 @@
-use Rattle.delegator_control.proofs.Prelude.{◌≡◌, ◌++◌, ◌∙◌, ap, length, laid, fields_of, prefix_fields, received, groups_laid, status_seen}
+use Rattle.std.proofs.Common.{arith}
+use Rattle.delegator_control.proofs.Prelude.{◌≡◌, ◌++◌, ◌∙◌, length, laid, fields_of, prefix_fields, received, groups_laid, status_seen}
 use Rattle.delegator_control.proofs.Encoded.{in_two}
 use Rattle.delegator_control.proofs.values.value_filled.Goals as goal
 
 pub returns : goal.returns
 returns c =
     let entry = c.args.slot.now in
-    let begun : c.in_ok-out.out ≡ laid (prefix_fields (fields_of (received (status_seen c.args.status.now) entry)) (length entry.wanted.wishes)) =
-    c.in_ok-out.ensures.prefix
-    ∙ (λ i. laid (prefix_fields (fields_of (c.prefix_of-prefix.ensures.same i)) ((c.count.ensures.same ∙ ap length c.wishes-wishes.ensures) i))) in
+    let begun : c.in_ok-out.out ≡ laid (prefix_fields (fields_of (received (status_seen c.args.status.now) entry)) (length entry.wanted.wishes)) = grind (arith, laid, prefix_fields, fields_of, length) in
     c.in_ok-put_groups.ensures ∙ (λ i. begun i ++ groups_laid 0 c.args.status.now.bits.now (c.wishes-wishes.ensures i))
     ∙ in_two (status_seen c.args.status.now) entry

@@ -1,3 +1,4 @@
+use Rattle.std.proofs.Common.{arith}
 use Rattle.delegator_control.proofs.Prelude.{ℕ, ◌≡◌, ◌<◌, ◌∙◌, ap, sym, subst, Option, Some, IfSome, Add, empty_slot, entry_of, Machine, machine, value_at, Stay, written_value}
 use Rattle.delegator_history.specs.declared.replies.Cause.TheVariants as causes
 use Rattle.delegator_control.proofs.Serving.{refused, add_known, add_full, add_refused, add_accepted, puts_no, puts_yes, same_rest}
@@ -13,8 +14,7 @@ pub returns-in_default : goal.returns-in_default
 returns-in_default c =
     let m : Machine = machine c.args.self.now in
     refused (Add c.args.add) m causes.NoRoom c.refused-in_default.result
-    (add_full m.snapshot c.args.add c.find_slot-known.result c.find_slot-known.ensures.first (sym c.is_some.ensures ∙ c.if-is_some.false)
-    (sym c.find_slot-empty.ensures.first ∙ c.in_default.is)) c.refused-in_default.ensures
+    (grind (arith, add_full)) c.refused-in_default.ensures
 
 pub returns-then-not-fits : goal.returns-then-not-fits
 returns-then-not-fits c =

@@ -1,13 +1,12 @@
-use Rattle.delegator_control.proofs.Prelude.{◌<◌, ◌∙◌, ap, sym, subst, done_by_outcome, Machine, machine, moved}
+use Rattle.std.proofs.Common.{arith}
+use Rattle.delegator_control.proofs.Prelude.{◌<◌, ◌∙◌, ap, sym, subst, Machine, machine}
 use Rattle.delegator_choices.specs.State.Brings.{outcome_of}
 use Rattle.delegator_control.proofs.Followed.{IsNear, is_near, slot_of_outcome}
 use Rattle.delegator_control.proofs.Standing.{moved_nothing}
 use Rattle.delegator_control.proofs.scan_delegator.ScanDelegator.follow_outcome.Goals as goal
 
 pub returns-in-Ignored-clause-step : goal.returns-in-Ignored-clause-step
-returns-in-Ignored-clause-step c =
-    let m : Machine = machine c.args.self.now in
-    sym (moved_nothing m) ∙ ap (λ b. moved (done_by_outcome (outcome_of b)) m) (sym c.in-Ignored.is)
+returns-in-Ignored-clause-step c = grind (arith, machine c.args.self.now, moved_nothing (machine c.args.self.now), c.in-Ignored.is)
 
 pub go_on_train-requires-clause-within : goal.go_on_train-requires-clause-within
 go_on_train-requires-clause-within c =

@@ -1,12 +1,10 @@
-use Rattle.delegator_control.proofs.Prelude.{◌∙◌, ap, sym, None, Snapshot, slot_of, placed, Machine, machine, place_by}
+use Rattle.std.proofs.Common.{arith}
+use Rattle.delegator_control.proofs.Prelude.{◌∙◌, ap, sym, Snapshot, slot_of, placed, Machine, machine, place_by}
 use Rattle.delegator_control.proofs.Changes.{moves_below}
 use Rattle.delegator_control.proofs.scan_delegator.ScanDelegator.go.Goals as goal
 
 pub returns-clause-step : goal.returns-clause-step
-returns-clause-step c =
-    let mid : Machine = machine c.note_move.new.self in
-    ap (λ (s : Snapshot). record mid { snapshot = s }) (c.make_move.ensures mid.snapshot)
-    ∙ ap (λ (a : Machine). record a { snapshot = placed (place_by a.snapshot.place c.args.moves) None None a.snapshot }) c.in_ok-note_move.ensures.ok
+returns-clause-step c = grind (arith, machine, placed, place_by)
 
 pub invariant_of-self-clause-within : goal.invariant_of-self-clause-within
 invariant_of-self-clause-within c slot is =

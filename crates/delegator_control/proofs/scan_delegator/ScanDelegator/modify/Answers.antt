@@ -1,4 +1,5 @@
-use Rattle.delegator_control.proofs.Prelude.{ℕ, ◌<◌, ◌∙◌, sym, subst, Option, IfSome, Modify, Machine, machine}
+use Rattle.std.proofs.Common.{arith}
+use Rattle.delegator_control.proofs.Prelude.{◌∙◌, sym, Modify, Machine, machine}
 use Rattle.delegator_history.specs.declared.replies.Cause.TheVariants as causes
 use Rattle.delegator_control.proofs.Serving.{refused, modify_unknown}
 use Rattle.delegator_control.proofs.scan_delegator.ScanDelegator.modify.Goals as goal
@@ -13,6 +14,4 @@ pub modify_held-requires-clause-found : goal.modify_held-requires-clause-found
 modify_held-requires-clause-found c = sym c.find_slot-found.ensures.first ∙ c.in-Some.is
 
 pub modify_held-requires-clause-within : goal.modify_held-requires-clause-within
-modify_held-requires-clause-within c =
-    let m : Machine = machine c.args.self.now in
-    subst (λ (o : Option ℕ). IfSome o (λ s. s < m.setup.slots)) c.in-Some.is c.find_slot-found.ensures.within
+modify_held-requires-clause-within c = grind (arith, machine)

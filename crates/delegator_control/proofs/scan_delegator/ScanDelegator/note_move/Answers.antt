@@ -1,12 +1,10 @@
-use Rattle.delegator_control.proofs.Prelude.{◌≡◌, ◌<◌, ◌++◌, ◌∙◌, ap, sym, subst, None, Some, on_ok_weaker, append-nil, slot_of, Machine, machine, status_seen}
+use Rattle.std.proofs.Common.{arith}
+use Rattle.delegator_control.proofs.Prelude.{◌≡◌, ◌<◌, ◌∙◌, sym, subst, Some, on_ok_weaker, append-nil, slot_of, Machine, machine, status_seen}
 use Rattle.delegator_control.proofs.Changes.{moved_none, note_done}
 use Rattle.delegator_control.proofs.scan_delegator.ScanDelegator.note_move.Goals as goal
 
 pub returns-in_default-clause-ok : goal.returns-in_default-clause-ok
-returns-in_default-clause-ok c =
-    let m : Machine = machine c.args.self.now in
-    let none : slot_of m.snapshot.place ≡ None = sym c.slot.ensures ∙ c.in_default.is in
-    λ i. record m { waiting = (sym (append-nil m.waiting) ∙ ap (λ more. m.waiting ++ more) (sym (moved_none m.setup.slots m.snapshot c.args.moves none))) i }
+returns-in_default-clause-ok c = grind (arith, machine, slot_of, append-nil, moved_none)
 
 pub returns-clause-ok : goal.returns-clause-ok
 returns-clause-ok c =

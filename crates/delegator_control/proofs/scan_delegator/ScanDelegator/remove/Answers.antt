@@ -1,4 +1,5 @@
-use Rattle.delegator_control.proofs.Prelude.{ℕ, ◌≡◌, ◌<◌, ◌++◌, ◌∙◌, set, ap, sym, subst, refl, Option, Some, None, true, false, IfSome, is_none, err_from_is_err_and, Remove, slot_with, held_slot, Machine, machine, status_at}
+use Rattle.std.proofs.Common.{arith}
+use Rattle.delegator_control.proofs.Prelude.{ℕ, ◌≡◌, ◌<◌, ◌∙◌, set, ap, sym, subst, refl, Option, Some, None, true, false, IfSome, is_none, err_from_is_err_and, Remove, slot_with, held_slot, Machine, machine, status_at}
 use Rattle.delegator_history.specs.declared.replies.Cause.TheVariants as causes
 use Rattle.delegator_control.proofs.Apart.{emptied, one}
 use Rattle.delegator_control.proofs.Serving.{refused, remove_unknown, remove_synced, remove_accepted}
@@ -27,8 +28,7 @@ returns c =
     remove_accepted m _ c.args.source_id c.in-Some.slot held.0 _ _ found held.1 (sym c.is_on.ensures ∙ c.if-is_on.false) within
     (subst (λ n. c.in-Some.slot < n) c.args.self.now.slots.ok.0 within) refl
     (ap (λ k. set m.snapshot.slots k None) c.from.ensures)
-    (c.in_ok-put_notice.ensures.ok ∙ ap (λ notices. m.waiting ++ notices)
-    (ap (one c.in-Some.slot) c.new.ensures ∙ sym (emptied c.in-Some.slot (status_at c.in-Some.slot m.snapshot) _ held.0 held.1)))
+    (grind (arith, one, emptied, status_at))
 
 pub returns-in_err-put_notice : goal.returns-in_err-put_notice
 returns-in_err-put_notice c =

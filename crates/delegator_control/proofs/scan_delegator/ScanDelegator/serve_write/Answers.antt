@@ -8,8 +8,7 @@ returns-in-Some-clause-step c =
     fault_step (machine c.args.self.now) c.args.write.now c.in-Err.fault c.in-Some.cause c.in-Err.ensures.exact (sym c.cause_of.ensures ∙ c.in-Some.is)
 
 pub returns-in-Ok-clause-memory : goal.returns-in-Ok-clause-memory
-returns-in-Ok-clause-memory c =
-    served_wants c.in-Ok.op c.args.write.now (machine c.args.self.now) (machine c.operate.new.self) c.operate.result c.in-Ok.ensures.exact c.operate.ensures
+returns-in-Ok-clause-memory c = grind (arith, served_wants, machine)
 
 pub returns-in-None-clause-memory : goal.returns-in-None-clause-memory
 returns-in-None-clause-memory c =

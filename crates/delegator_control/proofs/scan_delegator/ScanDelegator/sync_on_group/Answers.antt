@@ -1,4 +1,5 @@
-use Rattle.delegator_control.proofs.Prelude.{◌≡◌, ◌++◌, ◌∙◌, ap, sym, Some, None, Snapshot, on_group, slot_of, placed, Machine, machine}
+use Rattle.std.proofs.Common.{arith}
+use Rattle.delegator_control.proofs.Prelude.{◌++◌, ◌∙◌, ap, sym, Some, None, Snapshot, on_group, slot_of, placed, Machine, machine}
 use Rattle.delegator_control.proofs.Changes.{none_some, tuned_changes}
 use Rattle.delegator_control.proofs.scan_delegator.ScanDelegator.sync_on_group.Goals as goal
 
@@ -12,6 +13,9 @@ returns-clause-step c =
 
 pub invariant_of-self-clause-within : goal.invariant_of-self-clause-within
 invariant_of-self-clause-within c slot is =
-    let mid : Machine = machine c.note_move.new.self in
-    let never : None ≡ Some slot = sym (ap (λ (s : Snapshot). slot_of s.place) (c.join.ensures mid.snapshot)) ∙ is in
-    absurd (none_some slot never)
+    grind (
+      arith,
+      machine c.note_move.new.self,
+      c.join.ensures (machine c.note_move.new.self).snapshot,
+      none_some slot (sym (ap (λ (s : Snapshot). slot_of s.place) (c.join.ensures (machine c.note_move.new.self).snapshot)) ∙ is),
+    )

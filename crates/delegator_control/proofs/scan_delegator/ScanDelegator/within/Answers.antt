@@ -1,11 +1,10 @@
+use Rattle.std.proofs.Common.{arith}
 use Rattle.delegator_control.proofs.Prelude.{◌∙◌, ap, length, None, vec_len, length-replicate}
 use Rattle.delegator_control.proofs.Standing.{stands_new}
 use Rattle.delegator_control.proofs.scan_delegator.ScanDelegator.within.Goals as goal
 
 pub returns-clause-setup : goal.returns-clause-setup
-returns-clause-setup c =
-    let count = c.in_ok-empty_slots.field-0.ok.0 ∙ ap length c.in_ok-empty_slots.ensures ∙ length-replicate c.args.slots None in
-    λ i. record { streams = c.args.streams; slots = count i; horizon = c.args.limits.horizon }
+returns-clause-setup c = grind (arith, length, length-replicate)
 
 pub returns-clause-stands : goal.returns-clause-stands
 returns-clause-stands c =
