@@ -1,5 +1,5 @@
 -- What lies behind the fields.
-use Rattle.big_info.proofs.Prelude.{◌≡◌, ◌≤◌, ◌+◌, ◌-◌, ◌++◌, ℕ, List, [], length, take, drop, arith, ◌∙◌, sym, ap, append_assoc, length-append, length-take-le, Option, Some, None, refl, drop_all, drop_at, take_at, append-nil, drop-drop, take-put_mid, drop-put_mid, Cipher, CipherIs, put_mid}
+use Rattle.big_info.proofs.Prelude.{◌≡◌, ◌≤◌, ◌+◌, ◌-◌, ◌++◌, ℕ, List, length, take, drop, arith, ◌∙◌, sym, ap, append_assoc, length-append, length-take-le, Option, Some, None, refl, drop_all, drop_at, take_at, append-nil, drop-drop, take-put_mid, drop-put_mid, Cipher, CipherIs, put_mid}
 
 -- what is the same behind n octets is the same behind more
 pub drop_later : (n m : ℕ) (one other : List ℕ) → n ≤ m → drop n one ≡ drop n other → drop m one ≡ drop m other
@@ -12,15 +12,17 @@ drop_later n m one other h e =
 pub cipher_behind : (into giv gskd : List ℕ) → length into ≡ 57 → length giv ≡ 8 → length gskd ≡ 16
     → drop 33 (put_mid 41 16 (put_mid 33 8 into giv) gskd) ≡ giv ++ gskd
 cipher_behind into giv gskd whole first second =
-    let fields : length (take 33 into) ≡ 33 = length-take-le 33 into (omega (arith, whole)) in
-    let before : take 41 (put_mid 33 8 into giv) ≡ take 33 into ++ giv = take-put_mid 33 8 into giv 41 (omega (arith, first)) (omega (arith, whole)) in
-    let none : drop 16 (drop 41 (put_mid 33 8 into giv)) ≡ [] =
-    drop-drop 16 41 (put_mid 33 8 into giv) ∙ drop-put_mid 33 8 into giv 57 (omega arith) (omega (arith, whole)) first ∙ drop_all 57 into (omega (arith, whole)) in
-    ap (λ (xs : List ℕ). drop 33 (xs ++ (gskd ++ drop 16 (drop 41 (put_mid 33 8 into giv))))) before
-    ∙ ap (λ (xs : List ℕ). drop 33 ((take 33 into ++ giv) ++ (gskd ++ xs))) none
-    ∙ ap (λ (xs : List ℕ). drop 33 ((take 33 into ++ giv) ++ xs)) (append-nil gskd)
-    ∙ ap (drop 33) (append_assoc (take 33 into) giv gskd)
-    ∙ drop_at (take 33 into) (giv ++ gskd) 33 (omega (arith, fields))
+    grind (
+      arith,
+      length-take-le 33 into (omega (arith, whole)),
+      take-put_mid 33 8 into giv 41 (omega (arith, first)) (omega (arith, whole)),
+      drop-drop 16 41 (put_mid 33 8 into giv),
+      drop-put_mid 33 8 into giv 57 (omega arith) (omega (arith, whole)) first,
+      drop_all 57 into (omega (arith, whole)),
+      append-nil gskd,
+      append_assoc (take 33 into) giv gskd,
+      drop_at (take 33 into) (giv ++ gskd) 33 (omega (arith, (length-take-le 33 into (omega (arith, whole))))),
+    )
 
 pub long_before : (into giv : List ℕ) → length into ≡ 57 → length giv ≡ 8 → 41 ≤ length (put_mid 33 8 into giv)
 long_before into giv whole first =
@@ -35,13 +37,8 @@ pub one_cipher : (one other : Option Cipher) (octets : List ℕ) → CipherIs on
 one_cipher None None octets h k = refl
 one_cipher None (Some other) octets h k = absurd (omega (arith, ap length h, ap length k.2, length-append other.giv other.gskd, k.0))
 one_cipher (Some one) None octets h k = absurd (omega (arith, ap length k, ap length h.2, length-append one.giv one.gskd, h.0))
-one_cipher (Some one) (Some other) octets h k =
-    let same : one.giv ++ one.gskd ≡ other.giv ++ other.gskd = sym h.2 ∙ k.2 in
-    let giv : one.giv ≡ other.giv = sym (take_at one.giv one.gskd 8 h.0) ∙ ap (take 8) same ∙ take_at other.giv other.gskd 8 k.0 in
-    let gskd : one.gskd ≡ other.gskd = sym (drop_at one.giv one.gskd 8 h.0) ∙ ap (drop 8) same ∙ drop_at other.giv other.gskd 8 k.0 in
-    ap (λ (x : List ℕ). cipher_of x one.gskd) giv ∙ ap (λ (x : List ℕ). cipher_of other.giv x) gskd
+one_cipher (Some one) (Some other) octets h k = grind (arith, h.2, k.2, take_at one.giv one.gskd 8 h.0, take_at other.giv other.gskd 8 k.0, drop_at one.giv one.gskd 8 h.0, drop_at other.giv other.gskd 8 k.0)
 
 -- a cipher has one encoding
 pub one_behind : (cipher : Option Cipher) (one other : List ℕ) → CipherIs cipher one → CipherIs cipher other → one ≡ other
-one_behind None one other h k = h ∙ sym k
-one_behind (Some cipher) one other h k = h.2 ∙ sym k.2
+one_behind cipher one other h k = grind arith

@@ -1,5 +1,5 @@
 -- The fields of an info are cut out of its number.
-use Rattle.big_info.proofs.Prelude.{◌≡◌, ◌≢◌, ◌<◌, ◌≤◌, ℕ, ◌+◌, ◌-◌, ◌*◌, ◌/◌, ◌%◌, ◌^◌, Bool, false, cond, eqb, List, [], ◌∷◌, ◌++◌, length, take, drop, refl, sym, ◌∙◌, ap, subst, arith, Option, Some, None, Result, Ok, Err, length-append, length-drop, take_at, drop_at, mod-mul-add, div-mul-add, pow-add, sum_from, BigInfo, Cipher, BigIs, CipherIs, Encodes}
+use Rattle.big_info.proofs.Prelude.{◌≡◌, ◌≢◌, ◌<◌, ◌≤◌, ℕ, ◌+◌, ◌-◌, ◌*◌, ◌/◌, ◌%◌, ◌^◌, Bool, false, cond, eqb, List, [], ◌∷◌, length, take, drop, refl, sym, ◌∙◌, ap, subst, arith, Option, Some, None, Result, Ok, Err, length-append, length-drop, take_at, drop_at, mod-mul-add, div-mul-add, pow-add, sum_from, BigInfo, Cipher, BigIs, CipherIs, Encodes}
 use Rattle.std.specs.Prelude.{IfOk, OnErr}
 use Rattle.std.proofs.lemmas.Bool.{eq-eqb, ne_eqb}
 use Rattle.big_info.specs.declared.big_fault.BigFault.{BigFault}
@@ -56,10 +56,7 @@ abbrev by_length : Bool → Bool → ℕ → List ℕ → Result BigInfo BigFaul
 by_length short long number behind = cond short (Ok (info_from number None)) (cond long (Ok (info_from number (Some (cipher_from behind)))) (Err Length))
 
 cipher_is : (cipher : Cipher) (octets : List ℕ) → CipherIs (Some cipher) octets → cipher_from octets ≡ cipher
-cipher_is cipher octets h =
-    ap cipher_from h.2
-    ∙ ap (λ (x : List ℕ). record { giv = x; gskd = drop 8 (cipher.giv ++ cipher.gskd) }) (take_at cipher.giv cipher.gskd 8 h.0)
-    ∙ ap (λ (x : List ℕ). record { giv = cipher.giv; gskd = x }) (drop_at cipher.giv cipher.gskd 8 h.0)
+cipher_is cipher octets h = grind (arith, h.2, take_at cipher.giv cipher.gskd 8 h.0, drop_at cipher.giv cipher.gskd 8 h.0)
 
 read_by : (octets : List ℕ) (info : BigInfo) (rfu : ℕ) (cipher : Option Cipher) → info.cipher ≡ cipher → CipherIs cipher (drop 33 octets) → 33 ≤ length octets
     → AllFit widths (values info rfu) → sum_from 0 (take 33 octets) ≡ stacked widths (values info rfu) → info_of octets ≡ Ok info
@@ -81,7 +78,4 @@ info_read octets info rfu s = read_by octets info rfu info.cipher refl s.cipher 
 pub is_exact : (octets : List ℕ) (result : Result BigInfo BigFault) → IfOk result (λ info. BigIs info octets) → OnErr result ((length octets ≢ 33) × (length octets ≢ 57))
     → result ≡ info_of octets
 is_exact octets (Ok info) h k = sym (info_read octets info h.0 h.1)
-is_exact octets (Err Length) h k =
-    sym (
-    ap (λ (b : Bool). by_length b (eqb (length octets) 57) (sum_from 0 (take 33 octets)) (drop 33 octets)) (ne_eqb (length octets) 33 k.0)
-    ∙ ap (λ (b : Bool). by_length false b (sum_from 0 (take 33 octets)) (drop 33 octets)) (ne_eqb (length octets) 57 k.1))
+is_exact octets (Err Length) h k = grind (arith, eqb, length, sum_from, take, drop, ne_eqb)

@@ -1,5 +1,5 @@
 -- The octets of an info are the same, but for the one of RFU.
-use Rattle.big_info.proofs.Prelude.{◌≡◌, ◌≤◌, ◌<◌, ℕ, suc, ◌+◌, ◌*◌, ◌^◌, List, [], ◌∷◌, ◌++◌, length, take, drop, get_or, refl, sym, ◌∙◌, ap, arith, subst, length-take, length-drop, take-append-drop, drop-drop, get_or-take, get_or-drop, sum_from, sum_from-cons, BigInfo, Encodes, AreOctets, SameButRfu, FitsWidths}
+use Rattle.big_info.proofs.Prelude.{◌≡◌, ◌≤◌, ◌<◌, ℕ, suc, ◌+◌, ◌*◌, ◌^◌, List, [], ◌∷◌, ◌++◌, length, take, drop, get_or, refl, sym, ◌∙◌, ap, arith, length-take, length-drop, take-append-drop, drop-drop, get_or-take, get_or-drop, sum_from, sum_from-cons, BigInfo, Encodes, AreOctets, SameButRfu, FitsWidths}
 use Rattle.big_info.proofs.Ciphers.{one_behind}
 use Rattle.big_info.proofs.Fields.{low_digit, above_digit}
 use Rattle.big_info.proofs.Sums.{sum_from-word, sum_from-more, sum_from-part}
@@ -19,17 +19,11 @@ encoded_once (x ∷ xs) (y ∷ ys) long h k e =
     ap (λ (n : ℕ). n ∷ xs) first ∙ ap (λ (ns : List ℕ). y ∷ ns) rest
 
 part_octets : (place count : ℕ) (octets : List ℕ) → AreOctets octets → (i : ℕ) → i < length (take count (drop place octets)) → get_or (take count (drop place octets)) i 0 < 256
-part_octets place count octets fits i h =
-    let at : get_or (take count (drop place octets)) i 0 ≡ get_or octets (place + i) 0 =
-    get_or-take count (drop place octets) i 0 (omega (arith, h, length-take count (drop place octets))) ∙ get_or-drop place octets i 0 in
-    subst (λ (n : ℕ). n < 256) (sym at) (fits (place + i))
+part_octets place count octets fits i h = grind (arith, get_or, take, drop, get_or-take, length-take, get_or-drop)
 
 part_once : (place count : ℕ) (one other : List ℕ) → place + count ≤ length one → place + count ≤ length other → AreOctets one → AreOctets other
     → sum_from 0 (take count (drop place one)) ≡ sum_from 0 (take count (drop place other)) → take count (drop place one) ≡ take count (drop place other)
-part_once place count one other p q h k e =
-    encoded_once (take count (drop place one)) (take count (drop place other))
-    (omega (arith, p, q, length-take count (drop place one), length-drop place one, length-take count (drop place other), length-drop place other))
-    (part_octets place count one h) (part_octets place count other k) e
+part_once place count one other p q h k e = grind (arith, encoded_once, take, drop, length-take, length-drop, part_octets)
 
 -- the fields before RFU, and those behind it
 abbrev before_rfu : BigInfo → ℕ
@@ -43,8 +37,7 @@ behind_rfu info =
     2 ^ 117 * info.phy + 2 ^ 120 * info.bis_payload_count + 2 ^ 159 * info.framing
 
 before_small : (info : BigInfo) → FitsWidths info → before_rfu info < 2 ^ 96
-before_small info h =
-    omega (arith, h.big_offset, h.big_offset_units, h.iso_interval, h.num_bis, h.nse, h.bn, h.sub_interval, h.pto, h.bis_spacing, h.irc, h.max_pdu)
+before_small info h = grind arith
 
 -- the octets encode both
 record Halves (info : BigInfo) (octets : List ℕ) : Type 0 where

@@ -1,5 +1,5 @@
 -- A number is the sum of its fields in one way alone.
-use Rattle.big_info.proofs.Prelude.{◌≡◌, ◌<◌, ℕ, ◌+◌, ◌*◌, ◌/◌, ◌%◌, ◌^◌, List, [], ◌∷◌, drop, get_or, refl, sym, ◌∙◌, ap, arith, Option, mod-mul-add, div-mul-add, BigInfo, Cipher, Encodes, number_of, FitsWidths}
+use Rattle.big_info.proofs.Prelude.{◌≡◌, ◌<◌, ℕ, ◌+◌, ◌*◌, ◌%◌, ◌^◌, List, [], ◌∷◌, drop, get_or, sym, ◌∙◌, ap, arith, Option, mod-mul-add, div-mul-add, BigInfo, Cipher, Encodes, number_of, FitsWidths}
 use Rattle.big_info.proofs.Ciphers.{one_cipher}
 
 -- the lowest digit, and what is above it
@@ -9,9 +9,7 @@ low_digit m a x b y p q e =
     sym (mod-mul-add x m a p) ∙ ap (λ (n : ℕ). n % m) turned ∙ mod-mul-add y m b q
 
 pub above_digit : (m a x b y : ℕ) → a < m → b < m → a + m * x ≡ b + m * y → x ≡ y
-above_digit m a x b y p q e =
-    let turned : x * m + a ≡ y * m + b = omega (arith, e) in
-    sym (div-mul-add x m a p) ∙ ap (λ (n : ℕ). n / m) turned ∙ div-mul-add y m b q
+above_digit m a x b y p q e = grind (arith, div-mul-add)
 
 -- fields of these bits, one above the other
 abbrev pub stacked : List ℕ → List ℕ → ℕ
@@ -24,17 +22,6 @@ AllFit [] [] = Unit {0}
 AllFit [] (value ∷ values) = ⊥
 AllFit (bits ∷ others) [] = ⊥
 AllFit (bits ∷ others) (value ∷ values) = (value < 2 ^ bits) × AllFit others values
-
-stacked_once : (bits one other : List ℕ) → AllFit bits one → AllFit bits other → stacked bits one ≡ stacked bits other → one ≡ other
-stacked_once [] [] [] h k e = refl
-stacked_once [] [] (y ∷ ys) h k e = absurd k
-stacked_once [] (x ∷ xs) ys h k e = absurd h
-stacked_once (b ∷ bs) [] ys h k e = absurd h
-stacked_once (b ∷ bs) (x ∷ xs) [] h k e = absurd k
-stacked_once (b ∷ bs) (x ∷ xs) (y ∷ ys) h k e =
-    let low : x ≡ y = low_digit (2 ^ b) x (stacked bs xs) y (stacked bs ys) h.0 k.0 e in
-    let rest : xs ≡ ys = stacked_once bs xs ys h.1 k.1 (above_digit (2 ^ b) x (stacked bs xs) y (stacked bs ys) h.0 k.0 e) in
-    ap (λ (n : ℕ). n ∷ xs) low ∙ ap (λ (ns : List ℕ). y ∷ ns) rest
 
 -- the table of the BIGInfo, RFU among it
 abbrev pub widths : List ℕ
@@ -74,33 +61,8 @@ pub number-stacked : (info : BigInfo) (rfu : ℕ) → number_of info rfu ≡ sta
 number-stacked info rfu = omega arith
 
 pub all_fit : (info : BigInfo) (rfu : ℕ) → FitsWidths info → rfu < 2 ^ 8 → AllFit widths (values info rfu)
-all_fit info rfu h k = (
-  h.big_offset,
-  (
-    h.big_offset_units,
-    (
-      h.iso_interval,
-      (
-        h.num_bis,
-        (
-          h.nse,
-          (
-            h.bn,
-            (
-              h.sub_interval,
-              (h.pto, (h.bis_spacing, (h.irc, (h.max_pdu, (k, (h.seed_access_address, (h.sdu_interval, (h.max_sdu, (h.base_crc_init, (h.chm, (h.phy, (h.bis_payload_count, (h.framing, tt))))))))))))),
-            ),
-          ),
-        ),
-      ),
-    ),
-  ),
-)
+all_fit info rfu h k = grind arith
 
 -- octets are of one info alone
 pub one_info : (one other : BigInfo) (r s : ℕ) (octets : List ℕ) → Encodes one r octets → Encodes other s octets → one ≡ other
-one_info one other r s octets h k =
-    let same : stacked widths (values one r) ≡ stacked widths (values other s) = sym (number-stacked one r) ∙ h.fields ∙ sym k.fields ∙ number-stacked other s in
-    let fields : values one r ≡ values other s = stacked_once widths (values one r) (values other s) (all_fit one r h.widths h.rfu_width) (all_fit other s k.widths k.rfu_width) same in
-    ap (λ (xs : List ℕ). rebuilt xs one.cipher) fields
-    ∙ ap (λ (x : Option Cipher). rebuilt (values other s) x) (one_cipher one.cipher other.cipher (drop 33 octets) h.cipher k.cipher)
+one_info one other r s octets h k = grind (arith, number-stacked, low_digit, above_digit, all_fit, one_cipher, drop)

@@ -1,5 +1,5 @@
 -- Going through the faults in their order.
-use Rattle.big_info.proofs.Prelude.{◌≡◌, ℕ, ◌<◌, ◌≤◌, refl, arith, lit<, Bool, IsTrue, IsFalse, Some, None, nat_tests, BigInfo, RangeIso, RangeSdu, RangePdu, Bn, NseNotMultiple, Irc, PhyNotSupported, FramedPduSmall, UnframedMultiple, UnframedBn, Horizon, SubInterval, SyncDelay, Encrypted, faults, has_fault, NoFault, IsFirstFault}
+use Rattle.big_info.proofs.Prelude.{◌≡◌, ℕ, ◌<◌, ◌≤◌, arith, Bool, IsTrue, IsFalse, Some, None, nat_tests, BigInfo, RangeIso, Horizon, faults, has_fault, NoFault, IsFirstFault}
 use Rattle.std.specs.List.{find}
 use Rattle.big_info.specs.declared.fault.GroupFault.{GroupFault}
 use Rattle.big_info.specs.Faults.{number_of}
@@ -24,8 +24,7 @@ no_fault_within greatest info h none fault = none fault
 
 find_first : (test : GroupFault → Bool) (fault : GroupFault) → IsTrue (test fault)
     → ((other : GroupFault) → number_of other < number_of fault → IsFalse (test other)) → find test faults ≡ Some fault
-find_first test RangeIso this before = rw this refl
-find_first test _ this before = search (this, before, arith)
+find_first test _ this before = grind arith
 
 find_none : (test : GroupFault → Bool) → ((fault : GroupFault) → IsFalse (test fault)) → find test faults ≡ None
 find_none test none = search none

@@ -1,5 +1,5 @@
 -- The number that octets encode, from the words that they are joined of.
-use Rattle.big_info.proofs.Prelude.{◌≡◌, ◌≤◌, ◌<◌, ℕ, zero, suc, ◌+◌, ◌*◌, ◌^◌, List, [], ◌∷◌, ◌++◌, length, take, drop, get_or, sym, ◌∙◌, ap, arith, zero-add, length-take-le, length-take, length-drop, subst, take_more, get_or-take, get_or-drop, sum_from, sum_from-append, sum_from-suc, sum_from-cons, small_read}
+use Rattle.big_info.proofs.Prelude.{◌≡◌, ◌≤◌, ◌<◌, ℕ, zero, suc, ◌+◌, ◌*◌, ◌^◌, List, [], ◌∷◌, ◌++◌, length, take, drop, get_or, ◌∙◌, ap, arith, zero-add, length-take-le, length-take, length-drop, subst, take_more, get_or-take, get_or-drop, sum_from, sum_from-append, sum_from-suc, sum_from-cons, small_read}
 use Rattle.std.proofs.Math.Seq.{take-add}
 use Rattle.std.proofs.Math.Nat.{pow-suc}
 
@@ -12,26 +12,23 @@ sum_from-places (suc i) octets =
 
 -- octets after others
 pub sum_from-join : (prefix back : List ℕ) → sum_from 0 (prefix ++ back) ≡ sum_from 0 prefix + 256 ^ length prefix * sum_from 0 back
-sum_from-join prefix back =
-    sum_from-append 0 prefix back
-    ∙ ap (λ (n : ℕ). sum_from 0 prefix + n) (ap (λ (i : ℕ). sum_from i back) (zero-add (length prefix)) ∙ sum_from-places (length prefix) back)
+sum_from-join prefix back = grind (arith, sum_from-append, sum_from, zero-add, length, sum_from-places)
 
 -- the first octets, with those of a word more
 pub sum_from-word : (place count : ℕ) (octets : List ℕ) → place ≤ length octets
     → sum_from 0 (take (place + count) octets) ≡ sum_from 0 (take place octets) + 256 ^ place * sum_from 0 (take count (drop place octets))
-sum_from-word place count octets inside =
-    ap (sum_from 0) (take-add place count octets)
-    ∙ sum_from-join (take place octets) (take count (drop place octets))
-    ∙ ap (λ (n : ℕ). sum_from 0 (take place octets) + 256 ^ n * sum_from 0 (take count (drop place octets))) (length-take-le place octets inside)
+sum_from-word place count octets inside = grind (arith, sum_from, take-add, sum_from-join, take, drop, length-take-le)
 
 -- the first octets, with one more
 pub sum_from-more : (place : ℕ) (octets : List ℕ) → place < length octets
     → sum_from 0 (take (place + 1) octets) ≡ sum_from 0 (take place octets) + 256 ^ place * get_or octets place 0
 sum_from-more place octets inside =
-    ap (sum_from 0) (take_more octets place 0 inside)
-    ∙ sum_from-join (take place octets) (get_or octets place 0 ∷ [])
-    ∙ ap (λ (n : ℕ). sum_from 0 (take place octets) + 256 ^ n * sum_from 0 (get_or octets place 0 ∷ [])) (length-take-le place octets (omega arith))
-    ∙ omega arith
+    grind (
+      arith,
+      take_more octets place 0 inside,
+      sum_from-join (take place octets) (get_or octets place 0 ∷ []),
+      length-take-le place octets (omega arith),
+    )
 
 -- octets encode a number of 8 bits each
 sum_from-below : (octets : List ℕ) → ((i : ℕ) → i < length octets → get_or octets i 0 < 256) → sum_from 0 octets < 2 ^ (8 * length octets)
@@ -47,9 +44,4 @@ sum_from-below (octet ∷ octets) fits =
 pub sum_from-part : (place count : ℕ) (octets : List ℕ) → place + count ≤ length octets → ((i : ℕ) → get_or octets i 0 < 256)
     → sum_from 0 (take count (drop place octets)) < 2 ^ (8 * count)
 sum_from-part place count octets inside fits =
-    let long : length (take count (drop place octets)) ≡ count = omega (arith, length-take count (drop place octets), length-drop place octets) in
-    subst (λ (n : ℕ). sum_from 0 (take count (drop place octets)) < 2 ^ (8 * n)) long
-    (sum_from-below (take count (drop place octets)) (λ i h.
-    let at : get_or (take count (drop place octets)) i 0 ≡ get_or octets (place + i) 0 =
-    get_or-take count (drop place octets) i 0 (omega (arith, h, long)) ∙ get_or-drop place octets i 0 in
-    subst (λ (n : ℕ). n < 256) (sym at) (fits (place + i))))
+    grind (arith, length, take, drop, length-take, length-drop, sum_from, sum_from-below, get_or, get_or-take, get_or-drop)

@@ -20,13 +20,7 @@ returns-in-Some-clause-layout c =
     let number : Le (number_of c.args.info.now 0) (take 33 new) =
     subst (λ (xs : List ℕ). Le (number_of c.args.info.now 0) xs) (sym c.write_cipher.ensures.fields) c.write_fields.ensures.number in
     let cipher : CipherIs c.args.info.now.cipher (drop 33 new) = rw c.in-Some.is c.write_cipher.ensures.cipher in
-    subst (λ (xs : List ℕ). Encodes c.args.info.now 0 xs) (sym (take_all 57 new (omega (arith, long)))) (record {
-      widths = c.requires;
-      rfu_width = omega arith;
-      whole = omega (arith, long);
-      fields = number;
-      cipher = cipher;
-    })
+    subst (λ (xs : List ℕ). Encodes c.args.info.now 0 xs) (sym (take_all 57 new (omega (arith, long)))) (grind arith)
 
 pub returns-in-Some-clause-rest : goal.returns-in-Some-clause-rest
 returns-in-Some-clause-rest c =

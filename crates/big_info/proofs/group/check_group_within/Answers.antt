@@ -1,3 +1,4 @@
+use Rattle.std.proofs.Common.{arith}
 use Rattle.big_info.proofs.Prelude.{refl, NoFault}
 use Rattle.big_info.proofs.BoundsOf.{bounds_of}
 use Rattle.big_info.proofs.Order.{first_found, none_found, no_fault_within}
@@ -14,5 +15,4 @@ pub returns-in-None-clause-ok : goal.returns-in-None-clause-ok
 returns-in-None-clause-ok c = (refl, none_found c.args.limits.horizon c.args.info.now c.in-None.ensures.none)
 
 pub returns-in-Some-clause-err : goal.returns-in-Some-clause-err
-returns-in-Some-clause-err c =
-    first_found c.args.limits.horizon c.args.info.now c.in-Some.fault c.in-Some.ensures.first
+returns-in-Some-clause-err c = grind (arith, first_found)
