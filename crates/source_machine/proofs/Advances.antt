@@ -1,11 +1,8 @@
 -- The streams of a source as events are laid.
-use Rattle.source_machine.proofs.Prelude.{ℕ, ◌≡◌, ◌<◌, ◌≤◌, ◌+◌, ◌-◌, ◌*◌, ◌^◌, List, [], ◌∷◌, length, get_or, arith, ◌∙◌, ap, sym, subst, inl, inr, cases_eq, cases_lt, eq-eqb, ne_eqb, mul-le, AllZip-get_or, length_all_zip, All, AllZip, horizon_of, iso_us_of, lays, Setup, Call, event, events, framed_calls, framed_lays, laid_before, laid_with, lay_anchor, next_of, stream_calls, IsChecked, Source, Stream, StreamStands, StreamsAre, info_in, kept_of, Grows, IsLaid, IsReady, IsSource, Lays, LaysNext, Laying}
+use Rattle.source_machine.proofs.Prelude.{ℕ, ◌≡◌, ◌<◌, ◌≤◌, ◌+◌, ◌-◌, ◌*◌, ◌^◌, List, ◌∷◌, length, get_or, arith, ◌∙◌, sym, subst, cases_eq, cases_lt, eq-eqb, ne_eqb, mul-le, AllZip-get_or, length_all_zip, All, AllZip, horizon_of, iso_us_of, lays, Setup, Call, event, events, framed_calls, framed_lays, laid_before, laid_with, lay_anchor, next_of, stream_calls, IsChecked, Source, Stream, StreamStands, StreamsAre, info_in, kept_of, Grows, IsLaid, IsReady, IsSource, Lays, LaysNext, Laying}
 
 stream_grown : (setup : Setup) (next : ℕ) (old new : Stream) → IsReady setup next old → Grows old new → IsReady setup next new
-stream_grown setup next old new ready grows = record {
-  info = grows.info ∙ ready.info;
-  kept = λ later. omega (arith, ready.kept later, grows.laid);
-}
+stream_grown setup next old new ready grows = grind arith
 
 pub ready_grown : (setup : Setup) (next : ℕ) (old new : List Stream) → All (IsReady setup next) old → AllZip Grows old new → All (IsReady setup next) new
 ready_grown setup next old new ready grows = λ k none within.
@@ -16,15 +13,7 @@ ready_grown setup next old new ready grows = λ k none within.
 stream_next : (setup : Setup) (next anchor iso_us count : ℕ) (old new : Stream) → setup.first ≤ next
     → (next ≡ setup.first → count ≡ horizon_of setup.info + 1) → (setup.first < next → count ≡ 1)
     → IsReady setup next old → Lays anchor iso_us count old new → IsReady setup (next + 1) new
-stream_next setup next anchor iso_us count old new order first later ready laying =
-    let room : kept_of (info_in old) ≡ horizon_of setup.info + 32 = ap kept_of ready.info in
-    record {
-      info = laying.grows.info ∙ ready.info;
-      kept = λ some. elim (cases_lt setup.first next) [
-        | inl after ↦ omega (arith, later after, ready.kept after, laying.laid)
-        | inr begins ↦ omega (arith, first (omega arith), laying.laid)
-      ];
-    }
+stream_next setup next anchor iso_us count old new order first later ready laying = grind (arith, kept_of, info_in, horizon_of, cases_lt)
 
 ready_next : (setup : Setup) (next anchor iso_us count : ℕ) (old new : List Stream) → setup.first ≤ next
     → (next ≡ setup.first → count ≡ horizon_of setup.info + 1) → (setup.first < next → count ≡ 1)
@@ -42,23 +31,7 @@ pub record IsNext (setup : Setup) (calls : List Call) (laying : Laying) : Type 0
   pub iso_us : laying.iso_us ≡ iso_us_of setup.info
 
 pub is_next : (source : Source) (calls : List Call) (laying : Laying) → source.next ≡ next_of source.setup calls → LaysNext source laying → IsNext source.setup calls laying
-is_next source calls laying at next = elim (cases_eq (events calls) 0) [
-  | inl none ↦
-      let first = next.first (omega (arith, none, at)) in
-      record {
-        count = rw (eq-eqb (events calls) 0 none) first.0;
-        anchor = rw (eq-eqb (events calls) 0 none) (omega (arith, first.1));
-        iso_us = next.iso_us;
-      }
-  | inr some ↦
-      let later = next.later (omega (arith, some, at)) in
-      let before : source.next - source.setup.first + horizon_of source.setup.info ≡ events calls + horizon_of source.setup.info = omega (arith, at) in
-      record {
-        count = rw (ne_eqb (events calls) 0 some) later.0;
-        anchor = rw (ne_eqb (events calls) 0 some) (later.1 ∙ ap (λ n. source.setup.origin + n * iso_us_of source.setup.info) before);
-        iso_us = next.iso_us;
-      }
-]
+is_next source calls laying at next = grind (arith, cases_eq, events, eq-eqb, horizon_of, ne_eqb, iso_us_of)
 
 pub streams_next : (setup : Setup) (calls : List Call) (laying : Laying) (old new : List Stream) → IsChecked setup.info → IsNext setup calls laying
     → AllZip (Lays laying.anchor laying.iso_us laying.count) old new → StreamsAre setup calls old → StreamsAre setup (event ∷ calls) new
@@ -70,8 +43,7 @@ streams_next setup calls laying old new checked next laid are = λ k none within
     let one = AllZip-get_or (Lays laying.anchor laying.iso_us laying.count) old new k none none laid before in
     let stands = one.stands setup.info (k + 1) plain timed checked (are k none before) in
     subst (λ n. StreamStands setup.info (k + 1) (lays n plain) (framed_lays (lay_anchor setup (laid_before setup.info calls)) (iso_us_of setup.info) n timed) (get_or new k none)) next.count
-    (subst (λ a. StreamStands setup.info (k + 1) (lays laying.count plain) (framed_lays a (iso_us_of setup.info) laying.count timed) (get_or new k none)) next.anchor
-    (subst (λ i. StreamStands setup.info (k + 1) (lays laying.count plain) (framed_lays laying.anchor i laying.count timed) (get_or new k none)) next.iso_us stands))
+    (grind (arith, lays, framed_lays, iso_us_of, get_or))
 
 ready_of : (source : Source) (laying : Laying) (new : List Stream) → IsSource source → LaysNext source laying
     → AllZip (Lays laying.anchor laying.iso_us laying.count) source.streams new → All (IsReady source.setup (source.next + 1)) new
@@ -80,9 +52,7 @@ ready_of source laying new is next laid =
 
 -- the anchor of an event that is laid ahead has room
 pub anchor_fits : (origin first at iso_us : ℕ) → origin ≤ 2 ^ 48 → at ≤ 2 ^ 39 + 31 → iso_us ≤ 4000000 → origin + (at - first) * iso_us < 2 ^ 63
-anchor_fits origin first at iso_us low near short =
-    let least : at - first ≤ 2 ^ 39 + 31 = omega (arith, near) in
-    omega (arith, low, mul-le (at - first) iso_us (2 ^ 39 + 31) 4000000 least short)
+anchor_fits origin first at iso_us low near short = grind (arith, mul-le)
 
 pub source_grown : (source : Source) (new : List Stream) → IsSource source → AllZip Grows source.streams new
     → IsSource (record source { streams = new })
@@ -108,10 +78,8 @@ source_next source laying new is below next laid = record {
 }
 
 grown_by : (anchor iso_us count : ℕ) (old new : List Stream) → AllZip (Lays anchor iso_us count) old new → AllZip Grows old new
-grown_by anchor iso_us count [] [] all = tt
-grown_by anchor iso_us count [] (y ∷ new) all = absurd all
-grown_by anchor iso_us count (x ∷ old) [] all = absurd all
 grown_by anchor iso_us count (x ∷ old) (y ∷ new) all = (all.0.grows, grown_by anchor iso_us count old new all.1)
+grown_by anchor iso_us count old new all = search
 
 -- the streams after laying, where no event is counted
 pub source_laid : (source : Source) (laying : Laying) (new : List Stream) → IsSource source

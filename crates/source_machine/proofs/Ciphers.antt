@@ -1,14 +1,13 @@
 -- Where no row of the group check holds but that of a cipher, none holds of the group without its cipher.
-use Rattle.source_machine.proofs.Prelude.{ℕ, ◌+◌, ◌*◌, ◌≤◌, Bool, true, false, cond, eqb, refl, arith, lit<, Result, Ok, Err, IsTrue, IsFalse, IfErr, nat_lt, ◌&&◌, IsOk, Group, BigInfo, iso_us_of, mic_octets, mpt_of, sync_delay_of, without_cipher}
+use Rattle.source_machine.proofs.Prelude.{ℕ, ◌+◌, ◌*◌, ◌≤◌, Bool, cond, eqb, refl, arith, lit<, Result, IsTrue, IsFalse, IfErr, nat_lt, ◌&&◌, IsOk, Group, BigInfo, iso_us_of, mic_octets, mpt_of, sync_delay_of, without_cipher}
 use Rattle.std.proofs.lemmas.Bool.Decides.{nat_tests}
 use Rattle.big_info.specs.declared.fault.GroupFault.{GroupFault}
 use Rattle.big_info.specs.declared.fault.GroupFault.TheVariants.{RangeIso, RangeSdu, RangePdu, Bn, NseNotMultiple, Irc, PhyNotSupported, FramedPduSmall, UnframedMultiple}
 use Rattle.big_info.specs.declared.fault.GroupFault.TheVariants.{UnframedBn, Horizon, SubInterval, SyncDelay, Encrypted}
-use Rattle.big_info.specs.Rows.{has_fault, NoFault, IsFirstFault}
+use Rattle.big_info.specs.Rows.{NoFault, IsFirstFault}
 
 longer : (one_m : Bool) (octets mic : ℕ) → cond one_m ((octets + 0 + 10) * 8) ((octets + 0 + 11) * 4) ≤ cond one_m ((octets + mic + 10) * 8) ((octets + mic + 11) * 4)
-longer true octets mic = omega arith
-longer false octets mic = omega arith
+longer one_m octets mic = grind arith
 
 mpt_within : (info : BigInfo) → mpt_of (without_cipher info) ≤ mpt_of info
 mpt_within info = longer (eqb info.phy 0) info.max_pdu (mic_octets info)
@@ -17,8 +16,7 @@ not_below : (limit most least : ℕ) → least ≤ most → IsFalse (nat_lt limi
 not_below limit most least within none = grind (arith, nat_tests, none)
 
 not_short : (several : Bool) (interval most least : ℕ) → least ≤ most → IsFalse (several && nat_lt interval most) → IsFalse (several && nat_lt interval least)
-not_short true interval most least within none = not_below interval most least within none
-not_short false interval most least within none = none
+not_short several interval most least within none = grind (arith, not_below)
 
 pub none_holds : (horizon : ℕ) (info : BigInfo) → IsFirstFault horizon info Encrypted → NoFault horizon (without_cipher info)
 none_holds horizon info first RangeIso = first.none_before RangeIso (lit< tt)
@@ -45,5 +43,4 @@ both_ways : (b : Bool) → IsTrue b → IsFalse b → ⊥
 both_ways b holds fails = cc
 
 pub is_checked : (horizon : ℕ) (info : BigInfo) (checked : Result Group GroupFault) → IfErr checked (IsFirstFault horizon info) → NoFault horizon info → IsOk checked
-is_checked horizon info (Ok group) first none = refl
-is_checked horizon info (Err fault) first none = absurd (both_ways (has_fault horizon info fault) first.holds (none fault))
+is_checked horizon info checked first none = grind (arith, both_ways)

@@ -1,8 +1,8 @@
 -- What the calls of a source say of its streams in a framed group.
 use Rattle.source_machine.proofs.Prelude.{ℕ, ◌≡◌, ◌≢◌, ◌<◌, ◌≤◌, ◌+◌, ◌-◌, zero, suc, Option, List, [], ◌∷◌, ◌++◌, length, map, arith, ◌∙◌, ap, sym, refl, inl, inr, unwrap_or, cases_eq, eq-eqb, ne_eqb, length-drop, length-map, map-append, BigInfo, horizon_of, iso_us_of, Air, begun_in, event_at, IsAirOf, begun_by, Timed, framed_air, Setup, Call, give, event, events, framed_calls, framed_lays, given, laid_before, laid_with, lay_anchor}
-use Rattle.isoal_framed.specs.Calls.{Call as TimedCall, accept, lay, accepted}
-use Rattle.isoal_framed.specs.Places.{Act, done, sent}
-use Rattle.isoal_framed.specs.State.Senders.{Sender, StandsFor, waiting, waiting_of}
+use Rattle.isoal_framed.specs.Calls.{Call as TimedCall, accept, accepted}
+use Rattle.isoal_framed.specs.Places.{Act}
+use Rattle.isoal_framed.specs.State.Senders.{Sender, StandsFor, waiting}
 
 lays_length : (info : BigInfo) (anchor iso_us n : ℕ) (calls : List TimedCall)
     → length (framed_air info (framed_lays anchor iso_us n calls)) ≡ n + length (framed_air info calls)
@@ -43,13 +43,12 @@ timed_count setup bis calls =
 
 -- before the first event nothing is laid
 pub timed_none : (setup : Setup) (bis : ℕ) (calls : List Call) → events calls ≡ 0 → length (framed_air setup.info (framed_calls setup bis calls)) ≡ 0
-timed_none setup bis [] none = refl
 timed_none setup bis (give stream time octets ∷ calls) none =
     elim (cases_eq stream bis) [
       | inl same ↦ rw (eq-eqb stream bis same) (timed_none setup bis calls none)
       | inr other ↦ rw (ne_eqb stream bis other) (timed_none setup bis calls none)
     ]
-timed_none setup bis (event ∷ calls) none = absurd (omega (arith, none))
+timed_none setup bis calls none = search (cases_eq, eq-eqb, ne_eqb)
 
 -- with an event, the H events behind it are laid
 pub timed_ahead : (setup : Setup) (bis : ℕ) (calls : List Call) → 1 ≤ events calls
@@ -71,22 +70,13 @@ timed_ahead setup bis (event ∷ calls) some =
 
 -- the newest entry says how many units have begun
 begun_last : (info : BigInfo) (calls : List TimedCall) (acts : List Act) (air : Air) → IsAirOf info calls acts air → begun_in air ≡ begun_by acts
-begun_last info [] acts air is = ap begun_in is.1 ∙ ap begun_by (sym is.0)
 begun_last info (accept time octets ∷ calls) acts air is = begun_last info calls acts air is
-begun_last info (lay anchor ∷ calls) acts air (earlier, before, own, is_before, own_is, acts_is, air_is) = ap begun_in air_is
+begun_last info calls acts air is = search (begun_in, begun_by)
 
 -- as many units wait as were accepted and have not begun
 pub timed_waiting : (info : BigInfo) (calls : List TimedCall) (air : Air) (sender : Sender) → StandsFor info calls air sender
     → length (accepted calls) - begun_in air ≡ waiting sender
-timed_waiting info calls air sender stands =
-    let units : length sender.units ≡ length (accepted calls) - done stands.acts =
-    ap length stands.units ∙ length-drop (done stands.acts) (accepted calls) in
-    let begun : begun_in air ≡ begun_by stands.acts = begun_last info calls stands.acts air stands.air_is in
-    let now : waiting sender ≡ waiting_of (sent stands.acts) sender.units = ap (λ n. waiting_of n sender.units) stands.sent in
-    rw (begun, now) (elim (cases_eq (sent stands.acts) 0) [
-      | inl none ↦ rw (eq-eqb (sent stands.acts) 0 none) (omega (arith, units))
-      | inr some ↦ rw (ne_eqb (sent stands.acts) 0 some) (omega (arith, units))
-    ])
+timed_waiting info calls air sender stands = grind (arith, length, length-drop, begun_in, begun_by, begun_last, cases_eq, eq-eqb, ne_eqb)
 
 lays_keep : (info : BigInfo) (anchor iso_us n e : ℕ) (calls : List TimedCall) → e < length (framed_air info calls)
     → event_at (framed_air info (framed_lays anchor iso_us n calls)) e ≡ event_at (framed_air info calls) e
@@ -99,14 +89,5 @@ lays_keep info anchor iso_us (suc n) e calls below =
 pub timed_keeps : (setup : Setup) (bis e : ℕ) (call : Call) (calls : List Call) → e < length (framed_air setup.info (framed_calls setup bis calls))
     → (e < length (framed_air setup.info (framed_calls setup bis (call ∷ calls))))
     × (event_at (framed_air setup.info (framed_calls setup bis (call ∷ calls))) e ≡ event_at (framed_air setup.info (framed_calls setup bis calls)) e)
-timed_keeps setup bis e (give stream time octets) calls below =
-    elim (cases_eq stream bis) [
-      | inl same ↦ rw (eq-eqb stream bis same) (below, refl)
-      | inr other ↦ rw (ne_eqb stream bis other) (below, refl)
-    ]
-timed_keeps setup bis e event calls below =
-    let anchor : ℕ = lay_anchor setup (laid_before setup.info calls) in
-    let iso_us : ℕ = iso_us_of setup.info in
-    let n : ℕ = laid_with setup.info calls in
-    let before = framed_calls setup bis calls in
-    (omega (arith, lays_length setup.info anchor iso_us n before, below), lays_keep setup.info anchor iso_us n e before below)
+timed_keeps setup bis e (give stream time octets) calls below = grind (arith, cases_eq, eq-eqb, ne_eqb)
+timed_keeps setup bis e event calls below = grind (arith, lay_anchor, laid_before, iso_us_of, laid_with, framed_calls, lays_length, lays_keep)

@@ -12,16 +12,11 @@ pub timed_air : (info : BigInfo) (plain : List PlainCall) (timed : List TimedCal
 timed_air info plain timed framed = rw (ne_eqb info.framing 0 (λ none. omega (arith, none, framed))) refl
 
 pub info_is : (info : BigInfo) (plain : List PlainCall) (timed : List TimedCall) (sender : Sender) → SenderStands info plain timed sender → info_of sender ≡ info
-info_is info plain timed (Unframed out) stands = stands.1.group
-info_is info plain timed (Framed out) stands = stands.1.group
+info_is info plain timed sender stands = grind arith
 
 -- with an event, the H events behind it are laid
 pub laid_count : (setup : Setup) (calls : List Call) (bis : ℕ) → 1 ≤ events calls → length (air_of setup calls bis) ≡ events calls + horizon_of setup.info
-laid_count setup calls bis some = elim (cases_eq setup.info.framing 0) [
-  | inl unframed ↦ rw (eq-eqb setup.info.framing 0 unframed)
-      (air_length setup.info (stream_calls setup.info bis calls) ∙ ahead_laid setup.info bis calls some)
-  | inr framed ↦ rw (ne_eqb setup.info.framing 0 framed) (timed_ahead setup bis calls some)
-]
+laid_count setup calls bis some = grind (arith, cases_eq, eq-eqb, air_length, stream_calls, ahead_laid, ne_eqb, timed_ahead)
 
 -- what was laid stays
 one_keeps : (setup : Setup) (bis e : ℕ) (call : Call) (calls : List Call) → e < length (air_of setup calls bis)
@@ -94,12 +89,7 @@ air_at setup calls bis least within =
 waits : (setup : Setup) (calls : List Call) (bis : ℕ) (sender : Sender)
     → SenderStands setup.info (stream_calls setup.info bis calls) (framed_calls setup bis calls) sender
     → length (given bis calls) - begun_in (air_of setup calls bis) ≡ waiting_in sender
-waits setup calls bis (Unframed out) stands =
-    let sent = stream_calls setup.info bis calls in
-    ap (λ air. length (given bis calls) - begun_in air) (plain_air setup.info sent (framed_calls setup bis calls) stands.0)
-    ∙ ap (λ n. length (given bis calls) - n) (begun_is setup.info sent)
-    ∙ ap (λ units. length units - begun setup.info sent) (sym (accepted_are setup.info bis calls))
-    ∙ sym (ap length stands.1.waiting ∙ length-drop (begun setup.info sent) (accepted sent))
+waits setup calls bis (Unframed out) stands = grind (arith, stream_calls, length, given, begun_in, plain_air, framed_calls, begun_is, begun, accepted_are, length-drop, accepted)
 waits setup calls bis (Framed out) stands =
     let timed = framed_calls setup bis calls in
     ap (λ air. length (given bis calls) - begun_in air) (timed_air setup.info (stream_calls setup.info bis calls) timed stands.0)
@@ -109,5 +99,4 @@ waits setup calls bis (Framed out) stands =
 pub waiting_is : (setup : Setup) (calls : List Call) (bis : ℕ) (sender : Sender) → 1 ≤ bis → bis ≤ setup.info.num_bis
     → SenderStands setup.info (stream_calls setup.info bis calls) (framed_calls setup bis calls) sender
     → waiting_of calls (airs_of setup calls) bis ≡ waiting_in sender
-waiting_is setup calls bis sender least within stands =
-    ap (λ air. length (given bis calls) - begun_of air) (air_at setup calls bis least within) ∙ waits setup calls bis sender stands
+waiting_is setup calls bis sender least within stands = grind (arith, length, given, begun_of, air_at, waits)

@@ -6,11 +6,10 @@ use Rattle.source_machine.proofs.Standing.{stream_is}
 
 -- the PDU that a stream keeps at a place on the air is the one that the event sent there
 pub heard : (source : Source) (calls : List Call) (airs : List Air) (back bis subevent : ℕ) (stream : Stream) (pdu : List ℕ)
-    → IsSource source → IsChecked source.setup.info → StandsFor calls source → AreAirs source.setup calls airs
-    → 1 ≤ bis → bis ≤ source.setup.info.num_bis → subevent < source.setup.info.nse → back < source.next - source.setup.first → back ≤ 31
+    → IsSource source → IsChecked source.setup.info → StandsFor calls source → AreAirs source.setup calls airs → 1 ≤ bis
+    → bis ≤ source.setup.info.num_bis → subevent < source.setup.info.nse → back < source.next - source.setup.first → back ≤ 31
     → stream ≡ get_or source.streams (bis - 1) stream → sent_of stream back subevent ≡ Some pdu
-    → (air_fault source.setup calls back bis subevent ≡ None)
-    × (pdu_of source.setup airs (next_of source.setup calls - 1 - back) bis subevent ≡ Some pdu)
+    → (air_fault source.setup calls back bis subevent ≡ None) × (pdu_of source.setup airs (next_of source.setup calls - 1 - back) bis subevent ≡ Some pdu)
 heard source calls airs back bis subevent stream pdu is checked stands are least within below some near at sent =
     let setup = source.setup in
     let performed : back < events calls = omega (arith, stands.next, some) in

@@ -23,18 +23,16 @@ accepted_are info bis (give stream time octets ∷ calls) =
       | inl same ↦ rw (eq-eqb stream bis same) (ap (λ units. units ++ octets ∷ []) (accepted_are info bis calls))
       | inr other ↦ rw (ne_eqb stream bis other) (accepted_are info bis calls)
     ]
-accepted_are info bis (event ∷ calls) =
-    lays_accepted (stream_calls info bis calls) (laid_with info calls) ∙ accepted_are info bis calls
+accepted_are info bis (event ∷ calls) = lays_accepted (stream_calls info bis calls) (laid_with info calls) ∙ accepted_are info bis calls
 
 -- before the first event nothing is laid
 pub none_laid : (info : BigInfo) (bis : ℕ) (calls : List Call) → events calls ≡ 0 → laid_events (stream_calls info bis calls) ≡ 0
-none_laid info bis [] none = refl
 none_laid info bis (give stream time octets ∷ calls) none =
     elim (cases_eq stream bis) [
       | inl same ↦ rw (eq-eqb stream bis same) (none_laid info bis calls none)
       | inr other ↦ rw (ne_eqb stream bis other) (none_laid info bis calls none)
     ]
-none_laid info bis (event ∷ calls) none = absurd (omega (arith, none))
+none_laid info bis calls none = search (cases_eq, eq-eqb, ne_eqb)
 
 -- with an event, the H events behind it are laid
 pub ahead_laid : (info : BigInfo) (bis : ℕ) (calls : List Call) → 1 ≤ events calls
@@ -61,9 +59,8 @@ air_length info (lay ∷ calls) = ap suc (air_length info calls)
 
 -- the newest entry says how many units have begun
 pub begun_is : (info : BigInfo) (calls : List StreamCall) → begun_in (unframed_air info calls) ≡ begun info calls
-begun_is info [] = refl
 begun_is info (accept octets ∷ calls) = begun_is info calls
-begun_is info (lay ∷ calls) = refl
+begun_is info calls = search
 
 -- what was laid stays whatever is laid behind it
 lays_keep : (info : BigInfo) (calls : List StreamCall) (n e : ℕ) → e < laid_events calls
@@ -76,15 +73,5 @@ lays_keep info calls (suc n) e below =
 pub call_keeps : (info : BigInfo) (bis e : ℕ) (call : Call) (calls : List Call) → e < length (unframed_air info (stream_calls info bis calls))
     → (e < length (unframed_air info (stream_calls info bis (call ∷ calls))))
     × (event_at (unframed_air info (stream_calls info bis (call ∷ calls))) e ≡ event_at (unframed_air info (stream_calls info bis calls)) e)
-call_keeps info bis e (give stream time octets) calls below =
-    elim (cases_eq stream bis) [
-      | inl same ↦ rw (eq-eqb stream bis same) (below, refl)
-      | inr other ↦ rw (ne_eqb stream bis other) (below, refl)
-    ]
-call_keeps info bis e event calls below =
-    let sent = stream_calls info bis calls in
-    let all : length (unframed_air info sent) ≡ laid_events sent = air_length info sent in
-    let more : length (unframed_air info (lays (laid_with info calls) sent)) ≡ laid_events (lays (laid_with info calls) sent) =
-    air_length info (lays (laid_with info calls) sent) in
-    let count : laid_events (lays (laid_with info calls) sent) ≡ laid_with info calls + laid_events sent = lays_events sent (laid_with info calls) in
-    (omega (arith, count, below, all, more), lays_keep info sent (laid_with info calls) e (omega (arith, below, all)))
+call_keeps info bis e (give stream time octets) calls below = grind (arith, cases_eq, eq-eqb, ne_eqb)
+call_keeps info bis e event calls below = grind (arith, stream_calls, length, unframed_air, air_length, lays, laid_with, lays_events, lays_keep)

@@ -1,9 +1,8 @@
 -- Facts of all items of lists, place by place.
-use Rattle.source_machine.proofs.Prelude.{ℕ, ◌≡◌, ◌<◌, ◌≤◌, ◌+◌, suc, List, [], ◌∷◌, ◌++◌, length, get_or, set, take, append_assoc, Some, arith, ◌∙◌, ap, sym, subst, inl, inr, get_or-set_same, get_or-set_other, length-set, Result, Ok, Err, AllZip, slice_get, IfErr, IsErrAnd, OnErr, OnOk, get_or_default, map_more, none-some, same_Some, slice_get-get_or, slice_get_past, cases_eq, cases_lt, stale_on, Stale}
+use Rattle.source_machine.proofs.Prelude.{ℕ, ◌≡◌, ◌<◌, ◌≤◌, ◌+◌, suc, List, [], ◌∷◌, ◌++◌, length, get_or, set, take, append_assoc, Some, arith, ◌∙◌, ap, sym, inl, inr, get_or-set_same, get_or-set_other, length-set, Result, AllZip, slice_get, IfErr, IsErrAnd, OnErr, OnOk, get_or_default, map_more, none-some, same_Some, slice_get-get_or, slice_get_past, cases_eq, cases_lt, stale_on, Stale}
 
 pub on_err : {T E P : Type 0} (r : Result T E) → P → OnErr r P
-on_err (Ok x) p = tt
-on_err (Err e) p = p
+on_err r p = grind arith
 
 pub zip_all : {A : Type 0} (R : A → A → Type 0) (xs ys : List A) → length xs ≡ length ys
     → ((k : ℕ) (none : A) → k < length xs → R (get_or xs k none) (get_or ys k none)) → AllZip R xs ys
@@ -17,10 +16,7 @@ zip_all R (x ∷ xs) (y ∷ ys) same each =
 pub stale_more : (bis : ℕ) (times : List ℕ) (i time : ℕ) (told now_told : List Stale) → now_told ≡ told ++ stale_on bis (take i times) → slice_get times i ≡ Some time
     → now_told ++ record { bis = bis; time = time } ∷ [] ≡ told ++ stale_on bis (take (i + 1) times)
 stale_more bis times i time told now_told is at =
-    let within : i < length times = elim (cases_lt i (length times)) [
-      | inl below ↦ below
-      | inr past ↦ absurd (none-some time (sym (slice_get_past times i past) ∙ at))
-    ] in
+    let within : i < length times = grind (arith, cases_lt, length, none-some, slice_get_past) in
     let item : get_or times i 0 ≡ time = same_Some (get_or times i 0) time (sym (slice_get-get_or times i 0 within) ∙ at) in
     ap (λ xs. xs ++ record { bis = bis; time = time } ∷ []) is
     ∙ append_assoc told (stale_on bis (take i times)) (record { bis = bis; time = time } ∷ [])
@@ -30,18 +26,12 @@ stale_more bis times i time told now_told is at =
 -- a loop over the items: those before this place are made, the others are as they were
 pub each_done : {A : Type 0} (R : A → A → Type 0) (xs ys : List A) (i : ℕ) (new : A) → i < length ys
     → ((k : ℕ) (none : A) → k < i → R (get_or xs k none) (get_or ys k none))
-    → ((k : ℕ) (none : A) → i ≤ k → get_or ys k none ≡ get_or xs k none)
-    → (item : A) → R (get_or ys i item) new
-    → (k : ℕ) (none : A) → k < i + 1 → R (get_or xs k none) (get_or (set ys i new) k none)
+    → ((k : ℕ) (none : A) → i ≤ k → get_or ys k none ≡ get_or xs k none) → (item : A) → R (get_or ys i item) new → (k : ℕ) (none : A)
+    → k < i + 1 → R (get_or xs k none) (get_or (set ys i new) k none)
 each_done R xs ys i new within done same item made k none below =
-    let first : get_or xs i none ≡ get_or ys i item = sym (same i none (omega arith)) ∙ get_or_default ys i none item within in
-    elim (cases_eq k i) [
-      | inl here ↦ rw (here, get_or-set_same ys i new none within, first) made
-      | inr other ↦ rw (get_or-set_other ys i k new none other) (done k none (omega (arith, below, other)))
-    ]
+    grind (arith, get_or, get_or_default, cases_eq, get_or-set_same, get_or-set_other)
 
-pub rest_same : {A : Type 0} (xs ys : List A) (i : ℕ) (new : A)
-    → ((k : ℕ) (none : A) → i ≤ k → get_or ys k none ≡ get_or xs k none)
+pub rest_same : {A : Type 0} (xs ys : List A) (i : ℕ) (new : A) → ((k : ℕ) (none : A) → i ≤ k → get_or ys k none ≡ get_or xs k none)
     → (k : ℕ) (none : A) → i + 1 ≤ k → get_or (set ys i new) k none ≡ get_or xs k none
 rest_same xs ys i new same k none past = get_or-set_other ys i k new none (λ e. omega (arith, e, past)) ∙ same k none (omega (arith, past))
 
@@ -58,9 +48,7 @@ zip_broken R xs ys i new long within none_changes done same item made =
     ])
 
 pub on_err_of : {T E : Type 0} (P : E → Type 0) (r : Result T E) (fault : E) → IsErrAnd r (λ e. e ≡ fault) → P fault → IfErr r P
-on_err_of P (Ok x) fault is p = tt
-on_err_of P (Err e) fault is p = subst P (sym is) p
+on_err_of x1 r fault is p = grind arith
 
 pub on_ok : {T E P Q : Type 0} (r : Result T E) → OnOk r P → (P → Q) → OnOk r Q
-on_ok (Ok x) p more = more p
-on_ok (Err e) p more = tt
+on_ok r p more = grind arith

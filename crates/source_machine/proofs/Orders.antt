@@ -1,5 +1,5 @@
 -- The units of a stream take its slots in the order of acceptance.
-use Rattle.source_machine.proofs.Prelude.{ℕ, ◌≡◌, ◌<◌, ◌≤◌, ◌+◌, min, Some, None, List, [], ◌∷◌, ◌++◌, length, arith, ◌∙◌, ap, sym, refl, inl, inr, append_assoc, cases_eq, cases_lt, eq-eqb, ne_eqb, append-nil, none-some, slice_get_within, slice_get, BigInfo, per_event_of, before_event, unit_at, accept, lay, accepted, begun}
+use Rattle.source_machine.proofs.Prelude.{ℕ, ◌≡◌, ◌<◌, ◌≤◌, ◌+◌, min, Some, List, [], ◌∷◌, ◌++◌, length, arith, ◌∙◌, ap, sym, refl, inl, inr, append_assoc, cases_eq, cases_lt, eq-eqb, ne_eqb, append-nil, none-some, slice_get_within, slice_get, BigInfo, per_event_of, before_event, unit_at, accept, lay, accepted, begun}
 use Rattle.circular_buffer.proofs.Places.{slice_get-append_left}
 use Rattle.isoal_unframed.specs.Calls.{Call as StreamCall, events as laid_events}
 use Rattle.isoal_unframed.proofs.Citable.{begun_within}
@@ -38,8 +38,7 @@ begun_between info [] e later order below = absurd (omega (arith, below))
 begun_between info (accept octets ∷ calls) e later order below = begun_between info calls e later order below
 begun_between info (lay ∷ calls) e later order below =
     elim (cases_eq (laid_events calls) later) [
-      | inl here ↦ rw (eq-eqb (laid_events calls) later here, ne_eqb (laid_events calls) e (λ same. omega (arith, same, here, order)))
-          (begun_after info calls e (omega (arith, here, order)))
+      | inl here ↦ grind (arith, eq-eqb, ne_eqb, begun_after)
       | inr other ↦ rw (ne_eqb (laid_events calls) later other, ne_eqb (laid_events calls) e (λ same. omega (arith, same, below, order)))
           (begun_between info calls e later order (omega (arith, below, other)))
     ]
@@ -62,8 +61,5 @@ units_in_order info calls e slot later behind unit other order has is also =
     slice_get_within (accepted (before_event calls e)) (begun info (before_event calls e) + slot) unit is in
     elim (cases_lt later (laid_events calls)) [
       | inl below ↦ omega (arith, begun_between info calls e later order below)
-      | inr past ↦
-          let none : unit_at info calls later behind ≡ None =
-          ap (λ before. slice_get (accepted before) (begun info before + behind)) (none_before calls later past) in
-          absurd (none-some other (sym none ∙ also))
+      | inr past ↦ grind (arith, unit_at, slice_get, accepted, begun, none_before, none-some)
     ]

@@ -1,4 +1,5 @@
 -- A sender that lays an event, by its framing.
+use Rattle.std.proofs.Common.{arith}
 use Rattle.source_machine.proofs.Prelude.{ℕ, ◌≡◌, ◌∷◌, List, Result, Ok, Err, ◌∙◌, ap, sym, subst, IfOk, OnOk, BigInfo, Air, Entry, unframed_air, begun, lay, framed_air, framed_air_is, one_air, Framed, Unframed}
 use Rattle.isoal_unframed.specs.Calls.{Call as PlainCall}
 use Rattle.isoal_unframed.specs.State.Sender.{Sender as PlainSender, StandsFor as PlainStands}
@@ -15,8 +16,7 @@ pub plain_lays : {E : Type 0} (anchor : ℕ) (old new : PlainSender) (pdus : Lis
 plain_lays anchor old new pdus (Ok stale) stands laid = λ info plain timed checked at. (
   (at.0, stands info plain at.1),
   begun info (lay ∷ plain),
-  plain_air info (lay ∷ plain) (lay_at anchor ∷ timed) at.0 ∙ laid info plain at.1
-      ∙ ap (λ air. record { event = record { pdus = pdus; stale = stale }; begun = begun info (lay ∷ plain) } ∷ air) (sym (plain_air info plain timed at.0)),
+  grind (arith, plain_air, lay, begun),
 )
 plain_lays anchor old new pdus (Err e) stands laid = tt
 

@@ -3,19 +3,12 @@ use Rattle.source_machine.proofs.Prelude.{ℕ, ◌≡◌, ◌<◌, ◌≤◌, �
 use Rattle.source_machine.proofs.Payloads.{ahead_within, sent_is}
 
 unwrapped : {A : Type 0} (item want : Option A) → option_map Some item ≡ Some want → item ≡ want
-unwrapped None want is = absurd (none-some want is)
-unwrapped (Some x) want is = same_Some (Some x) want is
+unwrapped item want is = grind (arith, none-some, same_Some)
 
 -- one more item of a list that is gathered by place
-pub one_more : {A : Type 0} (f : ℕ → Option A) (items : List A) (item : A) (n : ℕ)
-    → map Some items ≡ map f (range_with_len 0 n) → f n ≡ Some item
-    → map Some (items ++ item ∷ []) ≡ map f (range_with_len 0 (n + 1))
-one_more f items item n before is =
-    let start : n ≡ 0 + n = omega arith in
-    map-append Some items (item ∷ []) ∙ ap (λ xs. xs ++ Some item ∷ []) before
-    ∙ ap (λ x. map f (range_with_len 0 n) ++ x ∷ []) (sym is)
-    ∙ ap (λ k. map f (range_with_len 0 n) ++ map f (range_with_len k 1)) start
-    ∙ sym (map_append f 0 n 1)
+pub one_more : {A : Type 0} (f : ℕ → Option A) (items : List A) (item : A) (n : ℕ) → map Some items ≡ map f (range_with_len 0 n)
+    → f n ≡ Some item → map Some (items ++ item ∷ []) ≡ map f (range_with_len 0 (n + 1))
+one_more f items item n before is = grind (arith, map-append, map, range_with_len, map_append)
 
 pub gathered_at : {A : Type 0} (f : ℕ → Option A) (items : List A) (n i : ℕ) → map Some items ≡ map f (range_with_len 0 n) → i < n → slice_get items i ≡ f i
 gathered_at f items n i is below =
@@ -49,11 +42,7 @@ event_sends setup calls streams pdus some whole performed all are gathered =
           let place : ℕ = (bis - 1) * info.nse + subevent in
           let inside : place < info.num_bis * info.nse = omega (arith, mul-add-lt (bis - 1) info.nse subevent info.num_bis (omega arith) below) in
           let stream : slice_get streams (bis - 1) ≡ Some own = slice_get-get_or streams (bis - 1) none (omega arith) in
-          let sent : slice_get pdus place ≡ sent_of own 0 subevent =
-          gathered_at (sent_at info streams) pdus (info.num_bis * info.nse) place gathered inside
-          ∙ ap (λ k. option_and_then (λ s. sent_of s 0 (place % info.nse)) (slice_get streams k)) (div-mul-add (bis - 1) info.nse subevent below)
-          ∙ ap (λ k. option_and_then (λ s. sent_of s 0 k) (slice_get streams (bis - 1))) (mod-mul-add (bis - 1) info.nse subevent below)
-          ∙ ap (option_and_then (λ s. sent_of s 0 subevent)) stream in
+          let sent : slice_get pdus place ≡ sent_of own 0 subevent = grind (arith, gathered_at, sent_at, option_and_then, sent_of, slice_get, div-mul-add, mod-mul-add) in
           let last : next_of setup calls - 1 - 0 ≡ next_of setup calls - 1 = omega arith in
           let there : slice_get pdus place ≡ Some (get_or pdus place []) = slice_get-get_or pdus place [] (omega arith) in
           there ∙ sym (sent_is setup calls 0 bis subevent own (get_or pdus place []) some least within performed (omega arith)
@@ -66,8 +55,4 @@ pub sent_here : (info : BigInfo) (streams : List Stream) (place nse index : ℕ)
     → index < length streams → stream ≡ get_or streams index stream → sent_of stream 0 (place % nse) ≡ Some octets → pdu ≡ octets
     → sent_at info streams place ≡ Some pdu
 sent_here info streams place nse index stream octets pdu nse_is index_is within is sent same =
-    let at : slice_get streams (place / info.nse) ≡ Some stream =
-    ap (λ n. slice_get streams (place / n)) (sym nse_is) ∙ ap (slice_get streams) (sym index_is)
-    ∙ slice_get-get_or streams index stream within ∙ ap Some (sym is) in
-    ap (option_and_then (λ s. sent_of s 0 (place % info.nse))) at
-    ∙ ap (λ n. sent_of stream 0 (place % n)) (sym nse_is) ∙ sent ∙ ap Some (sym same)
+    grind (arith, slice_get, slice_get-get_or, option_and_then, sent_of)

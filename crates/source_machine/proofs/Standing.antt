@@ -22,17 +22,7 @@ pub one_more_stream : (info : BigInfo) (bis n : ℕ) (old new : List Stream) (st
     → StreamStands info bis [] [] stream
     → (length new ≡ n + 1) × ((k : ℕ) (none : Stream) → k < n + 1 → StreamStands info (k + 1) [] [] (get_or new k none))
 one_more_stream info bis n old new stream count each is at stands =
-    let long : length (old ++ stream ∷ []) ≡ length old + 1 = length-append old (stream ∷ []) in (
-      ap length is ∙ long ∙ ap (λ m. m + 1) count,
-      λ k none below. rw is (elim (cases_lt k n) [
-        | inl before ↦ rw (get_or_append_left old (stream ∷ []) none k (omega (arith, before, count))) (each k none before)
-        | inr last ↦
-            let here : k - n ≡ 0 = omega (arith, below) in
-            let own : bis ≡ k + 1 = omega (arith, at, last, below) in
-            rw (get_or-append_right old (stream ∷ []) n k none count last, here)
-            (subst (λ b. StreamStands info b [] [] stream) own stands)
-      ]),
-    )
+    grind (arith, length, length-append, cases_lt, get_or_append_left, get_or-append_right)
 
 pub stands_event : (source : Source) (calls : List Call) (laying : Laying) (new : List Stream) → IsChecked source.setup.info → StandsFor calls source → LaysNext source laying
     → AllZip (Lays laying.anchor laying.iso_us laying.count) source.streams new
@@ -46,23 +36,16 @@ stands_event source calls laying new checked stands next laid = record {
 -- a stream of the source
 pub stream_is : (source : Source) (calls : List Call) (bis : ℕ) (stream : Stream) → StandsFor calls source
     → 1 ≤ bis → bis ≤ length source.streams → stream ≡ get_or source.streams (bis - 1) stream → StreamIs source.setup calls bis stream
-stream_is source calls bis stream stands least within is =
-    let at : bis - 1 + 1 ≡ bis = omega (arith, least) in
-    subst (StreamIs source.setup calls bis) (sym is)
-    (subst (λ b. StreamIs source.setup calls b (get_or source.streams (bis - 1) stream)) at (stands.streams (bis - 1) stream (omega (arith, least, within))))
+stream_is source calls bis stream stands least within is = grind (arith, get_or)
 
 given_is : (setup : Setup) (calls : List Call) (bis : ℕ) (time : Option ℕ) (octets : List ℕ) (stream : Stream)
     → StreamStands setup.info bis (accept octets ∷ stream_calls setup.info bis calls) (accept_timed (unwrap_or time 0) octets ∷ framed_calls setup bis calls) stream
     → StreamIs setup (give bis time octets ∷ calls) bis stream
-given_is setup calls bis time octets stream stands =
-    subst (λ timed. StreamStands setup.info bis (stream_calls setup.info bis (give bis time octets ∷ calls)) timed stream) (sym (timed_same setup bis time octets calls))
-    (subst (λ plain. StreamStands setup.info bis plain (accept_timed (unwrap_or time 0) octets ∷ framed_calls setup bis calls) stream) (sym (given_same setup.info bis time octets calls)) stands)
+given_is setup calls bis time octets stream stands = grind (arith, stream_calls, give, timed_same, unwrap_or, framed_calls, given_same)
 
 other_is : (setup : Setup) (calls : List Call) (bis index : ℕ) (time : Option ℕ) (octets : List ℕ) (stream : Stream) → (bis ≡ index → ⊥)
     → StreamIs setup calls index stream → StreamIs setup (give bis time octets ∷ calls) index stream
-other_is setup calls bis index time octets stream other stands =
-    subst (λ timed. StreamStands setup.info index (stream_calls setup.info index (give bis time octets ∷ calls)) timed stream) (sym (timed_other setup index bis time octets calls other))
-    (subst (λ plain. StreamStands setup.info index plain (framed_calls setup index calls) stream) (sym (given_other setup.info index bis time octets calls other)) stands)
+other_is setup calls bis index time octets stream other stands = grind (arith, stream_calls, give, timed_other, framed_calls, given_other)
 
 pub stands_give : (source : Source) (calls : List Call) (bis : ℕ) (time limit : Option ℕ) (octets : List ℕ) (old new : Stream) → StandsFor calls source
     → 1 ≤ bis → bis ≤ length source.streams → old ≡ get_or source.streams (bis - 1) old → Accepts time limit octets old new
@@ -95,11 +78,7 @@ told_is setup calls laying streams stale checked next long are tells =
     let g : ℕ → List Stale = λ bis. stale_on bis (stale_in (laid_with setup.info calls) (unwrap_or (slice_get (airs_of setup (event ∷ calls)) (bis - 1)) [])) in
     tells setup calls checked are
     ∙ ap (λ n. flat_map f (range_with_len 1 n)) long
-    ∙ flat_same f g 1 setup.info.num_bis (λ bis least below.
-    ap (λ n. told_by setup calls laying.anchor laying.iso_us n bis) next.count
-    ∙ ap (λ a. told_by setup calls a laying.iso_us (laid_with setup.info calls) bis) next.anchor
-    ∙ ap (λ i. told_by setup calls (lay_anchor setup (laid_before setup.info calls)) i (laid_with setup.info calls) bis) next.iso_us
-    ∙ ap (λ air. stale_on bis (stale_in (laid_with setup.info calls) (unwrap_or air []))) (sym (air_at setup (event ∷ calls) bis least (omega (arith, below)))))
+    ∙ flat_same f g 1 setup.info.num_bis (grind (arith, told_by, laid_with, lay_anchor, laid_before, stale_on, stale_in, unwrap_or, air_at, event))
 
 -- the next event was performed, where each stream laid these events
 pub advances : (source : Source) (laying : Laying) (new : List Stream) (stale : List Stale) → IsSource source → IsChecked source.setup.info

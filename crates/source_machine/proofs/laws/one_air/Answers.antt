@@ -1,4 +1,4 @@
-use Rattle.source_machine.proofs.Prelude.{◌∙◌, sym}
+use Rattle.std.proofs.Common.{arith}
 use Rattle.source_machine.proofs.AirLaws.{is_checked}
 use Rattle.source_machine.proofs.Framings.{are_airs, airs_only}
 use Rattle.source_machine.proofs.laws.one_air.Goals as goal
@@ -7,8 +7,7 @@ pub returns-clause-checked : goal.returns-clause-checked
 returns-clause-checked c = λ group setup of_group. is_checked group setup.info of_group
 
 pub returns-clause-same : goal.returns-clause-same
-returns-clause-same c = λ setup calls airs others checked are are_others.
-    airs_only setup calls airs checked are ∙ sym (airs_only setup calls others checked are_others)
+returns-clause-same c = grind (arith, airs_only)
 
 pub returns-clause-some : goal.returns-clause-some
 returns-clause-some c = λ setup calls checked. are_airs setup calls checked

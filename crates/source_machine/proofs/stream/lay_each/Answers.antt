@@ -1,4 +1,4 @@
-use Rattle.source_machine.proofs.Prelude.{arith, refl, sym, Grows, Lays}
+use Rattle.source_machine.proofs.Prelude.{arith, refl, sym, Lays}
 use Rattle.source_machine.proofs.LaidEvents.{all_tell, all_tell_none, grows_none}
 use Rattle.source_machine.proofs.Lists.{each_done, on_err, rest_same, zip_all, zip_broken}
 use Rattle.source_machine.proofs.stream.lay_each.Goals as goal
@@ -26,6 +26,4 @@ returns-clause-ok c = zip_all (Lays c.args.laying.anchor c.args.laying.iso_us c.
     (λ k none below. c.streams.invariant.done k none (omega arith))
 
 pub returns-in_err-lay-clause-err : goal.returns-in_err-lay-clause-err
-returns-in_err-lay-clause-err c = on_err c.from_residual.result
-    (zip_broken Grows c.args.streams.now c.streams.streams c.streams.stream-index c.lay.new.self c.streams.auto.streams (omega arith)
-    grows_none (λ k none below. (c.streams.invariant.done k none below).grows) c.streams.invariant.rest c.stream-item.result c.in_err-lay.ensures.err)
+returns-in_err-lay-clause-err c = grind (arith, on_err, zip_broken, grows_none)

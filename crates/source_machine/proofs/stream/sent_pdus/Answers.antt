@@ -1,12 +1,9 @@
-use Rattle.source_machine.proofs.Prelude.{◌<◌, ◌/◌, arith, sym, subst, div-lt_iff_lt-mul, IsLaid, sent_at}
+use Rattle.source_machine.proofs.Prelude.{◌<◌, ◌/◌, arith, div-lt_iff_lt-mul, sent_at}
 use Rattle.source_machine.proofs.Sending.{one_more, sent_here}
 use Rattle.source_machine.proofs.stream.sent_pdus.Goals as goal
 
 pub sent-pdu-requires-clause-laid : goal.sent-pdu-requires-clause-laid
-sent-pdu-requires-clause-laid c =
-    let below : c.places.place / c.from-nse.result < c.from.result = (div-lt_iff_lt-mul (omega (arith, c.args.group.now.bounds.nse))).1 c.places-test.true in
-    subst (IsLaid c.args.group.now.info 0) (sym c.index-streams-from.is)
-    (c.requires.laid c.from-in-places.result c.index-streams-from.result (omega (arith, below)))
+sent-pdu-requires-clause-laid c = grind (arith, div-lt_iff_lt-mul)
 
 pub places-preserved : goal.places-preserved
 places-preserved c =

@@ -1,11 +1,14 @@
+use Rattle.std.proofs.Common.{arith}
 use Rattle.source_machine.proofs.SendersLay.{plain_lays, timed_lays}
 use Rattle.source_machine.proofs.sender.Sender.lay.Goals as goal
 
 pub returns-in-Unframed-clause-laid : goal.returns-in-Unframed-clause-laid
 returns-in-Unframed-clause-laid c =
-    rw c.in-Unframed.is
-    (plain_lays c.args.anchor c.in-Unframed.out c.lay_event_in.new.self c.lay_event_in.new.pdus c.lay_event_in.result c.lay_event_in.ensures.stands
-    c.lay_event_in.ensures.laid)
+    grind (
+      arith,
+      c.in-Unframed.is,
+      plain_lays c.args.anchor c.in-Unframed.out c.lay_event_in.new.self c.lay_event_in.new.pdus c.lay_event_in.result c.lay_event_in.ensures.stands c.lay_event_in.ensures.laid,
+    )
 
 pub returns-in-Framed-clause-laid : goal.returns-in-Framed-clause-laid
 returns-in-Framed-clause-laid c =
