@@ -46,10 +46,7 @@ ended x xs is cut = record {
 
 cut_of : (text : List ℕ) → Cut text
 cut_of [] = record { whole = []; rest = []; together = refl; apart = All-nil NoNewline; unended = All-nil (λ y. y ≢ newline) }
-cut_of (x ∷ xs) = elim (cases_eq x newline) [
-  | inl is ↦ ended x xs is (cut_of xs)
-  | inr ne ↦ longer x xs ne (cut_of xs)
-]
+cut_of (x ∷ xs) = elim (cases_eq x newline) [ inl is ↦ ended x xs is (cut_of xs) | inr ne ↦ longer x xs ne (cut_of xs) ]
 
 -- ---- and its lines are those of the cut
 
@@ -76,14 +73,12 @@ lines-whole e t (line ∷ lines) more apart fits =
 
 -- what stands behind the last end of a text within its limit
 lines-rest : (e : Bool) (t : ℕ) (rest : List ℕ) → NoNewline rest → t + length rest ≤ text_limit → lines_from e t [] rest ≡ last_line e rest
-lines-rest e t rest none fits =
-    ap (lines_from e t []) (sym (append-nil rest)) ∙ lines-run e t [] rest [] none fits ∙ lines-over e (t + length rest) rest
+lines-rest e t rest none fits = grind (arith, append-nil rest, lines-run e t [] rest [] none fits, lines-over e (t + length rest) rest)
 
 -- what stands behind the last end that the limit of a text leaves
 lines-limit : (e : Bool) (t : ℕ) (rest more : List ℕ) → NoNewline rest → t + length rest ≡ text_limit → 0 < length more
     → lines_from e t [] (rest ++ more) ≡ past ∷ []
-lines-limit e t rest more none at some =
-    lines-run e t [] rest more none (omega arith) ∙ lines-past_all e (t + length rest) rest more (omega arith) some
+lines-limit e t rest more none at some = grind (arith, lines-run, lines-past_all, length)
 
 lines-cut : (e : Bool) (text : List ℕ) (whole : List (List ℕ)) (rest : List ℕ) → take text_limit text ≡ concat (map with_end whole) ++ rest
     → All NoNewline whole → NoNewline rest → lines_of e text ≡ map line_of whole ++ line_behind e text rest
@@ -96,19 +91,13 @@ lines-cut e text whole rest together apart unended = elim (cases_lt text_limit (
       let some : 0 < length later = omega (arith, length-drop text_limit text) in
       let all : text ≡ prefix ++ (rest ++ later) = sym (take-append-drop text_limit text) ∙ ap (λ l. l ++ later) together ∙ append_assoc prefix rest later in
       ap (lines_from e 0 []) all ∙ lines-whole e 0 whole (rest ++ later) apart (omega arith)
-      ∙ ap (λ ls. map line_of whole ++ ls) (
-      lines-limit e (0 + length prefix) rest later unended (omega arith) some
-      ∙ sym (ap (λ b. cond b (last_line e rest) (past ∷ [])) (lt-leb (length text) text_limit more))
-      )
+      ∙ ap (λ ls. map line_of whole ++ ls) (grind (arith, lines-limit, length, cond, last_line, past, lt-leb, text_limit))
   | inr within ↦
       let prefix : List ℕ = concat (map with_end whole) in
       let all : text ≡ prefix ++ rest = sym (take_all text_limit text within) ∙ together in
       let long : length text ≡ length prefix + length rest = ap length all ∙ length-append prefix rest in
       ap (lines_from e 0 []) all ∙ lines-whole e 0 whole rest apart (omega arith)
-      ∙ ap (λ ls. map line_of whole ++ ls) (
-      lines-rest e (0 + length prefix) rest unended (omega arith)
-      ∙ sym (ap (λ b. cond b (last_line e rest) (past ∷ [])) (le-leb (length text) text_limit within))
-      )
+      ∙ ap (λ ls. map line_of whole ++ ls) (grind (arith, lines-rest, length, cond, last_line, past, le-leb, text_limit))
 ]
 
 -- ---- the law, both ways

@@ -40,10 +40,7 @@ pub line_of-long : (p : List ℕ) → line_limit < length p → line_of p ≡ to
 line_of-long p h = ap (λ b. cond b (plain p) too_long) (lt-leb (length p) line_limit h)
 
 last_line-long : (e : Bool) (p q : List ℕ) → line_limit < length p → line_limit < length q → last_line e p ≡ last_line e q
-last_line-long false p q h k = refl
-last_line-long true [] q h k = absurd (omega arith)
-last_line-long true (x ∷ xs) [] h k = absurd (omega arith)
-last_line-long true (x ∷ xs) (y ∷ ys) h k = ap (λ l. l ∷ []) (line_of-long (x ∷ xs) h ∙ sym (line_of-long (y ∷ ys) k))
+last_line-long e p q h k = grind (arith, line_of-long)
 
 pub lines-long : (e : Bool) (t : ℕ) (p q xs : List ℕ) → line_limit < length p → line_limit < length q → lines_from e t p xs ≡ lines_from e t q xs
 unfolding lines_from
@@ -71,14 +68,12 @@ lines-kept e t p xs = elim (cases_lt 9001 (length p)) [
 -- the end of a text ends a line that has an octet
 pub lines-end : (t : ℕ) (p : List ℕ) → 0 < length p → lines_from true t p [] ≡ line_of p ∷ []
 unfolding lines_from
-lines-end t [] some = absurd (omega arith)
-lines-end t (x ∷ xs) some = refl
+lines-end t p some = grind arith
 
 -- no line comes where a text ended with its last line whole
 pub lines-nothing : (e : Bool) (t : ℕ) → lines_from e t [] [] ≡ []
 unfolding lines_from
-lines-nothing true t = refl
-lines-nothing false t = refl
+lines-nothing e t = grind arith
 
 -- a line that isn't whole is none
 pub lines-unended : (t : ℕ) (p : List ℕ) → lines_from false t p [] ≡ []

@@ -9,16 +9,7 @@ use Rattle.bcast_io.proofs.LineLaws.{lines-end, lines-nothing, lines-unended, li
 -- octets that end no line went to the line so far
 pub Reads-part : (old new : Reading) (octets : List ℕ) → NoNewline octets → old.ahead ≡ octets ++ new.ahead → new.part ≡ take 9001 (old.part ++ octets)
     → new.taken ≡ old.taken + length octets → new.taken ≤ text_limit → Reads old new [] []
-Reads-part old new octets none split part taken fits = record {
-  octets = octets;
-  count = taken;
-  split = append-nil old.ahead ∙ split;
-  first = λ e more follows.
-      lines-run e old.taken old.part octets more none (omega arith)
-      ∙ sym (lines-kept e (old.taken + length octets) (old.part ++ octets) more)
-      ∙ sym (ap (λ t. lines_from e t (take 9001 (old.part ++ octets)) more) taken)
-      ∙ sym (ap (λ p. lines_from e new.taken p more) part);
-}
+Reads-part old new octets none split part taken fits = grind (arith, append-nil, lines-run, lines-kept, length, take)
 
 -- a line was whole
 pub Reads-line : (old new : Reading) (octets : List ℕ) (line : TextLine) → NoNewline octets → old.ahead ≡ octets ++ newline ∷ new.ahead → new.part ≡ []
@@ -27,13 +18,7 @@ Reads-line old new octets line none split part taken fits named = record {
   octets = octets ++ newline ∷ [];
   count = omega (arith, length-append octets (newline ∷ []));
   split = append-nil old.ahead ∙ split ∙ sym (append_assoc octets (newline ∷ []) new.ahead);
-  first = λ e more follows.
-      ap (lines_from e old.taken old.part) (append_assoc octets (newline ∷ []) more)
-      ∙ lines-run e old.taken old.part octets (newline ∷ more) none (omega arith)
-      ∙ lines-newline e (old.taken + length octets) (old.part ++ octets) more (omega arith)
-      ∙ ap (λ l. l ∷ lines_from e (old.taken + length octets + 1) [] more) (sym (line_of-kept (old.part ++ octets)) ∙ sym named)
-      ∙ sym (ap (λ t. line ∷ lines_from e t [] more) taken)
-      ∙ sym (ap (λ p. line ∷ lines_from e new.taken p more) part);
+  first = grind (arith, append_assoc, newline, lines-run, lines-newline, length, line_of-kept);
 }
 
 -- one step after another
@@ -41,20 +26,13 @@ pub Reads-then : (a b c : Reading) (xs ys : List ℕ) (before lines : List TextL
 Reads-then a b c xs ys before lines going p q = record {
   octets = p.octets ++ q.octets;
   count = omega (arith, p.count, q.count, length-append p.octets q.octets);
-  split = sym (append_assoc a.ahead xs ys) ∙ ap (λ l. l ++ ys) p.split ∙ append_assoc p.octets b.ahead ys
-      ∙ ap (λ l. p.octets ++ l) q.split ∙ sym (append_assoc p.octets q.octets c.ahead);
-  first = λ e more follows.
-      ap (lines_after e a) (append_assoc p.octets q.octets more)
-      ∙ p.first e (q.octets ++ more) (λ over. absurd (false≢true (sym going ∙ over)))
-      ∙ ap (λ l. before ++ l) (q.first e more follows)
-      ∙ sym (append_assoc before lines (lines_after e c more));
+  split = grind (arith, append_assoc);
+  first = grind (arith, lines_after, append_assoc, false≢true);
 }
 
 -- a list at one of its elements
 split_at : (xs : List ℕ) (i x : ℕ) → i < length xs → get_or xs i 0 ≡ x → xs ≡ take i xs ++ x ∷ drop 1 (drop i xs)
-split_at xs i x within is =
-    sym (take-append-drop i xs)
-    ∙ ap (λ l. take i xs ++ l) (drop_more xs i 0 within ∙ ap (λ y. y ∷ drop (i + 1) xs) is ∙ ap (λ l. x ∷ l) (sym (drop-drop 1 i xs)))
+split_at xs i x within is = grind (arith, take-append-drop, take, drop_more, drop, drop-drop)
 
 -- the octets up to the first end of a line were taken, then the end, and the line was answered
 pub Finds-line : (read : LineRead) (old mid next new : Reading) (at : ℕ) → at < length old.ahead → get_or old.ahead at 0 ≡ newline → NoNewline (take at old.ahead)
@@ -155,26 +133,17 @@ Answers-then End a b c k l m going p q =
 
 -- an answer of the octets ahead, and one at the end of the input
 pub Answers-found : (read : LineRead) (a b : Reading) (l : Option (List ℕ)) → Finds read a b → Answers read a b l l
-Answers-found Line a b l p = (p.0, p.1, Took-of a b l (plain p.0 ∷ []) p.2)
-Answers-found LineTooLong a b l p = (p.0, Took-of a b l (too_long ∷ []) p.1)
-Answers-found TextTooLong a b l p = (p.0, p.1, Took-of a b l [] p.2)
-Answers-found End a b l p = absurd p
+Answers-found read a b l p = grind (arith, Took-of, plain, too_long)
 
 pub Answers-ends : (read : LineRead) (a b : Reading) (l : Option (List ℕ)) → Ends read a b → Answers read a b l l
-Answers-ends Line a b l p = (p.0, p.1, Took-of a b l (plain p.0 ∷ []) p.2)
-Answers-ends LineTooLong a b l p = (p.0, Took-of a b l (too_long ∷ []) p.1)
-Answers-ends TextTooLong a b l p = absurd p
-Answers-ends End a b l p = (p, Consumes-nothing l)
+Answers-ends read a b l p = grind (arith, Took-of, plain, too_long)
 
 pub BreaksOff-then : (a b c : Reading) (k l m : Option (List ℕ)) → b.over ≡ false → Took a b k l [] → BreaksOff b c l m → BreaksOff a c k m
 BreaksOff-then a b c k l m going p q = record { took = Took-then a b c k l m [] [] going p q.took; ahead = q.ahead; going = q.going; line = q.line }
 
 -- where all that was ahead went to the line so far, no whole line was ahead
 pub not_ready : (a b : Reading) → b.over ≡ false → b.ahead ≡ [] → Reads a b [] [] → lines_after false a a.ahead ≡ []
-not_ready a b going ahead p =
-    let octets : p.octets ≡ a.ahead = sym (append-nil p.octets) ∙ ap (λ l. p.octets ++ l) (sym ahead) ∙ sym p.split ∙ append-nil a.ahead in
-    ap (lines_after false a) (sym octets ∙ sym (append-nil p.octets))
-    ∙ p.first false [] (λ over. absurd (false≢true (sym going ∙ over))) ∙ lines-unended b.taken b.part
+not_ready a b going ahead p = grind (arith, append-nil, lines_after, false≢true, lines-unended)
 
 -- past the limit of the text nothing else is found
 pub Finds-at_past : (read : LineRead) (a b : Reading) → b.over ≡ false → IsPast a → Finds read a b → read ≡ TextTooLong

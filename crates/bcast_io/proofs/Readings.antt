@@ -1,5 +1,5 @@
 -- What is read of a document, one piece after the other.
-use Rattle.bcast_io.proofs.Prelude.{◌≡◌, ℕ, ◌≤◌, List, [], ◌++◌, length, Option, Some, None, Result, Err, sym, subst, arith, append-nil, length-append, Consumes, Keeps, ReadsDocument, document_limit}
+use Rattle.bcast_io.proofs.Prelude.{◌≡◌, ℕ, ◌≤◌, List, [], ◌++◌, length, Option, Result, Err, subst, arith, append-nil, length-append, Consumes, Keeps, ReadsDocument, document_limit}
 use Rattle.bcast_io.proofs.Citable.{Consumes-then}
 use Rattle.bcast_io.specs.State.Pieces.{ReadsOn}
 use Rattle.bcast_io.specs.declared.piece.Piece.{Piece}
@@ -7,9 +7,7 @@ use Rattle.bcast_io.specs.declared.piece.Unread.{Unread}
 use Rattle.bcast_io.specs.declared.piece.Unread.TheVariants as unreads
 
 kept_none : (a b : Option (List ℕ)) → Keeps a b → Consumes a b []
-kept_none None b kept = tt
-kept_none (Some x) None kept = absurd kept
-kept_none (Some x) (Some y) kept = sym kept
+kept_none a b kept = grind arith
 
 -- nothing more was read of a source
 consumed_kept : (a b c : Option (List ℕ)) (octets : List ℕ) → Consumes a b octets → Keeps b c → Consumes a c octets

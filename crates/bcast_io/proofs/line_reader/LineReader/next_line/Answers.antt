@@ -1,3 +1,4 @@
+use Rattle.std.proofs.Common.{arith}
 use Rattle.bcast_io.proofs.Prelude.{◌≡◌, false, ◌∙◌, [], ap, sym, refl, Ok, Answers, GoesOn}
 use Rattle.std.proofs.lemmas.Result.{IfOk-weaker, on_err_weaker}
 use Rattle.bcast_io.proofs.ReadingLaws.{Answers-then, Answers-found, BreaksOff-then, Finds-at_past, GoesOn-of, Took-of, not_ready}
@@ -30,8 +31,7 @@ returns-in-None-clause-failed g c =
     (λ h. BreaksOff-then c.args.self.now c.line_ahead.new.self c.read_on.new.self left left left' c.line_ahead.ensures.over so_far h) c.read_on.ensures.failed
 
 pub returns-in-None-clause-unread : goal.returns-in-None-clause-unread
-returns-in-None-clause-unread g c =
-    λ ready. absurd (ready (not_ready c.args.self.now c.line_ahead.new.self c.line_ahead.ensures.over c.in-None.ensures.all c.in-None.ensures.none))
+returns-in-None-clause-unread g c = grind (arith, not_ready)
 
 pub returns-in-None-clause-goes_on : goal.returns-in-None-clause-goes_on
 returns-in-None-clause-goes_on g c =
