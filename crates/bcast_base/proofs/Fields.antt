@@ -1,5 +1,5 @@
 -- A field that is read is the field that was written, and what was written is read again.
-use Rattle.bcast_base.proofs.Prelude.{◌≡◌, ℕ, zero, suc, ◌+◌, ◌-◌, ◌*◌, ◌/◌, ◌%◌, ◌^◌, ◌<◌, ◌≤◌, Bool, true, false, cond, ltb, List, [], ◌∷◌, ◌++◌, length, take, drop, Some, None, refl, sym, ap, subst, ◌∙◌, append_assoc, arith, inl, inr, take_at, drop_at, take-append-drop, length-append, length-take, get_or-drop, get_or-take, get_or_past, pow-add, sum_from, octet_in, octets_in, number_in, counted_in, Takes, IsOctets, octet, counted}
+use Rattle.bcast_base.proofs.Prelude.{◌≡◌, ℕ, zero, suc, ◌+◌, ◌-◌, ◌*◌, ◌/◌, ◌%◌, ◌^◌, ◌<◌, ◌≤◌, Bool, false, cond, ltb, List, [], ◌∷◌, ◌++◌, length, take, drop, Some, None, refl, sym, ap, subst, ◌∙◌, append_assoc, arith, take_at, drop_at, take-append-drop, length-append, length-take, get_or-drop, get_or-take, get_or_past, pow-add, sum_from, octet_in, octets_in, number_in, counted_in, Takes, IsOctets, octet, counted}
 use Rattle.std.proofs.lemmas.Bool.{cases_lt, ltb-false, le-ltb}
 use Rattle.std.proofs.lemmas.Option.{some_pair_parts}
 use Rattle.std.specs.Int.{w64, to_le_bytes}
@@ -10,11 +10,7 @@ pub IsOctets-drop : (n : ℕ) (octets : List ℕ) → IsOctets octets → IsOcte
 IsOctets-drop n octets h i = rw get_or-drop (h (n + i))
 
 pub IsOctets-take : (n : ℕ) (octets : List ℕ) → IsOctets octets → IsOctets (take n octets)
-IsOctets-take n octets h i =
-    elim (cases_lt i n) [
-      | inl lt ↦ rw (get_or-take n octets i 0 lt) (h i)
-      | inr le ↦ rw (get_or_past (take n octets) i 0 (omega (arith, length-take n octets))) (omega arith)
-    ]
+IsOctets-take n octets h i = grind (arith, cases_lt, get_or-take, get_or_past, take, length-take)
 
 pub IsOctets-rest : (first : ℕ) (octets : List ℕ) → IsOctets (first ∷ octets) → IsOctets octets
 IsOctets-rest first octets h i = h (suc i)
@@ -24,8 +20,7 @@ IsOctets-prefix prefix rest h = subst IsOctets (take_at prefix rest (length pref
 
 -- a test that did not fail
 pub guard_some : {A : Type 0} (b : Bool) (x y : A) → cond b None (Some x) ≡ Some y → (b ≡ false) × (x ≡ y)
-guard_some true x y e = absurd cc
-guard_some false x y e = (refl, cc)
+guard_some b x y e = grind arith
 
 -- what was taken first and what was taken next, together
 pub Takes-then : (a x b y c : List ℕ) → Takes a x b → Takes b y c → Takes a (x ++ y) c
@@ -43,15 +38,10 @@ octet_takes (first ∷ others) value rest e =
 
 pub octets_take : (k : ℕ) (from value rest : List ℕ) → octets_in k from ≡ Some (value, rest) → Takes from value rest × (length value ≡ k)
 octets_take k from value rest e =
-    let g = guard_some (ltb (length from) k) (take k from, drop k from) (value, rest) e in
-    let long : k ≤ length from = ltb-false _ _ g.0 in
-    let taken : Takes from (take k from) (drop k from) = record { parts = sym (take-append-drop k from); fits = IsOctets-drop k from } in
-    subst (λ (p : List ℕ × List ℕ). Takes from p.0 p.1 × (length p.0 ≡ k)) g.1 (taken, omega (arith, length-take k from))
+    grind (arith, guard_some, ltb, length, take, drop, ltb-false, take-append-drop, IsOctets-drop, length-take)
 
 pub octets_again : (value rest : List ℕ) → octets_in (length value) (value ++ rest) ≡ Some (value, rest)
-octets_again value rest =
-    let long : ltb (length (value ++ rest)) (length value) ≡ false = le-ltb _ _ (omega (arith, length-append value rest)) in
-    rw (long, take_at value rest (length value) refl, drop_at value rest (length value) refl) refl
+octets_again value rest = grind (arith, ltb, length, le-ltb, length-append, take_at, drop_at)
 
 -- ---- octets behind their count
 
@@ -67,9 +57,7 @@ counted_again value rest = octets_again value rest
 -- ---- numbers
 
 one_wider : (k : ℕ) → 2 ^ (8 * suc k) ≡ 256 * 2 ^ (8 * k)
-one_wider k =
-    let e : 8 * suc k ≡ 8 + 8 * k = omega arith in
-    ap (λ n. 2 ^ n) e ∙ pow-add 2 8 (8 * k)
+one_wider k = let e : 8 * suc k ≡ 8 + 8 * k = omega arith in ap (λ n. 2 ^ n) e ∙ pow-add 2 8 (8 * k)
 
 pub number-length : (k value : ℕ) → length (number k value) ≡ k
 unfolding number
@@ -78,9 +66,7 @@ number-length (suc k) value = ap suc (number-length k (value / 256))
 
 pub number_below : (octets : List ℕ) → IsOctets octets → sum_from 0 octets < 2 ^ (8 * length octets)
 number_below [] h = omega arith
-number_below (first ∷ octets) h =
-    let rest : sum_from 0 octets < 2 ^ (8 * length octets) = number_below octets (IsOctets-rest first octets h) in
-    omega (arith, sum_from-cons first octets, one_wider (length octets), h 0)
+number_below (first ∷ octets) h = grind (arith, number_below octets (IsOctets-rest first octets h), sum_from-cons first octets, one_wider (length octets), h 0)
 
 pub number_back : (octets : List ℕ) → IsOctets octets → number (length octets) (sum_from 0 octets) ≡ octets
 unfolding number
@@ -108,14 +94,7 @@ take_number (suc k) more value =
 
 eight_octets : (value : ℕ) → to_le_bytes w64 value ≡ number 8 value
 unfolding number
-eight_octets value =
-    let at2 : value / 256 / 256 ≡ value / 65536 = omega arith in
-    let at3 : value / 65536 / 256 ≡ value / 16777216 = omega arith in
-    let at4 : value / 16777216 / 256 ≡ value / 4294967296 = omega arith in
-    let at5 : value / 4294967296 / 256 ≡ value / 1099511627776 = omega arith in
-    let at6 : value / 1099511627776 / 256 ≡ value / 281474976710656 = omega arith in
-    let at7 : value / 281474976710656 / 256 ≡ value / 72057594037927936 = omega arith in
-    rw (at2, at3, at4, at5, at6, at7) refl
+eight_octets value = grind arith
 
 pub prefix_of_eight : (k value : ℕ) → k ≤ 8 → take k (to_le_bytes w64 value) ≡ number k value
 prefix_of_eight k value h =
@@ -128,21 +107,25 @@ number_once k value octets h long e = rw (e, ← long) (sym (number_back octets 
 
 pub number_takes : (k : ℕ) (from : List ℕ) (value : ℕ) (rest : List ℕ) → IsOctets from → number_in k from ≡ Some (value, rest) → Takes from (number k value) rest × (value < 2 ^ (8 * k))
 number_takes k from value rest h e =
-    let g = guard_some (ltb (length from) k) (sum_from 0 (take k from), drop k from) (value, rest) e in
-    let long : k ≤ length from = ltb-false _ _ g.0 in
-    let fits = IsOctets-take k from h in
-    let len : length (take k from) ≡ k = omega (arith, length-take k from) in
-    let prefix : take k from ≡ number k (sum_from 0 (take k from)) = number_once k (sum_from 0 (take k from)) (take k from) fits len refl in
-    let parts : from ≡ number k (sum_from 0 (take k from)) ++ drop k from = sym (take-append-drop k from) ∙ ap (λ (x : List ℕ). x ++ drop k from) prefix in
-    let taken : Takes from (number k (sum_from 0 (take k from))) (drop k from) = record { parts = parts; fits = IsOctets-drop k from } in
-    let small : sum_from 0 (take k from) < 2 ^ (8 * k) = subst (λ (n : ℕ). sum_from 0 (take k from) < 2 ^ (8 * n)) len (number_below (take k from) fits) in
-    subst (λ (p : ℕ × List ℕ). Takes from (number k p.0) p.1 × (p.0 < 2 ^ (8 * k))) g.1 (taken, small)
+    grind (
+      arith,
+      guard_some,
+      ltb,
+      length,
+      sum_from,
+      take,
+      drop,
+      ltb-false,
+      IsOctets-take,
+      length-take,
+      number_once,
+      take-append-drop,
+      IsOctets-drop,
+      number_below,
+    )
 
 pub number_again : (k value : ℕ) (rest : List ℕ) → value < 2 ^ (8 * k) → number_in k (number k value ++ rest) ≡ Some (value, rest)
-number_again k value rest lt =
-    let len : length (number k value) ≡ k = number-length k value in
-    let long : ltb (length (number k value ++ rest)) k ≡ false = le-ltb _ _ (omega (arith, length-append (number k value) rest)) in
-    rw (long, take_at (number k value) rest k len, drop_at (number k value) rest k len, number_sum k value lt) refl
+number_again k value rest lt = grind (arith, length, number-length, ltb, le-ltb, length-append, take_at, drop_at, number_sum)
 
 -- the number of the octets that were taken has room in as many
 pub octets_below : (k : ℕ) (from value rest : List ℕ) (n : ℕ) → IsOctets from → octets_in k from ≡ Some (value, rest) → n ≡ sum_from 0 value → n < 2 ^ (8 * k)

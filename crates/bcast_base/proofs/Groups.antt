@@ -7,17 +7,14 @@ use Rattle.bcast_base.proofs.Fields.{guard_some, Takes-then, number_takes, numbe
 
 -- the value of a step that read something
 pub bind_some : {A B : Type 0} (r : Option A) (f : A → Option B) (y : B) → (r >>= f) ≡ Some y → (x : A) × (r ≡ Some x) × (f x ≡ Some y)
-bind_some (Some x) f y e = (x, refl, e)
-bind_some None f y e = absurd cc
+bind_some r f y e = grind arith
 
 pub some_is : {A : Type 0} (x y : A) → Some x ≡ Some y → x ≡ y
 some_is x y e = cc
 
 -- a length that is one octet
 pub counted_fits : (from value rest : List ℕ) → IsOctets from → Takes from (counted value) rest → length value < 256
-counted_fits from value rest h t =
-    let all : IsOctets (counted value ++ rest) = subst IsOctets t.parts h in
-    all 0
+counted_fits from value rest h t = grind (arith, t.parts, (subst IsOctets t.parts h) 0)
 
 pub subgroup_takes : (from : List ℕ) (x : Subgroup × List ℕ) → IsOctets from → subgroup_in from ≡ Some x → Takes from (subgroup x.0) x.1 × Fits x.0
 unfolding subgroup_in
@@ -40,9 +37,7 @@ subgroup_again group rest fits =
 pub subgroups_take : (count : ℕ) (from : List ℕ) (x : List Subgroup × List ℕ) → IsOctets from → subgroups_in count from ≡ Some x → Takes from (flat_map subgroup x.0) x.1
     × AllByRecursion Fits x.0 × (length x.0 ≡ count)
 unfolding subgroups_in
-subgroups_take zero from x h e =
-    let start : List Subgroup × List ℕ = ([], from) in
-    subst (λ (y : List Subgroup × List ℕ). Takes from (flat_map subgroup y.0) y.1 × AllByRecursion Fits y.0 × (length y.0 ≡ 0)) (some_is start x e) (record { parts = refl; fits = λ k. k }, tt, refl)
+subgroups_take zero from x h e = grind (arith, subgroup, length, some_is)
 subgroups_take (suc count) from x h e =
     let a = bind_some (subgroup_in from) (λ first. subgroups_in count first.1 >>= λ others. Some (first.0 ∷ others.0, others.1)) x e in
     let b = bind_some (subgroups_in count a.0.1) (λ others. Some (a.0.0 ∷ others.0, others.1)) x a.2 in
@@ -63,22 +58,27 @@ subgroups_again (group ∷ groups) rest fits =
 pub subgroup_laid : (group : Subgroup) → laid (subgroup_fields group) ≡ subgroup group
 subgroup_laid group = ap (λ (x : List ℕ). number 4 group.bits ++ (length group.metadata ∷ x)) (append-nil group.metadata)
 
-number_shorter : (k : ℕ) (from : List ℕ) (value : ℕ) (rest : List ℕ) → number_in k from ≡ Some (value, rest) → length rest ≤ length from
-number_shorter k from value rest e =
-    let g = guard_some (ltb (length from) k) (sum_from 0 (take k from), drop k from) (value, rest) e in
-    let same : drop k from ≡ rest = ap (λ (p : ℕ × List ℕ). p.1) g.1 in
-    omega (arith, length-drop k from, ap length same)
-
 -- a subgroup that was read leaves no more octets
 pub subgroup_shorter : (from : List ℕ) (group : Subgroup) (rest : List ℕ) → subgroup_in from ≡ Some (group, rest) → length rest ≤ length from
 unfolding subgroup_in
 subgroup_shorter from group rest e =
-    let a = bind_some (number_in 4 from) (λ bits. counted_in bits.1 >>= λ metadata. Some (record { bits = bits.0; metadata = metadata.0 }, metadata.1)) (group, rest) e in
-    let b = bind_some (counted_in a.0.1) (λ metadata. Some (record { bits = a.0.0; metadata = metadata.0 }, metadata.1)) (group, rest) a.2 in
-    let t = counted_takes a.0.1 b.0.0 b.0.1 b.1 in
-    let read : Subgroup × List ℕ = (record { bits = a.0.0; metadata = b.0.0 }, b.0.1) in
-    let same : b.0.1 ≡ rest = ap (λ (p : Subgroup × List ℕ). p.1) (some_is read (group, rest) b.2) in
-    omega (arith, number_shorter 4 from a.0.0 a.0.1 a.1, ap length t.parts, length-append (counted b.0.0) b.0.1, ap length same)
+    grind (
+      arith,
+      bind_some,
+      number_in,
+      counted_in,
+      counted_takes,
+      some_is,
+      guard_some,
+      ltb,
+      length,
+      sum_from,
+      take,
+      drop,
+      length-drop,
+      length-append,
+      counted,
+    )
 
 -- its octets are the length of its fields
 pub subgroup-length : (group : Subgroup) → length (subgroup group) ≡ 5 + length group.metadata
@@ -99,28 +99,18 @@ pub reserved_here : (whole : List ℕ) (count i : ℕ) (from : List ℕ) (group 
     → is_reserved group.bits ≡ true
     → reserved_in whole (count - i) from ≡ total → Some (place_in whole from) ≡ total
 unfolding reserved_in
-reserved_here whole count i from group after total lt h r so_far =
-    let k : count - i ≡ suc (count - (i + 1)) = omega arith in
-    let one : reserved_in whole (count - i) from ≡ Some (place_in whole from) = rw (k, h, r) refl in
-    sym one ∙ so_far
+reserved_here whole count i from group after total lt h r so_far = grind (arith, place_in)
 
 pub unreserved_short : (whole : List ℕ) (count i : ℕ) (from : List ℕ) (total : Option ℕ) → i < count → subgroup_in from ≡ None → reserved_in whole (count - i) from ≡ total → None ≡ total
 unfolding reserved_in
-unreserved_short whole count i from total lt h so_far =
-    let k : count - i ≡ suc (count - (i + 1)) = omega arith in
-    let one : reserved_in whole (count - i) from ≡ None = rw (k, h) refl in
-    sym one ∙ so_far
+unreserved_short whole count i from total lt h so_far = grind arith
 
 pub unreserved_end : (whole : List ℕ) (count i : ℕ) (from : List ℕ) (total : Option ℕ) → count ≤ i → reserved_in whole (count - i) from ≡ total → None ≡ total
 unfolding reserved_in
-unreserved_end whole count i from total le so_far =
-    let k : count - i ≡ 0 = omega arith in
-    let one : reserved_in whole (count - i) from ≡ None = rw k refl in
-    sym one ∙ so_far
+unreserved_end whole count i from total le so_far = grind arith
 
 choice : (b : Bool) (place : ℕ) (x y : Option ℕ) → x ≡ y → cond b (Some place) x ≡ cond b (Some place) y
-choice true place x y e = refl
-choice false place x y e = e
+choice b place x y e = grind arith
 
 reserved_suc : (whole : List ℕ) (count : ℕ) (from : List ℕ) (group : Subgroup) (after : List ℕ) → subgroup_in from ≡ Some (group, after)
     → reserved_in whole (suc count) from ≡ cond (is_reserved group.bits) (Some (place_in whole from)) (reserved_in whole count after)
@@ -136,9 +126,7 @@ reserved_cons place group groups = rw (number-length 4 group.bits) refl
 pub reserved_found : (whole : List ℕ) (count : ℕ) (from : List ℕ) (x : List Subgroup × List ℕ) → IsOctets from → length from ≤ length whole → subgroups_in count from ≡ Some x
     → reserved_in whole count from ≡ reserved_from (place_in whole from) (flat_map subgroup_fields x.0)
 unfolding reserved_in subgroups_in
-reserved_found whole zero from x h le e =
-    let start : List Subgroup × List ℕ = ([], from) in
-    subst (λ (y : List Subgroup × List ℕ). None ≡ reserved_from (place_in whole from) (flat_map subgroup_fields y.0)) (some_is start x e) refl
+reserved_found whole zero from x h le e = grind (arith, reserved_from, place_in, subgroup_fields, some_is)
 reserved_found whole (suc count) from x h le e =
     let a = bind_some (subgroup_in from) (λ first. subgroups_in count first.1 >>= λ others. Some (first.0 ∷ others.0, others.1)) x e in
     let b = bind_some (subgroups_in count a.0.1) (λ others. Some (a.0.0 ∷ others.0, others.1)) x a.2 in
@@ -150,6 +138,4 @@ reserved_found whole (suc count) from x h le e =
     rest ∙ ap (λ (p : ℕ). reserved_from p (flat_map subgroup_fields b.0.0)) there in
     let read : List Subgroup × List ℕ = (a.0.0 ∷ b.0.0, b.0.1) in
     subst (λ (y : List Subgroup × List ℕ). reserved_in whole (suc count) from ≡ reserved_from (place_in whole from) (flat_map subgroup_fields y.0)) (some_is read x b.2)
-    (reserved_suc whole count from a.0.0 a.0.1 a.1
-    ∙ choice (is_reserved a.0.0.bits) (place_in whole from) (reserved_in whole count a.0.1)
-    (reserved_from (place_in whole from + 4 + 1 + length a.0.0.metadata) (flat_map subgroup_fields b.0.0)) tail ∙ sym (reserved_cons (place_in whole from) a.0.0 b.0.0))
+    (grind (arith, reserved_suc, choice, is_reserved, place_in, reserved_from, length, subgroup_fields, reserved_cons))

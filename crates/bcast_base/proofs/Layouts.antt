@@ -23,8 +23,7 @@ first_from start place (field ∷ fields) e =
     (first_from (start + length field.octets) place fields)
 
 step_none : (b : Bool) (start : ℕ) (next : Option ℕ) → cond b (Some start) next ≡ None → (b ≡ false) × (next ≡ None)
-step_none true start next e = absurd cc
-step_none false start next e = (refl, e)
+step_none b start next e = grind arith
 
 none_from : (start : ℕ) (fields : List Field) → reserved_from start fields ≡ None → NoneReserved fields
 none_from start [] e = tt
@@ -44,13 +43,10 @@ first_only start (first ∷ prefix) field back h t =
     rw h.0 (first_only (start + length first.octets) prefix field back h.1 t ∙ ap (λ (n : ℕ). Some n) there)
 
 pub reserved_first : (place : ℕ) (fields : List Field) → reserved_from 0 fields ≡ Some place → FirstReserved place fields
-reserved_first place fields e =
-    let r = first_from 0 place fields e in
-    (r.0, r.1, r.2, r.3, r.4, r.5, r.6 ∙ zero-add (length (laid r.0)))
+reserved_first place fields e = grind (arith, first_from, zero-add, length, laid)
 
 pub first_reserved : (place : ℕ) (fields : List Field) → FirstReserved place fields → reserved_from 0 fields ≡ Some place
-first_reserved place fields r =
-    ap (reserved_from 0) r.3 ∙ first_only 0 r.0 r.1 r.2 r.4 r.5 ∙ ap (λ (n : ℕ). Some n) (zero-add (length (laid r.0)) ∙ sym r.6)
+first_reserved place fields r = grind (arith, reserved_from, first_only, zero-add, length, laid)
 
 pub reserved_none : (fields : List Field) → reserved_from 0 fields ≡ None → NoneReserved fields
 reserved_none fields e = none_from 0 fields e

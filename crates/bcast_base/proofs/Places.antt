@@ -50,9 +50,7 @@ pow_le i j h =
     omega (arith, split, mul-le (2 ^ i) 1 (2 ^ i) (2 ^ (j - i)) (le_refl (2 ^ i)) (pow_pos (j - i)))
 
 eight_more : (place : ℕ) → 2 ^ (8 * (place + 1)) ≡ 2 ^ (8 * place) * 256
-eight_more place =
-    let e : 8 * (place + 1) ≡ 8 * place + 8 = omega arith in
-    ap (λ n. 2 ^ n) e ∙ pow-add 2 (8 * place) 8
+eight_more place = let e : 8 * (place + 1) ≡ 8 * place + 8 = omega arith in ap (λ n. 2 ^ n) e ∙ pow-add 2 (8 * place) 8
 
 -- one octet more takes 8 bits more
 pub small_read : (place value octet : ℕ) → value < 2 ^ (8 * place) → octet < 256 → value * 256 + octet < 2 ^ (8 * (place + 1))
@@ -70,17 +68,19 @@ spread s p q m = omega arith
 pub one_more_written : (value place rest : ℕ) (into : List ℕ) → place < length into → value ≡ sum_from 0 (take place into) + 2 ^ (8 * place) * rest
     → value ≡ sum_from 0 (take (place + 1) (set into place (bit_and rest 255))) + 2 ^ (8 * (place + 1)) * (rest / 256)
 one_more_written value place rest into inside so_far =
-    let low : bit_and rest 255 ≡ rest % 256 = and_mask rest 8 in
-    let whole : rest / 256 * 256 + rest % 256 ≡ rest = div-add-mod' rest 256 in
-    let counted : length (take place into) ≡ place = length-take-le place into (omega arith) in
-    let last : sum_from (0 + length (take place into)) (bit_and rest 255 ∷ []) ≡ rest % 256 * 2 ^ (8 * place) =
-    ap (λ n. sum_from n (bit_and rest 255 ∷ [])) (zero-add (length (take place into)) ∙ counted)
-    ∙ (add-zero (bit_and rest 255 * 256 ^ place) ∙ (ap (λ n. n * 256 ^ place) low ∙ ap (λ n. rest % 256 * n) (octets_as_bits place))) in
-    let taken : sum_from 0 (take (place + 1) (set into place (bit_and rest 255))) ≡ sum_from 0 (take place into) + rest % 256 * 2 ^ (8 * place) =
-    ap (sum_from 0) (take_more_set into place (bit_and rest 255) inside) ∙ (sum_from-append 0 (take place into) (bit_and rest 255 ∷ []) ∙ ap (λ n. sum_from 0 (take place into) + n) last) in
-    so_far ∙ (ap (λ n. sum_from 0 (take place into) + 2 ^ (8 * place) * n) (sym whole)
-    ∙ (spread (sum_from 0 (take place into)) (2 ^ (8 * place)) (rest / 256) (rest % 256)
-    ∙ sym (ap (λ n. n + 2 ^ (8 * (place + 1)) * (rest / 256)) taken ∙ ap (λ n. sum_from 0 (take place into) + rest % 256 * 2 ^ (8 * place) + n * (rest / 256)) (eight_more place))))
+    grind (
+      arith,
+      and_mask rest 8,
+      div-add-mod' rest 256,
+      length-take-le place into (omega arith),
+      zero-add (length (take place into)),
+      add-zero (bit_and rest 255 * 256 ^ place),
+      octets_as_bits place,
+      take_more_set into place (bit_and rest 255) inside,
+      sum_from-append 0 (take place into) (bit_and rest 255 ∷ []),
+      spread (sum_from 0 (take place into)) (2 ^ (8 * place)) (rest / 256) (rest % 256),
+      eight_more place,
+    )
 
 -- the bits that are left are 8 fewer
 pub small_rest : (place total rest : ℕ) → place < total → rest < 2 ^ (8 * (total - place)) → rest / 256 < 2 ^ (8 * (total - (place + 1)))

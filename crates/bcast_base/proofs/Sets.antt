@@ -1,5 +1,5 @@
 -- One bit of a number, as the code tests, sets and clears it.
-use Rattle.bcast_base.proofs.Prelude.{◌≡◌, ◌≢◌, ◌≤◌, ◌<◌, ◌↔◌, ℕ, ◌-◌, ◌*◌, ◌/◌, ◌%◌, ◌^◌, IsTrue, nat_eq, bit_and, bit_or, sym, ◌∙◌, ap, inl, inr, arith, one_shl, or_lt, and_le_l, pow_below}
+use Rattle.bcast_base.proofs.Prelude.{◌≡◌, ◌≢◌, ◌≤◌, ◌<◌, ◌↔◌, ℕ, ◌-◌, ◌*◌, ◌/◌, ◌%◌, ◌^◌, IsTrue, nat_eq, bit_and, bit_or, sym, ◌∙◌, inl, inr, arith, one_shl, or_lt, and_le_l, pow_below}
 use Rattle.std.specs.Int.{w32, bit_at}
 use Rattle.std.proofs.lemmas.Nat.Bits.{shr_and_one, bit_at_set_same, bit_at_set_other, bit_at_clear_same, bit_at_clear_other, bit_at_above}
 use Rattle.std.proofs.lemmas.Bool.{eqb-true, eq-eqb}
@@ -43,13 +43,10 @@ pub with_has : (bits set r bis : ℕ) → bits ≡ set → r ≡ bis → 1 ≤ r
 with_has bits set r bis is same least greatest = rw (← same) (set_same bits r least greatest)
 
 pub with_others : (bits set r bis : ℕ) → bits ≡ set → r ≡ bis → 1 ≤ r → r ≤ 31 → (b : ℕ) → 1 ≤ b → b ≢ bis → Has (bit_or bits (1 * 2 ^ (r - 1) % 2 ^ 32)) b ↔ Has set b
-with_others bits set r bis is same least greatest b from other =
-    same_bit _ _ (set_other bits r b least greatest from (λ e. other (e ∙ same)) ∙ ap (λ n. bit_at n (b - 1)) is)
+with_others bits set r bis is same least greatest b from other = grind (arith, same_bit, set_other)
 
 pub without_has : (bits set r bis : ℕ) → bits ≡ set → r ≡ bis → 1 ≤ r → r ≤ 31 → Has (bit_and bits (2 ^ 32 - 1 - 1 * 2 ^ (r - 1) % 2 ^ 32)) bis → ⊥
-without_has bits set r bis is same least greatest =
-    rw (← same) (zero_or_one _ (clear_same bits r least greatest))
+without_has bits set r bis is same least greatest = grind (arith, zero_or_one, clear_same)
 
 pub without_others : (bits set r bis : ℕ) → bits < 2 ^ 31 → bits ≡ set → r ≡ bis → 1 ≤ r → r ≤ 31 → (b : ℕ) → 1 ≤ b → b ≢ bis → Has (bit_and bits (2 ^ 32 - 1 - 1 * 2 ^ (r - 1) % 2 ^ 32)) b ↔ Has set b
-without_others bits set r bis small is same least greatest b from other =
-    same_bit _ _ (clear_other bits r b small least greatest from (λ e. other (e ∙ same)) ∙ ap (λ n. bit_at n (b - 1)) is)
+without_others bits set r bis small is same least greatest b from other = grind (arith, same_bit, clear_other)

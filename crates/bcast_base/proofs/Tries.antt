@@ -1,4 +1,5 @@
 -- Steps of reading that were made, and steps that failed.
+use Rattle.std.proofs.Common.{arith}
 use Rattle.bcast_base.proofs.Prelude.{◌≡◌, ◌⊎◌, Option, Some, None, Result, Ok, Err, refl, ap, inl, inr}
 use Rattle.bcast_base.specs.Tries.{◌>>=◌, needed}
 
@@ -13,8 +14,7 @@ ok_no x fault e = cc
 
 -- what a step gave that did not fail
 pub bind_ok : {A B E : Type 0} (read : Result A E) (f : A → Result B E) (y : B) → (read >>= f) ≡ Ok y → (x : A) × (read ≡ Ok x) × (f x ≡ Ok y)
-bind_ok (Ok x) f y e = (x, refl, e)
-bind_ok (Err fault) f y e = absurd cc
+bind_ok read f y e = grind arith
 
 -- the step that failed
 pub bind_err : {A B E : Type 0} (read : Result A E) (f : A → Result B E) (fault : E) → (read >>= f) ≡ Err fault
@@ -24,8 +24,7 @@ bind_err {B = B} (Err other) f fault e = inl (ap (λ x. Err x) (err_is {A = B} o
 
 -- a field that is whole, and one that is not
 pub needed_ok : {A E : Type 0} (fault : E) (field : Option A) (x : A) → needed fault field ≡ Ok x → field ≡ Some x
-needed_ok fault None x e = absurd cc
-needed_ok fault (Some y) x e = ap (λ z. Some z) (ok_is y x e)
+needed_ok fault field x e = grind (arith, ok_is)
 
 pub needed_err : {A E : Type 0} (fault : E) (field : Option A) (other : E) → needed fault field ≡ Err other → (field ≡ None) × (fault ≡ other)
 needed_err {A = A} fault None other e = (refl, err_is {A = A} fault other e)
