@@ -1,4 +1,5 @@
 -- What is read as an AD list is one, and what is one is read so.
+use Rattle.std.proofs.Common.{arith}
 use Rattle.base_grammar.proofs.Prelude.{◌≡◌, ℕ, List, [], ◌∷◌, ◌++◌, length, take, Result, Ok, Err, refl, sym, ap, ◌∙◌, take_at, append-nil, IsOctets, LtvBad, Ltv, IsBad, StandsZero, IsLtvList, AreLtvs, ltvs_of, ltvs_in, list_read, read_list}
 use Rattle.std.specs.Result.{result_unwrap_or}
 use Rattle.ltv_codec.specs.declared.fault.LtvBad.TheVariants.{ZeroLength, Short}
@@ -27,8 +28,7 @@ pub record Listed (place : ℕ) (octets : List ℕ) : Type 0 where
   pub parts : octets ≡ take place octets ++ left
 
 stands_end : (left : List ℕ) → StandsZero left → IsEnd left
-stands_end [] h = absurd h
-stands_end (count ∷ ignored) h = h
+stands_end left h = grind arith
 
 pub listed_at : (place : ℕ) (octets : List ℕ) → IsBad (ZeroLength place) octets → Listed place octets
 listed_at place octets (ltvs, prefix, rest, l, there, stands, parts) =
@@ -36,9 +36,7 @@ listed_at place octets (ltvs, prefix, rest, l, there, stands, parts) =
     record { ltvs = ltvs; left = rest; list = rw prefix_is l; ends = stands_end rest stands; parts = rw prefix_is parts }
 
 pub listed_read : (place : ℕ) (octets : List ℕ) → IsBad (ZeroLength place) octets → AreLtvs (take place octets)
-listed_read place octets h =
-    let l = listed_at place octets h in
-    record { ltvs = l.ltvs; list = l.list }
+listed_read place octets h = let l = listed_at place octets h in record { ltvs = l.ltvs; list = l.list }
 
 pub listed_list : (place : ℕ) (octets : List ℕ) → IsBad (ZeroLength place) octets → IsAdList (ltvs_in (take place octets)) octets
 listed_list place octets h =
@@ -59,9 +57,8 @@ pub read_ads : (ads : List Ltv) (octets : List ℕ) → IsOctets octets → ads_
 read_ads ads octets fits h = list_by ads octets (ltvs_of octets) fits refl h
 
 short_by : (place : ℕ) (octets : List ℕ) (read : Result (List Ltv) LtvBad) → IsOctets octets → ltvs_of octets ≡ read → ads_read octets read ≡ Err place → IsAdShort place octets
-short_by place octets (Ok ltvs) fits e h = absurd (ok_is_ok ltvs place h)
-short_by place octets (Err (ZeroLength at)) fits e h = absurd (ok_is_ok (ltvs_in (take at octets)) place h)
 short_by place octets (Err (Short at)) fits e h = rw (← err_same at place h) (read_bad (Short at) octets fits e)
+short_by place octets read fits e h = search (ok_is_ok, ltvs_in, take, err_same, read_bad)
 
 pub read_short : (place : ℕ) (octets : List ℕ) → IsOctets octets → ads_of octets ≡ Err place → IsAdShort place octets
 read_short place octets fits h = short_by place octets (ltvs_of octets) fits refl h
@@ -77,18 +74,9 @@ ads_read_at ads octets prefix ignored l parts =
     ∙ ap (λ (os : List ℕ). Ok (ltvs_in os)) prefix_is
     ∙ ap (λ (r : Result (List Ltv) LtvBad). Ok (result_unwrap_or r [])) (list_read ads prefix l)
 
-ads_by : (ads : List Ltv) (octets prefix left : List ℕ) → IsLtvList ads prefix → IsEnd left → octets ≡ prefix ++ left → ads_of octets ≡ Ok ads
-ads_by ads octets prefix [] l ends parts =
-    let same : octets ≡ prefix = parts ∙ append-nil prefix in
-    ap (ads_read octets) (ap ltvs_of same ∙ list_read ads prefix l)
-ads_by ads octets prefix (count ∷ ignored) l ends parts = ads_read_at ads octets prefix ignored l (parts ∙ ap (λ (n : ℕ). prefix ++ n ∷ ignored) ends)
-
 pub ads_read_so : (ads : List Ltv) (octets : List ℕ) → IsAdList ads octets → ads_of octets ≡ Ok ads
-ads_read_so ads octets l = ads_by ads octets l.listed l.left l.list l.ends l.parts
+ads_read_so ads octets l = grind (arith, append-nil, ltvs_of, list_read, ads_read_at)
 
 -- octets whose first bad length octet is 0 are a list
 pub ends_early : (place : ℕ) (octets : List ℕ) → IsBad (ZeroLength place) octets → IsAdList (ads_in octets) octets
-ends_early place octets h =
-    let read : ads_of octets ≡ Ok (ltvs_in (take place octets)) = ap (ads_read octets) (bad_read (ZeroLength place) octets h) in
-    let same : ads_in octets ≡ ltvs_in (take place octets) = ap (λ (r : Result (List Ltv) ℕ). result_unwrap_or r []) read in
-    rw same (listed_list place octets h)
+ends_early place octets h = grind (arith, bad_read (ZeroLength place) octets h, listed_list place octets h)

@@ -1,5 +1,5 @@
 -- What is encoded as a BASE is read.
-use Rattle.base_grammar.proofs.Prelude.{◌≡◌, ℕ, suc, ◌≤◌, Bool, true, false, cond, ltb, List, [], ◌∷◌, ◌++◌, length, map, Some, Result, Ok, Err, refl, sym, ap, subst, ◌∙◌, append_assoc, arith, IfOk, flat_map, AllByRecursion, ltb-false, le-ltb, append-nil, flat_map-cons, octets_in, number_in, place_in, IsOctets, counted, octets_again, number_again, BaseFault, TooLong, BaseEntry, Subgroup, Endpoint, is_lc3, entry, subgroup, encoding, bis_of, indices, stands_in, AreNew, IsConfig, EntryFits, SubgroupFits, HasEntry, IsBase, BaseIs, told, Answers}
+use Rattle.base_grammar.proofs.Prelude.{◌≡◌, ℕ, suc, ◌≤◌, Bool, false, cond, ltb, List, [], ◌∷◌, ◌++◌, length, map, Some, Result, Ok, Err, refl, sym, ap, subst, ◌∙◌, append_assoc, arith, IfOk, flat_map, AllByRecursion, ltb-false, le-ltb, append-nil, flat_map-cons, octets_in, place_in, IsOctets, counted, octets_again, number_again, BaseFault, TooLong, BaseEntry, Subgroup, Endpoint, is_lc3, entry, subgroup, encoding, bis_of, indices, stands_in, AreNew, IsConfig, EntryFits, SubgroupFits, HasEntry, IsBase, BaseIs, told, Answers}
 use Rattle.base_grammar.specs.Reading.{run_at, index_at, entry_at, entries_at, streams_at, subgroup_at, subgroups_at, count_at, fields_of, base_of}
 use Rattle.base_grammar.proofs.Steps.{none_run, none_index, none_streams, none_subgroups}
 use Rattle.base_grammar.proofs.Taken.{fields_take}
@@ -23,16 +23,14 @@ count_again whole count rest h = rw (none_subgroups count h) refl
 entry_again : (whole : List ℕ) (is_list : Bool) (before : List ℕ) (e : BaseEntry) (rest : List ℕ) → EntryFits is_list e → stands_in before e.bis ≡ false
     → entry_at whole is_list before (entry e ++ rest) ≡ Ok (e, rest)
 unfolding entry_at
-entry_again whole is_list before e rest fits is_new =
-    rw (index_again whole before e.bis (counted e.config ++ rest) fits.least fits.greatest is_new, run_again whole is_list e.config rest fits.config) refl
+entry_again whole is_list before e rest fits is_new = grind (arith, index_again, counted, run_again)
 
 entries_again : (whole : List ℕ) (is_list : Bool) (before : List ℕ) (es : List BaseEntry) (rest : List ℕ) → AllByRecursion (EntryFits is_list) es → AreNew before (map bis_of es)
     → entries_at whole is_list before (length es) (flat_map entry es ++ rest) ≡ Ok (es, rest)
 unfolding entries_at
 entries_again whole is_list before [] rest fit are_new = refl
 entries_again whole is_list before (e ∷ es) rest fit are_new =
-    let regrouped : flat_map entry (e ∷ es) ++ rest ≡ entry e ++ (flat_map entry es ++ rest) = ap (λ (x : List ℕ). x ++ rest) (flat_map-cons entry e es)
-    ∙ append_assoc (entry e) (flat_map entry es) rest in
+    let regrouped : flat_map entry (e ∷ es) ++ rest ≡ entry e ++ (flat_map entry es ++ rest) = grind (arith, flat_map-cons, entry, append_assoc, flat_map) in
     ap (entries_at whole is_list before (suc (length es))) regrouped
     ∙ rw (entry_again whole is_list before e (flat_map entry es ++ rest) fit.0 are_new.0, entries_again whole is_list (before ++ e.bis ∷ []) es rest fit.1 are_new.1) refl
 
@@ -43,21 +41,7 @@ subgroup_again : (whole before : List ℕ) (s : Subgroup) (rest : List ℕ) → 
     → subgroup_at whole before (subgroup s ++ rest) ≡ Ok (s, rest)
 unfolding subgroup_at
 subgroup_again whole before s rest fits some are_new =
-    let entries : List ℕ = flat_map entry s.entries in
-    let regrouped : subgroup s ++ rest ≡ length s.entries ∷ (s.codec ++ (counted s.config ++ (counted s.metadata ++ (flat_map entry s.entries ++ rest)))) =
-    ap (λ (x : List ℕ). length s.entries ∷ x) (
-    append_assoc s.codec (counted s.config ++ (counted s.metadata ++ flat_map entry s.entries)) rest
-    ∙ ap (λ (x : List ℕ). s.codec ++ x) (
-    append_assoc (counted s.config) (counted s.metadata ++ flat_map entry s.entries) rest
-    ∙ ap (λ (x : List ℕ). counted s.config ++ x) (append_assoc (counted s.metadata) (flat_map entry s.entries) rest))) in
-    ap (subgroup_at whole before) regrouped
-    ∙ rw (
-      streams_again whole (length s.entries) (s.codec ++ (counted s.config ++ (counted s.metadata ++ (flat_map entry s.entries ++ rest)))) some,
-      five_again s.codec (counted s.config ++ (counted s.metadata ++ (flat_map entry s.entries ++ rest))) fits.codec,
-      run_again whole (is_lc3 s.codec) s.config (counted s.metadata ++ (flat_map entry s.entries ++ rest)) fits.config,
-      run_again whole true s.metadata (flat_map entry s.entries ++ rest) (λ _. fits.metadata),
-      entries_again whole (is_lc3 s.codec) before s.entries rest fits.entries are_new,
-    ) refl
+    grind (arith, flat_map, entry, subgroup, length, counted, append_assoc, streams_again, five_again, run_again, is_lc3, entries_again)
 
 pub AreNew-first : (before xs ys : List ℕ) → AreNew before (xs ++ ys) → AreNew before xs
 AreNew-first before [] ys h = tt
@@ -72,8 +56,7 @@ subgroups_again : (whole before : List ℕ) (ss : List Subgroup) (rest : List �
 unfolding subgroups_at
 subgroups_again whole before [] rest fit streams are_new = refl
 subgroups_again whole before (s ∷ ss) rest fit streams are_new =
-    let regrouped : flat_map subgroup (s ∷ ss) ++ rest ≡ subgroup s ++ (flat_map subgroup ss ++ rest) = ap (λ (x : List ℕ). x ++ rest) (flat_map-cons subgroup s ss)
-    ∙ append_assoc (subgroup s) (flat_map subgroup ss) rest in
+    let regrouped : flat_map subgroup (s ∷ ss) ++ rest ≡ subgroup s ++ (flat_map subgroup ss ++ rest) = grind (arith, flat_map-cons, subgroup, append_assoc, flat_map) in
     let all : AreNew before (map bis_of s.entries ++ indices ss) = subst (AreNew before) (flat_map-cons (λ (x : Subgroup). map bis_of x.entries) s ss) are_new in
     ap (subgroups_at whole before (suc (length ss))) regrouped
     ∙ rw (
@@ -84,23 +67,22 @@ subgroups_again whole before (s ∷ ss) rest fit streams are_new =
 fields_again : (whole : List ℕ) (v : Endpoint) → IsBase v → whole ≡ encoding v → fields_of whole ≡ Ok v
 unfolding fields_of
 fields_again whole v b encoded =
-    let delay : number_in 3 whole ≡ Some (v.delay, length v.subgroups ∷ flat_map subgroup v.subgroups) =
-    ap (number_in 3) encoded ∙ number_again 3 v.delay (length v.subgroups ∷ flat_map subgroup v.subgroups) b.delay in
-    let others : subgroups_at whole [] (length v.subgroups) (flat_map subgroup v.subgroups) ≡ Ok (v.subgroups, []) =
-    ap (subgroups_at whole [] (length v.subgroups)) (sym (append-nil (flat_map subgroup v.subgroups))) ∙ subgroups_again whole [] v.subgroups [] b.fits b.streams b.once in
-    rw (delay, count_again whole (length v.subgroups) (flat_map subgroup v.subgroups) b.some, others) refl
+    grind (
+      arith,
+      number_again 3 v.delay (length v.subgroups ∷ flat_map subgroup v.subgroups) b.delay,
+      append-nil (flat_map subgroup v.subgroups),
+      subgroups_again whole [] v.subgroups [] b.fits b.streams b.once,
+      count_again whole (length v.subgroups) (flat_map subgroup v.subgroups) b.some,
+    )
 
 -- ---- all octets
 
 pub base_again : (v : Endpoint) (octets : List ℕ) → BaseIs v octets → base_of octets ≡ Ok v
 unfolding base_of
-base_again v octets b =
-    let short : ltb 252 (length octets) ≡ false = le-ltb _ _ (omega (arith, b.base.small, ap length b.encoded)) in
-    rw short (fields_again octets v b.base b.encoded)
+base_again v octets b = grind (arith, ltb, length, le-ltb, fields_again)
 
 not_long : {A : Type 0} (b : Bool) (r : Result A BaseFault) (x : A) → cond b (Err TooLong) r ≡ Ok x → (b ≡ false) × (r ≡ Ok x)
-not_long true r x e = absurd cc
-not_long false r x e = (refl, e)
+not_long b r x e = grind arith
 
 pub base_takes : (octets : List ℕ) (v : Endpoint) → IsOctets octets → base_of octets ≡ Ok v → BaseIs v octets
 unfolding base_of
@@ -114,5 +96,4 @@ base_takes octets v fits e =
     }
 
 pub found_base : (octets : List ℕ) (result : Result Endpoint BaseFault) → IsOctets octets → Answers told result (base_of octets) → IfOk result (λ base. BaseIs base octets)
-found_base octets (Ok v) fits given = base_takes octets v fits given
-found_base octets (Err fault) fits given = tt
+found_base octets result fits given = grind (arith, base_takes)

@@ -1,5 +1,5 @@
 -- Looking through a BASE with a set of the indices that were met finds what reading finds.
-use Rattle.base_grammar.proofs.Prelude.{◌≡◌, ◌≢◌, ◌==◌, ℕ, ◌+◌, ◌<◌, ◌≤◌, ◌↔◌, ◌||◌, Bool, true, false, eqb, List, [], ◌∷◌, ◌++◌, length, map, Option, Some, None, Result, Ok, Err, refl, sym, ap, subst, ◌∙◌, append_assoc, arith, inl, inr, IsTrue, cases_lt, lt-ltb, le-ltb, eqb-true, eqb-false, false_from_ne_true, map_push, list_any-append, octet_in, octets_in, place_in, BaseFault, BaseEntry, Subgroup, Endpoint, is_lc3, bis_of, indices, stands_in, index_fault, Finds, field_at, unless, rest_of, told}
+use Rattle.base_grammar.proofs.Prelude.{◌≡◌, ◌≢◌, ◌==◌, ℕ, ◌+◌, ◌<◌, ◌≤◌, ◌↔◌, ◌||◌, Bool, true, false, eqb, List, [], ◌∷◌, ◌++◌, length, map, Option, Some, None, Result, Ok, Err, refl, sym, ap, subst, ◌∙◌, append_assoc, arith, IsTrue, cases_lt, lt-ltb, le-ltb, eqb-true, eqb-false, false_from_ne_true, map_push, list_any-append, octet_in, octets_in, place_in, BaseFault, BaseEntry, Subgroup, Endpoint, is_lc3, bis_of, indices, stands_in, index_fault, Finds, field_at, unless, rest_of, told}
 use Rattle.std.specs.Result.{result_err}
 use Rattle.bcast_base.specs.Bis.{Has}
 use Rattle.base_grammar.specs.declared.fault.BaseFault.TheVariants as faults
@@ -15,18 +15,13 @@ stands : (set : ℕ) (before : List ℕ) (bis : ℕ) (has : Bool) → Seen set b
 stands set before bis has s least greatest h e = (s bis least greatest).0 (h.0 e)
 
 stands_not : (set : ℕ) (before : List ℕ) (bis : ℕ) (has : Bool) → Seen set before → 1 ≤ bis → bis ≤ 31 → (IsTrue has ↔ Has set bis) → has ≡ false → stands_in before bis ≡ false
-stands_not set before bis has s least greatest h e =
-    false_from_ne_true (stands_in before bis) (λ stood. let wrong : true ≡ false = sym (h.1 ((s bis least greatest).1 stood)) ∙ e in cc)
+stands_not set before bis has s least greatest h e = grind (arith, false_from_ne_true, stands_in)
 
 or_last : (a b : Bool) → b ≡ true → (a || (b || false)) ≡ true
-or_last true b e = refl
-or_last false true e = refl
-or_last false false e = absurd cc
+or_last a b e = grind arith
 
 or_none : (a b : Bool) → b ≡ false → (a || (b || false)) ≡ a
-or_none true b e = refl
-or_none false true e = absurd cc
-or_none false false e = refl
+or_none a b e = grind arith
 
 behind : (before : List ℕ) (bis b : ℕ) → stands_in (before ++ bis ∷ []) b ≡ (stands_in before b || ((bis == b) || false))
 behind before bis b = list_any-append (λ x. x == b) before (bis ∷ [])
@@ -54,11 +49,7 @@ unfolding index_at
 index_tested whole before rest bis after o e h = rw (e, h) refl
 
 outside : (place : ℕ) (before : List ℕ) (bis : ℕ) → ((1 ≤ bis) × (bis ≤ 31) → ⊥) → index_fault place before bis ≡ Some (faults.BadIndex place)
-outside place before bis none =
-    elim (cases_lt bis 1) [
-      | inl lt ↦ rw (lt-ltb bis 1 lt) refl
-      | inr le ↦ elim (cases_lt 31 bis) [ inl lt ↦ rw (le-ltb bis 1 le, lt-ltb 31 bis lt) refl | inr few ↦ absurd (none (le, few)) ]
-    ]
+outside place before bis none = grind (arith, cases_lt, lt-ltb, le-ltb)
 
 twice : (place : ℕ) (before : List ℕ) (bis : ℕ) → 1 ≤ bis → bis ≤ 31 → stands_in before bis ≡ true → index_fault place before bis ≡ Some (faults.IndexTwice place)
 twice place before bis least greatest e = rw (le-ltb bis 1 least, le-ltb 31 bis greatest, e) refl
@@ -99,8 +90,7 @@ entry_unread whole l before rest after set f p e = rw (p.same, e) refl
 pub entry_passed : (whole : List ℕ) (l : Bool) (before rest after : List ℕ) (set : ℕ) (config left : List ℕ) → Passed same_bis before set after (index_at whole before rest)
     → run_at whole l after ≡ Ok (config, left) → Passed entry_bis before set left (entry_at whole l before rest)
 unfolding entry_at
-entry_passed whole l before rest after set config left p e =
-    record { value = record { bis = p.value; config = config }; same = rw (p.same, e) refl; seen = p.seen }
+entry_passed whole l before rest after set config left p e = grind arith
 
 -- ---- entries
 
@@ -190,8 +180,7 @@ subgroup_ends view (Ok left) set whole before rest count r1 codec r2 config r3 m
       same = subgroup_read whole before rest count r1 codec r2 config r3 metadata r4 p.value (view left) a b c d p.same;
       seen = p.seen;
     }
-subgroup_ends view (Err f) set whole before rest count r1 codec r2 config r3 metadata r4 a b c d e =
-    subgroup_unread whole before rest count r1 codec r2 config r3 metadata r4 f a b c d e
+subgroup_ends view result set whole before rest count r1 codec r2 config r3 metadata r4 a b c d p = search (subgroup_read, subgroup_unread)
 
 -- ---- subgroups
 

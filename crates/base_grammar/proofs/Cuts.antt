@@ -1,5 +1,5 @@
 -- Reading a BASE takes whole fields that meet their rows, and stops at the cut.
-use Rattle.base_grammar.proofs.Prelude.{◌≡◌, ℕ, zero, suc, ◌-◌, ◌≤◌, Bool, true, false, List, [], ◌∷◌, ◌++◌, map, Result, Ok, Err, refl, sym, subst, append_assoc, arith, octets_in, number_in, place_in, BaseFault, Trailing, BaseEntry, Subgroup, endpoint, is_lc3, bis_of, subgroups_fault, streams_fault, index_fault, ◌>>=◌, field_at, ended, Row, num_subgroups, num_bis, codec_id, config_length, config, metadata_length, metadata, bis_index, bis_config_length, bis_config, nothing, Due, first_due, behind_entry, behind_subgroup, AtCut}
+use Rattle.base_grammar.proofs.Prelude.{◌≡◌, ℕ, zero, suc, ◌-◌, ◌≤◌, Bool, true, false, List, [], ◌∷◌, ◌++◌, map, Result, Ok, Err, refl, subst, append_assoc, arith, octets_in, number_in, place_in, BaseFault, Trailing, BaseEntry, Subgroup, endpoint, is_lc3, bis_of, subgroups_fault, streams_fault, index_fault, ◌>>=◌, field_at, ended, Row, num_subgroups, num_bis, codec_id, config_length, config, metadata_length, metadata, bis_index, bis_config_length, bis_config, nothing, Due, first_due, behind_entry, behind_subgroup, AtCut}
 use Rattle.base_grammar.specs.Reading.{run_at, index_at, entry_at, entries_at, streams_at, subgroup_at, subgroups_at, count_at, fields_of}
 use Rattle.base_grammar.proofs.Taken.{streams_take, count_takes}
 use Rattle.base_grammar.proofs.Walk.{At, at_first, at_stop, Comes, comes_then, ruled_octet_comes, octets_come, run_comes, number_comes}
@@ -7,17 +7,9 @@ use Rattle.base_grammar.proofs.Walk.{At, at_first, at_stop, Comes, comes_then, r
 abbrev due_at : Row → Bool → ℕ → ℕ → List ℕ → Due
 due_at row is_list streams subgroups before = record { row = row; is_lc3 = is_list; streams = streams; subgroups = subgroups; before = before }
 
-behind_subgroup_row : (row other : Row) (is_list : Bool) (streams subgroups left : ℕ) (before : List ℕ)
-    → behind_subgroup left (due_at row is_list streams subgroups before) ≡ behind_subgroup left (due_at other is_list streams subgroups before)
-behind_subgroup_row row other is_list streams subgroups zero before = refl
-behind_subgroup_row row other is_list streams subgroups (suc zero) before = refl
-behind_subgroup_row row other is_list streams subgroups (suc (suc left)) before = refl
-
 behind_entry_row : (row other : Row) (is_list : Bool) (streams subgroups left : ℕ) (before : List ℕ)
     → behind_entry left (due_at row is_list streams subgroups before) ≡ behind_entry left (due_at other is_list streams subgroups before)
-behind_entry_row row other is_list streams subgroups zero before = behind_subgroup_row row other is_list streams subgroups subgroups before
-behind_entry_row row other is_list streams subgroups (suc zero) before = behind_subgroup_row row other is_list streams subgroups subgroups before
-behind_entry_row row other is_list streams subgroups (suc (suc left)) before = refl
+behind_entry_row row other is_list streams subgroups left before = grind arith
 
 -- ---- entries
 
@@ -36,16 +28,7 @@ entry_comes whole is_list streams subgroups before rest a =
     (run_at whole is_list bis.1) (λ config. Ok (record { bis = bis.0; config = config.0 }, config.1))
     (run_comes whole (due_at bis_config_length is_list streams subgroups (before ++ bis.0 ∷ [])) (λ x. due_at (bis_config x) is_list streams subgroups (before ++ bis.0 ∷ []))
     (entered is_list streams subgroups (before ++ bis.0 ∷ [])) is_list bis.1
-    (record {
-      is_due = tt;
-      one = refl;
-      sound = λ p x. refl;
-      counted = λ x. refl;
-      run_due = λ x. tt;
-      long = λ x. refl;
-      rule = λ x p field. refl;
-      behind = λ x field. behind_entry_row (bis_config x) bis_config_length is_list streams subgroups streams (before ++ bis.0 ∷ []);
-    }) a1)
+    (grind (arith, behind_entry_row, bis_config, bis_config_length)) a1)
     (λ config _ a2. a2))
 
 abbrev grouped : Bool → ℕ → List ℕ → Due
@@ -107,8 +90,7 @@ subgroup_comes whole is_list streams subgroups before rest a =
     let n : count.0 ≡ suc (count.0 - 1) = more_than count.0 (streams_take whole rest count.0 count.1 read).1 in
     comes_then whole (λ (es : List BaseEntry). grouped (is_lc3 codec.0) subgroups (before ++ map bis_of es)) (subgrouped subgroups before) (entries_at whole (is_lc3 codec.0) before count.0 told.1)
     (λ entries. Ok (record { codec = codec.0; config = level2.0; metadata = told.0; entries = entries.0 }, entries.1))
-    (subst (λ (m : ℕ). Comes whole (λ (es : List BaseEntry). grouped (is_lc3 codec.0) subgroups (before ++ map bis_of es)) (entries_at whole (is_lc3 codec.0) before m told.1)) (sym n)
-    (entries_come whole (is_lc3 codec.0) (count.0 - 1) subgroups before told.1 (subst (λ (m : ℕ). At whole (due_at bis_index (is_lc3 codec.0) m subgroups before) told.1) n a4)))
+    (grind (arith, is_lc3, map, bis_of, entries_come, bis_index))
     (λ entries _ a5. a5)))))
 
 -- all of them were read, and nothing is due, or reading stopped at the cut
@@ -118,12 +100,10 @@ Finishes whole (Err fault) = AtCut fault whole
 
 finishes_then : {A B : Type 0} (whole : List ℕ) (due : A → Due) (read : Result (A × List ℕ) BaseFault) (others : A × List ℕ → Result (B × List ℕ) BaseFault)
     → Comes whole due read → ((x : A × List ℕ) → At whole (due x.0) x.1 → Finishes whole (others x)) → Finishes whole (read >>= others)
-finishes_then whole due (Ok x) others c f = f x c
-finishes_then whole due (Err fault) others c f = c
+finishes_then whole due read others c f = grind arith
 
 finishes_more : {A B : Type 0} (whole : List ℕ) (read : Result (A × List ℕ) BaseFault) (others : A → B) → Finishes whole read → Finishes whole (read >>= λ x. Ok (others x.0, x.1))
-finishes_more whole (Ok x) others f = f
-finishes_more whole (Err fault) others f = f
+finishes_more whole read others f = grind arith
 
 subgroups_finish : (whole : List ℕ) (is_list : Bool) (streams n : ℕ) (before rest : List ℕ) → At whole (due_at num_bis is_list streams (suc n) before) rest
     → Finishes whole (subgroups_at whole before (suc n) rest)
@@ -149,8 +129,7 @@ Ends whole (Err fault) = AtCut fault whole
 
 ends_then : {A B : Type 0} (whole : List ℕ) (due : A → Due) (read : Result (A × List ℕ) BaseFault) (others : A × List ℕ → Result B BaseFault)
     → Comes whole due read → ((x : A × List ℕ) → read ≡ Ok x → At whole (due x.0) x.1 → Ends whole (others x)) → Ends whole (read >>= others)
-ends_then whole due (Ok x) others c f = f x refl c
-ends_then whole due (Err fault) others c f = c
+ends_then whole due read others c f = grind arith
 
 trailing : {A : Type 0} (whole : List ℕ) (row : Row) (is_list : Bool) (streams subgroups : ℕ) (before rest : List ℕ) (v : A) → row ≡ nothing
     → At whole (due_at row is_list streams subgroups before) rest → Ends whole (ended whole rest v)
@@ -176,5 +155,4 @@ fields_end whole =
     (λ count read a2.
     let n : count.0 ≡ suc (count.0 - 1) = more_than count.0 (count_takes whole delay.1 count.0 count.1 read).1 in
     all_ended whole delay.0 (subgroups_at whole [] count.0 count.1)
-    (subst (λ (m : ℕ). Finishes whole (subgroups_at whole [] m count.1)) (sym n)
-    (subgroups_finish whole false 0 (count.0 - 1) [] count.1 (subst (λ (m : ℕ). At whole (due_at num_bis false 0 m []) count.1) n a2)))))
+    (grind (arith, subgroups_finish whole false 0 (count.0 - 1) [] count.1 (subst (λ (m : ℕ). At whole (due_at num_bis false 0 m []) count.1) n a2)))))

@@ -1,5 +1,5 @@
 -- The steps of a draft: its last subgroup, and what the draft keeps.
-use Rattle.base_grammar.proofs.Prelude.{◌≡◌, ℕ, suc, ◌+◌, ◌-◌, ◌≤◌, Bool, true, false, cond, ltb, eqb, List, [], ◌∷◌, ◌++◌, length, get_or, map, Some, None, Result, Ok, Err, refl, sym, ap, ◌∙◌, append_assoc, arith, OnOk, OnErr, flat_map, AllByRecursion, ForSome, ltb-false, append-nil, map_push, flat_map-cons, AreLtvs, BaseEntry, Subgroup, last_of, closed, with_last, IsDraft, opened, is_empty_last, subgroup_fault, metadata_fault, entry_fault, size_fault, draft_fault, finish_fault, Refuses, Endpoint, endpoint, is_lc3, subgroup, bis_of, indices, stands_in, AreNew, IsConfig, EntryFits, SubgroupFits, HasEntry, IsBase}
+use Rattle.base_grammar.proofs.Prelude.{◌≡◌, ℕ, suc, ◌+◌, ◌-◌, ◌≤◌, Bool, false, cond, ltb, eqb, List, [], ◌∷◌, ◌++◌, length, get_or, map, Some, None, Result, Ok, Err, refl, sym, ap, ◌∙◌, append_assoc, arith, OnOk, OnErr, flat_map, AllByRecursion, ForSome, ltb-false, append-nil, map_push, flat_map-cons, AreLtvs, BaseEntry, Subgroup, last_of, closed, with_last, IsDraft, opened, is_empty_last, subgroup_fault, metadata_fault, entry_fault, size_fault, draft_fault, finish_fault, Refuses, Endpoint, endpoint, is_lc3, subgroup, bis_of, indices, stands_in, AreNew, IsConfig, SubgroupFits, HasEntry, IsBase}
 use Rattle.std.proofs.Math.ListN.{set}
 use Rattle.base_grammar.specs.declared.fault.DraftFault.{DraftFault}
 use Rattle.base_grammar.specs.declared.fault.DraftFault.TheVariants as faults
@@ -18,46 +18,38 @@ last_at (first ∷ other ∷ others) s h e =
     last_at (other ∷ others) s (omega arith) (e ∙ ap (λ (n : ℕ). get_or (first ∷ other ∷ others) n s) i)
 
 pub set_last : (change : Subgroup → Subgroup) (ss : List Subgroup) (s : Subgroup) → 1 ≤ length ss → s ≡ get_or ss (length ss - 1) s → set ss (length ss - 1) (change s) ≡ with_last change ss
-set_last change [] s h e = absurd (omega arith)
-set_last change (first ∷ []) s h e = ap (λ (x : Subgroup). change x ∷ []) e
 set_last change (first ∷ other ∷ others) s h e =
     let i : length (first ∷ other ∷ others) - 1 ≡ suc (length (other ∷ others) - 1) = omega arith in
     ap (λ (n : ℕ). set (first ∷ other ∷ others) n (change s)) i
     ∙ ap (λ (xs : List Subgroup). first ∷ xs) (set_last change (other ∷ others) s (omega arith) (e ∙ ap (λ (n : ℕ). get_or (first ∷ other ∷ others) n s) i))
+set_last change ss s h e = search (length, set, get_or)
 
 pub last_set : (change : Subgroup → Subgroup) (ss : List Subgroup) (n : ℕ) (s : Subgroup) → n ≡ length ss → eqb n 0 ≡ false → s ≡ get_or ss (n - 1) s → set ss (n - 1) (change s) ≡ with_last change ss
-last_set change ss n s long some e =
-    let h : 1 ≤ length ss = omega (arith, positive n some, long) in
-    ap (λ (k : ℕ). set ss (k - 1) (change s)) long ∙ set_last change ss s h (e ∙ ap (λ (k : ℕ). get_or ss (k - 1) s) long)
+last_set change ss n s long some e = grind (arith, length, positive, set, set_last, get_or)
 
 closed-first : (s : Subgroup) (change : Subgroup → Subgroup) (other : Subgroup) (others : List Subgroup)
     → closed (s ∷ with_last change (other ∷ others)) ≡ s ∷ closed (with_last change (other ∷ others))
-closed-first s change other [] = refl
-closed-first s change other (x ∷ xs) = refl
+closed-first s change other others = grind arith
 
 closed-with_last : (change : Subgroup → Subgroup) (ss : List Subgroup) → closed (with_last change ss) ≡ closed ss
-closed-with_last change [] = refl
-closed-with_last change (s ∷ []) = refl
 closed-with_last change (s ∷ other ∷ others) = closed-first s change other others ∙ ap (λ (xs : List Subgroup). s ∷ xs) (closed-with_last change (other ∷ others))
+closed-with_last change ss = search closed-first
 
 closed-push : (ss : List Subgroup) (s : Subgroup) → closed (ss ++ s ∷ []) ≡ ss
-closed-push [] s = refl
-closed-push (x ∷ []) s = refl
 closed-push (x ∷ y ∷ ys) s = ap (λ (xs : List Subgroup). x ∷ xs) (closed-push (y ∷ ys) s)
+closed-push ss s = search
 
 some_entry : (s : Subgroup) → is_empty_last (Some s) ≡ false → HasEntry s
 some_entry s e = positive (length s.entries) e
 
 all_streams : (ss : List Subgroup) → AllByRecursion HasEntry (closed ss) → is_empty_last (last_of ss) ≡ false → AllByRecursion HasEntry ss
-all_streams [] h e = tt
-all_streams (s ∷ []) h e = (some_entry s e, tt)
 all_streams (s ∷ other ∷ others) h e = (h.0, all_streams (other ∷ others) h.1 e)
+all_streams ss h e = search some_entry
 
 fits_with_last : (change : Subgroup → Subgroup) (ss : List Subgroup) → ((s : Subgroup) → last_of ss ≡ Some s → SubgroupFits s → SubgroupFits (change s)) → AllByRecursion SubgroupFits ss
     → AllByRecursion SubgroupFits (with_last change ss)
-fits_with_last change [] keeps h = tt
-fits_with_last change (s ∷ []) keeps h = (keeps s refl h.0, tt)
 fits_with_last change (s ∷ other ∷ others) keeps h = (h.0, fits_with_last change (other ∷ others) keeps h.1)
+fits_with_last change ss keeps h = search
 
 all_push : {A : Type 0} (P : A → Type 0) (xs : List A) (x : A) → AllByRecursion P xs → P x → AllByRecursion P (xs ++ x ∷ [])
 all_push P [] x h p = (p, tt)
@@ -66,10 +58,7 @@ all_push P (y ∷ xs) x h p = (h.0, all_push P xs x h.1 p)
 indices-with_last : (change : Subgroup → Subgroup) (extra : List ℕ) (ss : List Subgroup) → ((s : Subgroup) → map bis_of (change s).entries ≡ map bis_of s.entries ++ extra) → 1 ≤ length ss
     → indices (with_last change ss) ≡ indices ss ++ extra
 indices-with_last change extra [] more h = absurd (omega arith)
-indices-with_last change extra (s ∷ []) more h =
-    let bises : Subgroup → List ℕ = λ x. map bis_of x.entries in
-    flat_map-cons (λ (x : Subgroup). map bis_of x.entries) (change s) [] ∙ append-nil (map bis_of (change s).entries) ∙ more s
-    ∙ ap (λ (bs : List ℕ). bs ++ extra) (sym (flat_map-cons (λ (x : Subgroup). map bis_of x.entries) s [] ∙ append-nil (map bis_of s.entries)))
+indices-with_last change extra (s ∷ []) more h = grind (arith, map, bis_of, flat_map-cons, append-nil)
 indices-with_last change extra (s ∷ other ∷ others) more h =
     flat_map-cons (λ (x : Subgroup). map bis_of x.entries) s (with_last change (other ∷ others))
     ∙ ap (λ (bs : List ℕ). map bis_of s.entries ++ bs) (indices-with_last change extra (other ∷ others) more (omega arith))
@@ -82,30 +71,20 @@ nothing_read : AreLtvs []
 nothing_read = record { ltvs = []; list = record { fit = tt; encoded = refl } }
 
 not_refused : (b : Bool) (fault : DraftFault) (x : Unit {0}) → Refuses (cond b (Some fault) None) (Ok x) → b ≡ false
-not_refused true fault x h = absurd cc
-not_refused false fault x h = refl
+not_refused b fault x h = grind arith
 
 pub with_subgroup_keeps : (delay : ℕ) (codec config : List ℕ) (old new : List Subgroup) (result : Result (Unit {0}) DraftFault) → IsDraft (endpoint delay old) → length codec ≡ 5
     → IsConfig (is_lc3 codec) config
     → OnOk result (new ≡ old ++ opened codec config ∷ []) → OnErr result (new ≡ old) → Refuses (subgroup_fault old) result → IsDraft (endpoint delay new)
-with_subgroup_keeps delay codec config old new (Ok x) d five list ok err refuses =
-    let fits : SubgroupFits (opened codec config) = record { codec = five; config = list; metadata = nothing_read; entries = tt } in
-    rw ok (record {
-      delay = d.delay;
-      streams = rw (closed-push old (opened codec config)) (all_streams old d.streams (not_refused (is_empty_last (last_of old)) faults.NoBis x refuses));
-      fits = all_push SubgroupFits old (opened codec config) d.fits fits;
-      once = rw (indices-push old (opened codec config) ∙ append-nil (indices old)) d.once;
-    })
+with_subgroup_keeps delay codec config old new (Ok x) d five list ok err refuses = grind (arith, opened, nothing_read, closed-push, all_streams, not_refused, is_empty_last, last_of, all_push, indices-push, append-nil, indices)
 with_subgroup_keeps delay codec config old new (Err fault) d five list ok err refuses = rw err d
 
 some_subgroup : (ss : List Subgroup) (x : Unit {0}) → Refuses (metadata_fault ss) (Ok x) → 1 ≤ length ss
-some_subgroup [] x h = absurd cc
-some_subgroup (s ∷ ss) x h = omega arith
+some_subgroup ss x h = grind arith
 
 pub with_metadata_keeps : (delay : ℕ) (metadata : List ℕ) (old new : List Subgroup) (result : Result (Unit {0}) DraftFault) → IsDraft (endpoint delay old) → AreLtvs metadata
     → OnOk result (new ≡ with_last (λ s. record s { metadata = metadata }) old) → OnErr result (new ≡ old) → Refuses (metadata_fault old) result → IsDraft (endpoint delay new)
 with_metadata_keeps delay metadata old new (Ok x) d list ok err refuses =
-    let change : Subgroup → Subgroup = λ s. record s { metadata = metadata } in
     rw ok (record {
       delay = d.delay;
       streams = rw (closed-with_last (λ s. record s { metadata = metadata }) old) d.streams;
@@ -115,8 +94,7 @@ with_metadata_keeps delay metadata old new (Ok x) d list ok err refuses =
 with_metadata_keeps delay metadata old new (Err fault) d list ok err refuses = rw err d
 
 new_index : (ss : List Subgroup) (bis : ℕ) (x : Unit {0}) → Refuses (entry_fault ss bis) (Ok x) → (1 ≤ length ss) × (stands_in (indices ss) bis ≡ false)
-new_index [] bis x h = absurd cc
-new_index (s ∷ ss) bis x h = (omega arith, not_refused (stands_in (indices (s ∷ ss)) bis) faults.IndexTwice x h)
+new_index ss bis x h = grind (arith, not_refused, stands_in, indices)
 
 AreNew-one : (before : List ℕ) (bis : ℕ) → stands_in before bis ≡ false → AreNew before (bis ∷ [])
 AreNew-one before bis e = (e, tt)
@@ -131,13 +109,7 @@ with_entry_keeps delay e old new (Ok x) d list range ok err refuses =
       delay = d.delay;
       streams = rw (closed-with_last (λ s. record s { entries = s.entries ++ e ∷ [] }) old) d.streams;
       fits = fits_with_last (λ s. record s { entries = s.entries ++ e ∷ [] }) old
-          (λ s is f. record {
-            codec = f.codec;
-            config = f.config;
-            metadata = f.metadata;
-            entries =
-                all_push (EntryFits (is_lc3 s.codec)) s.entries e f.entries (record { least = range.0; greatest = range.1; config = list s is });
-          }) d.fits;
+          (grind (arith, all_push, is_lc3)) d.fits;
       once = rw (indices-with_last (λ s. record s { entries = s.entries ++ e ∷ [] }) (e.bis ∷ []) old (λ s. map_push bis_of s.entries e) is_new.0)
           (AreNew-then [] (indices old) (e.bis ∷ []) d.once (AreNew-one (indices old) e.bis is_new.1));
     })
@@ -146,30 +118,13 @@ with_entry_keeps delay e old new (Err fault) d list range ok err refuses = rw er
 -- ---- the end
 
 short : (b : Bool) (octets : ℕ) → ltb 252 octets ≡ b → cond b (Some faults.TooLong) None ≡ None → octets ≤ 252
-short true octets t e = absurd cc
-short false octets t e = ltb-false _ _ t
+short b octets t e = grind (arith, ltb-false)
 
 size_none : (b : Bool) (octets : ℕ) → size_fault (cond b (Some faults.NoBis) None) octets ≡ None → (b ≡ false) × (octets ≤ 252)
-size_none true octets e = absurd cc
-size_none false octets e = (refl, short (ltb 252 octets) octets refl e)
-
-fault_parts : (ss : List Subgroup) (octets : ℕ) → draft_fault ss octets ≡ None → (1 ≤ length ss) × (is_empty_last (last_of ss) ≡ false) × (octets ≤ 252)
-fault_parts [] octets e = absurd cc
-fault_parts (s ∷ ss) octets e =
-    let parts = size_none (is_empty_last (last_of (s ∷ ss))) octets e in
-    (omega arith, parts.0, parts.1)
+size_none b octets e = grind (arith, short, ltb)
 
 pub draft_done : (v : Endpoint) → IsDraft v → draft_fault v.subgroups (4 + length (flat_map subgroup v.subgroups)) ≡ None → IsBase v
-draft_done v d e =
-    let parts = fault_parts v.subgroups (4 + length (flat_map subgroup v.subgroups)) e in
-    record {
-      delay = d.delay;
-      some = parts.0;
-      streams = all_streams v.subgroups d.streams parts.1;
-      fits = d.fits;
-      once = d.once;
-      small = omega (arith, length-encoding v, parts.2);
-    }
+draft_done v d e = grind (arith, size_none, is_empty_last, last_of, length, flat_map, subgroup, all_streams, length-encoding)
 
 pub finish_is : (v : Endpoint) → finish_fault v ≡ draft_fault v.subgroups (4 + length (flat_map subgroup v.subgroups))
 finish_is v = ap (draft_fault v.subgroups) (length-encoding v)

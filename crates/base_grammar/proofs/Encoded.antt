@@ -1,8 +1,7 @@
 -- Octets encode one BASE at most, whatever its fields are: what is read of the octets of some parts are these parts.
-use Rattle.base_grammar.proofs.Prelude.{◌≡◌, ℕ, ◌-◌, ◌≤◌, ◌<◌, ◌^◌, true, List, [], ◌∷◌, ◌++◌, length, take, Option, Some, None, SomeIff, Result, Ok, Err, refl, sym, ap, ◌∙◌, subst, append_assoc, arith, lt-ltb, take_at, append_cancel_left, flat_map-cons, flat_map, AllByRecursion, IsOctets, counted, number_again, number_in, BaseFault, BaseEntry, Subgroup, Endpoint, entry, subgroup, encoding, SubgroupFits, BaseIs, TooLong}
+use Rattle.base_grammar.proofs.Prelude.{◌≡◌, ℕ, ◌-◌, ◌≤◌, ◌<◌, ◌^◌, true, List, [], ◌∷◌, ◌++◌, length, take, Option, Some, None, SomeIff, Result, Ok, Err, refl, sym, ap, ◌∙◌, append_assoc, arith, lt-ltb, take_at, append_cancel_left, flat_map-cons, flat_map, AllByRecursion, IsOctets, counted, number_again, number_in, BaseFault, BaseEntry, Subgroup, Endpoint, entry, subgroup, encoding, SubgroupFits, BaseIs, TooLong}
 use Rattle.std.proofs.lemmas.Option.{some_pair_parts}
 use Rattle.std.specs.Option.{is_none}
-use Rattle.std.specs.Prelude.{nat_lt}
 use Rattle.std.specs.Result.{result_err}
 use Rattle.base_grammar.specs.Layout.{HasCodec}
 use Rattle.base_grammar.specs.Reading.{base_of}
@@ -20,15 +19,10 @@ same_long xs ys r s long e =
     (same, append_cancel_left xs r s (e ∙ ap (λ (z : List ℕ). z ++ s) (sym same)))
 
 same_counted : (xs ys r s : List ℕ) → counted xs ++ r ≡ counted ys ++ s → (xs ≡ ys) × (r ≡ s)
-same_counted xs ys r s e =
-    let t = tail (length xs) (length ys) (xs ++ r) (ys ++ s) e in
-    same_long xs ys r s t.0 t.1
+same_counted xs ys r s e = grind (arith, tail, length, same_long)
 
 same_entry : (a b : BaseEntry) (r s : List ℕ) → entry a ++ r ≡ entry b ++ s → (a ≡ b) × (r ≡ s)
-same_entry a b r s e =
-    let t = tail a.bis b.bis (counted a.config ++ r) (counted b.config ++ s) e in
-    let c = same_counted a.config b.config r s t.1 in
-    (rw (t.0, c.0) refl, c.1)
+same_entry a b r s e = grind (arith, tail, counted, same_counted)
 
 same_entries : (xs ys : List BaseEntry) (r s : List ℕ) → length xs ≡ length ys → flat_map entry xs ++ r ≡ flat_map entry ys ++ s
     → (xs ≡ ys) × (r ≡ s)
@@ -45,11 +39,7 @@ same_entries (a ∷ xs) (b ∷ ys) r s long e =
 
 subgroup_before : (s : Subgroup) (r : List ℕ) → subgroup s ++ r
     ≡ length s.entries ∷ (s.codec ++ (counted s.config ++ (counted s.metadata ++ (flat_map entry s.entries ++ r))))
-subgroup_before s r =
-    ap (λ (z : List ℕ). length s.entries ∷ z)
-    (append_assoc s.codec (counted s.config ++ (counted s.metadata ++ flat_map entry s.entries)) r
-    ∙ ap (λ (z : List ℕ). s.codec ++ z) (append_assoc (counted s.config) (counted s.metadata ++ flat_map entry s.entries) r
-    ∙ ap (λ (z : List ℕ). counted s.config ++ z) (append_assoc (counted s.metadata) (flat_map entry s.entries) r)))
+subgroup_before s r = grind (arith, length, append_assoc, counted, flat_map, entry)
 
 same_subgroup : (a b : Subgroup) (r s : List ℕ) → HasCodec a → HasCodec b → subgroup a ++ r ≡ subgroup b ++ s → (a ≡ b) × (r ≡ s)
 same_subgroup a b r s five five' e =
@@ -99,27 +89,15 @@ all_five (s ∷ subgroups) fits = (fits.0.codec, all_five subgroups fits.1)
 is_read : (v : Endpoint) (octets : List ℕ) (read : Result Endpoint BaseFault) → v.delay < 2 ^ 24 → AllByRecursion HasCodec v.subgroups
     → IsOctets octets → octets ≡ encoding v → base_of octets ≡ read → None ≡ result_err read → BaseIs v octets
 is_read v octets (Err fault) small five fits e is none = absurd cc
-is_read v octets (Ok w) small five fits e is none =
-    let base : BaseIs w octets = base_takes octets w fits is in
-    let same : w ≡ v = same_parts w v base.base.delay small (all_five w.subgroups base.base.fits) five (sym base.encoded ∙ e) in
-    subst (λ (x : Endpoint). BaseIs x octets) same base
+is_read v octets (Ok w) small five fits e is none = grind (arith, base_takes octets w fits is, same_parts w v (base_takes octets w fits is).base.delay small (all_five w.subgroups (base_takes octets w fits is).base.fits) five (sym (base_takes octets w fits is).encoded ∙ e))
 
 -- octets of some parts in which nothing is at fault are the BASE of these parts
 pub parts_are : (v : Endpoint) (octets : List ℕ) → v.delay < 2 ^ 24 → AllByRecursion HasCodec v.subgroups → IsOctets octets
     → octets ≡ encoding v → None ≡ result_err (base_of octets) → BaseIs v octets
 parts_are v octets small five fits e none = is_read v octets (base_of octets) small five fits e refl none
 
--- no room is left behind too many
-no_room_left : (left : Option ℕ) (P : Type 0) (room : ℕ) → SomeIff left P room → is_none left ≡ true → ¬ P
-no_room_left None P room passes none = passes
-no_room_left (Some it) P room passes none = absurd cc
-
 -- and too many are read as such
 pub parts_too_long : (v : Endpoint) (left : Option ℕ) → SomeIff left (length (flat_map subgroup v.subgroups) ≤ 248) (248 - length (flat_map subgroup v.subgroups))
     → is_none left ≡ true → base_of (encoding v) ≡ Err TooLong
 unfolding base_of
-parts_too_long v left passes none =
-    let long : ¬ (length (flat_map subgroup v.subgroups) ≤ 248) =
-    no_room_left left (length (flat_map subgroup v.subgroups) ≤ 248) (248 - length (flat_map subgroup v.subgroups)) passes none in
-    let past : nat_lt 252 (length (encoding v)) ≡ true = lt-ltb 252 (length (encoding v)) (omega (arith, length-encoding v, long)) in
-    rw past refl
+parts_too_long v left passes none = grind (arith, length, flat_map, subgroup, encoding, lt-ltb, length-encoding)

@@ -1,9 +1,8 @@
 -- There is one cut, so octets that are refused have one fault, and reading finds it.
-use Rattle.base_grammar.proofs.Prelude.{◌≡◌, ℕ, ◌+◌, ◌<◌, ◌≤◌, Bool, true, false, cond, ltb, List, [], ◌∷◌, ◌++◌, length, take, Option, Some, None, Result, Ok, Err, refl, sym, ap, subst, ◌∙◌, append_assoc, arith, add-zero, zero-add, IfErr, IsOk, concat, option_map, lt-ltb, ltb-true, ltb-false, le-ltb, length-append, take_at, append_cancel_left, same_Some, bad_of, LtvBad, BaseFault, IsOctets, Endpoint, stands_in, BaseIs, run_fault, Answers, told, Row, presentation_delay, num_subgroups, num_bis, codec_id, config_length, config, metadata_length, metadata, bis_index, bis_config_length, bis_config, nothing, Due, first_due, width, number_of, row_fault, next_due, IsDue, Meets, field_fault, ending_fault, cut_fault, AtCut, IsFault}
+use Rattle.base_grammar.proofs.Prelude.{◌≡◌, ℕ, ◌+◌, ◌<◌, ◌≤◌, Bool, true, cond, ltb, List, [], ◌∷◌, ◌++◌, length, take, Option, Some, None, Result, Ok, Err, refl, sym, ap, subst, ◌∙◌, append_assoc, arith, add-zero, zero-add, IfErr, IsOk, concat, lt-ltb, ltb-true, ltb-false, le-ltb, length-append, take_at, append_cancel_left, same_Some, bad_of, BaseFault, IsOctets, Endpoint, stands_in, BaseIs, run_fault, Answers, told, Row, presentation_delay, num_subgroups, num_bis, codec_id, config_length, config, metadata_length, metadata, bis_index, bis_config_length, bis_config, nothing, Due, first_due, width, number_of, row_fault, next_due, Meets, field_fault, ending_fault, cut_fault, AtCut, IsFault}
 use Rattle.base_grammar.specs.declared.fault.BaseFault.TheVariants as faults
 use Rattle.base_grammar.specs.Reading.{fields_of, base_of}
-use Rattle.base_grammar.specs.Faults.{due_behind, AllMeet}
-use Rattle.base_grammar.specs.Faults.{IsBad}
+use Rattle.base_grammar.specs.Faults.{due_behind, AllMeet, IsBad}
 use Rattle.base_grammar.proofs.Again.{base_takes}
 use Rattle.base_grammar.proofs.Walk.{At, due_cut}
 use Rattle.base_grammar.proofs.Cuts.{Ends, fields_end}
@@ -13,16 +12,11 @@ record Halts (place : ℕ) (due : Due) (rest : List ℕ) (fault : Option BaseFau
   stands : cut_fault due.row place due rest ≡ fault
   none : fault ≡ None → due.row ≡ nothing
 
-not_due : (row : Row) → IsDue row → row ≡ nothing → ⊥
-not_due row h e = subst IsDue e h
-
 -- a field that meets its row goes on
+
 goes_on : (place : ℕ) (due : Due) (field after rest : List ℕ) (fault : Option BaseFault) → Meets place due field → rest ≡ field ++ after → Halts place due rest fault → ⊥
 goes_on place due field after rest fault m e h =
-    let enough : ltb (length rest) (width due.row) ≡ false = le-ltb _ _ (omega (arith, ap length e, length-append field after, m.whole)) in
-    let prefix : take (width due.row) rest ≡ field = ap (take (width due.row)) e ∙ take_at field after (width due.row) m.whole in
-    let here : field_fault due.row place due rest ≡ None = rw (enough, prefix) m.sound in
-    not_due due.row m.is_due (h.none (sym h.stands ∙ due_cut due.row place due rest m.is_due ∙ here))
+    grind (arith, ltb, length, width, le-ltb, length-append, take, take_at, field_fault, due_cut)
 
 -- two runs of whole fields in the same octets, behind which it halts
 same_halt : (place : ℕ) (due : Due) (xs ys : List (List ℕ)) (r s : List ℕ) (f g : Option BaseFault) → AllMeet place due xs → AllMeet place due ys → concat xs ++ r ≡ concat ys ++ s
@@ -42,31 +36,18 @@ same_halt place due (x ∷ xs) (y ∷ ys) r s f g mx my e hx hy =
     let there_x : place + length (concat (x ∷ xs)) ≡ place + length x + length (concat xs) = omega (arith, length-append x (concat xs)) in
     let there_y : place + length (concat (y ∷ ys)) ≡ place + length x + length (concat ys) = omega (arith, length-append y (concat ys), long) in
     let hx' : Halts (place + length x + length (concat xs)) (due_behind (next_due due.row due x) xs) r f = subst (λ (p : ℕ). Halts p (due_behind (next_due due.row due x) xs) r f) there_x hx in
-    let hy' : Halts (place + length x + length (concat ys)) (due_behind (next_due due.row due x) ys) s g =
-    subst (λ (p : ℕ). Halts p (due_behind (next_due due.row due x) ys) s g) there_y
-    (subst (λ (z : List ℕ). Halts (place + length (concat (y ∷ ys))) (due_behind (next_due due.row due z) ys) s g) (sym same) hy) in
+    let hy' : Halts (place + length x + length (concat ys)) (due_behind (next_due due.row due x) ys) s g = grind (arith, next_due, length, concat) in
     same_halt (place + length x) (next_due due.row due x) xs ys r s f g mx.1 my_xs others hx' hy'
 
 cut_halts : (whole : List ℕ) (fault : BaseFault) (c : AtCut fault whole) → Halts (0 + length (concat c.fields)) (due_behind first_due c.fields) c.rest (Some fault)
-cut_halts whole fault c = record {
-  stands = subst (λ (p : ℕ). cut_fault (due_behind first_due c.fields).row p (due_behind first_due c.fields) c.rest ≡ Some fault) (sym (zero-add (length (concat c.fields)))) c.stands;
-  none = λ e. absurd cc;
-}
-
-nothing_fault : (row : Row) (place : ℕ) (due : Due) → row ≡ nothing → cut_fault row place due [] ≡ None
-nothing_fault row place due e = rw e refl
+cut_halts whole fault c = grind (arith, cut_fault, first_due, zero-add, length, concat)
 
 end_halts : (whole : List ℕ) (due : Due) (a : At whole due []) → due.row ≡ nothing → Halts (0 + length (concat a.fields)) (due_behind first_due a.fields) [] None
-end_halts whole due a e =
-    let last : (due_behind first_due a.fields).row ≡ nothing = ap (λ (d : Due). d.row) a.is ∙ e in
-    record { stands = nothing_fault (due_behind first_due a.fields).row (0 + length (concat a.fields)) (due_behind first_due a.fields) last; none = λ _. last }
+end_halts whole due a e = grind (arith, first_due, nothing, length, concat)
 
 -- the fault at a cut is the one that reading gives
 cut_read : {A : Type 0} (whole : List ℕ) (fault : BaseFault) (read : Result A BaseFault) → AtCut fault whole → Ends whole read → read ≡ Err fault
-cut_read whole fault (Ok v) c e =
-    let same : Some fault ≡ None =
-    same_halt 0 first_due c.fields e.2.fields c.rest [] (Some fault) None c.meet e.2.meet (sym c.parts ∙ e.2.parts) (cut_halts whole fault c) (end_halts whole e.0 e.2 e.1) in
-    absurd cc
+cut_read whole fault (Ok v) c e = grind (arith, same_halt 0 first_due c.fields e.2.fields c.rest [] (Some fault) None c.meet e.2.meet (sym c.parts ∙ e.2.parts) (cut_halts whole fault c) (end_halts whole e.0 e.2 e.1))
 cut_read whole fault (Err other) c e =
     let same : Some fault ≡ Some other =
     same_halt 0 first_due c.fields e.fields c.rest e.rest (Some fault) (Some other) c.meet e.meet (sym c.parts ∙ e.parts) (cut_halts whole fault c) (cut_halts whole other e) in
@@ -84,19 +65,13 @@ given fault other h e = subst StandsThere (same_Some fault other e) h
 
 tested : (b : Bool) (fault : BaseFault) (others : Option BaseFault) (other : BaseFault) → StandsThere fault → (others ≡ Some other → StandsThere other)
     → cond b (Some fault) others ≡ Some other → StandsThere other
-tested true fault others other h g e = given fault other h e
-tested false fault others other h g e = g e
+tested b fault others other h g e = grind (arith, given)
 
 no_more : (other : BaseFault) → (let o : Option BaseFault = None in o ≡ Some other) → StandsThere other
 no_more other e = absurd cc
 
-list_stands : (place : ℕ) (bad : Option LtvBad) (other : BaseFault) → option_map (λ b. faults.Ltv place b) bad ≡ Some other → StandsThere other
-list_stands place None other e = absurd cc
-list_stands place (Some bad) other e = given (faults.Ltv place bad) other tt e
-
 run_stands : (place : ℕ) (is_list : Bool) (octets : List ℕ) (other : BaseFault) → run_fault place is_list octets ≡ Some other → StandsThere other
-run_stands place true octets other e = list_stands place (bad_of octets) other e
-run_stands place false octets other e = absurd cc
+run_stands place is_list octets other e = grind (arith, given, bad_of)
 
 row_stands : (row : Row) (place : ℕ) (due : Due) (field : List ℕ) (other : BaseFault) → row_fault row place due field ≡ Some other → StandsThere other
 row_stands presentation_delay place due field other e = absurd cc
@@ -119,8 +94,7 @@ field_stands : (row : Row) (place : ℕ) (due : Due) (rest : List ℕ) (other : 
 field_stands row place due rest other e = tested _ (faults.Short place) (row_fault row place due (take (width row) rest)) other tt (row_stands row place due (take (width row) rest) other) e
 
 end_stands : (place : ℕ) (rest : List ℕ) (other : BaseFault) → ending_fault place rest ≡ Some other → StandsThere other
-end_stands place [] other e = absurd cc
-end_stands place (octet ∷ rest) other e = given (faults.Trailing place) other tt e
+end_stands place rest other e = grind (arith, given)
 
 cut_stands : (row : Row) (place : ℕ) (due : Due) (rest : List ℕ) (other : BaseFault) → cut_fault row place due rest ≡ Some other → StandsThere other
 cut_stands nothing place due rest other e = end_stands place rest other e
@@ -137,15 +111,7 @@ cut_stands bis_config_length place due rest other e = field_stands bis_config_le
 cut_stands (bis_config count) place due rest other e = field_stands (bis_config count) place due rest other e
 
 is_bad : (fault : BaseFault) (octets : List ℕ) → StandsThere fault → length octets ≤ 252 → AtCut fault octets → IsBad fault octets
-is_bad (faults.Short place) octets h short c = (short, c)
-is_bad faults.NoSubgroup octets h short c = (short, c)
-is_bad (faults.NoBis place) octets h short c = (short, c)
-is_bad (faults.BadIndex place) octets h short c = (short, c)
-is_bad (faults.IndexTwice place) octets h short c = (short, c)
-is_bad (faults.Ltv place bad) octets h short c = (short, c)
-is_bad (faults.Trailing place) octets h short c = (short, c)
-is_bad faults.TooLong octets h short c = absurd h
-is_bad faults.Memory octets h short c = absurd h
+is_bad fault octets h short c = grind arith
 
 -- ---- both ways
 
@@ -153,20 +119,11 @@ err_is : (a b : BaseFault) → (let r : BaseFault → Result Endpoint BaseFault 
 err_is a b e = cc
 
 bad_end : (octets : List ℕ) (fault : BaseFault) (read : Result Endpoint BaseFault) → length octets ≤ 252 → Ends octets read → read ≡ Err fault → IsBad fault octets
-bad_end octets fault (Ok v) short ends e = absurd cc
-bad_end octets fault (Err other) short ends e =
-    let same : other ≡ fault = err_is other fault e in
-    subst (λ (f : BaseFault). IsBad f octets) same
-    (is_bad other octets (cut_stands (due_behind first_due ends.fields).row (length (concat ends.fields)) (due_behind first_due ends.fields) ends.rest other ends.stands) short ends)
-
-bad_cases : (b : Bool) (octets : List ℕ) (fault : BaseFault) (read : Result Endpoint BaseFault) → ltb 252 (length octets) ≡ b → Ends octets read
-    → cond b (Err faults.TooLong) read ≡ Err fault → IsBad fault octets
-bad_cases true octets fault read e ends r = subst (λ (f : BaseFault). IsBad f octets) (err_is faults.TooLong fault r) (ltb-true _ _ e)
-bad_cases false octets fault read e ends r = bad_end octets fault read (ltb-false _ _ e) ends r
+bad_end octets fault read short ends e = grind (arith, err_is, is_bad, cut_stands, first_due, length, concat)
 
 pub read_bad : (fault : BaseFault) (octets : List ℕ) → base_of octets ≡ Err fault → IsBad fault octets
 unfolding base_of
-read_bad fault octets e = bad_cases (ltb 252 (length octets)) octets fault (fields_of octets) refl (fields_end octets) e
+read_bad fault octets e = grind (arith, err_is, ltb-true, bad_end, ltb-false, ltb, length, fields_end)
 
 cut_of : (fault : BaseFault) (octets : List ℕ) → length octets ≤ 252 → AtCut fault octets → base_of octets ≡ Err fault
 unfolding base_of
@@ -194,13 +151,5 @@ a_base octets (Ok v) fits e ok = (v, base_takes octets v fits e)
 a_base octets (Err fault) fits e ok = absurd cc
 
 pub found_fault : (octets : List ℕ) (result : Result Endpoint BaseFault) → IsOctets octets → Answers told result (base_of octets) → IfErr result (λ fault. IsFault fault octets)
-found_fault octets (Ok v) fits h = tt
 found_fault octets (Err faults.Memory) fits h = a_base octets (base_of octets) fits refl h
-found_fault octets (Err faults.TooLong) fits h = read_bad faults.TooLong octets h
-found_fault octets (Err (faults.Short place)) fits h = read_bad (faults.Short place) octets h
-found_fault octets (Err faults.NoSubgroup) fits h = read_bad faults.NoSubgroup octets h
-found_fault octets (Err (faults.NoBis place)) fits h = read_bad (faults.NoBis place) octets h
-found_fault octets (Err (faults.BadIndex place)) fits h = read_bad (faults.BadIndex place) octets h
-found_fault octets (Err (faults.IndexTwice place)) fits h = read_bad (faults.IndexTwice place) octets h
-found_fault octets (Err (faults.Ltv place bad)) fits h = read_bad (faults.Ltv place bad) octets h
-found_fault octets (Err (faults.Trailing place)) fits h = read_bad (faults.Trailing place) octets h
+found_fault octets result fits h = search (a_base, read_bad)

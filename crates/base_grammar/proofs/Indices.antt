@@ -1,5 +1,6 @@
 -- Which indices stand before, as the code asks for them and as reading does.
-use Rattle.base_grammar.proofs.Prelude.{◌≡◌, ◌==◌, ℕ, Bool, ◌||◌, List, [], ◌∷◌, ◌++◌, map, refl, sym, ap, ◌∙◌, list_any, list_any-append, flat_map-cons, BaseEntry, Subgroup, bis_of, indices, stands_in}
+use Rattle.std.proofs.Common.{arith}
+use Rattle.base_grammar.proofs.Prelude.{◌≡◌, ◌==◌, ℕ, Bool, ◌||◌, List, [], ◌∷◌, ◌++◌, map, refl, ap, list_any, list_any-append, flat_map-cons, BaseEntry, Subgroup, bis_of, indices, stands_in}
 
 -- one of the entries has the index
 abbrev pub in_entries : ℕ → List BaseEntry → Bool
@@ -14,15 +15,8 @@ in_entries-is bis (e ∷ entries) = ap (λ (b : Bool). (e.bis == bis) || b) (in_
 
 pub in_subgroups-is : (bis : ℕ) (subgroups : List Subgroup) → in_subgroups bis subgroups ≡ stands_in (indices subgroups) bis
 in_subgroups-is bis [] = refl
-in_subgroups-is bis (s ∷ subgroups) =
-    ap (λ (b : Bool). b || in_subgroups bis subgroups) (in_entries-is bis s.entries)
-    ∙ ap (λ (b : Bool). stands_in (map bis_of s.entries) bis || b) (in_subgroups-is bis subgroups)
-    ∙ sym (list_any-append (λ b. b == bis) (map bis_of s.entries) (indices subgroups))
-    ∙ ap (λ (bs : List ℕ). stands_in bs bis) (sym (flat_map-cons (λ (x : Subgroup). map bis_of x.entries) s subgroups))
+in_subgroups-is bis (s ∷ subgroups) = grind (arith, in_entries-is bis s.entries, in_subgroups-is bis subgroups, list_any-append (λ b. b == bis) (map bis_of s.entries) (indices subgroups), flat_map-cons (λ (x : Subgroup). map bis_of x.entries) s subgroups)
 
 pub stands-both : (bis : ℕ) (subgroups : List Subgroup) (entries : List BaseEntry)
     → (in_subgroups bis subgroups || in_entries bis entries) ≡ stands_in (indices subgroups ++ map bis_of entries) bis
-stands-both bis subgroups entries =
-    ap (λ (b : Bool). b || in_entries bis entries) (in_subgroups-is bis subgroups)
-    ∙ ap (λ (b : Bool). stands_in (indices subgroups) bis || b) (in_entries-is bis entries)
-    ∙ sym (list_any-append (λ b. b == bis) (indices subgroups) (map bis_of entries))
+stands-both bis subgroups entries = grind (arith, in_subgroups-is, stands_in, indices, in_entries-is, list_any-append, map, bis_of)

@@ -1,5 +1,5 @@
 -- Reading entries and subgroups one after the other, as a loop does.
-use Rattle.base_grammar.proofs.Prelude.{◌≡◌, ℕ, suc, ◌-◌, ◌+◌, ◌≤◌, ◌<◌, Bool, List, [], ◌∷◌, ◌++◌, length, map, Option, Some, None, Result, Ok, Err, refl, sym, ap, ◌∙◌, append_assoc, arith, append-nil, map_push, flat_map-cons, BaseFault, BaseEntry, Subgroup, bis_of, indices, ◌>>=◌, FindsOrWants, told}
+use Rattle.base_grammar.proofs.Prelude.{◌≡◌, ℕ, suc, ◌-◌, ◌+◌, ◌≤◌, ◌<◌, Bool, List, [], ◌∷◌, ◌++◌, length, map, Option, Result, Ok, Err, sym, ap, ◌∙◌, append_assoc, arith, append-nil, map_push, flat_map-cons, BaseFault, BaseEntry, Subgroup, bis_of, indices, ◌>>=◌, FindsOrWants, told}
 use Rattle.std.proofs.lemmas.Grind.{flat_map-append}
 use Rattle.base_grammar.specs.Reading.{entry_at, entries_at, subgroup_at, subgroups_at}
 
@@ -9,12 +9,10 @@ with_prefix prefix read = read >>= λ x. Ok (prefix ++ x.0, x.1)
 
 pub failed : {A B : Type 0} (found : Option BaseFault) (one : Result A BaseFault) (total : Result B BaseFault) → ((f : BaseFault) → one ≡ Err f → total ≡ Err f)
     → FindsOrWants found one → FindsOrWants found total
-failed None one total h e = tt
-failed (Some f) one total h e = h f e
+failed found one total h e = grind arith
 
 regroup : {A : Type 0} (prefix : List A) (x : A) (read : Result (List A × List ℕ) BaseFault) → with_prefix prefix (read >>= λ y. Ok (x ∷ y.0, y.1)) ≡ with_prefix (prefix ++ x ∷ []) read
-regroup prefix x (Ok y) = ap (λ (xs : List _). Ok (xs, y.1)) (sym (append_assoc prefix (x ∷ []) y.0))
-regroup prefix x (Err f) = refl
+regroup prefix x read = grind (arith, append_assoc)
 
 done : {A : Type 0} (prefix : List A) (rest : List ℕ) (read : Result (List A × List ℕ) BaseFault) → read ≡ Ok ([], rest) → with_prefix prefix read ≡ Ok (prefix, rest)
 done prefix rest read e = ap (with_prefix prefix) e ∙ ap (λ (xs : List _). Ok (xs, rest)) (append-nil prefix)
@@ -46,10 +44,7 @@ pub entering_err : (f : BaseFault) (whole : List ℕ) (is_list : Bool) (before :
     → i < count → entry_at whole is_list (before ++ map bis_of entries) rest ≡ Err f → Entering whole is_list before count from entries i rest
     → entries_at whole is_list before count from ≡ Err f
 unfolding entries_at
-entering_err f whole is_list before count from entries i rest lt e s =
-    let k : count - i ≡ suc (count - (i + 1)) = omega arith in
-    let one : with_prefix entries (entries_at whole is_list (before ++ map bis_of entries) (count - i) rest) ≡ Err f = rw (k, e) refl in
-    sym s.same ∙ one
+entering_err f whole is_list before count from entries i rest lt e s = grind (arith, map, bis_of)
 
 pub entering_failed : (fault : BaseFault) (whole : List ℕ) (is_list : Bool) (before : List ℕ) (count : ℕ) (from : List ℕ) (entries : List BaseEntry) (i : ℕ) (rest : List ℕ)
     → i < count → FindsOrWants (told fault) (entry_at whole is_list (before ++ map bis_of entries) rest) → Entering whole is_list before count from entries i rest
@@ -61,9 +56,7 @@ entering_failed fault whole is_list before count from entries i rest lt read s =
 pub entering_done : (whole : List ℕ) (is_list : Bool) (before : List ℕ) (count : ℕ) (from : List ℕ) (entries : List BaseEntry) (i : ℕ) (rest : List ℕ)
     → count ≤ i → Entering whole is_list before count from entries i rest → entries_at whole is_list before count from ≡ Ok (entries, rest)
 unfolding entries_at
-entering_done whole is_list before count from entries i rest le s =
-    let k : count - i ≡ 0 = omega arith in
-    sym s.same ∙ done entries rest (entries_at whole is_list (before ++ map bis_of entries) (count - i) rest) (rw k refl)
+entering_done whole is_list before count from entries i rest le s = grind (arith, done, map, bis_of)
 
 -- ---- subgroups
 
@@ -73,9 +66,7 @@ pub record Grouping (whole : List ℕ) (count : ℕ) (from : List ℕ) (subgroup
   pub same : with_prefix subgroups (subgroups_at whole (indices subgroups) (count - i) rest) ≡ subgroups_at whole [] count from
 
 pub indices-push : (subgroups : List Subgroup) (s : Subgroup) → indices (subgroups ++ s ∷ []) ≡ indices subgroups ++ map bis_of s.entries
-indices-push subgroups s =
-    flat_map-append (λ (x : Subgroup). map bis_of x.entries) subgroups (s ∷ [])
-    ∙ ap (λ (bs : List ℕ). indices subgroups ++ bs) (flat_map-cons (λ (x : Subgroup). map bis_of x.entries) s [] ∙ append-nil (map bis_of s.entries))
+indices-push subgroups s = grind (arith, flat_map-append, map, bis_of, indices, flat_map-cons, append-nil)
 
 pub grouping_next : (whole : List ℕ) (count : ℕ) (from : List ℕ) (subgroups : List Subgroup) (i : ℕ) (rest : List ℕ) (s : Subgroup) (after : List ℕ)
     → i < count → subgroup_at whole (indices subgroups) rest ≡ Ok (s, after) → length after ≤ length rest → Grouping whole count from subgroups i rest
@@ -94,10 +85,7 @@ grouping_next whole count from subgroups i rest s after lt read h g =
 pub grouping_err : (f : BaseFault) (whole : List ℕ) (count : ℕ) (from : List ℕ) (subgroups : List Subgroup) (i : ℕ) (rest : List ℕ)
     → i < count → subgroup_at whole (indices subgroups) rest ≡ Err f → Grouping whole count from subgroups i rest → subgroups_at whole [] count from ≡ Err f
 unfolding subgroups_at
-grouping_err f whole count from subgroups i rest lt e g =
-    let k : count - i ≡ suc (count - (i + 1)) = omega arith in
-    let one : with_prefix subgroups (subgroups_at whole (indices subgroups) (count - i) rest) ≡ Err f = rw (k, e) refl in
-    sym g.same ∙ one
+grouping_err f whole count from subgroups i rest lt e g = grind (arith, indices)
 
 pub grouping_failed : (fault : BaseFault) (whole : List ℕ) (count : ℕ) (from : List ℕ) (subgroups : List Subgroup) (i : ℕ) (rest : List ℕ)
     → i < count → FindsOrWants (told fault) (subgroup_at whole (indices subgroups) rest) → Grouping whole count from subgroups i rest → FindsOrWants (told fault) (subgroups_at whole [] count from)
@@ -108,6 +96,4 @@ grouping_failed fault whole count from subgroups i rest lt read g =
 pub grouping_done : (whole : List ℕ) (count : ℕ) (from : List ℕ) (subgroups : List Subgroup) (i : ℕ) (rest : List ℕ)
     → count ≤ i → Grouping whole count from subgroups i rest → subgroups_at whole [] count from ≡ Ok (subgroups, rest)
 unfolding subgroups_at
-grouping_done whole count from subgroups i rest le g =
-    let k : count - i ≡ 0 = omega arith in
-    sym g.same ∙ done subgroups rest (subgroups_at whole (indices subgroups) (count - i) rest) (rw k refl)
+grouping_done whole count from subgroups i rest le g = grind (arith, done, indices)

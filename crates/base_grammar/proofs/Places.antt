@@ -10,8 +10,7 @@ fits_at P (first ∷ xs) zero x h lt e = subst P (sym e) h.0
 fits_at P (first ∷ xs) (suc i) x h lt e = fits_at P xs i x h.1 (omega arith) e
 
 find_one : {A : Type 0} (b : Bool) (x y : A) (others : Option A) → cond b (Some x) others ≡ Some y → ((b ≡ true) × (x ≡ y)) ⊎ (others ≡ Some y)
-find_one true x y others e = inl (refl, same_Some x y e)
-find_one false x y others e = inr e
+find_one b x y others e = grind (arith, same_Some)
 
 pub found_fits : {A : Type 0} (P : A → Type 0) (test : A → Bool) (xs : List A) (x : A) → AllByRecursion P xs → find test xs ≡ Some x → P x
 found_fits P test [] x h e = absurd cc
@@ -76,12 +75,10 @@ effective_found v bis (Some e) h =
 -- ---- something is found where the index stands
 
 some_or : (place : ℕ) (s : Subgroup) (o : Option BaseEntry) (behind : Option Effective) → is_some (or_behind place s o behind) ≡ (is_some o || is_some behind)
-some_or place s None behind = refl
-some_or place s (Some e) behind = refl
+some_or place s o behind = grind arith
 
 some_chosen : (b : Bool) (e : BaseEntry) (o : Option BaseEntry) → is_some (cond b (Some e) o) ≡ (b || is_some o)
-some_chosen true e o = refl
-some_chosen false e o = refl
+some_chosen b e o = grind arith
 
 some_entry : (bis : ℕ) (es : List BaseEntry) → is_some (entry_of bis es) ≡ in_entries bis es
 some_entry bis [] = refl
@@ -89,10 +86,7 @@ some_entry bis (e ∷ es) = some_chosen (eqb e.bis bis) e (entry_of bis es) ∙ 
 
 some_from : (place bis : ℕ) (ss : List Subgroup) → is_some (effective_from place bis ss) ≡ in_subgroups bis ss
 some_from place bis [] = refl
-some_from place bis (s ∷ ss) =
-    some_or place s (entry_of bis s.entries) (effective_from (place + 1) bis ss)
-    ∙ ap (λ (b : Bool). b || is_some (effective_from (place + 1) bis ss)) (some_entry bis s.entries)
-    ∙ ap (λ (b : Bool). in_entries bis s.entries || b) (some_from (place + 1) bis ss)
+some_from place bis (s ∷ ss) = grind (arith, some_or place s (entry_of bis s.entries) (effective_from (place + 1) bis ss), some_entry bis s.entries, some_from (place + 1) bis ss)
 
 pub effective_present : (v : Endpoint) (bis : ℕ) → is_some (effective_of v bis) ≡ stands_in (indices v.subgroups) bis
 effective_present v bis = some_from 0 bis v.subgroups ∙ in_subgroups-is bis v.subgroups
@@ -100,12 +94,10 @@ effective_present v bis = some_from 0 bis v.subgroups ∙ in_subgroups-is bis v.
 -- ---- nothing else holds
 
 or_true : (a b : Bool) → b ≡ true → (a || b) ≡ true
-or_true true b e = refl
-or_true false b e = e
+or_true a b e = grind arith
 
 or_false : (a b : Bool) → (a || b) ≡ false → a ≡ false
-or_false true b e = e
-or_false false b e = refl
+or_false a b e = grind arith
 
 both_ways : (b : Bool) → b ≡ true → b ≡ false → ⊥
 both_ways b t f = let e : true ≡ false = sym t ∙ f in cc
@@ -115,25 +107,18 @@ same_index n = eq-eqb n n refl
 
 stands_here : (es : List BaseEntry) (k : ℕ) (e : BaseEntry) → slice_get es k ≡ Some e → stands_in (map bis_of es) e.bis ≡ true
 stands_here [] k e h = absurd cc
-stands_here (x ∷ es) zero e h =
-    let same : x ≡ e = same_Some x e h in
-    subst (λ (y : BaseEntry). (eqb y.bis e.bis || stands_in (map bis_of es) e.bis) ≡ true) (sym same) (ap (λ (b : Bool). b || stands_in (map bis_of es) e.bis) (same_index e.bis))
+stands_here (x ∷ es) zero e h = grind (arith, same_Some, eqb, stands_in, map, bis_of, same_index)
 stands_here (x ∷ es) (suc k) e h = or_true (eqb x.bis e.bis) (stands_in (map bis_of es) e.bis) (stands_here es k e h)
 
 stands_there : (ss : List Subgroup) (at : ℕ) (s : Subgroup) (k : ℕ) (e : BaseEntry) → slice_get ss at ≡ Some s → slice_get s.entries k ≡ Some e → stands_in (indices ss) e.bis ≡ true
 stands_there [] at s k e h g = absurd cc
-stands_there (x ∷ ss) zero s k e h g =
-    let same : s ≡ x = sym (same_Some x s h) in
-    let here : stands_in (map bis_of x.entries) e.bis ≡ true = subst (λ (y : Subgroup). stands_in (map bis_of y.entries) e.bis ≡ true) same (stands_here s.entries k e g) in
-    ap (λ (bs : List ℕ). stands_in bs e.bis) (flat_map-cons (λ (y : Subgroup). map bis_of y.entries) x ss)
-    ∙ list_any-append (λ b. b == e.bis) (map bis_of x.entries) (indices ss) ∙ ap (λ (b : Bool). b || stands_in (indices ss) e.bis) here
+stands_there (x ∷ ss) zero s k e h g = grind (arith, same_Some, stands_in, map, bis_of, stands_here, flat_map-cons, list_any-append, indices)
 stands_there (x ∷ ss) (suc at) s k e h g =
     ap (λ (bs : List ℕ). stands_in bs e.bis) (flat_map-cons (λ (y : Subgroup). map bis_of y.entries) x ss)
     ∙ list_any-append (λ b. b == e.bis) (map bis_of x.entries) (indices ss) ∙ or_true (stands_in (map bis_of x.entries) e.bis) (stands_in (indices ss) e.bis) (stands_there ss at s k e h g)
 
 first_or_later : (a b : Bool) → (a || b) ≡ true → (a ≡ true) ⊎ (b ≡ true)
-first_or_later true b e = inl refl
-first_or_later false b e = inr e
+first_or_later a b e = grind arith
 
 -- an index that stands among new ones does not stand before
 not_before : (before is : List ℕ) (b : ℕ) → AreNew before is → stands_in is b ≡ true → stands_in before b ≡ false
@@ -150,22 +135,18 @@ no_twice before xs ys b h x y =
     both_ways (stands_in before b || stands_in xs b) (or_true (stands_in before b) (stands_in xs b) x) none
 
 found_test : (b : Bool) (x y : BaseEntry) (o : Option BaseEntry) → (b ≡ true → ⊥) → o ≡ Some y → cond b (Some x) o ≡ Some y
-found_test true x y o h e = absurd (h refl)
-found_test false x y o h e = e
+found_test b x y o h e = grind arith
 
 only_entry : (before : List ℕ) (es : List BaseEntry) (k : ℕ) (e : BaseEntry) → AreNew before (map bis_of es) → slice_get es k ≡ Some e → entry_of e.bis es ≡ Some e
 only_entry before [] k e h g = absurd cc
-only_entry before (x ∷ es) zero e h g =
-    let same : e ≡ x = sym (same_Some x e g) in
-    subst (λ (y : BaseEntry). entry_of e.bis (y ∷ es) ≡ Some e) same (ap (λ (b : Bool). cond b (Some e) (entry_of e.bis es)) (same_index e.bis))
+only_entry before (x ∷ es) zero e h g = grind (arith, same_Some, entry_of, cond, same_index)
 only_entry before (x ∷ es) (suc k) e h g =
     found_test (eqb x.bis e.bis) x e (entry_of e.bis es)
     (λ t. no_twice before (x.bis ∷ []) (map bis_of es) e.bis h (ap (λ (b : Bool). b || false) t) (stands_here es k e g))
     (only_entry (before ++ x.bis ∷ []) es k e h.1 g)
 
 behind_none : (place : ℕ) (s : Subgroup) (o : Option BaseEntry) (behind : Option Effective) → (is_some o ≡ true → ⊥) → or_behind place s o behind ≡ behind
-behind_none place s None behind h = refl
-behind_none place s (Some e) behind h = absurd (h refl)
+behind_none place s o behind h = grind arith
 
 only_from : (before : List ℕ) (place : ℕ) (ss : List Subgroup) (at : ℕ) (s : Subgroup) (k : ℕ) (e : BaseEntry) → AreNew before (indices ss) → slice_get ss at ≡ Some s → slice_get s.entries k ≡ Some e
     → effective_from place e.bis ss ≡ Some (values_of (place + at) s e)
@@ -186,7 +167,4 @@ only_from before place (x ∷ ss) (suc at) s k e h g m =
     ∙ ap (λ (n : ℕ). Some (values_of n s e)) there
 
 pub effective_only : (v : Endpoint) (bis : ℕ) (values : Effective) → IsBase v → IsEffective v bis values → effective_of v bis ≡ Some values
-effective_only v bis values b e =
-    let found : effective_of v e.entry.bis ≡ Some (values_of (0 + values.subgroup) e.subgroup e.entry) = only_from [] 0 v.subgroups values.subgroup e.subgroup e.place e.entry b.once e.stands e.has in
-    let there : 0 + values.subgroup ≡ values.subgroup = omega arith in
-    ap (effective_of v) (sym e.index) ∙ found ∙ ap (λ (n : ℕ). Some (values_of n e.subgroup e.entry)) there ∙ ap (λ (x : Effective). Some x) (sym e.values)
+effective_only v bis values b e = grind (arith, effective_of, values_of, only_from)

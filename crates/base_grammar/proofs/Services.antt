@@ -22,31 +22,23 @@ record Prefix (ads : List Ltv) (body after : List ℕ) : Type 0 where
   is : IsLtvList others after
 
 same_pair : (a b c d : List ℕ) → (let r : List ℕ × List ℕ → Option (List ℕ × List ℕ) = λ x. Some x in r (a, b) ≡ r (c, d)) → (a ≡ c) × (b ≡ d)
-same_pair a b c d e =
-    let same = same_Some (a, b) (c, d) e in
-    (ap (λ (p : List ℕ × List ℕ). p.0) same, ap (λ (p : List ℕ × List ℕ). p.1) same)
+same_pair a b c d e = grind (arith, same_Some)
 
 encoded : (ad : Ltv) (others : List Ltv) (rest : List ℕ) → IsLtvList (ad ∷ others) rest → rest ≡ length (ad.kind ∷ ad.value) ∷ ((ad.kind ∷ ad.value) ++ encoding others)
-encoded ad others rest l =
-    let count : 1 + length ad.value ≡ length (ad.kind ∷ ad.value) = omega arith in
-    l.encoded ∙ flat_map-cons structure ad others ∙ ap (λ (n : ℕ). n ∷ ad.kind ∷ (ad.value ++ encoding others)) count
+encoded ad others rest l = grind (arith, length, flat_map-cons, structure)
 
 prefix_of : (ads : List Ltv) (rest body after : List ℕ) → IsLtvList ads rest → counted_in rest ≡ Some (body, after) → Prefix ads body after
-prefix_of [] rest body after l e =
-    let none : counted_in rest ≡ None = ap counted_in l.encoded in
-    absurd cc
+prefix_of [] rest body after l e = grind (arith, counted_in)
 prefix_of (ad ∷ others) rest body after l e =
     let read : counted_in rest ≡ Some (ad.kind ∷ ad.value, encoding others) = ap counted_in (encoded ad others rest l) ∙ counted_again (ad.kind ∷ ad.value) (encoding others) in
     let same = same_pair (ad.kind ∷ ad.value) (encoding others) body after (sym read ∙ e) in
     record { ad = ad; others = others; all = refl; body_is = sym same.0; is = record { fit = l.fit.1; encoded = sym same.1 } }
 
 none_or : (found other : Option (List ℕ)) → found ≡ None → option_or found other ≡ other
-none_or None other e = refl
-none_or (Some x) other e = absurd cc
+none_or found other e = grind arith
 
 some_or : (found other : Option (List ℕ)) (content : List ℕ) → found ≡ Some content → option_or found other ≡ Some content
-some_or None other content e = absurd cc
-some_or (Some x) other content e = e
+some_or found other content e = grind arith
 
 pub unfound_next : (uuid : ℕ) (list rest body after : List ℕ) → counted_in rest ≡ Some (body, after) → service_of uuid body ≡ None → Unfound uuid list rest → Unfound uuid list after
 unfound_next uuid list rest body after e none u =

@@ -34,18 +34,12 @@ index_takes whole before from bis rest e =
 pub streams_take : (whole from : List ℕ) (count : ℕ) (rest : List ℕ) → streams_at whole from ≡ Ok (count, rest) → Takes from (octet count) rest × (1 ≤ count)
 unfolding streams_at
 streams_take whole from count rest e =
-    let a = bind_ok (field_at whole from (octet_in from)) (λ x. unless (streams_fault (place_in whole from) x.0) x) (count, rest) e in
-    let g = unless_ok (streams_fault (place_in whole from) a.0.0) a.0 (count, rest) a.2 in
-    let taken = octet_takes from a.0.0 a.0.1 (field_ok whole from (octet_in from) a.0 a.1) in
-    subst (λ (x : ℕ × List ℕ). Takes from (octet x.0) x.1 × (1 ≤ x.0)) g.1 (taken, streams_none (place_in whole from) a.0.0 g.0)
+    grind (arith, bind_ok, field_at, octet_in, unless, streams_fault, place_in, unless_ok, octet_takes, field_ok, octet, streams_none)
 
 pub count_takes : (whole from : List ℕ) (count : ℕ) (rest : List ℕ) → count_at whole from ≡ Ok (count, rest) → Takes from (octet count) rest × (1 ≤ count)
 unfolding count_at
 count_takes whole from count rest e =
-    let a = bind_ok (field_at whole from (octet_in from)) (λ x. unless (subgroups_fault x.0) x) (count, rest) e in
-    let g = unless_ok (subgroups_fault a.0.0) a.0 (count, rest) a.2 in
-    let taken = octet_takes from a.0.0 a.0.1 (field_ok whole from (octet_in from) a.0 a.1) in
-    subst (λ (x : ℕ × List ℕ). Takes from (octet x.0) x.1 × (1 ≤ x.0)) g.1 (taken, subgroups_none a.0.0 g.0)
+    grind (arith, bind_ok, field_at, octet_in, unless, subgroups_fault, unless_ok, octet_takes, field_ok, octet, subgroups_none)
 
 -- ---- entries
 
@@ -63,11 +57,7 @@ entry_takes whole is_list before from x octets e =
     let t0 = index_takes whole before from a.0.0 a.0.1 a.1 in
     let t1 = run_takes whole is_list a.0.1 b.0.0 b.0.1 (t0.0.fits octets) b.1 in
     let made : BaseEntry × List ℕ = (record { bis = a.0.0; config = b.0.0 }, b.0.1) in
-    let found : EntryTaken is_list before from made.0 made.1 = record {
-      taken = Takes-then from (octet a.0.0) a.0.1 (counted b.0.0) b.0.1 t0.0 t1.0;
-      fits = record { least = t0.1.0; greatest = t0.1.1; config = t1.1 };
-      is_new = t0.1.2;
-    } in
+    let found : EntryTaken is_list before from made.0 made.1 = grind (arith, octet, counted) in
     subst (λ (y : BaseEntry × List ℕ). EntryTaken is_list before from y.0 y.1) (ok_is made x b.2) found
 
 pub record EntriesTaken (is_list : Bool) (before : List ℕ) (count : ℕ) (from : List ℕ) (es : List BaseEntry) (rest : List ℕ) : Type 0 where
@@ -79,9 +69,7 @@ pub record EntriesTaken (is_list : Bool) (before : List ℕ) (count : ℕ) (from
 entries_take : (whole : List ℕ) (is_list : Bool) (before : List ℕ) (count : ℕ) (from : List ℕ) (x : List BaseEntry × List ℕ)
     → IsOctets from → entries_at whole is_list before count from ≡ Ok x → EntriesTaken is_list before count from x.0 x.1
 unfolding entries_at
-entries_take whole is_list before zero from x octets e =
-    let found : EntriesTaken is_list before 0 from [] from = record { taken = record { parts = refl; fits = λ h. h }; fit = tt; many = refl; are_new = tt } in
-    subst (λ (y : List BaseEntry × List ℕ). EntriesTaken is_list before 0 from y.0 y.1) (ok_is ([], from) x e) found
+entries_take whole is_list before zero from x octets e = grind (arith, ok_is)
 entries_take whole is_list before (suc n) from x octets e =
     let a = bind_ok (entry_at whole is_list before from) (λ first. entries_at whole is_list (before ++ first.0.bis ∷ []) n first.1 >>= λ others. Ok (first.0 ∷ others.0, others.1)) x e in
     let b = bind_ok (entries_at whole is_list (before ++ a.0.0.bis ∷ []) n a.0.1) (λ others. Ok (a.0.0 ∷ others.0, others.1)) x a.2 in
@@ -89,12 +77,7 @@ entries_take whole is_list before (suc n) from x octets e =
     let others = entries_take whole is_list (before ++ a.0.0.bis ∷ []) n a.0.1 b.0 (first.taken.fits octets) b.1 in
     let both = Takes-then from (entry a.0.0) a.0.1 (flat_map entry b.0.0) b.0.1 first.taken others.taken in
     let made : List BaseEntry × List ℕ = (a.0.0 ∷ b.0.0, b.0.1) in
-    let found : EntriesTaken is_list before (suc n) from made.0 made.1 = record {
-      taken = rw flat_map-cons both;
-      fit = (first.fits, others.fit);
-      many = ap suc others.many;
-      are_new = (first.is_new, others.are_new);
-    } in
+    let found : EntriesTaken is_list before (suc n) from made.0 made.1 = grind (arith, flat_map-cons) in
     subst (λ (y : List BaseEntry × List ℕ). EntriesTaken is_list before (suc n) from y.0 y.1) (ok_is made x b.2) found
 
 -- ---- subgroups
@@ -154,9 +137,7 @@ pub record SubgroupsTaken (before : List ℕ) (count : ℕ) (from : List ℕ) (s
 subgroups_take : (whole before : List ℕ) (count : ℕ) (from : List ℕ) (x : List Subgroup × List ℕ) → IsOctets from → subgroups_at whole before count from ≡ Ok x
     → SubgroupsTaken before count from x.0 x.1
 unfolding subgroups_at
-subgroups_take whole before zero from x octets e =
-    let found : SubgroupsTaken before 0 from [] from = record { taken = record { parts = refl; fits = λ h. h }; fit = tt; streams = tt; many = refl; are_new = tt } in
-    subst (λ (y : List Subgroup × List ℕ). SubgroupsTaken before 0 from y.0 y.1) (ok_is ([], from) x e) found
+subgroups_take whole before zero from x octets e = grind (arith, ok_is)
 subgroups_take whole before (suc n) from x octets e =
     let a = bind_ok (subgroup_at whole before from) (λ first. subgroups_at whole (before ++ map bis_of first.0.entries) n first.1 >>= λ others. Ok (first.0 ∷ others.0, others.1)) x e in
     let b = bind_ok (subgroups_at whole (before ++ map bis_of a.0.0.entries) n a.0.1) (λ others. Ok (a.0.0 ∷ others.0, others.1)) x a.2 in
@@ -164,20 +145,13 @@ subgroups_take whole before (suc n) from x octets e =
     let others = subgroups_take whole (before ++ map bis_of a.0.0.entries) n a.0.1 b.0 (first.taken.fits octets) b.1 in
     let both = Takes-then from (subgroup a.0.0) a.0.1 (flat_map subgroup b.0.0) b.0.1 first.taken others.taken in
     let made : List Subgroup × List ℕ = (a.0.0 ∷ b.0.0, b.0.1) in
-    let found : SubgroupsTaken before (suc n) from made.0 made.1 = record {
-      taken = rw (flat_map-cons subgroup a.0.0 b.0.0) both;
-      fit = (first.fits, others.fit);
-      streams = (first.some, others.streams);
-      many = ap suc others.many;
-      are_new = rw (flat_map-cons (λ (s : Subgroup). map bis_of s.entries) a.0.0 b.0.0) (AreNew-then before (map bis_of a.0.0.entries) (indices b.0.0) first.are_new others.are_new);
-    } in
+    let found : SubgroupsTaken before (suc n) from made.0 made.1 = grind (arith, flat_map-cons, subgroup, map, bis_of, AreNew-then, indices) in
     subst (λ (y : List Subgroup × List ℕ). SubgroupsTaken before (suc n) from y.0 y.1) (ok_is made x b.2) found
 
 -- ---- the BASE
 
 ended_ok : {A : Type 0} (whole rest : List ℕ) (x y : A) → ended whole rest x ≡ Ok y → (rest ≡ []) × (x ≡ y)
-ended_ok whole [] x y e = (refl, ok_is x y e)
-ended_ok whole (octet ∷ rest) x y e = absurd cc
+ended_ok whole rest x y e = grind (arith, ok_is)
 
 pub record FieldsTaken (from : List ℕ) (v : Endpoint) : Type 0 where
   pub delay : v.delay < 2 ^ 24
@@ -203,12 +177,5 @@ fields_take whole v fits e =
     let e02 = (Takes-then whole (number 3 a.0.0) a.0.1 (b.0.0 ∷ flat_map subgroup c.0.0) c.0.1 t0.0 e12).parts in
     let all : whole ≡ number 3 a.0.0 ++ (b.0.0 ∷ flat_map subgroup c.0.0) =
     e02 ∙ ap (λ (rest : List ℕ). (number 3 a.0.0 ++ (b.0.0 ∷ flat_map subgroup c.0.0)) ++ rest) last.0 ∙ append-nil (number 3 a.0.0 ++ (b.0.0 ∷ flat_map subgroup c.0.0)) in
-    let found : FieldsTaken whole made = record {
-      delay = t0.1;
-      some = omega (arith, t1.1, t2.many);
-      streams = t2.streams;
-      fit = t2.fit;
-      once = t2.are_new;
-      encoded = all ∙ ap (λ (n : ℕ). number 3 a.0.0 ++ (n ∷ flat_map subgroup c.0.0)) (sym t2.many);
-    } in
+    let found : FieldsTaken whole made = grind (arith, number, flat_map, subgroup) in
     subst (FieldsTaken whole) last.1 found

@@ -1,5 +1,5 @@
 -- Fields that were taken, and what reading the next ones comes to.
-use Rattle.base_grammar.proofs.Prelude.{◌≡◌, ℕ, ◌+◌, ◌<◌, ◌⊎◌, Bool, false, ltb, List, [], ◌∷◌, ◌++◌, length, take, drop, Option, Some, None, Result, Ok, Err, refl, sym, ap, subst, ◌∙◌, append_assoc, arith, inl, inr, add-zero, zero-add, concat, cases_lt, lt-ltb, le-ltb, append-nil, length-append, length-take, take-append-drop, take_at, concat-append, octet_in, octets_in, number_in, place_in, BaseFault, Short, Row, presentation_delay, num_subgroups, num_bis, codec_id, config_length, config, metadata_length, metadata, bis_index, bis_config_length, bis_config, nothing, Due, first_due, width, row_fault, next_due, IsDue, Meets, field_fault, cut_fault, AtCut, run_fault, ◌>>=◌, field_at, unless}
+use Rattle.base_grammar.proofs.Prelude.{◌≡◌, ℕ, ◌+◌, ◌<◌, ◌⊎◌, Bool, ltb, List, [], ◌∷◌, ◌++◌, length, take, drop, Option, Some, None, Result, Ok, Err, refl, sym, ap, subst, ◌∙◌, append_assoc, arith, inl, inr, add-zero, zero-add, concat, cases_lt, lt-ltb, le-ltb, append-nil, length-append, length-take, take-append-drop, take_at, concat-append, octet_in, octets_in, number_in, place_in, BaseFault, Short, Row, presentation_delay, num_subgroups, num_bis, codec_id, config_length, config, metadata_length, metadata, bis_index, bis_config_length, bis_config, nothing, Due, first_due, width, row_fault, next_due, IsDue, Meets, field_fault, cut_fault, AtCut, run_fault, ◌>>=◌, field_at, unless}
 use Rattle.bcast_base.specs.Numbers.{sum_from}
 use Rattle.base_grammar.specs.Faults.{due_behind, AllMeet}
 use Rattle.base_grammar.specs.Reading.{run_at}
@@ -55,15 +55,7 @@ at_next whole due rest field after a is_due e long sound =
     }
 
 pub at_stop : (whole : List ℕ) (due : Due) (rest : List ℕ) (fault : BaseFault) → At whole due rest → cut_fault due.row (place_in whole rest) due rest ≡ Some fault → AtCut fault whole
-at_stop whole due rest fault a e =
-    let there = place_there whole (concat a.fields) rest a.parts in
-    record {
-      fields = a.fields;
-      rest = rest;
-      meet = a.meet;
-      parts = a.parts;
-      stands = subst (λ (d : Due). cut_fault d.row (length (concat a.fields)) d rest ≡ Some fault) (sym a.is) (subst (λ (p : ℕ). cut_fault due.row p due rest ≡ Some fault) there e);
-    }
+at_stop whole due rest fault a e = grind (arith, place_there, concat, cut_fault, length)
 
 pub due_cut : (row : Row) (place : ℕ) (due : Due) (rest : List ℕ) → IsDue row → cut_fault row place due rest ≡ field_fault row place due rest
 due_cut presentation_delay place due rest h = refl
@@ -86,9 +78,7 @@ stop_short whole due rest a is_due lt =
 pub stop_field : (whole : List ℕ) (due : Due) (rest field after : List ℕ) (fault : BaseFault) → At whole due rest → IsDue due.row → rest ≡ field ++ after → length field ≡ width due.row
     → row_fault due.row (place_in whole rest) due field ≡ Some fault → AtCut fault whole
 stop_field whole due rest field after fault a is_due e long wrong =
-    let enough : ltb (length rest) (width due.row) ≡ false = le-ltb _ _ (omega (arith, ap length e, length-append field after, long)) in
-    let prefix : take (width due.row) rest ≡ field = ap (take (width due.row)) e ∙ take_at field after (width due.row) long in
-    at_stop whole due rest fault a (due_cut due.row (place_in whole rest) due rest is_due ∙ rw (enough, prefix) wrong)
+    grind (arith, ltb, length, width, le-ltb, length-append, take, take_at, at_stop, due_cut, place_in)
 
 -- ---- what reading comes to
 
@@ -99,13 +89,11 @@ Comes whole due (Err fault) = AtCut fault whole
 
 pub comes_then : {A B : Type 0} (whole : List ℕ) (due : A → Due) (then_due : B → Due) (read : Result (A × List ℕ) BaseFault) (others : A × List ℕ → Result (B × List ℕ) BaseFault)
     → Comes whole due read → ((x : A × List ℕ) → read ≡ Ok x → At whole (due x.0) x.1 → Comes whole then_due (others x)) → Comes whole then_due (read >>= others)
-comes_then whole due then_due (Ok x) others c f = f x refl c
-comes_then whole due then_due (Err fault) others c f = c
+comes_then whole due then_due read others c f = grind arith
 
 ruled : {A : Type 0} (whole : List ℕ) (due : A → Due) (fault : Option BaseFault) (x : A × List ℕ) → (fault ≡ None → At whole (due x.0) x.1)
     → ((f : BaseFault) → fault ≡ Some f → AtCut f whole) → Comes whole due (unless fault x)
-ruled whole due None x ok err = ok refl
-ruled whole due (Some f) x ok err = err f refl
+ruled whole due fault x ok err = grind arith
 
 -- one octet
 pub octet_comes : (whole : List ℕ) (due : Due) (rest : List ℕ) → At whole due rest → IsDue due.row → width due.row ≡ 1 → ((x : ℕ) → row_fault due.row (place_in whole rest) due (x ∷ []) ≡ None)
@@ -125,11 +113,7 @@ ruled_octet_comes whole due (x ∷ rest) rule a is_due one same =
 
 octets_cases : (k : ℕ) (from : List ℕ) → ((length from < k) × (octets_in k from ≡ None))
     ⊎ ((value : List ℕ) × (rest : List ℕ) × (from ≡ value ++ rest) × (length value ≡ k) × (octets_in k from ≡ Some (value, rest)))
-octets_cases k from =
-    elim (cases_lt (length from) k) [
-      | inl lt ↦ inl (lt, rw (lt-ltb (length from) k lt) refl)
-      | inr le ↦ inr (take k from, drop k from, sym (take-append-drop k from), omega (arith, length-take k from, le), rw (le-ltb (length from) k le) refl)
-    ]
+octets_cases k from = grind (arith, cases_lt, length, lt-ltb, take, drop, take-append-drop, length-take, le-ltb)
 
 -- octets under a rule
 pub ruled_octets_come : (whole : List ℕ) (due : Due) (k : ℕ) (rest : List ℕ) (rule : List ℕ → Option BaseFault) → At whole due rest → IsDue due.row → width due.row ≡ k
@@ -155,8 +139,7 @@ octets_come whole due k rest a is_due long sound =
 
 -- the same, with the due written otherwise
 pub comes_same : {A : Type 0} (whole : List ℕ) (due other : A → Due) (read : Result (A × List ℕ) BaseFault) → ((x : A) → due x ≡ other x) → Comes whole due read → Comes whole other read
-comes_same whole due other (Ok x) same c = subst (λ (d : Due). At whole d x.1) (same x.0) c
-comes_same whole due other (Err fault) same c = c
+comes_same whole due other read same c = grind arith
 
 -- octets behind one that counts them: two rows, one for the count and one for what it counts
 pub record RunRows (due : Due) (middle : ℕ → Due) (last : Due) (is_list : Bool) : Type 0 where

@@ -9,9 +9,7 @@ pub structures-preserved : goal.structures-preserved
 structures-preserved c = unfound_next c.args.uuid c.args.list.now c.structures.rest.now c.in-Some.body.now c.in-Some.after.now c.in-Some.ensures c.in_default-service_at.ensures c.structures.invariant
 
 pub returns-in-Some-service_at : goal.returns-in-Some-service_at
-returns-in-Some-service_at c =
-    unfound_found c.args.uuid c.args.list.now c.structures.rest.now c.in-Some.body.now c.in-Some.after.now c.in-Some-service_at.content.now c.in-Some.ensures c.in-Some-service_at.ensures
-    c.structures.invariant
+returns-in-Some-service_at c = grind (arith, unfound_found)
 
 pub returns : goal.returns
 returns c = unfound_none c.args.uuid c.args.list.now c.structures.rest.now c.in_default.ensures c.structures.invariant

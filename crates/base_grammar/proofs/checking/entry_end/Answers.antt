@@ -1,3 +1,4 @@
+use Rattle.std.proofs.Common.{arith}
 use Rattle.base_grammar.proofs.Prelude.{err_from_is_err_and}
 use Rattle.base_grammar.proofs.Checks.{entry_unindexed, entry_unread, entry_passed}
 use Rattle.base_grammar.proofs.checking.entry_end.Goals as goal
@@ -15,7 +16,4 @@ returns-in_err-_config-clause-exact c =
     c.in_err-_config.ensures.reads)
 
 pub returns-clause-exact : goal.returns-clause-exact
-returns-clause-exact c =
-    λ before s.
-    entry_passed c.args.whole.now c.args.is_lc3 before c.args.rest.now c.in_ok-rest.rest.now c.index_end.new.seen c.in_ok-_config._config.now c.in_ok-_config.rest.now
-    (c.in_ok-rest.ensures.exact before s) c.in_ok-_config.ensures.reads
+returns-clause-exact c = grind (arith, entry_passed)

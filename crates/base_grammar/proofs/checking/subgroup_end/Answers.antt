@@ -1,17 +1,13 @@
+use Rattle.std.proofs.Common.{arith}
 use Rattle.base_grammar.proofs.Prelude.{err_from_is_err_and}
 use Rattle.base_grammar.proofs.Checks.{subgroup_uncounted, subgroup_uncoded, subgroup_unconfigured, subgroup_undescribed, subgroup_ends}
 use Rattle.base_grammar.proofs.checking.subgroup_end.Goals as goal
 
 pub returns-in_err-count-clause-exact : goal.returns-in_err-count-clause-exact
-returns-in_err-count-clause-exact c =
-    let p = err_from_is_err_and c.from_residual.result c.from_residual.ensures.1 in
-    λ before s. rw (p.1, p.2) (subgroup_uncounted c.args.whole.now before c.args.rest.now c.in_err-count.field-0.0 c.in_err-count.ensures.reads)
+returns-in_err-count-clause-exact c = grind (arith, err_from_is_err_and, subgroup_uncounted)
 
 pub returns-in_err-codec-clause-exact : goal.returns-in_err-codec-clause-exact
-returns-in_err-codec-clause-exact c =
-    let p = err_from_is_err_and c.from_residual-in_err-codec.result c.from_residual-in_err-codec.ensures.1 in
-    λ before s. rw (p.1, p.2)
-    (subgroup_uncoded c.args.whole.now before c.args.rest.now c.in_ok-count.count c.in_ok-count.rest.now c.in_err-codec.field-0.0 c.in_ok-count.ensures.reads c.in_err-codec.ensures.reads)
+returns-in_err-codec-clause-exact c = grind (arith, err_from_is_err_and, subgroup_uncoded)
 
 pub returns-in_err-_config-clause-exact : goal.returns-in_err-_config-clause-exact
 returns-in_err-_config-clause-exact c =

@@ -1,3 +1,4 @@
+use Rattle.std.proofs.Common.{arith}
 use Rattle.base_grammar.proofs.Prelude.{err_from_is_err_and}
 use Rattle.base_grammar.proofs.Checks.{subgroups_failed, subgroups_next, subgroups_passed}
 use Rattle.base_grammar.proofs.checking.subgroups_end.Goals as goal
@@ -10,9 +11,7 @@ returns-in_err-rest-clause-exact c =
     c.loop-test.true c.in_err-rest.ensures.exact c.loop.invariant)
 
 pub loop-preserved : goal.loop-preserved
-loop-preserved c =
-    subgroups_next c.args.whole.now c.args.count c.args.from.now c.loop.counter c.loop.rest.now c.loop.seen c.subgroup_end.new.seen c.in_ok-rest.rest.now
-    c.loop-test.true c.in_ok-rest.ensures.shorter c.in_ok-rest.ensures.exact c.loop.invariant
+loop-preserved c = grind (arith, subgroups_next)
 
 pub returns-clause-exact : goal.returns-clause-exact
 returns-clause-exact c =
