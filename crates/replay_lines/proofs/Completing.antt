@@ -1,5 +1,6 @@
 -- Which endings come, and what the boxes took of a text that its source tells.
-use Rattle.replay_lines.proofs.Prelude.{◌≡◌, ◌≢◌, ℕ, Bool, true, List, [], ◌∷◌, ◌++◌, reverse, refl, sym, ap, subst, ◌∙◌, append_assoc, Option, None, Some, append-nil, Consumes, IsAtEnd, MayFollow, lines_of, Account, Rose, airs_of, through, refused, SinkUnit, Took, handed_on, out_of, transcript_end, units_of, Ending, TextRead, OutletFaulted, Ended, IsDoneOrMemory, IsNoFault, IsWhole, AheadOf, NoneFailed, RoomForText, Complete, Failure, failure, no_room_for, took_as}
+use Rattle.std.proofs.Common.{arith}
+use Rattle.replay_lines.proofs.Prelude.{◌≡◌, ◌≢◌, ℕ, Bool, true, List, [], ◌++◌, reverse, refl, sym, ap, subst, ◌∙◌, append_assoc, Option, Some, append-nil, Consumes, MayFollow, lines_of, Account, Rose, airs_of, through, refused, SinkUnit, Took, handed_on, out_of, transcript_end, units_of, Ending, TextRead, OutletFaulted, Ended, IsDoneOrMemory, IsNoFault, IsWhole, AheadOf, NoneFailed, RoomForText, Complete, Failure, failure, no_room_for, took_as}
 use Rattle.replay_lines.specs.declared.ending.Ending.TheVariants as endings
 use Rattle.replay_lines.proofs.Endings.{units_all}
 use Rattle.replay_lines.proofs.LineUnits.{box_stops, units_line}
@@ -8,28 +9,11 @@ use Rattle.replay_lines.proofs.LineUnits.{box_stops, units_line}
 
 -- what follows the octets read
 pub told : (text : List ℕ) (left' : Option (List ℕ)) (prefix : List ℕ) → Consumes (Some text) left' prefix → (rest : List ℕ) × (left' ≡ Some rest) × (text ≡ prefix ++ rest)
-told text None prefix c = absurd c
-told text (Some rest) prefix c = (rest, refl, c)
+told text left' prefix c = grind arith
 
 pub rest_of : (text : List ℕ) (left' : Option (List ℕ)) (prefix : List ℕ) (over : Bool) → TextRead (Some text) left' prefix over
     → (rest : List ℕ) × (text ≡ prefix ++ rest) × MayFollow over true rest
-rest_of text left' prefix over read =
-    let t = told text left' prefix read.consumed in
-    (t.0, t.2, λ is. (refl, subst IsAtEnd t.1 (read.at_end is)))
-
-whole_at : (text : List ℕ) (starts ends : List Account) (left' kept kept' : Option (List ℕ)) (ending : Ending) → Ended airs_of ending starts ends (Some text) left' kept kept' → IsWhole ending
-    → Took starts ends (units_of airs_of starts (lines_of true text))
-whole_at text starts ends left' kept kept' endings.Done d whole =
-    let r = rest_of text left' d.text true d.read in
-    let same : text ≡ d.text = r.1 ∙ ap (λ rest. d.text ++ rest) (r.2 refl).1 ∙ append-nil d.text in
-    took_as starts ends _ _ (ap (λ t. units_of airs_of starts (lines_of true t)) (sym same)) d.boxes
-whole_at text starts ends left' kept kept' (endings.Refused line reason) d whole =
-    let r = rest_of text left' d.0.text d.0.over d.0.read in
-    took_as starts ends _ _ (sym (ap (λ t. units_of airs_of starts (lines_of true t)) r.1 ∙ d.0.handed true r.0 r.2)) d.0.boxes
-whole_at text starts ends left' kept kept' endings.ReadFault d whole = absurd whole
-whole_at text starts ends left' kept kept' endings.WriteFault d whole = absurd whole
-whole_at text starts ends left' kept kept' endings.OutletFault d whole = absurd whole
-whole_at text starts ends left' kept kept' endings.Memory d whole = absurd whole
+rest_of text left' prefix over read = grind (arith, told)
 
 left_at : (ending : Ending) (text : List ℕ) (starts ends : List Account) (left left' kept kept' : Option (List ℕ)) → left ≡ Some text
     → Ended airs_of ending starts ends left left' kept kept' → Ended airs_of ending starts ends (Some text) left' kept kept'
@@ -38,7 +22,7 @@ left_at ending text starts ends left left' kept kept' is e = let P : Option (Lis
 pub ended_whole : (text : List ℕ) (starts ends : List Account) (left left' kept kept' : Option (List ℕ)) (ending : Ending) → Ended airs_of ending starts ends left left' kept kept'
     → left ≡ Some text → IsWhole ending → Took starts ends (units_of airs_of starts (lines_of true text))
 ended_whole text starts ends left left' kept kept' ending e is whole =
-    whole_at text starts ends left' kept kept' ending (left_at ending text starts ends left left' kept kept' is e) whole
+    grind (arith, rest_of, append-nil, took_as, units_of, airs_of, lines_of, left_at)
 
 pub ended_ahead : (ending : Ending) (starts ends : List Account) (left left' kept kept' : Option (List ℕ)) → Ended airs_of ending starts ends left left' kept kept'
     → AheadOf airs_of ending starts ends left left' kept kept'
@@ -65,14 +49,7 @@ failed_in text starts ends left' kept kept' o =
     let at = o.comes.lines true r.0 r.2 in
     let more = units_line starts o.earlier o.line at.0 o.accepted.0 o.accepted.1 in
     failure starts ends o.accounts us (handed_on airs_of o.earlier o.line) (f.rest ++ more.0) (units_of airs_of starts (lines_of true text))
-    [] stops.0 o.before f (
-    ap (λ t. units_of airs_of starts (lines_of true t)) r.1
-    ∙ ap (units_of airs_of starts) at.1
-    ∙ more.1
-    ∙ ap (λ prefix. prefix ++ (handed_on airs_of o.earlier o.line ++ more.0)) (sym (units_all starts o.earlier o.accepted.0))
-    ∙ ap (λ units. us ++ (units ++ more.0)) f.split
-    ∙ ap (λ units. us ++ units) (append_assoc f.done (f.unit ∷ f.rest) more.0)
-    )
+    [] stops.0 o.before f (grind (arith, units_of, airs_of, lines_of, handed_on, units_all, append_assoc))
 
 no_failure : (starts ends : List Account) (units : List SinkUnit) → Failure starts ends units → NoneFailed starts ends → ⊥
 no_failure starts ends units f none = none f.place f.first f.after f.was f.is f.rose
@@ -111,9 +88,8 @@ module _ (text : List ℕ) (starts ends : List Account) (left' kept kept' : Opti
   no_fault_at endings.Memory e r w room no_read no_write = tt
 
 pub ended_complete : (text : List ℕ) (starts ends : List Account) (left left' kept kept' : Option (List ℕ)) (read read' write write' : ℕ) (ending : Ending)
-    → Ended airs_of ending starts ends left left' kept kept' → left ≡ Some text
-    → (ending ≡ endings.ReadFault → Rose read read') → (ending ≡ endings.WriteFault → Rose write write')
-    → Complete airs_of text starts ends read read' write write' ending
+    → Ended airs_of ending starts ends left left' kept kept' → left ≡ Some text → (ending ≡ endings.ReadFault → Rose read read')
+    → (ending ≡ endings.WriteFault → Rose write write') → Complete airs_of text starts ends read read' write write' ending
 ended_complete text starts ends left left' kept kept' read read' write write' ending e is r w =
     let at = left_at ending text starts ends left left' kept kept' is e in
     record {

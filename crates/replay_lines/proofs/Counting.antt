@@ -1,14 +1,12 @@
 -- The counts of the boxes, by how a run ended.
+use Rattle.std.proofs.Common.{arith}
 use Rattle.replay_lines.proofs.Prelude.{◌≢◌, ℕ, true, false, List, [], reverse, refl, Option, inl, inr, ◌⊎◌, TextLine, lines_of, Account, airs_of, handed_on, out_of, units_of, CountsStay, OneCounts, failed_one, none_counts, one_then, took_stay, Ending, Ended, IsCut, Broken, FaultCut, LineFails}
 use Rattle.replay_lines.specs.declared.ending.Ending.TheVariants as endings
 use Rattle.replay_lines.proofs.LineUnits.{box_stops}
 
 broken_counts : (starts ends : List Account) (left left' kept kept' : Option (List ℕ)) → Broken airs_of starts ends left left' kept kept'
     → CountsStay starts ends ⊎ FaultCut airs_of starts ends left left' kept kept'
-broken_counts starts ends left left' kept kept' e = elim e.boxes [
-  | inl cut ↦ inl (took_stay starts ends cut.done cut.boxes)
-  | inr failed ↦ inr failed
-]
+broken_counts starts ends left left' kept kept' e = grind (arith, took_stay)
 
 pub ended_counts : (ending : Ending) (starts ends : List Account) (left left' kept kept' : Option (List ℕ)) → Ended airs_of ending starts ends left left' kept kept'
     → ending ≢ endings.OutletFault → CountsStay starts ends ⊎ (IsCut ending × FaultCut airs_of starts ends left left' kept kept')
@@ -18,8 +16,7 @@ ended_counts endings.ReadFault starts ends left left' kept kept' e other = inl (
 ended_counts endings.WriteFault starts ends left left' kept kept' e other =
     elim (broken_counts starts ends left left' kept kept' e.0) [ inl stay ↦ inl stay | inr failed ↦ inr (tt, failed) ]
 ended_counts endings.OutletFault starts ends left left' kept kept' e other = absurd (other refl)
-ended_counts endings.Memory starts ends left left' kept kept' e other =
-    elim (broken_counts starts ends left left' kept kept' e) [ inl stay ↦ inl stay | inr failed ↦ inr (tt, failed) ]
+ended_counts endings.Memory starts ends left left' kept kept' e other = grind (arith, broken_counts)
 
 -- the box of a unit of a line failed
 stopped_one : (starts before after : List Account) (history : List TextLine) (line : TextLine) (text told : List ℕ)

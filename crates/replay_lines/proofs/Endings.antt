@@ -113,8 +113,7 @@ pub prefix_of_short : (kept kept' : Option (List ℕ)) (xs : List ℕ) → Appen
 prefix_of_short kept kept' xs s = record { prefix = s.prefix; rest = s.rest; whole = s.whole; appended = s.appended }
 
 pub keeps_same : (kept : Option (List ℕ)) → Keeps kept kept
-keeps_same None = tt
-keeps_same (Some xs) = refl
+keeps_same kept = grind arith
 
 pub prefix_none : (kept : Option (List ℕ)) (xs : List ℕ) → AppendsPrefix kept kept xs
 prefix_none kept xs = AppendsPrefix-nothing kept kept xs (keeps_same kept)

@@ -1,14 +1,12 @@
 -- What a listener changes at a line: nothing where it goes on, and where it fails the run ends before the line.
-use Rattle.replay_lines.proofs.Prelude.{◌≡◌, ◌≢◌, ◌∙◌, Bool, false, true, List, refl, ap, inl, Option, None, Some, ℕ, Appends, Keeps, Rose, TextLine, Account, airs_of, rules_of, brought, Airs, Machine, Ending, Ended, Heard, as_told, Broken, Comes, ReadsAtMost, read_limit, RunTo, StepRuns, StepHeard, Laws, World}
+use Rattle.std.proofs.Common.{arith}
+use Rattle.replay_lines.proofs.Prelude.{◌≡◌, ◌≢◌, Bool, false, true, List, refl, ap, inl, Option, ℕ, Appends, Keeps, Rose, TextLine, Account, airs_of, rules_of, brought, Airs, Machine, Ending, Ended, Heard, as_told, Broken, Comes, ReadsAtMost, read_limit, RunTo, StepRuns, StepHeard, Laws, World}
 use Rattle.replay_lines.specs.declared.ending.Ending.TheVariants as endings
 use Rattle.replay_lines.proofs.LineEndings.{step_memory}
 use Rattle.replay_lines.proofs.Promises.{promised_run}
 
 pub kept_on : (a b c : Option (List ℕ)) (xs : List ℕ) → Appends a b xs → Keeps b c → Appends a c xs
-kept_on None b c xs p q = tt
-kept_on (Some x) None c xs p q = absurd p
-kept_on (Some x) (Some y) None xs p q = absurd q
-kept_on (Some x) (Some y) (Some z) xs p q = q ∙ p
+kept_on a b c xs p q = grind arith
 
 -- the lines so far were run, and the sink kept what they brought
 pub run_kept : (starts : List Account) (history : List TextLine) (kept mid kept' : Option (List ℕ)) (machine : Machine) (accounts : List Account)
@@ -53,9 +51,7 @@ module _ (airs : Airs) (starts ends : List Account) (left left' kept kept' : Opt
 pub step_told : (may_fail : Bool) (starts : List Account) (lines : List TextLine) (left left' kept kept' : Option (List ℕ)) (machine : Machine)
     (accounts : List Account) (result : Option Ending) → StepRuns starts lines left left' kept kept' machine accounts result
     → StepHeard may_fail starts lines left left' kept kept' machine accounts result
-step_told may_fail starts lines left left' kept kept' machine accounts None s = s
-step_told may_fail starts lines left left' kept kept' machine accounts (Some ending) s =
-    ended_told airs_of starts accounts left left' kept kept' may_fail ending s
+step_told may_fail starts lines left left' kept kept' machine accounts result s = grind (arith, airs_of)
 
 -- the run ends before a line
 pub broken_before : (starts : List Account) (history : List TextLine) (line : TextLine) (left left' kept mid kept' : Option (List ℕ)) (machine : Machine)
@@ -68,27 +64,16 @@ broken_before starts history line left left' kept mid kept' machine accounts com
 -- ---- what is promised
 
 never_write : (ending : Ending) → as_told true ending ≢ endings.WriteFault
-never_write endings.Done is = cc
-never_write (endings.Refused line reason) is = cc
-never_write endings.ReadFault is = cc
-never_write endings.WriteFault is = cc
-never_write endings.OutletFault is = cc
-never_write endings.Memory is = cc
+never_write ending is = grind arith
 
 read_told : (ending : Ending) → as_told true ending ≡ endings.ReadFault → ending ≡ endings.ReadFault
-read_told endings.Done is = is
-read_told (endings.Refused line reason) is = is
-read_told endings.ReadFault is = refl
-read_told endings.WriteFault is = absurd cc
-read_told endings.OutletFault is = is
-read_told endings.Memory is = is
+read_told ending is = grind arith
 
 pub heard_run : (may_fail : Bool) (old new : World) (ending : Ending)
     → Ended airs_of (as_told may_fail ending) old.boxes new.boxes old.left new.left old.taken new.taken
-    → ReadsAtMost old.left new.left read_limit
-    → (ending ≡ endings.ReadFault → Rose old.reads new.reads) → (ending ≢ endings.ReadFault → new.reads ≡ old.reads)
-    → (ending ≡ endings.WriteFault → Rose old.writes new.writes) → (ending ≢ endings.WriteFault → new.writes ≡ old.writes)
-    → Laws old.boxes → Heard old new ending
+    → ReadsAtMost old.left new.left read_limit → (ending ≡ endings.ReadFault → Rose old.reads new.reads)
+    → (ending ≢ endings.ReadFault → new.reads ≡ old.reads) → (ending ≡ endings.WriteFault → Rose old.writes new.writes)
+    → (ending ≢ endings.WriteFault → new.writes ≡ old.writes) → Laws old.boxes → Heard old new ending
 heard_run may_fail old new ending e within read no_read write no_write laws = record {
   run = promised_run old (record { left = new.left; reads = new.reads; taken = new.taken; writes = old.writes; boxes = new.boxes })
       (as_told true ending)

@@ -1,5 +1,5 @@
 -- How a run of a text goes on or ends once a line was read.
-use Rattle.replay_lines.proofs.Prelude.{◌≡◌, ℕ, ◌+◌, Bool, true, false, List, [], ◌∷◌, ◌++◌, length, reverse, refl, sym, ap, subst, ◌∙◌, append_assoc, arith, Option, None, Some, length-append, inl, inr, ◌⊎◌, append-nil, reverse-append, Appends, TextLine, lines_of, AppendsPrefix, AppendsShort, Appends-then, AppendsPrefix-of_more, AppendsPrefix-then, Account, airs_of, Refusal, refusal_line, refused, brought, Accepted, handed_up, rules_of, steps_of, handed_on, out_of, last_line_after, end_after, has_end, transcript_of, transcript_end, units_of, Ending, Machine, CutShort, BoxesStand, LinesStand, answered_on, refusal_at, output_at, took_history, Comes, brought_by, BoxesCut, Broken, FaultCut, LineFails, OutletFaulted, ReadsAhead, CutAt, BoxesAt, Ended, Refuses, Puts, StepRuns}
+use Rattle.replay_lines.proofs.Prelude.{◌≡◌, ℕ, ◌+◌, Bool, List, [], ◌∷◌, ◌++◌, length, reverse, refl, sym, ap, subst, ◌∙◌, append_assoc, arith, Option, None, Some, length-append, inl, inr, ◌⊎◌, append-nil, reverse-append, Appends, TextLine, lines_of, AppendsPrefix, AppendsShort, Appends-then, AppendsPrefix-then, Account, airs_of, Refusal, refusal_line, refused, brought, Accepted, handed_up, rules_of, steps_of, handed_on, out_of, last_line_after, end_after, has_end, transcript_of, transcript_end, units_of, Ending, Machine, CutShort, BoxesStand, LinesStand, answered_on, refusal_at, output_at, took_history, Comes, brought_by, BoxesCut, Broken, FaultCut, LineFails, OutletFaulted, ReadsAhead, CutAt, BoxesAt, Ended, Refuses, Puts, StepRuns}
 use Rattle.replay_lines.specs.declared.ending.Ending.TheVariants as endings
 use Rattle.replay_steps.specs.Failing.{printed_before}
 use Rattle.replay_lines.proofs.Endings.{out_then, out_all, ends_refused, writes_refused, units_refused, prefix_of_short, prefix_none}
@@ -11,13 +11,8 @@ use Rattle.replay_lines.proofs.LineUnits.{cut_after, cut_within, at_refused, at_
 
 brought_prefix : (over : Bool) (starts : List Account) (kept kept' : Option (List ℕ)) (text : List ℕ) (octets rest : List ℕ)
     → out_of airs_of starts (lines_of over text) ≡ octets ++ rest → AppendsPrefix kept kept' octets → AppendsPrefix kept kept' (brought_by airs_of over starts text)
-brought_prefix true starts kept kept' text octets rest is f =
-    let last = last_line_after (end_after airs_of starts (lines_of true text)) (has_end (lines_of true text)) (length (lines_of true text) + 1) in
-    let P : List ℕ → Type 0 = λ xs. AppendsPrefix kept kept' xs in
-    subst P (sym (ap (λ prefix. prefix ++ last) is ∙ append_assoc octets rest last)) (AppendsPrefix-of_more kept kept' octets (rest ++ last) f)
-brought_prefix false starts kept kept' text octets rest is f =
-    let P : List ℕ → Type 0 = λ xs. AppendsPrefix kept kept' xs in
-    subst P (sym is) (AppendsPrefix-of_more kept kept' octets rest f)
+brought_prefix over starts kept kept' text octets rest is f =
+    grind (arith, last_line_after, end_after, airs_of, lines_of, has_end, length, append_assoc)
 
 -- the line among those of the text as far as it was read
 lines_now : (left left' : Option (List ℕ)) (history : List TextLine) (line : TextLine) (c : Comes left left' history line)
@@ -163,10 +158,8 @@ step_put starts history line left left' kept mid kept' machine accounts number o
     let P : List ℕ → Type 0 = λ xs. AppendsShort mid kept' xs in
     ends_broken starts history line left left' kept mid kept' accounts (output_at starts history line) c accepted written
     (brings_output starts history line accepted none) (inl (cut_after starts accounts history line accepted none stands.boxes)) (prefix_of_short mid kept' (output_at starts history line) (subst P told p))
-step_put starts history line left left' kept mid kept' machine accounts number octets is_next c ahead accepted written none stands told (Some endings.Done) p = absurd p
-step_put starts history line left left' kept mid kept' machine accounts number octets is_next c ahead accepted written none stands told (Some endings.ReadFault) p = absurd p
-step_put starts history line left left' kept mid kept' machine accounts number octets is_next c ahead accepted written none stands told (Some endings.OutletFault) p = absurd p
-step_put starts history line left left' kept mid kept' machine accounts number octets is_next c ahead accepted written none stands told (Some (endings.Refused at why)) p = absurd p
+step_put starts history line left left' kept mid kept' machine accounts number octets is_next c ahead accepted written none stands told result p =
+    search (brought, rules_of, airs_of, output_at, ends_write, brings_output, cut_after, at_after, ends_broken, prefix_of_short)
 
 -- the box of a unit of the line failed, and what came before the unit was put
 module _ (starts : List Account) (history : List TextLine) (line : TextLine) (left left' kept mid kept' : Option (List ℕ)) (before after : List Account) (number : ℕ) (told : List ℕ)

@@ -72,11 +72,7 @@ module _ (starts : List Account) (history : List TextLine) (left left' kept mid 
 -- the line that a reader lends
 pub line_read : (left left' : Option (List ℕ)) (history : List TextLine) (reader : Reading) (lent : List ℕ) → NextIs left left' history reader (Ok Line) → reader.line ≡ Some lent
     → ReadTo left left' (plain lent ∷ history) reader
-line_read left left' history reader lent n is =
-    let h : reader.line ≡ Some n.0 = n.1 in
-    let same : n.0 ≡ lent = cc in
-    let P : List ℕ → Type 0 = λ o. ReadTo left left' (plain o ∷ history) reader in
-    subst P same n.2
+line_read left left' history reader lent n is = grind (arith, plain)
 
 pub line_comes : (left left' : Option (List ℕ)) (history : List TextLine) (reader : Reading) (line : TextLine) → ReadTo left left' (line ∷ history) reader → Comes left left' history line
 line_comes left left' history reader line r = comes_of left left' history line reader r
@@ -89,8 +85,7 @@ line_ahead left left' history reader line number is_next r =
 pub step_line : (may_fail : Bool) (starts : List Account) (history : List TextLine) (line : TextLine) (left left' kept kept' : Option (List ℕ)) (reader : Reading) (machine : Machine) (accounts : List Account)
     (result : Option Ending) → ReadTo left left' (line ∷ history) reader → StepHeard may_fail starts (line ∷ history) left left' kept kept' machine accounts result
     → LineRuns may_fail starts history left left' kept kept' reader machine accounts result
-step_line may_fail starts history line left left' kept kept' reader machine accounts None r s = (line, r, s)
-step_line may_fail starts history line left left' kept kept' reader machine accounts (Some ending) r s = s
+step_line may_fail starts history line left left' kept kept' reader machine accounts result r s = grind arith
 
 -- ---- the loop
 

@@ -1,4 +1,5 @@
 -- What a line brings of a transcript, and what the boxes took of its units.
+use Rattle.std.proofs.Common.{arith}
 use Rattle.replay_lines.proofs.Prelude.{◌≡◌, ℕ, ◌+◌, List, [], ◌∷◌, ◌++◌, length, reverse, refl, sym, ap, subst, ◌∙◌, append_assoc, None, Some, inl, append-nil, reverse-append, TextLine, Account, airs_of, Refusal, refusal_line, out, accepted_of, accepted_unless, Accepted, SinkUnit, accounts_after, handed_up, Took, rules_of, steps_of, handed_on, units_of, took_all, BoxFails, CutShort, accounts_append, BoxesStand, refusal_at, output_at, answered_on, BoxesCut, BoxesAt, LineFails, TookPrefix, box_fails, handed_line, took_history}
 use Rattle.replay_lines.proofs.Endings.{out_line, out_refused, units_then, units_all, units_refused, units_rest}
 
@@ -18,10 +19,7 @@ brings_nothing starts history line later = (out (rules_of airs_of starts) histor
 
 pub brings_refused : (starts : List Account) (history : List TextLine) (line : TextLine) (reason : Refusal) (number : ℕ) → number ≡ length history + 1
     → Accepted (rules_of airs_of starts) history → refusal_at starts history line ≡ Some reason → Brings starts history line (refusal_line number reason)
-brings_refused starts history line reason number is_next accepted because later = (
-  [],
-  out_refused starts history accepted line reason because later ∙ ap (λ n. refusal_line n reason) (sym is_next) ∙ sym (append-nil (refusal_line number reason)),
-)
+brings_refused starts history line reason number is_next accepted because later = grind (arith, out_refused, refusal_line, append-nil)
 
 pub brings_output : (starts : List Account) (history : List TextLine) (line : TextLine) → Accepted (rules_of airs_of starts) history → refusal_at starts history line ≡ None
     → Brings starts history line (output_at starts history line)
@@ -34,9 +32,7 @@ pub brings_before : (starts before after : List Account) (history : List TextLin
     → Brings starts history line told
 brings_before starts before after history line told accepted none f later = (
   f.behind ++ out (rules_of airs_of starts) (line ∷ history) later,
-  out_line starts history accepted line none later
-      ∙ ap (λ prefix. prefix ++ out (rules_of airs_of starts) (line ∷ history) later) (f.prefix ∙ ap (λ printed. printed ++ f.behind) (sym f.lines))
-      ∙ append_assoc told f.behind (out (rules_of airs_of starts) (line ∷ history) later),
+  grind (arith, out_line, out, rules_of, airs_of, append_assoc),
 )
 
 -- ---- what the boxes took
@@ -54,11 +50,7 @@ pub units_line : (starts : List Account) (history : List TextLine) (line : TextL
 units_line starts history line later accepted none =
     let more = units_rest airs_of starts (line ∷ history) later in (
       more.0,
-      units_then starts history accepted (line ∷ later)
-          ∙ ap (λ why. handed_up airs_of (steps_of airs_of (accepted_unless history why (accepted_of (rules_of airs_of starts) (line ∷ history) later)))) none
-          ∙ more.1
-          ∙ ap (λ prefix. prefix ++ more.0) (handed_line airs_of history line)
-          ∙ append_assoc (handed_up airs_of (steps_of airs_of history)) (handed_on airs_of history line) more.0,
+      grind (arith, units_then, handed_up, airs_of, steps_of, accepted_unless, accepted_of, rules_of, handed_line, append_assoc, handed_on),
     )
 
 pub cut_before : (starts accounts : List Account) (history : List TextLine) (line : TextLine) → Accepted (rules_of airs_of starts) history
@@ -79,8 +71,7 @@ cut_after starts accounts history line accepted none b later =
     record {
       done = handed_up airs_of (steps_of airs_of (line ∷ history));
       rest = more.0;
-      split = more.1 ∙ sym (append_assoc (handed_up airs_of (steps_of airs_of history)) (handed_on airs_of history line) more.0)
-          ∙ ap (λ prefix. prefix ++ more.0) (sym (handed_line airs_of history line));
+      split = grind (arith, append_assoc, handed_up, airs_of, steps_of, handed_on, handed_line);
       boxes = took_history starts accounts (line ∷ history) b;
     }
 
@@ -94,8 +85,7 @@ cut_within starts before after history line accepted none b c later =
     record {
       done = all ++ c.done;
       rest = c.rest ++ more.0;
-      split = more.1 ∙ ap (λ units. all ++ (units ++ more.0)) c.split ∙ ap (λ rest. all ++ rest) (append_assoc c.done c.rest more.0)
-          ∙ sym (append_assoc all c.done (c.rest ++ more.0));
+      split = grind (arith, append_assoc);
       boxes = subst P (accounts_append all c.done starts ∙ ap (λ a. accounts_after a c.done) (sym b.accounts_are) ∙ sym c.boxes) (took_all starts (all ++ c.done));
     }
 
@@ -105,14 +95,11 @@ cut_within starts before after history line accepted none b c later =
 units_added : (starts : List Account) (history : List TextLine) (line : TextLine) → Accepted (rules_of airs_of starts) history → refusal_at starts history line ≡ None
     → units_of airs_of starts (reverse (line ∷ history)) ≡ units_of airs_of starts (reverse history) ++ handed_on airs_of history line
 units_added starts history line accepted none =
-    units_all starts (line ∷ history) (accepted, none)
-    ∙ handed_line airs_of history line
-    ∙ ap (λ prefix. prefix ++ handed_on airs_of history line) (sym (units_all starts history accepted))
+    grind (arith, units_all starts (line ∷ history) (accepted, none), handed_line airs_of history line, units_all starts history accepted)
 
 pub took_before : (starts accounts : List Account) (history : List TextLine) → Accepted (rules_of airs_of starts) history → BoxesStand starts (steps_of airs_of history) accounts
     → Took starts accounts (units_of airs_of starts (reverse history))
-took_before starts accounts history accepted b =
-    let P : List SinkUnit → Type 0 = λ u. Took starts accounts u in subst P (sym (units_all starts history accepted)) (took_history starts accounts history b)
+took_before starts accounts history accepted b = grind (arith, units_all, took_history)
 
 pub at_refused : (starts accounts : List Account) (history : List TextLine) (line : TextLine) (reason : Refusal) → Accepted (rules_of airs_of starts) history
     → refusal_at starts history line ≡ Some reason → BoxesStand starts (steps_of airs_of history) accounts → BoxesAt airs_of starts accounts history line
@@ -130,13 +117,7 @@ at_refused starts accounts history line reason accepted because b = record {
 pub at_prefix : (starts before after : List Account) (history : List TextLine) (line : TextLine) → Accepted (rules_of airs_of starts) history
     → refusal_at starts history line ≡ None → BoxesStand starts (steps_of airs_of history) before → TookPrefix (handed_on airs_of history line) before after
     → BoxesAt airs_of starts after history line
-at_prefix starts before after history line accepted none b prefix = record {
-  accounts = before;
-  before = took_before starts before history accepted b;
-  units = handed_on airs_of history line;
-  added = units_added starts history line accepted none;
-  prefix = prefix;
-}
+at_prefix starts before after history line accepted none b prefix = grind (arith, took_before, handed_on, airs_of, units_added)
 
 -- all units of the line were taken
 pub at_after : (starts accounts : List Account) (history : List TextLine) (line : TextLine) → Accepted (rules_of airs_of starts) history
@@ -149,10 +130,5 @@ at_after starts accounts history line accepted none b =
       before = let P : List SinkUnit → Type 0 = λ u. Took starts (accounts_after starts all) u in subst P (sym (units_all starts history accepted)) (took_all starts all);
       units = here;
       added = units_added starts history line accepted none;
-      prefix = inl (record {
-        done = here;
-        rest = [];
-        split = sym (append-nil here);
-        boxes = b.accounts_are ∙ ap (accounts_after starts) (handed_line airs_of history line) ∙ accounts_append all here starts;
-      });
+      prefix = inl (grind (arith, append-nil, accounts_after, handed_line, airs_of, accounts_append));
     }

@@ -1,21 +1,15 @@
 -- What a listener was told once one line more was run, or where a run ended.
-use Rattle.replay_lines.proofs.Prelude.{◌≡◌, ℕ, ◌+◌, ◌∙◌, true, false, List, [], ◌∷◌, ◌++◌, length, refl, sym, ap, subst, arith, Option, None, Some, inl, inr, append_assoc, Appends, Keeps, Reading, TextLine, plain, AppendsPrefix, Appends-nothing, Appends-then, AppendsPrefix-then, NoEnd, Comes, Puts, ReadTo, Refuses, TextIs, Listened, Telling, Tells, begun, rows_of, tellings, was_run, Ending}
+use Rattle.replay_lines.proofs.Prelude.{◌≡◌, ℕ, ◌+◌, true, false, List, [], ◌∷◌, ◌++◌, length, sym, subst, arith, Option, None, Some, inl, inr, append_assoc, Appends, Keeps, Reading, TextLine, plain, AppendsPrefix, Appends-nothing, Appends-then, AppendsPrefix-then, Comes, ReadTo, TextIs, Listened, Telling, Tells, begun, rows_of, tellings, was_run, Ending}
 use Rattle.replay_lines.specs.Listening.{EndsAt, EndsText, HasTold, LineTold, StepTold, Told, ToldAll, ToldBefore, ToldUpTo}
 use Rattle.replay_lines.specs.declared.ending.Ending.TheVariants as endings
 use Rattle.replay_lines.proofs.Hearing.{kept_on}
 use Rattle.replay_lines.proofs.ReadingOn.{read_none}
 
 tells_none : (told : Option (List Telling)) → Tells told told []
-tells_none None = tt
-tells_none (Some told) = refl
+tells_none told = grind arith
 
 tells_then : (a b c : Option (List Telling)) (first then : List Telling) → Tells a b first → Tells b c then → Tells a c (then ++ first)
-tells_then None None None first then p q = tt
-tells_then None None (Some z) first then p q = absurd q
-tells_then None (Some y) c first then p q = absurd p
-tells_then (Some x) None c first then p q = absurd p
-tells_then (Some x) (Some y) None first then p q = absurd q
-tells_then (Some x) (Some y) (Some z) first then p q = q ∙ ap (λ l. then ++ l) p ∙ sym (append_assoc then first x)
+tells_then a b c first then p q = grind (arith, append_assoc)
 
 module _ (row : ℕ → List ℕ → List ℕ) (start old : Listened) (lines : List TextLine) (number : ℕ) (line : List ℕ)
     (has : HasTold row start old (tellings lines)) (is_next : number ≡ length lines + 1) where
@@ -52,8 +46,7 @@ module _ (row : ℕ → List ℕ → List ℕ) (start old : Listened) (lines : L
 
 pub has_kept : (row : ℕ → List ℕ → List ℕ) (start old : Listened) (rows : Option (List ℕ)) (more : List Telling) → HasTold row start old more → Keeps old.rows rows
     → HasTold row start (record { told = old.told; rows = rows }) more
-has_kept row start old rows more has kept =
-    record { counted = has.counted; shown = kept_on start.rows old.rows rows (rows_of row more) has.shown kept }
+has_kept row start old rows more has kept = grind (arith, kept_on, rows_of)
 
 module _ (row : ℕ → List ℕ → List ℕ) (left left' : Option (List ℕ)) (start new : Listened) (lines : List TextLine) where
   -- the run goes on behind a line or ended at it
@@ -97,23 +90,6 @@ module _ (row : ℕ → List ℕ → List ℕ) (left left' : Option (List ℕ)) 
 
 -- ---- how a line ends
 
-pub puts_at : (number : ℕ) (octets : List ℕ) (kept kept' : Option (List ℕ)) (result : Option Ending) → Puts octets kept kept' result → EndsAt number result
-puts_at number octets kept kept' None puts = tt
-puts_at number octets kept kept' (Some endings.Done) puts = absurd puts
-puts_at number octets kept kept' (Some (endings.Refused line reason)) puts = absurd puts
-puts_at number octets kept kept' (Some endings.ReadFault) puts = absurd puts
-puts_at number octets kept kept' (Some endings.WriteFault) puts = tt
-puts_at number octets kept kept' (Some endings.OutletFault) puts = tt
-puts_at number octets kept kept' (Some endings.Memory) puts = tt
-
-pub behind_text : (number : ℕ) (kept kept' : Option (List ℕ)) (ending : Ending) → Refuses number NoEnd kept kept' ending → EndsText ending
-behind_text number kept kept' endings.Done f = tt
-behind_text number kept kept' (endings.Refused line reason) f = f.1
-behind_text number kept kept' endings.ReadFault f = f
-behind_text number kept kept' endings.WriteFault f = tt
-behind_text number kept kept' endings.OutletFault f = f
-behind_text number kept kept' endings.Memory f = tt
-
 -- ---- the loop
 
 -- the lines so far were read and told
@@ -140,21 +116,11 @@ pub telling_more : (row : ℕ → List ℕ → List ℕ) (left mid left' : Optio
     → ((lines : List TextLine) → number ≡ length lines + 1 → ReadTo left mid lines reader → HasTold row start old (tellings lines)
     → LineTold row left left' start new lines reader' result)
     → TellingOn row left left' start new next reader'
-telling_more row left mid left' start old new number next reader reader' result t is none told =
-    let P : Option Ending → Type 0 = λ x. LineTold row left left' start new t.lines reader' x in
-    let m = subst P none (told t.lines t.is_next t.read t.has) in
-    record {
-      lines = m.0 ∷ t.lines;
-      is_next = omega (arith, t.is_next, is);
-      read = m.1;
-      has = m.2;
-    }
+telling_more row left mid left' start old new number next reader reader' result t is none told = grind arith
 
 pub telling_ends : (row : ℕ → List ℕ → List ℕ) (left mid left' : Option (List ℕ)) (start old new : Listened) (number : ℕ) (reader reader' : Reading) (result : Option Ending) (ending : Ending)
     → TellingOn row left mid start old number reader → result ≡ Some ending
     → ((lines : List TextLine) → number ≡ length lines + 1 → ReadTo left mid lines reader → HasTold row start old (tellings lines)
     → LineTold row left left' start new lines reader' result)
     → Told row left left' start new ending
-telling_ends row left mid left' start old new number reader reader' result ending t some told =
-    let P : Option Ending → Type 0 = λ x. LineTold row left left' start new t.lines reader' x in
-    subst P some (told t.lines t.is_next t.read t.has)
+telling_ends row left mid left' start old new number reader reader' result ending t some told = grind arith

@@ -1,5 +1,6 @@
 -- What is promised of a run, from what it did.
-use Rattle.replay_lines.proofs.Prelude.{◌≡◌, ◌≢◌, ◌∙◌, List, refl, sym, TextLine, Account, Rose, airs_of, Airs, MeetAirs, transcript_of, Ending, Promised, Did, DidOver, ReadsAtMost, read_limit, AllSame, Laws, World}
+use Rattle.std.proofs.Common.{arith}
+use Rattle.replay_lines.proofs.Prelude.{◌≡◌, ◌≢◌, List, refl, TextLine, Account, Rose, airs_of, Airs, MeetAirs, transcript_of, Ending, Promised, Did, DidOver, ReadsAtMost, read_limit, AllSame, Laws, World}
 use Rattle.replay_lines.specs.declared.ending.Ending.TheVariants as endings
 use Rattle.replay_lines.proofs.Completing.{ended_at, ended_whole, ended_ahead, ended_complete}
 use Rattle.replay_lines.proofs.Counting.{ended_counts, ended_one}
@@ -9,8 +10,7 @@ use Rattle.replay_lines.proofs.ReadingOn.{none_within}
 
 one_of : (boxes : List Account) → Laws boxes → (airs others : Airs) → MeetAirs airs → MeetAirs others → (lines : List TextLine)
     → transcript_of airs boxes lines ≡ transcript_of others boxes lines
-one_of boxes laws airs others meets meet_too lines =
-    sym ((laws.same airs meets).octets boxes lines) ∙ (laws.same others meet_too).octets boxes lines
+one_of boxes laws airs others meets meet_too lines = grind arith
 
 module _ (old new : World) (ending : Ending) where
   did : AllSame → DidOver airs_of ending old new → (other : Ending) → ending ≡ other → Did other old new

@@ -5,13 +5,11 @@ use Rattle.replay_lines.specs.Standing.{standing_of}
 
 is_too_long : (document : List ℕ) → document_limit + 1 ≤ length document → standing_of document ≡ refused_for TooLong
 unfolding standing_of
-is_too_long document long =
-    ap (λ b. cond b (refused_for TooLong) (standing_by (meaning_of document))) (lt-ltb document_limit (length document) (omega arith))
+is_too_long document long = grind (arith, cond, refused_for, standing_by, meaning_of, lt-ltb, document_limit, length)
 
 is_within : (document : List ℕ) → length document ≤ document_limit → standing_of document ≡ standing_by (meaning_of document)
 unfolding standing_of
-is_within document within =
-    ap (λ b. cond b (refused_for TooLong) (standing_by (meaning_of document))) (le-ltb document_limit (length document) within)
+is_within document within = grind (arith, cond, refused_for, standing_by, meaning_of, le-ltb, document_limit, length)
 
 -- a document that was read to its end
 pub whole_is : (left left' : Option (List ℕ)) (document : List ℕ) → ReadWhole left left' document

@@ -1,5 +1,5 @@
 -- The text that a run took from its source, line by line.
-use Rattle.replay_lines.proofs.Prelude.{◌≡◌, ℕ, ◌+◌, ◌≤◌, Bool, true, false, List, [], ◌∷◌, ◌++◌, length, reverse, refl, sym, ap, subst, ◌∙◌, append_assoc, arith, Option, None, Result, Ok, Err, length-append, append-nil, length-reverse, false≢true, false_from_ne_true, Consumes, IsAtEnd, TextLine, plain, too_long, past, lines_of, Reading, IsSound, IsPast, IsDone, BreaksOff, lines_after, LineRead, Line, LineTooLong, TextTooLong, End, Failed, Consumes-nothing, Consumes-then, lines-nothing, lines-unended, lines-end, lines-past_all, reverse_onto, Comes, ReadsAhead, ReadsAtMost, read_limit, ReadTo, TextIs, NextIs}
+use Rattle.replay_lines.proofs.Prelude.{◌≡◌, ℕ, ◌+◌, ◌≤◌, Bool, true, false, List, [], ◌∷◌, ◌++◌, length, reverse, refl, sym, ap, subst, ◌∙◌, append_assoc, arith, Option, None, Result, Ok, Err, length-append, append-nil, length-reverse, false≢true, false_from_ne_true, Consumes, IsAtEnd, TextLine, plain, too_long, past, lines_of, Reading, IsSound, IsPast, IsDone, BreaksOff, lines_after, LineRead, Line, LineTooLong, TextTooLong, End, Failed, Consumes-nothing, lines-nothing, lines-unended, lines-end, lines-past_all, reverse_onto, Comes, ReadsAhead, ReadsAtMost, read_limit, ReadTo, TextIs, NextIs}
 use Rattle.std.specs.Prelude.{IfOk, OnErr}
 use Rattle.bcast_io.specs.TextLines.{lines_from}
 use Rattle.bcast_io.specs.State.Reading.{Took}
@@ -9,26 +9,19 @@ use Rattle.bcast_io.specs.State.Answering.{Answers, Anew}
 -- nothing was read yet
 pub read_none : (left : Option (List ℕ)) (reader : Reading)
     → reader ≡ record { ahead = []; part = []; taken = 0; over = false; line = None } → ReadTo left left [] reader
-read_none left reader e =
-    let P : Reading → Type 0 = λ r. ReadTo left left [] r in
-    subst P (sym e) (record {
-      passed = [];
-      consumed = Consumes-nothing left;
-      begins = λ at_end more follows. refl;
-      count = refl;
-      anew = refl;
-      at_end = λ over. absurd (false≢true over);
-      sound = record { least = omega arith; fits = omega arith; ended = λ over. absurd (false≢true over) };
-    })
+read_none left reader e = grind (arith, false≢true)
 
 -- what was passed has these lines, and no octet of another
 pub passed_lines : (left left' : Option (List ℕ)) (lines : List TextLine) (reader : Reading) (r : ReadTo left left' lines reader) → lines_of true r.passed ≡ reverse lines
 passed_lines left left' lines reader r =
-    ap (lines_of true) (sym (append-nil r.passed))
-    ∙ r.begins true [] (λ over. (refl, refl))
-    ∙ ap (λ part. reverse lines ++ lines_from true reader.taken part []) r.anew
-    ∙ ap (λ none. reverse lines ++ none) (lines-nothing true reader.taken)
-    ∙ append-nil (reverse lines)
+    grind (
+      arith,
+      append-nil r.passed,
+      r.begins true [] (λ over. (refl, refl)),
+      r.anew,
+      lines-nothing true reader.taken,
+      append-nil (reverse lines),
+    )
 
 pub ahead_of : (left left' : Option (List ℕ)) (lines : List TextLine) (reader : Reading) → ReadTo left left' lines reader → ReadsAhead left left' (length lines)
 ahead_of left left' lines reader r = record {
@@ -46,29 +39,19 @@ comes_of left left' lines line reader r = record {
   read = record { consumed = r.consumed; at_end = r.at_end };
   lines = λ at_end more follows. (
     lines_after at_end reader (reader.ahead ++ more),
-    ap (lines_of at_end) (append_assoc r.passed reader.ahead more)
-        ∙ r.begins at_end (reader.ahead ++ more) (λ over. ((follows over).0, ap (λ prefix. prefix ++ more) (r.sound.ended over).0 ∙ (follows over).1))
-        ∙ reverse_onto line lines (lines_after at_end reader (reader.ahead ++ more)),
+    grind (arith, lines_of, append_assoc, reverse_onto, lines_after),
   );
 }
 
 -- a step of the reader after these lines, which passed the octets of further ones
-pub begins_more : (left mid left' : Option (List ℕ)) (lines : List TextLine) (old new : Reading) (further : List TextLine)
-    (r : ReadTo left mid lines old) → old.over ≡ false → (t : Took old new mid left' further)
-    → (at_end : Bool) (more : List ℕ) → reading.MayFollow new.over at_end more
+pub begins_more : (left mid left' : Option (List ℕ)) (lines : List TextLine) (old new : Reading) (further : List TextLine) (r : ReadTo left mid lines old)
+    → old.over ≡ false → (t : Took old new mid left' further) → (at_end : Bool) (more : List ℕ) → reading.MayFollow new.over at_end more
     → lines_of at_end ((r.passed ++ t.reads.octets) ++ more) ≡ reverse lines ++ (further ++ lines_after at_end new more)
-begins_more left mid left' lines old new further r going t at_end more follows =
-    ap (lines_of at_end) (append_assoc r.passed t.reads.octets more)
-    ∙ r.begins at_end (t.reads.octets ++ more) (λ over. absurd (false≢true (sym going ∙ over)))
-    ∙ ap (λ rest. reverse lines ++ rest) (t.reads.first at_end more follows)
+begins_more left mid left' lines old new further r going t at_end more follows = grind (arith, lines_of, append_assoc, false≢true, reverse)
 
 pub consumed_more : (left mid left' : Option (List ℕ)) (lines : List TextLine) (old new : Reading) (further : List TextLine)
     (r : ReadTo left mid lines old) (t : Took old new mid left' further) → Consumes left left' ((r.passed ++ t.reads.octets) ++ new.ahead)
-consumed_more left mid left' lines old new further r t =
-    let same : (r.passed ++ old.ahead) ++ t.piece ≡ (r.passed ++ t.reads.octets) ++ new.ahead =
-    append_assoc r.passed old.ahead t.piece ∙ ap (λ rest. r.passed ++ rest) t.reads.split ∙ sym (append_assoc r.passed t.reads.octets new.ahead) in
-    let P : List ℕ → Type 0 = λ xs. Consumes left left' xs in
-    subst P same (Consumes-then left mid left' (r.passed ++ old.ahead) t.piece r.consumed t.consumed)
+consumed_more left mid left' lines old new further r t = grind (arith, append_assoc)
 
 pub read_line : (left mid left' : Option (List ℕ)) (lines : List TextLine) (old new : Reading) (line : TextLine)
     → ReadTo left mid lines old → old.over ≡ false → Took old new mid left' (line ∷ []) → new.part ≡ [] → IsSound new → (new.over ≡ true → IsAtEnd left')
@@ -97,14 +80,7 @@ read_past left mid left' lines old new r going t is sound end = (
     text = (r.passed ++ t.reads.octets) ++ new.ahead;
     over = new.over;
     read = record { consumed = consumed_more left mid left' lines old new [] r t; at_end = end };
-    lines = λ at_end more follows. (
-      [],
-      ap (lines_of at_end) (append_assoc (r.passed ++ t.reads.octets) new.ahead more)
-          ∙ begins_more left mid left' lines old new [] r going t at_end (new.ahead ++ more)
-          (λ over. ((follows over).0, ap (λ prefix. prefix ++ more) (sound.ended over).0 ∙ (follows over).1))
-          ∙ ap (λ rest. reverse lines ++ rest)
-          (lines-past_all at_end new.taken new.part (new.ahead ++ more) (omega (arith, is.taken)) (omega (arith, is.some, length-append new.ahead more))),
-    );
+    lines = grind (arith, lines_of, append_assoc, begins_more, reverse, lines-past_all, length-append);
   },
   record {
     upto = r.passed ++ t.reads.octets;
@@ -123,13 +99,7 @@ pub read_end : (left mid left' : Option (List ℕ)) (lines : List TextLine) (old
     → ReadTo left mid lines old → IsDone old new → Consumes mid left' [] → IsAtEnd left' → TextIs left left' lines true
 read_end left mid left' lines old new r done none end = record {
   text = r.passed;
-  read = record {
-    consumed =
-        let same : (r.passed ++ old.ahead) ++ [] ≡ r.passed = append-nil (r.passed ++ old.ahead) ∙ ap (λ rest. r.passed ++ rest) done.ahead ∙ append-nil r.passed in
-        let P : List ℕ → Type 0 = λ xs. Consumes left left' xs in
-        subst P same (Consumes-then left mid left' (r.passed ++ old.ahead) [] r.consumed none);
-    at_end = λ over. end;
-  };
+  read = grind (arith, append-nil);
   whole = passed_lines left mid lines old r;
 }
 
@@ -145,34 +115,20 @@ read_broken left mid left' lines old new r going b = record {
         subst P same (consumed_more left mid left' lines old new [] r b.took);
     at_end = λ over. absurd (false≢true over);
   };
-  whole =
-      ap (lines_of false) (sym (append-nil (r.passed ++ b.took.reads.octets)))
-      ∙ begins_more left mid left' lines old new [] r going b.took false [] (λ over. absurd (false≢true (sym b.going ∙ over)))
-      ∙ ap (λ none. reverse lines ++ none) (lines-unended new.taken new.part)
-      ∙ append-nil (reverse lines);
+  whole = grind (arith, lines_of, append-nil, begins_more, false≢true, reverse, lines-unended);
 }
 
 -- the source is at its end where the reader is over
 at_the_end : (left mid left' : Option (List ℕ)) (lines : List TextLine) (old new : Reading) (over : Bool) → old.over ≡ over
     → ReadTo left mid lines old → (old.over ≡ true → left' ≡ mid) → (old.over ≡ false → new.over ≡ true → IsAtEnd left') → new.over ≡ true → IsAtEnd left'
-at_the_end left mid left' lines old new true is r same end over = subst IsAtEnd (sym (same is)) (r.at_end is)
-at_the_end left mid left' lines old new false is r same end over = end is over
+at_the_end left mid left' lines old new over is r same end over' = grind arith
 
 pub next_is : (left mid left' : Option (List ℕ)) (lines : List TextLine) (old new : Reading) (result : Result LineRead Failed)
-    → IfOk result (λ read. Answers read old new mid left')
-    → OnErr result (BreaksOff old new mid left')
-    → IfOk result (λ read. Anew read new)
-    → IsSound new
-    → (old.over ≡ true → (result ≡ Ok End) × (left' ≡ mid))
-    → (old.over ≡ false → new.over ≡ true → IsAtEnd left')
-    → ReadTo left mid lines old
-    → NextIs left left' lines new result
-next_is left mid left' lines old new (Ok Line) a b anew sound over end r =
-    let going : old.over ≡ false = false_from_ne_true old.over (λ e. let is = (over e).0 in cc) in
-    (a.0, a.1, read_line left mid left' lines old new (plain a.0) r going a.2 anew sound (end going))
-next_is left mid left' lines old new (Ok LineTooLong) a b anew sound over end r =
-    let going : old.over ≡ false = false_from_ne_true old.over (λ e. let is = (over e).0 in cc) in
-    read_line left mid left' lines old new too_long r going a.1 anew sound (end going)
+    → IfOk result (λ read. Answers read old new mid left') → OnErr result (BreaksOff old new mid left')
+    → IfOk result (λ read. Anew read new) → IsSound new → (old.over ≡ true → (result ≡ Ok End) × (left' ≡ mid))
+    → (old.over ≡ false → new.over ≡ true → IsAtEnd left') → ReadTo left mid lines old → NextIs left left' lines new result
+next_is left mid left' lines old new (Ok Line) a b anew sound over end r = grind (arith, false_from_ne_true, read_line, plain)
+next_is left mid left' lines old new (Ok LineTooLong) a b anew sound over end r = grind (arith, false_from_ne_true, read_line, too_long)
 next_is left mid left' lines old new (Ok TextTooLong) a b anew sound over end r =
     let going : old.over ≡ false = false_from_ne_true old.over (λ e. let is = (over e).0 in cc) in
     read_past left mid left' lines old new r going a.2 a.1 sound (end going)
@@ -192,22 +148,10 @@ within_took left mid left' lines more old new r t sound = record {
 }
 
 pub next_within : (left mid left' : Option (List ℕ)) (lines : List TextLine) (old new : Reading) (result : Result LineRead Failed)
-    → IfOk result (λ read. Answers read old new mid left')
-    → OnErr result (BreaksOff old new mid left')
-    → IsSound new
-    → ReadTo left mid lines old
-    → ReadsAtMost left left' read_limit
-next_within left mid left' lines old new (Ok Line) a b sound r = within_took left mid left' lines _ old new r a.2 sound
-next_within left mid left' lines old new (Ok LineTooLong) a b sound r = within_took left mid left' lines _ old new r a.1 sound
-next_within left mid left' lines old new (Ok TextTooLong) a b sound r = within_took left mid left' lines _ old new r a.2 sound
-next_within left mid left' lines old new (Ok End) a b sound r =
-    let none : old.ahead ≡ [] = a.0.ahead in
-    record {
-      octets = (r.passed ++ old.ahead) ++ [];
-      consumed = Consumes-then left mid left' (r.passed ++ old.ahead) [] r.consumed a.1;
-      within = omega (arith, r.count, r.sound.fits, ap length none, length-append (r.passed ++ old.ahead) [], length-append r.passed old.ahead);
-    }
-next_within left mid left' lines old new (Err failed) a b sound r = within_took left mid left' lines _ old new r b.took sound
+    → IfOk result (λ read. Answers read old new mid left') → OnErr result (BreaksOff old new mid left') → IsSound new
+    → ReadTo left mid lines old → ReadsAtMost left left' read_limit
+next_within left mid left' lines old new (Ok End) a b sound r = grind (arith, length, length-append)
+next_within left mid left' lines old new result a b sound r = search (false≢true, within_took, length, length-append)
 
 -- nothing was read
 pub none_within : (left : Option (List ℕ)) → ReadsAtMost left left read_limit

@@ -68,8 +68,7 @@ pub lines-init : goal.lines-init
 lines-init g c = record {
   running = running_none c.args.outlets.now.items (map (λ b. (goal.Outlet-dyn g (b.vtable, b.value)).account b.value) c.args.outlets.now.items) (g.S.ByteSource.left c.args.source.now) (g.K.ByteSink.contents c.args.sink.now)
       c.in-Ok.reader c.in-Ok-new.machine c.in-Ok.ensures c.in-Ok-new.ensures;
-  telling = telling_none g.L.Listener.row_of (g.S.ByteSource.left c.args.source.now)
-      (listened g.L.Listener.told g.L.Listener.rows c.args.listener.now c.args.sink.now) c.in-Ok.reader c.in-Ok.ensures;
+  telling = grind (arith, telling_none, listened);
   bound = bound_none c.in-Ok.reader c.in-Ok.ensures;
   reads = refl;
   writes = refl;

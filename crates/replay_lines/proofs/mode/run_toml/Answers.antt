@@ -1,3 +1,4 @@
+use Rattle.std.proofs.Common.{arith}
 use Rattle.replay_lines.proofs.Prelude.{◌∙◌, refl, ap, sym, subst, map, Ok, Err, UnassignedBy, world_of, meaning_of, standing_by, lines_over}
 use Rattle.bcast_io.specs.declared.document.Document.TheVariants.{Whole, TooLong}
 use Rattle.bcast_io.specs.declared.piece.Unread.TheVariants.{Failed, Memory}
@@ -20,8 +21,7 @@ returns-in-Ok-Whole-clause-promised g c =
     let document = c.in-Ok-Whole.document in
     let is = c.in-Ok-Whole.is ∙ ap Ok c.in-Ok-Whole.field-0-is in
     read_toml old new (standing_by (meaning_of document)) c.run_document.result
-    (whole_is old.left new.left document
-    (read_at old.left new.left c.read_document.result (Ok (Whole document)) is c.read_document.ensures.reads))
+    (grind (arith, whole_is, read_at))
     c.run_document.ensures.runs (c.read_document.ensures.none_failed (λ fails. cc))
     (laws_of old old endings.Memory (c.want_of_memory_at_once.ensures old))
 
@@ -72,10 +72,4 @@ returns-in-Ok-Whole-clause-unassigned g c told airs tells meets =
     (sym (document_told left left' told tells (standing_by (meaning_of document)) read)) (c.run_document.ensures.unassigned airs meets)
 
 pub returns-in-Ok-Whole-clause-uncalled : goal.returns-in-Ok-Whole-clause-uncalled
-returns-in-Ok-Whole-clause-uncalled g c is =
-    let boxes = map (λ b. (goal.Outlet-dyn g (b.vtable, b.value)).account b.value) c.args.outlets.now.items in
-    let after = map (λ b. (goal.Outlet-dyn g (b.vtable, b.value)).account b.value) c.run_document.new.outlets.items in
-    absurd (ran_unfailed (standing_by (meaning_of c.in-Ok-Whole.document)) boxes after
-    (g.K.ByteSink.contents c.args.sink.now) (g.K.ByteSink.contents c.run_document.new.sink)
-    (g.K.ByteSink.faults c.args.sink.now) (g.K.ByteSink.faults c.run_document.new.sink)
-    c.run_document.result c.run_document.ensures.runs is)
+returns-in-Ok-Whole-clause-uncalled g c is = grind (arith, map, ran_unfailed, standing_by, meaning_of)
