@@ -1,5 +1,5 @@
 -- The lines of a text are the text again, and a text is migrated line by line: all stays but one digit.
-use Rattle.scenario_text.proofs.Prelude.{◌≡◌, ◌≤◌, ◌<◌, ℕ, zero, suc, Bool, true, false, cond, nat_eq, List, [], ◌∷◌, ◌+◌, ◌++◌, length, get_or, take, drop, Option, None, Some, refl, ap, sym, ◌∙◌, append_assoc, arith, eqb-true, false_from_ne_true, onto_first, lines_of, behind, text_of, lines_after}
+use Rattle.scenario_text.proofs.Prelude.{◌≡◌, ◌≤◌, ◌<◌, ℕ, suc, Bool, true, false, cond, nat_eq, List, [], ◌∷◌, ◌+◌, ◌++◌, length, get_or, take, drop, Option, None, Some, refl, ap, sym, ◌∙◌, append_assoc, arith, eqb-true, false_from_ne_true, onto_first, lines_of, behind, text_of, lines_after}
 use Rattle.std.specs.Borrow.{Bor}
 use Rattle.std.specs.Option.{is_some}
 use Rattle.std.proofs.Math.Seq.{take-add}
@@ -10,25 +10,17 @@ use Rattle.scenario_text.specs.Migrated.{is_blank, migrated_line, migrated_lines
 
 pub no_end : (text : List ℕ) → ((k : ℕ) → 0 ≤ k → k < length text → nat_eq (get_or text k 0) 10 ≡ true → ⊥) → lines_of text ≡ text ∷ []
 no_end [] h = refl
-no_end (octet ∷ text) h =
-    let other : nat_eq octet 10 ≡ false = false_from_ne_true _ (h 0 (omega arith) (omega arith)) in
-    let rest : lines_of text ≡ text ∷ [] = no_end text (λ k low high. h (suc k) (omega arith) (omega arith)) in
-    rw (other, rest) refl
+no_end (octet ∷ text) h = grind (arith, false_from_ne_true _ (h 0 (omega arith) (omega arith)), no_end text (λ k low high. h (suc k) (omega arith) (omega arith)))
 
 pub first_end : (text : List ℕ) (end : ℕ) → end < length text → ((k : ℕ) → 0 ≤ k → k < end → nat_eq (get_or text k 0) 10 ≡ true → ⊥) → nat_eq (get_or text end 0) 10 ≡ true
     → lines_of text ≡ take end text ∷ lines_of (drop (suc end) text)
-first_end [] end inside before at = absurd (omega arith)
-first_end (octet ∷ text) zero inside before at = rw at refl
-first_end (octet ∷ text) (suc end) inside before at =
-    let other : nat_eq octet 10 ≡ false = false_from_ne_true _ (before 0 (omega arith) (omega arith)) in
-    let rest : lines_of text ≡ take end text ∷ lines_of (drop (suc end) text) = first_end text end (omega arith) (λ k low high. before (suc k) (omega arith) (omega arith)) at in
-    rw (other, rest) refl
+first_end (octet ∷ text) (suc end) inside before at = grind (arith, false_from_ne_true _ (before 0 (omega arith) (omega arith)), first_end text end (omega arith) (λ k low high. before (suc k) (omega arith) (omega arith)) at)
+first_end text end inside before at = search (nat_eq, false_from_ne_true, lines_of, take, drop)
 
 -- ---- the text again
 
 pub onto_text : (octet : ℕ) (lines : List (List ℕ)) → text_of (onto_first octet lines) ≡ octet ∷ text_of lines
-onto_text octet [] = refl
-onto_text octet (line ∷ lines) = refl
+onto_text octet lines = grind arith
 
 -- a text has a line
 record Some_line (lines : List (List ℕ)) : Type 0 where
@@ -37,12 +29,10 @@ record Some_line (lines : List (List ℕ)) : Type 0 where
   pub are : lines ≡ first ∷ others
 
 onto_some : (octet : ℕ) (lines : List (List ℕ)) → Some_line (onto_first octet lines)
-onto_some octet [] = record { first = octet ∷ []; others = []; are = refl }
-onto_some octet (line ∷ lines) = record { first = octet ∷ line; others = lines; are = refl }
+onto_some octet lines = grind arith
 
 chosen_some : (b : Bool) (octet : ℕ) (text : List ℕ) → Some_line (cond b ([] ∷ lines_of text) (onto_first octet (lines_of text)))
-chosen_some true octet text = record { first = []; others = lines_of text; are = refl }
-chosen_some false octet text = onto_some octet (lines_of text)
+chosen_some b octet text = grind (arith, lines_of, onto_some)
 
 some_line : (text : List ℕ) → Some_line (lines_of text)
 some_line [] = record { first = []; others = []; are = refl }
@@ -53,9 +43,7 @@ behind_some lines some = rw some.are refl
 
 chosen_text : (b : Bool) (octet : ℕ) (text : List ℕ) → nat_eq octet 10 ≡ b → text_of (lines_of text) ≡ text
     → text_of (cond b ([] ∷ lines_of text) (onto_first octet (lines_of text))) ≡ octet ∷ text
-chosen_text true octet text e rest =
-    behind_some (lines_of text) (some_line text) ∙ (ap (λ (n : ℕ). n ∷ text_of (lines_of text)) (sym (eqb-true octet 10 e)) ∙ ap (λ (l : List ℕ). octet ∷ l) rest)
-chosen_text false octet text e rest = onto_text octet (lines_of text) ∙ ap (λ (l : List ℕ). octet ∷ l) rest
+chosen_text b octet text e rest = grind (arith, behind_some, lines_of, some_line, text_of, eqb-true, onto_text)
 
 pub text_again : (text : List ℕ) → text_of (lines_of text) ≡ text
 text_again [] = refl
@@ -71,12 +59,8 @@ first_migrated : (text line : List ℕ) (lines : List (List ℕ)) → lines_of t
 unfolding migrated
 first_migrated text line lines split first = rw (split, first) refl
 
-chosen_lines : (b : Bool) (line : List ℕ) (lines : List (List ℕ)) → Some_line (cond b (line ∷ migrated_lines lines) (migrated_line line ∷ lines))
-chosen_lines true line lines = record { first = line; others = migrated_lines lines; are = refl }
-chosen_lines false line lines = record { first = migrated_line line; others = lines; are = refl }
-
 some_migrated : (lines : List (List ℕ)) → Some_line lines → Some_line (migrated_lines lines)
-some_migrated lines some = rw some.are (chosen_lines (is_blank some.first) some.first some.others)
+some_migrated lines some = grind arith
 
 -- a blank line stays, and what follows it is migrated
 blank_last : (text line : List ℕ) → lines_of text ≡ line ∷ [] → is_blank line ≡ true → migrated text ≡ line
@@ -85,8 +69,7 @@ blank_last text line split blank = rw (split, blank) (append-nil line)
 
 blank_first : (text line rest : List ℕ) → lines_of text ≡ line ∷ lines_of rest → is_blank line ≡ true → migrated text ≡ line ++ 10 ∷ migrated rest
 unfolding migrated
-blank_first text line rest split blank =
-    rw (split, blank) (ap (λ (l : List ℕ). line ++ l) (behind_some (migrated_lines (lines_of rest)) (some_migrated (lines_of rest) (some_line rest))))
+blank_first text line rest split blank = grind (arith, behind_some, lines_of, some_migrated, some_line)
 
 -- so much of a text stays, and what follows it is migrated by itself
 pub record StartsAt (text : List ℕ) (start : ℕ) : Type 0 where

@@ -1,5 +1,5 @@
 -- The number of a fault is the number of the words that fit, and no other number is.
-use Rattle.scenario_text.proofs.Prelude.{◌≡◌, ◌≤◌, ◌<◌, ◌+◌, ℕ, suc, Bool, true, false, cond, ◌||◌, List, [], ◌∷◌, length, take, Option, None, Some, Result, Ok, Err, refl, ap, sym, subst, ◌∙◌, arith, same_Some, and_parts, Wish, LineFault, words_of, WordPlace, between, Place, one, perhaps, rising, wishes, WordValue, ◌>>=◌, bind_ok, Left, Gives, any_word, next_of, taken, word_in, decimal_in, with_stream, streams_of, rising_of, perhaps_of, wishes_of, bounded, all_wishes_of, ended, FitsIndices, FitsPairs, FitsPrefix, word_spelled, is_small, bounded_is, Stops, misfit, bad_is, indices_first, indices_stop, indices_all, pairs_stop, pairs_end, Step, Build, Row, built_at, at_known, whole, line_after, FitsLine, IsMisfit}
+use Rattle.scenario_text.proofs.Prelude.{◌≡◌, ◌≤◌, ◌<◌, ◌+◌, ℕ, suc, Bool, true, cond, ◌||◌, List, [], ◌∷◌, length, take, Option, None, Some, Result, Ok, Err, refl, ap, sym, subst, ◌∙◌, arith, same_Some, and_parts, Wish, LineFault, words_of, WordPlace, between, Place, one, perhaps, rising, wishes, WordValue, ◌>>=◌, bind_ok, Left, Gives, any_word, next_of, taken, word_in, decimal_in, with_stream, streams_of, rising_of, perhaps_of, wishes_of, bounded, all_wishes_of, ended, FitsIndices, FitsPairs, FitsPrefix, word_spelled, is_small, bounded_is, Stops, misfit, bad_is, indices_first, indices_stop, indices_all, pairs_stop, pairs_end, Step, Build, Row, built_at, at_known, whole, line_after, FitsLine, IsMisfit}
 use Rattle.std.proofs.lemmas.List.{take_all}
 use Rattle.scenario_words.specs.declared.fault.LineFault.TheVariants.{BadLine}
 use Rattle.scenario_text.specs.Table.{row_of}
@@ -32,9 +32,7 @@ word_halts : (place : WordPlace) (places : List Place) (build : WordValue place 
     → is_small (one place) ≡ true → word_in place word ≡ found → (taken read words found >>= go_on place places build) ≡ Err (BadLine k)
     → ((value : WordValue place) → built_at places (build value) (left_of words (read + 1)) ≡ Err (BadLine k) → Halts places words (read + 1) k)
     → Halts (one place ∷ places) (word ∷ words) read k
-word_halts place places build read k word words None small is e rest =
-    let same : read ≡ k = bad_is (Step × Left) read k e in
-    (0, omega arith, record { within = omega arith; prefix = tt; no_more = λ inside fits. misfit place word small is fits.0 })
+word_halts place places build read k word words None small is e rest = grind (arith, bad_is, misfit)
 word_halts place places build read k word words (Some value) small is e rest =
     let it = rest value e in (
       suc it.0,
@@ -67,8 +65,7 @@ word_ends place places build read word words (Some value) made left is e rest =
 
 -- no word may follow
 no_place : (words : List (List ℕ)) → 0 < length words → FitsPrefix [] (take 1 words) → ⊥
-no_place [] inside fits = omega (arith, inside)
-no_place (word ∷ words) inside fits = fits
+no_place words inside fits = grind arith
 
 err_is : (A : Type 0) (f g : LineFault) → failed (A × Left) f ≡ failed (A × Left) g → f ≡ g
 err_is A f g e = cc
@@ -105,43 +102,11 @@ perhaps_ends least greatest read word words (Some n) value left is e =
       },
     )
 
-as_prefix : (words : List (List ℕ)) → FitsIndices 1 words → FitsPrefix (rising ∷ []) words
-as_prefix [] fits = tt
-as_prefix (word ∷ words) fits = fits
-
-as_indices : (words : List (List ℕ)) → FitsPrefix (rising ∷ []) words → FitsIndices 1 words
-as_indices [] fits = tt
-as_indices (word ∷ words) fits = fits
-
 from_indices : (words : List (List ℕ)) (read k : ℕ) → (j : ℕ) × (k ≡ read + j) × Stops (FitsIndices 1) words j → Halts (rising ∷ []) words read k
-from_indices words read k it = (
-  it.0,
-  it.1,
-  record {
-    within = it.2.within;
-    prefix = as_prefix (take it.0 words) it.2.prefix;
-    no_more = λ inside fits. it.2.no_more inside (as_indices (take (suc it.0) words) fits);
-  },
-)
-
-as_prefix_pairs : (most : ℕ) (words : List (List ℕ)) → FitsPairs 31 words → FitsPrefix (wishes most ∷ []) words
-as_prefix_pairs most [] fits = tt
-as_prefix_pairs most (word ∷ words) fits = fits
-
-as_pairs : (most : ℕ) (words : List (List ℕ)) → FitsPrefix (wishes most ∷ []) words → FitsPairs 31 words
-as_pairs most [] fits = tt
-as_pairs most (word ∷ words) fits = fits
+from_indices words read k it = grind (arith, take)
 
 from_pairs : (most : ℕ) (words : List (List ℕ)) (read k : ℕ) → (j : ℕ) × (k ≡ read + j) × Stops (FitsPairs 31) words j → Halts (wishes most ∷ []) words read k
-from_pairs most words read k it = (
-  it.0,
-  it.1,
-  record {
-    within = it.2.within;
-    prefix = as_prefix_pairs most (take it.0 words) it.2.prefix;
-    no_more = λ inside fits. it.2.no_more inside (as_pairs most (take (suc it.0) words) fits);
-  },
-)
+from_pairs most words read k it = grind (arith, take)
 
 abbrev streams_on : List (List ℕ) → ℕ × Left → Result (ℕ × Left) LineFault
 streams_on words n = streams_of (with_stream 0 n.0) (n.0 + 1) n.1.read n.1.words
@@ -152,8 +117,7 @@ rising_halts read k word words None is e =
     indices_first 1 read k word words None is (λ n some. absurd cc) (λ none. sym (bad_is (ℕ × Left) read k e))
 rising_halts read k word words (Some n) is e =
     indices_first 1 read k word words (Some n) is
-    (λ m some. let same : n ≡ m = same_Some n m some in
-    indices_stop words (with_stream 0 m) (m + 1) (read + 1) k (subst (λ (x : ℕ). streams_of (with_stream 0 x) (x + 1) (read + 1) words ≡ Err (BadLine k)) same e))
+    (grind (arith, same_Some, indices_stop, with_stream, streams_of))
     (λ none. absurd cc)
 
 rising_ends : (read : ℕ) (word : List ℕ) (words : List (List ℕ)) (found : Option ℕ) (set : ℕ) (left : Left)
@@ -172,8 +136,7 @@ rising_ends read word words (Some n) set left is e =
     )
 
 bound_bad : (b : Bool) (all : List Wish × Left) (k : ℕ) → cond b (Ok all) (Err (BadLine all.1.read)) ≡ wishes_bad k → all.1.read ≡ k
-bound_bad true all k e = absurd cc
-bound_bad false all k e = bad_is (List Wish × Left) all.1.read k e
+bound_bad b all k e = grind (arith, bad_is)
 
 wishes_halt : (most : ℕ) (words : List (List ℕ)) (read k : ℕ) (r : Result (List Wish × Left) LineFault) → wishes_of [] 31 read words ≡ r → (r >>= bounded most) ≡ Err (BadLine k)
     → (j : ℕ) × (k ≡ read + j) × Stops (FitsPairs 31) words j
@@ -181,8 +144,7 @@ wishes_halt most words read k (Ok all) is e =
     let same : all.1.read ≡ k = bound_bad _ all k e in
     let it = pairs_end 31 [] read words all.0 all.1 is in
     (it.0, sym same ∙ it.1, it.2)
-wishes_halt most words read k (Err fault) is e =
-    pairs_stop 31 [] read k words (is ∙ ap (failed (List Wish × Left)) (err_is (List Wish) fault (BadLine k) e))
+wishes_halt most words read k (Err fault) is e = grind (arith, pairs_stop, err_is)
 
 -- ---- the places of a row
 
@@ -195,15 +157,9 @@ built_halts (one place ∷ places) build (word ∷ words) read k small last e =
     let lasts = and_parts (none_more places || true) (takes_all_last places) last in
     word_halts place places build read k word words (word_in place word) smalls.0 refl e (λ value next. built_halts places (build value) words (read + 1) k smalls.1 lasts.1 next)
 built_halts (perhaps least greatest ∷ []) build [] read k small last e = absurd cc
-built_halts (perhaps least greatest ∷ []) build (word ∷ words) read k small last e =
-    let smalls = and_parts _ true small in
-    perhaps_halts least greatest read k word words (decimal_in least greatest word) smalls.0 refl
-    (build_bad (perhaps_of least greatest read (word ∷ words)) build k e)
-built_halts (rising ∷ []) build [] read k small last e =
-    none_fit (rising ∷ []) read k (bad_is (ℕ × Left) read k (build_bad (rising_of (left_of [] read)) build k e))
-built_halts (rising ∷ []) build (word ∷ words) read k small last e =
-    let bad = build_bad (rising_of (left_of (word ∷ words) read)) build k e in
-    from_indices (word ∷ words) read k (rising_halts read k word words (decimal_in 1 31 word) refl bad)
+built_halts (perhaps least greatest ∷ []) build (word ∷ words) read k small last e = grind (arith, and_parts, perhaps_halts, decimal_in, build_bad, perhaps_of)
+built_halts (rising ∷ []) build [] read k small last e = grind (arith, none_fit, rising, bad_is, build_bad, rising_of, left_of)
+built_halts (rising ∷ []) build (word ∷ words) read k small last e = grind (arith, build_bad, rising_of, left_of, from_indices, rising_halts, decimal_in)
 built_halts (wishes most ∷ []) build words read k small last e =
     from_pairs most words read k (wishes_halt most words read k (wishes_of [] 31 read words) refl (build_bad (all_wishes_of most (left_of words read)) build k e))
 built_halts (perhaps least greatest ∷ place ∷ places) build words read k small last e = absurd cc
@@ -221,29 +177,18 @@ built_ok (Err f) build made left e = absurd cc
 
 built_ends : (places : List Place) (build : Build places) (words : List (List ℕ)) (read : ℕ) (made : Step) (left : Left) → takes_all_last places ≡ true
     → built_at places build (left_of words read) ≡ Ok (made, left) → Halts places words read left.read
-built_ends [] build words read made left last e =
-    let both = ok_is (build, left_of words read) (made, left) e in
-    end_here words read left (ap (λ (p : Step × Left). p.1.read) both)
+built_ends [] build words read made left last e = grind (arith, ok_is, left_of, end_here)
 built_ends (one place ∷ places) build [] read made left last e = absurd cc
 built_ends (one place ∷ places) build (word ∷ words) read made left last e =
     let lasts = and_parts (none_more places || true) (takes_all_last places) last in
     word_ends place places build read word words (word_in place word) made left refl e (λ value next. built_ends places (build value) words (read + 1) made left lasts.1 next)
-built_ends (perhaps least greatest ∷ []) build [] read made left last e =
-    let both = ok_is (build None, left_of [] read) (made, left) e in
-    none_fit (perhaps least greatest ∷ []) read left.read (ap (λ (p : Step × Left). p.1.read) both)
-built_ends (perhaps least greatest ∷ []) build (word ∷ words) read made left last e =
-    let t = built_ok (perhaps_of least greatest read (word ∷ words)) build made left e in
-    perhaps_ends least greatest read word words (decimal_in least greatest word) t.0 left refl t.1
+built_ends (perhaps least greatest ∷ []) build [] read made left last e = grind (arith, ok_is, left_of, none_fit, perhaps)
+built_ends (perhaps least greatest ∷ []) build (word ∷ words) read made left last e = grind (arith, built_ok, perhaps_of, perhaps_ends, decimal_in)
 built_ends (rising ∷ []) build [] read made left last e = absurd cc
 built_ends (rising ∷ []) build (word ∷ words) read made left last e =
     let t = built_ok (rising_of (left_of (word ∷ words) read)) build made left e in
     from_indices (word ∷ words) read left.read (rising_ends read word words (decimal_in 1 31 word) t.0 left refl t.1)
-built_ends (wishes most ∷ []) build words read made left last e =
-    let t = built_ok (all_wishes_of most (left_of words read)) build made left e in
-    let a = bind_ok (wishes_of [] 31 read words) (bounded most) (t.0, left) t.1 in
-    let both = bounded_is most a.0 (t.0, left) a.2 in
-    let it = pairs_end 31 [] read words a.0.0 a.0.1 a.1 in
-    from_pairs most words read left.read (it.0, sym (ap (λ (p : List Wish × Left). p.1.read) both.1) ∙ it.1, it.2)
+built_ends (wishes most ∷ []) build words read made left last e = grind (arith, built_ok, all_wishes_of, left_of, bind_ok, wishes_of, bounded, bounded_is, pairs_end, from_pairs)
 built_ends (perhaps least greatest ∷ place ∷ places) build words read made left last e = absurd cc
 built_ends (rising ∷ place ∷ places) build words read made left last e = absurd cc
 built_ends (wishes most ∷ place ∷ places) build words read made left last e = absurd cc
@@ -261,8 +206,7 @@ in_line version k first words row is it =
     rw count (record {
       within = omega (arith, it.2.within);
       fits = (row, is, it.2.prefix);
-      no_more = λ inside fits. it.2.no_more (omega (arith, inside))
-          (subst (λ (r : Row). FitsPrefix r.places (take (suc it.0) words)) (same_Some fits.0 row (sym fits.1 ∙ is)) fits.2);
+      no_more = grind (arith, take, same_Some);
     })
 
 abbrev step_bad : ℕ → Result Step LineFault
@@ -278,8 +222,7 @@ step_err_is : (f g : LineFault) → step_failed f ≡ step_failed g → f ≡ g
 step_err_is f g e = cc
 
 ended_bad : (read : ℕ) (words : List (List ℕ)) (made : Step) (k : ℕ) → (ended read words >>= λ none. Ok made) ≡ Err (BadLine k) → read ≡ k
-ended_bad read [] made k e = absurd cc
-ended_bad read (word ∷ words) made k e = step_bad_is read k e
+ended_bad read words made k e = grind (arith, step_bad_is)
 
 row_halts : (version k : ℕ) (first : List ℕ) (words : List (List ℕ)) (row : Row) → row_of version first ≡ Some row → all_small row.places ≡ true → takes_all_last row.places ≡ true
     → (r : Result (Step × Left) LineFault) → built_at row.places row.build (left_of words 1) ≡ r → (r >>= whole) ≡ step_bad k → LineHalts version (first ∷ words) k
@@ -292,9 +235,7 @@ row_halts version k first words row is small last (Err fault) read e =
 
 known_halts : (version k : ℕ) (first : List ℕ) (words : List (List ℕ)) (known : Option Row) → row_of version first ≡ known → (at_known known (left_of words 1) >>= whole) ≡ step_bad k
     → LineHalts version (first ∷ words) k
-known_halts version k first words None is e =
-    let same : 0 ≡ k = step_bad_is 0 k e in
-    rw (← same) (record { within = omega arith; fits = tt; no_more = λ inside fits. let some = sym is ∙ fits.1 in absurd (cc some) })
+known_halts version k first words None is e = grind (arith, step_bad_is)
 known_halts version k first words (Some row) is e =
     let fine = of_table version first row is in
     let parts = and_parts (is_word row.first) _ fine.fine in
@@ -302,9 +243,7 @@ known_halts version k first words (Some row) is e =
     row_halts version k first words row is places.0 places.1 (built_at row.places row.build (left_of words 1)) refl e
 
 words_halt : (version k : ℕ) (words : List (List ℕ)) → (next_of any_word 0 words >>= line_after version) ≡ step_bad k → LineHalts version words k
-words_halt version k [] e =
-    let same : 0 ≡ k = step_bad_is 0 k e in
-    rw (← same) (record { within = omega arith; fits = tt; no_more = λ inside fits. absurd (omega (arith, inside)) })
+words_halt version k [] e = grind (arith, step_bad_is)
 words_halt version k (first ∷ words) e = known_halts version k first words (row_of version first) refl e
 
 abbrev read_bad : ℕ → Result (Option Step) LineFault
@@ -316,13 +255,8 @@ read_failed fault = Err fault
 read_err_is : (f g : LineFault) → read_failed f ≡ read_failed g → f ≡ g
 read_err_is f g e = cc
 
-step_in_bad : (r : Result Step LineFault) (k : ℕ) → (r >>= λ s. Ok (Some s)) ≡ read_bad k → r ≡ step_bad k
-step_in_bad (Ok x) k e = absurd cc
-step_in_bad (Err f) k e = ap step_failed (read_err_is f (BadLine k) e)
-
 chosen_bad : (b : Bool) (r : Result Step LineFault) (k : ℕ) → cond b (Ok None) (r >>= λ s. Ok (Some s)) ≡ read_bad k → r ≡ step_bad k
-chosen_bad true r k e = absurd cc
-chosen_bad false r k e = step_in_bad r k e
+chosen_bad b r k e = grind (arith, read_err_is)
 
 line_halts : (version k : ℕ) (line : List ℕ) → read_of version line ≡ Err (BadLine k) → LineHalts version (words_of line) k
 unfolding read_of step_of

@@ -1,5 +1,5 @@
 -- What a word of digits spells is octets, and so is what an operation of such octets spells.
-use Rattle.scenario_text.proofs.Prelude.{◌≤◌, ◌<◌, ◌≡◌, ℕ, zero, suc, ◌/◌, ◌%◌, List, [], ◌∷◌, ◌++◌, length, Ok, arith, inl, inr, flat_map, AllByRecursion, laid, IsOctets, subgroup_fields, Wish, AddSource, ModifySource, Add, Modify, MetadataFits, group_of, encoding}
+use Rattle.scenario_text.proofs.Prelude.{◌≤◌, ◌<◌, ◌≡◌, ℕ, zero, suc, ◌/◌, ◌%◌, List, [], ◌∷◌, ◌++◌, length, Ok, arith, flat_map, AllByRecursion, laid, IsOctets, subgroup_fields, Wish, AddSource, ModifySource, Add, Modify, MetadataFits, group_of, encoding}
 use Rattle.hex.specs.Hex.{decode_of}
 use Rattle.hex.proofs.HexLemmas.{decode_of-ok}
 use Rattle.bcast_base.specs.Encoding.{number}
@@ -13,8 +13,7 @@ pub nil_octets : IsOctets []
 nil_octets i = omega arith
 
 pub cons_octets : (first : ℕ) (rest : List ℕ) → first < 256 → IsOctets rest → IsOctets (first ∷ rest)
-cons_octets first rest h hs zero = h
-cons_octets first rest h hs (suc i) = hs i
+cons_octets first rest h hs x5 = grind arith
 
 append_octets : (prefix rest : List ℕ) → IsOctets prefix → IsOctets rest → IsOctets (prefix ++ rest)
 append_octets [] rest h hs = hs
@@ -31,24 +30,16 @@ pub decoded : (word octets : List ℕ) → decode_of word ≡ Ok octets → IsOc
 decoded word octets e = (decode_of-ok word octets e).3
 
 pub are_octets : (most : ℕ) (octets word : List ℕ) → SpellsOctets most octets word → IsOctets octets
-are_octets most octets word h = elim h [
-  | inl none ↦ rw none.0 nil_octets
-  | inr some ↦ decoded word octets some.1
-]
+are_octets most octets word h = grind (arith, nil_octets, decoded)
 
 pub few_octets : (most : ℕ) (octets word : List ℕ) → SpellsOctets most octets word → length octets ≤ most
-few_octets most octets word h = elim h [
-  | inl none ↦ rw none.0 (omega arith)
-  | inr some ↦ some.2
-]
+few_octets most octets word h = grind arith
 
 pub wishes_spelled : (all : List Wish) (words : List (List ℕ)) → SpellsWishes all words → MetadataFits all × AreOctets all
-wishes_spelled [] words h = (tt, tt)
-wishes_spelled (wish ∷ others) [] h = absurd h
-wishes_spelled (wish ∷ others) (bits ∷ []) h = absurd h
 wishes_spelled (wish ∷ others) (bits ∷ metadata ∷ words) h =
     let rest = wishes_spelled others words h.2 in
     ((few_octets 255 wish.metadata metadata h.1, rest.0), (are_octets 255 wish.metadata metadata h.1, rest.1))
+wishes_spelled all words h = search (few_octets, are_octets)
 
 -- ---- what operations spell
 
@@ -65,8 +56,7 @@ groups_octets (wish ∷ wishes) fits are =
 ends_octets : (interval : ℕ) (wishes : List Wish) → length wishes ≤ 31 → MetadataFits wishes → AreOctets wishes
     → IsOctets (number 2 interval ++ length wishes ∷ laid (flat_map (λ wish. subgroup_fields (group_of wish)) wishes))
 ends_octets interval wishes few fits are =
-    let all = laid (flat_map (λ w. subgroup_fields (group_of w)) wishes) in
-    append_octets (number 2 interval) (length wishes ∷ all) (number_octets 2 interval) (cons_octets (length wishes) all (omega (arith, few)) (groups_octets wishes fits are))
+    grind (arith, laid, flat_map, subgroup_fields, group_of, append_octets, length, number_octets, cons_octets, groups_octets)
 
 -- the fields of one octet
 pub record AddOctets (op : AddSource) : Type 0 where
@@ -80,18 +70,7 @@ pub record AddOctets (op : AddSource) : Type 0 where
   pub are : AreOctets op.wishes
 
 pub add_octets : (op : AddSource) → AddOctets op → IsOctets (encoding (Add op))
-add_octets op are =
-    let ends = number 2 op.pa_interval ++ length op.wishes ∷ laid (flat_map (λ w. subgroup_fields (group_of w)) op.wishes) in
-    let synced = cons_octets op.pa_sync ends are.pa_sync (ends_octets op.pa_interval op.wishes are.few are.fits are.are) in
-    let id = append_octets op.broadcast_id (op.pa_sync ∷ ends) are.broadcast_id synced in
-    let set = cons_octets op.sid (op.broadcast_id ++ op.pa_sync ∷ ends) are.sid id in
-    let address = append_octets op.address (op.sid ∷ (op.broadcast_id ++ op.pa_sync ∷ ends)) are.address set in
-    let typed = cons_octets op.address_type (op.address ++ op.sid ∷ (op.broadcast_id ++ op.pa_sync ∷ ends)) are.address_type address in
-    cons_octets 2 (op.address_type ∷ (op.address ++ op.sid ∷ (op.broadcast_id ++ op.pa_sync ∷ ends))) (omega arith) typed
+add_octets op are = grind (arith, length, laid, flat_map, subgroup_fields, group_of, cons_octets, ends_octets, append_octets)
 
 pub modify_octets : (op : ModifySource) → op.source_id < 256 → op.pa_sync < 256 → length op.wishes ≤ 31 → MetadataFits op.wishes → AreOctets op.wishes → IsOctets (encoding (Modify op))
-modify_octets op source_id pa_sync few fits are =
-    let ends = number 2 op.pa_interval ++ length op.wishes ∷ laid (flat_map (λ w. subgroup_fields (group_of w)) op.wishes) in
-    let synced = cons_octets op.pa_sync ends pa_sync (ends_octets op.pa_interval op.wishes few fits are) in
-    let named = cons_octets op.source_id (op.pa_sync ∷ ends) source_id synced in
-    cons_octets 3 (op.source_id ∷ op.pa_sync ∷ ends) (omega arith) named
+modify_octets op source_id pa_sync few fits are = grind (arith, length, laid, flat_map, subgroup_fields, group_of, cons_octets, ends_octets)

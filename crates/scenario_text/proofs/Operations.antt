@@ -14,18 +14,7 @@ wishes_length (wish ∷ wishes) =
 
 pub add_length : (op : AddSource) → length op.address ≡ 6 → length op.broadcast_id ≡ 3 → length (encoding (Add op)) ≡ 16 + wishes_octets op.wishes
 add_length op address broadcast_id =
-    let rest = wishes_length op.wishes in
-    let all = laid (flat_map (λ w. subgroup_fields (group_of w)) op.wishes) in
-    let interval = length-append (number 2 op.pa_interval) (length op.wishes ∷ all) in
-    let two = number-length 2 op.pa_interval in
-    let id = length-append op.broadcast_id (op.pa_sync ∷ (number 2 op.pa_interval ++ length op.wishes ∷ all)) in
-    let first = length-append op.address (op.sid ∷ (op.broadcast_id ++ op.pa_sync ∷ (number 2 op.pa_interval ++ length op.wishes ∷ all))) in
-    omega (arith, rest, interval, two, id, first)
+    grind (arith, wishes_length, laid, flat_map, subgroup_fields, group_of, length-append, length, number-length)
 
 pub modify_length : (op : ModifySource) → length (encoding (Modify op)) ≡ 6 + wishes_octets op.wishes
-modify_length op =
-    let rest = wishes_length op.wishes in
-    let all = laid (flat_map (λ w. subgroup_fields (group_of w)) op.wishes) in
-    let interval = length-append (number 2 op.pa_interval) (length op.wishes ∷ all) in
-    let two = number-length 2 op.pa_interval in
-    omega (arith, rest, interval, two)
+modify_length op = grind (arith, wishes_length, laid, flat_map, subgroup_fields, group_of, length-append, length, number-length)

@@ -1,6 +1,7 @@
 -- What holds of each row of the table, whatever its step: its first word begins no comment, its numbers fit 64 bits, and a
 -- place that takes all words that are left is its last.
-use Rattle.scenario_text.proofs.Prelude.{◌≡◌, ℕ, Bool, true, false, cond, nat_eq, nat_lt, ◌^◌, ◌&&◌, ◌||◌, not, List, [], ◌∷◌, Option, None, Some, refl, subst, ⊤, and_parts, Place, one, perhaps, rising, wishes, is_small, Row, row_in, event_rows, first_rows, source_rows, sink_rows, link_rows, rows_of_2, link_rows_of_2}
+use Rattle.std.proofs.Common.{arith}
+use Rattle.scenario_text.proofs.Prelude.{◌≡◌, ℕ, Bool, true, false, cond, nat_eq, nat_lt, ◌^◌, ◌&&◌, ◌||◌, not, List, [], ◌∷◌, Option, None, Some, ⊤, and_parts, Place, one, perhaps, rising, wishes, is_small, Row, row_in, event_rows, first_rows, source_rows, sink_rows, link_rows, rows_of_2, link_rows_of_2}
 use Rattle.std.specs.Str.{bytes_eq}
 use Rattle.std.proofs.lemmas.Slice.Eq.{bytes_eq-Decides}
 use Rattle.scenario_text.specs.Table.{row_of, first_row_of, source_row_of, sink_row_of, link_row_of, row_of_2, link_row_of_2}
@@ -54,8 +55,7 @@ pub record EachRow (P : Row → Type 0) (version : ℕ) : Type 0 where
   pub of_later_links : Each P link_rows_of_2
 
 chosen : (P : Row → Type 0) (b : Bool) (this : Row) (other : Option Row) (row : Row) → P this → (other ≡ Some row → P row) → cond b (Some this) other ≡ Some row → P row
-chosen P true this other row holds others e = let is : this ≡ row = cc in subst P is holds
-chosen P false this other row holds others e = others e
+chosen x1 b this other row holds others e = grind arith
 
 in_rows : (P : Row → Type 0) (first : List ℕ) (rows : List Row) (other : Option Row) (row : Row) → Each P rows → (other ≡ Some row → P row)
     → row_in first rows other ≡ Some row → P row
@@ -69,9 +69,7 @@ none_is row e = absurd cc
 in_rows_of_2 : (P : Row → Type 0) (b : Bool) (first : List ℕ) (row : Row) → Each P rows_of_2 → Each P link_rows_of_2
     → cond b (row_in first rows_of_2 (link_row_of_2 first)) None ≡ Some row → P row
 unfolding link_row_of_2
-in_rows_of_2 P true first row later links e =
-    in_rows P first rows_of_2 (link_row_of_2 first) row later (in_rows P first link_rows_of_2 None row links (none_is row)) e
-in_rows_of_2 P false first row later links e = absurd cc
+in_rows_of_2 x1 b first row later links e = grind (arith, in_rows, rows_of_2, link_rows_of_2, none_is)
 
 pub of_each_row : (P : Row → Type 0) (version : ℕ) (first : List ℕ) (row : Row) → EachRow P version → row_of version first ≡ Some row → P row
 unfolding row_of first_row_of source_row_of sink_row_of link_row_of row_of_2
@@ -87,8 +85,7 @@ of_each_row P version first row each e =
 
 is_first : (b : Bool) (first : List ℕ) (this : Row) (other : Option Row) (row : Row) → (b ≡ true → first ≡ this.first) → (other ≡ Some row → first ≡ row.first)
     → cond b (Some this) other ≡ Some row → first ≡ row.first
-is_first true first this other row same others e = let is : this ≡ row = cc in rw (← is) (same refl)
-is_first false first this other row same others e = others e
+is_first b first this other row same others e = grind arith
 
 firsts_in : (first : List ℕ) (rows : List Row) (other : Option Row) (row : Row) → (other ≡ Some row → first ≡ row.first) → row_in first rows other ≡ Some row → first ≡ row.first
 firsts_in first [] other row others e = others e
@@ -113,27 +110,12 @@ same_first version first row e =
 abbrev IsFine : Row → Type 0
 IsFine row = is_fine row ≡ true
 
-each_fine : (rows : List Row) → all_fine rows ≡ true → Each IsFine rows
-each_fine [] fine = tt
-each_fine (row ∷ rows) fine = let parts = and_parts (is_fine row) (all_fine rows) fine in (parts.0, each_fine rows parts.1)
-
 most_slots_small : (b : Bool) → nat_lt (cond b 8 4) (2 ^ 64) ≡ true
-most_slots_small true = refl
-most_slots_small false = refl
-
-first_fine : (version : ℕ) → all_fine (first_rows version) ≡ true
-first_fine version = rw (most_slots_small (nat_eq version 2)) refl
+most_slots_small b = grind arith
 
 all_rows_fine : (version : ℕ) → EachRow IsFine version
-all_rows_fine version = record {
-  of_events = each_fine event_rows refl;
-  first = each_fine (first_rows version) (first_fine version);
-  of_sources = each_fine source_rows refl;
-  of_sinks = each_fine sink_rows refl;
-  of_links = each_fine link_rows refl;
-  later = each_fine rows_of_2 refl;
-  of_later_links = each_fine link_rows_of_2 refl;
-}
+all_rows_fine version =
+    grind (arith, and_parts, event_rows, first_rows, most_slots_small, nat_eq, source_rows, sink_rows, link_rows, rows_of_2, link_rows_of_2)
 
 pub of_table : (version : ℕ) (first : List ℕ) (row : Row) → row_of version first ≡ Some row → Fine first row
 of_table version first row e =

@@ -1,5 +1,6 @@
 -- Steps and their lines: what is read is the step that the line says, and what a line says is read.
-use Rattle.scenario_text.proofs.Prelude.{◌≡◌, ◌+◌, ℕ, Bool, true, false, cond, nat_eq, ◌||◌, not, List, [], ◌∷◌, Option, None, Some, Result, Ok, Err, refl, ap, sym, subst, ◌∙◌, eqb-true, IfOk, IfSome, IfNone, and_parts, not-true, same_Some, LineFault, onto_first, words_of, Place, one, perhaps, rising, wishes, ◌>>=◌, bind_ok, Left, Gives, any_word, next_of, at_place, ended, place_again, place_spelled, IsLast, Step, IsInRange, Build, Row, Says, LineIs, IsBlank, built_at, at_known, whole, line_after}
+use Rattle.std.proofs.Common.{arith}
+use Rattle.scenario_text.proofs.Prelude.{◌≡◌, ◌+◌, ℕ, Bool, true, false, cond, nat_eq, ◌||◌, not, List, [], ◌∷◌, Option, None, Some, Result, Ok, refl, ap, sym, subst, ◌∙◌, eqb-true, IfOk, IfSome, IfNone, and_parts, not-true, same_Some, LineFault, onto_first, words_of, Place, one, perhaps, rising, wishes, ◌>>=◌, bind_ok, Left, Gives, any_word, next_of, at_place, ended, place_again, place_spelled, IsLast, Step, IsInRange, Build, Row, Says, LineIs, IsBlank, built_at, at_known, whole, line_after}
 use Rattle.scenario_text.specs.Table.{row_of}
 use Rattle.scenario_text.specs.Steps.{step_of, read_of}
 use Rattle.scenario_text.proofs.Rows.{all_small, takes_all, none_more, takes_all_last, is_word, of_table}
@@ -37,9 +38,7 @@ last_place (wishes most) (place ∷ places) built made words read left last e no
 
 built_says : (places : List Place) (build : Build places) (made : Step) (words : List (List ℕ)) (read : ℕ) (left : Left) → takes_all_last places ≡ true
     → built_at places build (left_of words read) ≡ Ok (made, left) → left.words ≡ [] → Says places build made words
-built_says [] built made words read left last e none =
-    let both = ok_is (built, left_of words read) (made, left) e in
-    (ap (λ (p : Step × Left). p.0) both, ap (λ (p : Step × Left). p.1.words) both ∙ none)
+built_says [] built made words read left last e none = grind (arith, ok_is)
 built_says (place ∷ places) build made words read left last e none =
     let parts = and_parts (none_more places || not (takes_all place)) (takes_all_last places) last in
     let a = bind_ok (at_place place (left_of words read)) (λ value. built_at places (build value.0) value.1) (made, left) e in
@@ -49,8 +48,7 @@ built_says (place ∷ places) build made words read left last e none =
 -- ---- a line
 
 ended_is : (read : ℕ) (words : List (List ℕ)) (u : Unit {0}) → ended read words ≡ Ok u → words ≡ []
-ended_is read [] u e = refl
-ended_is read (word ∷ words) u e = absurd cc
+ended_is read words u e = grind arith
 
 -- a line that was read has a row, and its words spell the values of the step
 record Found (version : ℕ) (made : Step) (words : List (List ℕ)) : Type 0 where
@@ -98,21 +96,15 @@ head_word (word ∷ words) = word
 
 onto_head : (octet : ℕ) (words : List (List ℕ)) → is_word (head_word (onto_first octet words)) ≡ not (nat_eq octet 35)
 unfolding head_word
-onto_head octet [] = refl
-onto_head octet (word ∷ words) = refl
+onto_head octet words = grind arith
 
 first_word : (version : ℕ) (first : List ℕ) (row : Row) → row_of version first ≡ Some row → is_word first ≡ true
-first_word version first row e =
-    let fine = of_table version first row e in
-    rw fine.same (and_parts (is_word row.first) _ fine.fine).0
+first_word version first row e = let fine = of_table version first row e in rw fine.same (and_parts (is_word row.first) _ fine.fine).0
 
 not_other : (comment space : Bool) (octet : ℕ) (line : List ℕ) → nat_eq octet 35 ≡ comment → nat_eq octet 32 ≡ space
     → is_word (head_word (cond space ([] ∷ words_of line) (onto_first octet (words_of line)))) ≡ true → comment ≡ false
 unfolding head_word
-not_other comment true octet line is sp e = absurd cc
-not_other comment false octet line is sp e =
-    let negated : not comment ≡ true = ap not (sym is) ∙ (sym (onto_head octet (words_of line)) ∙ e) in
-    not-true comment negated
+not_other comment space octet line is sp e = grind (arith, not, onto_head, words_of, not-true)
 
 no_comment : (octet : ℕ) (line : List ℕ) → is_word (head_word (words_of (octet ∷ line))) ≡ true → nat_eq octet 35 ≡ false
 unfolding head_word
@@ -120,10 +112,7 @@ no_comment octet line e = not_other (nat_eq octet 35) (nat_eq octet 32) octet li
 
 line_again : (version : ℕ) (line : List ℕ) (made : Step) → LineIs version made line → read_of version line ≡ Ok (Some made)
 unfolding read_of step_of head_word
-line_again version [] made is =
-    let word = first_word version is.first is.row is.known in
-    let empty : [] ≡ is.first = ap head_word is.split in
-    absurd (cc (rw (← empty) at word))
+line_again version [] made is = grind (arith, first_word, head_word)
 line_again version (octet ∷ line) made is =
     let word = first_word version is.first is.row is.known in
     let head : is_word (head_word (words_of (octet ∷ line))) ≡ true = ap (λ (ws : List (List ℕ)). is_word (head_word ws)) is.split ∙ word in
@@ -132,12 +121,10 @@ line_again version (octet ∷ line) made is =
     rw (other, read) refl
 
 step_in : (r : Result Step LineFault) (made : Step) → (r >>= λ s. Ok (Some s)) ≡ Ok (Some made) → r ≡ Ok made
-step_in (Ok x) made e = ap done (same_Some x made (ok_is (Some x) (Some made) e))
-step_in (Err f) made e = absurd cc
+step_in r made e = grind (arith, same_Some, ok_is)
 
 chosen_in : (b : Bool) (r : Result Step LineFault) (made : Step) → cond b (Ok None) (r >>= λ s. Ok (Some s)) ≡ Ok (Some made) → r ≡ Ok made
-chosen_in true r made e = absurd cc
-chosen_in false r made e = step_in r made e
+chosen_in b r made e = grind (arith, step_in)
 
 line_says : (version : ℕ) (line : List ℕ) (made : Step) → read_of version line ≡ Ok (Some made) → LineIs version made line
 unfolding read_of step_of
@@ -164,35 +151,22 @@ said_in_range version line made e =
     says_within is.row.places is.row.build made is.words is.spelled (row_within version is.first is.row is.known)
 
 pub is_in_range : (version : ℕ) (line : List ℕ) (r : Result (Option Step) LineFault) → Gives (λ read. read) r (read_of version line) → IfOk r (λ read. IfSome read IsInRange)
-is_in_range version line (Ok (Some made)) given = said_in_range version line made given
-is_in_range version line (Ok None) given = tt
-is_in_range version line (Err e) given = tt
+is_in_range version line r given = grind (arith, said_in_range)
 
 pub is_found : (version : ℕ) (line : List ℕ) (r : Result (Option Step) LineFault) → Gives (λ read. read) r (read_of version line) → IfOk r (λ read. IfSome read (λ made. LineIs version made line))
-is_found version line (Ok (Some made)) given = line_says version line made given
-is_found version line (Ok None) given = tt
-is_found version line (Err e) given = tt
+is_found version line r given = grind (arith, line_says)
 
 pub is_read : (version : ℕ) (line : List ℕ) (r : Result (Option Step) LineFault) → Gives (λ read. read) r (read_of version line)
     → (made : Step) → LineIs version made line → Gives (λ read. read) r (Ok (Some made))
 is_read version line r given made is = subst (λ (read : Result (Option Step) LineFault). Gives (λ x. x) r read) (says_so version line made is) given
 
-none_chosen : (b : Bool) (r : Result Step LineFault) → cond b (Ok None) (r >>= λ s. Ok (Some s)) ≡ Ok None → b ≡ true
-none_chosen true r e = refl
-none_chosen false (Ok x) e = absurd cc
-none_chosen false (Err f) e = absurd cc
-
 pub none_is_blank : (version : ℕ) (line : List ℕ) → read_of version line ≡ Ok None → IsBlank line
 unfolding read_of
-none_is_blank version [] e = tt
-none_is_blank version (octet ∷ line) e = eqb-true octet 35 (none_chosen _ (step_of version (octet ∷ line)) e)
+none_is_blank version line e = grind (arith, eqb-true)
 
 pub blank_is_none : (version : ℕ) (line : List ℕ) → IsBlank line → read_of version line ≡ Ok None
 unfolding read_of
-blank_is_none version [] blank = refl
-blank_is_none version (octet ∷ line) blank = rw blank refl
+blank_is_none version line blank = grind arith
 
 pub is_blank : (version : ℕ) (line : List ℕ) (r : Result (Option Step) LineFault) → Gives (λ read. read) r (read_of version line) → IfOk r (λ read. IfNone read (IsBlank line))
-is_blank version line (Ok (Some made)) given = tt
-is_blank version line (Ok None) given = none_is_blank version line given
-is_blank version line (Err e) given = tt
+is_blank version line r given = grind (arith, none_is_blank)

@@ -1,5 +1,5 @@
 -- The values at the places of a row are within their ranges, and so are the numbers of its step.
-use Rattle.scenario_text.proofs.Prelude.{◌≡◌, ◌≤◌, ℕ, Bool, true, false, cond, nat_eq, List, [], ◌∷◌, length, Option, None, Some, sym, ◌∙◌, subst, arith, inl, inr, ⊤, same_Some, WordPlace, between, framing_word, time_up_to, octets_up_to, octets_exactly, number_in_octets, list_up_to, Place, one, perhaps, rising, wishes, WordValue, PlaceValue, IsOctets, MetadataFits, Step, IsInRange, Build, Row, Says}
+use Rattle.scenario_text.proofs.Prelude.{◌≡◌, ◌≤◌, ℕ, Bool, cond, nat_eq, List, [], ◌∷◌, length, Option, None, Some, subst, arith, inl, inr, ⊤, same_Some, WordPlace, between, framing_word, time_up_to, octets_up_to, octets_exactly, number_in_octets, list_up_to, Place, one, perhaps, rising, wishes, WordValue, PlaceValue, IsOctets, MetadataFits, Step, IsInRange, Build, Row, Says}
 use Rattle.std.specs.Option.{ForSome}
 use Rattle.scenario_words.specs.Spelling.{Spells, SpellsWord}
 use Rattle.ltv_codec.specs.Reading.{bad_of}
@@ -31,10 +31,7 @@ Within (place ∷ places) build = (value : PlaceValue place) → InPlace place v
 
 in_word : (place : WordPlace) (value : WordValue place) (word : List ℕ) → SpellsWord place value word → InWord place value
 in_word (between least greatest) n word h = (h.1, h.2)
-in_word framing_word n word h = elim h [
-  | inl plain ↦ omega (arith, plain.0)
-  | inr framed ↦ omega (arith, framed.0)
-]
+in_word framing_word n word h = elim h [ inl plain ↦ omega (arith, plain.0) | inr framed ↦ omega (arith, framed.0) ]
 in_word (time_up_to greatest) time word h = tt
 in_word (octets_up_to most) octets word h = (few_octets most octets word h, are_octets most octets word h)
 in_word (octets_exactly count) octets word h = (h.1, decoded word octets h.0)
@@ -42,10 +39,7 @@ in_word (number_in_octets count) n word h = tt
 in_word (list_up_to most) octets word h = (few_octets most octets word h.0, h.1, are_octets most octets word h.0)
 
 some_within : (least greatest : ℕ) (value : Option ℕ) (words rest : List (List ℕ)) → Spells (perhaps least greatest) value words rest → ForSome value (λ n. (least ≤ n) × (n ≤ greatest))
-some_within least greatest value words rest h n is = elim h [
-  | inl none ↦ absurd (cc (sym is ∙ none.0))
-  | inr some ↦ let same : some.0 ≡ n = same_Some some.0 n (sym some.1 ∙ is) in rw (← same) (some.3, some.4)
-]
+some_within least greatest value words rest h n is = grind (arith, same_Some)
 
 in_place : (place : Place) (value : PlaceValue place) (words rest : List (List ℕ)) → Spells place value words rest → InPlace place value
 in_place (one place) value words rest h = in_word place value h.0 h.2
@@ -65,51 +59,19 @@ RowWithin row = Within row.places row.build
 
 group_within : RowWithin rows.group_row
 group_within framing f origin o delay d iso i sdu s max_sdu ms max_pdu mp num_bis nb bn b nse n irc r pto p sub u spacing g phy y =
-    record {
-      framing_is = f;
-      origin_least = o.0;
-      origin_greatest = o.1;
-      delay_is = omega (arith, d.1);
-      iso_is = omega (arith, i.1);
-      sdu_is = omega (arith, s.1);
-      max_sdu_is = omega (arith, ms.1);
-      max_pdu_is = omega (arith, mp.1);
-      num_bis_is = omega (arith, nb.1);
-      bn_is = omega (arith, b.1);
-      nse_is = omega (arith, n.1);
-      irc_is = omega (arith, r.1);
-      pto_is = omega (arith, p.1);
-      sub_is = omega (arith, u.1);
-      spacing_is = omega (arith, g.1);
-      phy_is = omega (arith, y.1);
-    }
+    grind arith
 
 few_slots : (later : Bool) (slots : ℕ) → slots ≤ cond later 8 4 → slots ≤ 8
-few_slots true slots few = few
-few_slots false slots few = omega (arith, few)
+few_slots later slots few = grind arith
 
 sink_within : (version : ℕ) → RowWithin (rows.sink_row version)
 sink_within version v0 h0 v1 h1 v2 h2 v3 h3 = (h0.1, h1.0, h1.1, h2.0, few_slots (nat_eq version 2) v2 h2.1, h3)
 
 add_within : RowWithin rows.add_row
-add_within v0 h0 v1 h1 v2 h2 v3 h3 v4 h4 v5 h5 v6 h6 v7 h7 = (
-  h0.1,
-  h7.1,
-  add_octets _ (record {
-    address_type = omega (arith, h1.1);
-    address = h2.1;
-    sid = omega (arith, h3.1);
-    broadcast_id = h4.1;
-    pa_sync = omega (arith, h5.1);
-    few = h7.0;
-    fits = h7.1;
-    are = h7.2;
-  }),
-)
+add_within v0 h0 v1 h1 v2 h2 v3 h3 v4 h4 v5 h5 v6 h6 v7 h7 = (h0.1, h7.1, add_octets _ (grind arith))
 
 modify_within : RowWithin rows.modify_row
-modify_within v0 h0 v1 h1 v2 h2 v3 h3 v4 h4 =
-    (h0.1, h4.1, modify_octets _ (omega (arith, h1.1)) (omega (arith, h2.1)) h4.0 h4.1 h4.2)
+modify_within v0 h0 v1 h1 v2 h2 v3 h3 v4 h4 = (h0.1, h4.1, modify_octets _ (omega (arith, h1.1)) (omega (arith, h2.1)) h4.0 h4.1 h4.2)
 
 all_within : (version : ℕ) → EachRow RowWithin version
 all_within version = record {
