@@ -4,7 +4,7 @@ use Rattle.assistant_machine.specs.Answers.{answer_of}
 use Rattle.assistant_machine.specs.Calls as assistants
 use Rattle.assistant_machine.specs.Views as known
 use Rattle.delegator_machine.specs.Calls as machine
-use Rattle.scenario_sink.proofs.Acts.{acts_joined, acts_read, acts_told, apart_joined, joins, none_there, parts}
+use Rattle.scenario_sink.proofs.Acts.{acts_joined, acts_read, acts_told, apart_joined, joins, parts}
 use Rattle.scenario_sink.proofs.Acts.{lowest_read, lowest_within, none_read, writes_asked, writes_joined, writes_kept}
 use Rattle.scenario_sink.proofs.Assistants.{first_notice, forged_holds, holds_as, put_holds, read_holds, sent_holds, told_holds, waiting_writes}
 use Rattle.scenario_sink.proofs.Fresh.{anew_holds}
@@ -143,16 +143,13 @@ delivers leaves link history d old mid new notice its is_on handed links terms t
     (set_on link (after_call (notified link) history) new (record left { assistant = t.after }) (taken_there took link left mid new there t) is_on
     (subst (λ acts. LinkHolds slots history.made.mtu acts (writes_waiting link history.calls_made) (record left { assistant = t.after }))
     (sym (acts_told history.made.setup history.made.mtu link history.calls_made first.first first.rest first.is))
-    (told_holds slots history.made.mtu (acts_of history.made.setup history.made.mtu link history.calls_made) (writes_waiting link history.calls_made) h.on first.first first.rest notice t.after first.is first.same
-    t.heard.0 t.stands h.holds)))
+    (search (told_holds, acts_of, writes_waiting))))
 
 -- none waits
 pub none_taken : (link : ℕ) (history : SinkHistory) (d : Halves) (old new : Links) (its : Stands history d old) (is_on : is_joined link history.calls_made ≡ true) → None ≡ first_of (link_at old link)
     → linked new ≡ slice_set (linked old) link (without_first (link_at old link)) → SameTerms new old → Stands history d new
 none_taken link history d old new its is_on handed links terms =
     let h : Here link history old = here link history d old its is_on in
-    let none : slice_get h.on.waiting 0 ≡ None = sym (ap first_of h.there) ∙ sym handed in
-    let same : link_at new link ≡ link_at old link = grind (arith, at_it, without_first, link_at, one_of_four, drop, none_there) in
     unchanged history d old new its terms (grind (arith, cases_eq, link_at, at_other, without_first))
 
 -- ---- a notice that is forged
@@ -209,8 +206,6 @@ pub joins_one : Leaves → (link : ℕ) (history : SinkHistory) (d : Halves) (ol
     → linked new ≡ slice_set (linked old) link (Some (asking (slots_of old) (mtu_of old))) → Stands (after_call (joined link) history) d new
 joins_one leaves link history d old new its least terms links =
     let on : Linked = asking history.made.setup.slots history.made.mtu in
-    let there : link_at new link ≡ Some on =
-    at_it old new link (Some (asking (slots_of old) (mtu_of old))) links least ∙ (λ i. Some (asking (its.took.links_slots i) (its.took.links_mtu i))) in
     one_link leaves (joined link) link history d old new (λ other apart e. apart (sym e)) tt refl (grind (arith, cases_eq, is_joined, joined, joins, apart_joined)) its terms (at_other old new link (Some (asking (slots_of old) (mtu_of old))) links)
     (grind (arith, set_on, after_call, joined, joins, holds_as, acts_of, writes_waiting, acts_joined, writes_joined, anew_holds))
 

@@ -207,5 +207,4 @@ drain_goes history link label text first mid last one two three serves tells rea
     let off_told = all_off made link (telling label made link) (length (notices_waiting made.setup made.mtu link served)) served in
     let off_read = all_off made link (reading label made link) (length (reads_waiting made.setup made.mtu link told)) told in
     subst (λ lines. Goes history all lines text last three) (sym (append_assoc serve_them tell_them read_them))
-    (goes_then history served all serve_them (tell_them ++ read_them) text first last one three off (λ none. off_read (off_told none)) serves
-    (goes_then (stayed served history) told all tell_them read_them first mid last two three off_told off_read tells reads))
+    (search (goes_then, stayed))

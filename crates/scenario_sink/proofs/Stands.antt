@@ -51,7 +51,6 @@ none_new on = grind (arith, waiting, append-nil)
 pub gathered : Tells → (call : Call) (history : SinkHistory) (d new : Halves) (links next : Links) → HasStepped call history d links
     → Gathers d.scan new.scan (linked links) (linked next) → StandsOn d new → SameTerms next links → Stands (after_call call history) new next
 gathered tells call history d new links next its gathers on terms =
-    let so = on history.made.setup its.took.taken its.took.stands in
     let told : List Notice = changes history.made.setup.slots (snapshot_in history.made history.calls_made) (snapshot_in history.made (call ∷ history.calls_made)) in
     let more : map (handed_out d.scan.mtu) d.scan.waiting ≡ map (handed_out history.made.mtu) told =
     (λ i. map (handed_out (its.took.settings_is i).mtu) (its.waiting i)) in

@@ -13,8 +13,5 @@ returns-then-not-is_joined c source sink history lives = grind (arith, no_link, 
 pub returns : goal.returns
 returns c source sink history lives = (
   past_link (is_joined c.args.link history.calls_made) None (sym (lives.stands.each c.args.link).joined_is ∙ sym c.is_joined.ensures ∙ c.if-not-is_joined.false),
-  record {
-    stands = parts_one c.links_law.ensures.apart c.args.link history _ c.args.self.now.links _ lives.stands c.requires.least c.requires.most c.part.ensures.terms c.part.ensures.links;
-    source_is = lives.source_is;
-  },
+  search parts_one,
 )

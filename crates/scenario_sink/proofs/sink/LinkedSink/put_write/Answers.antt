@@ -8,7 +8,4 @@ returns c history lives on =
     let old = c.args.self.now in
     let h : Here c.args.link history old.links = here c.args.link history old.delegator old.links lives.stands on in
     let octets : IsOctets c.args.octets = subst IsOctets c.as_slice.ensures c.are_octets.ensures in
-    on_ok c.put.result (λ took. record {
-      stands = asks c.links_law.ensures.apart c.args.link c.args.octets history old.delegator old.links _ lives.stands on octets took;
-      source_is = lives.source_is;
-    }) (c.put.ensures h.on.assistant (its_assistant c.args.link history old.links h))
+    on_ok c.put.result (search asks) (c.put.ensures h.on.assistant (its_assistant c.args.link history old.links h))
