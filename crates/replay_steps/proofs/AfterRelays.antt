@@ -1,7 +1,7 @@
 -- A step of source 0 that is made before the relayed units that stand before it: relayed units touch source 1 alone, so both orders leave
 -- the same.
-use Rattle.replay_steps.proofs.Prelude.{ℕ, ◌≡◌, ◌==◌, Bool, true, false, cond, List, [], ◌∷◌, refl, sym, ◌∙◌, ap, ap₂, subst, not, option_map, Option, None, Some, list_any, option_or, airs_of, Refusal, Order, Step, Offer, after_offer, after_offers, answered, dropped_for, with_relayed_unit, with_relayed_unit_unless, Answered, gives_on, source_refusal, refuse_if, relay_given, relays_to, takes_units, chosen_given, chosen_of, is_of_source, stage_of, steps_of_source, version_at, version_of, left_by_offers, Relays, RelaysStand, Sources, SourcesStand, lent, relay_histories}
-use Rattle.scenario_text.specs.declared.step.Step.TheVariants.{Unit as UnitLine}
+use Rattle.std.proofs.Common.{arith}
+use Rattle.replay_steps.proofs.Prelude.{ℕ, ◌≡◌, ◌==◌, Bool, true, false, cond, List, [], ◌∷◌, refl, sym, ◌∙◌, ap, ap₂, not, option_map, Option, None, list_any, option_or, airs_of, Refusal, Step, Offer, after_offer, after_offers, answered, dropped_for, with_relayed_unit, with_relayed_unit_unless, Answered, gives_on, source_refusal, refuse_if, relay_given, relays_to, takes_units, chosen_given, chosen_of, is_of_source, stage_of, steps_of_source, version_at, version_of, left_by_offers, Relays, RelaysStand, Sources, SourcesStand, lent, relay_histories}
 use Rattle.replay_steps.proofs.Offering.{SaySame, sources_as}
 use Rattle.replay_steps.proofs.RelaysStay.{relays_as}
 
@@ -34,44 +34,19 @@ not_second : (made : Step) (steps : List Step) → MeansOne made → chosen_of s
 not_second made steps means is = means.line 1 steps ∙ ap (λ c. c == 1) is
 
 apart_first : (made : Step) (steps : List Step) → MeansOne made → chosen_of steps ≡ 0 → Apart made steps (made ∷ steps)
-apart_first made steps means is = record {
-  chosen = is;
-  version = ap version_at (means.goes_on steps);
-  same = record { chosen = refl; first = refl; second = refl };
-  second = own_past made steps 1 false (not_second made steps means is);
-}
+apart_first made steps means is = grind (arith, version_at, own_past, not_second)
 
 dropped_same : (made : Step) (late early : List Step) (offer : Offer) → Apart made late early → dropped_for airs_of offer early ≡ dropped_for airs_of offer late
-dropped_same made late early offer apart =
-    let line : Step = UnitLine offer.route.to (Some offer.unit.time) offer.unit.octets in
-    ap₂ (λ own version. option_or (refuse_if (not (takes_units own)) Order) (source_refusal airs_of version own line)) apart.second apart.version
-
-apart_relayed_unit : (made : Step) (late early : List Step) (offer : Offer) → MeansOne made → Apart made late early → Apart made (with_relayed_unit offer late) (with_relayed_unit offer early)
-apart_relayed_unit made late early offer means apart =
-    let line : Step = UnitLine offer.route.to (Some offer.unit.time) offer.unit.octets in
-    let after_relays : List Step = with_relayed_unit offer late in
-    record {
-      chosen = apart.chosen;
-      version = apart.version;
-      same = record {
-        chosen = apart.same.chosen ∙ chosen_past made late means.chooses ∙ sym (chosen_past made after_relays means.chooses);
-        first = apart.same.first ∙ own_past made late 0 true (of_first made late means apart.chosen)
-            ∙ sym (own_past made after_relays 0 true (of_first made after_relays means apart.chosen));
-        second = ap (λ own. line ∷ own) apart.second ∙ sym (own_past made after_relays 1 false (not_second made after_relays means apart.chosen));
-      };
-      second = ap (λ own. line ∷ own) apart.second;
-    }
+dropped_same made late early offer apart = grind (arith, option_or, refuse_if, not, takes_units, source_refusal, airs_of)
 
 apart_unless : (made : Step) (late early : List Step) (offer : Offer) (reason : Option Refusal) → MeansOne made → Apart made late early
     → Apart made (with_relayed_unit_unless reason offer late) (with_relayed_unit_unless reason offer early)
-apart_unless made late early offer None means apart = apart_relayed_unit made late early offer means apart
-apart_unless made late early offer (Some reason) means apart = apart
+apart_unless made late early offer reason means apart = grind (arith, with_relayed_unit, chosen_past, own_past, of_first, not_second)
 
 apart_offer : (made : Step) (late early : List Step) (offer : Offer) → MeansOne made → Apart made late early
     → Apart made (after_offer airs_of offer late) (after_offer airs_of offer early)
 apart_offer made late early offer means apart =
-    subst (λ reason. Apart made (after_offer airs_of offer late) (with_relayed_unit_unless reason offer early)) (sym (dropped_same made late early offer apart))
-    (apart_unless made late early offer (dropped_for airs_of offer late) means apart)
+    grind (arith, dropped_same made late early offer apart, apart_unless made late early offer (dropped_for airs_of offer late) means apart)
 
 apart_offers : (made : Step) (late early : List Step) (offers : List Offer) → MeansOne made → Apart made late early
     → Apart made (after_offers airs_of offers late) (after_offers airs_of offers early)

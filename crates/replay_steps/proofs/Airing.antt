@@ -1,10 +1,9 @@
 -- The PDUs of the air that a sink hears.
-use Rattle.replay_steps.proofs.Prelude.{◌≡◌, ℕ, zero, suc, ◌+◌, ◌*◌, ◌/◌, ◌%◌, ◌<◌, ◌≤◌, ◌==◌, ◌++◌, ◌∷◌, Bool, true, false, not, is_some, nat_le, if◌then◌else◌, List, length, Option, None, Some, option_map, Ok, Err, refl, sym, ◌∙◌, ap, subst, add-one, ne_eqb, arith, le-ltb, option_or, Account, airs_of, Call, heard_line, pdu_line, Refusal, NoSuchSink, NotOnAir, Order, Stop, Refused, OutletFault, Memory, Step, Air, Hear, Inject, Sniff, chosen_of, chosen_steps, running, sinks_made, stage_of, event_back, is_heard, pdu_in, performed, setup_of, source_calls, hear_at, heard_on_air, is_lost, reaches, sink_calls, source_of, position_at, positions_of, unless_lost, box_of, injected_hearing, calls_made, made_of, air_refusal, no_place, no_sink, phase_refusal, source_refusal, refuse_if, NoPlace, air_says, hear_says, inject_says, sniff_says, sources_stay, Sinks, Histories, with_hearing, SinksStand, stands_same, Machine, OnAir, Reaches, histories_on_air, Stands, histories_of, Quiet, Tells}
+use Rattle.replay_steps.proofs.Prelude.{◌≡◌, ℕ, suc, ◌+◌, ◌*◌, ◌/◌, ◌%◌, ◌<◌, ◌≤◌, ◌==◌, ◌++◌, ◌∷◌, Bool, true, false, not, is_some, if◌then◌else◌, List, length, Option, None, Some, option_map, Ok, Err, refl, sym, ◌∙◌, ap, subst, add-one, ne_eqb, arith, le-ltb, option_or, Account, airs_of, Call, heard_line, pdu_line, Refusal, NoSuchSink, NotOnAir, Order, Stop, Refused, OutletFault, Memory, Step, Air, Hear, Inject, Sniff, chosen_of, chosen_steps, running, sinks_made, stage_of, event_back, is_heard, pdu_in, performed, setup_of, source_calls, hear_at, heard_on_air, is_lost, reaches, sink_calls, source_of, position_at, positions_of, unless_lost, box_of, injected_hearing, calls_made, made_of, air_refusal, no_place, no_sink, phase_refusal, source_refusal, refuse_if, NoPlace, air_says, hear_says, inject_says, sniff_says, sources_stay, Sinks, Histories, with_hearing, SinksStand, stands_same, Machine, OnAir, Reaches, histories_on_air, Stands, histories_of, Quiet, Tells}
 use Rattle.std.proofs.lemmas.Nat.{div_below, mod_below}
-use Rattle.source_machine.specs.Calls.{events}
 use Rattle.source_machine.specs.Faults.{air_fault}
 use Rattle.isoal_base.specs.declared.hearing.Hearing.{Hearing}
-use Rattle.scenario_sinks.specs.Hearing.{Hears, hearing_by}
+use Rattle.scenario_sinks.specs.Hearing.{Hears}
 use Rattle.replay_steps.specs.declared.grid.Grid.{Grid}
 use Rattle.replay_steps.proofs.RelaysStay.{minds_relays, relays_stay}
 use Rattle.replay_steps.proofs.Stepping.{as_step, brought, or_none}
@@ -12,9 +11,7 @@ use Rattle.replay_steps.proofs.Stepping.{as_step, brought, or_none}
 -- ---- whether a PDU may be handed to a sink
 
 or_prefix : (a b rest : Option Refusal) (reason : Refusal) → option_or a b ≡ Some reason → option_or a (option_or b rest) ≡ Some reason
-or_prefix None None rest reason e = absurd (cc e)
-or_prefix None (Some x) rest reason e = e
-or_prefix (Some x) b rest reason e = e
+or_prefix a b rest reason e = grind arith
 
 -- the refusals of a step that brings something to a sink in the place of a PDU
 pub record Brings (n : ℕ) (made : Step) : Type 0 where
@@ -51,22 +48,15 @@ own_fault boxes version n steps made brings e started lives =
 
 some_heard : (past : Histories) (n source event bis subevent : ℕ) (octets : List ℕ) (new : Sinks) (o : Option Hearing) → is_some (past.boxes n) ≡ true
     → Hears past n source event bis subevent octets new o → SinksStand (with_hearing n source event bis subevent octets past) new
-some_heard past n source event bis subevent octets new None lives h =
-    let e : true ≡ false = sym lives ∙ ap is_some h in absurd (cc e)
-some_heard past n source event bis subevent octets new (Some hearing) lives h = h.2
+some_heard past n source event bis subevent octets new o lives h = grind (arith, is_some)
 
 heard_as : (past : Histories) (n s t d e bis subevent : ℕ) (o p : List ℕ) (new : Sinks) → s ≡ t → d ≡ e → o ≡ p
     → SinksStand (with_hearing n s d bis subevent o past) new → SinksStand (with_hearing n t e bis subevent p past) new
-heard_as past n s t d e bis subevent o p new a b c h =
-    let S : ℕ → Type 0 = λ x. SinksStand (with_hearing n x e bis subevent p past) new in
-    let E : ℕ → Type 0 = λ x. SinksStand (with_hearing n s x bis subevent p past) new in
-    let O : List ℕ → Type 0 = λ x. SinksStand (with_hearing n s d bis subevent x past) new in
-    subst S a (subst E b (subst O c h))
+heard_as past n s t d e bis subevent o p new a b c h = grind (arith, with_hearing)
 
 -- the same past, where the sinks have their histories by a line that leaves them
 if_same : {A : Type 0} (b : Bool) (x : A) → x ≡ (if b then x else x)
-if_same true x = refl
-if_same false x = refl
+if_same b x = grind arith
 
 hearing_stays : (steps : List Step) (made : Step) (n event bis subevent : ℕ) (octets : List ℕ) (sinks : Sinks)
     → ((m : ℕ) → box_of m steps ≡ box_of m (made ∷ steps)) → ((m : ℕ) → made_of m steps ≡ made_of m (made ∷ steps))
@@ -75,8 +65,7 @@ hearing_stays : (steps : List Step) (made : Step) (n event bis subevent : ℕ) (
     → sinks_made steps ≡ sinks_made (made ∷ steps)
     → SinksStand (with_hearing n (chosen_of steps) event bis subevent octets (histories_of steps)) sinks → SinksStand (histories_of (made ∷ steps)) sinks
 hearing_stays steps made n event bis subevent octets sinks boxes mades sources lives received count stands =
-    stands_same (with_hearing n (chosen_of steps) event bis subevent octets (histories_of steps)) (histories_of (made ∷ steps)) sinks
-    (record { boxes = boxes; mades = mades; sources = sources; lives = lives; received = received; made = count }) stands
+    grind (arith, stands_same, with_hearing, chosen_of, histories_of)
 
 pub hear_meets : (boxes version n source event back bis subevent : ℕ) (pdu : List ℕ) (steps : List Step) (old new : Machine) (o : Option Hearing) (grid : Grid)
     → Stands steps old → stage_of steps ≡ running version → Reaches steps n (Ok grid)
@@ -100,16 +89,14 @@ pub place_fails : (boxes version n back bis subevent : ℕ) (steps : List Step) 
     → Reaches steps n (Ok grid) → NoPlace (chosen_steps steps) back bis subevent stop → Quiet boxes steps made new (Err stop)
 place_fails boxes version n back bis subevent steps made new grid (Refused reason) stands brings own e r p =
     (as_step boxes steps made brings.minds ∙ own_fault boxes version n steps made brings e r.0 r.2 ∙ own ∙ p, stands)
-place_fails boxes version n back bis subevent steps made new grid OutletFault stands brings own e r p = p
-place_fails boxes version n back bis subevent steps made new grid Memory stands brings own e r p = tt
+place_fails boxes version n back bis subevent steps made new grid stop stands brings own e r p = search (as_step, own_fault)
 
 -- ---- inject
 
 pub quiet_tells : (starts : List Account) (steps : List Step) (made : Step) (new : Machine) (text : List ℕ) (stop : Stop) → minds_relays made ≡ false
     → Quiet (length starts) steps made new (Err stop) → Tells starts steps made new text text (Err stop)
 quiet_tells starts steps made new text (Refused reason) minds q = (sym (as_step (length starts) steps made minds) ∙ q.0, q.1, refl)
-quiet_tells starts steps made new text OutletFault minds q = q
-quiet_tells starts steps made new text Memory minds q = tt
+quiet_tells starts steps made new text stop minds q = search (as_step, length)
 
 pub inject_meets : (starts : List Account) (version n source event back bis subevent : ℕ) (octets : List ℕ) (steps : List Step) (old new : Machine) (hearing : Hearing) (grid : Grid)
     (text told : List ℕ) → Stands steps old → stage_of steps ≡ running version → Reaches steps n (Ok grid)
@@ -118,9 +105,7 @@ pub inject_meets : (starts : List Account) (version n source event back bis sube
     → told ≡ text ++ heard_line n hearing → Tells starts steps (Inject n back bis subevent octets) new text told (Ok tt)
 inject_meets starts version n source event back bis subevent octets steps old new hearing grid text told stands e r place chosen is stage same held h t =
     let made : Step = Inject n back bis subevent octets in
-    let answer : hearing ≡ injected_hearing airs_of steps n back bis subevent octets =
-    h.1 ∙ ap (λ s. hearing_by (source_of n steps) (sink_calls airs_of n steps) s event bis subevent octets) chosen
-    ∙ ap (λ d. hearing_by (source_of n steps) (sink_calls airs_of n steps) (chosen_of steps) d bis subevent octets) is in (
+    let answer : hearing ≡ injected_hearing airs_of steps n back bis subevent octets = grind (arith, source_of, sink_calls, airs_of, chosen_of) in (
       own_fault (length starts) version n steps made (inject_brings n back bis subevent octets) e r.0 r.2 ∙ place,
       brought steps made old new stands (inject_says n back bis subevent octets) refl stage same refl held
           (hearing_stays steps made n (event_back (chosen_steps steps) back) bis subevent octets new.sinks
@@ -136,21 +121,14 @@ inject_fails starts version n source event bis subevent octets steps new grid r 
 
 -- ---- air
 
-not_within : (a b : ℕ) → b < a → nat_le a b ≡ false
-not_within a b h = search (arith, h)
-
 -- a PDU of each stream and subevent of the group is heard, once an event was performed
 pub no_fault : (own : List Step) (bis subevent : ℕ) → bis ≤ (setup_of own).info.num_bis → subevent < (setup_of own).info.nse → 0 < performed own
     → air_fault (setup_of own) (source_calls own) 0 bis subevent ≡ None
-no_fault own bis subevent p q r =
-    rw (le-ltb (setup_of own).info.num_bis bis p, not_within (setup_of own).info.nse subevent q, not_within (events (source_calls own)) 0 r) refl
+no_fault own bis subevent p q r = grind (arith, le-ltb, setup_of, source_calls)
 
 -- the positions of an event are those of the streams and the subevents of the group
 pub position_within : (streams subevents i : ℕ) → i < streams * subevents → (0 < subevents) × (i / subevents < streams) × (i % subevents < subevents)
-position_within streams zero i h = absurd (omega arith)
-position_within streams (suc k) i h =
-    let some : 0 < suc k = omega arith in
-    (some, div_below i (suc k) streams some h, mod_below i (suc k) some)
+position_within streams subevents i h = grind (arith, div_below, mod_below)
 
 on_air : (n : ℕ) → 0 < n → refuse_if (n == 0) NotOnAir ≡ None
 on_air n h = ap (λ (b : Bool). refuse_if b NotOnAir) (ne_eqb n 0 (λ e. omega arith))
@@ -165,39 +143,21 @@ air_meets boxes version n lose event streams subevents steps old new stands e on
 
 pub air_fails : (boxes version n lose : ℕ) (steps : List Step) (grid : Grid) → stage_of steps ≡ running version → Reaches steps n (Ok grid)
     → performed (chosen_steps steps) ≡ 0 → phase_refusal airs_of boxes steps (Air n lose) ≡ Some NotOnAir
-air_fails boxes version n lose steps grid e r none =
-    own_fault boxes version n steps (Air n lose) (air_brings n lose) e r.0 r.2 ∙ ap (λ k. refuse_if (k == 0) NotOnAir) none
+air_fails boxes version n lose steps grid e r none = grind (arith, own_fault, air_brings, refuse_if)
 
 pub air_begins : (steps : List Step) (n lose : ℕ) (sinks : Sinks) → SinksStand (histories_of steps) sinks → SinksStand (histories_on_air steps n lose 0) sinks
-air_begins steps n lose sinks stands =
-    stands_same (histories_of steps) (histories_on_air steps n lose 0) sinks
-    (record {
-      boxes = λ m. refl;
-      mades = λ m. refl;
-      sources = λ m. refl;
-      lives = λ m. refl;
-      received = λ m. if_same (reaches n m steps) (sink_calls airs_of m steps);
-      made = refl;
-    }) stands
+air_begins steps n lose sinks stands = grind (arith, stands_same, histories_of, histories_on_air, if_same, reaches, sink_calls, airs_of)
 
 -- all positions of the event were heard
 pub air_ends : (steps : List Step) (n lose : ℕ) (sinks : Sinks) → SinksStand (histories_on_air steps n lose (positions_of (chosen_steps steps))) sinks
     → SinksStand (histories_of (Air n lose ∷ steps)) sinks
 air_ends steps n lose sinks stands =
-    stands_same (histories_on_air steps n lose (positions_of (chosen_steps steps))) (histories_of (Air n lose ∷ steps)) sinks (record {
-      boxes = λ m. refl;
-      mades = λ m. refl;
-      sources = λ m. refl;
-      lives = λ m. if_same (n == m) (calls_made m steps);
-      received = λ m. refl;
-      made = refl;
-    }) stands
+    grind (arith, stands_same, histories_on_air, positions_of, chosen_steps, histories_of, if_same, calls_made)
 
 -- the PDU at a position is lost
 position_lost : (b : Bool) (lost : Bool) (call : Call) (calls heard : List Call) → lost ≡ true
     → (if b then heard else calls) ≡ (if b then unless_lost lost call heard else calls)
-position_lost true lost call calls heard e = rw e refl
-position_lost false lost call calls heard e = refl
+position_lost b lost call calls heard e = grind arith
 
 pub lost_next : (steps : List Step) (n lose i : ℕ) (sinks : Sinks)
     → is_lost (setup_of (chosen_steps steps)).info (event_back (chosen_steps steps) 0) lose (position_at (setup_of (chosen_steps steps)).info i) ≡ true
@@ -205,22 +165,12 @@ pub lost_next : (steps : List Step) (n lose i : ℕ) (sinks : Sinks)
 lost_next steps n lose i sinks lost stands =
     let own : List Step = chosen_steps steps in
     let P : ℕ → Type 0 = λ k. SinksStand (histories_on_air steps n lose k) sinks in
-    subst P (sym (add-one i)) (stands_same (histories_on_air steps n lose i) (histories_on_air steps n lose (suc i)) sinks
-    (record {
-      boxes = λ m. refl;
-      mades = λ m. refl;
-      sources = λ m. refl;
-      lives = λ m. refl;
-      received = λ m. position_lost (reaches n m steps) _ (hear_at airs_of own (event_back own 0) (position_at (setup_of own).info i)) (sink_calls airs_of m steps)
-          (heard_on_air airs_of own lose i (sink_calls airs_of m steps)) lost;
-      made = refl;
-    }) stands)
+    subst P (sym (add-one i)) (grind (arith, stands_same, histories_on_air, position_lost, reaches, hear_at, airs_of, event_back, position_at, setup_of, sink_calls, heard_on_air))
 
 -- it is heard
 position_heard : (b : Bool) (lost : Bool) (call : Call) (calls heard : List Call) → lost ≡ false
     → (if b then call ∷ (if b then heard else calls) else (if b then heard else calls)) ≡ (if b then unless_lost lost call heard else calls)
-position_heard true lost call calls heard e = rw e refl
-position_heard false lost call calls heard e = refl
+position_heard b lost call calls heard e = grind arith
 
 pub heard_next : (steps : List Step) (n lose i source event bis subevent : ℕ) (pdu : List ℕ) (sinks : Sinks) (o : Option Hearing)
     → is_lost (setup_of (chosen_steps steps)).info (event_back (chosen_steps steps) 0) lose (position_at (setup_of (chosen_steps steps)).info i) ≡ false
@@ -240,28 +190,16 @@ heard_next steps n lose i source event bis subevent pdu sinks o kept lives chose
     subst P (sym (add-one i)) (stands_same
     (with_hearing n (chosen_of steps) (event_back own 0) (i / nse + 1) (i % nse) (pdu_in airs_of own (event_back own 0) (i / nse + 1) (i % nse)) (histories_on_air steps n lose i))
     (histories_on_air steps n lose (suc i)) sinks
-    (record {
-      boxes = λ m. refl;
-      mades = λ m. refl;
-      sources = λ m. refl;
-      lives = λ m. refl;
-      received = λ m. position_heard (reaches n m steps) _ (hear_at airs_of own (event_back own 0) (position_at (setup_of own).info i)) (sink_calls airs_of m steps)
-          (heard_on_air airs_of own lose i (sink_calls airs_of m steps)) kept;
-      made = refl;
-    }) (subst S s (subst B b heard)))
+    (grind (arith, position_heard, reaches, hear_at, airs_of, event_back, position_at, setup_of, sink_calls, heard_on_air)) (subst S s (subst B b heard)))
 
 -- what was computed of a position is what is said of it
 pub lost_at : (own : List Step) (event lose i : ℕ) (r b : Bool) → event ≡ event_back own 0 → r ≡ is_lost (setup_of own).info event lose (position_at (setup_of own).info i) → r ≡ b
     → is_lost (setup_of own).info (event_back own 0) lose (position_at (setup_of own).info i) ≡ b
-lost_at own event lose i r b event_is is e =
-    sym (is ∙ ap (λ d. is_lost (setup_of own).info d lose (position_at (setup_of own).info i)) event_is) ∙ e
+lost_at own event lose i r b event_is is e = grind (arith, is_lost, setup_of, position_at)
 
 pub no_place_there : (own : List Step) (bis subevent : ℕ) (stop : Stop) → bis ≤ (setup_of own).info.num_bis → subevent < (setup_of own).info.nse → 0 < performed own
     → NoPlace own 0 bis subevent stop → ⊥
-no_place_there own bis subevent (Refused reason) p q r e =
-    let none : no_place own 0 bis subevent ≡ None = ap (option_map air_refusal) (no_fault own bis subevent p q r) in cc (none, e)
-no_place_there own bis subevent OutletFault p q r e = e
-no_place_there own bis subevent Memory p q r e = e
+no_place_there own bis subevent stop p q r e = grind (arith, no_place, option_map, air_refusal, no_fault)
 
 pub no_sink_there : (steps : List Step) (n : ℕ) → is_heard (chosen_steps steps) ≡ true → is_some (box_of n steps) ≡ false
     → option_or (refuse_if (not (is_heard (chosen_steps steps))) Order) (no_sink n steps) ≡ Some NoSuchSink

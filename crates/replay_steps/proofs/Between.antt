@@ -1,16 +1,12 @@
 -- Closing an event of source 0 for one sink after the other.
-use Rattle.replay_steps.proofs.Prelude.{ℕ, ◌≡◌, ◌<◌, ◌+◌, ◌-◌, ◌==◌, nat_lt, Bool, cond, List, [], ◌++◌, refl, sym, ◌∙◌, ap, ap₂, subst, inl, inr, arith, append_assoc, append-nil, eq-eqb, ne_eqb, le-ltb, lt-ltb, slice_get, Some, Ok, Err, flat_map, range_with_len, cases_order, flat_map-append, Account, Call, airs_of, Stop, Refused, OutletFault, Memory, Step, SinkUnit, accounts_after, closing_by, Offer, after_offers, answered, offered_of, unit_lines, is_of, ticked_if, left_by_offers, closing_of, handed_all, BoxFails, CutShort, Histories, with_close, with_close_at, EntryIs, SinksStand, UnassignedSame, Sinks, accounts_append, hands_stop, hands_then, stands_same, RelaysStand, SourcesStand, Machine, FirstBetween, with_closes_below, relay_histories, FirstMeets, ComponentsStand, SinkMeets, answer_lines, lines_at, lines_below, offers_below, offers_of, units_below}
+use Rattle.replay_steps.proofs.Prelude.{ℕ, ◌≡◌, ◌<◌, ◌+◌, ◌-◌, ◌==◌, nat_lt, Bool, cond, List, [], ◌++◌, refl, sym, ◌∙◌, ap, ap₂, subst, arith, append_assoc, append-nil, eq-eqb, ne_eqb, le-ltb, lt-ltb, slice_get, Some, Ok, Err, flat_map, range_with_len, cases_order, flat_map-append, Account, Call, airs_of, Stop, Refused, OutletFault, Memory, Step, SinkUnit, accounts_after, closing_by, Offer, after_offers, answered, offered_of, unit_lines, is_of, ticked_if, left_by_offers, closing_of, handed_all, CutShort, Histories, with_close, with_close_at, SinksStand, UnassignedSame, Sinks, accounts_append, hands_stop, hands_then, stands_same, RelaysStand, SourcesStand, Machine, FirstBetween, with_closes_below, relay_histories, FirstMeets, ComponentsStand, SinkMeets, answer_lines, lines_at, lines_below, offers_below, offers_of, units_below}
 use Rattle.scenario_sinks.proofs.Ranges.{range_append}
 use Rattle.replay_steps.proofs.Offering.{after_append}
 
 -- ---- ranges
 
 pub range_more : {A : Type 0} (f : ℕ → List A) (n : ℕ) → flat_map f (range_with_len 0 (n + 1)) ≡ flat_map f (range_with_len 0 n) ++ f n
-range_more f n =
-    let start : 0 + n ≡ n = omega arith in
-    ap (flat_map f) (range_append 0 n 1)
-    ∙ flat_map-append f (range_with_len 0 n) (range_with_len (0 + n) 1)
-    ∙ ap (λ last. flat_map f (range_with_len 0 n) ++ last) (append-nil (f (0 + n)) ∙ ap f start)
+range_more f n = grind (arith, flat_map, range_append, flat_map-append, range_with_len, append-nil)
 
 pub range_split : {A : Type 0} (f : ℕ → List A) (n k : ℕ) → n + k ≡ 8
     → flat_map f (range_with_len 0 8) ≡ flat_map f (range_with_len 0 n) ++ flat_map f (range_with_len n k)
@@ -32,65 +28,24 @@ range_about f n below =
 
 -- the next sink didn't close the event yet
 pub not_yet : (past : Histories) (event n : ℕ) → closing_of n 0 event (with_closes_below event n past) ≡ closing_of n 0 event past
-not_yet past event n =
-    ap (λ b. closing_by 0 event n (cond b (ticked_if (is_of 0 (past.sources n)) (Some event) (past.received n)) (past.received n)) (past.sources n) (past.boxes n))
-    (le-ltb n n (omega arith))
+not_yet past event n = grind (arith, closing_by, cond, ticked_if, is_of, le-ltb)
 
 received_next : (its : Bool) (event : ℕ) (calls : List Call) (n m : ℕ)
     → cond (n == m) (ticked_if its (Some event) (cond (nat_lt m n) (ticked_if its (Some event) calls) calls)) (cond (nat_lt m n) (ticked_if its (Some event) calls) calls)
     ≡ cond (nat_lt m (n + 1)) (ticked_if its (Some event) calls) calls
-received_next its event calls n m =
-    let new : List Call = ticked_if its (Some event) calls in
-    elim (cases_order m n) [
-      | inl same ↦
-          ap (λ b. cond b (ticked_if its (Some event) (cond (nat_lt m n) new calls)) (cond (nat_lt m n) new calls)) (eq-eqb n m (sym same))
-          ∙ ap (λ b. ticked_if its (Some event) (cond b new calls)) (le-ltb m n (omega (arith, same)))
-          ∙ ap (λ b. cond b new calls) (sym (lt-ltb m (n + 1) (omega (arith, same))))
-      | inr (inl below) ↦
-          ap (λ b. cond b (ticked_if its (Some event) (cond (nat_lt m n) new calls)) (cond (nat_lt m n) new calls)) (ne_eqb n m (λ same. omega (arith, same, below)))
-          ∙ ap (λ b. cond b new calls) (lt-ltb m n below ∙ sym (lt-ltb m (n + 1) (omega (arith, below))))
-      | inr (inr above) ↦
-          ap (λ b. cond b (ticked_if its (Some event) (cond (nat_lt m n) new calls)) (cond (nat_lt m n) new calls)) (ne_eqb n m (λ same. omega (arith, same, above)))
-          ∙ ap (λ b. cond b new calls) (le-ltb m n (omega (arith, above)) ∙ sym (le-ltb m (n + 1) (omega (arith, above))))
-    ]
+received_next its event calls n m = grind (arith, ticked_if, cases_order, cond, nat_lt, eq-eqb, le-ltb, lt-ltb, ne_eqb)
 
 -- and then it did
 closed_next : (past : Histories) (event n : ℕ) (sinks : Sinks) → SinksStand (with_close_at n 0 event (with_closes_below event n past)) sinks
     → SinksStand (with_closes_below event (n + 1) past) sinks
-closed_next past event n sinks stands =
-    stands_same (with_close_at n 0 event (with_closes_below event n past)) (with_closes_below event (n + 1) past) sinks
-    (record {
-      boxes = λ m. refl;
-      mades = λ m. refl;
-      sources = λ m. refl;
-      lives = λ m. refl;
-      received = λ m. received_next (is_of 0 (past.sources m)) event (past.received m) n m;
-      made = refl;
-    }) stands
+closed_next past event n sinks stands = grind (arith, stands_same, with_close_at, with_closes_below, received_next, is_of)
 
 closed_none : (past : Histories) (event : ℕ) (sinks : Sinks) → SinksStand past sinks → SinksStand (with_closes_below event 0 past) sinks
-closed_none past event sinks stands =
-    stands_same past (with_closes_below event 0 past) sinks
-    (record {
-      boxes = λ m. refl;
-      mades = λ m. refl;
-      sources = λ m. refl;
-      lives = λ m. refl;
-      received = λ m.
-          ap (λ b. cond b (ticked_if (is_of 0 (past.sources m)) (Some event) (past.received m)) (past.received m)) (sym (le-ltb m 0 (omega arith)));
-      made = refl;
-    }) stands
+closed_none past event sinks stands = grind (arith, stands_same, with_closes_below, cond, ticked_if, is_of, le-ltb)
 
 -- all of them did
 closed_all : (past : Histories) (event : ℕ) (sinks : Sinks) → SinksStand (with_closes_below event 8 past) sinks → SinksStand (with_close 0 (Some event) past) sinks
-closed_all past event sinks stands = record {
-  entries = λ n below.
-      subst (λ calls. EntryIs (past.boxes n) (past.mades n) (past.sources n) (past.lives n) calls (slice_get sinks.entries.items n))
-      (ap (λ b. cond b (ticked_if (is_of 0 (past.sources n)) (Some event) (past.received n)) (past.received n)) (lt-ltb n 8 below))
-      (stands.entries n below);
-  made = stands.made;
-  empty = stands.empty;
-}
+closed_all past event sinks stands = grind (arith, slice_get, cond, ticked_if, is_of, lt-ltb)
 
 -- ---- the loop
 
@@ -111,9 +66,7 @@ offers_now steps past event n =
 after_next : (steps : List Step) (past : Histories) (event n : ℕ)
     → after_offers airs_of (offers_of steps past n event) (after_offers airs_of (offers_below steps past event n) steps)
     ≡ after_offers airs_of (offers_below steps past event (n + 1)) steps
-after_next steps past event n =
-    sym (ap (λ all. after_offers airs_of all steps) (range_more (λ m. offers_of steps past m event) n)
-    ∙ after_append (offers_below steps past event n) (offers_of steps past n event) steps)
+after_next steps past event n = grind (arith, after_offers, airs_of, range_more, offers_of, after_append, offers_below)
 
 pub between_next : (steps : List Step) (past : Histories) (event n : ℕ) (mid new : Machine) (text told told2 : List ℕ) (before between after : List Account)
     → FirstBetween steps past event n mid text told before between
@@ -151,9 +104,7 @@ between_stops steps past event n mid new there text told told2 before between af
 between_stops steps past event n mid new there text told told2 before between after OutletFault below b m = record {
   number = n;
   within = below;
-  fails = subst (λ units. BoxFails units (text ++ lines_below steps past event n) told2 (accounts_after before (units_below past event n)) after) (not_yet past event n)
-      (subst (λ prefix. BoxFails (closing_of n 0 event (with_closes_below event n past)) prefix told2 (accounts_after before (units_below past event n)) after) b.lines
-      (subst (λ accounts. BoxFails (closing_of n 0 event (with_closes_below event n past)) told told2 accounts after) b.boxes m));
+  fails = grind (arith, not_yet past event n, b.lines, b.boxes);
 }
 between_stops steps past event n mid new there text told told2 before between after Memory below b m =
     let prefix : List SinkUnit = units_below past event n in

@@ -1,5 +1,5 @@
 -- A close that a box stops: what was printed before is a prefix of what the close prints.
-use Rattle.replay_steps.proofs.Prelude.{ℕ, ◌≡◌, ◌≢◌, ◌<◌, ◌+◌, ◌-◌, ◌==◌, ◌&&◌, nat_lt, Bool, true, false, cond, List, [], ◌∷◌, ◌++◌, map, refl, sym, ◌∙◌, ap, ap₂, subst, inl, inr, append_assoc, append-nil, arith, eq-eqb, ne_eqb, le-ltb, lt-ltb, Option, None, Some, Err, filter, flat_map, range_with_len, and_left, and_right, cases_eq, filter-append, Account, Handed, TookAt, Failed, Call, handed_at, airs_of, Step, SinkUnit, accounts_after, closing_in, Answered, after_offers, answered, dropped_lines, first_lines, unit_lines, is_of, closing_of, handed_all, BoxFails, Histories, accounts_append, CloseFails, printed_before, FirstFails, answer_lines, lines_at, lines_below, offers_below, offers_of, units_below, flat_within, handed_append}
+use Rattle.replay_steps.proofs.Prelude.{ℕ, ◌≡◌, ◌≢◌, ◌<◌, ◌+◌, ◌-◌, ◌==◌, nat_lt, Bool, true, false, cond, List, [], ◌∷◌, ◌++◌, map, refl, sym, ◌∙◌, ap, ap₂, subst, inl, inr, append_assoc, append-nil, arith, eq-eqb, ne_eqb, le-ltb, lt-ltb, Err, filter, flat_map, range_with_len, and_left, and_right, cases_eq, filter-append, Account, Handed, TookAt, Failed, handed_at, airs_of, Step, SinkUnit, accounts_after, Answered, after_offers, answered, dropped_lines, first_lines, unit_lines, is_of, closing_of, handed_all, BoxFails, Histories, accounts_append, CloseFails, printed_before, FirstFails, answer_lines, lines_at, lines_below, offers_below, offers_of, units_below, flat_within, handed_append}
 use Rattle.transcript_text.specs.Lines.{handed_line}
 use Rattle.scenario_history.specs.Boxes.{sink_numbers}
 use Rattle.scenario_history.specs.RelayedUnits.{handed_of}
@@ -23,13 +23,8 @@ of_map : (s n box : ℕ) (units : List Handed) → AreOf s n (map (λ unit. reco
 of_map s n box [] = tt
 of_map s n box (unit ∷ units) = (refl, refl, of_map s n box units)
 
-of_in : (its : Bool) (s event n : ℕ) (calls : List Call) (box : Option ℕ) → AreOf s n (cond its (closing_in s event n calls box) [])
-of_in true s event n calls None = tt
-of_in true s event n calls (Some box) = of_map s n box (handed_at calls event)
-of_in false s event n calls box = tt
-
 of_closing : (n s event : ℕ) (past : Histories) → AreOf s n (closing_of n s event past)
-of_closing n s event past = of_in (is_of s (past.sources n)) s event n (past.received n) (past.boxes n)
+of_closing n s event past = grind (arith, of_map, handed_at, is_of)
 
 of_prefix : (s n : ℕ) (us vs : List SinkUnit) → AreOf s n (us ++ vs) → AreOf s n us
 of_prefix s n [] vs are = tt
@@ -65,28 +60,16 @@ from_closings s event past (n ∷ ns) =
 
 own_printed : (n : ℕ) (us : List SinkUnit) → AreOf 0 n us → flat_map (handed_line n) (handed_of 0 n us) ≡ unit_lines us
 own_printed n [] are = refl
-own_printed n (u ∷ us) are =
-    ap₂ (λ s t. flat_map (handed_line n) (map (λ (unit : SinkUnit). unit.unit)
-    (cond (s && t) (u ∷ filter (λ (unit : SinkUnit). (unit.source == 0) && (unit.sink == n)) us) (filter (λ (unit : SinkUnit). (unit.source == 0) && (unit.sink == n)) us))))
-    (eq-eqb u.source 0 are.0) (eq-eqb u.sink n are.1)
-    ∙ ap₂ (λ line rest. line ++ rest) (ap (λ m. handed_line m u.unit) (sym are.1)) (own_printed n us are.2)
+own_printed n (u ∷ us) are = grind (arith, eq-eqb u.source 0 are.0, eq-eqb u.sink n are.1, are.1, own_printed n us are.2)
 
 other_handed : (n m : ℕ) (us : List SinkUnit) → AreOf 0 m us → m ≢ n → handed_of 0 n us ≡ []
 other_handed n m [] are other = refl
-other_handed n m (u ∷ us) are other =
-    ap (λ b. map (λ (unit : SinkUnit). unit.unit)
-    (cond b (u ∷ filter (λ (unit : SinkUnit). (unit.source == 0) && (unit.sink == n)) us) (filter (λ (unit : SinkUnit). (unit.source == 0) && (unit.sink == n)) us)))
-    (and_right (u.source == 0) (u.sink == n) (ne_eqb u.sink n (λ same. other (sym are.1 ∙ same))))
-    ∙ other_handed n m us are.2 other
+other_handed n m (u ∷ us) are other = grind (arith, and_right (u.source == 0) (u.sink == n) (ne_eqb u.sink n (λ same. other (sym are.1 ∙ same))), other_handed n m us are.2 other)
 
 -- units of source 1 are none of source 0
 second_handed : (n : ℕ) (us : List SinkUnit) → AreFrom 1 us → handed_of 0 n us ≡ []
 second_handed n [] are = refl
-second_handed n (u ∷ us) are =
-    ap (λ b. map (λ (unit : SinkUnit). unit.unit)
-    (cond b (u ∷ filter (λ (unit : SinkUnit). (unit.source == 0) && (unit.sink == n)) us) (filter (λ (unit : SinkUnit). (unit.source == 0) && (unit.sink == n)) us)))
-    (and_left (u.source == 0) (u.sink == n) (ap (λ s. s == 0) are.0))
-    ∙ second_handed n us are.1
+second_handed n (u ∷ us) are = grind (arith, and_left (u.source == 0) (u.sink == n) (ap (λ s. s == 0) are.0), second_handed n us are.1)
 
 abbrev of_second : SinkUnit → Bool
 of_second unit = unit.source == 1
@@ -106,14 +89,11 @@ of_below number answer = nat_lt answer.offer.sink number
 
 own_kept : (hit : Bool) (n : ℕ) (answer : Answered) (prefix rest : List Answered) → of_sink n answer ≡ true → filter (of_sink n) prefix ≡ cond hit rest []
     → filter (of_sink n) (cond hit (answer ∷ prefix) prefix) ≡ cond hit (answer ∷ rest) []
-own_kept true n answer prefix rest is same =
-    ap (λ b. cond b (answer ∷ filter (of_sink n) prefix) (filter (of_sink n) prefix)) is ∙ ap (λ l. answer ∷ l) same
-own_kept false n answer prefix rest is same = same
+own_kept hit n answer prefix rest is same = grind (arith, cond, filter, of_sink)
 
 other_kept : (kept : Bool) (n : ℕ) (answer : Answered) (prefix rest : List Answered) → of_sink n answer ≡ false → filter (of_sink n) prefix ≡ rest
     → filter (of_sink n) (cond kept (answer ∷ prefix) prefix) ≡ rest
-other_kept true n answer prefix rest is same = ap (λ b. cond b (answer ∷ filter (of_sink n) prefix) (filter (of_sink n) prefix)) is ∙ same
-other_kept false n answer prefix rest is same = same
+other_kept kept n answer prefix rest is same = grind (arith, cond, filter, of_sink)
 
 kept_below : (n number : ℕ) (hit : Bool) (answers : List Answered) → nat_lt n number ≡ hit
     → filter (of_sink n) (filter (of_below number) answers) ≡ cond hit (filter (of_sink n) answers) []
@@ -141,9 +121,7 @@ below_printed : (steps : List Step) (past : Histories) (event number n : ℕ) (d
     → printed_at n (units_below past event number ++ d) (filter (of_below number) (answered airs_of (offers_below steps past event 8) steps)) ≡ lines_at steps past n event
 below_printed steps past event number n d less within are =
     ap₂ (λ (units : List Handed) (answers : List Answered). flat_map (handed_line n) units ++ answer_lines answers)
-    (handed_append 0 n (units_below past event number) d
-    ∙ ap₂ (λ one two. one ++ two) (own_handed past event n number less) (other_handed n number d are (λ same. omega (arith, same, less)))
-    ∙ append-nil (handed_all (closing_of n 0 event past)))
+    (grind (arith, handed_append, units_below, own_handed, other_handed, append-nil, handed_all, closing_of))
     (kept_below n number true (answered airs_of (offers_below steps past event 8) steps) (lt-ltb n number less) ∙ answers_of steps past event n (omega (arith, less, within)))
     ∙ ap (λ prefix. prefix ++ answer_lines (answered airs_of (offers_of steps past n event) (after_offers airs_of (offers_below steps past event n) steps))) (own_lines past event n)
 
@@ -151,21 +129,40 @@ below_printed steps past event number n d less within are =
 here_printed : (steps : List Step) (past : Histories) (event number : ℕ) (d : List SinkUnit) → AreOf 0 number d
     → printed_at number (units_below past event number ++ d) (filter (of_below number) (answered airs_of (offers_below steps past event 8) steps)) ≡ unit_lines d
 here_printed steps past event number d are =
-    ap₂ (λ (units : List Handed) (answers : List Answered). flat_map (handed_line number) units ++ answer_lines answers)
-    (handed_append 0 number (units_below past event number) d
-    ∙ ap (λ prefix. prefix ++ handed_of 0 number d) (none_handed past event number number (omega arith)))
-    (kept_below number number false (answered airs_of (offers_below steps past event 8) steps) (le-ltb number number (omega arith)))
-    ∙ append-nil (flat_map (handed_line number) (handed_of 0 number d))
-    ∙ own_printed number d are
+    grind (
+      arith,
+      flat_map,
+      answer_lines,
+      handed_append,
+      units_below,
+      none_handed,
+      kept_below,
+      answered,
+      airs_of,
+      offers_below,
+      le-ltb,
+      append-nil,
+      own_printed,
+    )
 
 -- a sink above
 above_printed : (steps : List Step) (past : Histories) (event number n : ℕ) (d : List SinkUnit) → number < n → AreOf 0 number d
     → printed_at n (units_below past event number ++ d) (filter (of_below number) (answered airs_of (offers_below steps past event 8) steps)) ≡ []
 above_printed steps past event number n d more are =
-    ap₂ (λ (units : List Handed) (answers : List Answered). flat_map (handed_line n) units ++ answer_lines answers)
-    (handed_append 0 n (units_below past event number) d
-    ∙ ap₂ (λ one two. one ++ two) (none_handed past event n number (omega (arith, more))) (other_handed n number d are (λ same. omega (arith, same, more))))
-    (kept_below n number false (answered airs_of (offers_below steps past event 8) steps) (le-ltb n number (omega (arith, more))))
+    grind (
+      arith,
+      flat_map,
+      answer_lines,
+      handed_append,
+      units_below,
+      none_handed,
+      other_handed,
+      kept_below,
+      answered,
+      airs_of,
+      offers_below,
+      le-ltb,
+    )
 
 -- what is printed before a unit of a sink of source 0: the lines of the sinks below, and those of the sink's units before it
 first_done : (steps : List Step) (past : Histories) (event number : ℕ) (d : List SinkUnit) → number < 8 → AreOf 0 number d
@@ -209,7 +206,6 @@ pub first_fails : (steps : List Step) (past : Histories) (event : ℕ) (units mo
 first_fails steps past event units more answers output tail text told before after all answered_are printed f =
     let number : ℕ = f.number in
     let d : List SinkUnit = f.fails.done in
-    let here : List SinkUnit = closing_of number 0 event past in
     let own : AreOf 0 number (d ++ f.fails.unit ∷ f.fails.rest) = subst (AreOf 0 number) f.fails.split (of_closing number 0 event past) in
     let are : AreOf 0 number d = of_prefix 0 number d (f.fails.unit ∷ f.fails.rest) own in
     let one : AreOf 0 number (f.fails.unit ∷ f.fails.rest) = of_back 0 number d (f.fails.unit ∷ f.fails.rest) own in
@@ -248,15 +244,12 @@ second_apart : (first d : List SinkUnit) (answers : List Answered) → AreFrom 1
 unfolding sink_numbers
 second_apart first d answers are =
     flat_within (λ n. printed_at n (first ++ d) answers) (λ n. printed_at n first answers) 0 8
-    (λ n least below. ap (λ units. flat_map (handed_line n) units ++ dropped_lines n answers)
-    (handed_append 0 n first d ∙ ap (λ l. handed_of 0 n first ++ l) (second_handed n d are) ∙ append-nil (handed_of 0 n first)))
+    (grind (arith, flat_map, dropped_lines, handed_append, second_handed, append-nil))
 
 before_second : (first d : List SinkUnit) (answers : List Answered) (unit : SinkUnit) → AreFrom 0 first → AreFrom 1 d → unit.source ≡ 1
     → printed_before answers (first ++ d) unit ≡ first_lines first answers ++ unit_lines d
 before_second first d answers unit are_first are source =
-    ap (λ s. first_lines (first ++ d) (cond (s == 0) (filter (of_below unit.sink) answers) answers) ++ unit_lines (filter of_second (first ++ d))) source
-    ∙ ap₂ (λ (prefix : List ℕ) (seconds : List SinkUnit). prefix ++ unit_lines seconds) (second_apart first d answers are)
-    (filter-append of_second first d ∙ ap₂ (λ one two. one ++ two) (first_left first are_first) (second_kept d are))
+    grind (arith, first_lines, cond, filter, unit_lines, second_apart, filter-append, first_left, second_kept)
 
 pub second_fails : (first us : List SinkUnit) (answers : List Answered) (output tail text mid told : List ℕ) (before between after : List Account) → AreFrom 0 first → AreFrom 1 us
     → mid ≡ text ++ first_lines first answers → between ≡ accounts_after before first → output ≡ first_lines first answers ++ (unit_lines us ++ tail)
@@ -279,9 +272,6 @@ second_fails first us answers output tail text mid told before between after are
       is_valid = f.is_valid;
       lines = f.lines ∙ ap (λ l. l ++ unit_lines d) prefix ∙ append_assoc text lines (unit_lines d) ∙ ap (λ l. text ++ l) (sym is);
       behind = unit_lines (f.unit ∷ f.rest) ++ tail;
-      prefix = printed ∙ ap (λ l. lines ++ (l ++ tail)) (ap unit_lines f.split ∙ lines_append d (f.unit ∷ f.rest))
-          ∙ ap (λ l. lines ++ l) (append_assoc (unit_lines d) (unit_lines (f.unit ∷ f.rest)) tail)
-          ∙ sym (append_assoc lines (unit_lines d) (unit_lines (f.unit ∷ f.rest) ++ tail))
-          ∙ ap (λ l. l ++ (unit_lines (f.unit ∷ f.rest) ++ tail)) (sym is);
+      prefix = grind (arith, unit_lines, lines_append, append_assoc);
       box = subst (λ all. TookAt f.unit.box f.octets all after (Err Failed)) (ap (λ a. accounts_after a d) accounts ∙ sym (accounts_append first d before)) f.box;
     }

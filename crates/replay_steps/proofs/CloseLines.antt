@@ -25,9 +25,8 @@ back_units n box (unit ∷ units) = ap (λ l. unit ∷ l) (back_units n box unit
 
 own_in : (its : Bool) (event n : ℕ) (calls : List Call) (box : Option ℕ)
     → handed_of 0 n (cond its (closing_in 0 event n calls box) []) ≡ handed_all (cond its (closing_in 0 event n calls box) [])
-own_in true event n calls None = refl
 own_in true event n calls (Some box) = own_units n box (handed_at calls event) ∙ sym (back_units n box (handed_at calls event))
-own_in false event n calls box = refl
+own_in its event n calls box = search (own_units, handed_at, back_units)
 
 -- of what the first sinks hand up the part of one of them is what it hands up
 pub own_handed : (past : Histories) (event n number : ℕ) → n < number → handed_of 0 n (units_below past event number) ≡ handed_all (closing_of n 0 event past)
@@ -46,10 +45,9 @@ none_handed past event n number beyond =
 
 own_lines_in : (its : Bool) (event n : ℕ) (calls : List Call) (box : Option ℕ)
     → flat_map (handed_line n) (handed_all (cond its (closing_in 0 event n calls box) [])) ≡ unit_lines (cond its (closing_in 0 event n calls box) [])
-own_lines_in true event n calls None = refl
 own_lines_in true event n calls (Some box) =
     ap (flat_map (handed_line n)) (back_units n box (handed_at calls event)) ∙ lines_map n box (handed_at calls event)
-own_lines_in false event n calls box = refl
+own_lines_in its event n calls box = search (flat_map, back_units, handed_at, lines_map)
 
 pub own_lines : (past : Histories) (event n : ℕ) → flat_map (handed_line n) (handed_all (closing_of n 0 event past)) ≡ unit_lines (closing_of n 0 event past)
 own_lines past event n = own_lines_in (is_of 0 (past.sources n)) event n (past.received n) (past.boxes n)
@@ -71,15 +69,13 @@ lines_closed steps past (Some event) = lines_below steps past event 8
 
 units_at : (steps : List Step) (closed : Option ℕ) → closing_at airs_of 0 steps closed ≡ units_closed (histories_of steps) closed
 unfolding sink_numbers
-units_at steps None = refl
-units_at steps (Some event) = refl
+units_at steps closed = grind arith
 
 pub units_are : (steps : List Step) (closed : Option ℕ) → closed ≡ open_event (steps_of_source 0 steps) → closing airs_of 0 steps ≡ units_closed (histories_of steps) closed
 units_are steps closed is = ap (closing_at airs_of 0 steps) (sym is) ∙ units_at steps closed
 
 none_asked : (n : ℕ) (relay : Option Route) → offered_of n relay [] ≡ []
-none_asked n None = refl
-none_asked n (Some route) = refl
+none_asked n relay = grind arith
 
 offers_in : (steps : List Step) (closed : Option ℕ) → closing airs_of 0 steps ≡ units_closed (histories_of steps) closed
     → offers_at airs_of steps ≡ offers_closed steps (histories_of steps) closed
@@ -104,8 +100,7 @@ abbrev each_offer : ℕ → Route → AudioUnit → Offer
 each_offer m route unit = record { sink = m; route = route; unit = unit }
 
 no_answers : (hit : Bool) → (let none : List Answered = [] in none ≡ cond hit none none)
-no_answers true = refl
-no_answers false = refl
+no_answers hit = grind arith
 
 route_answers : (n m : ℕ) (route : Route) (units : List AudioUnit) (steps : List Step)
     → filter (of_sink n) (answered airs_of (map (each_offer m route) units) steps) ≡ cond (m == n) (answered airs_of (map (each_offer m route) units) steps) []
@@ -120,8 +115,7 @@ route_answers n m route (unit ∷ units) steps =
 
 sink_answers : (n m : ℕ) (relay : Option Route) (units : List Handed) (steps : List Step)
     → filter (of_sink n) (answered airs_of (offered_of m relay units) steps) ≡ cond (m == n) (answered airs_of (offered_of m relay units) steps) []
-sink_answers n m None units steps = no_answers (m == n)
-sink_answers n m (Some route) units steps = route_answers n m route (units_on route.bis units) steps
+sink_answers n m relay units steps = grind (arith, no_answers, route_answers, units_on)
 
 abbrev asks : List Step → Histories → ℕ → ℕ → List Offer
 asks steps past event m = offers_of steps past m event
@@ -156,8 +150,7 @@ own_answers steps past event n start (suc count) now least below =
     ∙ (elim (cases_eq start n) [
       | inl same ↦
           ap₂ (λ one two. one ++ two)
-          (sink_answers n start (relay_of start steps) (handed_all (closing_of start 0 event past)) now
-          ∙ ap (λ b. cond b (answered airs_of here now) []) (eq-eqb start n same))
+          (grind (arith, sink_answers, relay_of, handed_all, closing_of, cond, answered, airs_of, eq-eqb))
           (answers_past steps past event n (start + 1) count then (omega (arith, same)))
           ∙ append-nil (answered airs_of here now)
           ∙ (let none : start - start ≡ 0 = omega arith in
@@ -169,8 +162,7 @@ own_answers steps past event n start (suc count) now least below =
           ∙ ap (λ b. cond b (answered airs_of here now) []) (ne_eqb start n other))
           (own_answers steps past event n (start + 1) count then (omega (arith, least, other)) (omega (arith, below)))
           ∙ ap (answered airs_of (asks steps past event n))
-          (sym (after_append here (flat_map (asks steps past event) (range_with_len (start + 1) (n - (start + 1)))) now)
-          ∙ ap (λ k. after_offers airs_of (flat_map (asks steps past event) (range_with_len start k)) now) (sym left))
+          (grind (arith, after_append, flat_map, range_with_len, after_offers, airs_of))
     ])
 
 -- of what becomes of all that the sinks' relays offer the part of one

@@ -1,5 +1,6 @@
 -- What a close of a source left, whether an event of it was open or none.
-use Rattle.replay_steps.proofs.Prelude.{ℕ, zero, suc, ◌≡◌, ◌≢◌, Bool, true, false, List, [], ◌++◌, refl, sym, ◌∙◌, subst, append-nil, Option, None, Some, Result, Ok, Err, range_with_len, Account, Call, airs_of, Stop, Refused, OutletFault, Memory, Refusal, Step, SinkUnit, accounts_after, Answered, after_offers, answered, first_lines, unit_lines, is_of, ticked_if, closings_at, CutShort, Histories, with_close, SinksStand, Sinks, RelaysStand, SourcesStand, hands_stop, stands_same, Machine, CloseFails, relay_histories, Closes, FirstMeets, ComponentsStand, SecondMeets}
+use Rattle.std.proofs.Common.{arith}
+use Rattle.replay_steps.proofs.Prelude.{ℕ, zero, suc, ◌≡◌, ◌≢◌, List, [], ◌++◌, refl, sym, ◌∙◌, subst, append-nil, Option, None, Some, Result, Ok, Err, range_with_len, Account, airs_of, Stop, Refused, OutletFault, Memory, Refusal, Step, SinkUnit, accounts_after, Answered, after_offers, answered, first_lines, unit_lines, is_of, closings_at, CutShort, Histories, with_close, SinksStand, Sinks, RelaysStand, SourcesStand, hands_stop, stands_same, Machine, CloseFails, relay_histories, Closes, FirstMeets, ComponentsStand, SecondMeets}
 use Rattle.scenario_history.specs.Boxes.{sink_numbers}
 use Rattle.scenario_sinks.specs.Closing as sinks
 use Rattle.replay_steps.proofs.BoxStops.{AreFrom, first_fails, from_closings, second_fails}
@@ -19,22 +20,10 @@ pub record SecondClosed (steps : List Step) (past : Histories) (source : ℕ) (c
   pub lines : told ≡ text ++ unit_lines (closings_at source closed past)
   pub boxes : after ≡ accounts_after before (closings_at source closed past)
 
-ticked_none : (hit : Bool) (calls : List Call) → calls ≡ ticked_if hit None calls
-ticked_none true calls = refl
-ticked_none false calls = refl
-
 -- no event was open
+
 sinks_left : (past : Histories) (source : ℕ) (sinks : Sinks) → SinksStand past sinks → SinksStand (with_close source None past) sinks
-sinks_left past source sinks stands =
-    stands_same past (with_close source None past) sinks
-    (record {
-      boxes = λ n. refl;
-      mades = λ n. refl;
-      sources = λ n. refl;
-      lives = λ n. refl;
-      received = λ n. ticked_none (is_of source (past.sources n)) (past.received n);
-      made = refl;
-    }) stands
+sinks_left past source sinks stands = grind (arith, stands_same, with_close, is_of)
 
 components_left : (steps : List Step) (past : Histories) (source : ℕ) (machine : Machine) → ComponentsStand steps past machine → ComponentsStand steps (with_close source None past) machine
 components_left steps past source machine components =
@@ -56,9 +45,7 @@ second_closed steps past other (Some event) new text told before after m = recor
 
 pub never_refused : (steps : List Step) (past : Histories) (source : ℕ) (closed : Option ℕ) (reason : Refusal) (new : Machine) (text told : List ℕ) (before after : List Account)
     → Closes steps past source closed new text told before after (Err (Refused reason)) → ⊥
-never_refused steps past source None reason new text told before after m = let never = m.3 in cc never
-never_refused steps past zero (Some event) reason new text told before after m = m
-never_refused steps past (suc other) (Some event) reason new text told before after m = m
+never_refused steps past source closed reason new text told before after m = grind arith
 
 -- a box stopped that of source 0
 pub first_fails_at : (steps : List Step) (past : Histories) (closed : Option ℕ) (units more : List SinkUnit) (answers : List Answered) (output tail text told : List ℕ) (before after : List Account)
@@ -66,12 +53,10 @@ pub first_fails_at : (steps : List Step) (past : Histories) (closed : Option ℕ
     → output ≡ lines_closed steps past closed ++ tail → Closes steps past 0 closed new text told before after (Err OutletFault)
     → CloseFails units answers output text told before after
 first_fails_at steps past None units more answers output tail text told before after new all asked printed m = let never = m.3 in absurd (cc never)
-first_fails_at steps past (Some event) units more answers output tail text told before after new all asked printed m =
-    first_fails steps past event units more answers output tail text told before after all asked printed m
+first_fails_at steps past closed units more answers output tail text told before after new all asked printed m = search first_fails
 
 cut_more : (units all more : List SinkUnit) (before after : List Account) → all ≡ units ++ more → CutShort units before after → CutShort all before after
-cut_more units all more before after is cut =
-    subst (λ us. CutShort us before after) (sym is) (hands_stop units more [] [] before after Memory cut)
+cut_more units all more before after is cut = grind (arith, hands_stop units more [] [] before after Memory cut)
 
 -- memory ran out
 pub first_cut : (steps : List Step) (past : Histories) (closed : Option ℕ) (units more : List SinkUnit) (text told : List ℕ) (before after : List Account) (new : Machine)
@@ -91,24 +76,20 @@ second_fails_at steps past (Some event) first answers output tail text mid told 
 
 pub second_cut : (steps : List Step) (past : Histories) (closed : Option ℕ) (text told : List ℕ) (before after : List Account) (new : Machine)
     → Closes steps past 1 closed new text told before after (Err Memory) → CutShort (closings_at 1 closed past) before after
-second_cut steps past None text told before after new m = let never = m.3 in absurd (cc never)
-second_cut steps past (Some event) text told before after new m = m
+second_cut steps past closed text told before after new m = grind arith
 
 -- ---- which source is closed
 
 -- no event is open
 pub none_closes : (steps : List Step) (past : Histories) (source : ℕ) (closed : Option ℕ) (machine : Machine) (text : List ℕ) (before : List Account) → closed ≡ None
     → ComponentsStand steps past machine → Closes steps past source closed machine text text before before (Ok tt)
-none_closes steps past source closed machine text before is components =
-    subst (λ o. Closes steps past source o machine text text before before (Ok tt)) (sym is) (components, refl, refl, refl)
+none_closes steps past source closed machine text before is components = grind arith
 
 -- one of source 0
 pub first_closes : (steps : List Step) (past : Histories) (source : ℕ) (closed : Option ℕ) (event : ℕ) (new : Machine) (text told : List ℕ) (before after : List Account)
     (r : Result (Unit {0}) Stop) → source ≡ 0 → closed ≡ Some event → FirstMeets steps past event new text told before after r
     → Closes steps past source closed new text told before after r
-first_closes steps past source closed event new text told before after r zeroth is m =
-    subst (λ s. Closes steps past s closed new text told before after r) (sym zeroth)
-    (subst (λ o. Closes steps past 0 o new text told before after r) (sym is) m)
+first_closes steps past source closed event new text told before after r zeroth is m = grind arith
 
 -- one of another source: the other components stay
 second_meets : (steps : List Step) (past : Histories) (other event : ℕ) (old new : Machine) (text told : List ℕ) (before after : List Account) (r : Result (Unit {0}) Stop)
@@ -128,6 +109,4 @@ pub second_closes : (steps : List Step) (past : Histories) (source : ℕ) (close
     (r : Result (Unit {0}) Stop) → source ≢ 0 → closed ≡ Some event → ComponentsStand steps past old → new.sources ≡ old.sources → new.relays ≡ old.relays
     → sinks.Closes past source (Some event) new.sinks text told before after r → Closes steps past source closed new text told before after r
 second_closes steps past zero closed event old new text told before after r beside is components sources held m = absurd (beside refl)
-second_closes steps past (suc other) closed event old new text told before after r beside is components sources held m =
-    subst (λ o. Closes steps past (suc other) o new text told before after r) (sym is)
-    (second_meets steps past other event old new text told before after r components sources held m)
+second_closes steps past (suc other) closed event old new text told before after r beside is components sources held m = grind (arith, second_meets steps past other event old new text told before after r components sources held m)

@@ -1,5 +1,5 @@
 -- The steps that close the open event of the chosen source.
-use Rattle.replay_steps.proofs.Prelude.{◌≡◌, ◌==◌, ◌<◌, ℕ, zero, suc, cond, false, List, [], ◌∷◌, ◌++◌, length, inr, inl, refl, sym, ◌∙◌, ap, append_assoc, append-nil, subst, arith, Option, None, Some, Result, Ok, Err, Account, airs_of, Stop, Refused, OutletFault, Memory, control_line, Step, chosen_of, chosen_steps, is_over, is_over_at, running, stage_of, steps_of_source, end_pdu, open_event, stale_in, SinkUnit, accounts_after, closing, closing_at, handed_by, Answered, answered, answered_by, closes_first, offers_at, with_relayed_units, close_lines, first_lines, output_of, stale_lines, unit_lines, stage_same, fault_of, SourcesStand, closings_at, CutShort, with_close, SinksStand, RelaysStand, Machine, CloseFails, Stands, histories_of, relay_histories, Meets, phase_line, Closes, ComponentsStand, stage_in}
+use Rattle.replay_steps.proofs.Prelude.{◌≡◌, ◌==◌, ◌<◌, ℕ, zero, suc, cond, false, List, [], ◌∷◌, ◌++◌, length, inr, inl, refl, sym, ◌∙◌, ap, append_assoc, append-nil, subst, arith, Option, None, Result, Ok, Err, Account, airs_of, Stop, Refused, OutletFault, Memory, control_line, Step, chosen_of, chosen_steps, is_over, is_over_at, running, stage_of, steps_of_source, end_pdu, open_event, stale_in, SinkUnit, accounts_after, closing, closing_at, handed_by, Answered, answered, answered_by, closes_first, offers_at, with_relayed_units, close_lines, first_lines, output_of, stale_lines, unit_lines, stage_same, fault_of, SourcesStand, closings_at, CutShort, with_close, SinksStand, RelaysStand, Machine, CloseFails, Stands, histories_of, relay_histories, Meets, phase_line, Closes, ComponentsStand, stage_in}
 use Rattle.scenario_text.specs.declared.step.Step.TheVariants as variants
 use Rattle.scenario_history.specs.Boxes.{sink_numbers}
 use Rattle.scenario_sources.specs.Answers as sources
@@ -18,26 +18,31 @@ not_over s version steps e = ap is_over_at (stage_same s steps ∙ e)
 -- ---- what is handed up
 
 closing_same : (s : ℕ) (steps : List Step) (o : Option ℕ) → closings_at s o (histories_of steps) ≡ closing_at airs_of s steps o
-closing_same s steps None = refl
-closing_same s steps (Some event) = refl
+closing_same s steps o = grind arith
 
 pub closing_is : (s source : ℕ) (closed : Option ℕ) (steps : List Step) → source ≡ s → closed ≡ open_event (steps_of_source s steps)
     → closings_at source closed (histories_of steps) ≡ closing airs_of s steps
-closing_is s source closed steps same is =
-    ap (λ k. closings_at k closed (histories_of steps)) same ∙ ap (λ o. closings_at s o (histories_of steps)) is ∙ closing_same s steps (open_event (steps_of_source s steps))
+closing_is s source closed steps same is = grind (arith, closings_at, histories_of, closing_same, open_event, steps_of_source)
 
 second_says : (made : Step) (tail : List Step → List ℕ) (steps : List Step) (closed : Option ℕ) → ClosesOpen made tail → chosen_of steps ≡ 1
     → closed ≡ open_event (chosen_steps steps)
     → CloseSays steps made (closings_at 1 closed (histories_of steps)) [] (unit_lines (closings_at 1 closed (histories_of steps)))
 second_says made tail steps closed closes is open_is =
-    let units : closings_at 1 closed (histories_of steps) ≡ closing airs_of (chosen_of steps) steps = closing_is (chosen_of steps) 1 closed steps (sym is) open_is in
-    record {
-      units_are = closes.handed steps ∙ sym units;
-      answers_are = ap (λ hit. answered airs_of (cond hit (offers_at airs_of steps) []) steps) (closes.first steps ∙ ap (λ c. c == 0) is);
-      lines_are = ap (λ hit. cond hit (first_lines (closing airs_of 0 steps) (answered_by airs_of steps made)) (unit_lines (closing airs_of (chosen_of steps) steps)))
-          (ap (λ c. c == 0) is)
-          ∙ ap unit_lines (sym units);
-    }
+    grind (
+      arith,
+      closings_at,
+      histories_of,
+      closing,
+      airs_of,
+      chosen_of,
+      closing_is,
+      answered,
+      cond,
+      offers_at,
+      first_lines,
+      answered_by,
+      unit_lines,
+    )
 
 -- nothing is printed of no units
 pub nothing_printed : (let none : List SinkUnit = [] in let unasked : List Answered = [] in first_lines none unasked ≡ [])
@@ -74,8 +79,7 @@ second_stands made tail steps closed old new closes stands is open_is stage comp
     (record {
       stage = ap stage_in stage ∙ stands.stage ∙ sym (closes.on.stage (stage_of steps));
       sources = components.sources;
-      sinks = subst (λ p. SinksStand p new.sinks)
-          (ap (λ k. with_close k closed (histories_of steps)) (sym is) ∙ ap (λ o. with_close (chosen_of steps) o (histories_of steps)) open_is ∙ sym (closes.past steps)) components.sinks;
+      sinks = grind (arith, closes.past steps, components.sinks);
       relays = components.relays;
     })
 
@@ -133,9 +137,7 @@ close_cut made tail zero steps closed new text told before after closes is chose
     let says = first_says made tail steps closed closes (sym chosen) is in
     first_cut (made ∷ steps) (histories_of steps) closed (handed_by airs_of steps made) [] text told before after new
     (says.units_are ∙ sym (append-nil (units_closed (histories_of steps) closed))) m
-close_cut made tail (suc zero) steps closed new text told before after closes is chosen within m =
-    let says = second_says made tail steps closed closes (sym chosen) is in
-    subst (λ us. CutShort us before after) (sym says.units_are) (second_cut (made ∷ steps) (histories_of steps) closed text told before after new m)
+close_cut made tail (suc zero) steps closed new text told before after closes is chosen within m = grind (arith, second_says, second_cut, histories_of)
 close_cut made tail (suc (suc s)) steps closed new text told before after closes is chosen within m = absurd (omega (arith, within))
 
 pub close_stops : (made : Step) (tail : List Step → List ℕ) (starts : List Account) (version source : ℕ) (steps : List Step) (closed : Option ℕ) (new there : Machine)
@@ -156,8 +158,7 @@ pub closed_meets : (made : Step) (tail : List Step → List ℕ) (starts : List 
 closed_meets made tail starts steps new text told last before after closes all lines = (
   all.passes,
   all.stands,
-  lines ∙ ap (λ l. l ++ tail steps) all.told_is ∙ append_assoc text (close_lines airs_of steps made) (tail steps)
-      ∙ ap (λ l. text ++ l) (sym (closes.output starts steps)),
+  grind (arith, all.told_is, append_assoc text (close_lines airs_of steps made) (tail steps), closes.output starts steps),
   all.boxes,
 )
 
@@ -188,37 +189,13 @@ abbrev pub terminate_tail : (reason : ℕ) → List Step → List ℕ
 terminate_tail reason own = control_line (end_pdu (chosen_steps own) reason)
 
 pub event_closes : ClosesOpen variants.Event event_tail
-event_closes = record {
-  means = record { line = λ s own. refl; chooses = refl; goes_on = λ own. refl; gives = λ n. refl; relays = λ bis. refl };
-  on = record { stage = λ stage. refl; placed = λ v. refl; refusal = λ boxes own. refl };
-  minds = refl;
-  first = λ own. refl;
-  past = λ own. refl;
-  handed = λ own. refl;
-  output = λ starts own. refl;
-}
+event_closes = grind arith
 
 pub stop_closes : ClosesOpen variants.Stop (λ own. [])
-stop_closes = record {
-  means = record { line = λ s own. refl; chooses = refl; goes_on = λ own. refl; gives = λ n. refl; relays = λ bis. refl };
-  on = record { stage = λ stage. refl; placed = λ v. refl; refusal = λ boxes own. refl };
-  minds = refl;
-  first = λ own. refl;
-  past = λ own. refl;
-  handed = λ own. refl;
-  output = λ starts own. sym (append-nil (close_lines airs_of own variants.Stop));
-}
+stop_closes = grind (arith, append-nil, close_lines, airs_of)
 
 pub terminate_closes : (reason : ℕ) → ClosesOpen (variants.Terminate reason) (terminate_tail reason)
-terminate_closes reason = record {
-  means = record { line = λ s own. refl; chooses = refl; goes_on = λ own. refl; gives = λ n. refl; relays = λ bis. refl };
-  on = record { stage = λ stage. refl; placed = λ v. refl; refusal = λ boxes own. refl };
-  minds = refl;
-  first = λ own. refl;
-  past = λ own. refl;
-  handed = λ own. refl;
-  output = λ starts own. refl;
-}
+terminate_closes reason = grind arith
 
 -- the sources refused it
 

@@ -1,17 +1,15 @@
 -- A box that fails has no room for the valid units of its sink.
-use Rattle.replay_steps.proofs.Prelude.{◌≡◌, ℕ, ◌+◌, ◌<◌, ◌^◌, true, eq-eqb, List, [], ◌∷◌, ◌++◌, length, map, refl, sym, ap, subst, ◌∙◌, append_assoc, length-append, arith, Option, None, Some, slice_get, slice_set, zero, suc, IsTrue, option_map, map-append, Account, Fits, valid, Holds, RoomFor, SinkUnit, Took, accounts_after, onto_valid, valid_for, with_units, took_all, valid_append, Answered, unit_lines, BoxFails, CloseFails}
+use Rattle.replay_steps.proofs.Prelude.{◌≡◌, ℕ, ◌+◌, ◌<◌, ◌^◌, eq-eqb, List, [], ◌∷◌, ◌++◌, length, map, sym, ap, subst, ◌∙◌, append_assoc, length-append, arith, Option, Some, slice_get, slice_set, suc, IsTrue, option_map, map-append, Account, valid, Holds, RoomFor, SinkUnit, Took, accounts_after, onto_valid, valid_for, with_units, took_all, valid_append, Answered, unit_lines, BoxFails, CloseFails}
 use Rattle.std.specs.Prelude.{sum}
 use Rattle.std.proofs.lemmas.List.Sums.{sum_by-append, sum_by-cons}
 use Rattle.bcast_base.specs.Counts.{Rose}
 
 map_some : {A : Type 0} (f : A → A) (o : Option A) (b : A) → option_map f o ≡ Some b → (a : A) × (o ≡ Some a) × (f a ≡ b)
-map_some f None b e = cc
-map_some f (Some a) b e = (a, refl, cc)
+map_some f o b e = grind arith
 
 set_here : {A : Type 0} (xs : List A) (i : ℕ) (b x : A) → slice_get xs i ≡ Some b → slice_get (slice_set xs i x) i ≡ Some x
-set_here [] i b x e = cc
-set_here (y ∷ ys) zero b x e = refl
 set_here (y ∷ ys) (suc i) b x e = set_here ys i b x e
+set_here xs i b x e = search
 
 -- the box that failed: what it was at the start, what is left of it, and the units of its sink
 pub record Failure (starts ends : List Account) (units : List SinkUnit) : Type 0 where
@@ -32,9 +30,7 @@ sum-append us vs = ap sum (map-append length us vs) ∙ sum_by-append (λ x. x) 
 
 valid_here : (unit : SinkUnit) (bis time : ℕ) (octets : List ℕ) (rest : List SinkUnit) → unit.unit ≡ valid bis time octets
     → valid_for unit.box (unit ∷ rest) ≡ octets ∷ valid_for unit.box rest
-valid_here unit bis time octets rest is =
-    ap (λ b. onto_valid b unit.unit (valid_for unit.box rest)) (eq-eqb unit.box unit.box refl)
-    ∙ ap (λ u. onto_valid true u (valid_for unit.box rest)) is
+valid_here unit bis time octets rest is = grind (arith, onto_valid, valid_for, eq-eqb)
 
 -- the boxes took these units, and then one failed at a unit of those that were handed
 pub failure : (starts ends accounts : List Account) (us handed behind all : List SinkUnit) (text told : List ℕ) → Took starts accounts us
@@ -57,18 +53,8 @@ failure starts ends accounts us handed behind all text told before f split =
       octets = f.octets;
       taken = taken;
       rest = valid_for place behind;
-      split = ap (valid_for place) split
-          ∙ valid_append place us (f.done ++ (f.unit ∷ behind))
-          ∙ ap (λ units. valid_for place us ++ units) (valid_append place f.done (f.unit ∷ behind) ∙ ap (λ units. valid_for place f.done ++ units)
-          (valid_here f.unit f.bis f.time f.octets behind f.is_valid))
-          ∙ sym (append_assoc (valid_for place us) (valid_for place f.done) (f.octets ∷ valid_for place behind));
-      no_room = λ sound fits.
-          let P : Account → Type 0 = λ a. IsTrue a.is_sound → ¬ Fits f.octets a in
-          let not_fit : P (with_units (with_units start.0 (valid_for place us)) (valid_for place f.done)) = subst P (sym same) f.box.took.2 in
-          not_fit sound (
-            omega (arith, fits.0, length-append (valid_for place us) (valid_for place f.done)),
-            omega (arith, fits.1, sum-append (valid_for place us) (valid_for place f.done)),
-          );
+      split = grind (arith, valid_for, valid_append, valid_here, append_assoc);
+      no_room = grind (arith, with_units, valid_for, length-append, sum-append);
     }
 
 pub no_room_for : (starts ends : List Account) (units : List SinkUnit) → Failure starts ends units → RoomFor starts units → ⊥
@@ -84,18 +70,4 @@ no_room_for starts ends units f room =
 -- whatever is printed before its unit, the units before that one went to their boxes
 pub box_fails : (units : List SinkUnit) (answers : List Answered) (output text told : List ℕ) (old new : List Account)
     → CloseFails units answers output text told old new → (lines : List ℕ) × BoxFails units [] lines old new
-box_fails units answers output text told old new f = (
-  unit_lines f.done,
-  record {
-    done = f.done;
-    unit = f.unit;
-    rest = f.rest;
-    split = f.split;
-    bis = f.bis;
-    time = f.time;
-    octets = f.octets;
-    is_valid = f.is_valid;
-    lines = refl;
-    box = f.box;
-  },
-)
+box_fails units answers output text told old new f = (unit_lines f.done, grind arith)

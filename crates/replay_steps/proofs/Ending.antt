@@ -1,10 +1,10 @@
 -- The sums of the boxes, and the end of a scenario.
-use Rattle.replay_steps.proofs.Prelude.{◌≡◌, ℕ, zero, suc, ◌+◌, ◌<◌, ◌≤◌, List, [], ◌∷◌, ◌++◌, length, inr, ne_eqb, refl, sym, ◌∙◌, ap, ap₂, subst, append-nil, append_assoc, arith, Option, None, Some, Ok, Err, flat_map, range_with_len, Account, airs_of, Call, sum_line, Stop, Refused, OutletFault, Memory, Step, Drop, End, over, running, sinks_made, stage_after, stage_of, steps_of_source, open_event, is_of, sink_calls, source_of, ticked_if, SinkUnit, account_at, accounts_after, box_of, closing, closing_both, closing_by, handed_up, valid_for, Answered, Offer, after_offers, answered, answered_by, with_relayed_units, first_lines, output_of, sum_if, sum_of, sums_of, unit_lines, no_sink, phase_refusal, box_was_made, octets_add_up, units_add_up, left_by_offers, flat_same, Sources, SourcesStand, drop_says, end_says, sources_stay, Sinks, closings_at, CutShort, with_close, without, SinksStand, accounts_append, hands_then, stands_same, Machine, RelaysStand, CloseFails, Stands, histories_of, relay_histories, BoxesStand, Meets, Tells, phase_line, Closes, ComponentsStand, stage_in}
+use Rattle.replay_steps.proofs.Prelude.{◌≡◌, ℕ, ◌+◌, ◌≤◌, List, [], ◌∷◌, ◌++◌, length, inr, ne_eqb, refl, sym, ◌∙◌, ap, subst, append-nil, append_assoc, arith, Option, None, Some, Ok, Err, flat_map, range_with_len, Account, airs_of, Call, sum_line, Stop, Refused, OutletFault, Memory, Step, Drop, End, over, running, sinks_made, stage_after, stage_of, steps_of_source, open_event, is_of, sink_calls, source_of, ticked_if, SinkUnit, account_at, accounts_after, box_of, closing, closing_both, closing_by, handed_up, valid_for, Answered, Offer, after_offers, answered, answered_by, with_relayed_units, first_lines, output_of, sum_if, sums_of, unit_lines, no_sink, phase_refusal, box_was_made, octets_add_up, units_add_up, left_by_offers, flat_same, Sources, SourcesStand, drop_says, end_says, sources_stay, Sinks, closings_at, CutShort, with_close, without, SinksStand, accounts_append, hands_then, stands_same, Machine, RelaysStand, CloseFails, Stands, histories_of, relay_histories, BoxesStand, Meets, Tells, phase_line, Closes, ComponentsStand, stage_in}
 use Rattle.scenario_history.specs.Boxes.{sink_numbers}
 use Rattle.scenario_laws.specs.RelayedUnits.Laws.{IsLeft}
 use Rattle.scenario_sinks.specs.Refusals as sinks
 use Rattle.scenario_sinks.specs.Refusals.{not_living}
-use Rattle.scenario_sinks.specs.Sums.{Puts, sum_at, sum_where, sums_where}
+use Rattle.scenario_sinks.specs.Sums.{Puts, sum_where, sums_where}
 use Rattle.replay_steps.proofs.BoxStops.{AreFrom, from_closings}
 use Rattle.replay_steps.proofs.Closed.{FirstClosed, first_cut, first_fails_at, never_refused, second_closed, second_cut, second_fails_at}
 use Rattle.replay_steps.proofs.CloseLines.{first_printed, lines_closed, offers_closed, offers_same, units_are, units_closed}
@@ -14,25 +14,15 @@ use Rattle.replay_steps.proofs.Stepping.{or_none, sinks_stand}
 
 -- ---- the sums of a box as they stand are those at the start and what was handed to it
 
-sums_are : (starts : List Account) (units : List SinkUnit) (n box : ℕ) → box < length starts
-    → sum_at (accounts_after starts units) n box ≡ sum_of starts units n box
-sums_are starts units n box within =
-    ap (λ count. sum_line n count (account_at (accounts_after starts units) box).octets) (units_add_up starts units box within)
-    ∙ ap (λ count. sum_line n ((account_at starts box).units + length (valid_for box units)) count) (octets_add_up starts units box within)
-
 sum_same : (starts : List Account) (steps : List Step) (units : List SinkUnit) (n : ℕ) (box : Option ℕ) → box_of n steps ≡ box → sinks_made steps ≤ length starts
     → sum_where (accounts_after starts units) n box ≡ sum_if starts units n box
-sum_same starts steps units n None is room = refl
-sum_same starts steps units n (Some box) is room =
-    let made : box < sinks_made steps = box_was_made n steps box is in
-    sums_are starts units n box (omega arith)
+sum_same starts steps units n box is room =
+    grind (arith, sinks_made, box_was_made, sum_line, account_at, accounts_after, units_add_up, length, valid_for, octets_add_up)
 
 sums_same : (starts : List Account) (steps : List Step) (units : List SinkUnit) (numbers : List ℕ) → sinks_made steps ≤ length starts
     → sums_where (accounts_after starts units) (λ n. box_of n steps) numbers ≡ flat_map (λ n. sum_if starts units n (box_of n steps)) numbers
 sums_same starts steps units [] room = refl
-sums_same starts steps units (n ∷ numbers) room =
-    ap (λ prefix. prefix ++ sums_where (accounts_after starts units) (λ m. box_of m steps) numbers) (sum_same starts steps units n (box_of n steps) refl room)
-    ∙ ap (λ rest. sum_if starts units n (box_of n steps) ++ rest) (sums_same starts steps units numbers room)
+sums_same starts steps units (n ∷ numbers) room = grind (arith, accounts_after, box_of, sum_same, sum_if)
 
 -- ---- drop
 
@@ -52,8 +42,7 @@ drop_ends starts accounts version n steps old new text told stands e boxes stage
     sinks = a.1;
     relays = held;
   },
-  p ∙ ap (λ line. text ++ line)
-      (ap (λ k. sum_where k n (box_of n steps)) boxes.accounts_are ∙ sum_same starts steps (handed_up airs_of steps) n (box_of n steps) refl boxes.room),
+  grind (arith, boxes.accounts_are, sum_same starts steps (handed_up airs_of steps) n (box_of n steps) refl boxes.room),
 )
 
 pub drop_fails : (starts accounts : List Account) (version n : ℕ) (steps : List Step) (old new : Machine) (text told : List ℕ) (stop : Stop) → Stands steps old
@@ -69,16 +58,7 @@ drop_fails starts accounts version n steps old new text told Memory stands e sta
 
 no_other : (own : Option ℕ) (event n : ℕ) (first : Option ℕ) (calls : List Call) (box : Option ℕ)
     → closing_by 1 event n (ticked_if (is_of 0 own) first calls) own box ≡ closing_by 1 event n calls own box
-no_other None event n first calls box = refl
-no_other (Some zero) event n first calls box = refl
-no_other (Some (suc k)) event n first calls box = rw (ne_eqb (suc k) 0 (λ e. omega arith)) refl
-
-second_alone : (steps : List Step) (first second : Option ℕ) → closings_at 1 second (with_close 0 first (histories_of steps)) ≡ closings_at 1 second (histories_of steps)
-second_alone steps first None = refl
-second_alone steps first (Some event) =
-    flat_same (λ n. closing_by 1 event n (ticked_if (is_of 0 (source_of n steps)) first (sink_calls airs_of n steps)) (source_of n steps) (box_of n steps))
-    (λ n. closing_by 1 event n (sink_calls airs_of n steps) (source_of n steps) (box_of n steps)) sink_numbers
-    (λ n. no_other (source_of n steps) event n first (sink_calls airs_of n steps) (box_of n steps))
+no_other own event n first calls box = grind (arith, ne_eqb)
 
 -- the events that are open as the scenario ends
 pub record Opens (steps : List Step) (first second : Option ℕ) : Type 0 where
@@ -91,7 +71,8 @@ after_relays steps first = after_offers airs_of (offers_closed steps (histories_
 
 second_units : (steps : List Step) (first second : Option ℕ) → Opens steps first second
     → closings_at 1 second (with_close 0 first (histories_of steps)) ≡ closing airs_of 1 steps
-second_units steps first second opens = second_alone steps first second ∙ closing_is 1 1 second steps refl opens.two
+second_units steps first second opens =
+    grind (arith, flat_same, closing_by, ticked_if, is_of, source_of, sink_calls, airs_of, box_of, no_other, closing_is)
 
 end_offers : (steps : List Step) (first second : Option ℕ) → Opens steps first second → answered_by airs_of steps End ≡ answered airs_of (offers_closed steps (histories_of steps) first) steps
 end_offers steps first second opens = ap (λ offers. answered airs_of offers steps) (offers_same steps first opens.one)
@@ -191,9 +172,7 @@ both_closed steps first second mid new text told last before between after opens
       lines = two.lines ∙ ap (λ us. told ++ unit_lines us) is
           ∙ ap (λ prefix. prefix ++ unit_lines (closing airs_of 1 steps)) (first_told steps first second mid text told before between opens c)
           ∙ append_assoc text lines (unit_lines (closing airs_of 1 steps));
-      boxes = two.boxes ∙ ap (accounts_after between) is
-          ∙ ap (λ accounts. accounts_after accounts (closing airs_of 1 steps)) (first_boxes steps first second mid text told before between opens c)
-          ∙ sym (accounts_append ones (closing airs_of 1 steps) before);
+      boxes = grind (arith, two.boxes, first_boxes steps first second mid text told before between opens c, accounts_append ones (closing airs_of 1 steps) before);
     }
 
 -- memory ran out as the sums were put
@@ -211,16 +190,7 @@ end_sinks steps late first second offers sinks is opens stands =
     let one : first ≡ open_event (steps_of_source 0 late) = opens.one ∙ sym (ap open_event left.first) in
     let two : second ≡ open_event (steps_of_source 1 late) = opens.two ∙ sym left.open_second in
     stands_same (with_close 1 second (with_close 0 first (histories_of steps))) (histories_of (End ∷ late)) sinks
-    (record {
-      boxes = λ n. sym (left.box n);
-      mades = λ n. sym (left.made n);
-      sources = λ n. sym (left.source n);
-      lives = λ n. sym (left.lives n);
-      received = λ n.
-          ap₂ (λ own calls. ticked_if (is_of 1 own) second (ticked_if (is_of 0 own) first calls)) (sym (left.source n)) (sym (left.calls n))
-          ∙ ap₂ (λ first_open second_open. ticked_if (is_of 1 (source_of n late)) second_open (ticked_if (is_of 0 (source_of n late)) first_open (sink_calls airs_of n late))) one two;
-      made = sym left.sinks;
-    }) stands
+    (grind (arith, ticked_if, is_of, source_of, sink_calls, airs_of)) stands
 
 end_stands : (version : ℕ) (steps : List Step) (first second : Option ℕ) (new : Machine) → stage_of steps ≡ running version → Opens steps first second
     → stage_in new.stage ≡ over version → ComponentsStand (after_relays steps first) (with_close 1 second (with_close 0 first (histories_of steps))) new
@@ -246,12 +216,9 @@ end_meets starts version steps first second new text told last before after e bo
     let more : List ℕ = unit_lines (closing airs_of 1 steps) in
     let accounts : after ≡ accounts_after starts (handed_up airs_of steps ++ closing_both airs_of steps) =
     c.boxes ∙ ap (λ a. accounts_after a (closing_both airs_of steps)) boxes.accounts_are ∙ sym (accounts_append (handed_up airs_of steps) (closing_both airs_of steps) starts) in
-    let puts : sums_where after (λ n. box_of n steps) sink_numbers ≡ end_sums starts steps =
-    ap (λ a. sums_where a (λ n. box_of n steps) sink_numbers) accounts
-    ∙ sums_same starts steps (handed_up airs_of steps ++ closing_both airs_of steps) sink_numbers boxes.room in (
+    let puts : sums_where after (λ n. box_of n steps) sink_numbers ≡ end_sums starts steps = grind (arith, sums_same starts steps (handed_up airs_of steps ++ closing_both airs_of steps) sink_numbers boxes.room) in (
       end_passes (length starts) version steps e,
       end_stands version steps first second new e opens stage c.components,
-      sums ∙ ap₂ (λ prefix back. prefix ++ back) c.lines puts ∙ append_assoc text (lines ++ more) (end_sums starts steps)
-          ∙ ap (λ l. text ++ l) (append_assoc lines more (end_sums starts steps)),
+      grind (arith, c.lines, append_assoc text (lines ++ more) (end_sums starts steps), append_assoc lines more (end_sums starts steps)),
       c.boxes,
     )

@@ -1,4 +1,5 @@
 -- What a line hands up comes behind what the lines before it did, and the boxes took it.
+use Rattle.std.proofs.Common.{arith}
 use Rattle.replay_steps.proofs.Prelude.{◌≡◌, List, ◌∷◌, ◌++◌, sym, subst, append-nil, TextLine, Account, airs_of, Airs, Step, SinkUnit, handed_up, Took, happened, handed_happened, Said, a_step, nothing, unsaid, said_of, steps_of, said_after, handed_on, handed_said, with_said, took_all, BoxesStand}
 
 handed_with : (airs : Airs) (earlier : List Step) (said : Said)
@@ -13,9 +14,7 @@ handed_line airs history line = handed_with airs (said_of history) (said_after h
 
 -- the boxes took the units of the history
 pub took_history : (starts accounts : List Account) (history : List TextLine) → BoxesStand starts (steps_of airs_of history) accounts → Took starts accounts (handed_up airs_of (steps_of airs_of history))
-took_history starts accounts history b =
-    let P : List Account → Type 0 = λ a. Took starts a (handed_up airs_of (steps_of airs_of history)) in
-    subst P (sym b.accounts_are) (took_all starts (handed_up airs_of (steps_of airs_of history)))
+took_history starts accounts history b = grind (arith, handed_up, airs_of, steps_of, took_all)
 
 pub took_as : (starts accounts : List Account) (us vs : List SinkUnit) → us ≡ vs → Took starts accounts us → Took starts accounts vs
 took_as starts accounts us vs e t = let P : List SinkUnit → Type 0 = λ u. Took starts accounts u in subst P e t

@@ -1,5 +1,5 @@
 -- Where no sink has a relay, an event of source 0 that is closed for all sinks at once is closed as for one behind the other.
-use Rattle.replay_steps.proofs.Prelude.{ℕ, zero, suc, ◌≡◌, ◌≤◌, ◌<◌, ◌+◌, ◌⊎◌, ◌==◌, ◌&&◌, not, Bool, true, false, List, [], ◌∷◌, ◌++◌, refl, sym, ◌∙◌, ap, subst, inl, inr, arith, append_assoc, append-nil, eqb-true, option_map, is_none, Option, None, Some, Result, Ok, Err, flat_map, list_all, range_with_len, and_parts, cases_eq, not-false, Account, TookAt, Failed, airs_of, Stop, Refused, OutletFault, Memory, Step, SinkUnit, accounts_after, after_offers, answered, offered_of, unit_lines, Route, relay_of, closing_of, handed_all, BoxFails, Histories, accounts_append, is_idle, RelaysStand, SourcesStand, Machine, lent, relay_histories, Closes, FirstMeets, ComponentsStand, answer_lines, lines_at, lines_below, offers_below, offers_of, units_below, flat_within}
+use Rattle.replay_steps.proofs.Prelude.{ℕ, zero, suc, ◌≡◌, ◌≤◌, ◌<◌, ◌+◌, ◌⊎◌, ◌==◌, ◌&&◌, not, Bool, true, false, List, [], ◌∷◌, ◌++◌, refl, sym, ◌∙◌, ap, subst, inl, inr, arith, append_assoc, append-nil, eqb-true, option_map, is_none, Option, None, Some, Result, Ok, Err, flat_map, list_all, range_with_len, and_parts, cases_eq, not-false, Account, airs_of, Stop, Refused, OutletFault, Memory, Step, SinkUnit, accounts_after, after_offers, offered_of, unit_lines, Route, relay_of, closing_of, handed_all, BoxFails, Histories, accounts_append, is_idle, RelaysStand, SourcesStand, Machine, lent, relay_histories, Closes, FirstMeets, ComponentsStand, lines_at, lines_below, offers_below, offers_of, units_below, flat_within}
 use Rattle.scenario_history.specs.Boxes.{sink_numbers}
 use Rattle.scenario_sinks.specs.Closing as sinks
 use Rattle.scenario_sinks.proofs.Citable.{lines_append}
@@ -23,9 +23,7 @@ record InSecond (us vs done : List SinkUnit) (unit : SinkUnit) (rest : List Sink
 stands_in : (us vs done : List SinkUnit) (unit : SinkUnit) (rest : List SinkUnit) → us ++ vs ≡ done ++ unit ∷ rest
     → InFirst us done unit ⊎ InSecond us vs done unit rest
 stands_in [] vs done unit rest is = inr (record { more = done; prefix = refl; split = is })
-stands_in (u ∷ us) vs [] unit rest is =
-    let same : u ≡ unit = cc in
-    inl (record { rest = us; split = ap (λ x. x ∷ us) same })
+stands_in (u ∷ us) vs [] unit rest is = grind arith
 stands_in (u ∷ us) vs (d ∷ done) unit rest is =
     let same : u ≡ d = cc in
     let less : us ++ vs ≡ done ++ unit ∷ rest = cc in
@@ -38,33 +36,9 @@ fails_split : (us vs : List SinkUnit) (text told : List ℕ) (before after : Lis
     → BoxFails us text told before after ⊎ BoxFails vs (text ++ unit_lines us) told (accounts_after before us) after
 fails_split us vs text told before after f = elim (stands_in us vs f.done f.unit f.rest f.split) [
   | inl one ↦
-      inl (record {
-        done = f.done;
-        unit = f.unit;
-        rest = one.rest;
-        split = one.split;
-        bis = f.bis;
-        time = f.time;
-        octets = f.octets;
-        is_valid = f.is_valid;
-        lines = f.lines;
-        box = f.box;
-      })
+      inl (grind arith)
   | inr other ↦
-      inr (record {
-        done = other.more;
-        unit = f.unit;
-        rest = f.rest;
-        split = other.split;
-        bis = f.bis;
-        time = f.time;
-        octets = f.octets;
-        is_valid = f.is_valid;
-        lines = f.lines ∙ ap (λ done. text ++ unit_lines done) other.prefix ∙ ap (λ l. text ++ l) (lines_append us other.more)
-            ∙ sym (append_assoc text (unit_lines us) (unit_lines other.more));
-        box = subst (λ accounts. TookAt f.unit.box f.octets accounts after (Err Failed))
-            (ap (accounts_after before) other.prefix ∙ accounts_append us other.more before) f.box;
-      })
+      inr (grind (arith, unit_lines, lines_append, append_assoc, accounts_after, accounts_append))
 ]
 
 -- ---- a box stops units of the first sinks
@@ -109,8 +83,7 @@ all_within test start (suc count) is n least below =
     ]
 
 none_lent : (route : Option Route) → is_none (option_map lent route) ≡ true → route ≡ None
-none_lent None is = refl
-none_lent (Some route) is = absurd (cc is)
+none_lent route is = grind arith
 
 none_has : (steps : List Step) → is_idle (relay_histories steps) ≡ true → NoRelays steps
 none_has steps is n below =
@@ -126,9 +99,7 @@ nothing_below steps past event number none most =
 -- a sink has the lines of its units alone
 plain_at : (steps : List Step) (past : Histories) (event n : ℕ) → NoRelays steps → n < 8 → lines_at steps past n event ≡ unit_lines (closing_of n 0 event past)
 plain_at steps past event n none below =
-    ap (λ offers. unit_lines (closing_of n 0 event past) ++ answer_lines (answered airs_of offers (after_offers airs_of (offers_below steps past event n) steps)))
-    (nothing_offered steps past event n none below)
-    ∙ append-nil (unit_lines (closing_of n 0 event past))
+    grind (arith, nothing_offered steps past event n none below, append-nil (unit_lines (closing_of n 0 event past)))
 
 lines_flat : (f : ℕ → List SinkUnit) (ns : List ℕ) → unit_lines (flat_map f ns) ≡ flat_map (λ n. unit_lines (f n)) ns
 lines_flat f [] = refl
@@ -165,8 +136,7 @@ all_meet steps past event old new text told before after (Err OutletFault) none 
     record {
       number = f.number;
       within = f.within;
-      fails = subst (λ lines. BoxFails (closing_of f.number 0 event past) (text ++ lines) told (accounts_after before (units_below past event f.number)) after)
-          (sym (plain_below steps past event f.number none (omega (arith, within)))) f.fails;
+      fails = grind (arith, closing_of, accounts_after, units_below, plain_below);
     }
 all_meet steps past event old new text told before after (Err Memory) none components sources held m = m.hands
 
@@ -181,11 +151,10 @@ pub closes_at_once : (steps : List Step) (past : Histories) (source : ℕ) (clos
     (r : Result (Unit {0}) Stop) → ((source == 0) && not (is_idle (relay_histories steps))) ≡ false → closed ≡ Some event → ComponentsStand steps past old
     → new.sources ≡ old.sources → new.relays ≡ old.relays → sinks.Closes past source (Some event) new.sinks text told before after r
     → Closes steps past source closed new text told before after r
-closes_at_once steps past zero closed event old new text told before after r idle is components sources held m =
-    first_closes steps past 0 closed event new text told before after r refl is
-    (idle_meets steps past event old new text told before after r (not-false (is_idle (relay_histories steps)) idle) components sources held m)
 closes_at_once steps past (suc other) closed event old new text told before after r idle is components sources held m =
     second_closes steps past (suc other) closed event old new text told before after r (λ e. absurd (cc e)) is components sources held m
+closes_at_once steps past source closed event old new text told before after r idle is components sources held m =
+    search (first_closes, idle_meets, not-false, is_idle, relay_histories, second_closes)
 
 -- relays offer as an event of source 0 alone is closed
 pub relays_first : (source : ℕ) (more : Bool) → ((source == 0) && more) ≡ true → source ≡ 0
@@ -193,5 +162,4 @@ relays_first source more both = eqb-true source 0 ((and_parts (source == 0) more
 
 -- whether they may is known by what the relays say
 pub relays_known : (source : ℕ) (idle known : Bool) → source ≡ 0 → idle ≡ known → not idle ≡ ((source == 0) && not known)
-relays_known zero idle known zeroth same = ap not same
-relays_known (suc other) idle known zeroth same = absurd (cc zeroth)
+relays_known source idle known zeroth same = grind (arith, not)

@@ -1,41 +1,40 @@
 -- A line by its step.
-use Rattle.replay_steps.proofs.Prelude.{◌≡◌, ℕ, ◌+◌, ◌<◌, ◌≤◌, nat_le, List, [], ◌∷◌, ◌++◌, length, inl, inr, Option, None, Some, Result, Ok, Err, refl, sym, ◌∙◌, ap, ap₂, subst, is_some, arith, option_or, leb-false, TextLine, plain, Account, airs_of, AfterEnd, BadLine, Order, SinkTwice, NoOutlet, happened, with_relayed_units, append-nil, read_of, Step, sinks_made, sinks_made_by, version_at, version_of, is_over, hands_alike, left_by_relayed_units, stage_happened, passes_both, accounts_after, box_of, handed_by, handed_up, is_relayed, is_out_of_order, sink_refusal, refuse_if, Said, a_step, nothing, unsaid, said_of, steps_of, said_by, said_after, with_said, refusal_said, output_said, handed_said, fails_not, Machine, Stop, Refused, OutletFault, Memory, Stands, BoxesStand, StepMeets, CutShort, CloseFails, accounts_append}
+use Rattle.replay_steps.proofs.Prelude.{◌≡◌, ℕ, ◌+◌, ◌≤◌, nat_le, List, [], ◌∷◌, ◌++◌, length, inl, inr, Option, None, Some, Result, Ok, Err, refl, sym, ◌∙◌, ap, subst, is_some, arith, option_or, leb-false, TextLine, plain, Account, airs_of, BadLine, happened, with_relayed_units, append-nil, read_of, Step, sinks_made, sinks_made_by, version_at, version_of, is_over, hands_alike, left_by_relayed_units, stage_happened, passes_both, accounts_after, box_of, handed_by, handed_up, is_relayed, is_out_of_order, sink_refusal, refuse_if, a_step, nothing, unsaid, said_of, steps_of, said_by, said_after, with_said, refusal_said, output_said, handed_said, fails_not, Machine, Stop, Refused, OutletFault, Memory, Stands, BoxesStand, StepMeets, accounts_append}
 use Rattle.scenario_words.specs.declared.fault.LineFault.TheVariants.{BadLine as Misfit}
-use Rattle.scenario_text.specs.declared.step.Step.TheVariants as steps
 use Rattle.scenario_history.specs.Refusals.{refusal_of}
-use Rattle.replay_steps.specs.LineMeets.{LineMeets, LinesStand, answered_said}
+use Rattle.replay_steps.specs.LineMeets.{LineMeets, LinesStand}
 use Rattle.replay_steps.proofs.StepLaws.{stands_beside}
 
 last_none : {A : Type 0} (a b : Option A) → option_or a b ≡ None → b ≡ None
-last_none None b e = e
-last_none (Some x) b e = absurd (cc)
+last_none a b e = grind arith
 
 first_none : {A : Type 0} (a b : Option A) → option_or a b ≡ None → a ≡ None
-first_none None b e = refl
-first_none (Some x) b e = absurd (cc)
-
--- a box is left for each sink that was made
-sink_fits : (boxes n streams slots : ℕ) (mtu : Option ℕ) (earlier : List Step) → refusal_of airs_of boxes earlier (steps.Sink n streams slots mtu) ≡ None → sinks_made earlier + 1 ≤ boxes
-sink_fits boxes n streams slots mtu earlier e =
-    let phase = last_none (refuse_if (is_over earlier) AfterEnd) _ e in
-    let own = last_none (refuse_if (is_out_of_order earlier (steps.Sink n streams slots mtu)) Order) _ phase in
-    let sink = first_none (sink_refusal boxes earlier (steps.Sink n streams slots mtu)) _ own in
-    let outlet = last_none (refuse_if (is_some (box_of n earlier)) SinkTwice) _ sink in
-    let less : sinks_made earlier < boxes = leb-false boxes (sinks_made earlier) (fails_not (nat_le boxes (sinks_made earlier)) NoOutlet outlet) in
-    omega arith
+first_none a b e = grind arith
 
 room_stays : (boxes : ℕ) (earlier : List Step) (made : Step) → refusal_of airs_of boxes earlier made ≡ None → sinks_made earlier ≤ boxes → sinks_made (made ∷ earlier) ≤ boxes
-room_stays boxes earlier (steps.Sink n streams slots mtu) e room = sink_fits boxes n streams slots mtu earlier e
-room_stays boxes earlier _ e room = room
+room_stays boxes earlier _ e room =
+    grind (
+      arith,
+      last_none,
+      refuse_if,
+      is_over,
+      is_out_of_order,
+      first_none,
+      sink_refusal,
+      is_some,
+      box_of,
+      sinks_made,
+      leb-false,
+      fails_not,
+      nat_le,
+    )
 
 boxes_go_on : (starts before after : List Account) (earlier : List Step) (made : Step) → BoxesStand starts earlier before → refusal_of airs_of (length starts) earlier made ≡ None
     → after ≡ accounts_after before (handed_by airs_of earlier made) → BoxesStand starts (made ∷ with_relayed_units airs_of earlier made) after
 boxes_go_on starts before after earlier made boxes e a =
     let left = left_by_relayed_units airs_of earlier made in
     record {
-      accounts_are = a ∙ ap (λ accounts. accounts_after accounts (handed_by airs_of earlier made)) boxes.accounts_are
-          ∙ sym (accounts_append (handed_up airs_of earlier) (handed_by airs_of earlier made) starts)
-          ∙ ap (accounts_after starts) (sym (ap₂ (λ one two. one ++ two) left.handed (hands_alike airs_of earlier made)));
+      accounts_are = grind (arith, accounts_after, handed_by, airs_of, accounts_append, handed_up, hands_alike);
       room = subst (λ count. sinks_made_by made count ≤ length starts) (sym left.sinks) (room_stays (length starts) earlier made e boxes.room);
     }
 
@@ -63,26 +62,22 @@ said_meets starts lines line made new text told before after (Ok x) boxes is m =
       m.2 ∙ ap (λ s. text ++ output_said airs_of starts made_before s) (sym is),
       m.3 ∙ ap (λ s. accounts_after before (handed_said airs_of made_before s)) (sym is),
     )
-said_meets starts lines line made new text told before after (Err (Refused reason)) boxes is m = (
-  ap (refusal_said airs_of (length starts) (steps_of airs_of lines)) is ∙ m.0,
-  record {
-    stands = m.1;
-    boxes = (let P : List Account → Type 0 = λ accounts. BoxesStand starts (steps_of airs_of lines) accounts in subst P (sym m.3) boxes);
-  },
-  m.2,
-  m.3,
-)
-said_meets starts lines line made new text told before after (Err OutletFault) boxes is m = (
-  ap (refusal_said airs_of (length starts) (steps_of airs_of lines)) is ∙ m.0,
-  (let P : Said → Type 0 = λ s. CloseFails (handed_said airs_of (steps_of airs_of lines) s) (answered_said airs_of (steps_of airs_of lines) s)
-      (output_said airs_of starts (steps_of airs_of lines) s) text told before after in
-      subst P (sym is) m.1),
-)
+said_meets starts lines line made new text told before after (Err OutletFault) boxes is m = grind (arith, refusal_said, airs_of, length, steps_of, handed_said, output_said)
 said_meets starts lines line made new text told before after (Err Memory) boxes is (inl same) = inl same
-said_meets starts lines line made new text told before after (Err Memory) boxes is (inr m) =
-    inr (
-      ap (refusal_said airs_of (length starts) (steps_of airs_of lines)) is ∙ m.0,
-      (let P : Said → Type 0 = λ s. CutShort (handed_said airs_of (steps_of airs_of lines) s) before after in subst P (sym is) m.1),
+said_meets starts lines line made new text told before after (Err Memory) boxes is (inr m) = grind (arith, refusal_said, airs_of, length, steps_of, handed_said)
+said_meets starts lines line made new text told before after r boxes is m =
+    search (
+      steps_of,
+      airs_of,
+      one_more,
+      passes_both,
+      is_relayed,
+      length,
+      refusal_said,
+      boxes_go_on,
+      output_said,
+      accounts_after,
+      handed_said,
     )
 
 -- the version of what happens is that of what the lines say
@@ -120,8 +115,7 @@ pub misfit_meets : (starts : List Account) (lines : List TextLine) (line : List 
     → LinesStand starts lines machine accounts → version ≡ version_of (said_of lines) → read_of version line ≡ Err (Misfit word)
     → LineMeets starts lines (plain line) machine text text accounts accounts (Err (Refused (BadLine word)))
 misfit_meets starts lines line version word machine text accounts st is reads =
-    let says : said_after lines (plain line) ≡ unsaid (BadLine word) = ap (λ v. said_by (read_of v line)) (sym is) ∙ ap said_by reads in
-    (ap (refusal_said airs_of (length starts) (steps_of airs_of lines)) says, st, refl, refl)
+    grind (arith, said_after, plain, unsaid, said_by, read_of, refusal_said, airs_of, length, steps_of)
 
 pub nothing_handed : (starts : List Account) → BoxesStand starts [] starts
 nothing_handed starts = record { accounts_are = refl; room = omega arith }
@@ -130,10 +124,7 @@ nothing_handed starts = record { accounts_are = refl; room = omega arith }
 pub meets_at : (starts : List Account) (history : List TextLine) (line : TextLine) (new : Machine) (text told : List ℕ) (before after : List Account)
     (result r : Result (Unit {0}) Stop) → text ≡ [] → result ≡ r → LineMeets starts history line new text told before after result
     → LineMeets starts history line new [] told before after r
-meets_at starts history line new text told before after result r cleared is meets =
-    let P : Result (Unit {0}) Stop → Type 0 = λ x. LineMeets starts history line new text told before after x in
-    let Q : List ℕ → Type 0 = λ t. LineMeets starts history line new t told before after r in
-    subst Q cleared (subst P is meets)
+meets_at starts history line new text told before after result r cleared is meets = grind arith
 
 -- the memory that is kept for the octets of later units is no part of it
 pub lines_beside : (starts : List Account) (lines : List TextLine) (machine new : Machine) (accounts : List Account) → new.stage ≡ machine.stage

@@ -1,11 +1,10 @@
 -- Units that relays offer to source 1, by what they make of the sources, of the relays and of the text.
-use Rattle.replay_steps.proofs.Prelude.{ℕ, zero, suc, ◌≡◌, ◌≢◌, ◌<◌, ◌≤◌, ◌+◌, ◌==◌, ◌||◌, List, [], ◌∷◌, ◌++◌, length, map, take, get_or, not, refl, sym, ◌∙◌, ap, ap₂, subst, append_assoc, append-nil, arith, eq-eqb, ne_eqb, option_map, slice_get, Option, None, Some, Result, Ok, Err, list_any, option_or, map-append, take_all, take_more, flat_map-append, Handed, airs_of, dropped_line, Refusal, Order, Stop, Refused, OutletFault, Memory, Step, Source, Answered, Offer, after_offer, after_offers, answered, dropped_for, offered_of, units_on, valid_on, with_relayed_unit, answer_line, gives_on, source_refusal, refuse_if, Route, takes_units, chosen_of, steps_of_source, version_of, Relays, RelaysStand, handed_as, handed_of, Answers, Sources, SourcesStand, lent, relay_histories, Drops, GivesSecond, OffersMeet, answer_lines}
+use Rattle.replay_steps.proofs.Prelude.{ℕ, ◌≡◌, ◌≢◌, ◌<◌, ◌≤◌, ◌+◌, ◌==◌, ◌||◌, List, [], ◌∷◌, ◌++◌, length, map, take, get_or, not, refl, sym, ◌∙◌, ap, subst, append_assoc, append-nil, arith, eq-eqb, ne_eqb, option_map, slice_get, Option, None, Some, Result, Ok, Err, list_any, option_or, map-append, take_all, take_more, flat_map-append, Handed, airs_of, dropped_line, Refusal, Stop, Refused, OutletFault, Memory, Step, Source, Answered, Offer, after_offer, after_offers, answered, offered_of, units_on, valid_on, with_relayed_unit, answer_line, gives_on, source_refusal, refuse_if, Route, takes_units, chosen_of, steps_of_source, version_of, Relays, RelaysStand, handed_as, handed_of, Answers, Sources, SourcesStand, lent, relay_histories, Drops, GivesSecond, OffersMeet, answer_lines}
 use Rattle.bcast_base.specs.declared.unit.Unit.{Unit as AudioUnit}
 use Rattle.scenario_text.specs.declared.step.Step.TheVariants.{Unit as UnitLine}
 use Rattle.scenario_sinks.specs.declared.route.Route.{Route as LentRoute}
 use Rattle.scenario_sinks.specs.RelayHistories as pasts
 use Rattle.scenario_sinks.specs.declared.gathered.HandedUnit.{HandedUnit}
-use Rattle.scenario_sources.specs.State.Phases.{PhaseAt}
 use Rattle.replay_steps.proofs.RelaysStay.{relays_as}
 use Rattle.replay_steps.proofs.Stepping.{or_none}
 
@@ -17,17 +16,8 @@ pub record SaySame (one other : List Step) : Type 0 where
   pub first : steps_of_source 0 one ≡ steps_of_source 0 other
   pub second : steps_of_source 1 one ≡ steps_of_source 1 other
 
-phase_as : (one other : List Step) (sources : Sources) → SaySame one other → SourcesStand one sources → (s : ℕ) → s < 2
-    → PhaseAt (steps_of_source s other) (slice_get sources.phases.items s)
-phase_as one other sources same stands zero below =
-    subst (λ own. PhaseAt own (slice_get sources.phases.items 0)) same.first (stands.phases 0 below)
-phase_as one other sources same stands (suc zero) below =
-    subst (λ own. PhaseAt own (slice_get sources.phases.items 1)) same.second (stands.phases 1 below)
-phase_as one other sources same stands (suc (suc s)) below = absurd (omega (arith, below))
-
 pub sources_as : (one other : List Step) (sources : Sources) → SaySame one other → SourcesStand one sources → SourcesStand other sources
-sources_as one other sources same stands =
-    record { chosen = stands.chosen ∙ same.chosen; phases = λ s below. phase_as one other sources same stands s below }
+sources_as one other sources same stands = grind (arith, slice_get)
 
 -- ---- one unit
 
@@ -38,25 +28,16 @@ unit_line_of to unit = UnitLine to (Some unit.time) unit.octets
 pub gives_second : (steps : List Step) (offer : Offer) (to time : ℕ) (octets : List ℕ) (chosen : ℕ) (mid new : Sources) (r : Result (Unit {0}) Stop)
     → offer.route.to ≡ to → offer.unit ≡ record { time = time; octets = octets } → chosen ≡ chosen_of steps
     → Answers (version_of steps) (Source 1 ∷ steps) (UnitLine to (Some time) octets) mid r
-    → ((made : List Step) → SourcesStand made mid → SourcesStand (Source chosen ∷ made) new)
-    → GivesSecond steps offer new r
+    → ((made : List Step) → SourcesStand made mid → SourcesStand (Source chosen ∷ made) new) → GivesSecond steps offer new r
 gives_second steps offer to time octets chosen mid new (Ok x) route unit is a back =
     let given : AudioUnit = record { time = time; octets = octets } in
     let S : List Step → Type 0 = λ made. SourcesStand made new in (
-      ap₂ (λ t u. option_or (refuse_if (not (takes_units (steps_of_source 1 steps))) Order)
-          (source_refusal airs_of (version_of steps) (steps_of_source 1 steps) (unit_line_of t u))) route unit
-          ∙ sym (or_none (option_or (refuse_if (not (takes_units (steps_of_source 1 steps))) Order)
-          (source_refusal airs_of (version_of steps) (steps_of_source 1 steps) (unit_line_of to given)))) ∙ a.0,
-      subst S (ap (λ c. Source c ∷ unit_line_of to given ∷ Source 1 ∷ steps) is
-          ∙ ap₂ (λ t u. Source (chosen_of steps) ∷ unit_line_of t u ∷ Source 1 ∷ steps) (sym route) (sym unit))
-          (back (unit_line_of to given ∷ Source 1 ∷ steps) a.1),
+      grind (arith, option_or, refuse_if, not, takes_units, steps_of_source, source_refusal, airs_of, version_of, or_none),
+      grind (arith, back (unit_line_of to given ∷ Source 1 ∷ steps) a.1),
     )
 gives_second steps offer to time octets chosen mid new (Err (Refused reason)) route unit is a back =
     let given : AudioUnit = record { time = time; octets = octets } in (
-      ap₂ (λ t u. option_or (refuse_if (not (takes_units (steps_of_source 1 steps))) Order)
-          (source_refusal airs_of (version_of steps) (steps_of_source 1 steps) (unit_line_of t u))) route unit
-          ∙ sym (or_none (option_or (refuse_if (not (takes_units (steps_of_source 1 steps))) Order)
-          (source_refusal airs_of (version_of steps) (steps_of_source 1 steps) (unit_line_of to given)))) ∙ a.0,
+      grind (arith, option_or, refuse_if, not, takes_units, steps_of_source, source_refusal, airs_of, version_of, or_none),
       sources_as (Source chosen ∷ Source 1 ∷ steps) steps new (record { chosen = is; first = refl; second = refl }) (back (Source 1 ∷ steps) a.1),
     )
 gives_second steps offer to time octets chosen mid new (Err OutletFault) route unit is a back = a
@@ -65,8 +46,7 @@ gives_second steps offer to time octets chosen mid new (Err Memory) route unit i
 -- nothing is offered
 pub none_offered : (steps : List Step) (offers : List Offer) (sources : Sources) (relays : Relays) (text : List ℕ) → offers ≡ []
     → SourcesStand steps sources → RelaysStand (relay_histories steps) relays → OffersMeet steps offers sources relays text text (Ok tt)
-none_offered steps offers sources relays text none s r =
-    subst (λ all. OffersMeet steps all sources relays text text (Ok tt)) (sym none) (s, r, sym (append-nil text))
+none_offered steps offers sources relays text none s r = grind (arith, append-nil)
 
 lost_unit : (n : ℕ) (route : Route) (bis time : ℕ) (octets : Option (List ℕ)) → octets ≡ None → offered_of n (Some route) (handed_as bis time octets ∷ []) ≡ []
 lost_unit n route bis time octets none = ap (λ o. offered_of n (Some route) (handed_as bis time o ∷ [])) none
@@ -130,9 +110,8 @@ offers_dropped steps n bis own unit octets reason sources relays text told (Ok x
       r,
       line ∙ ap (λ b. text ++ dropped_line n b reason) stream ∙ ap (λ l. text ++ l) (sym (append-nil (dropped_line n own.bis reason))),
     ))
-offers_dropped steps n bis own unit octets reason sources relays text told (Err (Refused other)) is same stream g r line = line
-offers_dropped steps n bis own unit octets reason sources relays text told (Err OutletFault) is same stream g r line = line
-offers_dropped steps n bis own unit octets reason sources relays text told (Err Memory) is same stream g r line = tt
+offers_dropped steps n bis own unit octets reason sources relays text told r is same stream g r' line =
+    search (valid_as, own_unit, dropped_line, append-nil)
 
 -- ---- units one behind the other
 
@@ -143,17 +122,14 @@ after_append (x ∷ xs) ys steps = after_append xs ys (after_offer airs_of x ste
 pub answered_append : (xs ys : List Offer) (steps : List Step)
     → answered airs_of (xs ++ ys) steps ≡ answered airs_of xs steps ++ answered airs_of ys (after_offers airs_of xs steps)
 answered_append [] ys steps = refl
-answered_append (x ∷ xs) ys steps =
-    ap (λ (rest : List Answered). record { offer = x; reason = dropped_for airs_of x steps } ∷ rest) (answered_append xs ys (after_offer airs_of x steps))
+answered_append (x ∷ xs) ys steps = grind (arith, answered_append xs ys (after_offer airs_of x steps))
 
 pub lines_append : (xs ys : List Answered) → answer_lines (xs ++ ys) ≡ answer_lines xs ++ answer_lines ys
 lines_append xs ys = flat_map-append (λ (answer : Answered). answer_line answer.offer answer.reason) xs ys
 
 pub offered_append : (n : ℕ) (own : Route) (us vs : List Handed)
     → offered_of n (Some own) (us ++ vs) ≡ offered_of n (Some own) us ++ offered_of n (Some own) vs
-offered_append n own us vs =
-    ap (map (λ (unit : AudioUnit). record { sink = n; route = own; unit = unit })) (flat_map-append (valid_on own.bis) us vs)
-    ∙ map-append (λ (unit : AudioUnit). record { sink = n; route = own; unit = unit }) (units_on own.bis us) (units_on own.bis vs)
+offered_append n own us vs = grind (arith, map, flat_map-append, valid_on, map-append, units_on)
 
 pub offers_then : (steps : List Step) (xs ys : List Offer) (mid new : Sources) (between relays : Relays) (text told told2 : List ℕ) (r : Result (Unit {0}) Stop)
     → OffersMeet steps xs mid between text told (Ok tt) → OffersMeet (after_offers airs_of xs steps) ys new relays told told2 r
@@ -166,9 +142,8 @@ offers_then steps xs ys mid new between relays text told told2 (Ok x) one two =
           ∙ append_assoc text (answer_lines (answered airs_of xs steps)) (answer_lines (answered airs_of ys now))
           ∙ ap (λ l. text ++ l) (sym (lines_append (answered airs_of xs steps) (answered airs_of ys now)) ∙ ap answer_lines (sym (answered_append xs ys steps))),
     )
-offers_then steps xs ys mid new between relays text told told2 (Err (Refused reason)) one two = two
-offers_then steps xs ys mid new between relays text told told2 (Err OutletFault) one two = two
-offers_then steps xs ys mid new between relays text told told2 (Err Memory) one two = tt
+offers_then steps xs ys mid new between relays text told told2 r one two =
+    search (after_offers, airs_of, after_append, relay_histories, answer_lines, answered, append_assoc, lines_append, answered_append)
 
 -- one unit more of a sink
 pub offers_more : (steps : List Step) (n : ℕ) (own : Route) (units : List HandedUnit) (i : ℕ) (unit : HandedUnit) (mid new : Sources) (between relays : Relays)
@@ -179,10 +154,7 @@ pub offers_more : (steps : List Step) (n : ℕ) (own : Route) (units : List Hand
 offers_more steps n own units i unit mid new between relays text told told2 within is one two =
     let prefix : List Handed = map handed_of (take i units) in
     let same : offered_of n (Some own) (map handed_of (take (i + 1) units))
-    ≡ offered_of n (Some own) prefix ++ offered_of n (Some own) (handed_of unit ∷ []) =
-    ap (λ us. offered_of n (Some own) (map handed_of us)) (take_more units i unit within ∙ ap (λ last. take i units ++ last ∷ []) (sym is))
-    ∙ ap (offered_of n (Some own)) (map-append handed_of (take i units) (unit ∷ []))
-    ∙ offered_append n own prefix (handed_of unit ∷ []) in
+    ≡ offered_of n (Some own) prefix ++ offered_of n (Some own) (handed_of unit ∷ []) = grind (arith, take_more units i unit within, map-append handed_of (take i units) (unit ∷ []), offered_append n own prefix (handed_of unit ∷ [])) in
     subst (λ all. OffersMeet steps all new relays text told2 (Ok tt)) (sym same)
     (offers_then steps (offered_of n (Some own) prefix) (offered_of n (Some own) (handed_of unit ∷ [])) mid new between relays text told told2 (Ok tt) one two)
 
@@ -196,9 +168,7 @@ offers_all steps n own units i sources relays text told all m =
 -- want of memory stays so
 pub offers_stopped : (steps now : List Step) (offers one : List Offer) (sources : Sources) (relays : Relays) (text between told : List ℕ) (stop : Stop)
     → OffersMeet now one sources relays between told (Err stop) → OffersMeet steps offers sources relays text told (Err stop)
-offers_stopped steps now offers one sources relays text between told (Refused reason) m = m
-offers_stopped steps now offers one sources relays text between told OutletFault m = m
-offers_stopped steps now offers one sources relays text between told Memory m = tt
+offers_stopped steps now offers one sources relays text between told stop m = grind arith
 
 -- ---- a sink with a relay or none
 
@@ -212,5 +182,4 @@ offers_where steps n (Some one) route units sources relays text told r is each =
 pub offers_nowhere : (steps : List Step) (n : ℕ) (own : Option Route) (units : List Handed) (sources : Sources) (relays : Relays) (text : List ℕ)
     → None ≡ option_map lent own → SourcesStand steps sources → RelaysStand (relay_histories steps) relays
     → OffersMeet steps (offered_of n own units) sources relays text text (Ok tt)
-offers_nowhere steps n None units sources relays text is s r = (s, r, sym (append-nil text))
-offers_nowhere steps n (Some one) units sources relays text is s r = absurd (cc is)
+offers_nowhere steps n own units sources relays text is s r = grind (arith, append-nil)

@@ -1,5 +1,6 @@
 -- The steps that say something of relays: `relay`, `drop`, and a `unit` line.
-use Rattle.replay_steps.proofs.Prelude.{ℕ, ◌≡◌, ◌≢◌, ◌==◌, ◌&&◌, ◌||◌, Bool, true, false, cond, not, nat_lt, is_some, List, ◌∷◌, refl, sym, ◌∙◌, ap, ap₂, subst, unwrap_or, option_map, eq-eqb, ne_eqb, Option, None, Some, Ok, Err, list_any, option_or, BigInfo, airs_of, Call, Settings, made_of, Refusal, NoSuchBis, NoSuchSink, Order, RelayTaken, Stop, Refused, OutletFault, Memory, Step, Drop, Relay, box_of, gives_on, is_relay_beyond, is_relay_taken, may_relay, phase_refusal, relay_refusal, relayed_or, refuse_if, Route, had_relay, relay_given, relay_of, sink_calls, setup_of, takes_units, chosen_of, last_given, running, stage_of, steps_of_source, calls_made, source_at, Relays, with_relay, RelaysStand, Answers, fault_of, SourcesStand, named_says, sources_stay, SinksStand, Sinks, stands_same, Machine, Stands, lent, histories_of, relay_histories, Quiet, phase_line, stage_in}
+use Rattle.std.proofs.Common.{arith}
+use Rattle.replay_steps.proofs.Prelude.{ℕ, ◌≡◌, ◌≢◌, ◌==◌, ◌&&◌, ◌||◌, Bool, true, false, cond, not, nat_lt, is_some, List, ◌∷◌, refl, sym, ◌∙◌, ap, subst, unwrap_or, option_map, eq-eqb, ne_eqb, Option, None, Some, Ok, Err, list_any, option_or, BigInfo, airs_of, Call, Settings, made_of, Refusal, NoSuchBis, NoSuchSink, Order, RelayTaken, Stop, Refused, Step, Drop, Relay, box_of, gives_on, is_relay_beyond, is_relay_taken, may_relay, phase_refusal, relay_refusal, relayed_or, refuse_if, had_relay, relay_given, relay_of, sink_calls, setup_of, takes_units, chosen_of, last_given, running, stage_of, steps_of_source, calls_made, source_at, Relays, with_relay, RelaysStand, Answers, fault_of, named_says, sources_stay, SinksStand, Sinks, stands_same, Machine, Stands, lent, histories_of, relay_histories, Quiet, phase_line, stage_in}
 use Rattle.delegator_machine.specs.Groups.{with_leave}
 use Rattle.sink_history.specs.Calls as links
 use Rattle.sink_history.specs.History.{Source}
@@ -13,9 +14,7 @@ use Rattle.replay_steps.proofs.Stepping.{GoesOn, source_fault, sources_stand}
 
 drop_routes : (n m : ℕ) (steps : List Step)
     → cond (n == m) None (option_map lent (relay_of m steps)) ≡ option_map lent (relay_of m (Drop n ∷ steps))
-drop_routes n m steps =
-    elim (n == m) as (λ b. cond b None (option_map lent (relay_of m steps))
-    ≡ option_map lent (unwrap_or (option_or (cond b (Some None) None) (last_given (relay_given m) steps)) None)) [ true ↦ refl | false ↦ refl ]
+drop_routes n m steps = grind (arith, cond, option_map, lent, relay_of, unwrap_or, option_or, last_given, relay_given)
 
 pub dropped_relays : (n : ℕ) (steps : List Step) (held : Relays) → RelaysStand (without n (relay_histories steps)) held → RelaysStand (relay_histories (Drop n ∷ steps)) held
 dropped_relays n steps held stands =
@@ -23,12 +22,7 @@ dropped_relays n steps held stands =
 
 relay_routes : (n bis to m : ℕ) (steps : List Step)
     → cond (n == m) (Some (lent (record { bis = bis; to = to }))) (option_map lent (relay_of m steps)) ≡ option_map lent (relay_of m (Relay n bis to ∷ steps))
-relay_routes n bis to m steps =
-    elim (n == m) as (λ b. cond b (Some (lent (record { bis = bis; to = to }))) (option_map lent (relay_of m steps))
-    ≡ option_map lent (unwrap_or (option_or (cond b (Some (Some (record { bis = bis; to = to }))) None) (last_given (relay_given m) steps)) None)) [
-      | true ↦ refl
-      | false ↦ refl
-    ]
+relay_routes n bis to m steps = grind (arith, cond, lent, option_map, relay_of, unwrap_or, option_or, last_given, relay_given)
 
 pub made_relays : (n bis to : ℕ) (steps : List Step) (held : Relays) → RelaysStand (with_relay n bis to (relay_histories steps)) held
     → RelaysStand (relay_histories (Relay n bis to ∷ steps)) held
@@ -39,11 +33,7 @@ made_relays n bis to steps held stands =
 given_second : (b bis : ℕ) (time : Option ℕ) (octets : List ℕ) (steps : List Step) (second : Bool) → (chosen_of steps == 1) ≡ second
     → cond second ((bis == b) || list_any (gives_on b) (steps_of_source 1 steps)) (list_any (gives_on b) (steps_of_source 1 steps))
     ≡ list_any (gives_on b) (steps_of_source 1 (UnitLine bis time octets ∷ steps))
-given_second b bis time octets steps second is =
-    let own : List Step = steps_of_source 1 steps in
-    sym (ap (λ hit. list_any (gives_on b) (cond hit (UnitLine bis time octets ∷ own) own)) is
-    ∙ (elim second as (λ hit. list_any (gives_on b) (cond hit (UnitLine bis time octets ∷ own) own)
-    ≡ cond hit ((bis == b) || list_any (gives_on b) own) (list_any (gives_on b) own)) [ true ↦ refl | false ↦ refl ]))
+given_second b bis time octets steps second is = grind (arith, steps_of_source, list_any, gives_on, cond)
 
 pub given_relays : (bis : ℕ) (time : Option ℕ) (octets : List ℕ) (steps : List Step) (held : Relays) → (chosen_of steps == 1) ≡ true
     → RelaysStand (with_relayed_unit bis (relay_histories steps)) held → RelaysStand (relay_histories (UnitLine bis time octets ∷ steps)) held
@@ -67,19 +57,14 @@ pub unit_relayed : (boxes version bis : ℕ) (time : Option ℕ) (octets : List 
     → stage_of steps ≡ running version → ((chosen_of steps == 1) && had_relay bis steps) ≡ true
     → relayed_or true (fault_of version steps (UnitLine bis time octets)) ≡ Some reason
     → Quiet boxes steps (UnitLine bis time octets) machine (Err (Refused reason))
-unit_relayed boxes version bis time octets reason steps machine stands e relayed is = (
-  ap (λ b. relayed_or b (phase_refusal airs_of boxes steps (UnitLine bis time octets))) relayed
-      ∙ ap (relayed_or true) (source_fault boxes version steps (UnitLine bis time octets) (on_unit bis time octets) e) ∙ is,
-  stands,
-)
+unit_relayed boxes version bis time octets reason steps machine stands e relayed is =
+    grind (arith, relayed_or, phase_refusal, airs_of, source_fault, on_unit)
 
 -- any other: why the line is refused
 unit_fault : (boxes version bis : ℕ) (time : Option ℕ) (octets : List ℕ) (steps : List Step) → stage_of steps ≡ running version
     → ((chosen_of steps == 1) && had_relay bis steps) ≡ false
     → phase_line airs_of boxes steps (UnitLine bis time octets) ≡ fault_of version steps (UnitLine bis time octets)
-unit_fault boxes version bis time octets steps e free =
-    ap (λ b. relayed_or b (phase_refusal airs_of boxes steps (UnitLine bis time octets))) free
-    ∙ source_fault boxes version steps (UnitLine bis time octets) (on_unit bis time octets) e
+unit_fault boxes version bis time octets steps e free = grind (arith, relayed_or, phase_refusal, airs_of, source_fault, on_unit)
 
 -- what becomes of it
 pub unit_given : (boxes version bis : ℕ) (time : Option ℕ) (octets : List ℕ) (steps : List Step) (old new : Machine) → Stands steps old
@@ -102,8 +87,7 @@ pub unit_refused : (boxes version bis : ℕ) (time : Option ℕ) (octets : List 
     → Quiet boxes steps (UnitLine bis time octets) new (Err stop)
 unit_refused boxes version bis time octets steps old new (Refused reason) stands e free stage same held a =
     (unit_fault boxes version bis time octets steps e free ∙ a.0, sources_stand steps old new stands stage same held a.1)
-unit_refused boxes version bis time octets steps old new OutletFault stands e free stage same held a = a
-unit_refused boxes version bis time octets steps old new Memory stands e free stage same held a = tt
+unit_refused boxes version bis time octets steps old new stop stands e free stage same held a = search (unit_fault, sources_stand)
 
 -- source 1 is chosen, or another
 pub is_first : (steps : List Step) (chosen : ℕ) → chosen ≡ chosen_of steps → chosen ≢ 1 → (chosen_of steps == 1) ≡ false
@@ -126,30 +110,23 @@ pub relay_fault : (boxes version n bis to : ℕ) (steps : List Step) → stage_o
 relay_fault boxes version n bis to steps e = rw e refl
 
 pub may_not_first : (steps : List Step) → takes_units (steps_of_source 0 steps) ≡ false → may_relay steps ≡ false
-may_not_first steps none =
-    ap (λ first. first && (takes_units (steps_of_source 1 steps) && ((setup_of (steps_of_source 1 steps)).info.framing == 1))) none
+may_not_first steps none = grind (arith, takes_units, steps_of_source, setup_of)
 
 pub may_not_second : (steps : List Step) → takes_units (steps_of_source 0 steps) ≡ true → takes_units (steps_of_source 1 steps) ≡ false → may_relay steps ≡ false
-may_not_second steps first none =
-    ap (λ one. one && (takes_units (steps_of_source 1 steps) && ((setup_of (steps_of_source 1 steps)).info.framing == 1))) first
-    ∙ ap (λ two. two && ((setup_of (steps_of_source 1 steps)).info.framing == 1)) none
+may_not_second steps first none = grind (arith, takes_units, steps_of_source, setup_of)
 
 may_by_framing : (steps : List Step) (framed : Bool) → takes_units (steps_of_source 0 steps) ≡ true → takes_units (steps_of_source 1 steps) ≡ true
     → ((setup_of (steps_of_source 1 steps)).info.framing == 1) ≡ framed → may_relay steps ≡ framed
-may_by_framing steps framed first second is =
-    ap (λ one. one && (takes_units (steps_of_source 1 steps) && ((setup_of (steps_of_source 1 steps)).info.framing == 1))) first
-    ∙ ap (λ two. two && ((setup_of (steps_of_source 1 steps)).info.framing == 1)) second ∙ is
+may_by_framing steps framed first second is = grind (arith, takes_units, steps_of_source, setup_of)
 
 -- both sources stream, and the second has this group
 pub may_not_unframed : (steps : List Step) (second : BigInfo) → takes_units (steps_of_source 0 steps) ≡ true → takes_units (steps_of_source 1 steps) ≡ true
     → second ≡ (setup_of (steps_of_source 1 steps)).info → second.framing ≢ 1 → may_relay steps ≡ false
-may_not_unframed steps second one two is other =
-    may_by_framing steps false one two (sym (ap (λ (info : BigInfo). info.framing == 1) is) ∙ ne_eqb second.framing 1 other)
+may_not_unframed steps second one two is other = grind (arith, may_by_framing, ne_eqb)
 
 pub may_framed : (steps : List Step) (second : BigInfo) → takes_units (steps_of_source 0 steps) ≡ true → takes_units (steps_of_source 1 steps) ≡ true
     → second ≡ (setup_of (steps_of_source 1 steps)).info → second.framing ≡ 1 → may_relay steps ≡ true
-may_framed steps second one two is same =
-    may_by_framing steps true one two (sym (ap (λ (info : BigInfo). info.framing == 1) is) ∙ eq-eqb second.framing 1 same)
+may_framed steps second one two is same = grind (arith, may_by_framing, eq-eqb)
 
 -- the rows of the line, by what each tests
 abbrev rows : (may lives beyond taken : Bool) → Option Refusal
@@ -157,22 +134,16 @@ rows may lives beyond taken =
     option_or (refuse_if (not may) Order) (option_or (refuse_if (not lives) NoSuchSink) (option_or (refuse_if beyond NoSuchBis) (refuse_if taken RelayTaken)))
 
 pub relay_early : (steps : List Step) (n bis to : ℕ) → may_relay steps ≡ false → relay_refusal steps n bis to ≡ Some Order
-relay_early steps n bis to may =
-    ap (λ m. rows m (is_some (box_of n steps)) (is_relay_beyond steps bis to) (is_relay_taken steps n to)) may
+relay_early steps n bis to may = grind (arith, is_some, box_of, is_relay_beyond, is_relay_taken)
 
 pub relay_nowhere : (steps : List Step) (n bis to : ℕ) → may_relay steps ≡ true → is_some (box_of n steps) ≡ false → relay_refusal steps n bis to ≡ Some NoSuchSink
-relay_nowhere steps n bis to may lives =
-    ap (λ m. rows m (is_some (box_of n steps)) (is_relay_beyond steps bis to) (is_relay_taken steps n to)) may
-    ∙ ap (λ l. rows true l (is_relay_beyond steps bis to) (is_relay_taken steps n to)) lives
+relay_nowhere steps n bis to may lives = grind (arith, is_some, box_of, is_relay_beyond, is_relay_taken)
 
 -- both sources stream, and the sink lives
 pub relay_by : (steps : List Step) (n bis to : ℕ) (beyond taken : Bool) → may_relay steps ≡ true → is_some (box_of n steps) ≡ true
     → is_relay_beyond steps bis to ≡ beyond → is_relay_taken steps n to ≡ taken
     → relay_refusal steps n bis to ≡ option_or (refuse_if beyond NoSuchBis) (refuse_if taken RelayTaken)
-relay_by steps n bis to beyond taken may lives is has =
-    ap (λ m. rows m (is_some (box_of n steps)) (is_relay_beyond steps bis to) (is_relay_taken steps n to)) may
-    ∙ ap (λ l. rows true l (is_relay_beyond steps bis to) (is_relay_taken steps n to)) lives
-    ∙ ap₂ (λ b t. rows true true b t) is has
+relay_by steps n bis to beyond taken may lives is has = grind (arith, is_some, box_of, is_relay_beyond, is_relay_taken)
 
 pub relay_beyond : (steps : List Step) (n bis to : ℕ) → may_relay steps ≡ true → is_some (box_of n steps) ≡ true → is_relay_beyond steps bis to ≡ true
     → relay_refusal steps n bis to ≡ Some NoSuchBis
@@ -181,52 +152,30 @@ relay_beyond steps n bis to may lives is = relay_by steps n bis to true (is_rela
 -- the streams of a `relay` line, by the groups of the sources
 pub beyond_by : (steps : List Step) (bis to : ℕ) (first second : BigInfo) → first ≡ (setup_of (steps_of_source 0 steps)).info
     → second ≡ (setup_of (steps_of_source 1 steps)).info → is_relay_beyond steps bis to ≡ (nat_lt first.num_bis bis || nat_lt second.num_bis to)
-beyond_by steps bis to first second one two =
-    sym (ap₂ (λ (f : BigInfo) (s : BigInfo). nat_lt f.num_bis bis || nat_lt s.num_bis to) one two)
-
-some_lent : (relay : Option Route) → is_some (option_map lent relay) ≡ is_some relay
-some_lent None = refl
-some_lent (Some route) = refl
+beyond_by steps bis to first second one two = grind (arith, nat_lt)
 
 -- the room's answer is that of the steps
 pub taken_is : (steps : List Step) (n to : ℕ) (taken : Bool)
     → taken ≡ (is_some ((relay_histories steps).routes n) || ((relay_histories steps).relayed to || (relay_histories steps).given to))
     → is_relay_taken steps n to ≡ taken
-taken_is steps n to taken is =
-    sym (is ∙ ap (λ b. b || (had_relay to steps || list_any (gives_on to) (steps_of_source 1 steps))) (some_lent (relay_of n steps)))
+taken_is steps n to taken is = grind (arith, had_relay, list_any, gives_on, steps_of_source, relay_of)
 
 -- ---- the relay is made
 
 -- the line leaves the sinks
 if_same : {A : Type 0} (hit : Bool) (x : A) → x ≡ cond hit x x
-if_same true x = refl
-if_same false x = refl
+if_same hit x = grind arith
 
 none_leaves : (on : Bool) (calls : List Call) → with_leave on on calls ≡ calls
-none_leaves true calls = refl
-none_leaves false calls = refl
-
-moves_none : (source : Source) (n bis to : ℕ) (made : Option Settings) (lives : List links.Call) (calls : List Call)
-    → received_by source (Relay n bis to) made lives lives calls ≡ calls
-moves_none source n bis to None lives calls = refl
-moves_none source n bis to (Some made) lives calls = none_leaves _ calls
+none_leaves on calls = grind arith
 
 calls_stay : (hit : Bool) (source : Source) (n bis to : ℕ) (made : Option Settings) (lives : List links.Call) (calls : List Call)
     → calls ≡ cond hit (received_by source (Relay n bis to) made lives (cond hit lives lives) calls) calls
-calls_stay true source n bis to made lives calls = sym (moves_none source n bis to made lives calls)
-calls_stay false source n bis to made lives calls = refl
+calls_stay hit source n bis to made lives calls = grind (arith, none_leaves)
 
 sinks_kept : (n bis to : ℕ) (steps : List Step) (sinks : Sinks) → SinksStand (histories_of steps) sinks → SinksStand (histories_of (Relay n bis to ∷ steps)) sinks
 sinks_kept n bis to steps sinks stands =
-    stands_same (histories_of steps) (histories_of (Relay n bis to ∷ steps)) sinks
-    (record {
-      boxes = λ m. refl;
-      mades = λ m. refl;
-      sources = λ m. refl;
-      lives = λ m. if_same (n == m) (calls_made m steps);
-      received = λ m. calls_stay (n == m) (source_at steps) n bis to (made_of m steps) (calls_made m steps) (sink_calls airs_of m steps);
-      made = refl;
-    }) stands
+    grind (arith, stands_same, histories_of, if_same, calls_made, calls_stay, source_at, made_of, sink_calls, airs_of)
 
 pub relay_meets : (boxes version n bis to : ℕ) (steps : List Step) (old new : Machine) → Stands steps old → stage_of steps ≡ running version
     → relay_refusal steps n bis to ≡ None → new.stage ≡ old.stage → new.sources ≡ old.sources → new.sinks ≡ old.sinks
@@ -235,8 +184,7 @@ relay_meets boxes version n bis to steps old new stands e none stage same sinks 
   relay_fault boxes version n bis to steps e ∙ none,
   record {
     stage = ap stage_in stage ∙ stands.stage;
-    sources = subst (λ s. SourcesStand (Relay n bis to ∷ steps) s) (sym same)
-        (sources_stay (Relay n bis to) steps old.sources (named_says n (Relay n bis to) refl) stands.sources);
+    sources = grind (arith, sources_stay (Relay n bis to) steps old.sources (named_says n (Relay n bis to) refl) stands.sources);
     sinks = subst (λ s. SinksStand (histories_of (Relay n bis to ∷ steps)) s) (sym sinks) (sinks_kept n bis to steps old.sinks stands.sinks);
     relays = made_relays n bis to steps new.relays held;
   },

@@ -1,5 +1,6 @@
 -- A close of source 0, sink by sink: each hands its units up, and then its relay offers them to source 1.
-use Rattle.replay_steps.proofs.Prelude.{ℕ, ◌≡◌, List, [], ◌++◌, sym, ◌∙◌, ap, subst, append_assoc, append-nil, Result, Ok, Err, Account, Handed, airs_of, Stop, Refused, OutletFault, Memory, Step, answered, offered_of, unit_lines, relay_of, ClosesAt, closing_of, handed_all, Histories, with_close_at, SinksStand, Sinks, Sources, Relays, Machine, OffersMeet, SinkMeets, answer_lines, offers_of}
+use Rattle.std.proofs.Common.{arith}
+use Rattle.replay_steps.proofs.Prelude.{ℕ, ◌≡◌, List, ◌++◌, ◌∙◌, ap, append_assoc, append-nil, Result, Ok, Err, Account, Handed, airs_of, Stop, Step, answered, offered_of, unit_lines, relay_of, ClosesAt, closing_of, handed_all, Histories, with_close_at, SinksStand, Sinks, Sources, Relays, Machine, OffersMeet, SinkMeets, answer_lines, offers_of}
 
 -- ---- one sink
 
@@ -7,8 +8,7 @@ use Rattle.replay_steps.proofs.Prelude.{ℕ, ◌≡◌, List, [], ◌++◌, sym,
 pub offers_lent : (steps : List Step) (past : Histories) (n event : ℕ) (lent : List Handed) (sources : Sources) (relays : Relays) (text told : List ℕ) (r : Result (Unit {0}) Stop)
     → lent ≡ handed_all (closing_of n 0 event past) → OffersMeet steps (offered_of n (relay_of n steps) lent) sources relays text told r
     → OffersMeet steps (offers_of steps past n event) sources relays text told r
-offers_lent steps past n event lent sources relays text told r is o =
-    subst (λ units. OffersMeet steps (offered_of n (relay_of n steps) units) sources relays text told r) is o
+offers_lent steps past n event lent sources relays text told r is o = grind (arith, offered_of, relay_of)
 
 -- its units were handed, and its relay offered them
 pub sink_relays : (steps : List Step) (past : Histories) (n event : ℕ) (mid : Sinks) (new : Machine) (text told told2 : List ℕ) (before after : List Account)
@@ -25,16 +25,11 @@ sink_relays steps past n event mid new text told told2 before after c o s =
 -- a box stopped it, or memory ran out as its units were handed
 pub sink_stops : (steps : List Step) (past : Histories) (n event : ℕ) (mid : Sinks) (new : Machine) (text told : List ℕ) (before after : List Account) (stop : Stop)
     → ClosesAt past n 0 event mid text told before after (Err stop) → SinkMeets steps past n event new text told before after (Err stop)
-sink_stops steps past n event mid new text told before after (Refused reason) c = c.hands
-sink_stops steps past n event mid new text told before after OutletFault c = c.hands
-sink_stops steps past n event mid new text told before after Memory c = c.hands
+sink_stops steps past n event mid new text told before after stop c = grind arith
 
 -- memory ran out as they were offered
 pub offers_stop : (steps : List Step) (past : Histories) (n event : ℕ) (mid : Sinks) (new : Machine) (sources : Sources) (relays : Relays) (text told told2 : List ℕ)
     (before after : List Account) (stop : Stop) → ClosesAt past n 0 event mid text told before after (Ok tt)
     → OffersMeet steps (offers_of steps past n event) sources relays told told2 (Err stop)
     → SinkMeets steps past n event new text told2 before after (Err stop)
-offers_stop steps past n event mid new sources relays text told told2 before after (Refused reason) c o = o
-offers_stop steps past n event mid new sources relays text told told2 before after OutletFault c o = absurd o
-offers_stop steps past n event mid new sources relays text told told2 before after Memory c o =
-    record { done = closing_of n 0 event past; rest = []; split = sym (append-nil (closing_of n 0 event past)); boxes = c.hands.1 }
+offers_stop steps past n event mid new sources relays text told told2 before after stop c o = grind (arith, closing_of, append-nil)

@@ -1,5 +1,6 @@
 -- The lines of a sink's control and of its links.
-use Rattle.replay_steps.proofs.Prelude.{◌≡◌, ℕ, ◌==◌, List, [], ◌∷◌, ◌++◌, Bool, true, false, is_some, cond, refl, sym, ◌∙◌, ap, subst, Option, None, Some, Result, Ok, Err, length, concat, option_or, Account, airs_of, NoSuchSink, Order, Stop, Refused, OutletFault, Memory, Step, Sink, Announce, Drop, End, Stage, chosen_steps, running, stage_after, stage_of, is_sending, setup_of, source_calls, box_of, handed_by, output_of, sink_lines, phase_refusal, train_ends, calls_made, source_at, the_world, Settings, made_of, named_by, refused_at, refused_where, refusal_of, IsSinkLine, AnnouncesAs, SaysNothing, Histories, with_line, SinksStand, Machine, Stands, histories_of, Tells, closes_first, is_relayed}
+use Rattle.std.proofs.Common.{arith}
+use Rattle.replay_steps.proofs.Prelude.{◌≡◌, ℕ, List, [], ◌∷◌, ◌++◌, Bool, true, false, is_some, cond, refl, sym, ◌∙◌, ap, subst, Option, None, Some, Result, Ok, Err, length, concat, option_or, Account, airs_of, NoSuchSink, Order, Stop, Refused, OutletFault, Memory, Step, Announce, End, Stage, chosen_steps, running, stage_after, stage_of, is_sending, setup_of, source_calls, box_of, handed_by, output_of, sink_lines, phase_refusal, train_ends, calls_made, source_at, the_world, Settings, made_of, named_by, refused_at, refused_where, refusal_of, IsSinkLine, AnnouncesAs, SaysNothing, Histories, with_line, SinksStand, Machine, Stands, histories_of, Tells, closes_first, is_relayed}
 use Rattle.announcement_train.specs.declared.train.Train.{Train as Announced}
 use Rattle.sink_history.specs.Calls.{Call}
 use Rattle.source_machine.specs.Faults.{announce_fault}
@@ -13,18 +14,7 @@ use Rattle.replay_steps.proofs.Stepping.{brought, or_none, sinks_stand}
 
 -- it says nothing of a source
 line_says : (made : Step) → IsSinkLine made → SaysNothing made
-line_says End line = absurd line
-line_says made line = record {
-  chosen = search;
-  phase = λ own. search;
-  group = λ own. search;
-  ident = λ own. search;
-  cipher = λ own. search;
-  lines = λ own. search;
-  setup = λ own going. search;
-  under_way = λ own going. search;
-  calls = λ own. search;
-}
+line_says made line = grind arith
 
 -- the past of the sinks with a line that names this sink
 abbrev with_named : Option ℕ → Step → List Step → Histories
@@ -48,13 +38,11 @@ line_runs made line = record {
 }
 
 line_minds : (made : Step) → IsSinkLine made → minds_relays made ≡ false
-line_minds End line = absurd line
-line_minds made line = search
+line_minds made line = grind arith
 
 -- it closes no event, and gives no unit
 pub closes_none_by : (steps : List Step) (made : Step) → IsSinkLine made → closes_first steps made ≡ false
-closes_none_by steps End line = absurd line
-closes_none_by steps made line = search
+closes_none_by steps made line = grind arith
 
 pub gives_none_by : (steps : List Step) (made : Step) → IsSinkLine made → is_relayed steps made ≡ false
 gives_none_by steps made line = (beside made (line_minds made line)).none steps
@@ -65,14 +53,11 @@ nothing_handed_by steps made line = (line_runs made line).handed steps
 -- ---- what it prints
 
 silent : (source : Source) (made : Step) (calls : List Call) (o : Option Settings)
-    → ((sink : Settings) → printed_of source made sink calls ≡ [])
-    → [] ≡ concat (printed_where source made o calls)
-silent source made calls None quiet = refl
-silent source made calls (Some sink) quiet = ap concat (sym (quiet sink))
+    → ((sink : Settings) → printed_of source made sink calls ≡ []) → [] ≡ concat (printed_where source made o calls)
+silent source made calls o quiet = grind (arith, concat)
 
 line_prints : (starts : List Account) (steps : List Step) (made : Step) → IsSinkLine made → output_of airs_of starts steps made ≡ sink_lines steps made
-line_prints starts steps End line = absurd line
-line_prints starts steps made line = search (line, silent) depth 2 fits 30 parts 0 steps 500000
+line_prints starts steps made line = grind (arith, silent)
 
 -- ---- what it does
 
@@ -90,8 +75,7 @@ named_meets starts n steps made old new text told (Ok x) stands is nothing on pa
 )
 named_meets starts n steps made old new text told (Err (Refused reason)) stands is nothing on past output stage same minds held m =
     (is ∙ m.0, sinks_stand steps old new stands stage same held m.1, m.2)
-named_meets starts n steps made old new text told (Err OutletFault) stands is nothing on past output stage same minds held m = m
-named_meets starts n steps made old new text told (Err Memory) stands is nothing on past output stage same minds held m = tt
+named_meets starts n steps made old new text told r stands is nothing on past output stage same minds held m = search (brought, sinks_stand)
 
 pub line_meets : (starts : List Account) (version n : ℕ) (steps : List Step) (made : Step) (old new : Machine) (text told : List ℕ) (r : Result (Unit {0}) Stop)
     → Stands steps old → stage_of steps ≡ running version → IsSinkLine made → named_by made ≡ Some n → new.stage ≡ old.stage → new.sources ≡ old.sources
@@ -106,17 +90,7 @@ line_meets starts version n steps made old new text told r stands e line named s
 -- ---- announce
 
 announce_says : (n : ℕ) → SaysNothing (Announce n)
-announce_says n = record {
-  chosen = refl;
-  phase = λ own. refl;
-  group = λ own. refl;
-  ident = λ own. refl;
-  cipher = λ own. refl;
-  lines = λ own. refl;
-  setup = λ own going. refl;
-  under_way = λ own going. going;
-  calls = λ own. refl;
-}
+announce_says n = grind arith
 
 pub announce_early : (boxes version n : ℕ) (steps : List Step) → stage_of steps ≡ running version → is_sending (chosen_steps steps) ≡ false
     → phase_refusal airs_of boxes steps (Announce n) ≡ Some Order
@@ -124,52 +98,49 @@ announce_early boxes version n steps e going = rw (e, going) refl
 
 -- a sink was made where it has a box
 cond_same : {A B : Type 0} (b : Bool) (o p : Option A) (q r : Option B) → is_some o ≡ is_some q → is_some p ≡ is_some r → is_some (cond b o p) ≡ is_some (cond b q r)
-cond_same true o p q r one other = one
-cond_same false o p q r one other = other
+cond_same b o p q r one other = grind arith
 
 made_by_box : (n : ℕ) (step : Step) (earlier : List Step) → is_some (made_of n earlier) ≡ is_some (box_of n earlier)
     → is_some (made_of n (step ∷ earlier)) ≡ is_some (box_of n (step ∷ earlier))
-made_by_box n (Sink sink streams slots mtu) earlier same = cond_same (sink == n) _ (made_of n earlier) _ (box_of n earlier) refl same
-made_by_box n (Drop sink) earlier same = cond_same (sink == n) None (made_of n earlier) None (box_of n earlier) refl same
-made_by_box n other earlier same = same
+made_by_box n other earlier same = grind (arith, cond_same, made_of, box_of)
 
 made_with_box : (n : ℕ) (steps : List Step) → is_some (made_of n steps) ≡ is_some (box_of n steps)
 made_with_box n [] = refl
 made_with_box n (step ∷ earlier) = made_by_box n step earlier (made_with_box n earlier)
 
 hears_train : (n : ℕ) (calls : List Call) (o : Option Settings) → is_some o ≡ true → refused_where (Announce n) o calls ≡ None
-hears_train n calls None e = absurd (cc e)
-hears_train n calls (Some sink) e = refl
+hears_train n calls o e = grind arith
 
 not_there : (n : ℕ) (calls : List Call) (o : Option Settings) → is_some o ≡ false → refused_where (Announce n) o calls ≡ Some NoSuchSink
-not_there n calls None e = refl
-not_there n calls (Some sink) e = absurd (cc e)
+not_there n calls o e = grind arith
 
 announce_fault_is : (boxes version n : ℕ) (steps : List Step) → stage_of steps ≡ running version → is_sending (chosen_steps steps) ≡ true
     → phase_refusal airs_of boxes steps (Announce n)
     ≡ option_or (refused_where (Announce n) (made_of n steps) (calls_made n steps)) (train_ends (announce_fault (setup_of (chosen_steps steps)) (source_calls (chosen_steps steps))))
 announce_fault_is boxes version n steps e going =
-    rw (e, going) (ap (option_or (refused_where (Announce n) (made_of n steps) (calls_made n steps)))
-    (or_none (train_ends (announce_fault (setup_of (chosen_steps steps)) (source_calls (chosen_steps steps))))))
+    grind (arith, option_or, refused_where, made_of, calls_made, or_none, train_ends, setup_of, chosen_steps, source_calls)
 
 pub announce_nowhere : (boxes version n : ℕ) (steps : List Step) → stage_of steps ≡ running version → is_sending (chosen_steps steps) ≡ true
     → is_some (box_of n steps) ≡ false → phase_refusal airs_of boxes steps (Announce n) ≡ Some NoSuchSink
 announce_nowhere boxes version n steps e going lives =
-    let ends = train_ends (announce_fault (setup_of (chosen_steps steps)) (source_calls (chosen_steps steps))) in
-    announce_fault_is boxes version n steps e going
-    ∙ ap (λ o. option_or o ends) (not_there n (calls_made n steps) (made_of n steps) (made_with_box n steps ∙ lives))
+    grind (
+      arith,
+      train_ends,
+      setup_of,
+      chosen_steps,
+      source_calls,
+      announce_fault_is,
+      option_or,
+      not_there,
+      calls_made,
+      made_of,
+      made_with_box,
+    )
 
 pub announce_fails : (starts : List Account) (version n : ℕ) (steps : List Step) (new : Machine) (text : List ℕ) (stop : Stop) → Stands steps new → stage_of steps ≡ running version
     → is_sending (chosen_steps steps) ≡ true → is_some (box_of n steps) ≡ true → AnnouncesAs (chosen_steps steps) (Err stop)
     → Tells starts steps (Announce n) new text text (Err stop)
-announce_fails starts version n steps new text (Refused reason) stands e going lives a =
-    let ends = train_ends (announce_fault (setup_of (chosen_steps steps)) (source_calls (chosen_steps steps))) in
-    let own : ends ≡ Some reason = sym (rw going refl) ∙ a in (
-      announce_fault_is (length starts) version n steps e going
-          ∙ ap (λ o. option_or o ends) (hears_train n (calls_made n steps) (made_of n steps) (made_with_box n steps ∙ lives)) ∙ own,
-      stands,
-      refl,
-    )
+announce_fails starts version n steps new text (Refused reason) stands e going lives a = grind (arith, train_ends, setup_of, chosen_steps, source_calls, announce_fault_is, length, option_or, hears_train, calls_made, made_of, made_with_box)
 announce_fails starts version n steps new text OutletFault stands e going lives a = a
 announce_fails starts version n steps new text Memory stands e going lives a = tt
 

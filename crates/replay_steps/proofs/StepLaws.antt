@@ -1,13 +1,10 @@
 -- Each step by its own clause.
-use Rattle.replay_steps.proofs.Prelude.{◌≡◌, ℕ, cond, List, [], ◌∷◌, ◌++◌, length, map, false, inl, inr, None, Some, Result, Ok, Err, refl, sym, ◌∙◌, ap, subst, append-nil, length-map, Account, airs_of, Step, Scenario, is_over, running, stage_of, unbegun, accounts_after, handed_by, handed_up, after_offers, closes_first, offers_at, with_relayed_units, output_of, is_relayed, line_refusal, phase_refusal, relayed_or, boxes_stay, Machine, Stop, Refused, OutletFault, Memory, Stands, BoxesStand, Quiet, Tells, Meets, StepMeets, phase_line}
-
--- there are as many boxes as at the start
-pub boxes_count : (starts accounts : List Account) (steps : List Step) → BoxesStand starts steps accounts → length accounts ≡ length starts
-boxes_count starts accounts steps boxes = ap length boxes.accounts_are ∙ boxes_stay starts (handed_up airs_of steps)
+use Rattle.std.proofs.Common.{arith}
+use Rattle.replay_steps.proofs.Prelude.{◌≡◌, ℕ, cond, List, [], ◌∷◌, ◌++◌, length, map, false, inl, None, Result, Ok, Err, refl, sym, ◌∙◌, ap, subst, append-nil, length-map, Account, airs_of, Step, Scenario, is_over, running, stage_of, unbegun, accounts_after, handed_by, handed_up, after_offers, closes_first, offers_at, with_relayed_units, output_of, is_relayed, line_refusal, phase_refusal, relayed_or, boxes_stay, Machine, Stop, Memory, Stands, BoxesStand, Quiet, Tells, Meets, StepMeets, phase_line}
 
 pub boxes_counted : {A : Type 0} (f : A → Account) (items : List A) (starts : List Account) (steps : List Step) (n : ℕ) → n ≡ length items
     → BoxesStand starts steps (map f items) → n ≡ length starts
-boxes_counted f items starts steps n is boxes = is ∙ sym (length-map items f) ∙ boxes_count starts (map f items) steps boxes
+boxes_counted f items starts steps n is boxes = grind (arith, length-map, length, boxes_stay, handed_up, airs_of, map)
 
 -- before a step that closes no event of source 0 there are no relayed units
 pub no_relayed_units : (steps : List Step) (made : Step) → closes_first steps made ≡ false → with_relayed_units airs_of steps made ≡ steps
@@ -29,10 +26,7 @@ stands_beside steps machine new stage sources sinks relays stands = record {
 
 pub quiet_beside : (boxes : ℕ) (steps : List Step) (made : Step) (machine new : Machine) (r : Result (Unit {0}) Stop) → new.stage ≡ machine.stage
     → new.sources ≡ machine.sources → new.sinks ≡ machine.sinks → new.relays ≡ machine.relays → Quiet boxes steps made machine r → Quiet boxes steps made new r
-quiet_beside boxes steps made machine new (Ok x) stage sources sinks relays q = (q.0, stands_beside (made ∷ steps) machine new stage sources sinks relays q.1)
-quiet_beside boxes steps made machine new (Err (Refused reason)) stage sources sinks relays q = (q.0, stands_beside steps machine new stage sources sinks relays q.1)
-quiet_beside boxes steps made machine new (Err OutletFault) stage sources sinks relays q = absurd q
-quiet_beside boxes steps made machine new (Err Memory) stage sources sinks relays q = q
+quiet_beside boxes steps made machine new r stage sources sinks relays q = grind (arith, stands_beside)
 
 pub quiet_meets : (starts : List Account) (boxes : ℕ) (steps : List Step) (made : Step) (new : Machine) (text : List ℕ) (accounts : List Account) (r : Result (Unit {0}) Stop)
     → boxes ≡ length starts → output_of airs_of starts steps made ≡ [] → handed_by airs_of steps made ≡ [] → closes_first steps made ≡ false
@@ -43,24 +37,15 @@ quiet_meets starts boxes steps made new text accounts (Ok x) count output handed
   sym (ap (λ l. text ++ l) output ∙ append-nil text),
   sym (ap (accounts_after accounts) handed),
 )
-quiet_meets starts boxes steps made new text accounts (Err (Refused reason)) count output handed alone q =
-    (subst (λ n. phase_line airs_of n steps made ≡ Some reason) count q.0, q.1, refl, refl)
-quiet_meets starts boxes steps made new text accounts (Err OutletFault) count output handed alone q = absurd q
 quiet_meets starts boxes steps made new text accounts (Err Memory) count output handed alone q = inl refl
+quiet_meets starts boxes steps made new text accounts r count output handed alone q =
+    search (phase_line, airs_of, no_relayed_units, append-nil, accounts_after)
 
 pub tells_meets : (starts : List Account) (steps : List Step) (made : Step) (new : Machine) (text told : List ℕ) (accounts : List Account) (r : Result (Unit {0}) Stop)
     → handed_by airs_of steps made ≡ [] → closes_first steps made ≡ false → is_relayed steps made ≡ false
     → Tells starts steps made new text told r → Meets starts steps made new text told accounts accounts r
-tells_meets starts steps made new text told accounts (Ok x) handed alone gives_none t = (
-  not_relayed (length starts) steps made gives_none ∙ t.0,
-  subst (λ before. Stands (made ∷ before) new) (sym (no_relayed_units steps made alone)) t.1,
-  t.2,
-  sym (ap (accounts_after accounts) handed),
-)
-tells_meets starts steps made new text told accounts (Err (Refused reason)) handed alone gives_none t =
-    (not_relayed (length starts) steps made gives_none ∙ t.0, t.1, t.2, refl)
-tells_meets starts steps made new text told accounts (Err OutletFault) handed alone gives_none t = absurd t
-tells_meets starts steps made new text told accounts (Err Memory) handed alone gives_none t = inl refl
+tells_meets starts steps made new text told accounts r handed alone gives_none t =
+    grind (arith, not_relayed, length, no_relayed_units, accounts_after)
 
 -- a step that follows no `end`
 pub goes_on : (boxes : ℕ) (steps : List Step) (made : Step) → is_over steps ≡ false → phase_line airs_of boxes steps made ≡ line_refusal airs_of boxes steps made
@@ -68,32 +53,23 @@ goes_on boxes steps made not_over = rw not_over refl
 
 pub meets_step : (starts : List Account) (steps : List Step) (made : Step) (new : Machine) (text told : List ℕ) (before after : List Account) (r : Result (Unit {0}) Stop)
     → is_over steps ≡ false → Meets starts steps made new text told before after r → StepMeets starts steps made new text told before after r
-meets_step starts steps made new text told before after (Ok x) not_over m = (sym (goes_on (length starts) steps made not_over) ∙ m.0, m.1, m.2, m.3)
-meets_step starts steps made new text told before after (Err (Refused reason)) not_over m = (sym (goes_on (length starts) steps made not_over) ∙ m.0, m.1, m.2, m.3)
-meets_step starts steps made new text told before after (Err OutletFault) not_over m = (sym (goes_on (length starts) steps made not_over) ∙ m.0, m.1)
-meets_step starts steps made new text told before after (Err Memory) not_over (inl same) = inl same
-meets_step starts steps made new text told before after (Err Memory) not_over (inr m) = inr (sym (goes_on (length starts) steps made not_over) ∙ m.0, m.1)
+meets_step starts steps made new text told before after r not_over m = grind (arith, goes_on, length)
 
 -- ---- a step as it was read
 
 pub quiet_as : (starts : List Account) (boxes : ℕ) (steps : List Step) (made other : Step) (new : Machine) (text : List ℕ) (accounts : List Account) (r : Result (Unit {0}) Stop)
     → made ≡ other → boxes ≡ length starts → output_of airs_of starts steps other ≡ [] → handed_by airs_of steps other ≡ [] → closes_first steps other ≡ false
     → Quiet boxes steps other new r → Meets starts steps made new text text accounts accounts r
-quiet_as starts boxes steps made other new text accounts r is count output handed alone q =
-    let P : Step → Type 0 = λ s. Meets starts steps s new text text accounts accounts r in
-    subst P (sym is) (quiet_meets starts boxes steps other new text accounts r count output handed alone q)
+quiet_as starts boxes steps made other new text accounts r is count output handed alone q = grind (arith, quiet_meets)
 
 pub tells_as : (starts : List Account) (steps : List Step) (made other : Step) (new : Machine) (text told : List ℕ) (accounts : List Account) (r : Result (Unit {0}) Stop)
     → made ≡ other → handed_by airs_of steps other ≡ [] → closes_first steps other ≡ false → is_relayed steps other ≡ false
     → Tells starts steps other new text told r → Meets starts steps made new text told accounts accounts r
-tells_as starts steps made other new text told accounts r is handed alone gives_none t =
-    let P : Step → Type 0 = λ s. Meets starts steps s new text told accounts accounts r in
-    subst P (sym is) (tells_meets starts steps other new text told accounts r handed alone gives_none t)
+tells_as starts steps made other new text told accounts r is handed alone gives_none t = grind (arith, tells_meets)
 
 pub meets_as : (starts : List Account) (steps : List Step) (made other : Step) (new : Machine) (text told : List ℕ) (before after : List Account) (r : Result (Unit {0}) Stop)
     → made ≡ other → Meets starts steps other new text told before after r → Meets starts steps made new text told before after r
-meets_as starts steps made other new text told before after r is m =
-    let P : Step → Type 0 = λ s. Meets starts steps s new text told before after r in subst P (sym is) m
+meets_as starts steps made other new text told before after r is m = grind arith
 
 -- ---- where the scenario stands
 

@@ -1,5 +1,6 @@
 -- A step by the room that it belongs to.
-use Rattle.replay_steps.proofs.Prelude.{◌≡◌, ℕ, ◌==◌, List, [], ◌∷◌, true, false, if◌then◌else◌, unwrap_or, refl, sym, ◌∙◌, ap, subst, Option, None, Some, Result, Ok, Err, option_or, airs_of, BigInfo, Settings, tune, Refusal, NoSuchBis, Order, Stop, Refused, OutletFault, Memory, Step, End, Group, Scenario, Sink, Source, Tuned, Stage, chosen_of, chosen_steps, running, stage_after, stage_of, version_at, group_of, no_group, setup_of, takes_units, box_of, big_sync_on, horizon_of, version_given, horizon_in, sinks_made, has_beyond, is_misplaced, is_out_of_phase, no_sink, phase_refusal, relayed_or, sink_refusal, source_refusal, twin_refusal, refuse_if, Sources, fault_of, SourcesStand, SaysNothing, sink_says, sources_stay, tuned_says, Sinks, Histories, with_sink, with_tuning, SinksStand, Machine, Relays, RelaysStand, Stands, histories_of, relay_histories, Quiet, phase_line, stage_in}
+use Rattle.std.proofs.Common.{arith}
+use Rattle.replay_steps.proofs.Prelude.{◌≡◌, ℕ, ◌==◌, List, [], ◌∷◌, true, false, if◌then◌else◌, unwrap_or, refl, sym, ◌∙◌, ap, subst, Option, None, Some, Result, Ok, Err, option_or, airs_of, BigInfo, Settings, tune, Refusal, NoSuchBis, Order, Stop, Refused, OutletFault, Memory, Step, Sink, Source, Tuned, Stage, chosen_of, chosen_steps, running, stage_after, stage_of, version_at, group_of, no_group, setup_of, takes_units, box_of, big_sync_on, horizon_of, version_given, horizon_in, sinks_made, has_beyond, is_misplaced, is_out_of_phase, phase_refusal, relayed_or, sink_refusal, source_refusal, twin_refusal, refuse_if, Sources, fault_of, SourcesStand, SaysNothing, sink_says, sources_stay, tuned_says, Sinks, Histories, with_sink, with_tuning, SinksStand, Machine, Relays, RelaysStand, Stands, histories_of, relay_histories, Quiet, phase_line, stage_in}
 use Rattle.delegator_machine.specs.Groups.{by_numbers}
 use Rattle.delegator_history.specs.Announced.{numbers_alone}
 use Rattle.delegator_history.specs.LastGiven.{last_given}
@@ -10,12 +11,10 @@ use Rattle.scenario_sinks.specs.Refusals.{not_made, not_tuned}
 use Rattle.replay_steps.proofs.RelaysStay.{beside, minds_relays, relays_stay}
 
 pub or_none : (a : Option Refusal) → option_or a None ≡ a
-or_none None = refl
-or_none (Some reason) = refl
+or_none a = grind arith
 
 or_assoc : (a b c : Option Refusal) → option_or a (option_or b c) ≡ option_or (option_or a b) c
-or_assoc None b c = refl
-or_assoc (Some reason) b c = refl
+or_assoc a b c = grind arith
 
 -- the step may follow the first one and goes on, and the sinks refuse nothing of it
 pub record GoesOn (made : Step) : Type 0 where
@@ -26,8 +25,7 @@ pub record GoesOn (made : Step) : Type 0 where
 pub source_fault : (boxes version : ℕ) (steps : List Step) (made : Step) → GoesOn made → stage_of steps ≡ running version
     → phase_refusal airs_of boxes steps made ≡ fault_of version steps made
 source_fault boxes version steps made on e =
-    rw (e, on.placed version, on.refusal boxes steps)
-    (or_assoc (refuse_if (is_out_of_phase (chosen_steps steps) made) Order) (source_refusal airs_of version (chosen_steps steps) made) (twin_refusal steps made))
+    grind (arith, or_assoc, refuse_if, is_out_of_phase, chosen_steps, source_refusal, airs_of, twin_refusal)
 
 stage_stays : (steps : List Step) (made : Step) (old new : Machine) → GoesOn made → Stands steps old → new.stage ≡ old.stage → stage_in new.stage ≡ stage_of (made ∷ steps)
 stage_stays steps made old new on stands same = ap stage_in same ∙ stands.stage ∙ sym (on.stage (stage_of steps))
@@ -39,8 +37,7 @@ as_step boxes steps made minds = ap (λ relayed. relayed_or relayed (phase_refus
 -- the relays that stood stand by the step too
 pub relays_kept : (steps : List Step) (made : Step) (old new : Machine) → minds_relays made ≡ false → Stands steps old → new.relays ≡ old.relays
     → RelaysStand (relay_histories (made ∷ steps)) new.relays
-relays_kept steps made old new minds stands held =
-    subst (λ r. RelaysStand (relay_histories (made ∷ steps)) r) (sym held) (relays_stay steps made old.relays minds stands.relays)
+relays_kept steps made old new minds stands held = grind (arith, relays_stay steps made old.relays minds stands.relays)
 
 -- the machine after a refused step of the sources, or of the sinks
 pub sources_stand : (steps : List Step) (old new : Machine) → Stands steps old → new.stage ≡ old.stage → new.sinks ≡ old.sinks → new.relays ≡ old.relays
@@ -109,10 +106,7 @@ choose_meets boxes version source steps old new stands e stage same held s = (
 
 -- less is said after want of memory
 pub less_said : (fault : Option Refusal) (past next : Histories) (new : Sinks) (r : Result (Unit {0}) Stop) → sinks.Answers fault past next new r → sinks.Tunes fault past next new r
-less_said fault past next new (Ok x) a = a
-less_said fault past next new (Err (Refused reason)) a = a
-less_said fault past next new (Err OutletFault) a = a
-less_said fault past next new (Err Memory) a = tt
+less_said fault past next new r a = grind arith
 
 pub sinks_meet : (boxes : ℕ) (steps : List Step) (made : Step) (fault : Option Refusal) (next : Histories) (old new : Machine) (r : Result (Unit {0}) Stop) → Stands steps old
     → phase_refusal airs_of boxes steps made ≡ fault → SaysNothing made → stage_of (made ∷ steps) ≡ stage_of steps → histories_of (made ∷ steps) ≡ next
@@ -137,9 +131,7 @@ sinks_meet boxes steps made fault next old new (Err Memory) stands is nothing on
 -- a scenario has one version, whether its first step says it or where it stands
 version_by : (step : Step) (earlier : List Step) → unwrap_or (last_given version_given earlier) 1 ≡ version_at (stage_of earlier)
     → unwrap_or (last_given version_given (step ∷ earlier)) 1 ≡ version_at (stage_of (step ∷ earlier))
-version_by (Scenario version) earlier same = refl
-version_by End earlier same = same
-version_by other earlier same = same
+version_by other earlier same = grind arith
 
 version_said : (steps : List Step) → unwrap_or (last_given version_given steps) 1 ≡ version_at (stage_of steps)
 version_said [] = refl
@@ -173,8 +165,7 @@ tuned_early boxes version n which steps e going = rw (e, going) refl
 -- a `group` line says the numbers of a group and nothing more
 plain_by : (step : Step) (own : List Step) → numbers_alone (unwrap_or (group_of own) no_group).info ≡ (unwrap_or (group_of own) no_group).info
     → numbers_alone (unwrap_or (group_of (step ∷ own)) no_group).info ≡ (unwrap_or (group_of (step ∷ own)) no_group).info
-plain_by (Group framing origin delay iso sdu max_sdu max_pdu num_bis bn nse irc pto sub spacing phy) own same = refl
-plain_by other own same = same
+plain_by other own same = grind arith
 
 plain_in : (own : List Step) → numbers_alone (unwrap_or (group_of own) no_group).info ≡ (unwrap_or (group_of own) no_group).info
 plain_in [] = refl
@@ -196,9 +187,7 @@ pub tuned_meets : (boxes version n source which : ℕ) (steps : List Step) (tuni
     → Quiet boxes steps (Tuned n which) new r
 tuned_meets boxes version n source which steps tuning old new r stands e going chosen is stage same held a =
     let own : List Step = chosen_steps steps in
-    let fault : phase_refusal airs_of boxes steps (Tuned n which) ≡ not_tuned (box_of n steps) tuning.info.num_bis tuning.which =
-    rw (e, going) (ap (option_or (no_sink n steps)) (or_none (refuse_if (has_beyond (setup_of own).info.num_bis which) NoSuchBis))
-    ∙ ap (λ (t : BigSync). not_tuned (box_of n steps) t.info.num_bis t.which) (sym is)) in
+    let fault : phase_refusal airs_of boxes steps (Tuned n which) ≡ not_tuned (box_of n steps) tuning.info.num_bis tuning.which = grind (arith, or_none (refuse_if (has_beyond (setup_of own).info.num_bis which) NoSuchBis)) in
     sinks_meet boxes steps (Tuned n which) (not_tuned (box_of n steps) tuning.info.num_bis tuning.which) (with_tuning n source tuning (histories_of steps)) old new r stands fault
     (tuned_says n which) refl
     (ap (λ (t : BigSync). with_both n (chosen_of steps) (big_sync_on own which) t (histories_of steps)) (tuned_to own which)

@@ -1,24 +1,16 @@
 -- The boxes that no `sink` line of a text takes, by the lines that were run.
-use Rattle.replay_steps.proofs.Prelude.{◌≡◌, ◌≤◌, List, [], ◌∷◌, ◌++◌, reverse, ap, ◌∙◌, arith, refl, Option, None, Some, TextLine, Account, airs_of, Airs, Refusal, accepted_accepted, Step, Sink, Said, a_step, nothing, unsaid, rules_of, said_after, said_of, steps_of, with_said, sinks_happened, sinks_made}
+use Rattle.replay_steps.proofs.Prelude.{◌≡◌, ◌≤◌, List, [], ◌∷◌, ◌++◌, reverse, ap, ◌∙◌, arith, refl, Option, None, Some, TextLine, Account, airs_of, Airs, Refusal, accepted_accepted, Step, a_step, nothing, unsaid, rules_of, said_after, said_of, steps_of, sinks_happened, sinks_made}
 use Rattle.scenario_history.specs.Runs.{Accepted, accepted_of, accepted_unless}
 use Rattle.replay_steps.specs.Unassigned.{UnassignedBy, UnassignedRun, UnassignedSame}
 
 -- ---- a line more takes no box back
 
 made_step : (step : Step) (steps : List Step) → sinks_made steps ≤ sinks_made (step ∷ steps)
-made_step (Sink sink streams slots mtu) steps = omega arith
-made_step other steps = omega arith
-
-made_said : (said : Said) (steps : List Step) → sinks_made steps ≤ sinks_made (with_said said steps)
-made_said (a_step step) steps = made_step step steps
-made_said nothing steps = omega arith
-made_said (unsaid reason) steps = omega arith
+made_step other steps = grind arith
 
 pub made_line : (airs : Airs) (line : TextLine) (history : List TextLine)
     → sinks_made (steps_of airs history) ≤ sinks_made (steps_of airs (line ∷ history))
-made_line airs line history =
-    let more = made_said (said_after history line) (said_of history) in
-    omega (arith, more, sinks_happened airs (said_of history), sinks_happened airs (said_of (line ∷ history)))
+made_line airs line history = grind (arith, a_step, made_step, nothing, unsaid, said_after, said_of, sinks_happened)
 
 module _ (airs : Airs) (starts : List Account) where
   by_refusal : (line : TextLine) (history later : List TextLine) → sinks_made (steps_of airs (line ∷ history)) ≤ sinks_made (steps_of airs later)
@@ -46,16 +38,12 @@ pub unassigned_run : {A : Type 0} (airs : Airs) (starts : List Account) (lines :
     → UnassignedRun starts lines old new → UnassignedBy airs starts lines old new
 unassigned_run airs starts lines old new accepted run =
     unassigned_by airs starts lines run.earlier run.later old new run.split (accepted run.earlier run.accepted)
-    (λ box least.
-    run.same box (omega (arith, least, sinks_happened airs (said_of run.earlier), sinks_happened airs_of (said_of run.earlier))))
+    (grind (arith, sinks_happened, said_of, airs_of))
 
 -- the line after these was run, and only sinks of theirs have boxes
 pub unassigned_line : {A : Type 0} (line : TextLine) (history : List TextLine) (old mid new : List A) → UnassignedSame (steps_of airs_of history) old mid
     → UnassignedSame (steps_of airs_of history) mid new → UnassignedSame (steps_of airs_of (line ∷ history)) old new
-unassigned_line line history old mid new before here box least =
-    let more = made_line airs_of line history in
-    let within : sinks_made (steps_of airs_of history) ≤ box = omega (arith, more, least) in
-    here box within ∙ before box within
+unassigned_line line history old mid new before here box least = grind (arith, made_line, airs_of, sinks_made, steps_of)
 
 -- no line was run
 pub none_run : {A : Type 0} (starts : List Account) (lines : List TextLine) (boxes : List A) → UnassignedRun starts lines boxes boxes

@@ -8,8 +8,7 @@ positions-init c = (λ steps on sources sinks. air_begins steps c.args.sink c.ar
 pub positions-preserved : goal.positions-preserved
 positions-preserved c =
     let count : c.from.result * c.from-2.result ≡ c.args.grid.streams * c.args.grid.subevents = cc in (
-      λ steps on sources sinks. c.hear_position.ensures steps c.args.grid.streams c.args.grid.subevents c.positions.number (omega (arith, count)) c.positions.invariant.1 on sources
-          (c.positions.invariant.0 steps on sources sinks),
+      grind arith,
       c.next-position.ensures.next c.args.grid.streams c.args.event c.positions.number c.positions.invariant.1,
       c.next-position.ensures.within,
     )

@@ -17,8 +17,7 @@ returns-in_default c steps streams subevents n within at on sources sinks = absu
 pub returns-in-Err : goal.returns-in-Err
 returns-in-Err c steps streams subevents n within at on sources sinks =
     let w = position_within streams subevents n within in
-    absurd (no_place_there (chosen_steps steps) c.in-Some.bis c.args.position.subevent c.in-Err.field-0 (omega (arith, c.in-Some.ensures.1, at.stream, w.1, on.streams_are))
-    (omega (arith, at.subevent, w.2, on.subevents_are)) on.some (c.in-Err.ensures.err steps sources on.started))
+    absurd (grind (arith, no_place_there, chosen_steps))
 
 pub returns-in-Ok : goal.returns-in-Ok
 returns-in-Ok c steps streams subevents n within at on sources sinks =

@@ -1,4 +1,5 @@
-use Rattle.replay_steps.proofs.Prelude.{Err, Ok, map, relay_of, closing_of, handed_all, with_close_at, handed_of, relay_histories}
+use Rattle.std.proofs.Common.{arith}
+use Rattle.replay_steps.proofs.Prelude.{Ok, map, relay_of, closing_of, handed_all, with_close_at, handed_of, relay_histories}
 use Rattle.replay_steps.proofs.Relaying.{offers_lent, offers_stop, sink_relays, sink_stops}
 use Rattle.replay_steps.proofs.machine.Machine.close_sink.Goals as goal
 
@@ -14,8 +15,7 @@ returns-in-Err-offer_all-clause-closes g c steps past components =
     let offered = c.in-Err-offer_all.ensures steps (relay_of c.args.sink steps) (c.route-route.ensures (relay_histories steps) components.relays) components.sources components.relays in
     offers_stop steps past c.args.sink c.args.event c.close_at.new.self c.args.self.now c.offer_all.new.sources c.offer_all.new.relays c.args.text.now c.close_at.new.text
     c.offer_all.new.text _ _ c.in-Err-offer_all.stop closed
-    (offers_lent steps past c.args.sink c.args.event (map handed_of c.lent-units.result.now) c.offer_all.new.sources c.offer_all.new.relays c.close_at.new.text c.offer_all.new.text
-    (Err c.in-Err-offer_all.stop) lent offered)
+    (grind (arith, offers_lent, map, handed_of))
 
 pub returns-clause-closes : goal.returns-clause-closes
 returns-clause-closes g c steps past components =

@@ -1,3 +1,4 @@
+use Rattle.std.proofs.Common.{arith}
 use Rattle.replay_steps.proofs.Prelude.{refl}
 use Rattle.scenario_sources.specs.Described.{group_step}
 use Rattle.replay_steps.proofs.Stepping.{sources_meet}
@@ -5,9 +6,5 @@ use Rattle.replay_steps.proofs.machine.Machine.group.Goals as goal
 
 pub returns : goal.returns
 returns c boxes version steps plain stands e =
-    sources_meet boxes version steps (group_step c.args.info c.args.origin c.args.delay) c.args.self.now _ c.describe.result (record {
-      stage = λ stage. refl;
-      placed = λ v. refl;
-      refusal = λ boxes steps. refl;
-    }) refl stands e refl refl refl refl
+    sources_meet boxes version steps (group_step c.args.info c.args.origin c.args.delay) c.args.self.now _ c.describe.result (grind arith) refl stands e refl refl refl refl
     (c.describe.ensures version steps plain stands.sources)
