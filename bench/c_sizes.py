@@ -1,13 +1,13 @@
 #!/usr/bin/env python3
 """c_sizes.py [FOLDER]: what the library for C takes, of libvicemint.a in FOLDER, which is build/c where none is named: the size of its code
-by part, the stack of its calls, the memory of a sink by its kind, and the instructions of a call.
+by part, the stack of its calls, the memory of sources and of sinks by their kind, and the instructions of a call.
 
-Sinks are those of c/tests/measure_sink.c: 48_2, which is a frame of 100 octets each 10 ms, sent three times; 2 receive states. `ahead` has
-each frame in the events 15 and 30 before its own too. Memory is counted by memory_counted.c, and `block` is what memory_block.c used, with
-its headers. The stack is told twice, with the return address of the call: at most, by the frames of the functions that a call may reach,
-without what the back end for memory takes; and as it was measured, by painted stacks under each call of the corpus' scenarios and of tapes of
-the fuzzer, with malloc below. Instructions are counted by valgrind's callgrind, from entry to return. It needs a C compiler, `size`
-and `objdump`, and valgrind for the last table."""
+They are those of c/tests/measure_source.c and c/tests/measure_sink.c: 48_2, which is a frame of 100 octets each 10 ms, sent three times; a
+sink has 2 receive states. `ahead` has each frame in the events 15 and 30 before its own too. Memory is counted by memory_counted.c, and
+`block` is what memory_block.c used, with its headers. The stack is told twice, with the return address of the call: at most, by the frames
+of the functions that a call may reach, without what the back end for memory takes; and as it was measured, by painted stacks under each
+call of the corpus' scenarios and of tapes of the fuzzer, with malloc below. Instructions are counted by valgrind's callgrind, from entry to
+return. It needs a C compiler, `size` and `objdump`, and valgrind for the last table."""
 import contextlib
 import os
 import platform
@@ -30,7 +30,11 @@ from checks.parts.files import text_of  # noqa: E402
 C = os.path.join(TOP, 'c')
 EVENTS = 1000
 KINDS = ('unframed', 'framed', 'ahead')
-CALLS = ('vm_sink_hear', 'vm_sink_tick', 'vm_sink_next_unit', 'vm_sink_train')
+TRAINS, PDUS, UNITS, OF_EVENTS = range(4)
+# how often each call is made
+CALLS = {'vm_sink_hear': PDUS, 'vm_sink_tick': OF_EVENTS, 'vm_sink_next_unit': UNITS, 'vm_sink_train': TRAINS,
+         'vm_source_give': UNITS, 'vm_source_event': OF_EVENTS, 'vm_source_pdu': PDUS, 'vm_source_announce': TRAINS}
+BACK_ENDS: dict[str, tuple[str, ...]] = {'counted': (), 'block': ('-DOF_BLOCK', '-DVM_BLOCK=1048576')}
 PARTS = {'sink_c': 'sinks', 'link_c': 'links', 'source_c': 'sources', 'stream_c': 'one stream alone', 'layouts_c': 'layouts'}
 
 
@@ -167,48 +171,56 @@ def stack(room: str, archive: str) -> None:
     print(f'not measured: {", ".join(unseen)}\n' if unseen else '')
 
 
-def told(program: str, sent: bytes) -> dict[str, list[int]]:
-    ran = subprocess.run([program], input=sent, capture_output=True, check=True).stdout.decode()
-    return {words[0]: [int(it) for it in words[1:]] for words in map(str.split, ran.splitlines())}
+class Made(typing.NamedTuple):
+    """What a program of c/tests sent, and what it tells by name: the memory that it took, and how much it made."""
+    sent: bytes
+    told: dict[str, list[int]]
 
 
-def instructions(program: str, sent: bytes, call: str, room: str) -> int | None:
+def made(words: list[str], sent: bytes = b'') -> Made:
+    ran = subprocess.run(words, input=sent, capture_output=True, check=True)
+    return Made(ran.stdout, {line[0]: [int(it) for it in line[1:]] for line in map(str.split, ran.stderr.decode().splitlines())})
+
+
+def instructions(words: list[str], sent: bytes, call: str, room: str) -> int:
     """Those of all calls of one kind."""
-    words = ['valgrind', '--tool=callgrind', f'--toggle-collect={call}', f'--callgrind-out-file={room}/callgrind.out', program]
-    ran = subprocess.run(words, input=sent, capture_output=True, check=True).stderr.decode()
+    of_valgrind = ['valgrind', '--tool=callgrind', f'--toggle-collect={call}', f'--callgrind-out-file={room}/callgrind.out']
+    ran = subprocess.run([*of_valgrind, *words], input=sent, capture_output=True, check=True).stderr.decode()
     found = re.search(r'Collected : (\d+)', ran)
-    return int(found[1]) if found else None
+    return int(found[1]) if found else 0
 
 
-def sinks(room: str, archive: str) -> dict[str, bytes]:
-    """Prints what memory each kind of sink takes, and gives back what stereo sources sent."""
-    source = built(room, archive, 'source', 'source', 'counted')
-    counted = built(room, archive, 'counted', 'sink', 'counted')
-    block = built(room, archive, 'block', 'sink', 'block', '-DOF_BLOCK', '-DVM_BLOCK=1048576')
+def memory(room: str, archive: str) -> dict[str, bytes]:
+    """Prints what memory each kind of source and of sink takes, and gives back what stereo sources sent."""
+    programs = {(part, back_end): built(room, archive, f'{part}_{back_end}', part, back_end, *flags)
+                for part in ('source', 'sink') for back_end, flags in BACK_ENDS.items()}
+    rows: dict[str, list[str]] = {'source': [], 'sink': []}
     sent: dict[str, bytes] = {}
-    print('| Sink | Octets, on its group | in blocks | at most | in blocks | of a block |\n|---|---|---|---|---|---|')
     for kind in KINDS:
         for streams in (1, 2):
-            text = subprocess.run([source, kind, str(streams), str(EVENTS)], capture_output=True, check=True).stdout
-            sent[kind] = text
-            own, of_block = told(counted, text), told(block, text)
-            print(f'| {streams} of 48_2, {kind} | {own["joined"][0]:,} | {own["joined"][1]} | {own["end"][2]:,} | {own["end"][3]} | '
-                  f'{of_block["block"][0]:,} |')
-    print()
+            words = [kind, str(streams), str(EVENTS)]
+            of_source = [made([programs['source', it], *words]) for it in BACK_ENDS]
+            sent[kind] = of_source[0].sent
+            of_sink = [made([programs['sink', it]], sent[kind]) for it in BACK_ENDS]
+            for part, (own, of_block) in (('source', of_source), ('sink', of_sink)):
+                begun, end = own.told['begun'], own.told['end']
+                rows[part].append(f'| {part}, {streams} of 48_2, {kind} | {begun[0]:,} | {begun[1]} | {end[2]:,} | {end[3]} | '
+                                  f'{of_block.told["block"][0]:,} |')
+    print('| Of | Octets, as it begins | in blocks | at most | in blocks | of a block |\n|---|---|---|---|---|---|')
+    print('\n'.join([*rows['sink'], *rows['source'], '']))
     return sent
 
 
 def calls(room: str, archive: str, sent: dict[str, bytes]) -> None:
     """Prints the instructions of a call, on average."""
-    counted = built(room, archive, 'counted', 'sink', 'counted', '-g')
+    programs = {part: built(room, archive, f'{part}_traced', part, 'counted', '-g') for part in ('source', 'sink')}
     print('| Call | ' + ' | '.join(KINDS) + ' |\n|---|' + '---|' * len(KINDS))
-    for call in CALLS:
+    for call, often in CALLS.items():
         row = []
         for kind in KINDS:
-            trains, pdus, units = told(counted, sent[kind])['heard']
-            times = {'vm_sink_hear': pdus, 'vm_sink_train': trains, 'vm_sink_tick': EVENTS, 'vm_sink_next_unit': units}[call]
-            counted_all = instructions(counted, sent[kind], call, room)
-            row.append(f'{round((counted_all or 0) / max(times, 1)):,}')
+            words = [programs['sink']] if call.startswith('vm_sink') else [programs['source'], kind, '2', str(EVENTS)]
+            times = [*made(words, sent[kind]).told['made'], EVENTS][often]
+            row.append(f'{round(instructions(words, sent[kind], call, room) / times):,}')
         print(f'| `{call}` | ' + ' | '.join(row) + ' |')
 
 
@@ -224,7 +236,7 @@ def main() -> int:
     with tempfile.TemporaryDirectory() as room:
         code(archive)
         stack(room, archive)
-        sent = sinks(room, archive)
+        sent = memory(room, archive)
         if shutil.which('valgrind'):
             calls(room, archive, sent)
         else:

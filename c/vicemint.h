@@ -12,7 +12,11 @@
  * No call keeps a pointer, calls back, blocks, or writes to what its comment doesn't name. Every call returns.
  *
  * A status other than VM_OK leaves the handle and all that the call fills as they were, but where a comment says otherwise. VM_MEMORY
- * comes only from calls that say that they take memory. Times are microseconds, an index of a stream is 1 to 31, a subevent counts from 0. */
+ * comes only from calls that say that they take memory.
+ *
+ * An index of a stream is 1 to 31, and a subevent counts from 0. An event has the number that the group gives it: that to which a BIGInfo's
+ * BIG_Offset leads is bis_payload_count / bn. A PDU is its header of two octets and its payload, without access address and CRC. Times are
+ * microseconds from a moment that the product chooses. docs/using-from-c.md says how they go with a clock. */
 #ifndef VICEMINT_H
 #define VICEMINT_H
 #include <stdbool.h>
@@ -82,8 +86,8 @@ void vm_sink_set_contexts(vm_sink_t *sink, uint16_t bits);
 vm_status_t vm_sink_set_mtu(vm_sink_t *sink, uint16_t mtu); /* 23 to 517, or VM_RANGE */
 /* A write to the control point (BASS 1.0, section 3.1.1) is served. Takes memory. */
 vm_status_t vm_sink_write(vm_sink_t *sink, const uint8_t *write, vm_size_t count, vm_reply_t *reply);
-/* A train is heard: the data of extended and periodic advertising and of the ACAD, and its anchor's time, at most 2^61 or VM_RANGE. A
- * train that is taken puts the sink on its group. Takes memory, of which hear then takes none. */
+/* A train is heard: the data of extended and of periodic advertising, the ACAD of its AUX_SYNC_IND, and when that began, at most 2^61 or
+ * VM_RANGE. A train that is taken puts the sink on its group. Takes memory, and hear then takes none. */
 vm_status_t vm_sink_train(vm_sink_t *sink, uint8_t address_type, uint8_t sid, const uint8_t *ext, vm_size_t ext_count, const uint8_t *adv,
                           vm_size_t adv_count, const uint8_t *acad, vm_size_t acad_count, uint64_t now, vm_train_heard_t *heard);
 /* Puts the sink on a group of no slot, for a product that scans by itself: on these streams of the group, which aren't none and are of
@@ -103,9 +107,10 @@ vm_status_t vm_sink_lost(vm_sink_t *sink); /* The train is lost. Takes memory wh
 void vm_sink_streams(vm_sink_t *sink, uint32_t *streams);
 /* All events up to this one, below 2^39 or VM_RANGE, are over: the open event of each stream is closed where it is one of them, and its units
  * wait behind those that wait. It is one event a call, so a tick comes after each. Takes memory for the units beyond the room. After
- * VM_MEMORY the event is closed too, and a front of the units waits, but not all. */
+ * VM_MEMORY the event is closed too, and the first of the units wait, but not all. */
 vm_status_t vm_sink_tick(vm_sink_t *sink, uint64_t event);
-/* The first unit that waits, its octets at the front of the room. VM_EMPTY; VM_ROOM, where it waits on: 4,095 octets are always enough. */
+/* The first unit that waits, its octets at the front of the room. VM_EMPTY; VM_ROOM, after which it still waits: 4,095 octets are always
+ * enough. */
 vm_status_t vm_sink_next_unit(vm_sink_t *sink, uint8_t *room, vm_size_t room_count, vm_unit_t *unit);
 /* The first notice that waits: its slot, and the value at the front of a room of 512 octets at least, or VM_RANGE. VM_EMPTY. */
 vm_status_t vm_sink_next_notice(vm_sink_t *sink, uint8_t *room, vm_size_t room_count, uint8_t *slot, vm_size_t *count);
@@ -116,8 +121,9 @@ vm_status_t vm_sink_read_state(vm_sink_t *sink, uint8_t slot, uint8_t *room, vm_
 
 typedef struct { void *at; } vm_link_t;
 
-vm_status_t vm_link_new(vm_link_t *link, uint8_t slots); /* Takes memory. */
-void vm_link_drop(vm_link_t link);                       /* use vm_link_free */
+/* Fills a handle that is VM_NONE. A slot is a characteristic Broadcast Receive State of the server. Takes memory. */
+vm_status_t vm_link_new(vm_link_t *link, uint8_t slots);
+void vm_link_drop(vm_link_t link); /* use vm_link_free */
 static inline void vm_link_free(vm_link_t *link) { if (link->at) vm_link_drop(*link); link->at = 0; }
 vm_status_t vm_link_set_mtu(vm_link_t *link, uint16_t mtu); /* 23 to 517, or VM_RANGE */
 /* Writes that wait for next_write, oldest first; each takes memory. Of add and modify the first that holds: VM_RANGE where a field has no
@@ -132,8 +138,8 @@ vm_status_t vm_link_modify(vm_link_t *link, uint8_t source_id, uint8_t pa_sync, 
                            vm_size_t subgroups, const uint8_t *metadata, vm_size_t metadata_count);
 vm_status_t vm_link_code(vm_link_t *link, uint8_t source_id, const uint8_t *code /* 16 */);
 vm_status_t vm_link_remove(vm_link_t *link, uint8_t source_id);
-/* The first write that waits, at the front of the room. VM_EMPTY; VM_ROOM, where it waits on: 512 octets are enough but for a longer one
- * that put put. */
+/* The first write that waits, at the front of the room. VM_EMPTY; VM_ROOM, after which it still waits: 512 octets are enough for all but a
+ * longer one of vm_link_put. */
 vm_status_t vm_link_next_write(vm_link_t *link, uint8_t *room, vm_size_t room_count, vm_size_t *count);
 /* A notification of a slot is heard: where an MTU is set and it may have been cut, a read of the slot waits, else it is the view of the
  * slot. VM_NO_SLOT; VM_BAD_NOTICE with the fault. Takes memory. */
@@ -152,9 +158,8 @@ typedef struct { void *at; } vm_source_t;
 typedef struct { uint8_t address_type, address[6], sid, broadcast_id[3]; } vm_identity_t;
 
 /* Fills a handle that is VM_NONE: the anchor of the first event, below 2^39, is at origin, 3,000 to 2^48. The octets are a BASE. Where
- * times_ahead holds, the time of a framed unit may be past the next anchor. Takes memory, of which give, event and pdu then take little.
- * The first that holds: VM_RANGE, also where a field of the BIGInfo doesn't fit its width; VM_LAYOUT with the fault of the BASE; VM_GROUP
- * with the row of the group check as its number. */
+ * times_ahead holds, the time of a framed unit may be past the next anchor. Takes memory. The first that holds: VM_RANGE, also where a
+ * field of the BIGInfo doesn't fit its width; VM_LAYOUT with the fault of the BASE; VM_GROUP with the row of the group check as its number. */
 vm_status_t vm_source_new(vm_source_t *source, const vm_identity_t *identity, const air_big_info_t *info, const uint8_t *base,
                           vm_size_t base_count, uint64_t origin, uint64_t first_event, bool times_ahead, air_fault_t *fault);
 void vm_source_drop(vm_source_t source); /* use vm_source_free */
@@ -169,7 +174,7 @@ void vm_source_next(vm_source_t *source, uint64_t *event, uint64_t *anchor);
 vm_status_t vm_source_event(vm_source_t *source);
 vm_status_t vm_source_next_stale(vm_source_t *source, uint8_t *bis, uint64_t *time); /* VM_EMPTY */
 /* The PDU in a subevent of the event that came back, 0 to 31, before the last, and its payload number. VM_RANGE, VM_NO_BIS, VM_NO_SUBEVENT,
- * VM_NOT_ON_AIR; VM_ROOM: 253 octets are always enough. */
+ * VM_NOT_ON_AIR; VM_ROOM: 253 octets are always enough. Takes no memory. */
 vm_status_t vm_source_pdu(vm_source_t *source, uint8_t back, uint8_t bis, uint8_t subevent, uint8_t *room, vm_size_t room_count,
                           vm_size_t *count, uint64_t *number);
 /* Announces the next event: the data of extended and periodic advertising and of the ACAD, one behind the other at the front of the
@@ -220,19 +225,24 @@ vm_status_t air_big_info_read(const uint8_t *from, vm_size_t count, air_big_info
 vm_status_t air_big_info_write(const air_big_info_t *info, uint8_t *room, vm_size_t room_count, vm_size_t *count);
 /* VM_RANGE where a field doesn't fit its width; VM_GROUP with the first row at fault, 1 to 14. */
 vm_status_t air_group_check(const air_big_info_t *info, uint8_t *row);
-/* VM_LAYOUT with the fault. Takes memory. */
+/* Whether octets are a BASE, or VM_LAYOUT with the fault. Takes memory. */
 vm_status_t air_base_check(const uint8_t *from, vm_size_t count, air_fault_t *fault);
-vm_status_t air_base_streams(const uint8_t *from, vm_size_t count, uint32_t *streams); /* bit n for BIS n + 1 */
-/* VM_RANGE where bis isn't 1 to 31; VM_LAYOUT; VM_NO_BIS. Takes memory. */
+/* The streams of a BASE: bit n for BIS n + 1. VM_LAYOUT. Takes memory. */
+vm_status_t air_base_streams(const uint8_t *from, vm_size_t count, uint32_t *streams);
+/* What a BASE says of a stream, of all its levels. VM_RANGE where bis isn't 1 to 31; VM_LAYOUT; VM_NO_BIS. Takes memory. */
 vm_status_t air_base_effective(const uint8_t *from, vm_size_t count, uint8_t bis, air_effective_t *into);
+/* Whether octets are a Sink PAC, or VM_LAYOUT with the fault. Takes memory. */
 vm_status_t air_pac_check(const uint8_t *from, vm_size_t count, air_fault_t *fault);
 /* Whether a device with these records, locations and contexts takes a stream of the BASE. VM_RANGE where bis isn't 1 to 31; VM_LAYOUT;
  * VM_NO_BIS; VM_EMPTY where it doesn't take it, with the first requirement that the last record doesn't meet: 1 codec, 2 frequency,
  * 3 duration, 4 octets of a frame, 5 channels, 6 frames of a unit, 7 location, 8 context. Takes memory. */
 vm_status_t air_takes(const uint8_t *records, vm_size_t records_count, uint32_t locations, uint16_t contexts, const uint8_t *base,
                       vm_size_t base_count, uint8_t bis, uint8_t *reason);
+/* Whether octets are a PDU of a stream with a payload of at most max_pdu octets, or VM_LAYOUT with the fault. */
 vm_status_t air_pdu_check(const uint8_t *from, vm_size_t count, uint8_t max_pdu, air_fault_t *fault);
+/* Whether octets are an operation of the control point, or VM_LAYOUT with the fault. Takes memory. */
 vm_status_t air_operation_check(const uint8_t *from, vm_size_t count, air_fault_t *fault);
+/* Whether octets are a receive state or none, or VM_LAYOUT with the fault. Takes memory. */
 vm_status_t air_state_check(const uint8_t *from, vm_size_t count, air_fault_t *fault);
 /* A receive state, and the bits of each subgroup at the front of bis_sync. VM_EMPTY for no octets, which are no source; VM_LAYOUT with the
  * fault; VM_ROOM where there are more subgroups than places. The Bad_Code is 0 where none is told. Takes memory. */

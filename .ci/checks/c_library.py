@@ -1,9 +1,11 @@
 """The library for C, C++ and Rust."""
 import functools
 import os
+import re
 import shutil
 import subprocess
 import tempfile
+from collections import Counter
 from collections.abc import Callable, Iterator
 
 from checks.parts import c_bindings, c_builds, c_cross, c_document, c_drawn, c_logs, c_prototypes, c_tapes, scenarios
@@ -101,14 +103,14 @@ def compilers(*names: str) -> list[str]:
 
 
 @step(seconds=900, needs=('cc',), wants=('clang', 'cxx', 'cargo', 'cmake', 'aarch64'))
-def check(replay: str, archives: str = '', draws: int = 1000, seconds: int = 120, emulated: int = 0) -> Faults:
+def check(replay: str, archives: str = '', draws: int = 1000, seconds: int = 120, emulated: int = 300) -> Faults:
     """libvicemint.a builds and calls six symbols. vicemint.h has the exports of the crates, and C++ and Rust have all of it. The player in
     C, built by each compiler under sanitizers, writes for the scenarios of the corpus and for drawn ones what replay writes, octet for
     octet; each stream that a sink is on is played beside it by vm_stream_*, and hands up what the sink does. Where a call for memory fails,
     the call that says so goes on when it is made again. A fuzzer finds nothing in some seconds of random calls. The example, its likes in
     C++ and Rust, over CMake and pkg-config, and the commands of docs/using-from-c.md run. Some of the scenarios, --emulated of them, and
-    the example are played on an emulated aarch64 too. --archives names a folder with the static libraries of the crates, which has those
-    for aarch64 in its folder `aarch64`."""
+    the example are played on an emulated aarch64 too, where its tools are there. --archives names a folder with the static libraries of the
+    crates, which has those for aarch64 in its folder `aarch64`."""
     yield from c_prototypes.differences()
     yield from c_bindings.differences()
     with tempfile.TemporaryDirectory() as room:
@@ -130,14 +132,21 @@ def check(replay: str, archives: str = '', draws: int = 1000, seconds: int = 120
         yield from c_document.differences(library)
         on_other = logs[-emulated:] if emulated and c_cross.is_there(archives) else []
         yield from played_elsewhere(room, archives, on_other)
-        fuzzed = 'no fuzzer'
-        if shutil.which('clang'):
-            yield from tried(functools.partial(fuzz, library, seconds))
-            fuzzed = f'{seconds} s of random calls'
-        rows = [row for _, _, wanted in logs for row in wanted]
-        units = sum(row.startswith('unit ') for row in rows)
-        return (f'{len(logs)} scenarios with {len(rows)} lines, of them {units} units, by {len(players)} compilers, {len(on_other)} scenarios on '
-                f'aarch64, {sum(count for count, _ in failing)} calls for memory that fail, {fuzzed}')
+        try:
+            tapes = fuzz(library, seconds) if shutil.which('clang') else 0
+        except c_builds.Broken as broken:
+            yield str(broken)
+            tapes = 0
+        return (f'{counted(logs)}, by {len(players)} compilers, {len(on_other)} scenarios on aarch64, {sum(count for count, _ in failing)} calls '
+                f'for memory that fail, {tapes} tapes of the fuzzer')
+
+
+def counted(logs: list[Log]) -> str:
+    """How much the scenarios have of each kind."""
+    calls = Counter(call.split(' ', 1)[0] for _, made, _ in logs for call in made)
+    rows = Counter(row.split(' ', 1)[0] for _, _, wanted in logs for row in wanted)
+    return (f'{len(logs)} scenarios with {calls["hear"] + calls["inject"]} PDUs and {rows.total()} lines, of them {rows["unit"]} units and '
+            f'{rows["notice"] + rows["anotice"]} notices')
 
 
 def played_elsewhere(room: str, archives: str, logs: list[Log]) -> Iterator[str]:
@@ -151,13 +160,15 @@ def played_elsewhere(room: str, archives: str, logs: list[Log]) -> Iterator[str]
         yield from filter(None, side_by_side(functools.partial(difference, program), logs))
 
 
-def fuzz(library: c_builds.Library, seconds: int) -> None:
-    """Runs the fuzzer for so long, which has to find nothing."""
+def fuzz(library: c_builds.Library, seconds: int) -> int:
+    """Runs the fuzzer for so long, which has to find nothing: how many tapes it played."""
     begun = os.path.join(library.room, 'tapes')
     os.makedirs(begun)
     for number, tape in enumerate(c_tapes.tapes()):
         write(os.path.join(begun, str(number)), tape)
-    c_builds.done([library.fuzzer(), f'-max_total_time={seconds}', '-max_len=4096', f'-artifact_prefix={library.room}/', begun], seconds + 300)
+    words = [library.fuzzer(), f'-max_total_time={seconds}', '-max_len=4096', f'-artifact_prefix={library.room}/', begun]
+    runs = re.search(r'Done (\d+) runs', c_builds.done(words, seconds + 300))
+    return int(runs[1]) if runs else 0
 
 
 def over(library: c_builds.Library) -> Iterator[str]:

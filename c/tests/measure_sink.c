@@ -1,22 +1,8 @@
 /* Hears what measure_source.c sent, from standard input, and tells what memory the sink took. It is linked with memory_counted.c, or with
- * memory_block.c and OF_BLOCK. */
+ * memory_block.c and OF_BLOCK. At the end it tells how many trains, PDUs and units there were. */
 #include "measure.h"
 
 static vm_sink_t sink = VM_NONE;
-
-#ifdef OF_BLOCK
-static void tell(const char *what)
-{
-    if (strcmp(what, "end") == 0)
-        printf("block %u\n", (unsigned)vm_block_most());
-}
-#else
-static void tell(const char *what)
-{
-    vm_counts_t now = vm_counts();
-    printf("%s %u %u %u %u %u\n", what, (unsigned)now.live, (unsigned)now.blocks, (unsigned)now.most, (unsigned)now.most_blocks, (unsigned)now.calls);
-}
-#endif
 
 /* A sink of so many streams that an assistant asked to follow the source. */
 static void begin(uint8_t streams)
@@ -45,7 +31,7 @@ static void hear_train(const record_t *it, const uint8_t *octets)
     need("vm_sink_train", vm_sink_train(&sink, 0, 3, octets, it->counts[0], adv, it->counts[1], acad, it->counts[2], it->at, &heard));
     need("the train", heard.answer == VM_TRAIN_ON_GROUP ? VM_OK : heard.answer);
     tell_all();
-    tell("joined");
+    tell("begun");
 }
 
 static unsigned close(uint64_t event)
@@ -80,7 +66,7 @@ int main(void)
         }
     }
     tell("end");
-    printf("heard %u %u %u\n", trains, pdus, units);
+    fprintf(stderr, "made %u %u %u\n", trains, pdus, units);
     vm_sink_free(&sink);
     return 0;
 }

@@ -1,11 +1,12 @@
-/* Sends a broadcast of 48_2 to standard output. Its words are `unframed`, `framed` or `ahead` (each frame in the events 15 and 30 before its
- * own too), the number of streams, and that of events. */
+/* Sends a broadcast of 48_2 to standard output, and tells what memory the source took, as measure_sink.c does. Its words are `unframed`,
+ * `framed` or `ahead` (each frame in the events 15 and 30 before its own too), the number of streams, and that of events. */
 #include "measure.h"
 
 static const air_big_info_t UNFRAMED = { .iso_interval = 8, .nse = SUBEVENTS, .bn = 1, .irc = 3, .sub_interval = 600, .bis_spacing = 1800,
                                          .sdu_interval = 10000, .max_sdu = FRAME, .max_pdu = FRAME, .phy = 1 };
 static vm_source_t source = VM_NONE;
 static uint8_t streams;
+static unsigned trains, pdus, units;
 
 static void put(record_t record, const uint8_t *octets)
 {
@@ -44,17 +45,19 @@ static void begin(const air_big_info_t *info)
     need("vm_source_announce", vm_source_announce(&source, room, sizeof room, &train));
     record_t record = { train.time, { (uint32_t)train.ext, (uint32_t)train.adv, (uint32_t)train.acad }, TRAIN, 0, 0, 0 };
     put(record, room);
+    trains++;
+    tell("begun");
 }
 
 static void send(bool is_framed, uint64_t event)
 {
     uint8_t frame[FRAME], pdu[253];
     memset(frame, (int)event, sizeof frame);
-    for (uint8_t bis = 1; bis <= streams; bis++)
+    for (uint8_t bis = 1; bis <= streams; bis++, units++)
         need("vm_source_give", vm_source_give(&source, bis, is_framed, 20000 + event * 10000 - (event != 0) * 10, frame, FRAME));
     need("vm_source_event", vm_source_event(&source));
     for (uint8_t bis = 1; bis <= streams; bis++)
-        for (uint8_t subevent = 0; subevent < SUBEVENTS; subevent++) {
+        for (uint8_t subevent = 0; subevent < SUBEVENTS; subevent++, pdus++) {
             vm_size_t count = 0;
             uint64_t number = 0;
             need("vm_source_pdu", vm_source_pdu(&source, 0, bis, subevent, pdu, sizeof pdu, &count, &number));
@@ -74,6 +77,8 @@ int main(int count, char **words)
     begin(&info);
     for (uint64_t event = 0; event < (uint64_t)atoi(words[3]); event++)
         send(info.framing == 1, event);
+    tell("end");
+    fprintf(stderr, "made %u %u %u\n", trains, pdus, units);
     vm_source_free(&source);
     return 0;
 }

@@ -92,7 +92,7 @@ static bool is_same(const handed_t *it, const vm_unit_t *unit, const uint8_t *at
         && memcmp(it->octets.at, at, (size_t)unit->count) == 0;
 }
 
-/* The units that a stream hands up are those that the sink handed of it; where one of both found no memory, it has a front of the other's. */
+/* The units that a stream hands up are those that the sink handed of it; where one of both found no memory, it has the first of the other's. */
 static void hand_up_alone(vm_stream_t *stream, const handed_t *of_sink, uint8_t bis, bool is_sink_cut, bool is_cut)
 {
     octets_t room = room_of(UNIT);

@@ -57,7 +57,7 @@ pub enum Refusal {
     Range,
     /// Memory ran out.
     Memory,
-    /// The room is too small for what waits, which waits on.
+    /// The room is too small for what waits, which still waits.
     Room,
     /// Nothing waits.
     Empty,

@@ -57,7 +57,7 @@ impl Sink {
         Ok(reply)
     }
 
-    /// A train is heard, with the time of its anchor in µs.
+    /// A train is heard: the data of extended and of periodic advertising, the ACAD of its AUX_SYNC_IND, and when that began, in µs.
     pub fn train(&mut self, address_type: u8, sid: u8, ext: &[u8], adv: &[u8], acad: &[u8], now: u64) -> Result<TrainHeard, Refusal> {
         let mut heard = TrainHeard::default();
         done(unsafe {
