@@ -8,7 +8,13 @@
  *           1      2,080    2,480    5,200
  *           2      2,592    3,184    8,736
  *
- * bench/c_sizes.py measures it. A source and an assistant come on top: vm_block_most tells what a product needed.
+ * What suffices for a source of such a group, which keeps the PDUs of its last 32 events:
+ *
+ *     streams   unframed   framed    ahead
+ *           1     11,216   11,248   20,336
+ *           2     20,528   20,592   38,768
+ *
+ * bench/c_sizes.py measures both. An assistant comes on top: vm_block_most tells what a product needed.
  *
  * A part is a header and its octets. The first part that is free and large enough is taken, and what it has too much is a part again. */
 #include "vicemint_memory.h"
