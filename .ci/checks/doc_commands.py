@@ -18,7 +18,7 @@ PATIENCE = 300  # seconds for the commands of a block
 # Blocks that say `by-hand`, by what their first command begins with, and why they aren't run here.
 BY_HAND = {
     '.ci/run': 'it runs the gate for more than an hour, or a step of it, as this is one',
-    './prove': 'it proves everything below the programs, for some twenty minutes',
+    './prove': 'it proves everything below the programs, for half an hour',
     'c/build.sh': 'it proves and builds the library for C; the step `c_library` does, and runs the example',
     'tools/archives.py --aarch64': 'it proves the library; the step `c_library` does, and runs the example on aarch64',
     'cc -std=c99 -Ic -o first': 'it needs that library; the step `c_library` runs it over what it built',
