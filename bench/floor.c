@@ -1,6 +1,6 @@
 /* floor LENGTH: the least that a run of a scenario takes, beside which bench/run.py puts what a program takes. It splits standard input
  * into lines, decodes each word of hexadecimal digits, two an octet, and writes as many octets as the transcript has, LENGTH: digits of the
- * octets that it decoded last, in writes of 65,536. It does no other work of a run. The status is 1 where it can't read or write, or where
+ * octets that it decoded, in writes of 65,536. It does no other work of a run. The status is 1 where it can't read or write, or where
  * a line is longer than 65,536 octets, and 2 for other words. */
 #include <stdint.h>
 #include <stdio.h>
@@ -8,39 +8,47 @@
 #include <string.h>
 #include <unistd.h>
 
-enum { ROOM = 65536, NO_DIGIT = 256 };
+enum { ROOM = 65536 };
 
-static uint16_t highs[256], lows[256]; /* what each character counts as the first digit of an octet, and as the second */
-static uint8_t digits[256][2];         /* of each octet */
-static uint8_t octets[ROOM];           /* those that were decoded last */
-static size_t count = 1;
+static uint8_t octets[ROOM / 2]; /* those that were decoded last, one word behind the other, from the front on where no room is left */
+static size_t next;
 
-static void make_tables(void)
+/* Each loop over digits runs to its end and looks up nothing, so that the compiler can take many at once. */
+
+static int are_digits(const uint8_t *word, size_t length)
 {
-    static const uint8_t all[16] = "0123456789abcdef";
-    for (size_t character = 0; character < 256; character++)
-        highs[character] = lows[character] = NO_DIGIT;
-    for (size_t value = 0; value < 16; value++) {
-        highs[all[value]] = (uint16_t) (value << 4);
-        lows[all[value]] = (uint16_t) value;
+    uint8_t are = 1;
+    for (size_t place = 0; place < length; place++) {
+        uint8_t figure = (uint8_t) (word[place] - '0'), letter = (uint8_t) (word[place] - 'a');
+        are &= (figure < 10) | (letter < 6);
     }
-    for (size_t octet = 0; octet < 256; octet++) {
-        digits[octet][0] = all[octet >> 4];
-        digits[octet][1] = all[octet & 15];
-    }
+    return are;
+}
+
+static uint8_t value_of(uint8_t digit)
+{
+    return (uint8_t) ((digit & 15) + (digit >> 6) * 9);
+}
+
+static uint8_t digit_of(uint8_t value)
+{
+    return (uint8_t) (value + '0' + (value > 9) * ('a' - '0' - 10));
+}
+
+static void decode_into(uint8_t *restrict into, const uint8_t *restrict word, size_t length)
+{
+    for (size_t place = 0; place < length / 2; place++)
+        into[place] = (uint8_t) (value_of(word[2 * place]) << 4 | value_of(word[2 * place + 1]));
 }
 
 static void decode(const uint8_t *word, size_t length)
 {
-    if (length == 0 || length % 2 != 0)
+    if (length % 2 != 0 || length > ROOM || !are_digits(word, length))
         return;
-    for (size_t place = 0; place < length / 2; place++) {
-        unsigned octet = highs[word[2 * place]] | lows[word[2 * place + 1]];
-        if (octet >= NO_DIGIT)
-            return;
-        octets[place] = (uint8_t) octet;
-    }
-    count = length / 2;
+    if (next + length / 2 > ROOM / 2)
+        next = 0;
+    decode_into(octets + next, word, length);
+    next += length / 2;
 }
 
 static void take_line(const uint8_t *line, const uint8_t *end)
@@ -87,27 +95,25 @@ static int write_whole(const uint8_t *text, size_t length)
     return 1;
 }
 
-/* Fills a text with the digits of the octets, over and over. */
-static void encode(uint8_t (*text)[2])
+/* Writes two digits for each octet, from the first on, as far as the length goes. */
+static void encode(uint8_t *restrict text, size_t length)
 {
-    for (size_t left = ROOM / 2; left > 0;) {
-        size_t some = left < count ? left : count;
-        for (size_t place = 0; place < some; place++)
-            memcpy(text[place], digits[octets[place]], 2);
-        text += some;
-        left -= some;
+    for (size_t place = 0; place < (length + 1) / 2; place++) {
+        text[2 * place] = digit_of(octets[place] >> 4);
+        text[2 * place + 1] = digit_of(octets[place] & 15);
     }
 }
 
 static int write_all(size_t length)
 {
-    static uint8_t text[ROOM / 2][2];
-    for (; length > 0; length -= length < ROOM ? length : ROOM) {
-        encode(text);
-        if (!write_whole(*text, length < ROOM ? length : ROOM))
+    static uint8_t text[ROOM];
+    for (; length > ROOM; length -= ROOM) {
+        encode(text, ROOM);
+        if (!write_whole(text, ROOM))
             return 0;
     }
-    return 1;
+    encode(text, length);
+    return write_whole(text, length);
 }
 
 int main(int many, char **words)
@@ -118,6 +124,5 @@ int main(int many, char **words)
         fputs("usage: floor LENGTH\n", stderr);
         return 2;
     }
-    make_tables();
     return read_all() && write_all(length) ? 0 : 1;
 }

@@ -90,7 +90,7 @@ def floor_in(folder: str) -> str | None:
     if not shutil.which('cc'):
         return None
     program = os.path.join(folder, 'floor')
-    subprocess.run(['cc', '-std=c11', '-O2', '-o', program, FLOOR], check=True)
+    subprocess.run(['cc', '-std=c11', '-O3', '-o', program, FLOOR], check=True)
     return program
 
 

@@ -8,7 +8,8 @@ import cases
 import measures
 from checks.parts.steps import Faults, step
 
-FLOOR = [(b'', b'00'), (b'unit 1 - 0a0b0c\nevent\n', b'0a0b0c'), (b'unit 1 - 0f10\nair 0 1\nunit 1 - 0A\n', b'0f10')]
+# texts, and the octets that are decoded of them
+FLOOR = [(b'', b''), (b'unit 1 - 0a0b0c\nevent\n', b'0a0b0c'), (b'unit 1 - 0f10\nair 0 1\nunit 1 - 0A\nlocate 0 09', b'0f10')]
 WRITE = 65_536  # octets at a time; each begins with the first octet
 LENGTHS = (0, 1, WRITE, WRITE + 1, 200_000)
 
@@ -29,12 +30,12 @@ def faults(path: str, programs: dict[str, str]) -> Iterator[str]:
 
 
 def floor_faults(program: str) -> Iterator[str]:
-    """What is wrong with the floor: in each write it has the octets that it decoded last, over and over."""
+    """What is wrong with the floor: in each write it has the octets that it decoded, and zeros behind them."""
     for text, digits in FLOOR:
         for length in LENGTHS:
             ran = subprocess.run([program, str(length)], input=text, capture_output=True, check=False)
             is_whole = ran.returncode == 0 and len(ran.stdout) == length
-            if not is_whole or ran.stdout[:WRITE] != (digits * length)[:min(length, WRITE)]:
+            if not is_whole or ran.stdout[:WRITE] != digits.ljust(WRITE, b'0')[:length]:
                 yield f'floor {length} of {text!r}: status {ran.returncode}, {len(ran.stdout)} octets, {ran.stdout[:40]!r}'
     if (ran := subprocess.run([program], capture_output=True, check=False)).returncode != measures.MISUSED:
         yield f'floor without a word: {ran}'
