@@ -68,7 +68,9 @@ def instructions_of(program: str, words: Words, path: str) -> int | None:
     counter = ['valgrind', '--tool=callgrind', f'--callgrind-out-file={os.devnull}']
     with open(path, 'rb') as text:
         ran = subprocess.run([*counter, program, *words], stdin=text, stdout=subprocess.DEVNULL, stderr=subprocess.PIPE, check=True)
-    counted: typing.Any = re.search(rb'Collected *: *(\d+)', ran.stderr)
+    counted = re.search(rb'Collected *: *(\d+)', ran.stderr)
+    if not counted:
+        raise ValueError('callgrind told no count of instructions')
     return int(counted[1])
 
 
