@@ -9,6 +9,7 @@ use crate::stream::Stream;
 use isoal_base::Heard;
 
 /// What a framed PDU would be answered under this payload number.
+#[inline(always)]
 pub(crate) fn answer_at(stream: &Stream, event: u64, places: &Places, number: u64) -> Heard
     requires room { length places.now.ring.items ≡ window_of stream.now.group.info }
     requires event { event ≤ 2 ^ 39 }
