@@ -2,13 +2,14 @@ ghost use Rattle.std.specs.Prelude.{◌≡◌, ◌≤◌, ◌<◌, ◌^◌, map,
 ghost use Rattle.std.specs.List.{flat_map};
 ghost use Rattle.big_info.specs.Bounds.{Bounds};
 ghost use Rattle.unit_outlets.specs.Handed.{Caused, HandsOver};
-ghost use Rattle.group_sink.specs.State.Steps.{answer_on, fresh_on, hear_on, owed_by, owed_on, place_on, tick_at, tick_on};
+ghost use Rattle.group_sink.specs.State.Steps.{answer_on, fresh_on, hear_all_on, hear_on, owed_by, owed_on, place_on, tick_at, tick_on};
 
 use crate::numbers::Numbers;
 use crate::receiver::Receiver;
-use crate::streams::{answer_in, close_by, hear_in, skip_by, stream_of};
+use crate::streams::{answer_in, close_by, hear_event_in, hear_in, skip_by, stream_of};
 use bcast_base::{Bis, Memory};
 use isoal_base::Hearing;
+use radio_schedule::StreamEvent;
 use std::alloc::Global;
 use std::marker::Model;
 use sync_reference::BigSync;
@@ -73,6 +74,19 @@ impl GroupReceivers {
             subevent,
             pdu,
         )
+    }
+
+    /// Hears what the subevents of an event of a stream bring.
+    #[inline(always)]
+    pub(crate) fn hear_event<E: StreamEvent>(&mut self, event: u64, bis: Bis, sent: &E)
+        requires { event ≤ 2 ^ 39 }
+        ensures step { self.new ≡ hear_all_on event bis (E.pdus sent.now) self.old }
+        ensures least { 1 ≤ bis }
+        ensures greatest { bis ≤ 31 }
+        ensures bounds { Bounds self.old.info }
+    {
+        let place = self.place(bis);
+        hear_event_in(&mut self.streams, place, &self.numbers, event, sent);
     }
 
     /// The place of the receiver of a stream.
