@@ -9,6 +9,7 @@ mod Given
 pub mod LastWord
 pub mod MoreWords
 pub mod NextWords
+pub mod Numerals
 mod Octets
 pub mod OneDigit
 pub mod OneWord
