@@ -1,5 +1,5 @@
 //! What a stream sent in an event, lent.
-ghost use Rattle.std.specs.Prelude.{◌≡◌, ◌<◌, Some, length, slice_get};
+ghost use Rattle.std.specs.Prelude.{◌≡◌, ◌≤◌, ◌<◌, Some, length, slice_get};
 
 use crate::carried::Carried;
 use circular_buffer::HeapCircularBuffer;
@@ -32,7 +32,8 @@ impl<'a> SentStream<'a> {
     /// How many subevents there are.
     #[inline(always)]
     pub fn count(&self) -> u8
-        ensures { result ≡ length self.now }
+        ensures count { result ≡ length self.now }
+        ensures within { result ≤ 31 }
     {
         self.count
     }
