@@ -65,7 +65,7 @@ impl Ring {
     }
 
     /// Hands the unit whose parts are kept in the slot that begins at this place. Afterwards the parts are not in their
-    /// places any more.
+    /// places any more. Where the first place is empty the unit is lost, and nothing is gathered.
     pub(crate) fn hand_slot<T: UnitTaker>(
         &mut self,
         stream: &Stream,
@@ -84,6 +84,9 @@ impl Ring {
             (T.calls taker.old) (T.calls taker.new) result }
         ensures cause { Caused (T.counts taker.old) (T.counts taker.new) result }
     {
+        if self.is_empty(first) {
+            return hand(taker, stream.bis, time, None);
+        }
         let max_sdu = usize::from(stream.group.info.max_sdu);
         let unit = match self.gather(first, stream.places(), max_sdu) {
             Some(count) => Some(self.octets(first, count)),
