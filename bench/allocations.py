@@ -1,6 +1,7 @@
 """An allocator that counts, and refuses one allocation: it stands in for that of the C library, in front of the built program."""
 import os
 import subprocess
+from collections.abc import Sequence
 
 SOURCE = r'''
 #define _GNU_SOURCE
@@ -43,21 +44,21 @@ __attribute__((destructor)) static void tell(void) {
 class Allocator:
     """The allocator in a folder, which `cc` compiles there."""
 
-    def __init__(self, program, folder):
+    def __init__(self, program: str, folder: str) -> None:
         self.program = program
         self.library = os.path.join(folder, 'allocations.so')
         self.counted = os.path.join(folder, 'counted')
         subprocess.run(['cc', '-shared', '-fPIC', '-x', 'c', '-o', self.library, '-', '-ldl'], input=SOURCE.encode(), check=True)
 
-    def run(self, text, words=(), **more):
+    def run(self, text: bytes, words: Sequence[str] = (), **more: str) -> subprocess.CompletedProcess[bytes]:
         environment = dict({'LD_PRELOAD': self.library}, **more)
         return subprocess.run([self.program, *words], input=text, capture_output=True, env=environment, timeout=60, check=False)
 
-    def refusing(self, text, number):
+    def refusing(self, text: bytes, number: int) -> subprocess.CompletedProcess[bytes]:
         """A run in which the allocation of this number, from 1, is refused; none is where it is 0."""
         return self.run(text, REFUSED_ALLOCATION=str(number))
 
-    def count(self, text, words=()):
+    def count(self, text: bytes, words: Sequence[str] = ()) -> int:
         """How many allocations a run with these words makes that ends well."""
         ran = self.run(text, words, COUNTED_ALLOCATIONS=self.counted)
         with open(self.counted, encoding='ascii') as file:

@@ -1,56 +1,83 @@
 """What a built program takes for a scenario: processor time, instructions, allocations and memory, of the program alone."""
 import contextlib
+import fcntl
 import os
 import re
 import shutil
 import subprocess
 import time
-from typing import Any
+import typing
 
 from allocations import Allocator
 
+FLOOR = os.path.join(os.path.dirname(os.path.abspath(__file__)), 'floor.c')
 RUNS = 5
+MISUSED = 2  # how a program ends for words that it doesn't know
+PAGE = 4096
+READ = 1 << 16
+Words = list[str]
 
 
-def transcript_of(program, words, path):
-    """What the program writes for the text of a file. It has to end with status 0."""
+class Seconds(typing.NamedTuple):
+    """Processor time: all of it, and what the system took of it."""
+
+    whole: float
+    in_system: float
+
+
+def transcript_of(program: str, words: Words, path: str) -> bytes | None:
+    """What the program writes for the text of a file, or None where it doesn't know the words. It has to end with status 0."""
     with open(path, 'rb') as text:
         ran = subprocess.run([program, *words], stdin=text, capture_output=True, check=False)
+    if ran.returncode == MISUSED and words:
+        return None
     if ran.returncode != 0:
         raise ValueError(f'status {ran.returncode}: {ran.stdout[-80:]!r} {ran.stderr[-80:]!r}')
     return ran.stdout
 
 
-def seconds_of_a_run(program, words, path):
-    files = [(os.POSIX_SPAWN_OPEN, 0, path, os.O_RDONLY, 0), (os.POSIX_SPAWN_OPEN, 1, os.devnull, os.O_WRONLY, 0)]
+def read_away(reading: int) -> None:
+    """Reads what comes, up to its end."""
+    while os.read(reading, READ):
+        pass
+
+
+def seconds_of_a_run(program: str, words: Words, path: str, is_piped: bool) -> Seconds:
+    """The time of a run whose output is read here over a pipe, or discarded."""
+    reading, writing = os.pipe() if is_piped else (-1, os.open(os.devnull, os.O_WRONLY))
+    files = [(os.POSIX_SPAWN_OPEN, 0, path, os.O_RDONLY, 0), (os.POSIX_SPAWN_DUP2, writing, 1)]
     child = os.posix_spawn(program, [program, *words], os.environ, file_actions=files)
+    os.close(writing)
+    if is_piped:
+        read_away(reading)
+        os.close(reading)
     _, _, usage = os.wait4(child, 0)
-    return usage.ru_utime + usage.ru_stime
+    return Seconds(usage.ru_utime + usage.ru_stime, usage.ru_stime)
 
 
-def seconds_of(programs, words, path):
+def seconds_of(programs: list[str], words: Words, path: str, is_piped: bool = False) -> list[Seconds]:
     """The processor time of each program, and of the system for it, in seconds: the least of some runs, in which they take turns."""
-    runs = [[seconds_of_a_run(program, words, path) for program in programs] for _ in range(RUNS)]
+    runs = [[seconds_of_a_run(program, words, path, is_piped) for program in programs] for _ in range(RUNS)]
     return [min(times) for times in zip(*runs)]
 
 
-def instructions_of(program, words, path):
+def instructions_of(program: str, words: Words, path: str) -> int | None:
     """The instructions, which callgrind counts, or None where there is no valgrind."""
     if not shutil.which('valgrind'):
         return None
     counter = ['valgrind', '--tool=callgrind', f'--callgrind-out-file={os.devnull}']
     with open(path, 'rb') as text:
         ran = subprocess.run([*counter, program, *words], stdin=text, stdout=subprocess.DEVNULL, stderr=subprocess.PIPE, check=True)
-    counted: Any = re.search(rb'Collected *: *(\d+)', ran.stderr)
+    counted: typing.Any = re.search(rb'Collected *: *(\d+)', ran.stderr)
     return int(counted[1])
 
 
-def allocator_for(program, folder):
+def allocator_for(program: str, folder: str) -> Allocator | None:
     """The allocator that counts, made in a folder of the program's own, or None where there is no compiler for it."""
     return Allocator(program, folder) if shutil.which('cc') else None
 
 
-def allocations_of(allocator, words, path):
+def allocations_of(allocator: Allocator | None, words: Words, path: str) -> int | None:
     """How many allocations are made, or None where nothing counts them."""
     if not allocator:
         return None
@@ -58,7 +85,16 @@ def allocations_of(allocator, words, path):
         return allocator.count(text.read(), words)
 
 
-def wait_until_asleep(child):
+def floor_in(folder: str) -> str | None:
+    """The program that does the least work of a run, made in a folder, or None where there is no compiler for it."""
+    if not shutil.which('cc'):
+        return None
+    program = os.path.join(folder, 'floor')
+    subprocess.run(['cc', '-std=c11', '-O3', '-o', program, FLOOR], check=True)
+    return program
+
+
+def wait_until_asleep(child: subprocess.Popen[bytes]) -> None:
     """Waits until the program waits itself: for a line, or for room for what it writes."""
     while child.poll() is None:
         with open(f'/proc/{child.pid}/stat', encoding='ascii') as file:
@@ -68,14 +104,14 @@ def wait_until_asleep(child):
     raise ValueError(f'ended early, with status {child.returncode}')
 
 
-def peak_so_far(child):
+def peak_so_far(child: subprocess.Popen[bytes]) -> int:
     """How many octets of memory the program had at most. It is asked of the system while the program lives, since what a parent
     is told of a child that has ended counts the parent's own."""
     with open(f'/proc/{child.pid}/status', encoding='ascii') as file:
         return 1024 * next(int(line.split()[1]) for line in file if line.startswith('VmHWM:'))
 
 
-def peak_before_last_line(program, path):
+def peak_before_last_line(program: str, path: str) -> int:
     """The peak of a run that reads a scenario, as it waits for the last line."""
     with open(path, 'rb') as file:
         text = file.read()
@@ -90,33 +126,39 @@ def peak_before_last_line(program, path):
     return peak
 
 
-def full_pipe():
-    """The two ends of a pipe that takes no octet more."""
+def full_pipe() -> tuple[int, int]:
+    """The two ends of a pipe that takes no octet more, and has a page of them."""
     reading, writing = os.pipe()
+    fcntl.fcntl(writing, fcntl.F_SETPIPE_SZ, PAGE)
     os.set_blocking(writing, False)
     with contextlib.suppress(BlockingIOError):
         while True:
-            os.write(writing, bytes(4096))
+            os.write(writing, bytes(PAGE))
     os.set_blocking(writing, True)
     return reading, writing
 
 
-def peak_before_first_write(program, words):
-    """The peak of a run that reads nothing and writes once, as it waits for room for that."""
+def peak_before_last_write(program: str, words: Words, path: str, length: int) -> int:
+    """The peak of a run that writes so many octets, as it waits for room for the last page of them or for less. So long as one octet fewer
+    than that was read out of a pipe that was full at first, there is no room for the last one."""
     reading, writing = full_pipe()
-    with open(reading, 'rb') as output, subprocess.Popen([program, *words], stdin=subprocess.DEVNULL, stdout=writing) as child:
-        os.close(writing)
-        wait_until_asleep(child)
-        peak = peak_so_far(child)
-        output.read()
+    with open(path, 'rb') as text, open(reading, 'rb', buffering=0) as output:
+        with subprocess.Popen([program, *words], stdin=text, stdout=writing) as child:
+            os.close(writing)
+            left = length - 1
+            while left > 0:
+                left -= len(output.read(min(left, READ)))
+            wait_until_asleep(child)
+            peak = peak_so_far(child)
+            output.read()
     return peak
 
 
-def peak_of_a_run(program, words, path):
-    return peak_before_first_write(program, words) if words else peak_before_last_line(program, path)
+def peak_of_a_run(program: str, words: Words, path: str, length: int) -> int:
+    return peak_before_last_write(program, words, path, length) if words else peak_before_last_line(program, path)
 
 
-def peak_of(program, words, path):
+def peak_of(program: str, words: Words, path: str, length: int) -> int:
     """How many octets of memory the program had at most, just before its end: the least of some runs, since the pages of the C library
-    that the system counts differ from run to run."""
-    return min(peak_of_a_run(program, words, path) for _ in range(RUNS))
+    that the system counts differ from run to run. `length` is that of what it writes."""
+    return min(peak_of_a_run(program, words, path, length) for _ in range(RUNS))

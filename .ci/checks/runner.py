@@ -18,9 +18,9 @@ import typing
 from checks import TOP
 from checks.parts.steps import TOOLS, Step, Tool, python_with
 
-STEPS = ('trust', 'scripts', 'lint', 'examples', 'corpus', 'coverage', 'rows', 'ends', 'documents', 'explained', 'allocations', 'in_turn',
-         'pieces', 'timeline', 'pages', 'transcript_rows', 'captures', 'logs', 'audio', 'losses', 'doc_commands', 'bent_inputs', 'comparison',
-         'c_library')
+STEPS = ('trust', 'scripts', 'lint', 'examples', 'corpus', 'coverage', 'rows', 'ends', 'documents', 'explained', 'allocations', 'bench',
+         'in_turn', 'pieces', 'timeline', 'pages', 'transcript_rows', 'captures', 'logs', 'audio', 'losses', 'doc_commands', 'bent_inputs',
+         'comparison', 'c_library')
 USAGE = 'usage: check [NAME [PROGRAM ..] [OPTION ..] | --list | --help | --version]'
 HELP = f"""{USAGE}
 
