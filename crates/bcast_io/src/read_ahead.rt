@@ -11,7 +11,7 @@ use std::marker::Model;
 pub const AHEAD_LIMIT: usize = 65_536;
 
 /// The octets that one read asks for. They take their room, which is set to 0, before the first line.
-const PIECE: usize = 65_536;
+const PIECE: usize = 8_192;
 
 /// Octets that were read ahead, and the last line that was passed over whole, which stays where it was read until the next
 /// read.
@@ -35,8 +35,8 @@ impl Model for ReadAhead {
       line = slice_range a.buffer.items a.line_start a.line_end;
     } };
 
-    ghost invariant = { λ a. (length a.buffer.items ≡ 65536) × (a.start ≤ a.end) × (a.end ≤ 65536)
-        × (a.line_start ≤ a.line_end) × (a.line_end ≤ 65536) };
+    ghost invariant = { λ a. (length a.buffer.items ≡ 8192) × (a.start ≤ a.end) × (a.end ≤ 8192)
+        × (a.line_start ≤ a.line_end) × (a.line_end ≤ 8192) };
 }
 
 impl ReadAhead {
