@@ -1,4 +1,5 @@
 mod Prelude
+mod FrequentLines
 mod LowFirst
 mod MadeSteps
 mod NextLines

@@ -291,7 +291,7 @@ impl Sinks {
     pub fn lent(&self) -> &[HandedUnit]
         ensures { (past : Histories) (units : List Handed) → SinksLend past units self.now → map handed_of result.now ≡ units }
     {
-        self.gathered.units.as_slice()
+        self.gathered.as_slice()
     }
 
     /// Lends no units any more.

@@ -1,0 +1,12 @@
+-- The step that a line says which comes again and again.
+use Rattle.std.specs.Prelude.{ℕ, List}
+use Rattle.scenario_text.specs.declared.step.Step.{Step}
+use Rattle.scenario_text.specs.declared.step.Step.TheVariants.{Unit, Event, Air}
+use Rattle.scenario_lines.specs.declared.frequent.Frequent.{Frequent}
+use Rattle.scenario_lines.specs.declared.frequent.Frequent.TheVariants.{Unit as AUnit, Event as AnEvent, Air as AnAir}
+
+-- the step, whose octets are these where it is a unit
+abbrev pub frequent_step : Frequent → List ℕ → Step
+frequent_step (AUnit bis time) octets = Unit bis time octets
+frequent_step AnEvent octets = Event
+frequent_step (AnAir sink lose) octets = Air sink lose
