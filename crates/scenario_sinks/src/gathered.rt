@@ -1,4 +1,4 @@
-ghost use Rattle.std.specs.Prelude.{◌≡◌, ◌≤◌, ◌++◌, ◌∷◌, [], Some, map, vec_len, OnOk, OnErr, IsErr};
+ghost use Rattle.std.specs.Prelude.{◌≡◌, ◌≤◌, ◌++◌, ◌∷◌, [], map, vec_len, OnOk, OnErr, IsErr};
 ghost use Rattle.std.specs.Option.{option_copied};
 ghost use Rattle.unit_outlets.specs.Handed.{Caused};
 
@@ -7,47 +7,44 @@ use scenario_words::PrintedNumber;
 use std::alloc::Global;
 use unit_outlets::{TakerFault, UnitTaker};
 
-/// A unit that a receiver handed up: its octets, or none where it is lost.
+/// A unit that a receiver handed up.
 #[derive(Drop)]
 pub struct HandedUnit {
     pub bis: Bis,
     pub time: u64,
-    pub octets: Option<Octets>,
-}
-
-/// Puts octets in the place of others, in their memory where there are some.
-#[inline(always)]
-fn put_over(kept: &mut Option<Octets>, alloc: Global, from: &[u8]) -> Result<(), Memory>
-    ensures { OnOk result (kept.new ≡ Some from.now) }
-{
-    if let Some(octets) = kept {
-        octets.clear();
-        return octets.append(from);
-    }
-    *kept = Some(Octets::copy(alloc, from)?);
-    Ok(())
+    is_valid: bool,
+    octets: Octets,
 }
 
 impl HandedUnit {
-    ghost use Rattle.scenario_sinks.specs.State.Gathering.{handed_as, handed_of};
+    ghost use Rattle.scenario_sinks.specs.State.Gathering.{handed_as, handed_of, octets_of};
 
-    /// Takes the place of the unit: a valid one in the memory of its octets, where it has some.
+    /// Its octets, or none where it is lost.
+    pub fn octets(&self) -> Option<&[u8]>
+        ensures { option_copied result ≡ octets_of self.now }
+    {
+        if self.is_valid {
+            Some(self.octets.as_slice())
+        } else {
+            None
+        }
+    }
+
+    /// Takes the place of the unit, in its memory.
     #[inline(always)]
-    fn fill(
-        &mut self,
-        alloc: Global,
-        bis: Bis,
-        time: u64,
-        octets: Option<&[u8]>,
-    ) -> Result<(), Memory>
+    fn fill(&mut self, bis: Bis, time: u64, octets: Option<&[u8]>) -> Result<(), Memory>
         ensures { OnOk result (handed_of self.new ≡ handed_as bis time (option_copied octets.entry)) }
     {
         self.bis = bis;
         self.time = time;
         match octets {
-            Some(octets) => put_over(&mut self.octets, alloc, octets),
+            Some(octets) => {
+                self.is_valid = true;
+                self.octets.clear();
+                self.octets.append(octets)
+            }
             None => {
-                self.octets = None;
+                self.is_valid = false;
                 Ok(())
             }
         }
@@ -108,10 +105,11 @@ impl Gathered {
             self.units.push(HandedUnit {
                 bis,
                 time,
-                octets: None,
+                is_valid: false,
+                octets: Octets::new(self.alloc),
             })?;
         }
-        self.units[self.count].fill(self.alloc, bis, time, octets)?;
+        self.units[self.count].fill(bis, time, octets)?;
         self.count += 1;
         Ok(())
     }

@@ -74,8 +74,8 @@ fn hand_unit(
     ensures others { OthersSame owner.outlet outlets.old.items outlets.new.items }
 {
     time.set(unit.time);
-    match &unit.octets {
-        Some(octets) => hand_valid(owner, unit.bis, time, octets.as_slice(), outlets, text),
+    match unit.octets() {
+        Some(octets) => hand_valid(owner, unit.bis, time, octets, outlets, text),
         None => hand_lost(owner, unit.bis, time, text),
     }
 }

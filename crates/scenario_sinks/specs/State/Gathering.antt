@@ -1,6 +1,6 @@
 -- The units that were gathered from a receiver (the SDUs of Core 5.2, volume 6 part G, section 1), as the calls of a
 -- taker.
-use Rattle.std.specs.Prelude.{ℕ, List, map, take, Option, Some, None}
+use Rattle.std.specs.Prelude.{ℕ, List, map, take, Option, Some, None, if◌then◌else◌}
 use Rattle.unit_outlets.specs.Handed.{Handed, valid, lost, Counts}
 use Rattle.scenario_history.specs.Boxes.{SinkUnit}
 use Rattle.scenario_sinks.specs.declared.gathered.HandedUnit.{HandedUnit}
@@ -11,8 +11,11 @@ abbrev pub handed_as : ℕ → ℕ → Option (List ℕ) → Handed
 handed_as bis time (Some octets) = valid bis time octets
 handed_as bis time None = lost bis time
 
+abbrev pub octets_of : HandedUnit → Option (List ℕ)
+octets_of unit = if unit.is_valid then Some unit.octets else None
+
 abbrev pub handed_of : HandedUnit → Handed
-handed_of unit = handed_as unit.bis unit.time unit.octets
+handed_of unit = handed_as unit.bis unit.time (octets_of unit)
 
 -- what stands behind the count is memory of earlier units
 abbrev pub calls_of : Gathered → List Handed
