@@ -1,4 +1,5 @@
-ghost use Rattle.std.specs.Prelude.{◌≡◌, ◌∷◌, ◌++◌, [], OnOk, codes, decimal};
+ghost use Rattle.std.specs.Prelude.{◌≡◌, ◌≤◌, ◌∷◌, ◌++◌, [], OnOk, codes, decimal, length};
+ghost use Rattle.scenario_words.specs.Joined.{joined};
 ghost use Rattle.transcript_text.specs.Labels.{label_of};
 ghost use Rattle.transcript_text.specs.SinkLines.{value_line};
 
@@ -6,10 +7,62 @@ use crate::label::Label;
 use crate::put_line;
 use bcast_base::{Memory, Octets};
 use delegator_history::Notice;
-use scenario_words::Word;
+use scenario_words::{Waiting, Word};
 
-/// Puts a line with the octets of a slot.
+/// The most octets of a value whose line waits as a whole.
+const SHORT: usize = 104;
+
+/// Begins the line of a value: its first word, the sink, and the link where it is named.
+#[inline(always)]
+fn begin_value(line: &mut Waiting, first: &[u8], label: Label)
+    requires none { line.old ≡ [] }
+    requires few { length first.now ≤ 7 }
+    ensures begins { line.new ≡ joined first.now (label_of label).numbers }
+    ensures short { length line.new ≤ 15 }
+{
+    line.extend(first);
+    match label {
+        Label::Plain { sink } => {
+            line.push(b' ');
+            line.extend_small(u16::from(sink));
+        }
+        Label::OnLink { sink, link } => {
+            line.push(b' ');
+            line.extend_small(u16::from(sink));
+            line.push(b' ');
+            line.extend_small(u16::from(link));
+        }
+    }
+}
+
+/// Puts a line with the octets of a slot. The line of a short value is put in one piece.
 fn put_value(
+    text: &mut Octets,
+    first: &[u8],
+    label: Label,
+    slot: u8,
+    value: &[u8],
+) -> Result<(), Memory>
+    requires { length first.now ≤ 7 }
+    ensures { OnOk result (text.new ≡ text.old ++ value_line first.now (label_of label).numbers
+        (record { slot = slot; value = value.now })) }
+{
+    if value.is_empty() || value.len() > SHORT {
+        return put_any_value(text, first, label, slot, value);
+    }
+    let mut line = Waiting::new();
+    begin_value(&mut line, first, label);
+    line.push(b' ');
+    line.extend_small(u16::from(slot));
+    line.push(b' ');
+    line.extend_digits(value);
+    line.push(b'\n');
+    line.flush(text)
+}
+
+/// The same for a value of any length.
+#[inline(never)]
+fn put_any_value(
     text: &mut Octets,
     first: &[u8],
     label: Label,
@@ -36,7 +89,8 @@ fn put_value(
 
 /// The first word of the line of a notice.
 fn notice_word(label: Label) -> &'static [u8]
-    ensures { result.now ≡ (label_of label).notice }
+    ensures word { result.now ≡ (label_of label).notice }
+    ensures few { length result.now ≤ 7 }
 {
     match label {
         Label::Plain { .. } => b"notice",
@@ -46,7 +100,8 @@ fn notice_word(label: Label) -> &'static [u8]
 
 /// The first word of the line of a read.
 fn read_word(label: Label) -> &'static [u8]
-    ensures { result.now ≡ (label_of label).read }
+    ensures word { result.now ≡ (label_of label).read }
+    ensures few { length result.now ≤ 7 }
 {
     match label {
         Label::Plain { .. } => b"read",
