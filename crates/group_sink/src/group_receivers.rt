@@ -6,7 +6,7 @@ ghost use Rattle.group_sink.specs.State.Steps.{answer_on, fresh_on, hear_all_on,
 
 use crate::numbers::Numbers;
 use crate::receiver::Receiver;
-use crate::streams::{answer_in, close_by, hear_event_in, hear_in, skip_by, stream_of};
+use crate::streams::{answer_in, close_by, hear_event_in, hear_in, skip_by};
 use bcast_base::{Bis, Memory};
 use isoal_base::Hearing;
 use radio_schedule::StreamEvent;
@@ -43,11 +43,11 @@ impl GroupReceivers {
             let Some(bis) = Bis::new(index) else {
                 continue;
             };
-            let Some(stream) = stream_of(alloc, big_sync, bis)? else {
+            if !big_sync.which.has(bis) {
                 continue;
-            };
+            }
             places[usize::from(index - 1)] = streams.len() as u8;
-            streams.push(stream)?;
+            streams.push(Receiver::new(alloc, big_sync, bis)?)?;
         }
         Ok(GroupReceivers {
             numbers: Numbers::new(&big_sync.group),

@@ -8,13 +8,10 @@ use Rattle.isoal_base.specs.declared.hearing.Hearing.TheVariants as hearings
 use Rattle.sync_reference.specs.BigSync.{BigSync}
 use Rattle.group_sink.specs.State.Receivers.{fresh, open_of, answer_by, hear_by, owed_of, closed}
 use Rattle.group_sink.specs.State.Sinks.{OnGroup, places_of}
-use Rattle.group_sink.specs.Streams.{is_in, number_of, stay_on, streams_of}
+use Rattle.group_sink.specs.Streams.{number_of, stay_on, streams_of}
 use Rattle.group_sink.specs.declared.receiver.Receiver.{Receiver}
 
--- the receiver of a stream, where it is taken, and those of all that are, as the sink is synchronized to the BIG
-abbrev pub fresh_at : BigSync → ℕ → Option Receiver
-fresh_at big_sync bis = if is_in big_sync.which bis then Some (fresh (stay_on big_sync bis)) else None
-
+-- the receivers of all streams that are taken, as the sink is synchronized to the BIG
 abbrev pub fresh_on : BigSync → OnGroup
 fresh_on big_sync = record {
   info = big_sync.info;
