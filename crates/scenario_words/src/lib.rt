@@ -9,6 +9,7 @@ mod fault;
 mod first_word;
 mod last_word;
 mod laws;
+mod number_words;
 mod printed_line;
 mod printed_number;
 mod printed_octets;
