@@ -175,9 +175,32 @@ pub places_kept : (set index : ℕ) (places : List ℕ) → 1 ≤ index → inde
 places_kept set index places least greatest free before =
     grind (arith, before_one, set, map, place_in, range_with_len, replicate, cond-false, is_in, length, places_with)
 
--- past the last index
-pub all_streams : {X : Type 0} (f : ℕ → X) (set index : ℕ) → index ≡ 32 → map f (below set index) ≡ map f (streams_of set)
-all_streams f set index last = ap (λ n. map f (below set n)) last
+-- past the greatest index of the set
+abbrev NoneFrom : (set index : ℕ) → Type 0
+NoneFrom set index = (i : ℕ) → index - 1 ≤ i → i < 31 → bit_at set i ≡ 0
 
-pub all_places : (set index : ℕ) → index ≡ 32 → places_before set index ≡ places_of set
-all_places set index last = ap (places_before set) last ∙ append-nil (places_of set)
+free_from : (set index : ℕ) → index ≤ 31 → NoneFrom set index → 1 ≤ index → is_in set index ≡ false
+free_from set index inside none least =
+    let zero_there : bit_at set (index - 1) ≡ 0 = none (index - 1) (omega arith) (omega arith) in
+    ne_eqb (bit_at set (index - 1)) 1 (λ one. absurd (omega (arith, zero_there, one)))
+
+rest_streams : {X : Type 0} (f : ℕ → X) (set index more : ℕ) → 1 ≤ index → index + more ≡ 32 → NoneFrom set index
+    → map f (below set index) ≡ map f (streams_of set)
+rest_streams f set index zero least all none = let last : index ≡ 32 = omega arith in ap (λ n. map f (below set n)) last
+rest_streams f set index (suc more) least all none =
+    streams_kept f set index (map f (below set index)) least refl (free_from set index (omega arith) none least)
+    ∙ rest_streams f set (index + 1) more (omega arith) (omega arith) (λ i above inside. none i (omega arith) inside)
+
+pub all_streams : {X : Type 0} (f : ℕ → X) (set index : ℕ) → 1 ≤ index → index ≤ 32 → ((i : ℕ) → index - 1 ≤ i → i < 31 → bit_at set i ≡ 0)
+    → map f (below set index) ≡ map f (streams_of set)
+all_streams f set index least greatest none = rest_streams f set index (32 - index) least (omega arith) none
+
+rest_places : (set index more : ℕ) → 1 ≤ index → index + more ≡ 32 → NoneFrom set index → places_before set index ≡ places_of set
+rest_places set index zero least all none = let last : index ≡ 32 = omega arith in ap (places_before set) last ∙ append-nil (places_of set)
+rest_places set index (suc more) least all none =
+    places_kept set index (places_before set index) least (omega arith) (free_from set index (omega arith) none least) refl
+    ∙ rest_places set (index + 1) more (omega arith) (omega arith) (λ i above inside. none i (omega arith) inside)
+
+pub all_places : (set index : ℕ) → 1 ≤ index → index ≤ 32 → ((i : ℕ) → index - 1 ≤ i → i < 31 → bit_at set i ≡ 0)
+    → places_before set index ≡ places_of set
+all_places set index least greatest none = rest_places set index (32 - index) least (omega arith) none

@@ -1,4 +1,5 @@
-ghost use Rattle.std.specs.Prelude.{◌≡◌, ◌≤◌, ◌<◌, ◌^◌, map, MatchResult};
+ghost use Rattle.std.specs.Prelude.{◌≡◌, ◌≤◌, ◌<◌, ◌^◌, ℕ, map, MatchResult};
+ghost use Rattle.std.specs.Int.{bit_at};
 ghost use Rattle.std.specs.List.{flat_map};
 ghost use Rattle.big_info.specs.Bounds.{Bounds};
 ghost use Rattle.unit_outlets.specs.Handed.{Caused, HandsOver};
@@ -7,7 +8,7 @@ ghost use Rattle.group_sink.specs.State.Steps.{answer_on, fresh_on, hear_all_on,
 use crate::numbers::Numbers;
 use crate::receiver::Receiver;
 use crate::streams::{answer_in, close_by, hear_event_in, hear_in, skip_by};
-use bcast_base::{Bis, Memory};
+use bcast_base::{Bis, BisSet, Memory};
 use isoal_base::Hearing;
 use radio_schedule::StreamEvent;
 use std::alloc::Global;
@@ -39,7 +40,8 @@ impl GroupReceivers {
     {
         let mut places = [31; 31];
         let mut streams = Vec::with_capacity(alloc, big_sync.which.count() as usize)?;
-        'indices: for index in 1..32u8 {
+        let end = last_of(big_sync.which) + 1;
+        'indices: for index in 1..end {
             let Some(bis) = Bis::new(index) else {
                 continue;
             };
@@ -117,6 +119,14 @@ impl GroupReceivers {
     {
         close_all(&mut self.streams, event, taker)
     }
+}
+
+/// The greatest index of a set; 0 where it is empty.
+fn last_of(which: BisSet) -> u8
+    ensures greatest { result ≤ 31 }
+    ensures none_above { (i : ℕ) → result ≤ i → i < 31 → bit_at which i ≡ 0 }
+{
+    (32 - which.bits().leading_zeros()).min(31) as u8
 }
 
 /// Closes the open event of each stream where it is at most this event. The units are handed up to the first refusal.

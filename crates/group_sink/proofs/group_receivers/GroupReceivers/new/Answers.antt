@@ -1,4 +1,5 @@
-use Rattle.group_sink.proofs.Prelude.{ℕ, ◌≡◌, ◌-◌, true, false, length, set, ◌∙◌, ap, sym, refl, arith, fresh, is_in, stay_on, Receiver}
+use Rattle.group_sink.proofs.Prelude.{ℕ, ◌≡◌, ◌≤◌, ◌<◌, ◌-◌, true, false, length, set, ◌∙◌, ap, sym, refl, arith, fresh, is_in, stay_on, Receiver}
+use Rattle.std.specs.Int.{bit_at}
 use Rattle.group_sink.proofs.Places.{all_places, all_streams, free_is, places_kept, places_more, streams_kept, streams_more, taken_is}
 use Rattle.group_sink.proofs.group_receivers.GroupReceivers.new.Goals as goal
 
@@ -42,8 +43,14 @@ indices-preserved c =
 pub returns : goal.returns
 returns c =
     let big_sync = c.args.big_sync.now in
-    let last : c.indices.index ≡ 32 = omega (arith, c.indices-test.false) in
-    let places = c.indices.invariant.places ∙ all_places big_sync.which c.indices.index last in
-    let streams = c.indices.invariant.fresh ∙ all_streams (λ bis. fresh (stay_on big_sync bis)) big_sync.which c.indices.index last in
+    let inside = c.big_sync.inside.which in
+    let which : inside ≡ big_sync.which = ap (λ j. j.which) c.big_sync.view_is in
+    let none : (i : ℕ) → c.indices.index - 1 ≤ i → i < 31 → bit_at big_sync.which i ≡ 0 =
+    λ i above below. ap (λ w. bit_at w i) (sym which) ∙ c.last_of-end.ensures.none_above i (omega arith) below in
+    let least = c.indices.auto.index in
+    let greatest : c.indices.index ≤ 32 = omega arith in
+    let places = c.indices.invariant.places ∙ all_places big_sync.which c.indices.index least greatest none in
+    let streams = c.indices.invariant.fresh
+    ∙ all_streams (λ bis. fresh (stay_on big_sync bis)) big_sync.which c.indices.index least greatest none in
     let info : c.new-2.result.group.info ≡ big_sync.info = c.new-2.ensures ∙ ap (λ j. j.info) c.big_sync.view_is in
     λ i. record { info = info i; places = places i; streams = streams i }
