@@ -5,6 +5,7 @@ ghost use Rattle.scenario_text.specs.Lines.{LineIs};
 ghost use Rattle.scenario_text.specs.Ranges.{IsInRange};
 ghost use Rattle.scenario_text.specs.declared.step.Step.{Step as Said};
 ghost use Rattle.scenario_lines.specs.Frequent.{frequent_step};
+ghost use Rattle.scenario_sink.specs.SinkLines.{IsSinkLine};
 
 use crate::version::Stage;
 use bcast_base::{Memory, Octets};
@@ -110,7 +111,25 @@ impl Machine {
             }
             Frequent::Event => self.event(outlets, text),
             Frequent::Air { sink, lose } => self.air(sink, lose),
+            Frequent::Announce { sink } => self.announce(sink, text),
+            Frequent::Serve { .. }
+            | Frequent::Tell { .. }
+            | Frequent::Drain { .. }
+            | Frequent::Lose { .. } => self.frequent_of_sink(frequent, text),
         }
+    }
+
+    /// The same for a line of a sink's first link, or of the loss of its train. It stands alone, so that the others take no room for
+    /// its step.
+    #[inline(never)]
+    fn frequent_of_sink(&mut self, frequent: Frequent, text: &mut Octets) -> Result<(), Stop>
+        requires range { IsInRange (frequent_step frequent self.old.spare) }
+        requires line { IsSinkLine (frequent_step frequent self.old.spare) }
+        ensures { (starts accounts : List Account) (version : ℕ) (steps : List Said) → Stands steps self.old → stage_of steps ≡ running version
+            → Meets starts steps (frequent_step frequent self.old.spare) self.new text.old text.new accounts accounts result }
+    {
+        let step = step_of_sink(frequent);
+        self.sink_line(step, text)
     }
 
     /// Runs a line of any kind, as `line` does.
@@ -156,5 +175,22 @@ impl Machine {
     {
         a_line_says_one_step();
         self.step(step, outlets, text)
+    }
+}
+
+/// The step of a line of a sink's first link, or of the loss of its train.
+fn step_of_sink(frequent: Frequent) -> Step
+    requires { IsSinkLine (frequent_step frequent []) }
+    ensures { (octets : List ℕ) → result ≡ frequent_step frequent octets }
+{
+    match frequent {
+        Frequent::Serve { sink } => Step::Serve { sink },
+        Frequent::Tell { sink } => Step::Tell { sink },
+        Frequent::Drain { sink } => Step::Drain { sink },
+        Frequent::Lose { sink } => Step::Lose { sink },
+        Frequent::Unit { .. }
+        | Frequent::Event
+        | Frequent::Air { .. }
+        | Frequent::Announce { .. } => unreachable!(),
     }
 }

@@ -6,5 +6,6 @@ mod NextLines
 mod Putting
 mod Rows
 mod Said
+mod SinkWords
 mod StepLines
 mod Taking

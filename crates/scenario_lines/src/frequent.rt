@@ -1,10 +1,11 @@
 //! The lines that come again and again, read without a whole step.
-ghost use Rattle.std.specs.Prelude.{◌≡◌, ℕ, List, true, Ok, Some, IfOk, IfSome, IsErr};
+ghost use Rattle.std.specs.Prelude.{◌≡◌, ◌≤◌, ◌+◌, ◌∷◌, ◌++◌, ℕ, List, [], true, Ok, Some, IfOk, IfSome, IsErr, codes};
+ghost use Rattle.scenario_words.specs.Joined.{space};
 ghost use Rattle.scenario_text.specs.Ranges.{IsInRange};
-ghost use Rattle.scenario_text.specs.Steps.{at_known, at_row, read_of, step_of};
-ghost use Rattle.scenario_text.specs.Table.{row_of, unit_row, air_row};
+ghost use Rattle.scenario_text.specs.Steps.{at_row, read_of};
+ghost use Rattle.scenario_text.specs.Table.{unit_row, air_row};
 ghost use Rattle.scenario_lines.specs.Frequent.{frequent_step};
-ghost use Rattle.scenario_lines.specs.Taking.{LineTakes, RowTakes, some_takes};
+ghost use Rattle.scenario_lines.specs.Taking.{LineTakes, some_takes};
 
 use bcast_base::{Bis, Memory, Octets};
 use scenario_words::{Cursor, LineFault, is_word};
@@ -19,10 +20,21 @@ pub enum Frequent {
     Event,
     /// A sink hears all PDUs of the last event but the lost ones: none where `lose` is 0, else of each `lose` PDUs the last.
     Air { sink: u8, lose: u8 },
+    /// A sink hears the train of the chosen source.
+    Announce { sink: u8 },
+    /// A sink serves the first write that waits on its first link.
+    Serve { sink: u8 },
+    /// The first notice that waits on the first link of a sink is delivered.
+    Tell { sink: u8 },
+    /// The first link of a sink is drained.
+    Drain { sink: u8 },
+    /// A sink loses its train.
+    Lose { sink: u8 },
 }
 
-/// Reads a line that says a unit, the next event or `air`, which is the same in each version. The octets of a unit take the place of
-/// `spare`. For any other line, and for one that doesn't fit, the answer is None, and nothing is said of `spare`.
+/// Reads a line that says a unit, the next event, `air`, `announce`, `serve`, `tell`, `drain` or `lose`, which are the same in each
+/// version. The octets of a unit take the place of `spare`. For any other line, and for one that doesn't fit, the answer is None, and
+/// nothing is said of `spare`.
 pub fn read_frequent(
     alloc: Global,
     spare: &mut Octets,
@@ -34,24 +46,49 @@ pub fn read_frequent(
     // Memory runs out only at a line that spells octets for its step to keep.
     ensures memory { IsErr result → (version : ℕ) → LineTakes version line.now }
 {
-    match line.first() {
-        None => Ok(None),
-        Some(b'#') => Ok(None),
-        Some(_) => of_words(alloc, spare, line),
+    if let Some(words) = behind(b"unit ", line) {
+        return of_unit(alloc, spare, words);
     }
+    Ok(of_few(line))
 }
 
-/// The same for a line that is neither empty nor a comment.
-fn of_words(alloc: Global, spare: &mut Octets, line: &[u8]) -> Result<Option<Frequent>, Memory>
-    ensures gives { IfOk result (λ found. IfSome found (λ frequent. (version : ℕ)
-        → step_of version line.now ≡ Ok (frequent_step frequent spare.new))) }
-    ensures memory { IsErr result → (version : ℕ) → LineTakes version line.now }
+/// What stands behind these octets, where a line begins with them.
+#[inline(always)]
+fn behind<'a>(name: &[u8], line: &'a [u8]) -> Option<&'a [u8]>
+    ensures { IfSome result (λ words. name.now ++ words.now ≡ line.now) }
 {
-    let mut words = Cursor::new(line);
-    let Ok(name) = words.word() else {
-        return Ok(None);
-    };
-    let Some(frequent) = named(alloc, spare, name, &mut words)? else {
+    let count = name.len();
+    if line.len() < count {
+        return None;
+    }
+    if !is_word(&line[..count], name) {
+        return None;
+    }
+    Some(&line[count..])
+}
+
+/// What a line says that brings no octets.
+fn of_few(line: &[u8]) -> Option<Frequent>
+    ensures { (octets : List ℕ) → IfSome result (λ frequent. (version : ℕ)
+        → read_of version line.now ≡ Ok (Some (frequent_step frequent octets))) }
+{
+    if is_word(line, b"event") {
+        return Some(Frequent::Event);
+    }
+    if let Some(words) = behind(b"air ", line) {
+        return of_air(words);
+    }
+    of_a_sink(line)
+}
+
+/// What the line of a unit says, by what stands behind its first word.
+fn of_unit(alloc: Global, spare: &mut Octets, words: &[u8]) -> Result<Option<Frequent>, Memory>
+    ensures gives { IfOk result (λ found. IfSome found (λ frequent. (version : ℕ)
+        → read_of version (codes "unit " ++ words.now) ≡ Ok (Some (frequent_step frequent spare.new)))) }
+    ensures memory { IsErr result → (version : ℕ) → LineTakes version (codes "unit " ++ words.now) }
+{
+    let mut words = Cursor::new(words);
+    let Some(frequent) = unit(alloc, spare, &mut words)? else {
         return Ok(None);
     };
     if words.has_more() {
@@ -60,27 +97,64 @@ fn of_words(alloc: Global, spare: &mut Octets, line: &[u8]) -> Result<Option<Fre
     Ok(Some(frequent))
 }
 
-/// What the words after this first word spell.
-fn named(
-    alloc: Global,
-    spare: &mut Octets,
-    name: &[u8],
-    words: &mut Cursor<'_>,
-) -> Result<Option<Frequent>, Memory>
-    ensures gives { IfOk result (λ found. IfSome found (λ frequent. (version : ℕ)
-        → at_known (row_of version name.now) words.old ≡ Ok (frequent_step frequent spare.new, words.new))) }
-    ensures memory { IsErr result → (version : ℕ) → RowTakes (row_of version name.now) words.old }
+/// What the line of `air` says, by what stands behind its first word.
+fn of_air(words: &[u8]) -> Option<Frequent>
+    ensures { (octets : List ℕ) → IfSome result (λ frequent. (version : ℕ)
+        → read_of version (codes "air " ++ words.now) ≡ Ok (Some (frequent_step frequent octets))) }
 {
-    if is_word(name, b"unit") {
-        return unit(alloc, spare, words);
+    let mut words = Cursor::new(words);
+    let frequent = air(&mut words)?;
+    if words.has_more() {
+        return None;
     }
-    if is_word(name, b"event") {
-        return Ok(Some(Frequent::Event));
+    Some(frequent)
+}
+
+/// What a line says that is a first word, a space and the digit of a sink.
+#[inline(always)]
+fn of_a_sink(line: &[u8]) -> Option<Frequent>
+    ensures { (octets : List ℕ) → IfSome result (λ frequent. (version : ℕ)
+        → read_of version line.now ≡ Ok (Some (frequent_step frequent octets))) }
+{
+    if line.len() < 6 {
+        return None;
     }
-    if is_word(name, b"air") {
-        return Ok(air(words));
+    let end = line.len() - 2;
+    let digit = line[end + 1];
+    if line[end] != b' ' {
+        return None;
     }
-    Ok(None)
+    if digit < b'0' {
+        return None;
+    }
+    if digit > b'7' {
+        return None;
+    }
+    of_name(&line[..end], digit - b'0')
+}
+
+/// What it says, by its first word and its sink.
+fn of_name(name: &[u8], sink: u8) -> Option<Frequent>
+    requires { sink ≤ 7 }
+    ensures { (octets : List ℕ) → IfSome result (λ frequent. (version : ℕ)
+        → read_of version (name.now ++ space ∷ (48 + sink) ∷ []) ≡ Ok (Some (frequent_step frequent octets))) }
+{
+    if is_word(name, b"serve") {
+        return Some(Frequent::Serve { sink });
+    }
+    if is_word(name, b"tell") {
+        return Some(Frequent::Tell { sink });
+    }
+    if is_word(name, b"drain") {
+        return Some(Frequent::Drain { sink });
+    }
+    if is_word(name, b"lose") {
+        return Some(Frequent::Lose { sink });
+    }
+    if is_word(name, b"announce") {
+        return Some(Frequent::Announce { sink });
+    }
+    None
 }
 
 /// `B TIME OCTETS` of a unit, where these words fit.

@@ -1,7 +1,8 @@
-use Rattle.replay_steps.proofs.Prelude.{◌≡◌, refl, sym, ◌∙◌, ap, length, Step, Machine}
+use Rattle.replay_steps.proofs.Prelude.{◌≡◌, refl, sym, ◌∙◌, ap, length, arith, Step, Machine}
+use Rattle.std.proofs.lemmas.Grind.{common_steps}
 use Rattle.scenario_text.specs.declared.step.Step.TheVariants.{Unit as UnitStep}
 use Rattle.scenario_lines.specs.Frequent.{frequent_step}
-use Rattle.replay_steps.proofs.StepLaws.{quiet_as, quiet_beside, meets_as, stands_beside}
+use Rattle.replay_steps.proofs.StepLaws.{quiet_as, quiet_beside, meets_as, stands_beside, tells_as}
 use Rattle.replay_steps.proofs.machine.Machine.frequent.Goals as goal
 
 pub returns-in-Unit-clause-meets : goal.returns-in-Unit-clause-meets
@@ -33,3 +34,14 @@ pub returns-in-Air-clause-meets : goal.returns-in-Air-clause-meets
 returns-in-Air-clause-meets g c starts version steps stands e boxes =
     quiet_as starts (length starts) steps (frequent_step c.args.frequent c.args.self.now.spare) _ c.air.new.self c.args.text.now _ c.air.result
     (ap (λ frequent. frequent_step frequent c.args.self.now.spare) c.in-Air.is) refl refl refl refl (c.air.ensures (length starts) version steps stands e)
+
+pub returns-in-Announce-clause-meets : goal.returns-in-Announce-clause-meets
+returns-in-Announce-clause-meets g c starts version steps stands e boxes =
+    tells_as starts steps (frequent_step c.args.frequent c.args.self.now.spare) _ c.announce.new.self c.args.text.now c.announce.new.text _ c.announce.result
+    (ap (λ frequent. frequent_step frequent c.args.self.now.spare) c.in-Announce.is) refl refl refl (c.announce.ensures starts version steps stands e)
+
+pub frequent_of_sink-requires-clause-line : goal.frequent_of_sink-requires-clause-line
+frequent_of_sink-requires-clause-line g c = grind (arith, common_steps)
+
+pub returns-in-Serve-clause-meets : goal.returns-in-Serve-clause-meets
+returns-in-Serve-clause-meets g c starts version steps stands e boxes = c.frequent_of_sink.ensures starts _ version steps stands e
