@@ -35,7 +35,9 @@ fn begin_value(line: &mut Waiting, first: &[u8], label: Label)
     }
 }
 
-/// Puts a line with the octets of a slot. The line of a short value is put in one piece.
+/// Puts a line with the octets of a slot. The line of a short value is put in one piece. Each call has its own code, in which the first
+/// word is a constant.
+#[inline(always)]
 fn put_value(
     text: &mut Octets,
     first: &[u8],
@@ -87,41 +89,17 @@ fn put_any_value(
     }
 }
 
-/// The first word of the line of a notice.
-fn notice_word(label: Label) -> &'static [u8]
-    ensures word { result.now ≡ (label_of label).notice }
-    ensures few { length result.now ≤ 7 }
-{
-    match label {
-        Label::Plain { .. } => b"notice",
-        Label::OnLink { .. } => b"anotice",
-    }
-}
-
-/// The first word of the line of a read.
-fn read_word(label: Label) -> &'static [u8]
-    ensures word { result.now ≡ (label_of label).read }
-    ensures few { length result.now ≤ 7 }
-{
-    match label {
-        Label::Plain { .. } => b"read",
-        Label::OnLink { .. } => b"aread",
-    }
-}
-
 /// Puts the line of a notice as it was delivered.
 ///
 /// After Memory a part of the line may stand at the end of the text.
 pub fn put_notice(text: &mut Octets, label: Label, notice: &Notice) -> Result<(), Memory>
     ensures { OnOk result (text.new ≡ text.old ++ value_line (label_of label).notice (label_of label).numbers notice.now) }
 {
-    put_value(
-        text,
-        notice_word(label),
-        label,
-        notice.slot,
-        notice.value.as_slice(),
-    )
+    let value = notice.value.as_slice();
+    match label {
+        Label::Plain { .. } => put_value(text, b"notice", label, notice.slot, value),
+        Label::OnLink { .. } => put_value(text, b"anotice", label, notice.slot, value),
+    }
 }
 
 /// Puts the line of a slot that was read, with the octets that were answered.
@@ -130,13 +108,11 @@ pub fn put_notice(text: &mut Octets, label: Label, notice: &Notice) -> Result<()
 pub fn put_read(text: &mut Octets, label: Label, notice: &Notice) -> Result<(), Memory>
     ensures { OnOk result (text.new ≡ text.old ++ value_line (label_of label).read (label_of label).numbers notice.now) }
 {
-    put_value(
-        text,
-        read_word(label),
-        label,
-        notice.slot,
-        notice.value.as_slice(),
-    )
+    let value = notice.value.as_slice();
+    match label {
+        Label::Plain { .. } => put_value(text, b"read", label, notice.slot, value),
+        Label::OnLink { .. } => put_value(text, b"aread", label, notice.slot, value),
+    }
 }
 
 /// Puts the line of the state of a slot of a sink.
