@@ -2,7 +2,6 @@ pub mod Citable
 pub mod CitableValues
 pub mod Decimals
 mod Prelude
-mod DigitChunks
 mod DigitLanes
 pub mod DigitPairs
 pub mod FirstNumber
