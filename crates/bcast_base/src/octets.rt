@@ -1,4 +1,4 @@
-ghost use Rattle.std.specs.Prelude.{◌≡◌, ◌<◌, ◌++◌, ◌∷◌, [], length, take, MatchResult, OnOk, OnErr};
+ghost use Rattle.std.specs.Prelude.{◌≡◌, ◌<◌, ◌-◌, ◌++◌, ◌∷◌, [], length, replicate, take, MatchResult, OnOk, OnErr};
 ghost use Rattle.std.specs.Borrow.{sem};
 ghost use Rattle.bcast_base.specs.Lending.{LendsOctets};
 
@@ -105,6 +105,7 @@ impl Octets {
     /// Makes them `n` octets: those behind are dropped, or zeros are put at the end.
     pub fn resize(&mut self, n: usize) -> Result<(), Memory>
         ensures ok { OnOk result (length self.new ≡ n) }
+        ensures octets { OnOk result (self.new ≡ take n self.old ++ replicate (n - length self.old) 0) }
         ensures err { OnErr result (self.new ≡ self.old) }
     {
         Ok(self.octets.resize(n, 0)?)
