@@ -7,3 +7,4 @@ pub mod Encoding
 pub mod Steps
 pub mod Subgroups
 pub mod Tries
+pub mod Lending

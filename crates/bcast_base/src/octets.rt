@@ -1,4 +1,6 @@
-ghost use Rattle.std.specs.Prelude.{◌≡◌, ◌<◌, ◌++◌, ◌∷◌, [], length, take, MatchResult, OnOk, OnErr};
+ghost use Rattle.std.specs.Prelude.{◌≡◌, ◌<◌, ◌-◌, ◌++◌, ◌∷◌, [], length, replicate, take, MatchResult, OnOk, OnErr};
+ghost use Rattle.std.specs.Borrow.{sem};
+ghost use Rattle.bcast_base.specs.Lending.{LendsOctets};
 
 use crate::memory::Memory;
 use std::alloc::Global;
@@ -71,6 +73,14 @@ impl Octets {
         self.octets.as_slice()
     }
 
+    /// The octets, to be written to.
+    pub fn as_mut_slice(&mut self) -> &mut [u8]
+        ensures* lends { sem 𝓛 (LendsOctets self.entry result) }
+        ensures value { result.now ≡ self.old }
+    {
+        self.octets.as_mut_slice()
+    }
+
     /// Drops all octets, and keeps the room.
     pub fn clear(&mut self)
         ensures { self.new ≡ [] }
@@ -90,5 +100,14 @@ impl Octets {
         ensures { self.new ≡ take n self.old }
     {
         self.octets.truncate(n);
+    }
+
+    /// Makes them `n` octets: those behind are dropped, or zeros are put at the end.
+    pub fn resize(&mut self, n: usize) -> Result<(), Memory>
+        ensures ok { OnOk result (length self.new ≡ n) }
+        ensures octets { OnOk result (self.new ≡ take n self.old ++ replicate (n - length self.old) 0) }
+        ensures err { OnErr result (self.new ≡ self.old) }
+    {
+        Ok(self.octets.resize(n, 0)?)
     }
 }

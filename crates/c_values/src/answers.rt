@@ -48,6 +48,7 @@ fn cause_number(cause: Cause) -> u8
     }
 }
 
+/// The answer to a write, with the code of the error and the number of the cause; both are 0 where the write was accepted.
 pub fn reply_for_c(reply: Reply) -> VmReply
     ensures { result ≡ reply_c reply }
 {
@@ -66,6 +67,7 @@ fn heard_as(answer: u8, fault: u8) -> VmHeard
     VmHeard { answer, fault }
 }
 
+/// What became of a PDU that the receiver of a stream was given.
 pub fn kept_for_c(heard: Heard) -> VmHeard
     ensures { result ≡ kept_c heard }
 {
@@ -79,6 +81,7 @@ pub fn kept_for_c(heard: Heard) -> VmHeard
     }
 }
 
+/// What became of a PDU that a sink heard.
 pub fn heard_for_c(hearing: Hearing) -> VmHeard
     ensures { result ≡ heard_c hearing }
 {
@@ -90,6 +93,7 @@ pub fn heard_for_c(hearing: Hearing) -> VmHeard
     }
 }
 
+/// What became of a BIG Control PDU that a sink heard.
 pub fn control_for_c(heard: ControlHeard) -> VmHeard
     ensures { result ≡ control_c heard }
 {
@@ -116,6 +120,7 @@ fn train_as(answer: u8, fault: u8) -> VmTrainHeard
     }
 }
 
+/// What became of a train that a sink heard, with the streams that it takes of it; bit n stands for index n + 1.
 pub fn train_for_c(heard: TrainHeard) -> VmTrainHeard
     ensures answer { result.answer ≡ (train_c heard).0 }
     ensures fault { result.fault ≡ (train_c heard).1 }

@@ -1,5 +1,6 @@
 mod Prelude
 mod Bits
+mod Hearing
 mod Places
 mod Standing
 mod Trains

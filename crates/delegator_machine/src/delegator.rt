@@ -16,7 +16,7 @@ ghost use Rattle.unit_outlets.specs.Handed.{HandsOver, Caused};
 ghost use Rattle.delegator_control.specs.Groups.{has_group};
 ghost use Rattle.delegator_control.specs.Serving.{wants_memory};
 ghost use Rattle.delegator_control.specs.State.Machines.{step_on};
-ghost use Rattle.delegator_machine.specs.Calls.{Call, control, hear, steps_of, tick};
+ghost use Rattle.delegator_machine.specs.Calls.{Call, control, hear, heard_calls, steps_of, tick};
 ghost use Rattle.delegator_machine.specs.Groups.{group_calls, with_leave};
 ghost use Rattle.delegator_machine.specs.State.Halves.{StandsFor, settings_of};
 
@@ -27,6 +27,7 @@ use delegator_control::ScanDelegator;
 use delegator_history::{ControlHeard, Notice, Reply};
 use group_sink::GroupSink;
 use isoal_base::Hearing;
+use radio_schedule::StreamEvent;
 use std::alloc::Global;
 use std::marker::Model;
 use sync_reference::BigSync;
@@ -208,6 +209,18 @@ impl Delegator {
         ensures settings { settings_of self.new ≡ settings_of self.old }
     {
         self.sink.hear(event, bis, subevent, pdu)
+    }
+
+    /// Hears what the subevents of an event of a stream bring, from subevent 0 on, as `hear` does each PDU that isn't lost. It takes
+    /// no memory.
+    #[inline(always)]
+    pub fn hear_event<E: StreamEvent>(&mut self, event: u64, bis: Bis, sent: &E)
+        requires { event ≤ 2 ^ 39 }
+        ensures stands { (setup : Setup) (calls : List Call) → StandsFor setup calls self.old
+            → StandsFor setup (heard_calls event bis (E.pdus sent.now) calls) self.new }
+        ensures settings { settings_of self.new ≡ settings_of self.old }
+    {
+        self.sink.hear_event(event, bis, sent);
     }
 
     /// What `hear` would answer. It changes nothing.

@@ -1,5 +1,5 @@
 -- What several streams hand, one after the other, in a loop over them.
-use Rattle.group_sink.proofs.Prelude.{ℕ, ◌≡◌, ◌+◌, ◌-◌, ◌<◌, List, [], ◌∷◌, ◌++◌, length, map, take, drop, set, get_or, Result, Ok, Err, sym, subst, arith, take_more, append_assoc, append-nil, take-append-le, get_or-append_right, get_or-drop, length-append, length-map, length-take-le, flat_map, Handed, Counts, Caused, HandsOver}
+use Rattle.group_sink.proofs.Prelude.{ℕ, ◌≡◌, ◌+◌, ◌<◌, List, [], ◌∷◌, ◌++◌, length, map, take, drop, set, get_or, Result, Ok, Err, sym, subst, arith, take_more, append_assoc, append-nil, take-append-le, get_or-append_right, get_or-drop, length-append, length-map, length-take-le, flat_map, Handed, Counts, Caused, HandsOver}
 use Rattle.std.proofs.lemmas.List.Edits.{map_over_more}
 use Rattle.std.proofs.lemmas.Grind.{flat_map-append}
 use Rattle.std.proofs.Math.Seq.{take-append-add}

@@ -1,4 +1,5 @@
 mod Prelude
+mod Events
 mod Handing
 mod Offsets
 mod OneStream

@@ -1,5 +1,7 @@
 -- The place of the receiver of a stream among those of the streams that a sink takes.
-use Rattle.group_sink.proofs.Prelude.{ℕ, zero, suc, ◌≡◌, ◌≢◌, ◌+◌, ◌-◌, ◌<◌, ◌≤◌, Bool, true, false, cond, List, [], ◌∷◌, ◌++◌, length, map, set, replicate, slice_get, Some, None, refl, sym, ap, ◌∙◌, inl, inr, arith, filter, range_with_len, cases_Bool, cases_eq, cond-true, cond-false, append_assoc, append-nil, length-map, map-append, set_at, filter-append, length-map-range_with_len, length-range_with_len, map-range_with_len_more, same_Some, place_in, places_of, is_in, streams_of}
+use Rattle.group_sink.proofs.Prelude.{ℕ, zero, suc, ◌≡◌, ◌≢◌, ◌+◌, ◌-◌, ◌<◌, ◌≤◌, Bool, true, false, cond, List, [], ◌∷◌, ◌++◌, length, map, set, replicate, slice_get, Some, None, refl, sym, ap, ◌∙◌, inl, inr, arith, filter, range_with_len, eq-eqb, ne_eqb, cases_Bool, cases_eq, cond-true, cond-false, append_assoc, append-nil, length-map, map-append, set_at, filter-append, length-map-range_with_len, length-range_with_len, map-range_with_len_more, place_in, places_of, is_in, streams_of}
+use Rattle.std.specs.Int.{bit_at}
+use Rattle.bcast_base.specs.Bis.{Has}
 
 -- the indices below one and above it
 range_split : (start n m : ℕ) → range_with_len start (n + m) ≡ range_with_len start n ++ range_with_len (start + n) m
@@ -128,27 +130,27 @@ before_one : (set index : ℕ) → index ≤ 31
     → places_before set index ≡ map (place_in set) (range_with_len 1 (index - 1)) ++ 31 ∷ replicate (31 - index) 31
 before_one set index greatest = grind (arith, map, place_in, set, range_with_len, replicate)
 
-some_taken : {X : Type 0} (taken : Bool) (x y : X) → Some y ≡ cond taken (Some x) None → (taken ≡ true) × (y ≡ x)
-some_taken taken x y is = grind (arith, same_Some)
+-- whether the stream of an index is taken
+pub taken_is : (set bis index : ℕ) → bis ≡ index → Has set bis → is_in set index ≡ true
+taken_is set bis index here has = rw (← here) (eq-eqb (bit_at set (bis - 1)) 1 has)
 
-none_taken : {X : Type 0} (taken : Bool) (x : X) → None ≡ cond taken (Some x) None → taken ≡ false
-none_taken taken x is = grind arith
+pub free_is : (set bis index : ℕ) → bis ≡ index → (Has set bis → ⊥) → is_in set index ≡ false
+free_is set bis index here free = rw (← here) (ne_eqb (bit_at set (bis - 1)) 1 free)
 
 -- of an index whose stream is taken
 pub streams_more : {X : Type 0} (f : ℕ → X) (set index : ℕ) (streams more : List X) (stream : X) → 1 ≤ index
-    → streams ≡ map f (below set index) → Some stream ≡ cond (is_in set index) (Some (f index)) None → more ≡ streams ++ stream ∷ []
+    → streams ≡ map f (below set index) → is_in set index ≡ true → stream ≡ f index → more ≡ streams ++ stream ∷ []
     → more ≡ map f (below set (index + 1))
-streams_more f set index streams more stream least is taken pushed =
-    grind (arith, is_in, set, some_taken, map, map-append, cond-true, below_more)
+streams_more f set index streams more stream least is taken fresh pushed =
+    grind (arith, is_in, set, map, map-append, cond-true, below_more)
 
-pub places_more : {X : Type 0} (f : ℕ → X) (set_of index : ℕ) (streams : List X) (stream : X) (places more : List ℕ) → 1 ≤ index → index ≤ 31
-    → streams ≡ map f (below set_of index) → Some stream ≡ cond (is_in set_of index) (Some (f index)) None
+pub places_more : {X : Type 0} (f : ℕ → X) (set_of index : ℕ) (streams : List X) (places more : List ℕ) → 1 ≤ index → index ≤ 31
+    → streams ≡ map f (below set_of index) → is_in set_of index ≡ true
     → places ≡ places_before set_of index → more ≡ set places (index - 1) (length streams) → more ≡ places_before set_of (index + 1)
-places_more f set_of index streams stream places more least greatest is taken before written =
+places_more f set_of index streams places more least greatest is taken before written =
     grind (
       arith,
       is_in,
-      some_taken,
       length,
       place_in,
       length-map,
@@ -165,17 +167,40 @@ places_more f set_of index streams stream places more least greatest is taken be
 
 -- and of one whose stream isn't
 pub streams_kept : {X : Type 0} (f : ℕ → X) (set index : ℕ) (streams : List X) → 1 ≤ index
-    → streams ≡ map f (below set index) → None ≡ cond (is_in set index) (Some (f index)) None → streams ≡ map f (below set (index + 1))
-streams_kept f set index streams least is free = grind (arith, map, append-nil, set, cond-false, is_in, none_taken, below_more)
+    → streams ≡ map f (below set index) → is_in set index ≡ false → streams ≡ map f (below set (index + 1))
+streams_kept f set index streams least is free = grind (arith, map, append-nil, set, cond-false, is_in, below_more)
 
-pub places_kept : {X : Type 0} (x : X) (set index : ℕ) (places : List ℕ) → 1 ≤ index → index ≤ 31
-    → None ≡ cond (is_in set index) (Some x) None → places ≡ places_before set index → places ≡ places_before set (index + 1)
-places_kept x set index places least greatest free before =
-    grind (arith, before_one, set, map, place_in, range_with_len, replicate, cond-false, is_in, length, none_taken, places_with)
+pub places_kept : (set index : ℕ) (places : List ℕ) → 1 ≤ index → index ≤ 31
+    → is_in set index ≡ false → places ≡ places_before set index → places ≡ places_before set (index + 1)
+places_kept set index places least greatest free before =
+    grind (arith, before_one, set, map, place_in, range_with_len, replicate, cond-false, is_in, length, places_with)
 
--- past the last index
-pub all_streams : {X : Type 0} (f : ℕ → X) (set index : ℕ) → index ≡ 32 → map f (below set index) ≡ map f (streams_of set)
-all_streams f set index last = ap (λ n. map f (below set n)) last
+-- past the greatest index of the set
+abbrev NoneFrom : (set index : ℕ) → Type 0
+NoneFrom set index = (i : ℕ) → index - 1 ≤ i → i < 31 → bit_at set i ≡ 0
 
-pub all_places : (set index : ℕ) → index ≡ 32 → places_before set index ≡ places_of set
-all_places set index last = ap (places_before set) last ∙ append-nil (places_of set)
+free_from : (set index : ℕ) → index ≤ 31 → NoneFrom set index → 1 ≤ index → is_in set index ≡ false
+free_from set index inside none least =
+    let zero_there : bit_at set (index - 1) ≡ 0 = none (index - 1) (omega arith) (omega arith) in
+    ne_eqb (bit_at set (index - 1)) 1 (λ one. absurd (omega (arith, zero_there, one)))
+
+rest_streams : {X : Type 0} (f : ℕ → X) (set index more : ℕ) → 1 ≤ index → index + more ≡ 32 → NoneFrom set index
+    → map f (below set index) ≡ map f (streams_of set)
+rest_streams f set index zero least all none = let last : index ≡ 32 = omega arith in ap (λ n. map f (below set n)) last
+rest_streams f set index (suc more) least all none =
+    streams_kept f set index (map f (below set index)) least refl (free_from set index (omega arith) none least)
+    ∙ rest_streams f set (index + 1) more (omega arith) (omega arith) (λ i above inside. none i (omega arith) inside)
+
+pub all_streams : {X : Type 0} (f : ℕ → X) (set index : ℕ) → 1 ≤ index → index ≤ 32 → ((i : ℕ) → index - 1 ≤ i → i < 31 → bit_at set i ≡ 0)
+    → map f (below set index) ≡ map f (streams_of set)
+all_streams f set index least greatest none = rest_streams f set index (32 - index) least (omega arith) none
+
+rest_places : (set index more : ℕ) → 1 ≤ index → index + more ≡ 32 → NoneFrom set index → places_before set index ≡ places_of set
+rest_places set index zero least all none = let last : index ≡ 32 = omega arith in ap (places_before set) last ∙ append-nil (places_of set)
+rest_places set index (suc more) least all none =
+    places_kept set index (places_before set index) least (omega arith) (free_from set index (omega arith) none least) refl
+    ∙ rest_places set (index + 1) more (omega arith) (omega arith) (λ i above inside. none i (omega arith) inside)
+
+pub all_places : (set index : ℕ) → 1 ≤ index → index ≤ 32 → ((i : ℕ) → index - 1 ≤ i → i < 31 → bit_at set i ≡ 0)
+    → places_before set index ≡ places_of set
+all_places set index least greatest none = rest_places set index (32 - index) least (omega arith) none

@@ -7,11 +7,11 @@ pub use Rattle.std.proofs.lemmas.List.FromFn.{length-range_with_len, get_or-rang
 pub use Rattle.std.proofs.lemmas.Option.{same_Some}
 pub use Rattle.std.specs.List.{Contains, filter, flat_map, range_with_len, AllByRecursion}
 pub use Rattle.big_info.specs.Bounds.{Bounds}
-pub use Rattle.group_sink.specs.Calls.{Call, tune, hear, tick, leave, place}
+pub use Rattle.group_sink.specs.Calls.{Call, tune, hear, tick, leave, place, heard_where, heard_first, heard_calls}
 pub use Rattle.group_sink.specs.Handing.{units_at_close, units_on, handed_by, handed_at, handed_since, bis_of, of_stream, units_by}
 pub use Rattle.group_sink.specs.State.Receivers.{closed, fresh, owed_of, receiver_after, unframed_after, framed_after, open_of, answer_by, hear_by}
 pub use Rattle.group_sink.specs.State.Sinks.{StandsFor, place_in, places_of, OnGroup, stream_after, on_after}
-pub use Rattle.group_sink.specs.State.Steps.{owed_by, tick_at, fresh_on, answer_at, answer_on, hear_at, heard_at, hear_on, place_on, owed_on, tick_on, fresh_at}
+pub use Rattle.group_sink.specs.State.Steps.{owed_by, tick_at, fresh_on, answer_at, answer_on, hear_at, heard_at, hear_on, place_on, owed_on, tick_on, hear_where, hear_first, hear_all, all_heard_at, hear_all_on}
 pub use Rattle.group_sink.specs.Streams.{number_of, stay_on, stream_calls, with_hear, is_in, streams_of, closes, with_tick}
 pub use Rattle.group_sink.specs.declared.receiver.Receiver.{Receiver}
 pub use Rattle.isoal_base.specs.Stays.{Stay, opened, window_of}

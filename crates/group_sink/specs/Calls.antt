@@ -1,6 +1,6 @@
 -- The calls that a sink took, the newest first, and the group that it is on (Core 5.2, volume 6 part B, section 4.4.6: a
 -- synchronized receiver takes some of the streams of a group).
-use Rattle.std.specs.Prelude.{ℕ, List, [], ◌∷◌, Option, Some, None}
+use Rattle.std.specs.Prelude.{ℕ, zero, suc, List, [], ◌∷◌, length, slice_index_or, Option, Some, None}
 use Rattle.sync_reference.specs.BigSync.{BigSync}
 
 pub data Call : Type 0 where
@@ -15,3 +15,16 @@ place [] = None
 place (tune big_sync ∷ calls) = Some big_sync
 place (leave ∷ calls) = None
 place (_ ∷ calls) = place calls
+
+-- the PDUs that the subevents of an event of a stream bring are heard, from subevent 0 on; where one is lost there is none: those of so
+-- many subevents, and all
+abbrev pub heard_where : (event bis subevent : ℕ) → Option (List ℕ) → List Call → List Call
+heard_where event bis subevent None calls = calls
+heard_where event bis subevent (Some octets) calls = hear event bis subevent octets ∷ calls
+
+abbrev pub heard_first : (event bis : ℕ) → List (Option (List ℕ)) → ℕ → List Call → List Call
+heard_first event bis pdus zero calls = calls
+heard_first event bis pdus (suc s) calls = heard_where event bis s (slice_index_or pdus s None) (heard_first event bis pdus s calls)
+
+abbrev pub heard_calls : (event bis : ℕ) → List (Option (List ℕ)) → List Call → List Call
+heard_calls event bis pdus calls = heard_first event bis pdus (length pdus) calls

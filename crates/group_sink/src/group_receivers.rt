@@ -1,14 +1,16 @@
-ghost use Rattle.std.specs.Prelude.{◌≡◌, ◌≤◌, ◌<◌, ◌^◌, map, MatchResult};
+ghost use Rattle.std.specs.Prelude.{◌≡◌, ◌≤◌, ◌<◌, ◌^◌, ℕ, map, MatchResult};
+ghost use Rattle.std.specs.Int.{bit_at};
 ghost use Rattle.std.specs.List.{flat_map};
 ghost use Rattle.big_info.specs.Bounds.{Bounds};
 ghost use Rattle.unit_outlets.specs.Handed.{Caused, HandsOver};
-ghost use Rattle.group_sink.specs.State.Steps.{answer_on, fresh_on, hear_on, owed_by, owed_on, place_on, tick_at, tick_on};
+ghost use Rattle.group_sink.specs.State.Steps.{answer_on, fresh_on, hear_all_on, hear_on, owed_by, owed_on, place_on, tick_at, tick_on};
 
 use crate::numbers::Numbers;
 use crate::receiver::Receiver;
-use crate::streams::{answer_in, close_by, hear_in, skip_by, stream_of};
-use bcast_base::{Bis, Memory};
+use crate::streams::{answer_in, close_by, hear_event_in, hear_in, skip_by};
+use bcast_base::{Bis, BisSet, Memory};
 use isoal_base::Hearing;
+use radio_schedule::StreamEvent;
 use std::alloc::Global;
 use std::marker::Model;
 use sync_reference::BigSync;
@@ -38,15 +40,16 @@ impl GroupReceivers {
     {
         let mut places = [31; 31];
         let mut streams = Vec::with_capacity(alloc, big_sync.which.count() as usize)?;
-        'indices: for index in 1..32u8 {
+        let end = last_of(big_sync.which) + 1;
+        'indices: for index in 1..end {
             let Some(bis) = Bis::new(index) else {
                 continue;
             };
-            let Some(stream) = stream_of(alloc, big_sync, bis)? else {
+            if !big_sync.which.has(bis) {
                 continue;
-            };
+            }
             places[usize::from(index - 1)] = streams.len() as u8;
-            streams.push(stream)?;
+            streams.push(Receiver::new(alloc, big_sync, bis)?)?;
         }
         Ok(GroupReceivers {
             numbers: Numbers::new(&big_sync.group),
@@ -73,6 +76,19 @@ impl GroupReceivers {
             subevent,
             pdu,
         )
+    }
+
+    /// Hears what the subevents of an event of a stream bring.
+    #[inline(always)]
+    pub(crate) fn hear_event<E: StreamEvent>(&mut self, event: u64, bis: Bis, sent: &E)
+        requires { event ≤ 2 ^ 39 }
+        ensures step { self.new ≡ hear_all_on event bis (E.pdus sent.now) self.old }
+        ensures least { 1 ≤ bis }
+        ensures greatest { bis ≤ 31 }
+        ensures bounds { Bounds self.old.info }
+    {
+        let place = self.place(bis);
+        hear_event_in(&mut self.streams, place, &self.numbers, event, sent);
     }
 
     /// The place of the receiver of a stream.
@@ -103,6 +119,14 @@ impl GroupReceivers {
     {
         close_all(&mut self.streams, event, taker)
     }
+}
+
+/// The greatest index of a set; 0 where it is empty.
+fn last_of(which: BisSet) -> u8
+    ensures greatest { result ≤ 31 }
+    ensures none_above { (i : ℕ) → result ≤ i → i < 31 → bit_at which i ≡ 0 }
+{
+    (32 - which.bits().leading_zeros()).min(31) as u8
 }
 
 /// Closes the open event of each stream where it is at most this event. The units are handed up to the first refusal.

@@ -1,6 +1,6 @@
 ghost use Rattle.std.specs.Prelude.{◌≡◌, ◌≤◌, ◌<◌, ◌^◌, List, [], ◌∷◌, MatchResult, OnOk, OnErr};
 ghost use Rattle.unit_outlets.specs.Handed.{Caused, HandsOver};
-ghost use Rattle.group_sink.specs.Calls.{Call, tune, hear, tick, leave};
+ghost use Rattle.group_sink.specs.Calls.{Call, tune, hear, tick, leave, heard_calls};
 ghost use Rattle.sync_reference.specs.BigSync.{BigSync};
 ghost use Rattle.group_sink.specs.Handing.{handed_at};
 ghost use Rattle.group_sink.specs.Hearings.{hearing_of};
@@ -10,6 +10,7 @@ ghost use Rattle.group_sink.specs.State.Steps.{AreFor};
 use crate::group_receivers::GroupReceivers;
 use bcast_base::{Bis, Memory};
 use isoal_base::Hearing;
+use radio_schedule::StreamEvent;
 use std::alloc::Global;
 use std::marker::Model;
 use sync_reference::BigSync;
@@ -86,6 +87,19 @@ impl GroupSink {
             return Hearing::NotOnGroup;
         };
         on.hear(event, bis, subevent, pdu)
+    }
+
+    /// Hears what the subevents of an event of a stream bring, from subevent 0 on, as `hear` does each PDU that isn't lost. It takes
+    /// no memory.
+    #[inline(always)]
+    pub fn hear_event<E: StreamEvent>(&mut self, event: u64, bis: Bis, sent: &E)
+        requires { event ≤ 2 ^ 39 }
+        ensures { (calls : List Call) → StandsFor calls self.old → StandsFor (heard_calls event bis (E.pdus sent.now) calls) self.new }
+    {
+        let Some(on) = &mut self.group else {
+            return;
+        };
+        on.hear_event(event, bis, sent);
     }
 
     /// What `hear` would answer. It changes nothing.

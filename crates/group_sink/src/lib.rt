@@ -3,6 +3,7 @@
 
 mod group_receivers;
 mod group_sink;
+mod hearing;
 mod laws;
 mod numbers;
 mod receiver;

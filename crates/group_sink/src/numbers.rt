@@ -1,5 +1,5 @@
 //! The payload numbers of the subevents of an event.
-ghost use Rattle.std.specs.Prelude.{ℕ, ◌≡◌, ◌<◌, ◌≤◌, ◌^◌, slice_index};
+ghost use Rattle.std.specs.Prelude.{ℕ, ◌≡◌, ◌<◌, ◌≤◌, ◌*◌, ◌^◌, slice_index};
 ghost use Rattle.group_sink.specs.Streams.{number_of};
 ghost use Rattle.radio_schedule.specs.PayloadNumber.{payload_number};
 
@@ -25,19 +25,36 @@ impl Numbers {
         }
     }
 
-    /// The payload number of a subevent of an event.
+    /// The first payload number of an event.
+    #[inline(always)]
+    pub(crate) fn first(&self, event: u64) -> u64
+        requires { event ≤ 2 ^ 39 }
+        ensures first { result ≡ event * self.now.group.info.bn }
+        ensures bound { result < 2 ^ 63 }
+    {
+        event * u64::from(self.group.info.bn)
+    }
+
+    /// The payload number of a subevent of the event that begins with this number.
+    #[inline(always)]
     #[tactic(auto, using(crate::proofs::Offsets::no_subevent))]
+    pub(crate) fn behind(&self, first: u64, subevent: u8) -> Option<u64>
+        requires { first < 2 ^ 63 }
+        ensures { (event : ℕ) → first ≡ event * self.now.group.info.bn → result ≡ number_of self.now.group.info event subevent }
+    {
+        if subevent >= self.group.info.nse {
+            return None;
+        }
+        let number = first + u64::from(self.offsets[usize::from(subevent)]);
+        if number < 1 << 39 { Some(number) } else { None }
+    }
+
+    /// The payload number of a subevent of an event.
     pub(crate) fn number(&self, event: u64, subevent: u8) -> Option<u64>
         requires { event ≤ 2 ^ 39 }
         ensures { result ≡ number_of self.now.group.info event subevent }
     {
-        let info = &self.group.info;
-        if subevent >= info.nse {
-            return None;
-        }
-        let offset = self.offsets[usize::from(subevent)];
-        let number = event * u64::from(info.bn) + u64::from(offset);
-        if number < 1 << 39 { Some(number) } else { None }
+        self.behind(self.first(event), subevent)
     }
 }
 

@@ -2,12 +2,16 @@
 ghost use Rattle.std.specs.Prelude.{◌≡◌, ◌≤◌, ◌<◌, ◌^◌, IfOk};
 ghost use Rattle.unit_outlets.specs.Handed.{Caused, HandsOver};
 ghost use Rattle.group_sink.specs.State.Receivers.{answer_by, closed, fresh, hear_by, open_of, owed_of};
+ghost use Rattle.group_sink.specs.State.Steps.{hear_all};
 ghost use Rattle.group_sink.specs.Streams.{stay_on};
 
+use crate::hearing::{hear_framed, hear_unframed};
+use crate::numbers::Numbers;
 use bcast_base::{Bis, Memory};
 use isoal_base::Heard;
 use isoal_framed::FramedIn;
 use isoal_unframed::UnframedIn;
+use radio_schedule::StreamEvent;
 use std::alloc::Global;
 use sync_reference::BigSync;
 use unit_outlets::{TakerFault, UnitTaker};
@@ -58,6 +62,17 @@ impl Receiver {
         match self {
             Receiver::Unframed(unframed) => unframed.hear(number, pdu),
             Receiver::Framed(framed) => framed.hear(number, pdu),
+        }
+    }
+
+    /// Hears what the subevents of an event bring. It takes no memory.
+    pub(crate) fn hear_event<E: StreamEvent>(&mut self, numbers: &Numbers, event: u64, sent: &E)
+        requires { event ≤ 2 ^ 39 }
+        ensures { self.new ≡ hear_all numbers.now.group.info event (E.pdus sent.now) self.old }
+    {
+        match self {
+            Receiver::Unframed(unframed) => hear_unframed(unframed, numbers, event, sent),
+            Receiver::Framed(framed) => hear_framed(framed, numbers, event, sent),
         }
     }
 

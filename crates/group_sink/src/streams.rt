@@ -1,33 +1,15 @@
 //! What a sink does with the receiver of a stream.
-ghost use Rattle.std.specs.Prelude.{◌≡◌, ◌≤◌, ◌<◌, ◌^◌, Some, slice_get, MatchResult};
-ghost use Rattle.bcast_base.specs.Bis.{Has};
+ghost use Rattle.std.specs.Prelude.{◌≡◌, ◌≤◌, ◌<◌, ◌^◌, Some, slice_get};
 ghost use Rattle.unit_outlets.specs.Handed.{Caused, HandsOver};
-ghost use Rattle.group_sink.specs.State.Steps.{answer_at, fresh_at, hear_at, heard_at, owed_by, tick_at};
+ghost use Rattle.group_sink.specs.State.Steps.{all_heard_at, answer_at, hear_at, heard_at, owed_by, tick_at};
 ghost use Rattle.group_sink.specs.Streams.{number_of};
 
 use crate::numbers::Numbers;
 use crate::receiver::Receiver;
 use crate::refuser::Refuser;
-use bcast_base::{Bis, Memory};
 use isoal_base::Hearing;
-use std::alloc::Global;
-use sync_reference::BigSync;
+use radio_schedule::StreamEvent;
 use unit_outlets::{TakerFault, UnitTaker};
-
-/// The receiver of a stream on which nothing was heard yet, where the sink takes it.
-pub(crate) fn stream_of(
-    alloc: Global,
-    big_sync: &BigSync,
-    bis: Bis,
-) -> Result<Option<Receiver>, Memory>
-    ensures { MatchResult result (λ stream. stream ≡ fresh_at big_sync.now bis) (λ _. Has big_sync.now.which bis) }
-{
-    if !big_sync.which.has(bis) {
-        return Ok(None);
-    }
-    let stream = Receiver::new(alloc, big_sync, bis)?;
-    Ok(Some(stream))
-}
 
 /// Hears a PDU in a subevent of an event, where a receiver stands at the place.
 pub(crate) fn hear_in(
@@ -57,6 +39,25 @@ fn hear_under(receiver: &mut Receiver, number: Option<u64>, pdu: &[u8]) -> Heari
     match number {
         None => Hearing::NoNumber,
         Some(number) => Hearing::Heard(receiver.hear(number, pdu)),
+    }
+}
+
+/// Hears what the subevents of an event bring, where a receiver stands at the place.
+#[inline(always)]
+pub(crate) fn hear_event_in<E: StreamEvent>(
+    streams: &mut Vec<Receiver>,
+    place: usize,
+    numbers: &Numbers,
+    event: u64,
+    sent: &E,
+)
+    requires { event ≤ 2 ^ 39 }
+    ensures { streams.new.items
+        ≡ all_heard_at numbers.now.group.info event (E.pdus sent.now) place (slice_get streams.old.items place) streams.old.items }
+{
+    match streams.get_mut(place) {
+        None => {}
+        Some(receiver) => receiver.hear_event(numbers, event, sent),
     }
 }
 

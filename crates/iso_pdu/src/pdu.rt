@@ -1,4 +1,4 @@
-ghost use Rattle.std.specs.Prelude.{◌≡◌, ◌≤◌, ◌+◌, ◌∷◌, length, take, drop, Ok, Err, MatchResult, IfOk, IfErr};
+ghost use Rattle.std.specs.Prelude.{◌≡◌, ◌≤◌, ◌+◌, ◌∷◌, ◌++◌, ℕ, List, length, take, drop, Ok, Err, MatchResult, IfOk, IfErr};
 ghost use Rattle.iso_pdu.specs.Faults.{FaultIs};
 ghost use Rattle.iso_pdu.specs.Layout.{fragment, end, PduIs, HasAtMost};
 ghost use Rattle.iso_pdu.specs.Reading.{read_of};
@@ -60,6 +60,20 @@ fn read_fields<'a>(from: &'a [u8], max_pdu: u8) -> Result<Pdu<'a>, PduFault>
         return Ok(Pdu::Framed(Segments::of(payload)?));
     }
     Ok(Pdu::Control(payload))
+}
+
+/// The two octets that stand before the payload in the PDU of a fragment of so many octets.
+pub fn fragment_header(count: u8) -> [u8; 2]
+    ensures { (part : List ℕ) → length part ≡ count → pdu (fragment part) ≡ result ++ part }
+{
+    [0b01, count]
+}
+
+/// The two octets that stand before the payload in the PDU of an end fragment of so many octets.
+pub fn end_header(count: u8) -> [u8; 2]
+    ensures { (part : List ℕ) → length part ≡ count → pdu (end part) ≡ result ++ part }
+{
+    [0b00, count]
 }
 
 /// Writes the PDU of a fragment of at most 251 octets, and answers how many octets it has.

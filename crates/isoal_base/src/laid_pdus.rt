@@ -56,6 +56,19 @@ impl LaidPdus {
         Ok(())
     }
 
+    /// Puts a PDU at the end: its header, and behind it its payload.
+    pub fn push_payload(&mut self, header: [u8; 2], payload: &[u8]) -> Result<(), Memory>
+        ensures ok { OnOk result (self.new ≡ self.old ++ (header ++ payload.now) ∷ []) }
+        ensures err { OnErr result (self.new ≡ self.old) }
+    {
+        if self.count == self.pdus.len() {
+            self.pdus.push(Octets::new(self.alloc))?;
+        }
+        refill_behind(&mut self.pdus[self.count], header, payload)?;
+        self.count += 1;
+        Ok(())
+    }
+
     /// The PDU at place `i`, from 0.
     pub fn pdu(&self, i: usize) -> &[u8]
         requires { i < length self.now }
@@ -74,4 +87,15 @@ impl LaidPdus {
         }
         Ok(pdus)
     }
+}
+
+/// Puts a header, and behind it a payload, in the place of the octets that were there.
+fn refill_behind(octets: &mut Octets, header: [u8; 2], payload: &[u8]) -> Result<(), Memory>
+    ensures { OnOk result (octets.new ≡ header ++ payload.now) }
+{
+    octets.resize(header.len() + payload.len())?;
+    let (front, behind) = octets.as_mut_slice().split_at_mut(header.len());
+    front.copy_from_slice(&header);
+    behind.copy_from_slice(payload);
+    Ok(())
 }

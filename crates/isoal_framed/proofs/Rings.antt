@@ -1,8 +1,12 @@
 -- The places of a window: filled with empty ones, and turned by one.
-use Rattle.isoal_framed.proofs.Prelude.{ℕ, suc, ◌≡◌, ◌+◌, ◌-◌, ◌<◌, ◌≤◌, List, [], ◌∷◌, ◌++◌, map, length, take, drop, replicate, get_or, Option, None, ◌⊎◌, inl, inr, refl, sym, ap, ◌∙◌, arith, append_assoc, length-append, flat_map, slice_get, none-some, slice_get-get_or, map-append, drop-map, length-map, length-replicate, length-drop, replicate-append-replicate, drop-append-le, drop-drop, read_as, segmented}
+use Rattle.isoal_framed.proofs.Prelude.{is_some, true, Some, subst, false≢true, lt-ltb, ℕ, suc, ◌≡◌, ◌+◌, ◌-◌, ◌<◌, ◌≤◌, List, [], ◌∷◌, ◌++◌, map, length, take, drop, replicate, get_or, Option, None, ◌⊎◌, inl, inr, refl, sym, ap, ◌∙◌, arith, append_assoc, length-append, flat_map, slice_get, none-some, slice_get-get_or, map-append, drop-map, length-map, length-replicate, length-drop, replicate-append-replicate, drop-append-le, drop-drop, read_as, segmented}
 use Rattle.std.proofs.Math.Seq.{drop-cons}
+use Rattle.std.proofs.lemmas.List.Elements.{All-push}
+use Rattle.std.proofs.lemmas.Option.{get_or_from_slice_get}
+use Rattle.std.specs.List.{All}
 use Rattle.circular_buffer.specs.Buffer.{keep_last}
 use Rattle.iso_pdu.specs.Reading.{read_of}
+use Rattle.isoal_framed.specs.State.Entries.{IsPduOrNothing}
 
 empty : (max_pdu : ℕ) → read_as segmented max_pdu [] ≡ None
 unfolding read_of
@@ -70,3 +74,23 @@ not_there items index below none =
       | inl nothing ↦ (let short : length items ≡ 0 = ap length nothing in absurd (omega arith))
       | inr first ↦ none-some (get_or items index first.0) (sym none ∙ slice_get-get_or items index first.0 below)
     ]
+
+-- ---- what stands at a place is a framed PDU, or nothing
+
+pub nothing_there : (max_pdu count : ℕ) (octets : List ℕ) → count ≡ 0 → IsPduOrNothing max_pdu count octets
+nothing_there max_pdu count octets none = subst (λ n. IsPduOrNothing max_pdu n octets) (sym none) (ap is_some (empty max_pdu))
+
+pub pdu_there : (max_pdu count : ℕ) (octets pdu : List ℕ) → take count octets ≡ pdu → count ≡ length pdu
+    → is_some (read_as segmented max_pdu pdu) ≡ true → IsPduOrNothing max_pdu count octets
+pdu_there max_pdu count octets [] same long framed = absurd (false≢true (sym (ap is_some (empty max_pdu)) ∙ framed))
+pdu_there max_pdu count octets (x ∷ pdu) same long framed =
+    ap (λ o. is_some (read_as segmented max_pdu o)) same ∙ framed ∙ sym (lt-ltb 0 count (omega (arith, long)))
+
+pub all_last : {A : Type 0} (P : A → Type 0) (items : List A) (item : A) (capacity : ℕ) → length items < capacity → All P items → P item
+    → All P (keep_last capacity (items ++ item ∷ []))
+all_last P items item capacity room all here = subst (All P) (sym (kept_last items item capacity room)) (All-push P items item all here)
+
+-- an item that was read
+pub item_has : {A : Type 0} (P : A → Type 0) (items : List A) (index : ℕ) (item : A) → index < length items → slice_get items index ≡ Some item
+    → All P items → P item
+item_has P items index item below is all = subst P (get_or_from_slice_get items index item item is) (all index item below)

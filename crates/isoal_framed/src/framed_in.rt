@@ -1,8 +1,9 @@
-ghost use Rattle.std.specs.Prelude.{◌≡◌, ◌≤◌, ◌<◌, ◌+◌, ◌^◌, ◌++◌, List, ◌∷◌, length, replicate, IfOk, None};
+ghost use Rattle.std.specs.Prelude.{◌≡◌, ◌≤◌, ◌<◌, ◌+◌, ◌^◌, ◌↔◌, ◌++◌, ℕ, List, ◌∷◌, length, replicate, IfOk, None, false, true};
 ghost use Rattle.big_info.specs.Bounds.{Bounds};
 ghost use Rattle.unit_outlets.specs.Handed.{Caused, HandsOver};
-ghost use Rattle.isoal_base.specs.Hearing.{answer_of};
+ghost use Rattle.isoal_base.specs.Hearing.{answer_of, placing};
 ghost use Rattle.isoal_base.specs.Stays.{Call, hear, close, window_of};
+ghost use Rattle.isoal_base.specs.declared.heard.Heard.TheVariants as answers;
 ghost use Rattle.isoal_framed.specs.Histories.{decided, gained, held_of};
 ghost use Rattle.isoal_framed.specs.Tokens.{segmented};
 ghost use Rattle.isoal_framed.specs.State.Windows.{Stands, after_hear, after_close, owed};
@@ -106,6 +107,19 @@ impl FramedIn {
         ensures decides { (calls : List Call) → decided self.old.stay (hear number pdu.now ∷ calls) ≡ decided self.old.stay calls }
     {
         self.take_in(number, pdu)
+    }
+
+    /// Whether a PDU of this payload number would be kept where it is one of a framed stream: the number is in the window, and no
+    /// PDU of it is kept. What is heard of another number changes nothing.
+    #[inline(always)]
+    pub fn awaits(&self, number: u64) -> bool
+        ensures awaited { result ≡ true ↔ (placing self.now.stay.info self.now.event self.now.kept number ≡ answers.Kept) }
+        ensures same { result ≡ false → (pdu : List ℕ) → after_hear number pdu self.now ≡ self.now }
+    {
+        matches!(
+            answer_at(&self.stream, self.event, &self.store.places, number),
+            Heard::Kept
+        )
     }
 
     /// What `hear` would answer.

@@ -1,4 +1,4 @@
-ghost use Rattle.std.specs.Prelude.{◌≡◌, ◌≤◌, ◌-◌, ◌*◌, ◌^◌, length};
+ghost use Rattle.std.specs.Prelude.{◌≡◌, ◌≤◌, ◌-◌, ◌*◌, ◌^◌, length, is_some, true};
 ghost use Rattle.isoal_base.specs.Hearing.{placing, kept_by, read_as};
 ghost use Rattle.isoal_base.specs.Stays.{window_of};
 ghost use Rattle.isoal_framed.specs.Tokens.{segmented};
@@ -9,6 +9,7 @@ use crate::stream::Stream;
 use isoal_base::Heard;
 
 /// What a framed PDU would be answered under this payload number.
+#[inline(always)]
 pub(crate) fn answer_at(stream: &Stream, event: u64, places: &Places, number: u64) -> Heard
     requires room { length places.now.ring.items ≡ window_of stream.now.group.info }
     requires event { event ≤ 2 ^ 39 }
@@ -38,6 +39,7 @@ pub(crate) fn keep(
     requires room { length places.old.ring.items ≡ window_of stream.now.group.info }
     requires event { event ≤ 2 ^ 39 }
     requires pdu { length pdu.now ≤ 253 }
+    requires framed { is_some (read_as segmented places.old.max_pdu pdu.now) ≡ true }
     ensures places { length places.new.ring.items ≡ length places.old.ring.items }
     ensures max_pdu { places.new.max_pdu ≡ places.old.max_pdu }
     ensures answer { result ≡ placing stream.now.group.info event (kept_of places.old) number }

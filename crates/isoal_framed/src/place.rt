@@ -1,11 +1,12 @@
 //! The places of a window, in a ring from the first number of the open event on.
-ghost use Rattle.std.specs.Prelude.{◌≡◌, ◌≤◌, ◌<◌, ◌+◌, ◌^◌, [], ◌∷◌, ◌++◌, length, take, drop, replicate, not, is_some, slice_set, slice_index_or, vec_len, None, IfOk};
+ghost use Rattle.std.specs.Prelude.{◌≡◌, ◌≤◌, ◌<◌, ◌+◌, ◌^◌, [], ◌∷◌, ◌++◌, length, take, drop, replicate, nat_lt, not, true, is_some, slice_set, slice_index_or, vec_len, None, IfOk};
+ghost use Rattle.std.specs.List.{All};
 ghost use Rattle.isoal_base.specs.Hearing.{read_as};
 ghost use Rattle.isoal_framed.specs.Tokens.{segmented};
+ghost use Rattle.isoal_framed.specs.State.Entries.{IsPduOrNothing};
 
 use bcast_base::Memory;
 use circular_buffer::HeapCircularBuffer;
-use iso_pdu::{Pdu, read_pdu};
 use std::alloc::Global;
 
 /// What is kept of a payload number: its PDU, or no octets.
@@ -22,7 +23,8 @@ impl Place {
 
     /// A place at which nothing is kept.
     fn empty(alloc: Global) -> Result<Place, Memory>
-        ensures { IfOk result (λ place. octets_in place ≡ []) }
+        ensures octets { IfOk result (λ place. octets_in place ≡ []) }
+        ensures count { IfOk result (λ place. place.count ≡ 0) }
     {
         Ok(Place {
             octets: vec![in alloc; 0u8; 253]?,
@@ -37,10 +39,18 @@ impl Place {
         &self.octets[..self.count]
     }
 
+    /// Whether nothing is kept.
+    fn is_empty(&self) -> bool
+        ensures { result ≡ not (nat_lt 0 self.now.count) }
+    {
+        self.count == 0
+    }
+
     /// Keeps a PDU.
     fn keep(&mut self, pdu: &[u8])
         requires { length pdu.now ≤ 253 }
-        ensures { octets_in self.new ≡ pdu.now }
+        ensures octets { octets_in self.new ≡ pdu.now }
+        ensures count { self.new.count ≡ length pdu.now }
     {
         put_prefix(&mut self.octets, pdu);
         self.count = pdu.len();
@@ -48,7 +58,8 @@ impl Place {
 
     /// Keeps nothing more.
     fn clear(&mut self)
-        ensures { octets_in self.new ≡ [] }
+        ensures octets { octets_in self.new ≡ [] }
+        ensures count { self.new.count ≡ 0 }
     {
         self.count = 0;
     }
@@ -70,6 +81,7 @@ pub(crate) struct Places {
     pub(crate) max_pdu: u8,
     pub(crate) ring: HeapCircularBuffer<Place>,
     ghost full: { length ring.items ≡ ring.capacity },
+    ghost entries: { All (λ place. IsPduOrNothing max_pdu place.count place.octets.items) ring.items },
 }
 
 impl Places {
@@ -101,15 +113,16 @@ impl Places {
         ensures { result ≡ not (is_some (slice_index_or (kept_of self.now) index None)) }
     {
         match self.ring.get(index) {
-            Some(place) => !is_framed(place.pdu(), self.max_pdu),
+            Some(place) => place.is_empty(),
             None => true,
         }
     }
 
-    /// Keeps a PDU at this place.
+    /// Keeps a framed PDU at this place.
     pub(crate) fn put(&mut self, index: usize, pdu: &[u8])
         requires index { index < length self.old.ring.items }
         requires room { length pdu.now ≤ 253 }
+        requires framed { is_some (read_as segmented self.old.max_pdu pdu.now) ≡ true }
         ensures places { length self.new.ring.items ≡ length self.old.ring.items }
         ensures max_pdu { self.new.max_pdu ≡ self.old.max_pdu }
         ensures kept { kept_of self.new ≡ slice_set (kept_of self.old) index (read_as segmented self.old.max_pdu pdu.now) }
@@ -142,11 +155,4 @@ impl Places {
             let _ = self.ring.push_back(place);
         }
     }
-}
-
-/// Whether the octets are a framed PDU.
-fn is_framed(pdu: &[u8], max_pdu: u8) -> bool
-    ensures { result ≡ is_some (read_as segmented max_pdu pdu.now) }
-{
-    matches!(read_pdu(pdu, max_pdu), Ok(Pdu::Framed(_)))
 }

@@ -1,5 +1,5 @@
 -- What a ring keeps, and how it changes.
-use Rattle.isoal_unframed.proofs.Prelude.{ℕ, zero, suc, ◌≡◌, ◌+◌, ◌-◌, ◌*◌, ◌<◌, ◌≤◌, true, cond, leb, List, [], ◌∷◌, ◌++◌, length, take, drop, set, replicate, get_or, Option, None, is_some, refl, sym, ap, ◌∙◌, subst, arith, All, copy_within, take-take, take_at, drop_at, drop-drop, take-append-le, drop-append-le, length-take-le, length-append, drop_more, length-drop, drop-take, append_assoc, length-take, length-replicate, get_or-take, get_or-drop, add-mul, mul-le, Content, Empty, Fragment, End, count_of, Within, entry_in, kept_in, held_cells, unit_after, held_in}
+use Rattle.isoal_unframed.proofs.Prelude.{ℕ, zero, suc, ◌≡◌, ◌+◌, ◌-◌, ◌*◌, ◌<◌, ◌≤◌, true, cond, leb, List, [], ◌∷◌, ◌++◌, length, take, drop, set, replicate, get_or, Option, Some, None, is_some, refl, sym, ap, ◌∙◌, subst, arith, All, copy_within, take-take, take_at, drop_at, drop-drop, take-append-le, drop-append-le, length-take-le, length-append, drop_more, length-drop, drop-take, append_assoc, length-take, length-replicate, get_or-take, get_or-drop, add-mul, mul-le, Content, end, Empty, Fragment, End, count_of, Within, entry_in, kept_in, held_cells, unit_after, unit_of, held_in}
 use Rattle.std.specs.Option.{IfSome, option_map}
 use Rattle.std.proofs.lemmas.Slice.{drop-append-drop}
 use Rattle.isoal_unframed.specs.declared.cell.Cell.{Cell}
@@ -99,6 +99,32 @@ get-kept m (suc at) (cell ∷ cells) block below =
 pub empty_at : (m at : ℕ) (cells : List Cell) (block : List ℕ) → at < length cells → get_or cells at Empty ≡ Empty
     → get_or (kept_in m cells block) at None ≡ None
 empty_at m at cells block below is = get-kept m at cells block below ∙ ap (λ c. entry_in c (drop (at * m) block)) is
+
+-- the part at a place stands in the block
+pub end_room : (m at count : ℕ) (cells : List Cell) (block : List ℕ) → All (Within m) cells → at < length cells
+    → get_or cells at Empty ≡ End count → length block ≡ length cells * m → at * m + count ≤ length block
+end_room m at count cells block all below is room =
+    place_room m at (at * m) count cells block block refl below (cell_fits m at cells (End count) all below is) room refl
+
+-- a slot whose first place has an end has the unit of that part
+one_part : (most : ℕ) (part : List ℕ) (slot : List (Option Content)) (n : ℕ)
+    → unit_of most (take (suc n) (Some (end part) ∷ slot)) ≡ cond (leb (length part) most) (Some part) None
+one_part most part slot n = refl
+
+pub end_first : (m most at places count : ℕ) (cells : List Cell) (block : List ℕ) → All (Within m) cells → at < length cells → 0 < places
+    → get_or cells at Empty ≡ End count → length block ≡ length cells * m
+    → unit_of most (take places (drop at (kept_in m cells block))) ≡ cond (leb count most) (Some (take count (drop (at * m) block))) None
+end_first m most at zero count cells block all below some is room = absurd (omega arith)
+end_first m most at (suc n) count cells block all below some is room =
+    let fits : at * m + count ≤ length block = end_room m at count cells block all below is room in
+    let long : length (take count (drop (at * m) block)) ≡ count =
+    length-take-le count (drop (at * m) block) (subst (λ k. count ≤ k) (sym (length-drop (at * m) block)) (omega arith)) in
+    let rest = drop (at + 1) (kept_in m cells block) in
+    let first : drop at (kept_in m cells block) ≡ Some (end (take count (drop (at * m) block))) ∷ rest =
+    drop_more (kept_in m cells block) at None (subst (λ k. at < k) (sym (length-kept m cells block)) below)
+    ∙ ap (λ entry. entry ∷ rest) (get-kept m at cells block below ∙ ap (λ cell. entry_in cell (drop (at * m) block)) is) in
+    rw first (one_part most (take count (drop (at * m) block)) rest n
+    ∙ ap (λ k. cond (leb k most) (Some (take count (drop (at * m) block))) None) long)
 
 pub kept_replicate : (m n : ℕ) (block : List ℕ) → kept_in m (replicate n Empty) block ≡ replicate n None
 kept_replicate m zero block = refl

@@ -65,7 +65,7 @@ impl Ring {
     }
 
     /// Hands the unit whose parts are kept in the slot that begins at this place. Afterwards the parts are not in their
-    /// places any more.
+    /// places any more. Where the first place is empty the unit is lost, and nothing is gathered.
     pub(crate) fn hand_slot<T: UnitTaker>(
         &mut self,
         stream: &Stream,
@@ -84,15 +84,40 @@ impl Ring {
             (T.calls taker.old) (T.calls taker.new) result }
         ensures cause { Caused (T.counts taker.old) (T.counts taker.new) result }
     {
+        if self.is_empty(first) {
+            return hand(taker, stream.bis, time, None);
+        }
         let max_sdu = usize::from(stream.group.info.max_sdu);
-        let unit = match self.gather(first, stream.places(), max_sdu) {
+        let unit = match self.count_unit(first, stream.places(), max_sdu) {
             Some(count) => Some(self.octets(first, count)),
             None => None,
         };
         hand(taker, stream.bis, time, unit)
     }
 
-    /// Moves the parts of the slot's unit together at the front of its places, and answers how many octets the unit has.
+    /// How many octets the slot's unit has. Its parts are moved together at the front of the slot's places first; a unit of one part
+    /// stands there already.
+    #[inline(always)]
+    fn count_unit(&mut self, first: usize, places: usize, max_sdu: usize) -> Option<usize>
+        requires some { 0 < places }
+        requires within { first + places ≤ vec_len self.old.cells }
+        ensures places { vec_len self.new.cells ≡ vec_len self.old.cells }
+        ensures max_pdu { self.new.max_pdu ≡ self.old.max_pdu }
+        ensures prefix { take first (kept_of self.new) ≡ take first (kept_of self.old) }
+        ensures behind { drop (first + places) (kept_of self.new) ≡ drop (first + places) (kept_of self.old) }
+        ensures unit { unit_of max_sdu (take places (drop first (kept_of self.old))) ≡ option_map (octets_at self.new first) result }
+        ensures bound { IfSome result (λ count. first * self.new.max_pdu + count ≤ vec_len self.new.block) }
+    {
+        if let Cell::End(part) = self.cells[first] {
+            let count = usize::from(part);
+            return if count <= max_sdu { Some(count) } else { None };
+        }
+        self.gather(first, places, max_sdu)
+    }
+
+    /// Moves the parts of the slot's unit together at the front of its places, and answers how many octets the unit has. It stands
+    /// apart, so that a unit of one part is a few comparisons.
+    #[inline(never)]
     fn gather(&mut self, first: usize, places: usize, max_sdu: usize) -> Option<usize>
         requires { first + places ≤ vec_len self.old.cells }
         ensures places { vec_len self.new.cells ≡ vec_len self.old.cells }

@@ -1,11 +1,11 @@
 //! The PDUs of the slots of an event.
-ghost use Rattle.std.specs.Prelude.{◌≡◌, ◌≤◌, ◌++◌, take, slice_get, option_copied, OnOk};
+ghost use Rattle.std.specs.Prelude.{◌≡◌, ◌≤◌, ◌++◌, slice_get, option_copied, OnOk};
 ghost use Rattle.big_info.specs.Schedule.{per_unit_of};
 ghost use Rattle.isoal_unframed.specs.State.Sender.{Begins, event_pdus, slot_pdus};
 
 use bcast_base::{Memory, Octets};
 use big_info::Group;
-use iso_pdu::{write_end, write_fragment};
+use iso_pdu::{end_header, fragment_header};
 use isoal_base::LaidPdus;
 use std::collections::VecDeque;
 
@@ -37,33 +37,47 @@ fn lay_slot(group: &Group, unit: Option<&[u8]>, pdus: &mut LaidPdus) -> Result<(
         (option_copied unit.entry)) }
 {
     let mut left = unit;
-    let mut room = [0u8; 253];
     'places: for _ in 0..group.per_unit() {
-        let (count, rest) = write_next(group.info.max_pdu, left, &mut room);
-        pdus.push(&room[..count])?;
-        left = rest;
+        let next = next_pdu(group.info.max_pdu, left);
+        pdus.push_payload(next.header, next.payload)?;
+        left = next.rest;
     }
     Ok(())
 }
 
-/// Writes the next PDU of a slot of which `left` isn't laid yet, and answers how many octets it has and what is left behind it.
-fn write_next<'a>(
-    max_pdu: u8,
-    left: Option<&'a [u8]>,
-    room: &mut [u8; 253],
-) -> (usize, Option<&'a [u8]>)
+/// A PDU of a slot, and what isn't laid yet behind it.
+#[derive(Drop)]
+struct NextPdu<'a> {
+    header: [u8; 2],
+    payload: &'a [u8],
+    rest: Option<&'a [u8]>,
+}
+
+/// The next PDU of a slot of which `left` isn't laid yet.
+fn next_pdu<'a>(max_pdu: u8, left: Option<&'a [u8]>) -> NextPdu<'a>
     requires least { 1 ≤ max_pdu }
     requires greatest { max_pdu ≤ 251 }
-    ensures count { result.0 ≤ 253 }
-    ensures begins { Begins max_pdu (option_copied left.entry) (take result.0 room.new) (option_copied result.1) }
+    ensures { Begins max_pdu (option_copied left.entry) (result.header ++ result.payload.now) (option_copied result.rest) }
 {
     let Some(octets) = left else {
-        return (write_fragment(&[], room), None);
+        return NextPdu {
+            header: fragment_header(0),
+            payload: &[],
+            rest: None,
+        };
     };
     let most = usize::from(max_pdu);
     if octets.len() <= most {
-        return (write_end(octets, room), None);
+        return NextPdu {
+            header: end_header(octets.len() as u8),
+            payload: octets,
+            rest: None,
+        };
     }
-    let (part, rest) = octets.split_at(most);
-    (write_fragment(part, room), Some(rest))
+    let (payload, rest) = octets.split_at(most);
+    NextPdu {
+        header: fragment_header(max_pdu),
+        payload,
+        rest: Some(rest),
+    }
 }

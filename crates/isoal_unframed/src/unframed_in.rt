@@ -1,9 +1,10 @@
-ghost use Rattle.std.specs.Prelude.{◌≡◌, ◌≤◌, ◌<◌, ◌+◌, ◌*◌, ◌^◌, List, ◌∷◌, length, replicate, IfOk, None};
+ghost use Rattle.std.specs.Prelude.{◌≡◌, ◌≤◌, ◌<◌, ◌+◌, ◌*◌, ◌^◌, ◌↔◌, ℕ, List, ◌∷◌, length, replicate, IfOk, None, false, true};
 ghost use Rattle.big_info.specs.Bounds.{Bounds};
 ghost use Rattle.big_info.specs.Schedule.{per_event_of};
 ghost use Rattle.unit_outlets.specs.Handed.{Caused, HandsOver};
-ghost use Rattle.isoal_base.specs.Hearing.{answer_of};
+ghost use Rattle.isoal_base.specs.Hearing.{answer_of, placing};
 ghost use Rattle.isoal_base.specs.Stays.{Call, hear, close, opened, window_of};
+ghost use Rattle.isoal_base.specs.declared.heard.Heard.TheVariants as answers;
 ghost use Rattle.isoal_unframed.specs.Histories.{units_of};
 ghost use Rattle.isoal_unframed.specs.Units.{unframed};
 ghost use Rattle.isoal_unframed.specs.State.Windows.{Stands, after_hear, after_close, owed, held_in_event};
@@ -102,6 +103,19 @@ impl UnframedIn {
         ensures stands { (calls : List Call) → Stands calls self.old → Stands (hear number pdu.now ∷ calls) self.new }
     {
         self.take_in(number, pdu)
+    }
+
+    /// Whether a PDU of this payload number would be kept where it is one of an unframed stream: the number is in the window, and
+    /// no PDU of it is kept. What is heard of another number changes nothing.
+    #[inline(always)]
+    pub fn awaits(&self, number: u64) -> bool
+        ensures awaited { result ≡ true ↔ (placing self.now.stay.info self.now.event self.now.kept number ≡ answers.Kept) }
+        ensures same { result ≡ false → (pdu : List ℕ) → after_hear number pdu self.now ≡ self.now }
+    {
+        matches!(
+            answer_at(&self.stream, self.current, &self.ring, number),
+            Heard::Kept
+        )
     }
 
     /// What `hear` would answer.

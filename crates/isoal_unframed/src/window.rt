@@ -51,6 +51,7 @@ pub(crate) fn keep(
 }
 
 /// What a part would be answered under this payload number.
+#[inline(always)]
 pub(crate) fn answer_at(stream: &Stream, current: OpenEvent, ring: &Ring, number: u64) -> Heard
     requires room { vec_len ring.now.cells ≡ window_of stream.now.group.info }
     requires is_open { IsOpen stream.now.group.info current }

@@ -1,5 +1,6 @@
-ghost use Rattle.std.specs.Prelude.{◌≡◌, ◌≤◌, ◌<◌, ◌+◌, ◌-◌, ◌%◌, ◌^◌, ◌∷◌, [], List};
-ghost use Rattle.std.specs.Prelude.{Some, None, false, is_some, IfOk, IfErr, IfSome, OnOk, OnErr};
+ghost use Rattle.std.specs.Prelude.{ℕ, ◌≡◌, ◌≢◌, ◌≤◌, ◌<◌, ◌+◌, ◌-◌, ◌%◌, ◌^◌, ◌∷◌, [], List, map};
+ghost use Rattle.std.specs.Prelude.{Some, None, false, is_some, IfOk, IfErr, IfSome, IfNone, OnOk, OnErr, OnSome};
+ghost use Rattle.std.specs.List.{range_with_len};
 ghost use Rattle.std.specs.Option.{option_map};
 ghost use Rattle.announcement_train.specs.Layout.{IsTrain};
 ghost use Rattle.iso_pdu.specs.Control.{terminate};
@@ -18,7 +19,8 @@ use bcast_base::{Bis, Memory};
 use big_info::Group;
 use radio_schedule::AirFault;
 use source_machine::{
-    AnnounceFault, EventFault, GiveFault, Identity, SourceConfigured, SourceStreaming, StaleList,
+    AnnounceFault, EventFault, GiveFault, Identity, SentStream, SourceConfigured, SourceStreaming,
+    StaleList,
 };
 use std::marker::Model;
 
@@ -139,6 +141,24 @@ impl Broadcast {
         ensures checked { IsChecked self.now.setup.info }
     {
         self.source.heard_at(back, bis, subevent)
+    }
+
+    /// The PDUs that a stream sent in the subevents of the last event. None comes exactly where `heard_at` refuses each place of that
+    /// event and stream.
+    #[inline(always)]
+    pub fn sent_on(&self, bis: Bis) -> Option<SentStream<'_>>
+        ensures sent { IfSome result (λ sent. (calls : List Call) (airs : List StreamAir) → StandsFor calls self.now
+            → AreAirs self.now.setup calls airs
+            → map Some sent ≡ map (pdu_of self.now.setup airs (next_of self.now.setup calls - 1) bis)
+            (range_with_len 0 self.now.setup.info.nse)) }
+        ensures on_air { OnSome result ((calls : List Call) → StandsFor calls self.now
+            → (s : ℕ) → s < self.now.setup.info.nse → air_fault self.now.setup calls 0 bis s ≡ None) }
+        ensures none { IfNone result ((calls : List Call) → StandsFor calls self.now
+            → (s : ℕ) → air_fault self.now.setup calls 0 bis s ≢ None) }
+        ensures works { OnSome result (self.now.failed ≡ false) }
+        ensures checked { IsChecked self.now.setup.info }
+    {
+        self.source.sent_on(bis)
     }
 
     /// Who the source is.

@@ -3,6 +3,8 @@
 
 mod air;
 mod payload;
+mod stream_event;
 
 pub use air::{Air, AirFault};
 pub use payload::{events_ahead, payload_of};
+pub use stream_event::StreamEvent;

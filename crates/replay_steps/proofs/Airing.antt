@@ -1,10 +1,15 @@
 -- The PDUs of the air that a sink hears.
-use Rattle.replay_steps.proofs.Prelude.{◌≡◌, ℕ, suc, ◌+◌, ◌*◌, ◌/◌, ◌%◌, ◌<◌, ◌≤◌, ◌==◌, ◌++◌, ◌∷◌, Bool, true, false, not, is_some, if◌then◌else◌, List, length, Option, None, Some, option_map, Ok, Err, refl, sym, ◌∙◌, ap, subst, add-one, ne_eqb, arith, le-ltb, option_or, Account, airs_of, Call, heard_line, pdu_line, Refusal, NoSuchSink, NotOnAir, Order, Stop, Refused, OutletFault, Memory, Step, Air, Hear, Inject, Sniff, chosen_of, chosen_steps, running, sinks_made, stage_of, event_back, is_heard, pdu_in, performed, setup_of, source_calls, hear_at, heard_on_air, is_lost, reaches, sink_calls, source_of, position_at, positions_of, unless_lost, box_of, injected_hearing, calls_made, made_of, air_refusal, no_place, no_sink, phase_refusal, source_refusal, refuse_if, NoPlace, air_says, hear_says, inject_says, sniff_says, sources_stay, Sinks, Histories, with_hearing, SinksStand, stands_same, Machine, OnAir, Reaches, histories_on_air, Stands, histories_of, Quiet, Tells}
-use Rattle.std.proofs.lemmas.Nat.{div_below, mod_below}
+use Rattle.replay_steps.proofs.Prelude.{◌≡◌, ℕ, ◌+◌, ◌*◌, ◌<◌, ◌≤◌, ◌==◌, ◌++◌, ◌∷◌, Bool, true, false, not, is_some, if◌then◌else◌, List, length, Option, None, Some, option_map, Ok, Err, refl, sym, ◌∙◌, ap, subst, ne_eqb, arith, le-ltb, option_or, Account, airs_of, Call, heard_line, pdu_line, Refusal, NoSuchSink, NotOnAir, Order, Stop, Refused, OutletFault, Memory, Step, Air, Hear, Inject, Sniff, chosen_of, chosen_steps, running, sinks_made, stage_of, event_back, is_heard, pdu_in, performed, setup_of, source_calls, heard_on_air, reaches, sink_calls, source_of, positions_of, box_of, injected_hearing, calls_made, made_of, air_refusal, no_place, no_sink, phase_refusal, source_refusal, refuse_if, NoPlace, air_says, hear_says, inject_says, sniff_says, sources_stay, Sinks, Histories, with_hearing, SinksStand, stands_same, Machine, OnAir, Reaches, histories_on_air, Stands, histories_of, Quiet, Tells}
+use Rattle.std.proofs.Common.{inl, inr}
+use Rattle.std.proofs.lemmas.Bool.{cases_lt}
 use Rattle.source_machine.specs.Faults.{air_fault}
+use Rattle.group_sink.specs.Calls.{heard_calls}
 use Rattle.isoal_base.specs.declared.hearing.Hearing.{Hearing}
 use Rattle.scenario_sinks.specs.Hearing.{Hears}
+use Rattle.scenario_sinks.specs.Histories.{with_heard}
+use Rattle.scenario_sources.specs.Answers.{SentIs}
 use Rattle.replay_steps.specs.declared.grid.Grid.{Grid}
+use Rattle.replay_steps.proofs.HeardStreams.{AreHeard, event_heard}
 use Rattle.replay_steps.proofs.RelaysStay.{minds_relays, relays_stay}
 use Rattle.replay_steps.proofs.Stepping.{as_step, brought, or_none}
 
@@ -126,10 +131,6 @@ pub no_fault : (own : List Step) (bis subevent : ℕ) → bis ≤ (setup_of own)
     → air_fault (setup_of own) (source_calls own) 0 bis subevent ≡ None
 no_fault own bis subevent p q r = grind (arith, le-ltb, setup_of, source_calls)
 
--- the positions of an event are those of the streams and the subevents of the group
-pub position_within : (streams subevents i : ℕ) → i < streams * subevents → (0 < subevents) × (i / subevents < streams) × (i % subevents < subevents)
-position_within streams subevents i h = grind (arith, div_below, mod_below)
-
 on_air : (n : ℕ) → 0 < n → refuse_if (n == 0) NotOnAir ≡ None
 on_air n h = ap (λ (b : Bool). refuse_if b NotOnAir) (ne_eqb n 0 (λ e. omega arith))
 
@@ -154,52 +155,50 @@ pub air_ends : (steps : List Step) (n lose : ℕ) (sinks : Sinks) → SinksStand
 air_ends steps n lose sinks stands =
     grind (arith, stands_same, histories_on_air, positions_of, chosen_steps, histories_of, if_same, calls_made)
 
--- the PDU at a position is lost
-position_lost : (b : Bool) (lost : Bool) (call : Call) (calls heard : List Call) → lost ≡ true
-    → (if b then heard else calls) ≡ (if b then unless_lost lost call heard else calls)
-position_lost b lost call calls heard e = grind arith
+-- what was heard of a stream reaches the sink, or doesn't
+both_heard : (b : Bool) (f : List Call → List Call) (heard more calls : List Call) → f heard ≡ more
+    → (if b then f (if b then heard else calls) else (if b then heard else calls)) ≡ (if b then more else calls)
+both_heard b f heard more calls is = grind arith
 
-pub lost_next : (steps : List Step) (n lose i : ℕ) (sinks : Sinks)
-    → is_lost (setup_of (chosen_steps steps)).info (event_back (chosen_steps steps) 0) lose (position_at (setup_of (chosen_steps steps)).info i) ≡ true
-    → SinksStand (histories_on_air steps n lose i) sinks → SinksStand (histories_on_air steps n lose (i + 1)) sinks
-lost_next steps n lose i sinks lost stands =
-    let own : List Step = chosen_steps steps in
-    let P : ℕ → Type 0 = λ k. SinksStand (histories_on_air steps n lose k) sinks in
-    subst P (sym (add-one i)) (grind (arith, stands_same, histories_on_air, position_lost, reaches, hear_at, airs_of, event_back, position_at, setup_of, sink_calls, heard_on_air))
-
--- it is heard
-position_heard : (b : Bool) (lost : Bool) (call : Call) (calls heard : List Call) → lost ≡ false
-    → (if b then call ∷ (if b then heard else calls) else (if b then heard else calls)) ≡ (if b then unless_lost lost call heard else calls)
-position_heard b lost call calls heard e = grind arith
-
-pub heard_next : (steps : List Step) (n lose i source event bis subevent : ℕ) (pdu : List ℕ) (sinks : Sinks) (o : Option Hearing)
-    → is_lost (setup_of (chosen_steps steps)).info (event_back (chosen_steps steps) 0) lose (position_at (setup_of (chosen_steps steps)).info i) ≡ false
-    → is_some (box_of n steps) ≡ true → source ≡ chosen_of steps → event ≡ event_back (chosen_steps steps) 0
-    → bis ≡ i / (setup_of (chosen_steps steps)).info.nse + 1 → subevent ≡ i % (setup_of (chosen_steps steps)).info.nse
-    → pdu ≡ pdu_in airs_of (chosen_steps steps) (event_back (chosen_steps steps) 0) bis subevent
-    → Hears (histories_on_air steps n lose i) n source event bis subevent pdu sinks o → SinksStand (histories_on_air steps n lose (i + 1)) sinks
-heard_next steps n lose i source event bis subevent pdu sinks o kept lives chosen is b s p h =
+-- a sink heard a stream more
+pub stream_heard : (steps : List Step) (n lose k source event bis subevents : ℕ) (pdus : List (Option (List ℕ))) (sinks : Sinks) → AreHeard (chosen_steps steps) lose k pdus
+    → source ≡ chosen_of steps → event ≡ event_back (chosen_steps steps) 0 → bis ≡ k + 1 → subevents ≡ (setup_of (chosen_steps steps)).info.nse
+    → SinksStand (with_heard n source event bis pdus (histories_on_air steps n lose (k * subevents))) sinks
+    → SinksStand (histories_on_air steps n lose ((k + 1) * subevents)) sinks
+stream_heard steps n lose k source event bis subevents pdus sinks are chosen is b all stands =
     let own : List Step = chosen_steps steps in
     let nse : ℕ = (setup_of own).info.nse in
-    let heard = heard_as (histories_on_air steps n lose i) n source (chosen_of steps) event (event_back own 0) bis subevent pdu (pdu_in airs_of own (event_back own 0) bis subevent) sinks chosen is p
-    (some_heard (histories_on_air steps n lose i) n source event bis subevent pdu sinks o lives h) in
-    let B : ℕ → Type 0 = λ x. SinksStand (with_hearing n (chosen_of steps) (event_back own 0) x subevent (pdu_in airs_of own (event_back own 0) x subevent) (histories_on_air steps n lose i)) sinks in
-    let S : ℕ → Type 0 = λ x. SinksStand (with_hearing n (chosen_of steps) (event_back own 0) (i / nse + 1) x (pdu_in airs_of own (event_back own 0) (i / nse + 1) x) (histories_on_air steps
-    n lose i)) sinks in
-    let P : ℕ → Type 0 = λ k. SinksStand (histories_on_air steps n lose k) sinks in
-    subst P (sym (add-one i)) (stands_same
-    (with_hearing n (chosen_of steps) (event_back own 0) (i / nse + 1) (i % nse) (pdu_in airs_of own (event_back own 0) (i / nse + 1) (i % nse)) (histories_on_air steps n lose i))
-    (histories_on_air steps n lose (suc i)) sinks
-    (grind (arith, position_heard, reaches, hear_at, airs_of, event_back, position_at, setup_of, sink_calls, heard_on_air)) (subst S s (subst B b heard)))
+    let S : ℕ → Type 0 = λ x. SinksStand (with_heard n x (event_back own 0) (k + 1) pdus (histories_on_air steps n lose (k * nse))) sinks in
+    let E : ℕ → Type 0 = λ x. SinksStand (with_heard n source x (k + 1) pdus (histories_on_air steps n lose (k * nse))) sinks in
+    let B : ℕ → Type 0 = λ x. SinksStand (with_heard n source event x pdus (histories_on_air steps n lose (k * nse))) sinks in
+    let N : ℕ → Type 0 = λ x. SinksStand (with_heard n source event bis pdus (histories_on_air steps n lose (k * x))) sinks in
+    subst (λ x. SinksStand (histories_on_air steps n lose ((k + 1) * x)) sinks) (sym all)
+    (stands_same (with_heard n (chosen_of steps) (event_back own 0) (k + 1) pdus (histories_on_air steps n lose (k * nse))) (histories_on_air steps n lose ((k + 1) * nse)) sinks
+    (record {
+      boxes = λ m. refl;
+      mades = λ m. refl;
+      sources = λ m. refl;
+      lives = λ m. refl;
+      received = λ m. both_heard (reaches n m steps) (heard_calls (event_back own 0) (k + 1) pdus) (heard_on_air airs_of own lose (k * nse) (sink_calls airs_of m steps))
+          (heard_on_air airs_of own lose ((k + 1) * nse) (sink_calls airs_of m steps)) (sink_calls airs_of m steps)
+          (event_heard own lose k pdus (sink_calls airs_of m steps) are);
+      made = refl;
+    })
+    (subst S chosen (subst E is (subst B b (subst N all stands)))))
 
--- what was computed of a position is what is said of it
-pub lost_at : (own : List Step) (event lose i : ℕ) (r b : Bool) → event ≡ event_back own 0 → r ≡ is_lost (setup_of own).info event lose (position_at (setup_of own).info i) → r ≡ b
-    → is_lost (setup_of own).info (event_back own 0) lose (position_at (setup_of own).info i) ≡ b
-lost_at own event lose i r b event_is is e = grind (arith, is_lost, setup_of, position_at)
-
-pub no_place_there : (own : List Step) (bis subevent : ℕ) (stop : Stop) → bis ≤ (setup_of own).info.num_bis → subevent < (setup_of own).info.nse → 0 < performed own
-    → NoPlace own 0 bis subevent stop → ⊥
-no_place_there own bis subevent stop p q r e = grind (arith, no_place, option_map, air_refusal, no_fault)
+-- each stream of the group sent its PDUs
+pub none_sent : (steps : List Step) (n lose k bis event streams subevents : ℕ) (sinks : Sinks) → OnAir steps n event streams subevents → k < streams → bis ≡ k + 1
+    → SentIs (chosen_steps steps) bis None → SinksStand (histories_on_air steps n lose (k * subevents)) sinks
+    → SinksStand (histories_on_air steps n lose ((k + 1) * subevents)) sinks
+none_sent steps n lose k bis event streams subevents sinks on within b none stands =
+    elim (cases_lt 0 subevents) [
+      | inl some ↦ absurd (none 0 (ap (option_map air_refusal)
+          (no_fault (chosen_steps steps) bis 0 (omega (arith, within, b, on.streams_are)) (omega (arith, some, on.subevents_are)) on.some)))
+      | inr nothing ↦
+          let P : ℕ → Type 0 = λ i. SinksStand (histories_on_air steps n lose i) sinks in
+          let is : subevents ≡ 0 = omega (arith, nothing) in
+          subst P (ap (λ x. k * x) is ∙ (let z : k * 0 ≡ (k + 1) * 0 = omega arith in z) ∙ sym (ap (λ x. (k + 1) * x) is)) stands
+    ]
 
 pub no_sink_there : (steps : List Step) (n : ℕ) → is_heard (chosen_steps steps) ≡ true → is_some (box_of n steps) ≡ false
     → option_or (refuse_if (not (is_heard (chosen_steps steps))) Order) (no_sink n steps) ≡ Some NoSuchSink

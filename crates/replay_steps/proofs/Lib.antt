@@ -3,7 +3,8 @@ pub mod Citable
 pub mod Stepping
 pub mod SinkLines
 pub mod Airing
-pub mod Positions
+pub mod Losing
+pub mod HeardStreams
 pub mod Closing
 pub mod Ending
 pub mod StepLaws

@@ -1,5 +1,5 @@
 -- A line by its step.
-use Rattle.replay_steps.proofs.Prelude.{◌≡◌, ℕ, ◌+◌, ◌≤◌, nat_le, List, [], ◌∷◌, ◌++◌, length, inl, inr, Option, None, Some, Result, Ok, Err, refl, sym, ◌∙◌, ap, subst, is_some, arith, option_or, leb-false, TextLine, plain, Account, airs_of, BadLine, happened, with_relayed_units, append-nil, read_of, Step, sinks_made, sinks_made_by, version_at, version_of, is_over, hands_alike, left_by_relayed_units, stage_happened, passes_both, accounts_after, box_of, handed_by, handed_up, is_relayed, is_out_of_order, sink_refusal, refuse_if, a_step, nothing, unsaid, said_of, steps_of, said_by, said_after, with_said, refusal_said, output_said, handed_said, fails_not, Machine, Stop, Refused, OutletFault, Memory, Stands, BoxesStand, StepMeets, accounts_append}
+use Rattle.replay_steps.proofs.Prelude.{◌≡◌, ℕ, ◌≤◌, nat_le, List, [], ◌∷◌, ◌++◌, length, inl, inr, Option, None, Some, Result, Ok, Err, refl, sym, ◌∙◌, ap, subst, is_some, arith, option_or, leb-false, TextLine, plain, Account, airs_of, BadLine, happened, with_relayed_units, append-nil, read_of, Step, sinks_made, sinks_made_by, version_at, version_of, is_over, hands_alike, left_by_relayed_units, stage_happened, passes_both, accounts_after, box_of, handed_by, handed_up, is_relayed, is_out_of_order, sink_refusal, refuse_if, a_step, nothing, unsaid, said_of, steps_of, said_by, said_after, with_said, refusal_said, output_said, handed_said, fails_not, Machine, Stop, Refused, OutletFault, Memory, Stands, BoxesStand, StepMeets, accounts_append}
 use Rattle.scenario_words.specs.declared.fault.LineFault.TheVariants.{BadLine as Misfit}
 use Rattle.scenario_history.specs.Refusals.{refusal_of}
 use Rattle.replay_steps.specs.LineMeets.{LineMeets, LinesStand}

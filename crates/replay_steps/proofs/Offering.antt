@@ -4,6 +4,7 @@ use Rattle.bcast_base.specs.declared.unit.Unit.{Unit as AudioUnit}
 use Rattle.scenario_text.specs.declared.step.Step.TheVariants.{Unit as UnitLine}
 use Rattle.scenario_sinks.specs.declared.route.Route.{Route as LentRoute}
 use Rattle.scenario_sinks.specs.RelayHistories as pasts
+use Rattle.scenario_sinks.specs.State.Gathering.{octets_of}
 use Rattle.scenario_sinks.specs.declared.gathered.HandedUnit.{HandedUnit}
 use Rattle.replay_steps.proofs.RelaysStay.{relays_as}
 use Rattle.replay_steps.proofs.Stepping.{or_none}
@@ -63,19 +64,19 @@ own_unit : (n : ℕ) (route : Route) (bis time : ℕ) (octets : List ℕ) → bi
 own_unit n route bis time octets same = rw (eq-eqb bis route.bis same) refl
 
 -- a unit that is lost isn't offered
-pub offers_lost : (steps : List Step) (n : ℕ) (own : Route) (unit : HandedUnit) (sources : Sources) (relays : Relays) (text : List ℕ) → unit.octets ≡ None
+pub offers_lost : (steps : List Step) (n : ℕ) (own : Route) (unit : HandedUnit) (sources : Sources) (relays : Relays) (text : List ℕ) → octets_of unit ≡ None
     → SourcesStand steps sources → RelaysStand (relay_histories steps) relays
     → OffersMeet steps (offered_of n (Some own) (handed_of unit ∷ [])) sources relays text text (Ok tt)
 offers_lost steps n own unit sources relays text none s r =
-    none_offered steps (offered_of n (Some own) (handed_of unit ∷ [])) sources relays text (lost_unit n own unit.bis unit.time unit.octets none) s r
+    none_offered steps (offered_of n (Some own) (handed_of unit ∷ [])) sources relays text (lost_unit n own unit.bis unit.time (octets_of unit) none) s r
 
-valid_as : (n : ℕ) (own : Route) (unit : HandedUnit) (octets : List ℕ) → unit.octets ≡ Some octets
+valid_as : (n : ℕ) (own : Route) (unit : HandedUnit) (octets : List ℕ) → octets_of unit ≡ Some octets
     → offered_of n (Some own) (handed_of unit ∷ []) ≡ offered_of n (Some own) (handed_as unit.bis unit.time (Some octets) ∷ [])
 valid_as n own unit octets is = ap (λ o. offered_of n (Some own) (handed_as unit.bis unit.time o ∷ [])) is
 
 -- nor is one of another stream
 pub offers_other : (steps : List Step) (n : ℕ) (own : Route) (unit : HandedUnit) (octets : List ℕ) (sources : Sources) (relays : Relays) (text : List ℕ)
-    → unit.octets ≡ Some octets → unit.bis ≢ own.bis → SourcesStand steps sources → RelaysStand (relay_histories steps) relays
+    → octets_of unit ≡ Some octets → unit.bis ≢ own.bis → SourcesStand steps sources → RelaysStand (relay_histories steps) relays
     → OffersMeet steps (offered_of n (Some own) (handed_of unit ∷ [])) sources relays text text (Ok tt)
 offers_other steps n own unit octets sources relays text is other s r =
     none_offered steps (offered_of n (Some own) (handed_of unit ∷ [])) sources relays text
@@ -90,7 +91,7 @@ routes_after_relays offer to steps held is stands =
 
 -- source 1 takes the unit
 pub offers_taken : (steps : List Step) (n : ℕ) (own : Route) (unit : HandedUnit) (octets : List ℕ) (sources : Sources) (relays : Relays) (text : List ℕ)
-    → unit.octets ≡ Some octets → unit.bis ≡ own.bis → GivesSecond steps (offer_of n own unit.time octets) sources (Ok tt)
+    → octets_of unit ≡ Some octets → unit.bis ≡ own.bis → GivesSecond steps (offer_of n own unit.time octets) sources (Ok tt)
     → RelaysStand (relay_histories (with_relayed_unit (offer_of n own unit.time octets) steps)) relays
     → OffersMeet steps (offered_of n (Some own) (handed_of unit ∷ [])) sources relays text text (Ok tt)
 offers_taken steps n own unit octets sources relays text is same g r =
@@ -99,7 +100,7 @@ offers_taken steps n own unit octets sources relays text is same g r =
 
 -- source 1 doesn't take it, which is told
 pub offers_dropped : (steps : List Step) (n bis : ℕ) (own : Route) (unit : HandedUnit) (octets : List ℕ) (reason : Refusal) (sources : Sources) (relays : Relays) (text told : List ℕ)
-    (r : Result (Unit {0}) Stop) → unit.octets ≡ Some octets → unit.bis ≡ own.bis → bis ≡ own.bis
+    (r : Result (Unit {0}) Stop) → octets_of unit ≡ Some octets → unit.bis ≡ own.bis → bis ≡ own.bis
     → GivesSecond steps (offer_of n own unit.time octets) sources (Err (Refused reason))
     → RelaysStand (relay_histories steps) relays → Drops n bis reason text told r
     → OffersMeet steps (offered_of n (Some own) (handed_of unit ∷ [])) sources relays text told r

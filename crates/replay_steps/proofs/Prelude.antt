@@ -16,7 +16,6 @@ pub use Rattle.replay_steps.specs.Between.{FirstBetween, with_closes_below}
 pub use Rattle.replay_steps.specs.Failing.{CloseFails, printed_before}
 pub use Rattle.replay_steps.specs.Machines.{Stands, histories_of, relay_histories, lent}
 pub use Rattle.replay_steps.specs.Meets.{Quiet, phase_line, Tells, BoxesStand, Meets, StepMeets}
-pub use Rattle.replay_steps.specs.Positions.{IsPosition}
 pub use Rattle.replay_steps.specs.Relaying.{FirstMeets, ComponentsStand, SinkMeets, answer_lines, lines_at, lines_below, offers_below, offers_of, units_below, OffersMeet, Closes, GivesSecond, Drops, SecondMeets, FirstFails}
 pub use Rattle.replay_steps.specs.Versions.{stage_in, number_of}
 pub use Rattle.replay_steps.specs.declared.machine.Machine.{Machine}

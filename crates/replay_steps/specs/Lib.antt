@@ -4,7 +4,7 @@ pub mod Failing
 pub mod Meets
 pub mod LineMeets
 pub mod Airing
-pub mod Positions
+pub mod Losing
 pub mod Unassigned
 pub mod Relaying
 pub mod Between

@@ -8,13 +8,14 @@ ghost use Rattle.scenario_history.specs.Steps.{running, stage_of};
 ghost use Rattle.scenario_sources.specs.State.Standing.{SourcesStand};
 ghost use Rattle.scenario_sinks.specs.State.Standing.{SinksStand};
 ghost use Rattle.replay_steps.specs.Airing.{OnAir, Reaches, histories_on_air};
+ghost use Rattle.replay_steps.specs.Losing.{LosesFrom};
 ghost use Rattle.replay_steps.specs.Machines.{Stands, histories_of};
 ghost use Rattle.replay_steps.specs.Meets.{Quiet, Tells};
-ghost use Rattle.replay_steps.specs.Positions.{IsPosition};
 
 use crate::grid::Grid;
+use crate::heard_event::HeardEvent;
+use crate::losses::Losses;
 use crate::machine::Machine;
-use crate::position::Position;
 use bcast_base::{Bis, Memory, Octets};
 use scenario_sinks::Sinks;
 use scenario_sources::{Place, Sources};
@@ -141,54 +142,43 @@ impl Machine {
 }
 
 /// Hands a sink the PDUs of the last event, by rising index and subevent, but those that are lost.
-#[tactic(auto, using(crate::proofs::Positions::stream_within, crate::proofs::Positions::subevent_within))]
 fn hear_all(sources: &Sources, sinks: &mut Sinks, sink: u8, grid: Grid, event: u64, lose: u8)
     requires sink { sink ≤ 7 }
     requires event { event < 2 ^ 39 }
     ensures { (steps : List Step) → OnAir steps sink event grid.streams grid.subevents → SourcesStand steps sources.now
         → SinksStand (histories_of steps) sinks.old → SinksStand (histories_of (AirStep sink lose ∷ steps)) sinks.new }
 {
-    let count = u16::from(grid.streams) * u16::from(grid.subevents);
-    let mut position = Position::first(grid, event, lose);
-    'positions: for number in 0..count {
-        hear_position(sources, sinks, sink, event, position, lose);
-        position = position.next(grid.subevents, lose);
+    let mut losses = Losses::first(grid, event, lose);
+    'streams: for stream in 0..grid.streams {
+        let lost = losses.next(grid.subevents);
+        hear_stream(sources, sinks, sink, event, stream, lost);
     }
 }
 
-/// Hands a sink the PDU at a position of the last event, unless it is lost.
-fn hear_position(
+/// Hands a sink the PDUs of a stream, from 0, of the last event, but those that are lost.
+#[inline(always)]
+fn hear_stream(
     sources: &Sources,
     sinks: &mut Sinks,
     sink: u8,
     event: u64,
-    position: Position,
-    lose: u8,
+    stream: u8,
+    lost: [bool; 31],
 )
     requires sink { sink ≤ 7 }
     requires event { event < 2 ^ 39 }
-    requires stream { position.stream < 31 }
-    requires since { position.since ≤ lose - 1 }
-    ensures { (steps : List Step) (streams subevents n : ℕ) → n < streams * subevents
-        → IsPosition streams subevents event lose n position → OnAir steps sink event streams subevents → SourcesStand steps sources.now
-        → SinksStand (histories_on_air steps sink lose n) sinks.old
-        → SinksStand (histories_on_air steps sink lose (n + 1)) sinks.new }
+    requires stream { stream < 31 }
+    ensures { (steps : List Step) (lose streams subevents : ℕ) → stream < streams → OnAir steps sink event streams subevents
+        → SourcesStand steps sources.now → LosesFrom lose (event * streams * subevents + stream * subevents) subevents lost
+        → SinksStand (histories_on_air steps sink lose (stream * subevents)) sinks.old
+        → SinksStand (histories_on_air steps sink lose ((stream + 1) * subevents)) sinks.new }
 {
-    if position.is_lost(lose) {
-        return;
-    }
-    let Some(bis) = Bis::new(position.stream + 1) else {
+    let Some(bis) = Bis::new(stream + 1) else {
         return;
     };
-    let place = Place {
-        back: 0,
-        bis,
-        subevent: position.subevent,
+    let Some(sent) = sources.sent_on(bis) else {
+        return;
     };
-    match sources.heard_at(place) {
-        Ok(pdu) => {
-            let _ = sinks.hear(sink, sources.chosen(), event, bis, position.subevent, pdu);
-        }
-        Err(_) => {}
-    }
+    let heard = HeardEvent::new(sent, lost);
+    sinks.hear_event(sink, sources.chosen(), event, bis, &heard);
 }

@@ -4,9 +4,10 @@
 mod air_steps;
 mod close_steps;
 mod grid;
+mod heard_event;
 mod line_steps;
+mod losses;
 mod machine;
-mod position;
 mod questions;
 mod relay_steps;
 mod sink_steps;

@@ -3,14 +3,18 @@ ghost use Rattle.bcast_io.specs.TextLines.{TextLine, plain};
 ghost use Rattle.unit_outlets.specs.Account.{Account};
 ghost use Rattle.scenario_text.specs.Lines.{LineIs};
 ghost use Rattle.scenario_text.specs.Ranges.{IsInRange};
+ghost use Rattle.scenario_text.specs.declared.step.Step.{Step as Said};
+ghost use Rattle.scenario_lines.specs.Frequent.{frequent_step};
+ghost use Rattle.scenario_sink.specs.SinkLines.{IsSinkLine};
 
 use crate::version::Stage;
 use bcast_base::{Memory, Octets};
-use scenario_lines::{LineFault, read_line_over};
+use scenario_lines::{Frequent, LineFault, read_frequent, read_line_over};
 use scenario_sinks::{Relays, Sinks};
 use scenario_sources::Sources;
 use scenario_text::{Step, a_line_says_one_step};
 use std::alloc::Global;
+use std::mem;
 use transcript_text::{Refusal, Stop};
 use unit_outlets::Outlet;
 
@@ -27,10 +31,12 @@ pub struct Machine {
 }
 
 impl Machine {
-    ghost use Rattle.scenario_history.specs.Steps.{is_over};
+    ghost use Rattle.scenario_history.specs.Steps.{is_over, running, stage_of};
     ghost use Rattle.scenario_history.specs.Lines.{steps_of};
     ghost use Rattle.source_machine.specs.Airs.{airs_of};
     ghost use Rattle.replay_steps.specs.LineMeets.{LinesStand, LineMeets};
+    ghost use Rattle.replay_steps.specs.Machines.{Stands};
+    ghost use Rattle.replay_steps.specs.Meets.{BoxesStand, Meets};
     ghost use Rattle.replay_steps.specs.Unassigned.{UnassignedSame};
 
     /// A scenario before its first line.
@@ -71,6 +77,77 @@ impl Machine {
             → LinesStand starts lines self.old accounts
             → UnassignedSame (steps_of airs_of lines) outlets.old.items outlets.new.items }
     {
+        let Stage::Running(_) = self.stage else {
+            return self.any_line(line, outlets, text);
+        };
+        match read_frequent(self.alloc, &mut self.spare, line) {
+            Ok(Some(frequent)) => self.frequent(frequent, outlets, text),
+            Ok(None) => self.any_line(line, outlets, text),
+            Err(Memory) => Err(Stop::Memory),
+        }
+    }
+
+    /// Makes the step of a line that comes again and again, and was read: the octets of a unit are in the spare memory.
+    #[inline(always)]
+    fn frequent(
+        &mut self,
+        frequent: Frequent,
+        outlets: &mut Vec<Box<dyn Outlet>>,
+        text: &mut Octets,
+    ) -> Result<(), Stop>
+        requires { IsInRange (frequent_step frequent self.old.spare) }
+        ensures meets { (starts : List Account) (version : ℕ) (steps : List Said) → Stands steps self.old → stage_of steps ≡ running version
+            → BoxesStand starts steps (map account outlets.old.items)
+            → Meets starts steps (frequent_step frequent self.old.spare) self.new text.old text.new (map account outlets.old.items)
+            (map account outlets.new.items) result }
+        ensures unassigned { (steps : List Said) → Stands steps self.old → UnassignedSame steps outlets.old.items outlets.new.items }
+    {
+        match frequent {
+            Frequent::Unit { bis, time } => {
+                let octets = mem::replace(&mut self.spare, Octets::new(self.alloc));
+                let given = self.unit(bis, time, octets.as_slice());
+                self.spare = octets;
+                given
+            }
+            Frequent::Event => self.event(outlets, text),
+            Frequent::Air { sink, lose } => self.air(sink, lose),
+            Frequent::Announce { sink } => self.announce(sink, text),
+            Frequent::Serve { .. }
+            | Frequent::Tell { .. }
+            | Frequent::Drain { .. }
+            | Frequent::Lose { .. } => self.frequent_of_sink(frequent, text),
+        }
+    }
+
+    /// The same for a line of a sink's first link, or of the loss of its train. It stands alone, so that the others take no room for
+    /// its step.
+    #[inline(never)]
+    fn frequent_of_sink(&mut self, frequent: Frequent, text: &mut Octets) -> Result<(), Stop>
+        requires range { IsInRange (frequent_step frequent self.old.spare) }
+        requires line { IsSinkLine (frequent_step frequent self.old.spare) }
+        ensures { (starts accounts : List Account) (version : ℕ) (steps : List Said) → Stands steps self.old → stage_of steps ≡ running version
+            → Meets starts steps (frequent_step frequent self.old.spare) self.new text.old text.new accounts accounts result }
+    {
+        let step = step_of_sink(frequent);
+        self.sink_line(step, text)
+    }
+
+    /// Runs a line of any kind, as `line` does.
+    #[inline(never)]
+    fn any_line(
+        &mut self,
+        line: &[u8],
+        outlets: &mut Vec<Box<dyn Outlet>>,
+        text: &mut Octets,
+    ) -> Result<(), Stop>
+        requires { length line.now < 2 ^ 64 }
+        ensures meets { (starts : List Account) (lines : List TextLine) → LinesStand starts lines self.old (map account outlets.old.items)
+            → LineMeets starts lines (plain line.now) self.new text.old text.new (map account outlets.old.items)
+            (map account outlets.new.items) result }
+        ensures unassigned { (starts : List Account) (lines : List TextLine) (accounts : List Account)
+            → LinesStand starts lines self.old accounts
+            → UnassignedSame (steps_of airs_of lines) outlets.old.items outlets.new.items }
+    {
         let version = self.stage.version().number();
         match read_line_over(self.alloc, &mut self.spare, version, line) {
             Ok(Some(step)) => self.step(step, outlets, text),
@@ -98,5 +175,22 @@ impl Machine {
     {
         a_line_says_one_step();
         self.step(step, outlets, text)
+    }
+}
+
+/// The step of a line of a sink's first link, or of the loss of its train.
+fn step_of_sink(frequent: Frequent) -> Step
+    requires { IsSinkLine (frequent_step frequent []) }
+    ensures { (octets : List ℕ) → result ≡ frequent_step frequent octets }
+{
+    match frequent {
+        Frequent::Serve { sink } => Step::Serve { sink },
+        Frequent::Tell { sink } => Step::Tell { sink },
+        Frequent::Drain { sink } => Step::Drain { sink },
+        Frequent::Lose { sink } => Step::Lose { sink },
+        Frequent::Unit { .. }
+        | Frequent::Event
+        | Frequent::Air { .. }
+        | Frequent::Announce { .. } => unreachable!(),
     }
 }

@@ -217,13 +217,13 @@ fn offer_unit(
         → RelaysStand (relay_histories steps) relays.old
         → OffersMeet steps (offered_of sink (Some own) (handed_of unit.now ∷ [])) sources.new relays.new text.old text.new result }
 {
-    let Some(octets) = &unit.octets else {
+    let Some(octets) = unit.octets() else {
         return Ok(());
     };
     if unit.bis.get() != route.bis.get() {
         return Ok(());
     }
-    match give_second(sources, route.to, unit.time, octets.as_slice()) {
+    match give_second(sources, route.to, unit.time, octets) {
         Ok(()) => {
             relays.give(route.to);
             Ok(())

@@ -1,9 +1,11 @@
 mod Prelude
+mod FrequentLines
 mod LowFirst
 mod MadeSteps
 mod NextLines
 mod Putting
 mod Rows
 mod Said
+mod SinkWords
 mod StepLines
 mod Taking

@@ -1,4 +1,5 @@
 pub mod Draws
+pub mod Frequent
 pub mod Generated
 pub mod NextSteps
 pub mod State

@@ -3,6 +3,7 @@
 #![tactic(auto)]
 
 mod first_lines;
+mod frequent;
 mod later_lines;
 mod laws;
 mod made_lines;
@@ -17,6 +18,7 @@ mod values;
 mod wishes;
 mod writing;
 
+pub use frequent::{Frequent, read_frequent};
 pub use laws::a_step_has_a_line_where_it_fits;
 pub use made_lines::Lines;
 pub use made_text::generate;

@@ -33,7 +33,7 @@ pub use Rattle.pacs_records.specs.Layout.{greatest_value}
 pub use Rattle.receive_state.specs.declared.state.ReceiveState.{ReceiveState}
 pub use Rattle.scenario_sink.specs.Answers.{is_followed}
 pub use Rattle.scenario_sink.specs.Making.{Goes, Makes, Stays, Turns, stayed, Quietly, slot_lines, LinkMakes, answer_if, LineMakes}
-pub use Rattle.scenario_sink.specs.SinkHistory.{SinkHistory, new_sink, receiving, after_line}
+pub use Rattle.scenario_sink.specs.SinkHistory.{SinkHistory, new_sink, receiving, hearing_event, after_line}
 pub use Rattle.scenario_sink.specs.State.Links.{LinkHolds, OnLink, AreHeard}
 pub use Rattle.scenario_sink.specs.State.Stands.{HasStepped, Stands, after_call, LinkIs, IsSink, Took}
 pub use Rattle.scenario_sink.specs.State.Taking.{Takes}

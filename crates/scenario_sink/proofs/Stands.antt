@@ -1,7 +1,8 @@
 -- A sink with its links that stands for its past stands for one call more.
 use Rattle.std.proofs.Common.{arith}
-use Rattle.scenario_sink.proofs.Prelude.{ℕ, ◌≡◌, ◌≢◌, Bool, true, false, List, [], ◌∷◌, map, drop, Option, Some, None, refl, sym, ap, ◌∙◌, subst, inl, inr, is_some, cases_eq, append-nil, group_calls, with_step, Halves, StandsFor, settings_of, has_group, Notice, changes, handed_out, is_told, waiting, Snapshot, Step, done_by, snapshot_of, after, Setup, value_at, none_change, snapshot_goes_on, waiting_goes_on, Call, stepped, is_joined, step_by, steps_of, writes_waiting, IsApart, LeavesLink, Acts, acts_of, IsAsked, IsWritten, IsStep, NotifiesLink, link_at, linked, mtu_of, slots_of, Linked, with_notices, Links, snapshot_in, SinkHistory, receiving, LinkHolds, OnLink, HasStepped, LinkIs, Stands, after_call, untold}
+use Rattle.scenario_sink.proofs.Prelude.{ℕ, ◌≡◌, ◌≢◌, Bool, true, false, List, [], ◌∷◌, map, drop, Option, Some, None, refl, sym, ap, ◌∙◌, subst, inl, inr, is_some, cases_eq, append-nil, group_calls, with_step, Halves, StandsFor, settings_of, has_group, Notice, changes, handed_out, is_told, waiting, Snapshot, Step, done_by, snapshot_of, after, Setup, value_at, none_change, snapshot_goes_on, waiting_goes_on, Call, stepped, is_joined, step_by, steps_of, writes_waiting, IsApart, LeavesLink, Acts, acts_of, IsAsked, IsWritten, IsStep, NotifiesLink, link_at, linked, mtu_of, slots_of, Linked, with_notices, Links, snapshot_in, SinkHistory, receiving, hearing_event, LinkHolds, OnLink, HasStepped, LinkIs, Stands, after_call, untold}
 use Rattle.delegator_machine.specs.Calls as machine
+use Rattle.delegator_machine.proofs.Citable.{groups_heard, steps_heard}
 use Rattle.group_sink.specs.Calls as sinks
 use Rattle.sink_history.specs.Calls as calls
 use Rattle.multi_assist.specs.State.Gathering.{Gathers, StandsOn}
@@ -131,6 +132,36 @@ pub receives : (its_call : machine.Call) (call : sinks.Call) (history : SinkHist
     → ((taken : List machine.Call) → group_calls history.made.setup (its_call ∷ taken) ≡ call ∷ group_calls history.made.setup taken)
     → (its : Stands history old links) → StandsFor history.made.setup (its_call ∷ its.took.taken) new → settings_of new ≡ settings_of old → Stands (receiving call history) new links
 receives its_call call history old new links quiet takes its stood settings = grind (arith, untold, waiting_is, waiting)
+
+receives_more : (more : List machine.Call) (received : List sinks.Call) (history : SinkHistory) (old new : Halves) (links : Links)
+    → (its : Stands history old links) → machine.steps_of more ≡ machine.steps_of its.took.taken → group_calls history.made.setup more ≡ received
+    → StandsFor history.made.setup more new → settings_of new ≡ settings_of old
+    → Stands (record { made = history.made; source = history.source; calls_made = history.calls_made; received = received }) new links
+receives_more more received history old new links its quiet takes stood settings = record {
+  took = record {
+    taken = more;
+    stands = stood;
+    own = ap untold quiet ∙ its.took.own;
+    received_is = takes;
+    settings_is = settings ∙ its.took.settings_is;
+    links_slots = its.took.links_slots;
+    links_mtu = its.took.links_mtu;
+    octets = its.took.octets;
+    first = its.took.first;
+  };
+  none_waits = waiting_is history.made.setup more new stood ∙ ap (waiting history.made.setup) quiet
+      ∙ sym (waiting_is history.made.setup its.took.taken old its.took.stands) ∙ its.none_waits;
+  each = its.each;
+}
+
+pub receives_event : (event bis : ℕ) (pdus : List (Option (List ℕ))) (history : SinkHistory) (old new : Halves) (links : Links)
+    → (its : Stands history old links) → StandsFor history.made.setup (machine.heard_calls event bis pdus its.took.taken) new
+    → settings_of new ≡ settings_of old → Stands (hearing_event event bis pdus history) new links
+receives_event event bis pdus history old new links its stood settings =
+    receives_more (machine.heard_calls event bis pdus its.took.taken) (sinks.heard_calls event bis pdus history.received) history old new links its
+    (steps_heard event bis pdus its.took.taken)
+    (groups_heard history.made.setup event bis pdus its.took.taken ∙ ap (sinks.heard_calls event bis pdus) its.took.received_is)
+    stood settings
 
 -- ---- a call of one link
 

@@ -43,3 +43,12 @@ after_tuning source big_sync history = record {
 -- its receivers take a call
 abbrev pub receiving : sinks.Call → SinkHistory → SinkHistory
 receiving call history = record { made = history.made; source = history.source; calls_made = history.calls_made; received = call ∷ history.received }
+
+-- and hear what the subevents of an event of a stream bring
+abbrev pub hearing_event : (event bis : ℕ) → List (Option (List ℕ)) → SinkHistory → SinkHistory
+hearing_event event bis pdus history = record {
+  made = history.made;
+  source = history.source;
+  calls_made = history.calls_made;
+  received = sinks.heard_calls event bis pdus history.received;
+}

@@ -12,6 +12,7 @@ use big_info::Limits;
 use delegator_machine::Delegator;
 use isoal_base::Hearing;
 use multi_assist::Links;
+use radio_schedule::StreamEvent;
 use sink_history::a_step_notifies_each_link;
 use std::alloc::Global;
 use sync_reference::BigSync;
@@ -35,7 +36,7 @@ pub struct LinkedSink {
 
 impl LinkedSink {
     ghost use Rattle.sink_history.specs.Calls.{Call};
-    ghost use Rattle.scenario_sink.specs.SinkHistory.{SinkHistory, after_tuning, new_sink, receiving};
+    ghost use Rattle.scenario_sink.specs.SinkHistory.{SinkHistory, after_tuning, hearing_event, new_sink, receiving};
     ghost use Rattle.scenario_sink.specs.State.Stands.{HasStepped, IsSink, Stands, after_call};
 
     /// A sink that takes so many streams at once, 1 to 31, with so many slots, 1 to 8, that are empty, on groups that send a
@@ -100,6 +101,18 @@ impl LinkedSink {
         ensures source { self.new.source ≡ self.old.source }
     {
         self.delegator.hear(event, bis, subevent, pdu)
+    }
+
+    /// Hears what the subevents of an event of a stream bring, from subevent 0 on, as `hear` does each PDU that isn't lost. It takes
+    /// no memory.
+    #[inline(always)]
+    pub fn hear_event<E: StreamEvent>(&mut self, event: u64, bis: Bis, sent: &E)
+        requires { event ≤ 2 ^ 39 }
+        ensures lives { (history : SinkHistory) → IsSink history self.old
+            → IsSink (hearing_event event bis (E.pdus sent.now) history) self.new }
+        ensures source { self.new.source ≡ self.old.source }
+    {
+        self.delegator.hear_event(event, bis, sent);
     }
 
     /// What `hear` would answer. It changes nothing.

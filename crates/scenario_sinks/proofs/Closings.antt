@@ -1,5 +1,5 @@
 -- Closing an event for one sink after the other.
-use Rattle.scenario_sinks.proofs.Prelude.{◌≡◌, ◌≢◌, ℕ, ◌+◌, ◌<◌, ◌≤◌, List, [], ◌∷◌, ◌++◌, length, map, OnOk, refl, sym, ◌∙◌, ap, subst, slice_get, slice_set, get_or, eq-eqb, arith, Bool, true, false, ◌&&◌, if◌then◌else◌, Option, is_some, Result, Ok, Err, None, Some, ◌⊎◌, inr, flat_map, range_with_len, flat_map-append, append-nil, slice_get-get_or, on_ok_weaker, cases_eq, Account, Handed, Call, tick, is_of, ticked_if, SinkUnit, most_sinks, closing_by, accounts_after, unit_lines, get_set_here, get_set_other, Gathered, HandedUnit, Owner, Sink, Stop, Histories, with_close, with_close_at, Hands, Sinks, calls_of, handed_of, units_for, EntryIs, EntryAt, EntriesAre, SinksStand, histories_of, SinkCloses, SinkHands, AllClose, Between, EntriesFrom, OneBetween, OneCloses, Unmoved, Settings, IsSink, receiving}
+use Rattle.scenario_sinks.proofs.Prelude.{◌≡◌, ◌≢◌, ℕ, ◌+◌, ◌<◌, ◌≤◌, List, [], ◌∷◌, ◌++◌, length, map, OnOk, refl, sym, ◌∙◌, ap, subst, slice_get, slice_set, get_or, eq-eqb, arith, Bool, true, false, ◌&&◌, if◌then◌else◌, Option, is_some, Result, Ok, Err, None, Some, ◌⊎◌, inr, flat_map, range_with_len, flat_map-append, append-nil, slice_get-get_or, on_ok_weaker, cases_eq, Account, Handed, Call, tick, is_of, ticked_if, SinkUnit, most_sinks, closing_by, accounts_after, unit_lines, get_set_here, get_set_other, Gathered, Owner, Sink, Stop, Histories, with_close, with_close_at, Hands, Sinks, calls_of, handed_of, units_for, EntryIs, EntryAt, EntriesAre, SinksStand, histories_of, SinkCloses, SinkHands, AllClose, Between, EntriesFrom, OneBetween, OneCloses, Unmoved, Settings, IsSink, receiving}
 use Rattle.group_sink.specs.Handing.{handed_at}
 use Rattle.sink_history.specs.Calls as links
 use Rattle.scenario_history.specs.Boxes.{sink_numbers}
@@ -115,8 +115,8 @@ lent_entries past sinks lent is are = let E : List (Option Sink) → Type 0 = λ
 
 -- ---- one sink
 
-pub gathered_are : (old new slice : List HandedUnit) (units : List Handed) → old ≡ [] → map handed_of new ≡ map handed_of old ++ units → slice ≡ new → map handed_of slice ≡ units
-gathered_are old new slice units empty e is = ap (map handed_of) is ∙ e ∙ ap (λ xs. map handed_of xs ++ units) empty
+pub gathered_are : (old new units : List Handed) → old ≡ [] → new ≡ old ++ units → new ≡ units
+gathered_are old new units empty e = e ∙ ap (λ xs. xs ++ units) empty
 
 -- what was handed up of a sink's units is these units
 handed_back : (owner : Owner) (units : List Handed) → handed_all (units_for owner units) ≡ units
@@ -144,7 +144,7 @@ sink_hands box made own calls_made received owner event sink new units gathered 
 pub sink_left : (box : Option ℕ) (made : Option Settings) (own : Option ℕ) (calls_made : List links.Call) (received : List Call)
     (n source event : ℕ) (sink : Sink)
     (from : Option ℕ) (of : Bool) (gathered : Gathered) (text : List ℕ) (before : List Account) → SinkIs box made own calls_made received sink
-    → from ≡ own → of ≡ is_of source from → of ≡ false → gathered.units.items ≡ []
+    → from ≡ own → of ≡ is_of source from → of ≡ false → calls_of gathered ≡ []
     → SinkHands box made own calls_made received n source event (Some sink) gathered text text before before (Ok tt)
 sink_left box made own calls_made received n source event sink from of gathered text before is f o t empty =
     grind (arith, is_of, ticked_if, entry_of, append-nil, map, handed_of)
@@ -156,7 +156,7 @@ none_handed of units none = grind arith
 pub sink_rests : (box : Option ℕ) (made : Option Settings) (own : Option ℕ) (calls_made : List links.Call) (received : List Call)
     (n source event : ℕ) (entry : Option Sink)
     (gathered : Gathered) (text : List ℕ) (before : List Account) → EntryIs box made own calls_made received (Some entry) → (is_some box && is_of source own) ≡ false
-    → gathered.units.items ≡ [] → SinkCloses box made own calls_made received n source event entry gathered text text before before (Ok tt)
+    → calls_of gathered ≡ [] → SinkCloses box made own calls_made received n source event entry gathered text text before before (Ok tt)
 sink_rests box made own calls_made received n source event entry gathered text before is other empty =
     grind (arith, none_handed, is_of, append-nil, ticked_if)
 
@@ -167,7 +167,7 @@ no_units box own received n source event other = grind (arith, none_handed, is_o
 pub sink_rests_held : (box : Option ℕ) (made : Option Settings) (own : Option ℕ) (calls_made : List links.Call) (received : List Call)
     (n source event : ℕ) (entry : Option Sink)
     (gathered : Gathered) (text : List ℕ) (before : List Account) → EntryIs box made own calls_made received (Some entry) → (is_some box && is_of source own) ≡ false
-    → gathered.units.items ≡ [] → SinkHands box made own calls_made received n source event entry gathered text text before before (Ok tt)
+    → calls_of gathered ≡ [] → SinkHands box made own calls_made received n source event entry gathered text text before before (Ok tt)
 sink_rests_held box made own calls_made received n source event entry gathered text before is other empty =
     let rests = sink_rests box made own calls_made received n source event entry gathered text before is other empty in
     record {
@@ -182,7 +182,7 @@ not_both b is other = cc (sym is ∙ other)
 pub sink_closes : (box : Option ℕ) (made : Option Settings) (own : Option ℕ) (calls_made : List links.Call) (received : List Call)
     (n source event : ℕ) (entry : Option Sink)
     (held gathered : Gathered) (text told : List ℕ) (before after : List Account) (r : Result (Unit {0}) Stop)
-    → SinkHands box made own calls_made received n source event entry held text told before after r → OnOk r (gathered.units.items ≡ [])
+    → SinkHands box made own calls_made received n source event entry held text told before after r → OnOk r (calls_of gathered ≡ [])
     → SinkCloses box made own calls_made received n source event entry gathered text told before after r
 sink_closes box made own calls_made received n source event entry held gathered text told before after r h empty = grind arith
 
@@ -220,7 +220,7 @@ first_now past first source event number end sinks now gathered text told before
 pub one_next : (past : Histories) (first at source event number end : ℕ) (sinks now : List (Option Sink)) (entry : Option Sink) (gathered next : Gathered) (text told more : List ℕ)
     (before mid after : List Account) → at ≡ number → number < most_sinks → length now ≡ most_sinks → EntriesAre past sinks → number < end → end ≡ first + 1
     → OneBetween past first source event number sinks now gathered text told before mid
-    → (gathered.units.items ≡ []
+    → (calls_of gathered ≡ []
     → SinkHands (past.boxes number) (past.mades number) (past.sources number) (past.lives number) (past.received number) number source event entry next told more mid after (Ok tt))
     → OneBetween past first source event (number + 1) sinks (slice_set now at entry) next text more before after
 one_next past first at source event number end sinks now entry gathered next text told more before mid after same within eight are less alone b h =
@@ -234,7 +234,7 @@ one_next past first at source event number end sinks now entry gathered next tex
 pub one_ends : (past : Histories) (first source event number end : ℕ) (sinks now last : List (Option Sink)) (entry : Option Sink) (gathered next : Gathered) (text told more : List ℕ)
     (before mid after : List Account) (stop : Stop) → number < end → end ≡ first + 1
     → OneBetween past first source event number sinks now gathered text told before mid
-    → (gathered.units.items ≡ []
+    → (calls_of gathered ≡ []
     → SinkHands (past.boxes number) (past.mades number) (past.sources number) (past.lives number) (past.received number) number source event entry next told more mid after (Err stop))
     → OneCloses past first source event last next text more before after (Err stop)
 one_ends past first source event number end sinks now last entry gathered next text told more before mid after stop less alone b h =

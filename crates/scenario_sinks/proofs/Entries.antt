@@ -1,5 +1,5 @@
 -- The entries of the sinks, of which one changes.
-use Rattle.scenario_sinks.proofs.Prelude.{◌≡◌, ◌≢◌, ℕ, zero, suc, ◌<◌, ◌==◌, Bool, true, false, ◌&&◌, List, length, replicate, refl, ◌∙◌, ap, ne_eqb, slice_get, slice_set, get_or, is_some, arith, Option, None, Some, Result, Ok, ◌⊎◌, slice_get-get_or, cases_eq, Settings, BigSync, Call, hear, tune, Hearing, is_of, most_sinks, get_set_here, get_set_other, Sink, Histories, EntryIs, EntryAt, EntriesAre, histories_of, EntryHears, EntryRuns, EntryTunes, Step, Source, calls_by, received_by, source_by, Stop, IsSink, after_tuning, receiving}
+use Rattle.scenario_sinks.proofs.Prelude.{◌≡◌, ◌≢◌, ℕ, zero, suc, ◌<◌, ◌==◌, Bool, true, false, ◌&&◌, List, length, replicate, refl, ◌∙◌, ap, ne_eqb, slice_get, slice_set, get_or, is_some, arith, Option, None, Some, Result, Ok, ◌⊎◌, slice_get-get_or, cases_eq, Settings, BigSync, Call, hear, tune, Hearing, is_of, most_sinks, get_set_here, get_set_other, Sink, Histories, EntryIs, EntryAt, EntriesAre, histories_of, EntryHears, EntryRuns, EntryTunes, Step, Source, calls_by, received_by, source_by, Stop, IsSink, after_tuning, receiving, hearing_event, heard_calls, if◌then◌else◌}
 use Rattle.group_sink.specs.Hearings.{hearing_of}
 use Rattle.isoal_base.specs.declared.hearing.Hearing.TheVariants.{NotOnGroup}
 use Rattle.scenario_history.specs.Refusals.{has_beyond}
@@ -114,6 +114,26 @@ pub entry_passed : (box : Option ℕ) (made : Option Settings) (own : Option ℕ
     (sink : Sink) (from : Option ℕ) (of : Bool) → SinkIs box made own calls_made received sink → from ≡ own → of ≡ is_of source from → of ≡ false
     → EntryHears box made own calls_made received source event bis subevent octets (Some sink) (Some NotOnGroup)
 entry_passed box made own calls_made received source event bis subevent octets sink from of is f o t = grind (arith, is_of, entry_of)
+
+-- the PDUs of an event
+pub none_hears : (box : Option ℕ) (made : Option Settings) (own : Option ℕ) (calls_made : List links.Call) (received more : List Call) (entry : Option Sink)
+    → EntryIs box made own calls_made received (Some entry) → entry ≡ None → EntryIs box made own calls_made more (Some entry)
+none_hears box made own calls_made received more entry is none = grind (arith, none_some)
+
+pub event_heard : (box : Option ℕ) (made : Option Settings) (own : Option ℕ) (calls_made : List links.Call) (received : List Call)
+    (source event bis : ℕ) (pdus : List (Option (List ℕ))) (sink new : Sink) (from : Option ℕ) (of : Bool)
+    → (is : SinkIs box made own calls_made received sink) → new.outlet ≡ sink.outlet → from ≡ own → of ≡ is_of source from → of ≡ true
+    → IsSink (hearing_event event bis pdus (histories_of is.how own calls_made received)) new.living
+    → EntryIs box made own calls_made (if is_of source own then heard_calls event bis pdus received else received) (Some (Some new))
+event_heard box made own calls_made received source event bis pdus sink new from of is outlet f o t lives =
+    grind (arith, is_of, entry_of)
+
+-- of another source
+pub event_passed : (box : Option ℕ) (made : Option Settings) (own : Option ℕ) (calls_made : List links.Call) (received : List Call)
+    (source event bis : ℕ) (pdus : List (Option (List ℕ))) (sink : Sink) (from : Option ℕ) (of : Bool)
+    → SinkIs box made own calls_made received sink → from ≡ own → of ≡ is_of source from → of ≡ false
+    → EntryIs box made own calls_made (if is_of source own then heard_calls event bis pdus received else received) (Some (Some sink))
+event_passed box made own calls_made received source event bis pdus sink from of is f o t = grind (arith, is_of, entry_of)
 
 -- what it would answer
 pub none_answers : (box : Option ℕ) (made : Option Settings) (own : Option ℕ) (calls_made : List links.Call) (received : List Call)

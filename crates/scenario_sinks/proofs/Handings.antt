@@ -1,8 +1,9 @@
 -- Units that go to their boxes one after the other.
 use Rattle.std.proofs.Common.{arith}
-use Rattle.scenario_sinks.proofs.Prelude.{◌≡◌, ℕ, ◌+◌, ◌<◌, List, [], ◌∷◌, ◌++◌, length, map, take, drop, refl, sym, ◌∙◌, ap, subst, slice_get, slice_set, get_or, Result, Err, Some, suc, append-nil, map-append, take-append-drop, take_more, Account, valid, TookAt, SinkUnit, accounts_after, unit_lines, Stop, Refused, OutletFault, Memory, handed_of, units_for, HandedUnit, Owner, BoxTakes, Hands}
+use Rattle.scenario_sinks.proofs.Prelude.{◌≡◌, ℕ, ◌+◌, ◌<◌, List, [], ◌∷◌, ◌++◌, length, map, take, drop, refl, sym, ◌∙◌, ap, subst, slice_get, slice_set, get_or, Option, Result, Err, Some, suc, append-nil, map-append, take-append-drop, take_more, Account, valid, TookAt, SinkUnit, accounts_after, unit_lines, Stop, Refused, OutletFault, Memory, handed_of, units_for, HandedUnit, Owner, BoxTakes, Hands}
 use Rattle.unit_outlets.specs.declared.fault.OutletFault.{OutletFault as Refusal}
 use Rattle.unit_outlets.specs.declared.fault.OutletFault.TheVariants.{Memory as NoMemory}
+use Rattle.scenario_sinks.specs.State.Gathering.{handed_as}
 use Rattle.scenario_sinks.proofs.Citable.{hands_stop, hands_then}
 
 pub set_same : {A : Type 0} (xs : List A) (i : ℕ) (x : A) → slice_get xs i ≡ Some x → slice_set xs i x ≡ xs
@@ -29,6 +30,12 @@ hands_valid owner bis time octets text old new OutletFault h = record {
   box = h;
 }
 hands_valid owner bis time octets text old new Memory h = record { done = []; rest = units_for owner (valid bis time octets ∷ []); split = refl; boxes = h }
+
+-- a unit with the time that is printed
+pub hands_as : (owner : Owner) (bis shown time : ℕ) (told_as octets : Option (List ℕ)) (text told : List ℕ) (old new : List Account) (r : Result (Unit {0}) Stop)
+    → shown ≡ time → told_as ≡ octets → Hands (units_for owner (handed_as bis shown told_as ∷ [])) text told old new r
+    → Hands (units_for owner (handed_as bis time octets ∷ [])) text told old new r
+hands_as owner bis shown time told_as octets text told old new r same is hands = rw (← same, ← is) hands
 
 -- ---- the units of a sink, one after the other
 

@@ -1,5 +1,5 @@
 -- The sinks after a call for one of them.
-use Rattle.scenario_sinks.proofs.Prelude.{◌≡◌, ℕ, ◌+◌, ◌<◌, ◌≤◌, true, false, List, length, refl, sym, ◌∙◌, ap, is_some, slice_set, get_or, eq-eqb, arith, Option, None, Some, Result, Ok, Err, le-leb, lt-leb, BigSync, Hearing, most_sinks, Sink, Sinks, Stop, Refused, OutletFault, Memory, Histories, with_sink, without, with_tuning, with_hearing, EntryAt, SinksStand, EntryHears, EntryTunes, Settings, IsSink, new_sink}
+use Rattle.scenario_sinks.proofs.Prelude.{◌≡◌, ℕ, ◌+◌, ◌<◌, ◌≤◌, true, false, List, length, refl, sym, ◌∙◌, ap, is_some, slice_set, get_or, eq-eqb, arith, Option, None, Some, Result, Ok, Err, le-leb, lt-leb, BigSync, Hearing, most_sinks, Sink, Sinks, Stop, Refused, OutletFault, Memory, Histories, with_sink, without, with_tuning, with_hearing, with_heard, heard_calls, is_of, if◌then◌else◌, EntryIs, EntryAt, SinksStand, EntryHears, EntryTunes, Settings, IsSink, new_sink}
 use Rattle.transcript_text.specs.declared.refusal.Refusal.TheVariants.{SinkTwice, NoOutlet}
 use Rattle.scenario_sinks.specs.Hearing.{Hears}
 use Rattle.scenario_sinks.specs.Refusals.{Answers, Tunes, not_made, not_living, not_tuned}
@@ -105,3 +105,17 @@ heard n at source event bis subevent octets past old new entry (Some hearing) st
       one_changed n at past (with_hearing n source event bis subevent octets past) old new entry same within eight
           (hear_stays n source event bis subevent octets past) stands here set (more ∙ stands.made) gathered,
     )
+
+event_stays : (n source event bis : ℕ) (pdus : List (Option (List ℕ))) (past : Histories) → OthersStay n past (with_heard n source event bis pdus past)
+event_stays n source event bis pdus past = grind arith
+
+pub heard_event : (n at source event bis : ℕ) (pdus : List (Option (List ℕ))) (past : Histories) (old new : Sinks) (entry : Option Sink) → SinksStand past old → at ≡ n
+    → n < most_sinks → length old.entries.items ≡ most_sinks
+    → EntryIs (past.boxes n) (past.mades n) (past.sources n) (past.lives n)
+    (if is_of source (past.sources n) then heard_calls event bis pdus (past.received n) else past.received n) (Some entry)
+    → new.entries.items ≡ slice_set old.entries.items at entry → new.outlet_count ≡ old.outlet_count → new.gathered ≡ old.gathered
+    → SinksStand (with_heard n source event bis pdus past) new
+heard_event n at source event bis pdus past old new entry stands same within eight h set more gathered =
+    let here : EntryAt (with_heard n source event bis pdus past) n (Some entry) = rw (eq-eqb n n refl) h in
+    one_changed n at past (with_heard n source event bis pdus past) old new entry same within eight
+    (event_stays n source event bis pdus past) stands here set (more ∙ stands.made) gathered

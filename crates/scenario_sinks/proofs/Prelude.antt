@@ -7,16 +7,16 @@ pub use Rattle.std.proofs.lemmas.Option.{slice_get-get_or}
 pub use Rattle.std.proofs.lemmas.Result.{on_ok_weaker}
 pub use Rattle.std.specs.List.{range_with_len, flat_map, list_all, filter, list_any}
 pub use Rattle.delegator_history.specs.Trains.{Settings, Train}
-pub use Rattle.group_sink.specs.Calls.{Call, tick, hear, tune}
+pub use Rattle.group_sink.specs.Calls.{Call, tick, hear, tune, heard_calls}
 pub use Rattle.isoal_base.specs.declared.hearing.Hearing.{Hearing}
 pub use Rattle.scenario_history.proofs.Citable.{get_set_here, get_set_other, took_all}
 pub use Rattle.scenario_history.specs.Boxes.{most_sinks, SinkUnit, accounts_after, closing_by, with_handed, account_at, Took, valid_for, with_units}
 pub use Rattle.scenario_history.specs.Output.{unit_lines, unit_line}
 pub use Rattle.scenario_history.specs.Sinks.{is_of, ticked_if}
-pub use Rattle.scenario_sink.specs.SinkHistory.{receiving, new_sink, after_tuning}
+pub use Rattle.scenario_sink.specs.SinkHistory.{receiving, new_sink, after_tuning, hearing_event}
 pub use Rattle.scenario_sink.specs.State.Stands.{IsSink}
 pub use Rattle.scenario_sinks.specs.Handing.{Hands, BoxTakes, BoxFails}
-pub use Rattle.scenario_sinks.specs.Histories.{Histories, without, with_sink, with_tuning, with_hearing, with_close, with_close_at, sourced_by, with_line}
+pub use Rattle.scenario_sinks.specs.Histories.{Histories, without, with_sink, with_tuning, with_hearing, with_heard, with_close, with_close_at, sourced_by, with_line}
 pub use Rattle.scenario_sinks.specs.State.Between.{Between, EntriesFrom, OneBetween, SinkCloses, SinkHands, AllClose, OneCloses, Unmoved}
 pub use Rattle.scenario_sinks.specs.State.Entries.{EntryHears, EntryTunes, EntryRuns}
 pub use Rattle.scenario_sinks.specs.State.Gathering.{handed_of, units_for, calls_of}

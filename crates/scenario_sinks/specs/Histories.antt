@@ -7,7 +7,7 @@ use Rattle.delegator_machine.specs.Groups.{by_numbers}
 use Rattle.delegator_history.specs.States.{sync_to_group}
 use Rattle.delegator_history.specs.Trains.{Settings, Train}
 use Rattle.sync_reference.specs.BigSync.{BigSync}
-use Rattle.group_sink.specs.Calls.{Call, tune, hear}
+use Rattle.group_sink.specs.Calls.{Call, tune, hear, heard_calls}
 use Rattle.sink_history.specs.Calls as links
 use Rattle.sink_history.specs.Calls.{stepped, born}
 use Rattle.scenario_history.specs.Sinks.{is_of, ticked_if}
@@ -67,6 +67,17 @@ with_hearing n source event bis subevent octets past = record {
   sources = past.sources;
   lives = past.lives;
   received = λ m. if (n == m) && is_of source (past.sources m) then hear event bis subevent octets ∷ past.received m else past.received m;
+  made = past.made;
+}
+
+-- the sink of this number hears what the subevents of an event of a stream of a source bring
+abbrev pub with_heard : (n source event bis : ℕ) → List (Option (List ℕ)) → Histories → Histories
+with_heard n source event bis pdus past = record {
+  boxes = past.boxes;
+  mades = past.mades;
+  sources = past.sources;
+  lives = past.lives;
+  received = λ m. if (n == m) && is_of source (past.sources m) then heard_calls event bis pdus (past.received m) else past.received m;
   made = past.made;
 }
 

@@ -5,13 +5,14 @@ ghost use Rattle.sink_history.specs.Calls as links;
 ghost use Rattle.scenario_history.specs.Sinks as history;
 ghost use Rattle.delegator_history.specs.Trains.{Settings};
 ghost use Rattle.scenario_sinks.specs.Histories.{Histories};
+ghost use Rattle.scenario_sinks.specs.State.Gathering.{calls_of};
 ghost use Rattle.scenario_sinks.specs.State.Standing.{EntryIs, EntriesAre};
 ghost use Rattle.scenario_sinks.specs.State.Between.{SinkCloses, SinkHands, AllClose, OneCloses};
 ghost use Rattle.scenario_sinks.specs.Unassigned.{AllButSame, UnassignedSame};
 ghost use Rattle.unit_outlets.specs.Took.{OthersSame};
 
 use crate::gathered::Gathered;
-use crate::hand::hand_units;
+use crate::hand::hand_gathered;
 use crate::sink::{Owner, Sink, is_of};
 use bcast_base::Octets;
 use transcript_text::Stop;
@@ -41,7 +42,7 @@ fn hand_living(
     requires { event < 2 ^ 39 }
     ensures hands { (box : Option ℕ) (made : Option Settings) (own : Option ℕ) (calls_made : List links.Call) (received : List Call)
         → EntryIs box made own calls_made received (Some (Some sink.old)) → history.is_of owner.source own ≡ true
-        → owner.outlet ≡ sink.old.outlet → gathered.old.units.items ≡ []
+        → owner.outlet ≡ sink.old.outlet → calls_of gathered.old ≡ []
         → SinkHands box made own calls_made received owner.sink owner.source event (Some sink.new) gathered.new text.old text.new
         (map account outlets.old.items) (map account outlets.new.items) result }
     ensures others { OthersSame owner.outlet outlets.old.items outlets.new.items }
@@ -51,11 +52,7 @@ fn hand_living(
         Err(TakerFault::Memory) => return Err(Stop::Memory),
         Err(TakerFault::Failed) => unreachable!(),
     }
-    match hand_units(gathered.units.as_slice(), owner, outlets, text) {
-        Ok(()) => {}
-        Err(stop) => return Err(stop),
-    }
-    Ok(())
+    hand_gathered(gathered, owner, outlets, text)
 }
 
 /// Closes an event of a source for the sink of a number, where one lives that is of this source: its units go to its
@@ -71,7 +68,7 @@ fn hand_sink(
 ) -> Result<(), Stop>
     requires { event < 2 ^ 39 }
     ensures hands { (box : Option ℕ) (made : Option Settings) (own : Option ℕ) (calls_made : List links.Call) (received : List Call)
-        → EntryIs box made own calls_made received (Some entry.old) → gathered.old.units.items ≡ []
+        → EntryIs box made own calls_made received (Some entry.old) → calls_of gathered.old ≡ []
         → SinkHands box made own calls_made received number source event entry.new gathered.new text.old text.new (map account outlets.old.items)
         (map account outlets.new.items) result }
     ensures others { (box : Option ℕ) (made : Option Settings) (own : Option ℕ) (calls_made : List links.Call) (received : List Call)
@@ -105,11 +102,11 @@ fn close_sink(
 ) -> Result<(), Stop>
     requires { event < 2 ^ 39 }
     ensures closes { (box : Option ℕ) (made : Option Settings) (own : Option ℕ) (calls_made : List links.Call) (received : List Call)
-        → EntryIs box made own calls_made received (Some entry.old) → gathered.old.units.items ≡ [] → keeps ≡ false
+        → EntryIs box made own calls_made received (Some entry.old) → calls_of gathered.old ≡ [] → keeps ≡ false
         → SinkCloses box made own calls_made received number source event entry.new gathered.new text.old text.new (map account outlets.old.items)
         (map account outlets.new.items) result }
     ensures hands { (box : Option ℕ) (made : Option Settings) (own : Option ℕ) (calls_made : List links.Call) (received : List Call)
-        → EntryIs box made own calls_made received (Some entry.old) → gathered.old.units.items ≡ [] → keeps ≡ true
+        → EntryIs box made own calls_made received (Some entry.old) → calls_of gathered.old ≡ [] → keeps ≡ true
         → SinkHands box made own calls_made received number source event entry.new gathered.new text.old text.new (map account outlets.old.items)
         (map account outlets.new.items) result }
     ensures others { (box : Option ℕ) (made : Option Settings) (own : Option ℕ) (calls_made : List links.Call) (received : List Call)
@@ -145,10 +142,10 @@ pub(crate) fn close_sinks(
     requires event { event < 2 ^ 39 }
     requires eight { length sinks.old ≡ 8 }
     requires end { end ≤ 8 }
-    ensures closes { (past : Histories) → EntriesAre past sinks.old → gathered.old.units.items ≡ [] → first ≡ 0 → end ≡ 8 → keeps ≡ false
+    ensures closes { (past : Histories) → EntriesAre past sinks.old → calls_of gathered.old ≡ [] → first ≡ 0 → end ≡ 8 → keeps ≡ false
         → AllClose past source event sinks.new gathered.new text.old text.new (map account outlets.old.items)
         (map account outlets.new.items) result }
-    ensures one { (past : Histories) → EntriesAre past sinks.old → gathered.old.units.items ≡ [] → end ≡ first + 1 → keeps ≡ true
+    ensures one { (past : Histories) → EntriesAre past sinks.old → calls_of gathered.old ≡ [] → end ≡ first + 1 → keeps ≡ true
         → OneCloses past first source event sinks.new gathered.new text.old text.new (map account outlets.old.items)
         (map account outlets.new.items) result }
     ensures others { (past : Histories) → EntriesAre past sinks.old → UnassignedSame past outlets.old.items outlets.new.items }

@@ -1,11 +1,12 @@
 //! What comes to the sink of one number.
-ghost use Rattle.std.specs.Prelude.{◌≡◌, ◌≤◌, ◌^◌, ℕ, List, Option, Some, IfOk, OnOk};
-ghost use Rattle.group_sink.specs.Calls.{Call, hear};
+ghost use Rattle.std.specs.Prelude.{◌≡◌, ◌≤◌, ◌^◌, ℕ, List, Option, Some, IfOk, OnOk, if◌then◌else◌};
+ghost use Rattle.group_sink.specs.Calls.{Call, hear, heard_calls};
 ghost use Rattle.group_sink.specs.Hearings.{hearing_of};
 ghost use Rattle.sink_history.specs.Calls as links;
 ghost use Rattle.scenario_sinks.specs.Hearing.{hearing_where};
 ghost use Rattle.scenario_sinks.specs.State.Entries.{EntryHears, EntryRuns, EntryTunes};
 ghost use Rattle.scenario_sinks.specs.State.Standing.{EntryIs};
+ghost use Rattle.scenario_history.specs.Sinks as histories;
 ghost use Rattle.scenario_text.specs.Ranges.{IsInRange};
 ghost use Rattle.scenario_text.specs.declared.step.Step.TheVariants.{Announce};
 ghost use Rattle.delegator_history.specs.Trains.{Settings};
@@ -13,7 +14,7 @@ ghost use Rattle.sink_history.specs.History.{Source};
 ghost use Rattle.sink_history.specs.Output.{state_where};
 ghost use Rattle.scenario_sink.specs.Making.{LineMakes};
 ghost use Rattle.scenario_sink.specs.Origins.{IsFrom};
-ghost use Rattle.scenario_sink.specs.SinkHistory.{SinkHistory, after_tuning, receiving};
+ghost use Rattle.scenario_sink.specs.SinkHistory.{SinkHistory, after_tuning, hearing_event, receiving};
 ghost use Rattle.scenario_sink.specs.SinkLines.{IsSinkLine};
 ghost use Rattle.scenario_sink.specs.State.Stands.{IsSink};
 
@@ -22,6 +23,7 @@ use crate::sink::{Sink, is_of};
 use announcement_train::Train;
 use bcast_base::{Bis, Memory, Octets};
 use isoal_base::Hearing;
+use radio_schedule::StreamEvent;
 use scenario_sink::Origin;
 use scenario_text::Step;
 use sync_reference::BigSync;
@@ -150,6 +152,30 @@ pub(crate) fn hear_entry(
     Some(deliver(sink, event, bis, subevent, octets))
 }
 
+/// Hands the sink of an entry what the subevents of an event of a stream of a source bring.
+#[inline(always)]
+pub(crate) fn hear_event_entry<E: StreamEvent>(
+    entry: &mut Option<Sink>,
+    source: u8,
+    event: u64,
+    bis: Bis,
+    sent: &E,
+)
+    requires { event ≤ 2 ^ 39 }
+    ensures { (box : Option ℕ) (made : Option Settings) (own : Option ℕ) (calls_made : List links.Call) (received : List Call)
+        → EntryIs box made own calls_made received (Some entry.old)
+        → EntryIs box made own calls_made (if histories.is_of source own then heard_calls event bis (E.pdus sent.now) received else received)
+        (Some entry.new) }
+{
+    let Some(sink) = entry else {
+        return;
+    };
+    if !is_of(sink.living.source(), source) {
+        return;
+    }
+    deliver_event(sink, event, bis, sent);
+}
+
 /// What the sink of an entry would answer octets in the place of a PDU of a source.
 pub(crate) fn answer_entry(
     entry: &Option<Sink>,
@@ -195,4 +221,15 @@ fn deliver(sink: &mut Sink, event: u64, bis: Bis, subevent: u8, octets: &[u8]) -
     ensures outlet { sink.new.outlet ≡ sink.old.outlet }
 {
     sink.living.hear(event, bis, subevent, octets)
+}
+
+/// Hands a sink what the subevents of an event of a stream bring.
+#[inline(always)]
+fn deliver_event<E: StreamEvent>(sink: &mut Sink, event: u64, bis: Bis, sent: &E)
+    requires { event ≤ 2 ^ 39 }
+    ensures lives { (past : SinkHistory) → IsSink past sink.old.living
+        → IsSink (hearing_event event bis (E.pdus sent.now) past) sink.new.living }
+    ensures outlet { sink.new.outlet ≡ sink.old.outlet }
+{
+    sink.living.hear_event(event, bis, sent);
 }

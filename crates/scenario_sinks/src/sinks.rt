@@ -2,12 +2,13 @@ ghost use Rattle.std.specs.Prelude.{◌≡◌, ◌≤◌, ◌<◌, ◌^◌, ◌+
 ghost use Rattle.std.specs.Option.{ForSome};
 
 use crate::close::close_sinks;
-use crate::entry::{answer_entry, hear_entry, state_of_entry, tune_entry};
+use crate::entry::{answer_entry, hear_entry, hear_event_entry, state_of_entry, tune_entry};
 use crate::gathered::{Gathered, HandedUnit};
 use crate::sink::Sink;
 use crate::sums::{put_sum_at, put_sums};
 use bcast_base::{Bis, Memory, Octets};
 use isoal_base::Hearing;
+use radio_schedule::StreamEvent;
 use scenario_sink::LinkedSink;
 use std::alloc::Global;
 use sync_reference::BigSync;
@@ -35,7 +36,7 @@ impl Sinks {
     ghost use Rattle.sink_history.specs.Output.{state_where};
     ghost use Rattle.scenario_sinks.specs.Closing.{Closes, ClosesAt};
     ghost use Rattle.scenario_sinks.specs.Hearing.{Hears, hearing_where};
-    ghost use Rattle.scenario_sinks.specs.Histories.{Histories, nothing, with_sink, with_tuning, without};
+    ghost use Rattle.scenario_sinks.specs.Histories.{Histories, nothing, with_heard, with_sink, with_tuning, without};
     ghost use Rattle.scenario_sinks.specs.Refusals.{Answers, Tunes, not_living, not_made, not_tuned};
     ghost use Rattle.scenario_sinks.specs.State.Gathering.{handed_of};
     ghost use Rattle.scenario_sinks.specs.State.Standing.{SinksLend, SinksStand};
@@ -166,6 +167,31 @@ impl Sinks {
         )
     }
 
+    /// Hands a sink what the subevents of an event of a stream of a source bring, from subevent 0 on, as `hear` does each PDU that isn't
+    /// lost. Where no sink of this number lives, nothing is handed. It takes no memory.
+    #[inline(always)]
+    pub fn hear_event<E: StreamEvent>(
+        &mut self,
+        sink: u8,
+        source: u8,
+        event: u64,
+        bis: Bis,
+        sent: &E,
+    )
+        requires sink { sink ≤ 7 }
+        requires event { event ≤ 2 ^ 39 }
+        ensures { (past : Histories) → SinksStand past self.old
+            → SinksStand (with_heard sink source event bis (E.pdus sent.now) past) self.new }
+    {
+        hear_event_entry(
+            &mut self.entries[usize::from(sink)],
+            source,
+            event,
+            bis,
+            sent,
+        );
+    }
+
     /// What a sink would answer in `hear`: none where no sink of this number lives. It changes nothing.
     pub fn would_answer(
         &self,
@@ -265,7 +291,7 @@ impl Sinks {
     pub fn lent(&self) -> &[HandedUnit]
         ensures { (past : Histories) (units : List Handed) → SinksLend past units self.now → map handed_of result.now ≡ units }
     {
-        self.gathered.units.as_slice()
+        self.gathered.as_slice()
     }
 
     /// Lends no units any more.

@@ -1,14 +1,20 @@
 -- One source after a step that means it.
-use Rattle.scenario_sources.proofs.Prelude.{◌≡◌, ◌-◌, ℕ, Bool, true, false, not, nat_le, nat_lt, List, [], ◌∷◌, length, refl, sym, option_or, ◌∙◌, ap, is_some, unwrap_or, option_map, if◌then◌else◌, arith, Option, None, Some, Result, Ok, Err, endpoint, BigInfo, Cipher, subgroups_in, with_cipher, without_cipher, airs_of, pdu_of, stale_of, waiting_of, Call, Setup, next_of, Source, StandsFor, Refusal, Order, Stop, Refused, OutletFault, Memory, Step, Ident, subgroups_of, GroupLine, cipher_of, event_back, pdu_in, absent, described, sending, phase_of, ident_of, is_ciphered, open_event, performed, setup_of, source_calls, stale_in, takes_units, is_over, Identity, Described, IsPlain, group_step, fault_in, misfit_refusal_of, AbsentIs, Becomes, DescribedIs, StartedIs}
+use Rattle.scenario_sources.proofs.Prelude.{◌≡◌, ◌≢◌, ◌<◌, ◌-◌, ℕ, Air, airs_exist, Bool, true, false, not, nat_le, nat_lt, List, [], ◌∷◌, length, refl, sym, subst, option_or, ◌∙◌, ap, is_some, unwrap_or, option_map, if◌then◌else◌, arith, Option, None, Some, Result, Ok, Err, endpoint, BigInfo, Cipher, subgroups_in, with_cipher, without_cipher, airs_of, pdu_of, stale_of, waiting_of, Call, Setup, next_of, Source, StandsFor, Refusal, Order, Stop, Refused, OutletFault, Memory, Step, Ident, subgroups_of, GroupLine, cipher_of, event_back, pdu_in, absent, described, sending, phase_of, ident_of, is_ciphered, open_event, performed, setup_of, source_calls, stale_in, takes_units, is_over, Identity, Described, IsPlain, group_step, fault_in, misfit_refusal_of, AbsentIs, Becomes, DescribedIs, StartedIs}
+use Rattle.std.specs.List.{range_with_len}
+use Rattle.std.specs.Prelude.{map, IfNone, IfSome, OnSome}
 use Rattle.iso_pdu.specs.Encoding.{pdu}
+use Rattle.radio_schedule.specs.declared.air.AirFault.{AirFault}
+use Rattle.source_machine.specs.Airs.{AreAirs}
 use Rattle.source_machine.specs.Calls.{event as perform, last_of}
+use Rattle.source_machine.specs.Setups.{IsChecked}
 use Rattle.source_machine.specs.declared.sent.Stale.{Stale}
 use Rattle.source_machine.specs.declared.fault.GiveFault.{GiveFault}
 use Rattle.source_machine.specs.UnitFaults as faults
 use Rattle.source_machine.specs.Faults.{air_fault, answer_of, give_fault, misfit_of, refused_unit}
 use Rattle.scenario_text.specs.declared.step.Step.TheVariants.{Cipher as CipherLine, Unit as UnitStep}
-use Rattle.scenario_history.specs.Refusals.{give_refusal, no_place, relayed_or}
+use Rattle.scenario_history.specs.Refusals.{air_refusal, give_refusal, no_place, relayed_or}
 use Rattle.scenario_sources.specs.declared.phase.Phase.TheVariants as phases
+use Rattle.scenario_sources.specs.Answers.{SentIs}
 use Rattle.scenario_sources.specs.State.Stops.{GivesTo, GiveStops}
 
 same_line : (i j : BigInfo) (o p d e : ℕ) → i ≡ j → o ≡ p → d ≡ e
@@ -47,6 +53,52 @@ pub heard : (own : List Step) (setup : Setup) (back bis subevent : ℕ) (pdu : L
     × (pdu_of setup (airs_of setup (source_calls own)) (next_of setup (source_calls own) - 1 - back) bis subevent ≡ Some pdu)
     → (no_place own back bis subevent ≡ None) × (pdu ≡ pdu_in airs_of own (event_back own back) bis subevent)
 heard own setup back bis subevent pdu same both = grind (arith, setup_of, source_calls, pdu_of, airs_of, next_of, option_map, unwrap_or)
+
+unwrapped_some : {A : Type 0} (none : A) (xs : List A) → map (λ o. unwrap_or o none) (map Some xs) ≡ xs
+unwrapped_some none [] = refl
+unwrapped_some none (x ∷ xs) = ap (λ rest. x ∷ rest) (unwrapped_some none xs)
+
+unwrapped_map : {A : Type 0} (none : A) (f : ℕ → Option A) (places : List ℕ) → map (λ o. unwrap_or o none) (map f places) ≡ map (λ i. unwrap_or (f i) none) places
+unwrapped_map none f [] = refl
+unwrapped_map none f (i ∷ places) = ap (λ rest. unwrap_or (f i) none ∷ rest) (unwrapped_map none f places)
+
+-- values that are all there
+all_there : {A : Type 0} (none : A) (f : ℕ → Option A) (places : List ℕ) (xs : List A) → map Some xs ≡ map f places
+    → xs ≡ map (λ i. unwrap_or (f i) none) places
+all_there none f places xs is = sym (unwrapped_some none xs) ∙ ap (map (λ o. unwrap_or o none)) is ∙ unwrapped_map none f places
+
+sends : (own : List Step) (setup : Setup) (bis : ℕ) (sent : List (List ℕ)) → setup ≡ setup_of own
+    → ((s : ℕ) → s < setup.info.nse → air_fault setup (source_calls own) 0 bis s ≡ None)
+    → map Some sent ≡ map (pdu_of setup (airs_of setup (source_calls own)) (next_of setup (source_calls own) - 1) bis) (range_with_len 0 setup.info.nse)
+    → SentIs own bis (Some sent)
+sends own setup bis sent same on_air is =
+    let calls : List Call = source_calls own in
+    let last : next_of setup calls - 1 ≡ next_of setup calls - 1 - 0 = omega arith in
+    let all = all_there [] (pdu_of setup (airs_of setup calls) (next_of setup calls - 1) bis) (range_with_len 0 setup.info.nse) sent is in
+    subst (λ s. ((subevent : ℕ) → subevent < s.info.nse → option_map air_refusal (air_fault s calls 0 bis subevent) ≡ None)
+    × (sent ≡ map (λ i. unwrap_or (pdu_of s (airs_of s calls) (next_of s calls - 1 - 0) bis i) []) (range_with_len 0 s.info.nse))) same (
+      λ s below. ap (option_map air_refusal) (on_air s below),
+      all ∙ ap (λ e. map (λ i. unwrap_or (pdu_of setup (airs_of setup calls) e bis i) []) (range_with_len 0 setup.info.nse)) last,
+    )
+
+not_refused : (fault : Option AirFault) → option_map air_refusal fault ≡ None → fault ≡ None
+not_refused fault is = grind arith
+
+sends_not : (own : List Step) (setup : Setup) (bis : ℕ) → setup ≡ setup_of own → ((s : ℕ) → air_fault setup (source_calls own) 0 bis s ≢ None)
+    → SentIs own bis None
+sends_not own setup bis same none = λ s is. none s (not_refused (air_fault setup (source_calls own) 0 bis s)
+    (ap (λ p. option_map air_refusal (air_fault p (source_calls own) 0 bis s)) same ∙ is))
+
+pub sends_as : (own : List Step) (started : Source) (bis : ℕ) (r : Option (List (List ℕ))) → StartedIs own started → IsChecked started.setup.info
+    → IfSome r (λ sent. (calls : List Call) (airs : List Air) → StandsFor calls started → AreAirs started.setup calls airs
+    → map Some sent ≡ map (pdu_of started.setup airs (next_of started.setup calls - 1) bis) (range_with_len 0 started.setup.info.nse))
+    → OnSome r ((calls : List Call) → StandsFor calls started → (s : ℕ) → s < started.setup.info.nse → air_fault started.setup calls 0 bis s ≡ None)
+    → IfNone r ((calls : List Call) → StandsFor calls started → (s : ℕ) → air_fault started.setup calls 0 bis s ≢ None)
+    → SentIs own bis r
+sends_as own started bis None is checked sent on_air none = sends_not own started.setup bis is.setup (none (source_calls own) is.calls)
+sends_as own started bis (Some pdus) is checked sent on_air none =
+    let calls : List Call = source_calls own in
+    sends own started.setup bis pdus is.setup (on_air calls is.calls) (sent calls (airs_of started.setup calls) is.calls (airs_exist started.setup calls checked))
 
 -- ---- unit
 

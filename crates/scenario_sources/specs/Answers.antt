@@ -1,5 +1,6 @@
 -- What became of the sources of a scenario, which is this project's own, at a step, and what they answer.
-use Rattle.std.specs.Prelude.{ℕ, ◌≡◌, ◌<◌, ◌∷◌, not, true, false, List, Option, None, Some, Result, Ok, Err}
+use Rattle.std.specs.Prelude.{ℕ, ◌≡◌, ◌≢◌, ◌<◌, ◌∷◌, not, true, false, List, map, Option, None, Some, Result, Ok, Err}
+use Rattle.std.specs.List.{range_with_len}
 use Rattle.std.specs.Option.{option_or}
 use Rattle.announcement_train.specs.declared.train.Train.{Train}
 use Rattle.big_info.specs.declared.group.Group.{Group}
@@ -11,7 +12,7 @@ use Rattle.transcript_text.specs.declared.stop.Stop.TheVariants.{Refused, Outlet
 use Rattle.scenario_text.specs.declared.step.Step.{Step}
 use Rattle.scenario_text.specs.declared.step.Step.TheVariants.{Event, Terminate}
 use Rattle.scenario_history.specs.Steps.{chosen_steps, is_over}
-use Rattle.scenario_history.specs.Source.{end_pdu, event_back, is_heard, is_sending, open_event, performed, setup_of, source_calls, stale_in, takes_units}
+use Rattle.scenario_history.specs.Source.{end_pdu, event_back, is_heard, is_sending, open_event, pdu_in, performed, setup_of, source_calls, stale_in, takes_units}
 use Rattle.scenario_history.specs.Refusals.{no_place, train_ends}
 use Rattle.sink_history.specs.Refusals.{refuse_if}
 use Rattle.scenario_history.specs.Worlds.{announced_of, big_sync_on}
@@ -86,6 +87,13 @@ GroupIs own (Some group) = (is_heard own ≡ true) × (group.info ≡ (setup_of 
 abbrev pub LastIs : List Step → Option ℕ → Type 0
 LastIs own None = performed own ≡ 0
 LastIs own (Some event) = (0 < performed own) × (event ≡ event_back own 0)
+
+-- the PDUs that a stream of a source that was started sent in the last event, by rising subevent
+abbrev pub SentIs : List Step → (bis : ℕ) → Option (List (List ℕ)) → Type 0
+SentIs own bis None = (subevent : ℕ) → no_place own 0 bis subevent ≢ None
+SentIs own bis (Some sent) =
+    ((subevent : ℕ) → subevent < (setup_of own).info.nse → no_place own 0 bis subevent ≡ None)
+    × (sent ≡ map (pdu_in airs_of own (event_back own 0) bis) (range_with_len 0 (setup_of own).info.nse))
 
 -- a place on the air is none
 abbrev pub NoPlace : List Step → (back bis subevent : ℕ) → Stop → Type 0

@@ -5,7 +5,7 @@ ghost use Rattle.source_machine.specs.Airs.{airs_of};
 ghost use Rattle.scenario_text.specs.declared.step.Step.{Step};
 ghost use Rattle.scenario_history.specs.Refusals.{air_refusal, no_place};
 ghost use Rattle.scenario_history.specs.Source.{event_back, is_heard, is_started, pdu_in};
-ghost use Rattle.scenario_sources.specs.Answers.{GroupIs, LastIs, NoPlace};
+ghost use Rattle.scenario_sources.specs.Answers.{GroupIs, LastIs, NoPlace, SentIs};
 ghost use Rattle.scenario_sources.specs.State.Phases.{PhaseIs, StartedIs};
 
 use crate::phase::Phase;
@@ -13,6 +13,7 @@ use bcast_base::Bis;
 use big_info::Group;
 use multi_source::Broadcast;
 use radio_schedule::AirFault;
+use source_machine::SentStream;
 use transcript_text::{Refusal, Stop};
 
 /// A place on the air: the event `back` before the last one, a stream and a subevent from 0.
@@ -64,6 +65,26 @@ pub(crate) fn heard_in(phase: &Phase, place: Place) -> Result<&[u8], Stop>
         Phase::Sending(started) => heard_from(started, place),
         Phase::Stopped(started) => heard_from(started, place),
         _ => Err(Stop::Refused(Refusal::Order)),
+    }
+}
+
+/// The PDUs that a stream of a source that was started sent in its last event.
+#[inline(always)]
+fn sent_from(started: &Broadcast, bis: Bis) -> Option<SentStream<'_>>
+    ensures { (own : List Step) → StartedIs own started.now → SentIs own bis result }
+{
+    started.sent_on(bis)
+}
+
+/// The PDUs that a stream of a source sent in its last event.
+#[inline(always)]
+pub(crate) fn sent_in(phase: &Phase, bis: Bis) -> Option<SentStream<'_>>
+    ensures { (own : List Step) → PhaseIs own phase.now → is_heard own ≡ true → SentIs own bis result }
+{
+    match phase {
+        Phase::Sending(started) => sent_from(started, bis),
+        Phase::Stopped(started) => sent_from(started, bis),
+        _ => None,
     }
 }
 

@@ -8,7 +8,7 @@ use crate::describing::{describe, encrypt, identify};
 use crate::identity::identity_in;
 use crate::performed::Performed;
 use crate::phase::Phase;
-use crate::place::{Place, event_in, group_in, heard_in, last_in};
+use crate::place::{Place, event_in, group_in, heard_in, last_in, sent_in};
 use crate::sending::{
     big_sync_in, give, is_sending_in, open, perform, relayed_in, stop, taking_in, terminate,
 };
@@ -17,7 +17,7 @@ use crate::terminated::Terminated;
 use announcement_train::Train;
 use bcast_base::{Bis, BisSet, Memory};
 use big_info::{BigInfo, Cipher, Group, Limits};
-use source_machine::Identity;
+use source_machine::{Identity, SentStream};
 use std::alloc::Global;
 use sync_reference::BigSync;
 use transcript_text::{Refusal, Stop};
@@ -45,7 +45,7 @@ impl Sources {
     ghost use Rattle.scenario_history.specs.Source.{event_back, identity_of, is_ahead_in, is_heard, is_sending, open_event, pdu_in};
     ghost use Rattle.scenario_history.specs.Steps.{chosen_of, chosen_steps, is_over, running, stage_of, steps_of_source};
     ghost use Rattle.scenario_sources.specs.Answers.{AnnouncesAs, Answers, Closes, GroupIs, JoinsAs};
-    ghost use Rattle.scenario_sources.specs.Answers.{LastIs, NoPlace, Performs, TakesAs, Terminates};
+    ghost use Rattle.scenario_sources.specs.Answers.{LastIs, NoPlace, Performs, SentIs, TakesAs, Terminates};
     ghost use Rattle.scenario_sources.specs.Described.{IsPlain, group_step};
     ghost use Rattle.scenario_sources.specs.Faults.{fault_of};
     ghost use Rattle.scenario_sources.specs.State.Standing.{SourcesStand};
@@ -315,6 +315,16 @@ impl Sources {
             → NoPlace (steps_of_source source steps) place.back place.bis place.subevent stop) }
     {
         heard_in(&self.phases[usize::from(source)], place)
+    }
+
+    /// The PDUs that a stream of the chosen source sent in its last event, by rising subevent. None comes before its start, and where
+    /// `heard_at` refuses each place of that event and stream.
+    #[inline(always)]
+    pub fn sent_on(&self, bis: Bis) -> Option<SentStream<'_>>
+        ensures { (steps : List Step) → SourcesStand steps self.now → is_heard (chosen_steps steps) ≡ true
+            → SentIs (chosen_steps steps) bis result }
+    {
+        sent_in(&self.phases[usize::from(self.chosen)], bis)
     }
 
     /// The PDU at a place on the air of the chosen source. The first refusal that holds is answered: Order before its start,

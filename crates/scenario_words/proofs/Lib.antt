@@ -2,15 +2,16 @@ pub mod Citable
 pub mod CitableValues
 pub mod Decimals
 mod Prelude
-mod DigitChunks
+mod DigitLanes
 pub mod DigitPairs
+pub mod FirstNumber
 mod Fitting
 mod Given
 pub mod LastWord
 pub mod MoreWords
 pub mod NextWords
+pub mod Numerals
 mod Octets
-pub mod OneDigit
 pub mod OneWord
 mod Places
 pub mod Putting

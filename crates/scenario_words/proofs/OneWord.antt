@@ -1,10 +1,11 @@
 -- What one word spells, and the ranges that follow.
-use Rattle.scenario_words.proofs.Prelude.{leb, nat_eq, eqb-true, ◌≡◌, ◌≤◌, ◌<◌, ℕ, ◌*◌, ◌/◌, ◌%◌, ◌^◌, Bool, true, false, cond, List, [], ◌∷◌, ◌++◌, take, length, Option, None, Some, Result, Ok, refl, ap, sym, ◌∙◌, arith, decimal, ◌&&◌, IsErr, is_none, bytes_eq, digits_value, bytes_eq-Decides, digits_value-decimal, decimal_injective, leb-true, le-leb, lt-leb, eq-eqb, list_all, decode_of, is_hex_digit, decode_of-ok, FromHexError, SpellsSome, within, exactly, sum_from, number_below, bad_of}
+use Rattle.scenario_words.proofs.Prelude.{leb, nat_eq, eqb-true, ◌≡◌, ◌≤◌, ◌<◌, ℕ, ◌*◌, ◌/◌, ◌%◌, ◌^◌, Bool, true, false, cond, List, [], ◌∷◌, ◌++◌, take, length, Option, None, Some, Result, Ok, refl, ap, sym, ◌∙◌, arith, decimal, ◌&&◌, IsErr, is_none, bytes_eq, digits_value, digits_decimal, subst, IsInRange, bytes_eq-Decides, digits_value-decimal, decimal_injective, leb-true, le-leb, lt-leb, eq-eqb, list_all, decode_of, is_hex_digit, decode_of-ok, FromHexError, SpellsSome, within, exactly, sum_from, number_below, bad_of}
 use Rattle.std.proofs.Math.Seq.{take-append_seam}
+use Rattle.std.specs.Option.{option_map}
 use Rattle.scenario_words.proofs.DigitPairs.{spelled}
-use Rattle.scenario_words.specs.Reading.{decimal_in, framing_in, octets_in, exact_in, number_in, list_in}
+use Rattle.scenario_words.specs.Reading.{decimal_in, framing_in, time_in, octets_in, exact_in, number_in, list_in}
 use Rattle.ltv_codec.specs.declared.fault.LtvBad.{LtvBad}
-use Rattle.scenario_words.proofs.Decimals.{own}
+use Rattle.scenario_words.proofs.Decimals.{AreDigits, own}
 
 -- ---- decimals
 
@@ -33,6 +34,24 @@ decimal_range least greatest n word e = grind (arith, some_is, both, leb-true, d
 pub decimal_is : (least greatest n : ℕ) (word : List ℕ) → decimal_in least greatest word ≡ Some n → word ≡ decimal n
 unfolding decimal_in
 decimal_is least greatest n word e = grind (arith, digits_value, some_is, both, bytes_eq, decimal, leb, bytes_eq-Decides)
+
+-- a number is no dash, so that it is a time
+no_dash : (n : ℕ) (word : List ℕ) → n < 2 ^ 64 → word ≡ decimal n → word ≡ 45 ∷ [] → ⊥
+no_dash n word small e dash =
+    let digits : AreDigits (45 ∷ []) = subst AreDigits (sym e ∙ dash) (digits_decimal own n small) in
+    let first : IsInRange 48 57 45 = digits 0 (omega arith) in
+    omega (arith, first.0)
+
+dash_or_not : (greatest n : ℕ) (word : List ℕ) (dash : Bool) → greatest < 2 ^ 64 → bytes_eq word (45 ∷ []) ≡ dash
+    → decimal_in 0 greatest word ≡ Some n → cond dash (Some None) (option_map Some (decimal_in 0 greatest word)) ≡ Some (Some n)
+dash_or_not greatest n word true small dash e =
+    let high : n ≤ greatest = (decimal_range 0 greatest n word e).1 in
+    absurd (no_dash n word (omega arith) (decimal_is 0 greatest n word e) ((bytes_eq-Decides word (45 ∷ [])).0 dash))
+dash_or_not greatest n word false small dash e = ap (option_map Some) e
+
+pub number_is_time : (greatest n : ℕ) (word : List ℕ) → greatest < 2 ^ 64 → decimal_in 0 greatest word ≡ Some n → time_in greatest word ≡ Some (Some n)
+unfolding time_in
+number_is_time greatest n word small e = dash_or_not greatest n word (bytes_eq word (45 ∷ [])) small refl e
 
 framed_is : (a b : Bool) (n : ℕ) → cond a (Some 0) (cond b (Some 1) None) ≡ Some n → n ≤ 1
 framed_is a b n e = grind arith

@@ -21,7 +21,7 @@ pub use Rattle.bcast_base.proofs.Citable.{bind_ok, ok_is, number_below, number-l
 pub use Rattle.bcast_base.specs.Encoding.{IsOctets}
 pub use Rattle.bcast_base.specs.Numbers.{sum_from}
 pub use Rattle.bcast_base.specs.Tries.{◌>>=◌, FindsOrWants}
-pub use Rattle.hex.proofs.HexLemmas.{decode_of-ok, decode_of-even, decode_of-same, decode_of-encode_lower}
+pub use Rattle.hex.proofs.HexLemmas.{decode_of-ok, decode_of-even, decode_of-encode_lower}
 pub use Rattle.hex.proofs.Pairs.{cons_byte, decode_pairs-ok_pair, prepend, encode_with-drop, decode_done, decode_step, drop-pair, encode_done}
 pub use Rattle.hex.specs.Hex.{decode_of, is_hex_digit, encode_lower, lower_digits, hex_digit_value, digit_or_error, pair_value}
 pub use Rattle.hex.specs.declared.error.FromHexError.{FromHexError}

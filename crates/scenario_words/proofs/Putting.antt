@@ -49,7 +49,7 @@ pub pair_put : (octets digits put : List ℕ) (i k pair : ℕ) → i < length oc
 pair_put octets digits put i k pair inside fits small is first second so_far =
     grind (arith, length, take-put_mid, append_assoc, encode_with-drop, lower_digits)
 
-encode_append : (t xs ys : List ℕ) → encode_with t (xs ++ ys) ≡ encode_with t xs ++ encode_with t ys
+pub encode_append : (t xs ys : List ℕ) → encode_with t (xs ++ ys) ≡ encode_with t xs ++ encode_with t ys
 unfolding encode_with
 encode_append t [] ys = refl
 encode_append t (x ∷ xs) ys = rw (encode_append t xs ys) refl

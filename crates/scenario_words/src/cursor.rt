@@ -2,7 +2,7 @@ ghost use Rattle.std.specs.Prelude.{◌≡◌, ◌≤◌, ◌^◌, ◌<◌, ◌+
 ghost use Rattle.std.specs.Prelude.{None, Ok, Err, length, IfOk, IfSome, IsErr, IsNone, IsTrue, ◌≢◌, ◌↔◌};
 ghost use Rattle.scenario_words.specs.declared.fault.LineFault.TheVariants.{Memory as NoMemory};
 ghost use Rattle.scenario_words.specs.Reading.{GivesNext, ReadsNext, SpellsNext, Left, next, any_word};
-ghost use Rattle.scenario_words.specs.Reading.{decimal_in, framing_in, time_in, octets_in, exact_in, number_in, list_in};
+ghost use Rattle.scenario_words.specs.Reading.{decimal_in, framing_in, octets_in, exact_in, number_in, list_in};
 ghost use Rattle.scenario_words.specs.Reading.{wish_of, wishes_of, all_wishes_of, perhaps_of, rising_of, with_stream as stream_in, ended};
 ghost use Rattle.bass_operations.specs.Layout.{MetadataFits};
 ghost use Rattle.ltv_codec.specs.Reading.{bad_of};
@@ -11,8 +11,8 @@ ghost use Rattle.scenario_words.specs.Words.{words_of};
 ghost use Rattle.scenario_words.specs.Rests.{words_after, octets_after};
 
 use crate::fault::{LineFault, Misfit};
-use crate::first_word::{one_digit, split_word};
-use crate::word::{array_of, decimal_within, framing_of, list_of, number_of, octets_of, time_of};
+use crate::first_word::split_word;
+use crate::word::{array_of, framing_of, list_of, number_of, octets_of};
 use bass_operations::{Wish, Wishes};
 use bcast_base::{Bis, BisSet, Memory, Octets};
 use std::alloc::Global;
@@ -20,9 +20,6 @@ use std::marker::Model;
 
 /// The most pairs of words of a line.
 const MOST_WISHES: usize = 31;
-
-/// The greatest time that a unit may have, in µs.
-const GREATEST_TIME: u64 = 1 << 62;
 
 /// The set with one stream more.
 fn with_stream(which: BisSet, bis: Bis) -> BisSet
@@ -79,7 +76,7 @@ impl<'a> Cursor<'a> {
     }
 
     /// The fault of the word that was read last.
-    fn misfit(&self) -> Misfit
+    pub(crate) fn misfit(&self) -> Misfit
         ensures { result.word ≡ self.now.read - 1 }
     {
         Misfit {
@@ -105,52 +102,6 @@ impl<'a> Cursor<'a> {
         let (word, rest) = split_word(rest);
         self.rest = rest;
         Ok(word)
-    }
-
-    /// The next word where it is one digit from `least` to `greatest`. Else the answer is None, and no word is read.
-    fn digit(&mut self, least: u64, greatest: u64) -> Option<u64>
-        ensures found { IfSome result (λ n.
-            (least ≤ n) × (n ≤ greatest) × (next (decimal_in least greatest) self.old ≡ Ok (n, self.new))) }
-        ensures other { IsNone result → self.new ≡ self.old }
-    {
-        let Some(rest) = self.rest else {
-            return None;
-        };
-        let (n, left) = one_digit(rest)?;
-        if n < least {
-            return None;
-        }
-        if greatest < n {
-            return None;
-        }
-        self.rest = left;
-        self.read += 1;
-        Some(n)
-    }
-
-    /// The same as `number`, for a word of any length; a function of its own, so that `number` is short where it is called.
-    #[inline(never)]
-    #[tactic(auto, using(crate::proofs::NextWords::fits, crate::proofs::NextWords::misfit, crate::proofs::OneWord::decimal_range))]
-    fn any_number(&mut self, least: u64, greatest: u64) -> Result<u64, Misfit>
-        ensures range { IfOk result (λ n. (least ≤ n) × (n ≤ greatest)) }
-        ensures gives { ReadsNext (λ n. n) result self.new (next (decimal_in least greatest) self.old) }
-    {
-        let word = self.word()?;
-        match decimal_within(word, least, greatest) {
-            Some(n) => Ok(n),
-            None => Err(self.misfit()),
-        }
-    }
-
-    /// A decimal from `least` to `greatest`. Most are one digit.
-    pub fn number(&mut self, least: u64, greatest: u64) -> Result<u64, Misfit>
-        ensures range { IfOk result (λ n. (least ≤ n) × (n ≤ greatest)) }
-        ensures gives { ReadsNext (λ n. n) result self.new (next (decimal_in least greatest) self.old) }
-    {
-        match self.digit(least, greatest) {
-            Some(n) => Ok(n),
-            None => self.any_number(least, greatest),
-        }
     }
 
     /// A decimal of at most `greatest` that is an octet.
@@ -217,18 +168,6 @@ impl<'a> Cursor<'a> {
         let word = self.word()?;
         match framing_of(word) {
             Some(framing) => Ok(framing),
-            None => Err(self.misfit()),
-        }
-    }
-
-    /// `-`, or a decimal of at most 2 ^ 62.
-    #[tactic(auto, using(crate::proofs::NextWords::fits, crate::proofs::NextWords::misfit))]
-    pub fn time(&mut self) -> Result<Option<u64>, Misfit>
-        ensures { ReadsNext (λ n. n) result self.new (next (time_in (2 ^ 62)) self.old) }
-    {
-        let word = self.word()?;
-        match time_of(word, GREATEST_TIME) {
-            Some(time) => Ok(time),
             None => Err(self.misfit()),
         }
     }

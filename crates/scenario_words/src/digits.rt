@@ -1,13 +1,10 @@
 //! Pairs of hexadecimal digits. Each loop runs to its end, so that the compiler can take many digits at once.
-ghost use Rattle.std.specs.Prelude.{◌≡◌, ◌≤◌, ◌<◌, ◌+◌, ◌*◌, ◌/◌, ◌%◌, ◌++◌, ℕ, List, true, Ok, Some, IsErr, IsTrue, OnOk, length};
+ghost use Rattle.std.specs.Prelude.{◌≡◌, ◌<◌, ◌+◌, ◌*◌, ◌/◌, ◌%◌, true, Ok, Some, IsErr, IsTrue, OnOk, length};
 ghost use Rattle.std.specs.List.{list_all};
 ghost use Rattle.std.specs.Option.{unwrap_or};
 ghost use Rattle.hex.specs.Hex.{decode_of, hex_digit_value, is_hex_digit};
 
 use bcast_base::{Memory, Octets};
-
-/// The most octets that are put at once behind others.
-const CHUNK: usize = 128;
 
 /// Whether an octet is a hexadecimal digit of either case. Letters of the two cases differ by 32.
 fn is_digit(octet: u8) -> bool
@@ -79,31 +76,13 @@ pub(crate) fn decode(word: &[u8], octets: &mut [u8])
     }
 }
 
-/// Puts the octets that at most 128 pairs of digits spell behind others.
-fn put_pairs(octets: &mut Octets, word: &[u8]) -> Result<(), Memory>
-    requires even { length word.now % 2 ≡ 0 }
-    requires digits { list_all is_hex_digit word.now ≡ true }
-    requires short { length word.now ≤ 256 }
-    ensures { OnOk result ((bytes : List ℕ) × (decode_of word.now ≡ Ok bytes) × (octets.new ≡ octets.old ++ bytes)) }
-{
-    let mut room = [0u8; CHUNK];
-    let decoded = &mut room[..word.len() / 2];
-    decode(word, decoded);
-    octets.append(decoded)
-}
-
 /// The octets that pairs of digits spell, in the place of others and in their memory.
 pub(crate) fn decode_over(octets: &mut Octets, word: &[u8]) -> Result<(), Memory>
     requires even { length word.now % 2 ≡ 0 }
     requires digits { list_all is_hex_digit word.now ≡ true }
     ensures { OnOk result (decode_of word.now ≡ Ok octets.new) }
 {
-    octets.clear();
-    let mut rest = word;
-    'chunks: while !rest.is_empty() {
-        let (chunk, others) = rest.split_at(rest.len().min(2 * CHUNK));
-        put_pairs(octets, chunk)?;
-        rest = others;
-    }
+    octets.resize(word.len() / 2)?;
+    decode(word, octets.as_mut_slice());
     Ok(())
 }

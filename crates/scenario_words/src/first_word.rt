@@ -1,6 +1,8 @@
 //! The first word of what is left of a line.
-ghost use Rattle.std.specs.Prelude.{◌≡◌, ◌≤◌, ◌∷◌, IfSome, length};
+ghost use Rattle.std.specs.Prelude.{◌≡◌, ◌≤◌, ◌<◌, ◌∷◌, ◌↔◌, ℕ, IfSome, IsTrue, length, slice_index, take};
 ghost use Rattle.std.specs.Prelude.{decimal as decimal_text};
+ghost use Rattle.std.specs.Int.{IsInRange};
+ghost use Rattle.std.specs.Str.Parse.{digits_value};
 ghost use Rattle.memchr.specs.Find.{IsFirstByte, is_byte};
 ghost use Rattle.scenario_words.specs.Joined.{space};
 ghost use Rattle.scenario_words.specs.Words.{words_of};
@@ -41,24 +43,50 @@ pub(crate) fn split_word(line: &[u8]) -> (&[u8], Option<&[u8]>)
     }
 }
 
-/// The number of a first word of one digit, and what is left behind that word; `None` for any other first word.
-pub(crate) fn one_digit(line: &[u8]) -> Option<(u64, Option<&[u8]>)>
+/// The number that the digits spell with which a line begins, at most so many of them, and how many they are.
+#[inline(always)]
+fn leading_number(line: &[u8], most: usize) -> (u64, usize)
+    requires { most ≤ 18 }
+    ensures value { result.0 ≡ digits_value 10 (take result.1 line.now) }
+    ensures fits { result.1 ≤ length line.now }
+    ensures digits { (k : ℕ) → k < result.1 → IsInRange 48 57 (slice_index line.now k) }
+{
+    let count = line.len().min(most);
+    let mut value = 0u64;
+    let mut end = 0;
+    'digits: while end < count && line[end].is_ascii_digit() {
+        value = value * 10 + u64::from(line[end] - b'0');
+        end += 1;
+    }
+    (value, end)
+}
+
+/// Whether a zero stands before other digits, of so many with which a line begins.
+#[inline(always)]
+fn has_leading_zero(line: &[u8], digits: usize) -> bool
+    requires { digits ≤ length line.now }
+    ensures { IsTrue result ↔ ((1 < digits) × (slice_index line.now 0 ≡ 48)) }
+{
+    digits > 1 && line[0] == b'0'
+}
+
+/// The number of a first word of at most so many digits, up to 18, and what is left behind that word; `None` for any other first
+/// word. The word is read in one pass.
+#[inline(always)]
+pub(crate) fn short_number(line: &[u8], most: usize) -> Option<(u64, Option<&[u8]>)>
+    requires { most ≤ 18 }
     ensures word { IfSome result (λ found. words_of line.now ≡ decimal_text found.0 ∷ words_after found.1) }
     ensures shorter { IfSome result (λ found. octets_after found.1 ≤ length line.now) }
 {
-    if line.is_empty() {
+    let (n, end) = leading_number(line, most);
+    if end == 0 || has_leading_zero(line, end) {
         return None;
     }
-    let digit = line[0];
-    if !digit.is_ascii_digit() {
-        return None;
-    }
-    let n = u64::from(digit - b'0');
-    if line.len() == 1 {
+    if end == line.len() {
         return Some((n, None));
     }
-    if line[1] == b' ' {
-        Some((n, Some(&line[2..])))
+    if line[end] == b' ' {
+        Some((n, Some(&line[end + 1..])))
     } else {
         None
     }

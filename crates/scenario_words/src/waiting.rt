@@ -1,7 +1,8 @@
-ghost use Rattle.std.specs.Prelude.{◌≡◌, ◌<◌, ◌≤◌, ◌+◌, ◌*◌, [], ◌∷◌, ◌++◌, length, OnOk, OnErr};
+ghost use Rattle.std.specs.Prelude.{◌≡◌, ◌<◌, ◌≤◌, ◌+◌, ◌*◌, [], ◌∷◌, ◌++◌, decimal, length, OnOk, OnErr};
 ghost use Rattle.hex.specs.Hex.{encode_lower};
 ghost use Rattle.scenario_words.specs.Prefixes.{APrefix, PutUpTo};
 
+use crate::printed_number::{DIGITS, PrintedNumber};
 use crate::printed_octets::write_digits;
 use bcast_base::{Memory, Octets};
 use std::marker::Model;
@@ -9,9 +10,9 @@ use std::marker::Model;
 /// The most octets that wait.
 const ROOM: usize = 256;
 
-/// Octets of a line that wait to be put into a text together.
+/// Octets of a line that wait to be put into a text together, at most 256.
 #[derive(Drop)]
-pub(crate) struct Waiting {
+pub struct Waiting {
     room: [u8; ROOM],
     count: usize,
 }
@@ -38,7 +39,7 @@ fn put_all(text: &mut Octets, octets: &[u8]) -> Result<(), Memory>
 impl Waiting {
     /// No octets.
     #[inline(always)]
-    pub(crate) fn new() -> Waiting
+    pub fn new() -> Waiting
         ensures { result ≡ [] }
     {
         Waiting {
@@ -49,7 +50,7 @@ impl Waiting {
 
     /// Adds an octet.
     #[inline(always)]
-    fn push(&mut self, octet: u8)
+    pub fn push(&mut self, octet: u8)
         requires { length self.old < 256 }
         ensures { self.new ≡ self.old ++ octet ∷ [] }
     {
@@ -59,7 +60,7 @@ impl Waiting {
 
     /// Adds octets.
     #[inline(always)]
-    fn extend(&mut self, octets: &[u8])
+    pub fn extend(&mut self, octets: &[u8])
         requires { length self.old + length octets.now ≤ 256 }
         ensures { self.new ≡ self.old ++ octets.now }
     {
@@ -68,9 +69,37 @@ impl Waiting {
         self.count = end;
     }
 
-    /// Adds the two digits of each octet.
+    /// Adds a number of at most three digits in decimal.
     #[inline(always)]
-    fn extend_digits(&mut self, octets: &[u8])
+    pub fn extend_small(&mut self, number: u16)
+        requires small { number < 1000 }
+        requires room { length self.old + 3 ≤ 256 }
+        ensures puts { self.new ≡ self.old ++ decimal number }
+        ensures short { length self.new ≤ length self.old + 3 }
+    {
+        if number >= 10 {
+            if number >= 100 {
+                self.push(b'0' + (number / 100) as u8);
+            }
+            self.push(b'0' + (number / 10 % 10) as u8);
+        }
+        self.push(b'0' + (number % 10) as u8);
+    }
+
+    /// Adds a number in decimal whose digits are at hand. The room behind them is written to.
+    #[inline(always)]
+    pub fn extend_number(&mut self, number: &PrintedNumber)
+        requires { length self.old + 20 ≤ 256 }
+        ensures puts { self.new ≡ self.old ++ decimal number.now }
+        ensures short { length self.new ≤ length self.old + 20 }
+    {
+        self.room[self.count..self.count + DIGITS].copy_from_slice(&number.room);
+        self.count += number.count;
+    }
+
+    /// Adds the two lower-case digits of each octet.
+    #[inline(always)]
+    pub fn extend_digits(&mut self, octets: &[u8])
         requires { length self.old + 2 * length octets.now ≤ 256 }
         ensures { self.new ≡ self.old ++ encode_lower octets.now }
     {
@@ -79,12 +108,13 @@ impl Waiting {
         self.count = end;
     }
 
-    /// Puts the octets that wait into a text.
+    /// Puts the octets that wait into a text. After Memory they still wait.
     #[inline(always)]
-    pub(crate) fn flush(&mut self, text: &mut Octets) -> Result<(), Memory>
+    pub fn flush(&mut self, text: &mut Octets) -> Result<(), Memory>
         ensures ok { OnOk result (text.new ≡ text.old ++ self.old) }
         ensures none { OnOk result (self.new ≡ []) }
         ensures err { OnErr result (text.new ≡ text.old) }
+        ensures kept { OnErr result (self.new ≡ self.old) }
     {
         put_all(text, &self.room[..self.count])?;
         self.count = 0;

@@ -1,5 +1,5 @@
 -- What a stream keeps of the events that were laid.
-use Rattle.source_machine.proofs.Prelude.{ℕ, ◌≡◌, ◌<◌, ◌≤◌, ◌+◌, ◌-◌, ◌*◌, min, suc, List, [], ◌∷◌, ◌++◌, length, get_or, drop, map, append_assoc, arith, ◌∙◌, ap, sym, refl, subst, Option, Result, unwrap_or, OnOk, cases_eq, eq-eqb, ne_eqb, append-nil, length-append, length-drop, map-append, length-map-range_with_len, flat_map, range_with_len, BigInfo, map_append, map_rest, map_same, Air, Entry, Laid, accept, lay, lays, flat_last, air_after, stale_in, stale_on, framed_calls, framed_lays, stream_calls, IsChecked, HasTime, SenderStands, info_of, waiting_in, Stream, StreamStands, info_in, kept_of, last_laid, pdus_at, Accepts, AllTell, Grows, Lays, LaysOne, Tells, told_by, Sender, Stale}
+use Rattle.source_machine.proofs.Prelude.{ℕ, ◌≡◌, ◌<◌, ◌≤◌, ◌+◌, ◌*◌, min, suc, List, [], ◌∷◌, ◌++◌, length, get_or, drop, map, append_assoc, arith, ◌∙◌, ap, sym, refl, subst, Option, Result, unwrap_or, OnOk, cases_eq, eq-eqb, ne_eqb, append-nil, length-append, length-drop, map-append, length-map-range_with_len, flat_map, range_with_len, BigInfo, map_append, map_rest, map_same, Air, Entry, Laid, accept, lay, lays, flat_last, air_after, stale_in, stale_on, framed_calls, framed_lays, stream_calls, IsChecked, HasTime, SenderStands, info_of, waiting_in, Stream, StreamStands, info_in, kept_of, last_laid, pdus_at, Accepts, AllTell, Grows, Lays, LaysOne, Tells, told_by, Sender, Stale}
 use Rattle.circular_buffer.specs.Buffer.{keep_last}
 use Rattle.isoal_unframed.specs.Calls.{Call as PlainCall}
 use Rattle.isoal_framed.specs.Calls.{Call as TimedCall, accept as accept_timed, lay as lay_at}

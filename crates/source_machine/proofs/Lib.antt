@@ -7,6 +7,7 @@ mod Framings
 mod HeardEvents
 mod Histories
 mod LaidEvents
+mod Lent
 mod Lists
 mod Orders
 mod Payloads

@@ -26,7 +26,7 @@ last_laid_at count air i event within at =
     ∙ ap (λ pdus. Some pdus) (get_or-map-range_with_len (pdus_at air) (length air - count) (min count (length air)) i event [] within at)
 
 -- what a stream keeps, by its group
-sent_kept : (info : BigInfo) (stream : Stream) (back subevent : ℕ) → info_in stream ≡ info
+pub sent_kept : (info : BigInfo) (stream : Stream) (back subevent : ℕ) → info_in stream ≡ info
     → sent_of stream back subevent ≡ option_and_then (λ pdus. slice_get pdus (subevent % info.bn))
     (slice_get stream.laid (length stream.laid + ahead_of info (subevent / info.bn) - (horizon_of info + 1 + back)))
 sent_kept info stream back subevent is = grind (arith, option_and_then, slice_get, length, ahead_of, horizon_of)

@@ -5,6 +5,7 @@ ghost use Rattle.source_machine.specs.Faults.{ConfigureFails};
 ghost use Rattle.source_machine.specs.Setups.{configured as as_configured, started};
 ghost use Rattle.source_machine.specs.State.Sources.{StandsFor};
 
+use crate::carried::Carried;
 use crate::checking::check_numbers;
 use crate::fault::ConfigureFault;
 use crate::setup::{Plan, Setup};
@@ -67,6 +68,7 @@ impl SourceIdle {
                 plan: Plan {
                     identity: setup.identity,
                     group,
+                    carried: Carried::new(&group),
                     cipher: setup.info.cipher,
                     base: setup.base,
                     origin: setup.origin,

@@ -1,4 +1,6 @@
-ghost use Rattle.std.specs.Prelude.{◌≡◌, ◌≤◌, ◌<◌, ◌-◌, ◌^◌, List, None, Some, false, IfOk, IfErr, OnOk, OnErr};
+ghost use Rattle.std.specs.Prelude.{ℕ, ◌≡◌, ◌≢◌, ◌≤◌, ◌<◌, ◌-◌, ◌^◌, List, map, None, Some, false};
+ghost use Rattle.std.specs.Prelude.{IfOk, IfErr, IfNone, IfSome, OnOk, OnErr, OnSome};
+ghost use Rattle.std.specs.List.{range_with_len};
 ghost use Rattle.isoal_base.specs.Air.{Air};
 ghost use Rattle.source_machine.specs.Airs.{AreAirs, pdu_of};
 ghost use Rattle.source_machine.specs.Calls.{Call, next_of};
@@ -9,6 +11,7 @@ ghost use Rattle.source_machine.specs.State.Streams.{Advances, IsAsSetUp, MayPer
 
 use crate::fault::EventFault;
 use crate::sent::StaleList;
+use crate::sent_stream::SentStream;
 use crate::stream::lay_all;
 use crate::streaming::SourceStreaming;
 use bcast_base::{Bis, Memory};
@@ -70,6 +73,31 @@ impl SourceStreaming {
         }
         let stream = &self.streams[usize::from(bis.get() - 1)];
         Ok(stream.sent(&self.plan.group, back, subevent))
+    }
+
+    /// The PDUs that a stream sent in the subevents of the last event (Core 5.2, volume 6 part B, section 4.4.6).
+    ///
+    /// None comes exactly where `heard_at` refuses each place of that event and stream: where the group has no such stream, no event
+    /// was performed, or the source has failed.
+    #[inline(always)]
+    pub fn sent_on(&self, bis: Bis) -> Option<SentStream<'_>>
+        ensures sent { IfSome result (λ sent. (calls : List Call) (airs : List Air) → StandsFor calls self.now
+            → AreAirs self.now.setup calls airs
+            → map Some sent ≡ map (pdu_of self.now.setup airs (next_of self.now.setup calls - 1) bis)
+            (range_with_len 0 self.now.setup.info.nse)) }
+        ensures on_air { OnSome result ((calls : List Call) → StandsFor calls self.now
+            → (s : ℕ) → s < self.now.setup.info.nse → air_fault self.now.setup calls 0 bis s ≡ None) }
+        ensures none { IfNone result ((calls : List Call) → StandsFor calls self.now
+            → (s : ℕ) → air_fault self.now.setup calls 0 bis s ≢ None) }
+        ensures works { OnSome result (self.now.failed ≡ false) }
+        ensures checked { IsChecked self.now.setup.info }
+    {
+        let group = &self.plan.group;
+        if bis.get() > group.info.num_bis || self.has_failed || self.next == self.first {
+            return None;
+        }
+        let stream = &self.streams[usize::from(bis.get() - 1)];
+        Some(stream.sent_last(group, &self.plan.carried))
     }
 
     /// Lays the next event and the H events behind it, and counts it.

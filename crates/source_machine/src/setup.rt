@@ -1,5 +1,7 @@
 ghost use Rattle.std.specs.Prelude.{◌≡◌, ◌≤◌, ◌<◌, ◌^◌};
+ghost use Rattle.source_machine.specs.State.Lent.{AheadsAre, PlacesAre};
 
+use crate::carried::Carried;
 use base_grammar::Base;
 use big_info::{BigInfo, Cipher, Group};
 
@@ -46,6 +48,8 @@ pub(crate) struct Plan {
     pub(crate) identity: Identity,
     /// The group without its cipher.
     pub(crate) group: Group,
+    /// Which PDU each subevent carries.
+    pub(crate) carried: Carried,
     pub(crate) cipher: Option<Cipher>,
     pub(crate) base: Base,
     pub(crate) origin: u64,
@@ -54,4 +58,6 @@ pub(crate) struct Plan {
     ghost least: { 3000 ≤ origin },
     ghost greatest: { origin ≤ 2 ^ 48 },
     ghost delay_is: { base.delay < 2 ^ 24 },
+    ghost aheads_are: { AheadsAre group.info carried.aheads },
+    ghost places_are: { PlacesAre group.info carried.places },
 }

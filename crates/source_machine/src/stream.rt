@@ -3,13 +3,16 @@ ghost use Rattle.std.specs.Prelude.{map, get_or, All, Some, IfOk, IfErr, IsTrue,
 ghost use Rattle.std.specs.List.{AllZip, range_with_len};
 ghost use Rattle.circular_buffer.specs.Buffer.{buffer, keep_last};
 ghost use Rattle.source_machine.specs.Airs.{stale_on};
+ghost use Rattle.source_machine.specs.State.Lent.{AheadsAre, PlacesAre};
 ghost use Rattle.source_machine.specs.State.Senders.{HasTime, PutStops};
 ghost use Rattle.source_machine.specs.State.Sources.{Stream as StreamState, StreamStands};
 ghost use Rattle.source_machine.specs.State.Streams.{Accepts, AllTell, Grows, IsLaid, Lays, LaysOne, Tells, sent_at, sent_of};
 
+use crate::carried::Carried;
 use crate::laying::Laying;
 use crate::sender::Sender;
 use crate::sent::{Stale, StaleList};
+use crate::sent_stream::SentStream;
 use bcast_base::{Bis, EventPdus, Memory, Octets, Times};
 use big_info::Group;
 use circular_buffer::HeapCircularBuffer;
@@ -115,6 +118,23 @@ impl Stream {
             .get(past - (horizon + 1 + usize::from(back)))
             .unwrap();
         pdus.pdu(usize::from(subevent % group.info.bn))
+    }
+
+    /// The PDUs that the subevents carry in the event that has the newest H events behind it.
+    #[inline(always)]
+    pub(crate) fn sent_last<'a>(&'a self, group: &Group, carried: &'a Carried) -> SentStream<'a>
+        requires laid { IsLaid group.now.info 0 self.now }
+        requires aheads { AheadsAre group.now.info carried.now.aheads }
+        requires places { PlacesAre group.now.info carried.now.places }
+        ensures { map Some result ≡ map (sent_of self.now 0) (range_with_len 0 group.now.info.nse) }
+    {
+        let horizon = self.laid.capacity() - EVENTS as usize;
+        SentStream {
+            laid: &self.laid,
+            place: self.laid.len() - (horizon + 1),
+            carried,
+            count: group.info.nse,
+        }
     }
 }
 

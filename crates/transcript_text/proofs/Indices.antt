@@ -1,5 +1,5 @@
 -- The indices of a set, put one after the other.
-use Rattle.std.proofs.Common.{◌≡◌, ◌≤◌, ◌<◌, ◌+◌, ◌-◌, ℕ, suc, Bool, true, false, cond, nat_eq, List, [], ◌∷◌, ◌++◌, map, decimal, refl, ap, sym, ◌∙◌, append_assoc, arith}
+use Rattle.std.proofs.Common.{◌≡◌, ◌≤◌, ◌<◌, ◌+◌, ◌-◌, ℕ, zero, suc, Bool, true, false, cond, nat_eq, List, [], ◌∷◌, ◌++◌, map, decimal, refl, ap, sym, ◌∙◌, append_assoc, arith}
 use Rattle.std.specs.Int.{bit_at}
 use Rattle.std.proofs.lemmas.List.{append-nil}
 use Rattle.scenario_words.specs.Joined.{behind}
@@ -35,7 +35,24 @@ index_put set initial now next index inside left put =
           ∙ (append_assoc now (indices_words set index 1) (indices_words set (index + 1) more) ∙ (ap (λ (l : List ℕ). now ++ l) (sym split) ∙ left.so_far)));
     }
 
-pub indices_put : (set : ℕ) (initial now : List ℕ) (index : ℕ) → 32 ≤ index → IndicesLeft set initial now index → now ≡ initial ++ indices_words set 1 31
-indices_put set initial now index past left =
-    let none : 32 - index ≡ 0 = omega arith in
-    sym (append-nil now) ∙ (ap (λ (n : ℕ). now ++ indices_words set index n) (sym none) ∙ left.so_far)
+-- above the greatest index no stream is in the set
+abbrev NoneFrom : (set index : ℕ) → Type 0
+NoneFrom set index = (i : ℕ) → index - 1 ≤ i → i < 31 → bit_at set i ≡ 0
+
+none_next : (set index : ℕ) → bit_at set (index - 1) ≡ 0 → indices_words set index 1 ≡ []
+none_next set index above =
+    let free : nat_eq (bit_at set (index - 1)) 1 ≡ false = rw above refl in
+    ap (λ (b : Bool). behind (map decimal (cond b (index ∷ []) []))) free
+
+none_above : (set index more : ℕ) → 1 ≤ index → index + more ≤ 32 → NoneFrom set index → indices_words set index more ≡ []
+none_above set index zero least fit none = refl
+none_above set index (suc more) least fit none =
+    indices_next set index more
+    ∙ ap (λ (l : List ℕ). l ++ indices_words set (index + 1) more) (none_next set index (none (index - 1) (omega arith) (omega arith)))
+    ∙ none_above set (index + 1) more (omega arith) (omega arith) (λ i above inside. none i (omega arith) inside)
+
+pub indices_put : (set : ℕ) (initial now : List ℕ) (index : ℕ) → 1 ≤ index → index ≤ 32 → ((i : ℕ) → index - 1 ≤ i → i < 31 → bit_at set i ≡ 0)
+    → IndicesLeft set initial now index → now ≡ initial ++ indices_words set 1 31
+indices_put set initial now index least fit none left =
+    sym (append-nil now)
+    ∙ (ap (λ (l : List ℕ). now ++ l) (sym (none_above set index (32 - index) least (omega arith) none)) ∙ left.so_far)

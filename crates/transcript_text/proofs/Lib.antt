@@ -4,4 +4,5 @@ pub mod Ending
 pub mod Indices
 pub mod Putting
 pub mod Splitting
+pub mod UnitLines
 pub mod Wholes

@@ -1,4 +1,5 @@
-ghost use Rattle.std.specs.Prelude.{◌≡◌, ◌≤◌, ◌++◌, OnOk, map, decimal};
+ghost use Rattle.std.specs.Prelude.{◌≡◌, ◌≤◌, ◌<◌, ◌++◌, ℕ, OnOk, map, decimal};
+ghost use Rattle.std.specs.Int.{bit_at};
 ghost use Rattle.scenario_words.specs.Joined.{behind};
 ghost use Rattle.transcript_text.specs.SinkLines.{indices_from, indices_of};
 
@@ -28,11 +29,20 @@ fn put_index(line: &mut Octets, which: BisSet, index: u8) -> Result<(), Memory>
     }
 }
 
+/// The greatest index of a set; 0 where it is empty.
+fn last_of(which: BisSet) -> u8
+    ensures greatest { result ≤ 31 }
+    ensures none_above { (i : ℕ) → result ≤ i → i < 31 → bit_at which i ≡ 0 }
+{
+    (32 - which.bits().leading_zeros()).min(31) as u8
+}
+
 /// Puts the indices of all streams of the set behind a line, rising.
 pub(crate) fn put_streams(line: &mut Octets, which: BisSet) -> Result<(), Memory>
     ensures { OnOk result (line.new ≡ line.old ++ behind (map decimal (indices_of which))) }
 {
-    'indices: for index in 1u8..32 {
+    let end = last_of(which) + 1;
+    'indices: for index in 1..end {
         put_index(line, which, index)?;
     }
     Ok(())

@@ -1,4 +1,5 @@
-ghost use Rattle.std.specs.Prelude.{◌≡◌, ◌∷◌, ◌++◌, [], OnOk, codes, decimal};
+ghost use Rattle.std.specs.Prelude.{◌≡◌, ◌≤◌, ◌∷◌, ◌++◌, [], OnOk, codes, decimal, length};
+ghost use Rattle.scenario_words.specs.Joined.{joined};
 ghost use Rattle.transcript_text.specs.Labels.{label_of};
 ghost use Rattle.transcript_text.specs.SinkLines.{value_line};
 
@@ -6,10 +7,64 @@ use crate::label::Label;
 use crate::put_line;
 use bcast_base::{Memory, Octets};
 use delegator_history::Notice;
-use scenario_words::Word;
+use scenario_words::{Waiting, Word};
 
-/// Puts a line with the octets of a slot.
+/// The most octets of a value whose line waits as a whole.
+const SHORT: usize = 104;
+
+/// Begins the line of a value: its first word, the sink, and the link where it is named.
+#[inline(always)]
+fn begin_value(line: &mut Waiting, first: &[u8], label: Label)
+    requires none { line.old ≡ [] }
+    requires few { length first.now ≤ 7 }
+    ensures begins { line.new ≡ joined first.now (label_of label).numbers }
+    ensures short { length line.new ≤ 15 }
+{
+    line.extend(first);
+    match label {
+        Label::Plain { sink } => {
+            line.push(b' ');
+            line.extend_small(u16::from(sink));
+        }
+        Label::OnLink { sink, link } => {
+            line.push(b' ');
+            line.extend_small(u16::from(sink));
+            line.push(b' ');
+            line.extend_small(u16::from(link));
+        }
+    }
+}
+
+/// Puts a line with the octets of a slot. The line of a short value is put in one piece. Each call has its own code, in which the first
+/// word is a constant.
+#[inline(always)]
 fn put_value(
+    text: &mut Octets,
+    first: &[u8],
+    label: Label,
+    slot: u8,
+    value: &[u8],
+) -> Result<(), Memory>
+    requires { length first.now ≤ 7 }
+    ensures { OnOk result (text.new ≡ text.old ++ value_line first.now (label_of label).numbers
+        (record { slot = slot; value = value.now })) }
+{
+    if value.is_empty() || value.len() > SHORT {
+        return put_any_value(text, first, label, slot, value);
+    }
+    let mut line = Waiting::new();
+    begin_value(&mut line, first, label);
+    line.push(b' ');
+    line.extend_small(u16::from(slot));
+    line.push(b' ');
+    line.extend_digits(value);
+    line.push(b'\n');
+    line.flush(text)
+}
+
+/// The same for a value of any length.
+#[inline(never)]
+fn put_any_value(
     text: &mut Octets,
     first: &[u8],
     label: Label,
@@ -34,39 +89,17 @@ fn put_value(
     }
 }
 
-/// The first word of the line of a notice.
-fn notice_word(label: Label) -> &'static [u8]
-    ensures { result.now ≡ (label_of label).notice }
-{
-    match label {
-        Label::Plain { .. } => b"notice",
-        Label::OnLink { .. } => b"anotice",
-    }
-}
-
-/// The first word of the line of a read.
-fn read_word(label: Label) -> &'static [u8]
-    ensures { result.now ≡ (label_of label).read }
-{
-    match label {
-        Label::Plain { .. } => b"read",
-        Label::OnLink { .. } => b"aread",
-    }
-}
-
 /// Puts the line of a notice as it was delivered.
 ///
 /// After Memory a part of the line may stand at the end of the text.
 pub fn put_notice(text: &mut Octets, label: Label, notice: &Notice) -> Result<(), Memory>
     ensures { OnOk result (text.new ≡ text.old ++ value_line (label_of label).notice (label_of label).numbers notice.now) }
 {
-    put_value(
-        text,
-        notice_word(label),
-        label,
-        notice.slot,
-        notice.value.as_slice(),
-    )
+    let value = notice.value.as_slice();
+    match label {
+        Label::Plain { .. } => put_value(text, b"notice", label, notice.slot, value),
+        Label::OnLink { .. } => put_value(text, b"anotice", label, notice.slot, value),
+    }
 }
 
 /// Puts the line of a slot that was read, with the octets that were answered.
@@ -75,13 +108,11 @@ pub fn put_notice(text: &mut Octets, label: Label, notice: &Notice) -> Result<()
 pub fn put_read(text: &mut Octets, label: Label, notice: &Notice) -> Result<(), Memory>
     ensures { OnOk result (text.new ≡ text.old ++ value_line (label_of label).read (label_of label).numbers notice.now) }
 {
-    put_value(
-        text,
-        read_word(label),
-        label,
-        notice.slot,
-        notice.value.as_slice(),
-    )
+    let value = notice.value.as_slice();
+    match label {
+        Label::Plain { .. } => put_value(text, b"read", label, notice.slot, value),
+        Label::OnLink { .. } => put_value(text, b"aread", label, notice.slot, value),
+    }
 }
 
 /// Puts the line of the state of a slot of a sink.

@@ -22,7 +22,7 @@ pub record SinkTicked (box : Option ℕ) (made : Option Settings) (own : Option 
     (source event : ℕ)
     (entry : Option Sink) (gathered : Gathered) : Type 0 where
   pub entry_is : EntryIs box made own calls_made (ticked_if (is_of source own) (Some event) received) (Some entry)
-  pub empty : gathered.units.items ≡ []
+  pub empty : calls_of gathered ≡ []
 
 -- one sink is ticked, where it is of the source, and the units that it handed up are gathered
 pub record SinkHeld (box : Option ℕ) (made : Option Settings) (own : Option ℕ) (calls_made : List links.Call) (received : List Call)
@@ -50,14 +50,14 @@ pub record Between (past : Histories) (source event number : ℕ) (sinks : List 
     (text told : List ℕ) (before after : List Account) : Type 0 where
   pub done : (n : ℕ) → n < number → EntryAt (with_close source (Some event) past) n (slice_get sinks n)
   pub left : (n : ℕ) → number ≤ n → n < most_sinks → EntryAt past n (slice_get sinks n)
-  pub empty : gathered.units.items ≡ []
+  pub empty : calls_of gathered ≡ []
   pub lines : told ≡ text ++ unit_lines (closings source event past (range_with_len 0 number))
   pub boxes_are : after ≡ accounts_after before (closings source event past (range_with_len 0 number))
 
 -- all sinks of the source are ticked
 pub record SinksTicked (past : Histories) (source event : ℕ) (sinks : List (Option Sink)) (gathered : Gathered) : Type 0 where
   pub entries : EntriesAre (with_close source (Some event) past) sinks
-  pub empty : gathered.units.items ≡ []
+  pub empty : calls_of gathered ≡ []
 
 -- what became of a close over all sinks
 pub record AllClose (past : Histories) (source event : ℕ) (sinks : List (Option Sink)) (gathered : Gathered)
@@ -79,7 +79,7 @@ pub record OneCloses (past : Histories) (n source event : ℕ) (sinks : List (Op
 -- nothing happened so far
 pub record Unmoved (sinks now : List (Option Sink)) (gathered : Gathered) (text told : List ℕ) (before after : List Account) : Type 0 where
   pub sinks_same : now ≡ sinks
-  pub empty : gathered.units.items ≡ []
+  pub empty : calls_of gathered ≡ []
   pub lines : told ≡ text
   pub boxes_are : after ≡ before
 

@@ -39,4 +39,4 @@ pub record SinksLend (past : Histories) (units : List Handed) (sinks : Sinks) : 
 pub record SinksStand (past : Histories) (sinks : Sinks) : Type 0 where
   pub entries : EntriesAre past sinks.entries.items
   pub made : sinks.outlet_count ≡ past.made
-  pub empty : sinks.gathered.units.items ≡ []
+  pub empty : calls_of sinks.gathered ≡ []

@@ -1,23 +1,38 @@
-use Rattle.replay_steps.proofs.Prelude.{◌≡◌, ℕ, ◌*◌, ◌∙◌, ap, subst, arith, chosen_steps, setup_of, SinksStand, histories_on_air}
+use Rattle.replay_steps.proofs.Prelude.{◌≡◌, ℕ, ◌+◌, ◌*◌, ◌∙◌, ap, sym, subst, arith, chosen_steps, setup_of, SinksStand, histories_on_air}
+use Rattle.std.proofs.Math.Nat.{add-mul}
+use Rattle.replay_steps.specs.Losing.{CountsOn, LosesFrom}
 use Rattle.replay_steps.proofs.Airing.{air_begins, air_ends}
 use Rattle.replay_steps.proofs.air_steps.hear_all.Goals as goal
 
-pub positions-init : goal.positions-init
-positions-init c = (λ steps on sources sinks. air_begins steps c.args.sink c.args.lose c.args.sinks.now sinks, c.first-position.ensures.first, c.first-position.ensures.within)
+pub streams-init : goal.streams-init
+streams-init c =
+    let none : 0 * c.args.grid.subevents ≡ 0 = omega arith in
+    let before : ℕ = c.args.event * c.args.grid.streams * c.args.grid.subevents in
+    let first : before ≡ before + 0 * c.args.grid.subevents = omega (arith, none) in (
+      λ steps on sources sinks. subst (λ n. SinksStand (histories_on_air steps c.args.sink c.args.lose n) c.args.sinks.now) (sym none)
+          (air_begins steps c.args.sink c.args.lose c.args.sinks.now sinks),
+      c.first-losses.ensures.lose,
+      subst (λ n. CountsOn c.args.lose n c.first-losses.result.before) first c.first-losses.ensures.counted,
+    )
 
-pub positions-preserved : goal.positions-preserved
-positions-preserved c =
-    let count : c.from.result * c.from-2.result ≡ c.args.grid.streams * c.args.grid.subevents = cc in (
-      grind arith,
-      c.next-position.ensures.next c.args.grid.streams c.args.event c.positions.number c.positions.invariant.1,
-      c.next-position.ensures.within,
+pub streams-preserved : goal.streams-preserved
+streams-preserved c =
+    let nse : ℕ = c.args.grid.subevents in
+    let lose : c.streams.losses.lose ≡ c.args.lose = c.streams.invariant.1 in
+    let before : ℕ = c.args.event * c.args.grid.streams * nse + c.streams.stream * nse in
+    let next : before + nse ≡ c.args.event * c.args.grid.streams * nse + (c.streams.stream + 1) * nse = omega (arith, add-mul c.streams.stream 1 nse) in
+    let counts = subst (λ l. CountsOn l before c.streams.losses.before) (sym lose) c.streams.invariant.2 in (
+      λ steps on sources sinks. c.hear_stream.ensures steps c.args.lose c.args.grid.streams nse c.streams-test.true on sources
+          (subst (λ l. LosesFrom l before nse c.next-lost.result) lose (c.next-lost.ensures.lost before counts)) (c.streams.invariant.0 steps on sources sinks),
+      c.next-lost.ensures.lose ∙ lose,
+      subst (λ l. CountsOn l (c.args.event * c.args.grid.streams * nse + (c.streams.stream + 1) * nse) c.next-lost.new.self.before) lose
+          (subst (λ n. CountsOn c.streams.losses.lose n c.next-lost.new.self.before) next (c.next-lost.ensures.counted before counts)),
     )
 
 pub returns : goal.returns
 returns c steps on sources sinks =
-    let P : ℕ → Type 0 = λ n. SinksStand (histories_on_air steps c.args.sink c.args.lose n) c.positions.sinks in
-    let all : c.positions.number ≡ c.from.result * c.from-2.result = omega arith in
-    let count : c.from.result * c.from-2.result ≡ c.args.grid.streams * c.args.grid.subevents = cc in
-    let told : c.args.grid.streams * c.args.grid.subevents ≡ (setup_of (chosen_steps steps)).info.num_bis * (setup_of (chosen_steps steps)).info.nse =
-    ap (λ s. s * c.args.grid.subevents) on.streams_are ∙ ap (λ s. (setup_of (chosen_steps steps)).info.num_bis * s) on.subevents_are in
-    air_ends steps c.args.sink c.args.lose c.positions.sinks (subst P (all ∙ count ∙ told) (c.positions.invariant.0 steps on sources sinks))
+    let P : ℕ → Type 0 = λ n. SinksStand (histories_on_air steps c.args.sink c.args.lose n) c.streams.sinks in
+    let all : c.streams.stream ≡ c.args.grid.streams = omega arith in
+    let told : c.streams.stream * c.args.grid.subevents ≡ (setup_of (chosen_steps steps)).info.num_bis * (setup_of (chosen_steps steps)).info.nse =
+    ap (λ s. s * c.args.grid.subevents) (all ∙ on.streams_are) ∙ ap (λ s. (setup_of (chosen_steps steps)).info.num_bis * s) on.subevents_are in
+    air_ends steps c.args.sink c.args.lose c.streams.sinks (subst P told (c.streams.invariant.0 steps on sources sinks))

@@ -1,43 +1,43 @@
-use Rattle.replay_steps.proofs.Prelude.{◌≡◌, ◌∙◌, Err, ap, subst, sym, Stop, relay_histories, GivesSecond}
+use Rattle.replay_steps.proofs.Prelude.{◌≡◌, ◌∙◌, Err, ap, refl, subst, sym, Stop, relay_histories, GivesSecond}
 use Rattle.scenario_sinks.specs.declared.route.Route.{Route}
 use Rattle.replay_steps.proofs.Offering.{routes_after_relays, offer_of, offers_dropped, offers_lost, offers_other, offers_taken}
 use Rattle.replay_steps.proofs.relay_steps.offer_unit.Goals as goal
 
 pub returns-in_default : goal.returns-in_default
 returns-in_default c steps own route s r =
-    offers_lost steps c.args.sink own c.args.unit.now c.args.sources.now c.args.relays.now c.args.text.now c.in_default.is s r
+    offers_lost steps c.args.sink own c.args.unit.now c.args.sources.now c.args.relays.now c.args.text.now (sym (rw c.in_default.is at c.octets.ensures)) s r
 
 pub returns-then-get : goal.returns-then-get
 returns-then-get c steps own route s r =
     let stream : c.args.route.now.bis ≡ own.bis = ap (λ (way : Route). way.bis) route in
-    offers_other steps c.args.sink own c.args.unit.now c.in-Some.octets c.args.sources.now c.args.relays.now c.args.text.now c.in-Some.is
+    offers_other steps c.args.sink own c.args.unit.now c.in-Some.octets.now c.args.sources.now c.args.relays.now c.args.text.now (sym (rw c.in-Some.is at c.octets.ensures))
     (λ same. c.if-get.true (c.get.ensures.same ∙ same ∙ sym stream ∙ sym c.get-2.ensures.same)) s r
 
 pub returns-in-Ok : goal.returns-in-Ok
 returns-in-Ok c steps own route s r =
     let stream : c.args.route.now.bis ≡ own.bis = ap (λ (way : Route). way.bis) route in
     let to : own.to ≡ c.args.route.now.to = sym (ap (λ (way : Route). way.to) route) in
-    let offer = offer_of c.args.sink own c.args.unit.now.time c.in-Some.octets in
-    offers_taken steps c.args.sink own c.args.unit.now c.in-Some.octets c.give_second.new.sources c.give.new.self c.args.text.now c.in-Some.is
+    let offer = offer_of c.args.sink own c.args.unit.now.time c.in-Some.octets.now in
+    offers_taken steps c.args.sink own c.args.unit.now c.in-Some.octets.now c.give_second.new.sources c.give.new.self c.args.text.now (sym (rw c.in-Some.is at c.octets.ensures))
     (sym c.get.ensures.same ∙ c.if-get.false ∙ c.get-2.ensures.same ∙ stream)
-    (c.in-Ok.ensures steps offer to (ap (λ octets. record { time = c.args.unit.now.time; octets = octets }) (sym c.as_slice.ensures)) s)
+    (c.in-Ok.ensures steps offer to refl s)
     (routes_after_relays offer c.args.route.now.to steps c.give.new.self to (c.give.ensures (relay_histories steps) r))
 
 pub returns-in-Err-Refused : goal.returns-in-Err-Refused
 returns-in-Err-Refused c steps own route s r =
     let stream : c.args.route.now.bis ≡ own.bis = ap (λ (way : Route). way.bis) route in
     let to : own.to ≡ c.args.route.now.to = sym (ap (λ (way : Route). way.to) route) in
-    let offer = offer_of c.args.sink own c.args.unit.now.time c.in-Some.octets in
-    offers_dropped steps c.args.sink c.args.route.now.bis own c.args.unit.now c.in-Some.octets c.in-Err-Refused.reason c.give_second.new.sources c.args.relays.now c.args.text.now
-    c.drop_unit.new.text c.drop_unit.result c.in-Some.is
+    let offer = offer_of c.args.sink own c.args.unit.now.time c.in-Some.octets.now in
+    offers_dropped steps c.args.sink c.args.route.now.bis own c.args.unit.now c.in-Some.octets.now c.in-Err-Refused.reason c.give_second.new.sources c.args.relays.now c.args.text.now
+    c.drop_unit.new.text c.drop_unit.result (sym (rw c.in-Some.is at c.octets.ensures))
     (sym c.get.ensures.same ∙ c.if-get.false ∙ c.get-2.ensures.same ∙ stream) stream
     (subst (λ (stop : Stop). GivesSecond steps offer c.give_second.new.sources (Err stop)) c.in-Err-Refused.field-0-is
-    (c.in-Err-Refused.ensures steps offer to (ap (λ octets. record { time = c.args.unit.now.time; octets = octets }) (sym c.as_slice.ensures)) s))
+    (c.in-Err-Refused.ensures steps offer to refl s))
     r c.drop_unit.ensures
 
 pub returns-in-Err-OutletFault : goal.returns-in-Err-OutletFault
 returns-in-Err-OutletFault c steps own route s r =
     let to : own.to ≡ c.args.route.now.to = sym (ap (λ (way : Route). way.to) route) in
-    let offer = offer_of c.args.sink own c.args.unit.now.time c.in-Some.octets in
+    let offer = offer_of c.args.sink own c.args.unit.now.time c.in-Some.octets.now in
     subst (λ (stop : Stop). GivesSecond steps offer c.give_second.new.sources (Err stop)) c.in-Err-OutletFault.field-0-is
-    (c.in-Err-OutletFault.ensures steps offer to (ap (λ octets. record { time = c.args.unit.now.time; octets = octets }) (sym c.as_slice.ensures)) s)
+    (c.in-Err-OutletFault.ensures steps offer to refl s)

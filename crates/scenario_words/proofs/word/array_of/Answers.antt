@@ -1,4 +1,4 @@
-use Rattle.scenario_words.proofs.Prelude.{sym, arith, false, true}
+use Rattle.scenario_words.proofs.Prelude.{sym, arith}
 use Rattle.scenario_words.proofs.OneWord.{no_array, other_count, array_read, array_length}
 use Rattle.scenario_words.proofs.word.array_of.Goals as goal
 

@@ -1,4 +1,4 @@
-use Rattle.scenario_words.proofs.Prelude.{arith, take, drop, length, true, ◌∷◌, [], sym, ◌∙◌, eqb-true, eqb-false}
+use Rattle.scenario_words.proofs.Prelude.{arith, take, drop, length, ◌∷◌, [], sym, ◌∙◌, eqb-true, eqb-false}
 use Rattle.scenario_words.proofs.OneWord.{dash, empty_word, no_digits, too_long, pairs, same_text, spells_some, whole_prefix}
 use Rattle.scenario_words.proofs.word.octets_of.Goals as goal
 

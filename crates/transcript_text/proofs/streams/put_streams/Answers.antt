@@ -7,4 +7,6 @@ indices-preserved c =
     index_put c.args.which c.args.line.now c.indices.line c.put_index.new.line c.indices.index (omega arith) c.indices.invariant c.in_ok-put_index.ensures
 
 pub returns : goal.returns
-returns c = indices_put c.args.which c.args.line.now c.indices.line c.indices.index (omega arith) c.indices.invariant
+returns c =
+    indices_put c.args.which c.args.line.now c.indices.line c.indices.index (omega arith) (omega arith)
+    (λ i above inside. c.last_of-end.ensures.none_above i (omega arith) inside) c.indices.invariant

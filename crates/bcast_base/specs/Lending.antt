@@ -1,0 +1,11 @@
+-- What octets that are lent to be written to end as.
+use Rattle.std.specs.Prelude.{ℕ, List, ◌++◌, length, take, drop}
+use Rattle.std.specs.Borrow.{Array, Fml, Lends, MutBor, u8}
+use Rattle.bcast_base.specs.contracts.octets.Octets.{the_row}
+
+-- what is left in the slice stands in the place of the octets; it has as many as they are
+abbrev pub refilled : List ℕ → List ℕ → List ℕ
+refilled octets left = take (length octets) (left ++ drop (length left) octets)
+
+abbrev pub LendsOctets : MutBor (List ℕ) → MutBor (List ℕ) → Fml
+LendsOctets octets slice = Lends the_row (Array u8 0) octets slice (refilled octets.now)

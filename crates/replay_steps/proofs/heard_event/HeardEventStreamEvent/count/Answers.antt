@@ -1,0 +1,6 @@
+use Rattle.std.proofs.Common.{sym, ◌∙◌}
+use Rattle.replay_steps.proofs.HeardStreams.{unlost_count}
+use Rattle.replay_steps.proofs.heard_event.HeardEventStreamEvent.count.Goals as goal
+
+pub returns : goal.returns
+returns c = c.count.ensures.count ∙ sym (unlost_count c.args.self.now.sent c.args.self.now.lost)

@@ -1,0 +1,12 @@
+use Rattle.std.proofs.Common.{ℕ, ◌≡◌, ◌-◌, length}
+use Rattle.replay_steps.specs.Losing.{CountsOn}
+use Rattle.replay_steps.proofs.Losing.{Marked}
+use Rattle.replay_steps.proofs.losses.Losses.next.Given as goal
+
+abbrev pub decreases-places : goal.decreases-places
+decreases-places l = l.count - l.place
+
+abbrev pub invariant-places : goal.invariant-places
+invariant-places l =
+    (length l.lost ≡ 31)
+    × ((n : ℕ) → CountsOn l.fn.self.lose n l.fn.self.before → Marked l.fn.self.lose n l.count l.place l.lost)

@@ -1,0 +1,55 @@
+//! Which PDUs of an event are lost, counted on from stream to stream.
+ghost use Rattle.std.specs.Prelude.{◌≡◌, ◌<◌, ◌≤◌, ◌+◌, ◌*◌, ◌^◌, ℕ};
+ghost use Rattle.replay_steps.specs.Losing.{CountsOn, LosesFrom};
+
+use crate::grid::Grid;
+
+/// The losses from a PDU of an event on. Of each `lose` PDUs the last one is lost, and none where that is 0.
+#[derive(Clone, Copy)]
+pub(crate) struct Losses {
+    lose: u8,
+    /// How many PDUs come before the next one that is lost.
+    before: u16,
+}
+
+impl Losses {
+    /// The losses from the first PDU of an event on.
+    pub(crate) fn first(grid: Grid, event: u64, lose: u8) -> Losses
+        requires { event < 2 ^ 39 }
+        ensures lose { result.lose ≡ lose }
+        ensures counted { CountsOn lose (event * grid.streams * grid.subevents) result.before }
+    {
+        if lose == 0 {
+            return Losses { lose, before: 0 };
+        }
+        let sent = event * u64::from(grid.streams) * u64::from(grid.subevents);
+        let since = (sent % u64::from(lose)) as u8;
+        Losses {
+            lose,
+            before: u16::from(lose - 1 - since),
+        }
+    }
+
+    /// Which PDUs of the next stream are lost, by subevent from 0, where it has so many.
+    pub(crate) fn next(&mut self, subevents: u8) -> [bool; 31]
+        requires { subevents ≤ 31 }
+        ensures lose { self.new.lose ≡ self.old.lose }
+        ensures counted { (count : ℕ) → CountsOn self.old.lose count self.old.before
+            → CountsOn self.old.lose (count + subevents) self.new.before }
+        ensures lost { (count : ℕ) → CountsOn self.old.lose count self.old.before
+            → LosesFrom self.old.lose count subevents result }
+    {
+        let mut lost = [false; 31];
+        if self.lose == 0 {
+            return lost;
+        }
+        let count = u16::from(subevents);
+        let mut place = self.before;
+        'places: while place < count {
+            lost[usize::from(place)] = true;
+            place += u16::from(self.lose);
+        }
+        self.before = place - count;
+        lost
+    }
+}

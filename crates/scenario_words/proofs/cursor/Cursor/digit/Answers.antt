@@ -1,6 +1,0 @@
-use Rattle.scenario_words.proofs.Prelude.{arith}
-use Rattle.scenario_words.proofs.OneDigit.{number_fits}
-use Rattle.scenario_words.proofs.cursor.Cursor.digit.Goals as goal
-
-pub returns-clause-found : goal.returns-clause-found
-returns-clause-found c = grind (arith, number_fits)
