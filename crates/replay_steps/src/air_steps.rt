@@ -151,7 +151,7 @@ fn hear_all(sources: &Sources, sinks: &mut Sinks, sink: u8, grid: Grid, event: u
     let mut losses = Losses::first(grid, event, lose);
     'streams: for stream in 0..grid.streams {
         let lost = losses.next(grid.subevents);
-        hear_stream(sources, sinks, sink, event, stream, lost);
+        hear_stream(sources, sinks, sink, event, stream, &lost);
     }
 }
 
@@ -163,13 +163,13 @@ fn hear_stream(
     sink: u8,
     event: u64,
     stream: u8,
-    lost: [bool; 31],
+    lost: &[bool; 31],
 )
     requires sink { sink ≤ 7 }
     requires event { event < 2 ^ 39 }
     requires stream { stream < 31 }
     ensures { (steps : List Step) (lose streams subevents : ℕ) → stream < streams → OnAir steps sink event streams subevents
-        → SourcesStand steps sources.now → LosesFrom lose (event * streams * subevents + stream * subevents) subevents lost
+        → SourcesStand steps sources.now → LosesFrom lose (event * streams * subevents + stream * subevents) subevents lost.now
         → SinksStand (histories_on_air steps sink lose (stream * subevents)) sinks.old
         → SinksStand (histories_on_air steps sink lose ((stream + 1) * subevents)) sinks.new }
 {
@@ -179,6 +179,6 @@ fn hear_stream(
     let Some(sent) = sources.sent_on(bis) else {
         return;
     };
-    let heard = HeardEvent::new(sent, lost);
+    let heard = HeardEvent::new(&sent, lost);
     sinks.hear_event(sink, sources.chosen(), event, bis, &heard);
 }

@@ -7,16 +7,16 @@ use source_machine::SentStream;
 /// The PDUs that the subevents of a stream sent in an event, of which some are lost.
 #[derive(Drop)]
 pub(crate) struct HeardEvent<'a> {
-    sent: SentStream<'a>,
-    lost: [bool; 31],
-    ghost few: { length sent ≤ 31 },
+    sent: &'a SentStream<'a>,
+    lost: &'a [bool; 31],
+    ghost few: { length sent.now ≤ 31 },
 }
 
 impl<'a> HeardEvent<'a> {
     /// Those PDUs but the lost ones, which are told by subevent from 0.
     #[inline(always)]
-    pub(crate) fn new(sent: SentStream<'a>, lost: [bool; 31]) -> HeardEvent<'a>
-        ensures { (result.sent ≡ sent.entry) × (result.lost ≡ lost) }
+    pub(crate) fn new(sent: &'a SentStream<'a>, lost: &'a [bool; 31]) -> HeardEvent<'a>
+        ensures { (result.sent.now ≡ sent.now) × (result.lost.now ≡ lost.now) }
     {
         let _count = sent.count();
         HeardEvent { sent, lost }
@@ -26,7 +26,7 @@ impl<'a> HeardEvent<'a> {
 impl<'a> StreamEvent for HeardEvent<'a> {
     ghost use Rattle.replay_steps.specs.Losing.{unlost};
 
-    ghost pdus = { λ heard. unlost heard.sent heard.lost };
+    ghost pdus = { λ heard. unlost heard.sent.now heard.lost.now };
 
     #[inline(always)]
     fn count(&self) -> u8 {

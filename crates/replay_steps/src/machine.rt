@@ -7,6 +7,7 @@ ghost use Rattle.scenario_text.specs.declared.step.Step.{Step as Said};
 ghost use Rattle.scenario_lines.specs.Frequent.{frequent_step};
 ghost use Rattle.scenario_sink.specs.SinkLines.{IsSinkLine};
 
+use crate::source_steps::give;
 use crate::version::Stage;
 use bcast_base::{Memory, Octets};
 use scenario_lines::{Frequent, LineFault, read_frequent, read_line_over};
@@ -14,7 +15,6 @@ use scenario_sinks::{Relays, Sinks};
 use scenario_sources::Sources;
 use scenario_text::{Step, a_line_says_one_step};
 use std::alloc::Global;
-use std::mem;
 use transcript_text::{Refusal, Stop};
 use unit_outlets::Outlet;
 
@@ -104,10 +104,8 @@ impl Machine {
     {
         match frequent {
             Frequent::Unit { bis, time } => {
-                let octets = mem::replace(&mut self.spare, Octets::new(self.alloc));
-                let given = self.unit(bis, time, octets.as_slice());
-                self.spare = octets;
-                given
+                let octets = self.spare.as_slice();
+                give(&mut self.sources, &mut self.relays, bis, time, octets)
             }
             Frequent::Event => self.event(outlets, text),
             Frequent::Air { sink, lose } => self.air(sink, lose),

@@ -9,7 +9,10 @@ ghost use Rattle.scenario_text.specs.declared.step.Step.TheVariants.{Start as St
 ghost use Rattle.scenario_history.specs.Relays.{had_relay};
 ghost use Rattle.scenario_history.specs.Steps.{chosen_of, running, stage_of};
 ghost use Rattle.scenario_sources.specs.Described.{IsPlain, group_step};
-ghost use Rattle.replay_steps.specs.Machines.{Stands};
+ghost use Rattle.scenario_sources.specs.State.Standing.{SourcesStand};
+ghost use Rattle.scenario_sinks.specs.State.RelaysStand.{RelaysStand};
+ghost use Rattle.replay_steps.specs.declared.machine.Machine.{Machine as Scenario};
+ghost use Rattle.replay_steps.specs.Machines.{Stands, relay_histories};
 ghost use Rattle.replay_steps.specs.Meets.{Quiet};
 ghost use Rattle.replay_steps.specs.Versions.{number_of};
 
@@ -17,6 +20,8 @@ use crate::machine::Machine;
 use crate::version::Version;
 use bcast_base::Bis;
 use big_info::{BigInfo, Cipher};
+use scenario_sinks::Relays;
+use scenario_sources::Sources;
 use source_machine::Identity;
 use transcript_text::Stop;
 
@@ -97,29 +102,7 @@ impl Machine {
         ensures { (boxes version : ℕ) (steps : List Step) → Stands steps self.old → stage_of steps ≡ running version
             → Quiet boxes steps (UnitStep bis time octets.now) self.new result }
     {
-        let chosen = self.sources.chosen();
-        if self.is_relayed(bis) {
-            return Err(Stop::Refused(self.sources.relayed(bis, time, octets)));
-        }
-        match self.sources.give(bis, time, octets) {
-            Ok(()) => {}
-            Err(stop) => return Err(stop),
-        }
-        if chosen != 1 {
-            return Ok(());
-        }
-        self.relays.give(bis);
-        Ok(())
-    }
-
-    /// Whether source 1 is chosen and this stream of it has had a relay.
-    fn is_relayed(&self, bis: Bis) -> bool
-        ensures { (steps : List Step) → Stands steps self.now → result ≡ ((chosen_of steps == 1) && had_relay bis steps) }
-    {
-        if self.sources.chosen() != 1 {
-            return false;
-        }
-        self.relays.had_relay(bis)
+        give(&mut self.sources, &mut self.relays, bis, time, octets)
     }
 
     /// `source`: chooses the source that later lines mean.
@@ -131,4 +114,42 @@ impl Machine {
         self.sources.choose(source);
         Ok(())
     }
+}
+
+/// Gives the chosen source a unit of a stream, as `Machine::unit` does. The octets may stand in another part of the scenario.
+pub(crate) fn give(
+    sources: &mut Sources,
+    relays: &mut Relays,
+    bis: Bis,
+    time: Option<u64>,
+    octets: &[u8],
+) -> Result<(), Stop>
+    ensures { (boxes version : ℕ) (steps : List Step) (machine : Scenario) → Stands steps machine → machine.sources ≡ sources.old
+        → machine.relays ≡ relays.old → stage_of steps ≡ running version
+        → Quiet boxes steps (UnitStep bis time octets.now) (record machine { sources = sources.new; relays = relays.new }) result }
+{
+    let chosen = sources.chosen();
+    if is_relayed(sources, relays, bis) {
+        return Err(Stop::Refused(sources.relayed(bis, time, octets)));
+    }
+    match sources.give(bis, time, octets) {
+        Ok(()) => {}
+        Err(stop) => return Err(stop),
+    }
+    if chosen != 1 {
+        return Ok(());
+    }
+    relays.give(bis);
+    Ok(())
+}
+
+/// Whether source 1 is chosen and this stream of it has had a relay.
+fn is_relayed(sources: &Sources, relays: &Relays, bis: Bis) -> bool
+    ensures { (steps : List Step) → SourcesStand steps sources.now → RelaysStand (relay_histories steps) relays.now
+        → result ≡ ((chosen_of steps == 1) && had_relay bis steps) }
+{
+    if sources.chosen() != 1 {
+        return false;
+    }
+    relays.had_relay(bis)
 }

@@ -17,9 +17,9 @@ returns c steps lose streams subevents within on sources loses sinks =
     let own : List Step = chosen_steps steps in
     let heard = c.new-heard.result in
     let sent : List (List ℕ) = c.in-Some-sent_on.sent in
-    let are = are_heard own lose c.args.stream c.in-Some.bis c.args.event streams subevents sent c.args.lost (c.in-Some-sent_on.ensures steps sources on.started).1
+    let are = are_heard own lose c.args.stream c.in-Some.bis c.args.event streams subevents sent c.args.lost.now (c.in-Some-sent_on.ensures steps sources on.started).1
     c.in-Some.ensures.1 on.event_is on.streams_are on.subevents_are loses in
-    stream_heard steps c.args.sink lose c.args.stream c.chosen.result c.args.event c.in-Some.bis subevents (unlost heard.sent heard.lost) c.hear_event.new.self
-    (subst (λ s. AreHeard own lose c.args.stream (unlost s heard.lost)) (sym c.new-heard.ensures.0)
+    stream_heard steps c.args.sink lose c.args.stream c.chosen.result c.args.event c.in-Some.bis subevents (unlost heard.sent.now heard.lost.now) c.hear_event.new.self
+    (subst (λ s. AreHeard own lose c.args.stream (unlost s heard.lost.now)) (sym c.new-heard.ensures.0)
     (subst (λ l. AreHeard own lose c.args.stream (unlost sent l)) (sym c.new-heard.ensures.1) are))
     (c.chosen.ensures.source steps sources) on.event_is c.in-Some.ensures.1 on.subevents_are (c.hear_event.ensures _ sinks)

@@ -3,4 +3,4 @@ use Rattle.replay_steps.proofs.HeardStreams.{unlost_count}
 use Rattle.replay_steps.proofs.heard_event.HeardEventStreamEvent.count.Goals as goal
 
 pub returns : goal.returns
-returns c = c.count.ensures.count ∙ sym (unlost_count c.args.self.now.sent c.args.self.now.lost)
+returns c = c.count.ensures.count ∙ sym (unlost_count c.args.self.now.sent.now c.args.self.now.lost.now)

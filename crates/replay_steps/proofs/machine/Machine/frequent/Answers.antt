@@ -1,29 +1,19 @@
-use Rattle.replay_steps.proofs.Prelude.{◌≡◌, refl, sym, ◌∙◌, ap, length, arith, Step, Machine}
+use Rattle.replay_steps.proofs.Prelude.{◌≡◌, refl, sym, ◌∙◌, ap, length, arith, Step}
 use Rattle.std.proofs.lemmas.Grind.{common_steps}
 use Rattle.scenario_text.specs.declared.step.Step.TheVariants.{Unit as UnitStep}
 use Rattle.scenario_lines.specs.Frequent.{frequent_step}
-use Rattle.replay_steps.proofs.StepLaws.{quiet_as, quiet_beside, meets_as, stands_beside, tells_as}
+use Rattle.replay_steps.proofs.StepLaws.{quiet_as, meets_as, tells_as}
 use Rattle.replay_steps.proofs.machine.Machine.frequent.Goals as goal
 
 pub returns-in-Unit-clause-meets : goal.returns-in-Unit-clause-meets
 returns-in-Unit-clause-meets g c starts version steps stands e boxes =
     let spare = c.args.self.now.spare in
-    let made : Step = UnitStep c.in-Unit.bis c.in-Unit.time c.as_slice.result.now in
+    let made : Step = UnitStep c.in-Unit.bis c.in-Unit.time c.as_slice-octets.result.now in
     let is : frequent_step c.args.frequent spare ≡ made =
     ap (λ frequent. frequent_step frequent spare) c.in-Unit.is ∙ ap (λ octets. UnitStep c.in-Unit.bis c.in-Unit.time octets)
-    (sym c.replace-octets.ensures.value ∙ sym c.as_slice.ensures) in
-    let given = c.unit-given.new.self in
-    let kept : Machine = record {
-      alloc = given.alloc;
-      stage = given.stage;
-      sources = given.sources;
-      sinks = given.sinks;
-      relays = given.relays;
-      spare = c.replace-octets.result;
-    } in
-    quiet_as starts (length starts) steps (frequent_step c.args.frequent spare) made kept c.args.text.now _ c.unit-given.result is refl refl refl refl
-    (quiet_beside (length starts) steps made given kept c.unit-given.result refl refl refl refl (c.unit-given.ensures (length starts) version steps
-    (stands_beside steps c.args.self.now _ refl refl refl refl stands) e))
+    (sym c.as_slice-octets.ensures) in
+    quiet_as starts (length starts) steps (frequent_step c.args.frequent spare) made _ c.args.text.now _ c.give.result is refl refl refl refl
+    (c.give.ensures (length starts) version steps c.args.self.now stands refl refl e)
 
 pub returns-in-Event-clause-meets : goal.returns-in-Event-clause-meets
 returns-in-Event-clause-meets g c starts version steps stands e boxes =
