@@ -25,17 +25,19 @@ pub(crate) enum Coming {
     Said(Step),
 }
 
-/// The next line: as its step where it has one at hand, or else put in place of `line`. None where no line is left.
+/// The next line: as its step where it has one at hand, whose octets come in the memory of `spare`, or else put in place of `line`. None
+/// where no line is left.
 pub(crate) fn next_of(
     alloc: Global,
     lines: &mut Lines,
     line: &mut Octets,
+    spare: &mut Octets,
 ) -> Result<Option<Coming>, Memory>
     ensures comes { IfOk result (λ next. IfSome next (λ coming. Comes coming line.new lines.old lines.new)) }
     ensures in_range { IfOk result (λ next. IfSome next IsInRange) }
     ensures none { result ≡ Ok None → lines.old ≡ [] }
 {
-    match lines.next_step(alloc) {
+    match lines.next_step(alloc, spare) {
         Ok(Some(step)) => return Ok(Some(Coming::Said(step))),
         Ok(None) => {}
         Err(memory) => return Err(memory),
@@ -47,11 +49,12 @@ pub(crate) fn next_of(
     }
 }
 
-/// Runs a line that comes so, and puts what it prints at the end of the text.
+/// Runs a line that comes so, and puts what it prints at the end of the text. The memory of an earlier unit comes into `spare`.
 pub(crate) fn run_coming(
     machine: &mut Machine,
     coming: Coming,
     line: &[u8],
+    spare: &mut Octets,
     outlets: &mut Vec<Box<dyn Outlet>>,
     text: &mut Octets,
 ) -> Result<(), Stop>
@@ -67,6 +70,6 @@ pub(crate) fn run_coming(
 {
     match coming {
         Coming::Text => machine.line(line, outlets, text),
-        Coming::Said(step) => machine.say(step, outlets, text),
+        Coming::Said(step) => machine.say(step, spare, outlets, text),
     }
 }

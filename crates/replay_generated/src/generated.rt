@@ -23,6 +23,7 @@ use unit_outlets::Outlet;
 /// written. After `OutletFault`, which comes only where the count of a box rose, nothing was written. After `WriteFault`,
 /// which comes only where the sink's count rose, and after `Memory` a prefix of the summary was written, and not all. The boxes
 /// that no `sink` line takes stay the same.
+#[inline(never)]
 pub fn run_generated<K: ByteSink>(
     alloc: Global,
     seed: u32,

@@ -52,10 +52,11 @@ pub(crate) fn run_lines(
     };
     let mut lines = Lines::new(seed, events);
     let mut line = Octets::new(alloc);
+    let mut spare = Octets::new(alloc);
     let mut text = Octets::new(alloc);
     let mut number: u64 = 0;
     'lines: loop {
-        let coming = match next_of(alloc, &mut lines, &mut line) {
+        let coming = match next_of(alloc, &mut lines, &mut line, &mut spare) {
             Err(Memory) => return Ending::Memory,
             Ok(None) => return Ending::Through,
             Ok(Some(coming)) => coming,
@@ -65,6 +66,7 @@ pub(crate) fn run_lines(
             number,
             coming,
             line.as_slice(),
+            &mut spare,
             &mut machine,
             &mut text,
             counts,
@@ -81,6 +83,7 @@ fn run_line(
     number: u64,
     coming: Coming,
     line: &[u8],
+    spare: &mut Octets,
     machine: &mut Machine,
     text: &mut Octets,
     counts: &mut Counts,
@@ -97,7 +100,7 @@ fn run_line(
         → UnassignedSame (steps_of airs_of lines) outlets.old.items outlets.new.items }
 {
     text.clear();
-    match run_coming(machine, coming, line, outlets, text) {
+    match run_coming(machine, coming, line, spare, outlets, text) {
         Ok(()) => count(text, counts),
         Err(Stop::Refused(reason)) => Some(refuse(number, reason, text, counts)),
         Err(Stop::OutletFault) => Some(Ending::OutletFault),

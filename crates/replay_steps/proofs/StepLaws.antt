@@ -28,6 +28,11 @@ pub quiet_beside : (boxes : ℕ) (steps : List Step) (made : Step) (machine new 
     → new.sources ≡ machine.sources → new.sinks ≡ machine.sinks → new.relays ≡ machine.relays → Quiet boxes steps made machine r → Quiet boxes steps made new r
 quiet_beside boxes steps made machine new r stage sources sinks relays q = grind (arith, stands_beside)
 
+pub meets_beside : (starts : List Account) (steps : List Step) (made : Step) (machine new : Machine) (text told : List ℕ) (before after : List Account)
+    (r : Result (Unit {0}) Stop) → new.stage ≡ machine.stage → new.sources ≡ machine.sources → new.sinks ≡ machine.sinks → new.relays ≡ machine.relays
+    → StepMeets starts steps made machine text told before after r → StepMeets starts steps made new text told before after r
+meets_beside starts steps made machine new text told before after r stage sources sinks relays m = grind (arith, stands_beside)
+
 pub quiet_meets : (starts : List Account) (boxes : ℕ) (steps : List Step) (made : Step) (new : Machine) (text : List ℕ) (accounts : List Account) (r : Result (Unit {0}) Stop)
     → boxes ≡ length starts → output_of airs_of starts steps made ≡ [] → handed_by airs_of steps made ≡ [] → closes_first steps made ≡ false
     → Quiet boxes steps made new r → Meets starts steps made new text text accounts accounts r

@@ -15,6 +15,7 @@ use scenario_sinks::{Relays, Sinks};
 use scenario_sources::Sources;
 use scenario_text::{Step, a_line_says_one_step};
 use std::alloc::Global;
+use std::mem;
 use transcript_text::{Refusal, Stop};
 use unit_outlets::Outlet;
 
@@ -155,10 +156,12 @@ impl Machine {
         }
     }
 
-    /// Makes the step that a line says in each version, as `line` does for that line.
+    /// Makes the step that a line says in each version, as `line` does for that line. The memory of the octets of an earlier unit
+    /// comes into `spare`, for those of another step.
     pub fn say(
         &mut self,
         step: Step,
+        spare: &mut Octets,
         outlets: &mut Vec<Box<dyn Outlet>>,
         text: &mut Octets,
     ) -> Result<(), Stop>
@@ -172,7 +175,21 @@ impl Machine {
             → UnassignedSame (steps_of airs_of lines) outlets.old.items outlets.new.items }
     {
         a_line_says_one_step();
-        self.step(step, outlets, text)
+        let said = self.step(step, outlets, text);
+        self.lend_spare(spare);
+        said
+    }
+
+    /// Gives the memory of the octets of an earlier unit away, where there are any.
+    fn lend_spare(&mut self, spare: &mut Octets)
+        ensures stage { self.new.stage ≡ self.old.stage }
+        ensures sources { self.new.sources ≡ self.old.sources }
+        ensures sinks { self.new.sinks ≡ self.old.sinks }
+        ensures relays { self.new.relays ≡ self.old.relays }
+    {
+        if !self.spare.as_slice().is_empty() {
+            mem::swap(&mut self.spare, spare);
+        }
     }
 }
 

@@ -12,6 +12,7 @@ use scenario_text::Step;
 use scenario_words::{Word, put_words};
 use std::alloc::Global;
 use std::marker::Model;
+use std::mem;
 
 /// The lines of the group, of the sinks and of the start.
 const HEAD: [&str; 7] = [
@@ -127,8 +128,12 @@ impl Lines {
     }
 
     /// The next line as the step that it says in each version, where it gives a unit behind the first ones, or is an event or what a
-    /// sink hears of it. None for each other line, which is left.
-    pub fn next_step(&mut self, alloc: Global) -> Result<Option<Step>, Memory>
+    /// sink hears of it. None for each other line, which is left. The octets of a unit come in the memory of `spare`.
+    pub fn next_step(
+        &mut self,
+        alloc: Global,
+        spare: &mut Octets,
+    ) -> Result<Option<Step>, Memory>
         ensures says { IfOk result (λ next. IfSome next (λ step. NextSays step self.old self.new)) }
         ensures in_range { IfOk result (λ next. IfSome next IsInRange) }
         ensures left { result ≡ Ok None → self.new ≡ self.old }
@@ -138,13 +143,13 @@ impl Lines {
                 if self.left == 0 {
                     return Ok(None);
                 }
-                let step = unit_step(alloc, 1, self.event + 1)?;
+                let step = unit_step(alloc, spare, 1, self.event + 1)?;
                 self.left -= 1;
                 self.place = Place::OtherUnit;
                 Ok(Some(step))
             }
             Place::OtherUnit => {
-                let step = unit_step(alloc, 2, self.event + 1)?;
+                let step = unit_step(alloc, spare, 2, self.event + 1)?;
                 self.place = Place::Event;
                 Ok(Some(step))
             }
@@ -210,16 +215,18 @@ fn octets_of(x: u32) -> [u8; 100]
     [(x % 256) as u8; 100]
 }
 
-/// The step that gives unit x on a stream.
+/// The step that gives unit x on a stream, in the memory of `spare`.
 #[tactic(auto, using(crate::proofs::MadeSteps::unit_fits))]
-fn unit_step(alloc: Global, bis: u8, x: u32) -> Result<Step, Memory>
+fn unit_step(alloc: Global, spare: &mut Octets, bis: u8, x: u32) -> Result<Step, Memory>
     requires least { 1 ≤ bis }
     requires greatest { bis ≤ 31 }
     ensures says { IfOk result (λ step. (version : ℕ) → LineIs version step (unit_line bis x)) }
     ensures in_range { IfOk result IsInRange }
 {
     let bis = Bis::new(bis).unwrap();
-    let octets = Octets::copy(alloc, &octets_of(x))?;
+    let mut octets = mem::replace(spare, Octets::new(alloc));
+    octets.clear();
+    octets.append(&octets_of(x))?;
     Ok(Step::Unit {
         bis,
         time: None,
