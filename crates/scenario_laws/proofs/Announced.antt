@@ -1,11 +1,8 @@
 -- Where a sink is that `announce` puts on a group: where the group's source is for its next event (Basic Audio Profile 1.0,
 -- sections 3.7.2 and 6.5).
-use Rattle.scenario_laws.proofs.Prelude.{ℕ, ◌≡◌, ◌<◌, ◌≤◌, ◌^◌, Bool, List, Some, arith, unwrap_or, none-some, Endpoint, BigInfo, IsTrain, Tells, IsOnGroup, heard_as, MayAnnounce, train_of, Snapshot, TrainOutcome, Settings, outcome_by, big_sync_in, BigSync, by_numbers, next_anchor_of, next_of, Step, own_train, big_sync_of, snapshot_in, base_of, subgroups_of, checked_info, group_of, identity_of, no_group, setup_of, source_calls, Airs, chosen_of, chosen_steps, announced_of, big_sync_on, calls_made, source_at}
-use Rattle.announcement_train.specs.declared.train.Train.{Train}
-use Rattle.delegator_history.specs.Trains.{Setup as SinkSetup, taken}
-use Rattle.scenario_text.specs.declared.step.Step.TheVariants as steps
+use Rattle.scenario_laws.proofs.Known.Sources.Steps.Prelude.{ℕ, ◌≡◌, ◌<◌, ◌≤◌, ◌^◌, Bool, List, Some, arith, unwrap_or, none-some, Endpoint, BigInfo, IsTrain, Tells, IsOnGroup, heard_as, MayAnnounce, train_of, Snapshot, TrainOutcome, Settings, outcome_by, big_sync_in, BigSync, by_numbers, next_anchor_of, next_of, Step, own_train, big_sync_of, snapshot_in, base_of, subgroups_of, checked_info, group_of, identity_of, no_group, setup_of, source_calls, Airs, chosen_of, chosen_steps, announced_of, big_sync_on, calls_made, source_at, TrainOctets as Train, SinkSetup, taken, Permitted}
 use Rattle.scenario_laws.proofs.Announcers.{Tellable, may_announce, tellable}
-use Rattle.scenario_laws.proofs.Legals.{Legal, Permitted}
+use Rattle.scenario_laws.proofs.Legals.{Legal}
 use Rattle.scenario_laws.proofs.Sources.{Lawful, Settled, bounds_in, lawful, sends, settled}
 
 -- the laws of announcements
@@ -52,7 +49,7 @@ same_tuning own big_sync is tells on = grind (arith, unwrap_or, group_of, no_gro
 
 -- the train synchronizes the sink to the BIG of the source
 pub announced_on : Announcing → (airs : Airs) (boxes n : ℕ) (earlier : List Step) (made : Settings) (big_sync : BigSync)
-    → Legal airs boxes earlier → Permitted airs boxes earlier (steps.Announce n)
+    → Legal airs boxes earlier → Permitted airs boxes earlier (Step.Announce n)
     → big_sync_of made (snapshot_in made (calls_made n earlier)) (Some (own_train (source_at earlier))) ≡ Some big_sync
     → IsOn (chosen_steps earlier) big_sync
 announced_on laws airs boxes n earlier made big_sync legal permits is =
@@ -67,7 +64,7 @@ announced_on laws airs boxes n earlier made big_sync legal permits is =
     took.slot took.bits took.encrypted big_sync tells took.is
 
 pub announced_tuning : Announcing → (airs : Airs) (boxes n : ℕ) (earlier : List Step) (made : Settings) (big_sync : BigSync)
-    → Legal airs boxes earlier → Permitted airs boxes earlier (steps.Announce n)
+    → Legal airs boxes earlier → Permitted airs boxes earlier (Step.Announce n)
     → big_sync_of made (snapshot_in made (calls_made n earlier)) (Some (own_train (source_at earlier))) ≡ Some big_sync
     → by_numbers big_sync ≡ big_sync_on (chosen_steps earlier) big_sync.which
 announced_tuning laws airs boxes n earlier made big_sync legal permits is =
@@ -76,7 +73,7 @@ announced_tuning laws airs boxes n earlier made big_sync legal permits is =
     (announced_on laws airs boxes n earlier made big_sync legal permits is)
 
 pub announced_within : Announcing → (airs : Airs) (boxes n : ℕ) (earlier : List Step) (made : Settings) (big_sync : BigSync)
-    → Legal airs boxes earlier → Permitted airs boxes earlier (steps.Announce n)
+    → Legal airs boxes earlier → Permitted airs boxes earlier (Step.Announce n)
     → big_sync_of made (snapshot_in made (calls_made n earlier)) (Some (own_train (source_at earlier))) ≡ Some big_sync
     → big_sync.which < 2 ^ (setup_of (chosen_steps earlier)).info.num_bis
 announced_within laws airs boxes n earlier made big_sync legal permits is = (announced_on laws airs boxes n earlier made big_sync legal permits is).within

@@ -1,16 +1,10 @@
 -- A source that sends can announce its next event: what its lines say fits the octets of a train (Basic Audio Profile 1.0,
 -- section 3.7.2; Core 5.2, volume 6 part B, section 4.4.6.11).
-use Rattle.scenario_laws.proofs.Prelude.{ℕ, ◌≡◌, ◌<◌, ◌≤◌, ◌^◌, ◌||◌, not, cond, leb, ltb, is_some, Bool, true, false, List, [], ◌∷◌, ◌++◌, length, Option, None, Some, Ok, refl, sym, subst, arith, unwrap_or, false≢true, leb-false, or_parts, none-some, BigInfo, Cipher, FitsWidths, Subgroup, IsDraft, Refuses, entry_fault, last_of, metadata_fault, endpoint, indices, stands_in, numbers_alone, MayAnnounce, cipher_octets, next_anchor_of, next_of, with_cipher, announce_fault, Step, IsInRange, NoSuchBis, base_lines, base_of, has_bis, has_subgroup, is_base_too_long, is_last_bare, subgroups_of, group_refusal, train_ends, refuse_if, horizon_in, Phase, checked_info, cipher_of, group_of, identity_of, is_absent_at, is_described_at, is_sending, is_sending_at, is_started, Airs, GroupLine, no_group, phase_of, setup_of, source_calls}
+use Rattle.scenario_laws.proofs.Known.Sources.Steps.Prelude.{ℕ, ◌≡◌, ◌<◌, ◌≤◌, ◌^◌, ◌||◌, not, cond, leb, ltb, is_some, Bool, true, false, List, [], ◌∷◌, ◌++◌, length, Option, None, Some, Ok, refl, sym, subst, arith, unwrap_or, false≢true, leb-false, or_parts, none-some, BigInfo, Cipher, FitsWidths, Subgroup, IsDraft, Refuses, entry_fault, last_of, metadata_fault, endpoint, indices, stands_in, numbers_alone, MayAnnounce, cipher_octets, next_anchor_of, next_of, with_cipher, announce_fault, Step, IsInRange, NoSuchBis, base_lines, base_of, has_bis, has_subgroup, is_base_too_long, is_last_bare, subgroups_of, group_refusal, train_ends, refuse_if, horizon_in, Phase, checked_info, cipher_of, group_of, identity_of, is_absent_at, is_described_at, is_sending, is_sending_at, is_started, Airs, GroupLine, no_group, phase_of, setup_of, source_calls, draft_opened as opened, with_entry_keeps, with_metadata_keeps, with_subgroup_keeps, adds_to_last, describes_last, fails_not, neither, DraftFault}
 use Rattle.big_info.specs.Layout.{CipherIs}
 use Rattle.ltv_codec.proofs.Citable.{are_read}
-use Rattle.base_grammar.specs.Draft.{opened}
-use Rattle.base_grammar.specs.declared.fault.DraftFault.TheVariants as faults
-use Rattle.base_grammar.proofs.Drafts.{with_entry_keeps, with_metadata_keeps, with_subgroup_keeps}
-use Rattle.announcement_train.proofs.Citable.{adds_to_last, describes_last}
 use Rattle.source_machine.specs.declared.fault.AnnounceFault.{AnnounceFault}
-use Rattle.scenario_text.specs.declared.step.Step.TheVariants as steps
 use Rattle.scenario_laws.proofs.Bases.{is_base}
-use Rattle.scenario_laws.proofs.Legals.{fails_not, neither}
 use Rattle.scenario_laws.proofs.Sources.{Allowed, Lawful, Settled, bounds_in, not_yet, sends, settled, true_not_false}
 
 -- ---- what the lines of a source say
@@ -36,11 +30,11 @@ sends_then p is = grind (arith, false≢true)
 
 -- ---- a line of its BASE
 
-full_then : (last : Bool) → last ≡ false → Refuses (cond last (Some faults.NoBis) None) (Ok tt)
-full_then last is = subst (λ b. Refuses (cond b (Some faults.NoBis) None) (Ok tt)) (sym is) tt
+full_then : (last : Bool) → last ≡ false → Refuses (cond last (Some DraftFault.NoBis) None) (Ok tt)
+full_then last is = subst (λ b. Refuses (cond b (Some DraftFault.NoBis) None) (Ok tt)) (sym is) tt
 
-opens_next : (own : List Step) (codec config : List ℕ) → Tellable own → IsInRange (steps.Subgroup codec config) → is_last_bare own ≡ false
-    → (delay : ℕ) → delay < 2 ^ 24 → IsDraft (endpoint delay (subgroups_of (steps.Subgroup codec config ∷ own)))
+opens_next : (own : List Step) (codec config : List ℕ) → Tellable own → IsInRange (Step.Subgroup codec config) → is_last_bare own ≡ false
+    → (delay : ℕ) → delay < 2 ^ 24 → IsDraft (endpoint delay (subgroups_of (Step.Subgroup codec config ∷ own)))
 opens_next own codec config before ranged full delay width =
     with_subgroup_keeps delay codec config (subgroups_of own) (subgroups_of own ++ opened codec config ∷ []) (Ok tt) (before.draft delay width) ranged.0
     (λ reads. are_read config ranged.4 ranged.2) refl tt (full_then (is_last_bare own) full)
@@ -48,27 +42,27 @@ opens_next own codec config before ranged full delay width =
 some_there : (subgroups : List Subgroup) → not (is_some (last_of subgroups)) ≡ false → Refuses (metadata_fault subgroups) (Ok tt)
 some_there subgroups is = grind (arith, false≢true)
 
-describes_next : (own : List Step) (metadata : List ℕ) → Tellable own → IsInRange (steps.Meta metadata) → not (has_subgroup own) ≡ false
-    → (delay : ℕ) → delay < 2 ^ 24 → IsDraft (endpoint delay (subgroups_of (steps.Meta metadata ∷ own)))
+describes_next : (own : List Step) (metadata : List ℕ) → Tellable own → IsInRange (Step.Meta metadata) → not (has_subgroup own) ≡ false
+    → (delay : ℕ) → delay < 2 ^ 24 → IsDraft (endpoint delay (subgroups_of (Step.Meta metadata ∷ own)))
 describes_next own metadata before ranged some delay width =
-    with_metadata_keeps delay metadata (subgroups_of own) (subgroups_of (steps.Meta metadata ∷ own)) (Ok tt) (before.draft delay width) (are_read metadata ranged.2 ranged.1)
+    with_metadata_keeps delay metadata (subgroups_of own) (subgroups_of (Step.Meta metadata ∷ own)) (Ok tt) (before.draft delay width) (are_read metadata ranged.2 ranged.1)
     (describes_last metadata (base_lines own)) tt (some_there (subgroups_of own) some)
 
 new_there : (subgroups : List Subgroup) (bis : ℕ) → not (is_some (last_of subgroups)) ≡ false → stands_in (indices subgroups) bis ≡ false → Refuses (entry_fault subgroups bis) (Ok tt)
 new_there subgroups bis is none = grind (arith, false≢true)
 
-adds_next : (own : List Step) (bis : ℕ) (config : List ℕ) → Tellable own → IsInRange (steps.Bis bis config) → not (has_subgroup own) ≡ false → has_bis own bis ≡ false
-    → (delay : ℕ) → delay < 2 ^ 24 → IsDraft (endpoint delay (subgroups_of (steps.Bis bis config ∷ own)))
+adds_next : (own : List Step) (bis : ℕ) (config : List ℕ) → Tellable own → IsInRange (Step.Bis bis config) → not (has_subgroup own) ≡ false → has_bis own bis ≡ false
+    → (delay : ℕ) → delay < 2 ^ 24 → IsDraft (endpoint delay (subgroups_of (Step.Bis bis config ∷ own)))
 adds_next own bis config before ranged some none delay width =
-    with_entry_keeps delay (record { bis = bis; config = config }) (subgroups_of own) (subgroups_of (steps.Bis bis config ∷ own)) (Ok tt) (before.draft delay width)
+    with_entry_keeps delay (record { bis = bis; config = config }) (subgroups_of own) (subgroups_of (Step.Bis bis config ∷ own)) (Ok tt) (before.draft delay width)
     (λ last is reads. are_read config ranged.2 ranged.1) (ranged.3, ranged.4)
     (adds_to_last (record { bis = bis; config = config }) (base_lines own)) tt (new_there (subgroups_of own) bis some none)
 
 -- ---- each line
 
 tellable_after : (airs : Airs) (own : List Step) (step : Step) → Tellable own → Allowed airs own step → Tellable (step ∷ own)
-tellable_after airs own (steps.Group framing origin delay iso sdu max_sdu max_pdu num_bis bn nse irc pto sub spacing phy) before allows = grind (arith, false≢true)
-tellable_after airs own (steps.Subgroup codec config) before allows =
+tellable_after airs own (Step.Group framing origin delay iso sdu max_sdu max_pdu num_bis bn nse irc pto sub spacing phy) before allows = grind (arith, false≢true)
+tellable_after airs own (Step.Subgroup codec config) before allows =
     let parts = or_parts (not (is_described_at (phase_of own))) (is_last_bare own) allows.in_phase in
     record {
       three = before.three;
@@ -80,7 +74,7 @@ tellable_after airs own (steps.Subgroup codec config) before allows =
       full = λ started. absurd (true_not_false (is_started own) started (not_yet own (is_last_bare own) allows.in_phase));
       short = λ started. absurd (true_not_false (is_started own) started (not_yet own (is_last_bare own) allows.in_phase));
     }
-tellable_after airs own (steps.Meta metadata) before allows =
+tellable_after airs own (Step.Meta metadata) before allows =
     let parts = or_parts (not (is_described_at (phase_of own))) (not (has_subgroup own)) allows.in_phase in
     record {
       three = before.three;
@@ -92,7 +86,7 @@ tellable_after airs own (steps.Meta metadata) before allows =
       full = λ started. absurd (true_not_false (is_started own) started (not_yet own (not (has_subgroup own)) allows.in_phase));
       short = λ started. absurd (true_not_false (is_started own) started (not_yet own (not (has_subgroup own)) allows.in_phase));
     }
-tellable_after airs own (steps.Bis bis config) before allows =
+tellable_after airs own (Step.Bis bis config) before allows =
     let parts = or_parts (not (is_described_at (phase_of own))) (not (has_subgroup own)) allows.in_phase in
     let new = or_parts (ltb (group_line own).info.num_bis bis) (has_bis own bis) (fails_not (ltb (group_line own).info.num_bis bis || has_bis own bis) NoSuchBis allows.by_source) in
     record {
@@ -105,9 +99,9 @@ tellable_after airs own (steps.Bis bis config) before allows =
       full = λ started. absurd (true_not_false (is_started own) started (not_yet own (not (has_subgroup own)) allows.in_phase));
       short = λ started. absurd (true_not_false (is_started own) started (not_yet own (not (has_subgroup own)) allows.in_phase));
     }
-tellable_after airs own (steps.Start first) before allows = grind (arith, or_parts, not, is_described_at, phase_of, is_last_bare, there_then, fails_not, is_base_too_long, neither, group_refusal, horizon_in, checked_info, refuse_if)
-tellable_after airs own steps.Stop before allows = grind (arith, sends_then, phase_of, sends)
-tellable_after airs own (steps.Terminate reason) before allows = grind (arith, sends_then, phase_of, sends)
+tellable_after airs own (Step.Start first) before allows = grind (arith, or_parts, not, is_described_at, phase_of, is_last_bare, there_then, fails_not, is_base_too_long, neither, group_refusal, horizon_in, checked_info, refuse_if)
+tellable_after airs own Step.Stop before allows = grind (arith, sends_then, phase_of, sends)
+tellable_after airs own (Step.Terminate reason) before allows = grind (arith, sends_then, phase_of, sends)
 tellable_after airs own _ before allows = assumption
 
 pub tellable : (airs : Airs) (own : List Step) → Lawful airs own → Tellable own

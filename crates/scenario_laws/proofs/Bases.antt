@@ -1,13 +1,9 @@
 -- The BASE of a source that was started can be announced: each field of it meets its row (Basic Audio Profile 1.0, section
 -- 3.7.2.2).
-use Rattle.scenario_laws.proofs.Prelude.{ℕ, zero, suc, ◌≡◌, ◌<◌, ◌≤◌, ◌+◌, ◌^◌, cond, eqb, ltb, Bool, false, List, [], ◌∷◌, ◌++◌, length, map, Some, None, refl, sym, ◌∙◌, arith, AllByRecursion, range_with_len, ltb-false, ne_eqb, append-nil, list_any-append, IsDraft, is_empty_last, last_of, size_fault, Subgroup, AreNew, EntryFits, IsBase, SubgroupFits, endpoint, is_lc3, lc3, stands_in, GroupLine, base_from}
+use Rattle.scenario_laws.proofs.Known.Sources.Steps.Prelude.{ℕ, zero, suc, ◌≡◌, ◌<◌, ◌≤◌, ◌+◌, ◌^◌, cond, eqb, ltb, Bool, false, List, [], ◌∷◌, ◌++◌, length, map, Some, None, refl, sym, ◌∙◌, arith, AllByRecursion, range_with_len, ltb-false, ne_eqb, append-nil, list_any-append, IsDraft, is_empty_last, last_of, size_fault, Subgroup, AreNew, EntryFits, IsBase, SubgroupFits, endpoint, is_lc3, lc3, stands_in, GroupLine, base_from, entry_bis_of as bis_of, base_encoding as encoding, draft_done, finish_is, plain_is_small, DraftFault}
 use Rattle.std.proofs.lemmas.List.FromFn.{length-map-range_with_len}
 use Rattle.ltv_codec.specs.Layout.{AreLtvs}
-use Rattle.base_grammar.specs.declared.fault.DraftFault.TheVariants as faults
-use Rattle.base_grammar.specs.Layout.{bis_of, encoding}
-use Rattle.base_grammar.proofs.Drafts.{draft_done, finish_is}
 use Rattle.announcement_train.specs.PlainBase.{plain_base_of, plain_entry, plain_subgroup}
-use Rattle.announcement_train.proofs.Citable.{plain_is_small}
 
 -- ---- the BASE of which no line says one
 
@@ -45,7 +41,7 @@ plain_is_base delay n width least most = search (length-map-range_with_len, plai
 
 -- ---- the BASE of lines
 
-finishes : (last : Bool) (octets : ℕ) → last ≡ false → ltb 252 octets ≡ false → size_fault (cond last (Some faults.NoBis) None) octets ≡ None
+finishes : (last : Bool) (octets : ℕ) → last ≡ false → ltb 252 octets ≡ false → size_fault (cond last (Some DraftFault.NoBis) None) octets ≡ None
 finishes last octets some short = cc (some, short)
 
 pub is_base : (group : GroupLine) (subgroups : List Subgroup) → group.delay < 2 ^ 24 → 1 ≤ group.info.num_bis → group.info.num_bis ≤ 31

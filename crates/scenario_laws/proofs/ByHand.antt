@@ -1,10 +1,5 @@
 -- A stay that an announced train begins is the one that `tuned` would begin with the same streams, which are the group's.
-use Rattle.scenario_laws.proofs.Prelude.{ℕ, ◌≡◌, ◌<◌, ◌-◌, ◌^◌, cond, ltb, Bool, true, false, List, [], ◌∷◌, refl, subst, arith, inl, inr, filter, list_any, range_with_len, div-eq_of_lt, pow-le-pow_right, cases_Bool, eqb-true, false≢true, ltb-true, by_numbers, BigSync, is_in, Step, setup_of, Airs, big_sync_on, chosen_steps}
-use Rattle.scenario_text.specs.declared.step.Step.TheVariants as steps
-use Rattle.scenario_history.specs.Refusals.{has_beyond}
-use Rattle.scenario_laws.proofs.Announced.{Announcing, announced_tuning, announced_within}
-use Rattle.scenario_laws.proofs.Legals.{Legal, Permitted}
-use Rattle.scenario_laws.proofs.Moves.{Brings}
+use Rattle.scenario_laws.proofs.Known.Sources.{ℕ, ◌≡◌, ◌<◌, ◌-◌, ◌^◌, cond, ltb, Bool, true, false, List, [], ◌∷◌, refl, subst, arith, inl, inr, filter, list_any, range_with_len, div-eq_of_lt, pow-le-pow_right, cases_Bool, eqb-true, false≢true, ltb-true, by_numbers, BigSync, is_in, Step, setup_of, Airs, big_sync_on, chosen_steps, has_beyond, Announcing, announced_tuning, announced_within, Legal, Permitted, Brings}
 
 -- ---- the streams are those of the group
 
@@ -27,10 +22,10 @@ none_beyond num_bis which small =
 -- ---- as by hand
 
 pub as_by_hand : Announcing → (airs : Airs) (boxes n sink : ℕ) (earlier : List Step) (big_sync : BigSync) → Legal airs boxes earlier
-    → Permitted airs boxes earlier (steps.Announce sink) → Brings n sink earlier big_sync
+    → Permitted airs boxes earlier (Step.Announce sink) → Brings n sink earlier big_sync
     → (by_numbers big_sync ≡ big_sync_on (chosen_steps earlier) big_sync.which) × (has_beyond (setup_of (chosen_steps earlier)).info.num_bis big_sync.which ≡ false)
 as_by_hand laws airs boxes n sink earlier big_sync legal permits brings =
-    let permits_it : Permitted airs boxes earlier (steps.Announce n) = subst (λ m. Permitted airs boxes earlier (steps.Announce m)) (eqb-true sink n brings.0) permits in (
+    let permits_it : Permitted airs boxes earlier (Step.Announce n) = subst (λ m. Permitted airs boxes earlier (Step.Announce m)) (eqb-true sink n brings.0) permits in (
       announced_tuning laws airs boxes n earlier brings.1.made big_sync legal permits_it brings.1.is,
       none_beyond (setup_of (chosen_steps earlier)).info.num_bis big_sync.which (announced_within laws airs boxes n earlier brings.1.made big_sync legal permits_it brings.1.is),
     )

@@ -1,6 +1,5 @@
 -- What is struck of units, by the numbers that they begin at: each entry is of its unit, in order.
-use Rattle.scenario_laws.proofs.Prelude.{ℕ, suc, ◌≡◌, ◌⊎◌, ◌<◌, ◌≤◌, ◌+◌, ◌-◌, ◌/◌, cond, ltb, Bool, true, List, [], ◌∷◌, ◌++◌, length, Option, Some, refl, sym, ◌∙◌, ap, subst, arith, inl, inr, slice_get, AllZip, flat_map, and_parts, ltb-true, none-some, same_Some, zero-add, Handed, valid, lost, Stay, Laying, Timed, AreOf, IsOf, InOrder, Sent, entry_by, entry_of, first_missing, time_of, cases_low, all_zip_append}
-use Rattle.isoal_framed.specs.Struck.{behind, octets_in}
+use Rattle.scenario_laws.proofs.Known.Sources.Steps.Prelude.{ℕ, suc, ◌≡◌, ◌⊎◌, ◌<◌, ◌≤◌, ◌+◌, ◌-◌, ◌/◌, cond, ltb, Bool, true, List, [], ◌∷◌, ◌++◌, length, Option, Some, refl, sym, ◌∙◌, ap, subst, arith, inl, inr, slice_get, AllZip, flat_map, and_parts, ltb-true, none-some, same_Some, zero-add, Handed, valid, lost, Stay, Laying, Timed, AreOf, IsOf, InOrder, Sent, entry_by, entry_of, first_missing, time_of, cases_low, all_zip_append, behind, octets_in}
 use Rattle.scenario_laws.proofs.Closes.{Climb, climb_on}
 
 -- ---- the entry of a unit

@@ -1,11 +1,7 @@
 -- What a source of a framed group sends is its own: the PDUs of the units that its air sends, by payload numbers.
-use Rattle.scenario_laws.proofs.Prelude.{ℕ, zero, suc, ◌≡◌, ◌<◌, ◌≤◌, ◌+◌, ◌-◌, ◌*◌, ◌/◌, List, [], ◌∷◌, ◌++◌, length, map, Some, refl, sym, ◌∙◌, ap, subst, arith, slice_get, unwrap_or, AllZip, range_with_len, option_and_then, add-mul, BigInfo, Group, Bounds, horizon_of, Content, framed, pdu, Air, pdu_at, Fit, InOrder, Sent, parts_at, ahead_of, payload_number, AreAirs, IsAir, pdu_of, Airs, Setup, events, next_of, ahead_within, event_of_number, BigSync, setup_of, source_calls, MeetAirs, AreSent, by_payload}
-use Rattle.source_machine.specs.Calls.{Call as SourceCall}
+use Rattle.scenario_laws.proofs.Known.Sources.{ℕ, zero, suc, ◌≡◌, ◌<◌, ◌≤◌, ◌+◌, ◌-◌, ◌*◌, ◌/◌, List, [], ◌∷◌, ◌++◌, length, map, Some, refl, sym, ◌∙◌, ap, subst, arith, slice_get, unwrap_or, AllZip, range_with_len, option_and_then, add-mul, BigInfo, Group, Bounds, horizon_of, Content, framed, pdu, Air, pdu_at, Fit, InOrder, Sent, parts_at, ahead_of, payload_number, AreAirs, IsAir, pdu_of, Airs, Setup, events, next_of, ahead_within, event_of_number, BigSync, setup_of, source_calls, MeetAirs, AreSent, by_payload, SourceCall, Settled, group_in, settled, events_more, events_in, laid_some}
 use Rattle.scenario_laws.proofs.Below.{Below}
-use Rattle.scenario_laws.proofs.Sources.{Settled, group_in, settled}
-use Rattle.scenario_laws.proofs.Wholes.{events_more}
 use Rattle.scenario_laws.proofs.Hears.{WholeSends, its_airs}
-use Rattle.scenario_laws.proofs.FramedCalls.{events_in, laid_some}
 use Rattle.scenario_laws.proofs.SentUnits.{each_sent, fit_on, order_from, order_on, parts_on}
 
 -- ---- the air of a stream

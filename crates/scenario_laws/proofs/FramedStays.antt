@@ -1,22 +1,5 @@
 -- One stay on a framed stream: what its closed events decide is struck over the units that the source sends.
-use Rattle.scenario_laws.proofs.Prelude.{ℕ, zero, suc, ◌≡◌, ◌<◌, ◌≤◌, ◌+◌, ◌*◌, ◌/◌, ◌==◌, cond, ltb, Bool, true, false, List, [], ◌∷◌, length, map, Option, Some, refl, sym, ◌∙◌, ap, subst, arith, is_some, slice_index_or, unwrap_or, Contains, list_any, add-mul, div-mul-le_self, mul-le-mul, eqb-true, false≢true, ltb-false, or_parts, BigInfo, Group, horizon_of, Stay, opened, decided, heard_in, Fit, Sent, is_heard, struck, segmented, opened_least, AreAirs, Airs, Setup, events, framed_calls, laid_before, next_of, BigSync, of_stream, member_is, stay_on, streams_of, Step, steps_of_source, is_started, setup_of, source_calls, MeetAirs, sink_calls, AreSent, by_payload, IsFramedStruck, air_in, calls_on, handed_since, injected_since, is_tuned, of_sink}
-use Rattle.isoal_base.specs.Hearing.{read_as}
-use Rattle.isoal_base.specs.Stays as stays
-use Rattle.isoal_base.proofs.Citable.{heard_first}
-use Rattle.source_machine.specs.Calls.{Call as SourceCall}
-use Rattle.group_sink.specs.Handing.{handed_since as ticked_since}
-use Rattle.scenario_history.specs.Refusals.{has_beyond}
-use Rattle.scenario_laws.proofs.Announced.{Announcing}
-use Rattle.scenario_laws.proofs.Below.{Below}
-use Rattle.scenario_laws.proofs.Legals.{Legal}
-use Rattle.scenario_laws.proofs.Sources.{Lawful, Settled, are_accepted, bounds_in, group_in, lawful, settled}
-use Rattle.scenario_laws.proofs.Wholes.{Within, events_more, next_in, within_itself}
-use Rattle.scenario_laws.proofs.Stays.{IsOn, OnSource, TunedTo, on_source}
-use Rattle.scenario_laws.proofs.Hears.{all_own, its_airs}
-use Rattle.scenario_laws.proofs.FromSources.{framed_from_source}
-use Rattle.scenario_laws.proofs.Closes.{stay_within}
-use Rattle.scenario_laws.proofs.FramedCalls.{events_in, unit_short}
-use Rattle.scenario_laws.proofs.FramedSends.{FramedWhole, HasAir, framed_sends, has_air, laid_end, laid_of, sent_fit, sent_in_order}
+use Rattle.scenario_laws.proofs.Known.{ℕ, zero, suc, ◌≡◌, ◌<◌, ◌≤◌, ◌+◌, ◌*◌, ◌/◌, ◌==◌, cond, ltb, Bool, true, false, List, [], ◌∷◌, length, map, Option, Some, refl, sym, ◌∙◌, ap, subst, arith, is_some, slice_index_or, unwrap_or, Contains, list_any, add-mul, div-mul-le_self, mul-le-mul, eqb-true, false≢true, ltb-false, or_parts, BigInfo, Group, horizon_of, Stay, opened, decided, heard_in, Fit, Sent, is_heard, struck, segmented, opened_least, AreAirs, Airs, Setup, events, framed_calls, laid_before, next_of, BigSync, of_stream, member_is, stay_on, streams_of, Step, steps_of_source, is_started, setup_of, source_calls, MeetAirs, sink_calls, AreSent, by_payload, IsFramedStruck, air_in, calls_on, handed_since, injected_since, is_tuned, of_sink, read_as, heard_first, SourceCall, ticked_since, has_beyond, Announcing, Below, Legal, Lawful, Settled, are_accepted, bounds_in, group_in, lawful, settled, Within, events_more, next_in, within_itself, IsOn, OnSource, TunedTo, on_source, all_own, its_airs, framed_from_source, stay_within, events_in, unit_short, FramedWhole, HasAir, framed_sends, has_air, laid_end, laid_of, sent_fit, sent_in_order, StayCall}
 
 -- ---- the streams that a sink takes are those of the group
 
@@ -35,7 +18,7 @@ taken_within num_bis which bis none taken = subst (λ b. b ≤ num_bis) taken.2 
 heard_some : {A : Type 0} (o : Option A) → is_some o ≡ true → (x : A) × (o ≡ Some x)
 heard_some o is = grind (arith, false≢true)
 
-pub heard_least : (stay : Stay) (calls : List stays.Call) (number : ℕ) → is_heard stay calls number ≡ true → stay.first ≤ number / stay.info.bn
+pub heard_least : (stay : Stay) (calls : List StayCall) (number : ℕ) → is_heard stay calls number ≡ true → stay.first ≤ number / stay.info.bn
 heard_least stay calls number is =
     let some = heard_some (heard_in stay calls number) is in
     let first = heard_first (read_as segmented stay.info.max_pdu) stay number some.0 calls some.1 in

@@ -1,12 +1,7 @@
 -- What is the source's own is read as what was laid.
-use Rattle.scenario_laws.proofs.Prelude.{ℕ, ◌≡◌, ◌+◌, ltb, List, [], ◌∷◌, ◌++◌, Option, Some, Result, Ok, sym, ◌∙◌, ap, subst, arith, AllByRecursion, none-some, same_Some, Content, PduIs, framed, pdu, Stay, Sent, parts_at, segmented, laid, Slots, air_at, FromSource, unframed}
+use Rattle.scenario_laws.proofs.Known.Sources.Steps.Prelude.{ℕ, ◌≡◌, ◌+◌, ltb, List, [], ◌∷◌, ◌++◌, Option, Some, Result, Ok, sym, ◌∙◌, ap, subst, arith, AllByRecursion, none-some, same_Some, Content, PduIs, framed, pdu, Stay, Sent, parts_at, segmented, laid, Slots, air_at, FromSource, unframed, pdu_read_of as read_of, read_as, taken_of, heard_first, FramedFromSource, StayCall}
 use Rattle.iso_pdu.specs.declared.fault.PduFault.{PduFault}
-use Rattle.iso_pdu.specs.Reading.{read_of}
 use Rattle.iso_pdu.proofs.Citable.{pdu-is, read_of-layout, read_of-encoded}
-use Rattle.isoal_base.specs.Hearing.{read_as, taken_of}
-use Rattle.isoal_base.specs.Stays as stays
-use Rattle.isoal_base.proofs.Citable.{heard_first}
-use Rattle.isoal_framed.specs.Struck.{FromSource as FramedFromSource}
 use Rattle.scenario_laws.proofs.Hears.{Own}
 
 slot_unframed : (max_pdu : ℕ) (slot : Option (List ℕ)) (r : ℕ) → unframed (laid max_pdu slot r) ≡ Some (laid max_pdu slot r)
@@ -31,11 +26,11 @@ all_at : {A : Type 0} (P : A → Type 0) (later : List A) (x : A) (earlier : Lis
 all_at P [] x earlier all = all.0
 all_at P (y ∷ later) x earlier all = all_at P later x earlier all.1
 
-pub from_source : (stay : Stay) (slots : Slots) (calls : List stays.Call) → AllByRecursion (Own (air_at stay slots)) calls → FromSource stay slots calls
+pub from_source : (stay : Stay) (slots : Slots) (calls : List StayCall) → AllByRecursion (Own (air_at stay slots)) calls → FromSource stay slots calls
 from_source stay slots calls all later number octets earlier content is reads =
     cc (same_Some content (air_at stay slots number) (sym (grind (arith, read_own, unframed, air_at, all_at)) ∙ slot_unframed stay.info.max_pdu _ _))
 
-pub framed_from_source : (stay : Stay) (units : List Sent) (calls : List stays.Call) → AllByRecursion (Own (λ number. framed (parts_at units number))) calls → FramedFromSource stay units calls
+pub framed_from_source : (stay : Stay) (units : List Sent) (calls : List StayCall) → AllByRecursion (Own (λ number. framed (parts_at units number))) calls → FramedFromSource stay units calls
 framed_from_source stay units calls all number parts is =
     let first = heard_first (read_as segmented stay.info.max_pdu) stay number parts calls is in
     sym (same_Some (parts_at units number) parts (read_own segmented stay.info.max_pdu (framed (parts_at units number)) parts first.octets

@@ -1,4 +1,4 @@
-mod Prelude
+mod Known
 mod Announced
 mod Announcers
 mod Bases

@@ -1,24 +1,19 @@
 -- Where the history of a sink says that it is on no group, its receivers are on none.
-use Rattle.scenario_laws.proofs.Prelude.{ℕ, ◌≡◌, ◌==◌, cond, Bool, true, false, List, [], ◌∷◌, Option, None, Some, refl, sym, ap, subst, arith, false≢true, none-some, same_Some, with_step, Snapshot, sync_to_group, train_heard, Settings, Train, BigSync, snapshot_goes_on, Call, tune, stepped, has_group, Step, Source, given_train, calls_at, made_of, named_by, own_train, big_sync_of, received_by, train_by, snapshot_in, Airs, sink_calls, with_sink_call, calls_made, source_at, the_world}
+use Rattle.scenario_laws.proofs.Known.Sources.Steps.Prelude.{ℕ, ◌≡◌, ◌==◌, cond, Bool, true, false, List, [], ◌∷◌, Option, None, Some, refl, sym, ap, subst, arith, false≢true, none-some, same_Some, with_step, Snapshot, sync_to_group, train_heard, Settings, Train, BigSync, snapshot_goes_on, Call, tune, stepped, has_group, Step, Source, given_train, calls_at, made_of, named_by, own_train, big_sync_of, received_by, train_by, snapshot_in, Airs, sink_calls, with_sink_call, calls_made, source_at, the_world, place, link_steps_of as steps_of, moved, LinkCall}
 use Rattle.delegator_machine.proofs.Citable.{comes_on}
-use Rattle.group_sink.specs.Calls.{place}
-use Rattle.sink_history.specs.Calls as links
-use Rattle.sink_history.specs.Calls.{steps_of}
-use Rattle.scenario_text.specs.declared.step.Step.TheVariants as steps
-use Rattle.scenario_history.specs.Sinks.{moved}
 use Rattle.scenario_laws.proofs.Places.{air_place, end_place, same_place, tick_if_place}
 
 -- a living sink that is on no group by its history has receivers on none
-abbrev pub Nowhere : Option Settings → List links.Call → List Call → Type 0
+abbrev pub Nowhere : Option Settings → List LinkCall → List Call → Type 0
 Nowhere made lives calls = (m : Settings) → made ≡ Some m → has_group (snapshot_in m lives).place ≡ false → place calls ≡ None
 
 -- ---- a step that synchronizes the sink to a BIG
 
-put_comes : (m : Settings) (big_sync : BigSync) (lives : List links.Call)
+put_comes : (m : Settings) (big_sync : BigSync) (lives : List LinkCall)
     → has_group (snapshot_in m (stepped (sync_to_group big_sync) ∷ lives)).place ≡ true
 put_comes m big_sync lives = ap (λ (s : Snapshot). has_group s.place) (snapshot_goes_on m.setup (sync_to_group big_sync) (steps_of lives))
 
-train_comes : (m : Settings) (train : Train) (lives : List links.Call) (big_sync : BigSync)
+train_comes : (m : Settings) (train : Train) (lives : List LinkCall) (big_sync : BigSync)
     → big_sync_of m (snapshot_in m lives) (Some train) ≡ Some big_sync
     → has_group (snapshot_in m (stepped (train_heard train) ∷ lives)).place ≡ true
 train_comes m train lives big_sync is =
@@ -31,19 +26,19 @@ step_off : (given : Option BigSync) (before later : Snapshot) (calls : List Call
 step_off given before later calls was comes off = grind (arith, false≢true)
 
 -- a group that the line brings is one that the sink is on then
-abbrev Comes : Source → Step → Option Settings → (here there : List links.Call) → Type 0
+abbrev Comes : Source → Step → Option Settings → (here there : List LinkCall) → Type 0
 Comes source step made here there =
     (m : Settings) → (big_sync : BigSync) → made ≡ Some m → big_sync_of m (snapshot_in m here) (train_by source step) ≡ Some big_sync
     → has_group (snapshot_in m there).place ≡ true
 
-received_off : (source : Source) (step : Step) (made : Option Settings) (here there : List links.Call) (calls : List Call)
+received_off : (source : Source) (step : Step) (made : Option Settings) (here there : List LinkCall) (calls : List Call)
     → Comes source step made here there → Nowhere made here calls → Nowhere made there (received_by source step made here there calls)
 received_off source this None here there calls comes before m is off = absurd (none-some m is)
 received_off source this (Some made) here there calls comes before m is off =
     step_off (big_sync_of made (snapshot_in made here) (train_by source this)) (snapshot_in made here) (snapshot_in made there) calls (before made refl) (λ big_sync brought. comes made big_sync refl brought)
     (subst (λ (k : Settings). has_group (snapshot_in k there).place ≡ false) (sym (same_Some made m is)) off)
 
-moved_off : (hit : Bool) (source : Source) (step : Step) (made : Option Settings) (here there later : List links.Call) (calls : List Call)
+moved_off : (hit : Bool) (source : Source) (step : Step) (made : Option Settings) (here there later : List LinkCall) (calls : List Call)
     → cond hit there here ≡ later
     → Comes source step made here there → Nowhere made here calls → Nowhere made later (cond hit (received_by source step made here later calls) calls)
 moved_off true source this made here there later calls is comes before =
@@ -59,36 +54,36 @@ plain_off n named step earlier calls none is before = grind (arith, moved_off, n
 
 -- ---- step by step
 
-gone_off : (gone : Bool) (anew made : Option Settings) (born lives : List links.Call) (calls : List Call) → Nowhere made lives calls
+gone_off : (gone : Bool) (anew made : Option Settings) (born lives : List LinkCall) (calls : List Call) → Nowhere made lives calls
     → Nowhere (cond gone anew made) (cond gone born lives) (cond gone [] calls)
 gone_off gone anew made born lives calls before m is off = grind arith
 
-put_off : (put : Bool) (made : Option Settings) (big_sync : BigSync) (lives : List links.Call) (on : BigSync) (calls : List Call)
+put_off : (put : Bool) (made : Option Settings) (big_sync : BigSync) (lives : List LinkCall) (on : BigSync) (calls : List Call)
     → Nowhere made lives calls → Nowhere made (cond put (stepped (sync_to_group big_sync) ∷ lives) lives) (cond put (tune on ∷ calls) calls)
 put_off put made big_sync lives on calls before m is off = grind (arith, false≢true, put_comes)
 
-hear_off : (named mine : Bool) (made : Option Settings) (lives : List links.Call) (more calls : List Call) → place more ≡ place calls
+hear_off : (named mine : Bool) (made : Option Settings) (lives : List LinkCall) (more calls : List Call) → place more ≡ place calls
     → Nowhere made lives calls → Nowhere made (cond named lives lives) (cond mine more calls)
 hear_off named mine made lives more calls same before m is off = grind (arith, same_place)
 
 off_after : (airs : Airs) (n : ℕ) (step : Step) (earlier : List Step) (calls : List Call) → Nowhere (made_of n earlier) (calls_made n earlier) calls
     → Nowhere (made_of n (step ∷ earlier)) (calls_made n (step ∷ earlier)) (with_sink_call airs n step earlier calls)
-off_after airs n (steps.Sink sink streams slots mtu) earlier calls before = gone_off (sink == n) _ (made_of n earlier) _ (calls_made n earlier) calls before
-off_after airs n (steps.Drop sink) earlier calls before = gone_off (sink == n) None (made_of n earlier) [] (calls_made n earlier) calls before
-off_after airs n (steps.Tuned sink which) earlier calls before = search (put_off)
-off_after airs n (steps.Hear sink back bis subevent) earlier calls before = search (hear_off)
-off_after airs n (steps.Air sink lose) earlier calls before = search (hear_off, air_place)
-off_after airs n (steps.Inject sink back bis subevent octets) earlier calls before = search (hear_off)
-off_after airs n steps.Event earlier calls before = search (tick_if_place)
-off_after airs n steps.Stop earlier calls before = search (tick_if_place)
-off_after airs n (steps.Terminate reason) earlier calls before = search (tick_if_place)
-off_after airs n steps.End earlier calls before = search (end_place)
-off_after airs n (steps.Announce sink) earlier calls before =
-    moved_off (sink == n) (source_at earlier) (steps.Announce sink) (made_of n earlier) (calls_made n earlier)
+off_after airs n (Step.Sink sink streams slots mtu) earlier calls before = gone_off (sink == n) _ (made_of n earlier) _ (calls_made n earlier) calls before
+off_after airs n (Step.Drop sink) earlier calls before = gone_off (sink == n) None (made_of n earlier) [] (calls_made n earlier) calls before
+off_after airs n (Step.Tuned sink which) earlier calls before = search (put_off)
+off_after airs n (Step.Hear sink back bis subevent) earlier calls before = search (hear_off)
+off_after airs n (Step.Air sink lose) earlier calls before = search (hear_off, air_place)
+off_after airs n (Step.Inject sink back bis subevent octets) earlier calls before = search (hear_off)
+off_after airs n Step.Event earlier calls before = search (tick_if_place)
+off_after airs n Step.Stop earlier calls before = search (tick_if_place)
+off_after airs n (Step.Terminate reason) earlier calls before = search (tick_if_place)
+off_after airs n Step.End earlier calls before = search (end_place)
+off_after airs n (Step.Announce sink) earlier calls before =
+    moved_off (sink == n) (source_at earlier) (Step.Announce sink) (made_of n earlier) (calls_made n earlier)
     (stepped (train_heard (own_train (source_at earlier))) ∷ calls_made n earlier) _ calls refl
     (λ m big_sync made_is brought. train_comes m (own_train (source_at earlier)) (calls_made n earlier) big_sync brought) before
-off_after airs n (steps.Train sink time ext adv acad) earlier calls before =
-    moved_off (sink == n) (source_at earlier) (steps.Train sink time ext adv acad) (made_of n earlier) (calls_made n earlier)
+off_after airs n (Step.Train sink time ext adv acad) earlier calls before =
+    moved_off (sink == n) (source_at earlier) (Step.Train sink time ext adv acad) (made_of n earlier) (calls_made n earlier)
     (stepped (train_heard (given_train (source_at earlier) time ext adv acad)) ∷ calls_made n earlier) _ calls refl
     (λ m big_sync made_is brought. train_comes m (given_train (source_at earlier) time ext adv acad) (calls_made n earlier) big_sync brought) before
 off_after airs n step earlier calls before = plain_off n (named_by step) step earlier calls refl refl before

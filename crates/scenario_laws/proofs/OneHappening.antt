@@ -1,34 +1,12 @@
 -- Over two airs that meet the relation of their framing the same happens: relays offer the same units, and source 1 takes the same of
 -- them.
-use Rattle.std.proofs.Common.{arith}
-use Rattle.scenario_laws.proofs.Prelude.{ℕ, ◌≡◌, ◌∙◌, cond, not, Bool, true, false, List, [], ◌∷◌, None, refl, ap, flat_map, option_map, Step, give_fault, Offer, after_offer, after_offers, answered_by, closes_first, dropped_for, handed_of, happened, offered_of, offers_at, with_relayed_unit_unless, with_relayed_units, give_refusal, refusal_of, relay_of, setup_of, source_calls, takes_units, Airs, steps_of_source, AreSaidLegally}
-use Rattle.scenario_history.specs.Boxes.{sink_numbers}
-use Rattle.scenario_history.specs.RelayedUnits.{answered}
-use Rattle.scenario_laws.proofs.RelayedUnits.Citable.{Runs, happens_legally, left_by_offers, line_passes, runs_at, runs_still, unless_legal}
-use Rattle.scenario_laws.proofs.Legals.{Legal}
-use Rattle.scenario_laws.proofs.Sources.{lawful, takes}
-use Rattle.scenario_laws.proofs.TwoAirs.{Both, Twice, closing_same, in_order, its_same, legal_too}
+use Rattle.scenario_laws.proofs.Known.{arith, ℕ, ◌≡◌, ◌∙◌, cond, not, Bool, true, false, List, [], ◌∷◌, None, refl, ap, flat_map, option_map, Step, give_fault, Offer, after_offer, after_offers, answered_by, closes_first, dropped_for, handed_of, happened, offered_of, offers_at, with_relayed_unit_unless, with_relayed_units, give_refusal, refusal_of, relay_of, setup_of, source_calls, takes_units, Airs, steps_of_source, AreSaidLegally, sink_numbers, answered, Runs, happens_legally, left_by_offers, line_passes, runs_at, runs_still, unless_legal, Legal, lawful, takes, Both, Twice, closing_same, in_order, its_same, legal_too}
 
 -- ---- units that are offered
 
 dropped_same : (airs others : Airs) → Both airs others → (boxes : ℕ) (offer : Offer) (made : List Step) → Twice airs others boxes made
     → dropped_for airs offer made ≡ dropped_for others offer made
-dropped_same airs others both boxes offer made twice =
-    grind (
-      arith,
-      steps_of_source,
-      in_order,
-      not,
-      takes_units,
-      option_map,
-      give_refusal,
-      give_fault,
-      setup_of,
-      source_calls,
-      its_same,
-      lawful,
-      takes,
-    )
+dropped_same airs others both boxes offer made twice = grind (arith, in_order, not, its_same, lawful, takes)
 
 offers_same : (airs others : Airs) → Both airs others → (boxes : ℕ) (made : List Step) → Legal airs boxes made
     → offers_at airs made ≡ offers_at others made

@@ -1,16 +1,7 @@
 -- Two airs that meet the relation of their framing give one transcript: no step, no line and no text tells them apart.
-use Rattle.scenario_laws.proofs.Prelude.{ℕ, ◌≡◌, ◌+◌, ◌==◌, cond, true, List, [], ◌∷◌, ◌++◌, length, Option, None, refl, sym, ◌∙◌, ap, subst, arith, TextLine, Account, Accepted, End, accepted_of, accepted_unless, end_unless, out, out_unless, AreAirs, stale_of, Airs, event_fault, Step, Refusal, chosen_of, chosen_steps, is_started, setup_of, source_calls, stale_in, MeetAirs, answered_by, closing_both, handed_up, line_refusal, refusal_of, close_lines, first_lines, output_of, sums_of, unit_lines, handed_said, output_said, refusal_said, rules_of, steps_of, end_after, out_of, transcript_end, transcript_of, units_of}
-use Rattle.scenario_history.specs.Runs.{end_of}
-use Rattle.source_machine.specs.Calls.{event as perform}
-use Rattle.scenario_text.specs.declared.step.Step.TheVariants as steps
-use Rattle.scenario_history.specs.Boxes.{closing}
-use Rattle.scenario_history.specs.Lines.{Said, handed_on, said_after}
-use Rattle.scenario_laws.proofs.RelayedUnits.Citable.{line_passes}
-use Rattle.scenario_laws.proofs.Legals.{Legal, LinesInRange, legal, permitted, said_legally}
+use Rattle.scenario_laws.proofs.Known.{ℕ, ◌≡◌, ◌+◌, ◌==◌, cond, true, List, [], ◌∷◌, ◌++◌, length, Option, None, refl, sym, ◌∙◌, ap, subst, arith, TextLine, Account, Accepted, End, accepted_of, accepted_unless, end_unless, out, out_unless, AreAirs, stale_of, Airs, event_fault, Step, Refusal, chosen_of, chosen_steps, is_started, setup_of, source_calls, stale_in, MeetAirs, answered_by, closing_both, handed_up, line_refusal, refusal_of, close_lines, first_lines, output_of, sums_of, unit_lines, handed_said, output_said, refusal_said, rules_of, steps_of, end_after, out_of, transcript_end, transcript_of, units_of, end_of, event as perform, closing, Said, line_handed_on as handed_on, said_after, line_passes, Legal, LinesInRange, legal, permitted, said_legally, Lawful, are_accepted, checked, group_in, hears, lawful, no_end, settled, takes, Both, Twice, closing_both_same, closing_same, handed_same, handed_up_same, legal_too, pdu_same, refusal_same, sink_same}
 use Rattle.scenario_laws.proofs.OneHappening.{answers_same, happened_same}
-use Rattle.scenario_laws.proofs.Sources.{Lawful, are_accepted, checked, group_in, hears, lawful, no_end, settled, takes}
-use Rattle.scenario_laws.proofs.TwoAirs.{Both, Twice, chosen_same, closing_both_same, closing_same, handed_same, handed_up_same, legal_too}
-use Rattle.scenario_laws.proofs.TwoAirs.{pdu_same, refusal_same, sink_same}
+use Rattle.scenario_laws.proofs.TwoAirs.{chosen_same}
 
 -- ---- what is printed
 
@@ -20,11 +11,11 @@ performed_airs : (airs : Airs) → MeetAirs airs → (own : List Step) → Lawfu
 performed_airs airs meets own legal started none =
     meets.meet (group_in own (settled airs own legal) started) (setup_of own) (perform ∷ source_calls own) refl (are_accepted airs own legal, none)
 
-stale_same : (airs others : Airs) → Both airs others → (boxes : ℕ) (made : List Step) → Twice airs others boxes made → refusal_of airs boxes made steps.Event ≡ None
+stale_same : (airs others : Airs) → Both airs others → (boxes : ℕ) (made : List Step) → Twice airs others boxes made → refusal_of airs boxes made Step.Event ≡ None
     → stale_in airs (chosen_steps made) ≡ stale_in others (chosen_steps made)
 stale_same airs others both boxes made twice none =
     let own : List Step = chosen_steps made in
-    let permits = permitted airs boxes made steps.Event none in
+    let permits = permitted airs boxes made Step.Event none in
     let started : is_started own ≡ true = takes own permits.in_phase in
     let goes_on : event_fault (setup_of own) (source_calls own) ≡ None = no_end (event_fault (setup_of own) (source_calls own)) permits.by_source in
     let legal_here : Lawful airs own = lawful airs boxes (chosen_of made) made twice.here in
@@ -46,18 +37,18 @@ close_same airs others both boxes made step legal none =
     (closing_same airs others both boxes (chosen_of made) made legal)
 
 ends_same : (airs others : Airs) → Both airs others → (starts : List Account) (made : List Step) → Legal airs (length starts) made
-    → refusal_of airs (length starts) made steps.End ≡ None → output_of airs starts made steps.End ≡ output_of others starts made steps.End
+    → refusal_of airs (length starts) made Step.End ≡ None → output_of airs starts made Step.End ≡ output_of others starts made Step.End
 ends_same airs others both starts made legal none =
     let boxes = length starts in
     ap (λ answers. first_lines (closing airs 0 made) answers
     ++ (unit_lines (closing airs 1 made) ++ sums_of starts (handed_up airs made ++ closing_both airs made) made))
-    (answers_same airs others both boxes made steps.End legal none) ∙ ap (λ us. first_lines us (answered_by others made steps.End)
+    (answers_same airs others both boxes made Step.End legal none) ∙ ap (λ us. first_lines us (answered_by others made Step.End)
     ++ (unit_lines (closing airs 1 made) ++ sums_of starts (handed_up airs made ++ closing_both airs made) made))
-    (closing_same airs others both boxes 0 made legal) ∙ ap (λ us. first_lines (closing others 0 made) (answered_by others made steps.End)
+    (closing_same airs others both boxes 0 made legal) ∙ ap (λ us. first_lines (closing others 0 made) (answered_by others made Step.End)
     ++ (unit_lines us ++ sums_of starts (handed_up airs made ++ closing_both airs made) made))
-    (closing_same airs others both boxes 1 made legal) ∙ ap (λ us. first_lines (closing others 0 made) (answered_by others made steps.End)
+    (closing_same airs others both boxes 1 made legal) ∙ ap (λ us. first_lines (closing others 0 made) (answered_by others made Step.End)
     ++ (unit_lines (closing others 1 made) ++ sums_of starts (us ++ closing_both airs made) made))
-    (handed_up_same airs others both boxes made legal) ∙ ap (λ us. first_lines (closing others 0 made) (answered_by others made steps.End)
+    (handed_up_same airs others both boxes made legal) ∙ ap (λ us. first_lines (closing others 0 made) (answered_by others made Step.End)
     ++ (unit_lines (closing others 1 made) ++ sums_of starts (handed_up others made ++ us) made))
     (closing_both_same airs others both boxes made legal)
 

@@ -1,6 +1,5 @@
 -- The group that the receivers of a sink are on, before a line of the air and after it: the same.
-use Rattle.scenario_laws.proofs.Prelude.{ℕ, zero, suc, ◌≡◌, cond, Bool, List, Option, refl, ◌∙◌, arith, Call, hear, Step, Airs, heard_on_air, ticked_if, unless_lost}
-use Rattle.group_sink.specs.Calls.{place}
+use Rattle.scenario_laws.proofs.Known.Sources.Steps.Prelude.{ℕ, zero, suc, ◌≡◌, cond, Bool, List, Option, refl, ◌∙◌, arith, Call, hear, Step, Airs, heard_on_air, ticked_if, unless_lost, place}
 
 pub same_place : (mine : Bool) (more calls : List Call) → place more ≡ place calls → place (cond mine more calls) ≡ place calls
 same_place mine more calls is = grind arith

@@ -1,9 +1,6 @@
 -- What a source of an unframed group sends is its own, by division.
-use Rattle.scenario_laws.proofs.Prelude.{ℕ, ◌≡◌, ◌<◌, ◌≤◌, true, List, [], ◌++◌, Some, refl, sym, ◌∙◌, ap, subst, arith, unwrap_or, Group, pdu, Air, air_at, payload_number, AreAirs, airs_of, content_at, pdu_of, slots_of, Airs, Setup, next_of, IsChecked, BigSync, stay_on, Step, setup_of, source_calls, is_started, MeetAirs}
-use Rattle.source_machine.specs.Calls.{Call as SourceCall}
+use Rattle.scenario_laws.proofs.Known.Sources.{ℕ, ◌≡◌, ◌<◌, ◌≤◌, true, List, [], ◌++◌, Some, refl, sym, ◌∙◌, ap, subst, arith, unwrap_or, Group, pdu, Air, air_at, payload_number, AreAirs, airs_of, content_at, pdu_of, slots_of, Airs, Setup, next_of, IsChecked, BigSync, stay_on, Step, setup_of, source_calls, is_started, MeetAirs, SourceCall, Lawful, Settled, checked, group_in, settled, Extends, Within, events_more}
 use Rattle.scenario_laws.proofs.Below.{Below}
-use Rattle.scenario_laws.proofs.Sources.{Lawful, Settled, checked, group_in, settled}
-use Rattle.scenario_laws.proofs.Wholes.{Extends, Within, events_more}
 use Rattle.scenario_laws.proofs.Hears.{SendsOwn, its_airs}
 
 own_pdu : Below → (group : Group) (setup : Setup) (whole calls : List SourceCall) (airs : List Air) → Extends whole calls → AreAirs setup calls airs → (event bis subevent : ℕ)

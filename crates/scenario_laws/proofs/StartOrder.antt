@@ -1,19 +1,10 @@
 -- The entries of a framed stream over all stays of a sink with a source, whatever was injected: each is of a start that was heard
 -- in its stay, in the order of these starts.
-use Rattle.scenario_laws.proofs.Prelude.{ℕ, ◌≡◌, ◌<◌, ◌≤◌, ◌*◌, ◌/◌, ◌||◌, is_some, Bool, false, List, [], ◌∷◌, ◌++◌, refl, sym, ◌∙◌, ap, subst, arith, inl, inr, append_assoc, AllZip, Contains, list_any, div-mul-le_self, mul-le-mul, cases_Bool, append-nil, list_any-append, BigInfo, Handed, opened, decided, closed_end, opened_least, Setup, next_of, BigSync, of_stream, is_in, stay_on, streams_of, is_member, member_is, Step, steps_of_source, setup_of, source_calls, Airs, sink_calls, Closed, InStartOrder, IsOfStart, SegmentPlace, calls_on, given_since_made, is_given, is_made, is_tuned, shown_since, all_zip_append}
-use Rattle.isoal_base.specs.Stays as stays
-use Rattle.source_machine.specs.Calls.{Call as SourceCall}
-use Rattle.group_sink.specs.Handing.{handed_since as ticked_since}
-use Rattle.scenario_laws.proofs.Below.{Below}
-use Rattle.scenario_laws.proofs.Legals.{Legal}
-use Rattle.scenario_laws.proofs.Sources.{true_not_false}
-use Rattle.scenario_laws.proofs.Wholes.{Within, next_in, within_before, within_itself}
-use Rattle.scenario_laws.proofs.Stays.{IsOn, OnSource, TunedTo, on_source, rest_not}
+use Rattle.scenario_laws.proofs.Known.{ℕ, ◌≡◌, ◌<◌, ◌≤◌, ◌*◌, ◌/◌, ◌||◌, is_some, Bool, false, List, [], ◌∷◌, ◌++◌, refl, sym, ◌∙◌, ap, subst, arith, inl, inr, append_assoc, AllZip, Contains, list_any, div-mul-le_self, mul-le-mul, cases_Bool, append-nil, list_any-append, BigInfo, Handed, opened, decided, closed_end, opened_least, Setup, next_of, BigSync, of_stream, is_in, stay_on, streams_of, is_member, member_is, Step, steps_of_source, setup_of, source_calls, Airs, sink_calls, Closed, InStartOrder, IsOfStart, SegmentPlace, calls_on, given_since_made, is_given, is_made, is_tuned, shown_since, all_zip_append, SourceCall, ticked_since, Below, Legal, true_not_false, Within, next_in, within_before, within_itself, IsOn, OnSource, TunedTo, on_source, rest_not, OverStay, Turns, closed_from, StayCall}
 use Rattle.scenario_laws.proofs.Starts.{AtStart, Behind, RiseTo, are_in_order, behind_below, decided_told, rise_more, rise_on}
 use Rattle.scenario_laws.proofs.UnitsLaw.{since}
 use Rattle.scenario_laws.proofs.FramedStays.{heard_least, next_of_whole, opened_within, stay_on_whole}
 use Rattle.scenario_laws.proofs.UnitOrder.{event_below, start_time_is}
-use Rattle.scenario_laws.proofs.StaysInTurn.{OverStay, Turns, closed_from}
 use Rattle.scenario_laws.proofs.Turning.{over_stays}
 
 -- ---- the steps so far, as a part of all steps
@@ -61,7 +52,7 @@ one_start : (airs : Airs) (all : List Step) (s n bis : ℕ) (made : List Step) (
     → at.number < closed_end (stay_on tuning bis) (calls_on airs made n tuning bis) → AtStart (stay_on tuning bis) (calls_on airs made n tuning bis) at entry
     → IsOfStart airs all s n bis at entry
 one_start airs all s n bis made tuning at entry stay below starts =
-    let calls : List stays.Call = calls_on airs made n tuning bis in
+    let calls : List StayCall = calls_on airs made n tuning bis in
     let event : ℕ = at.number / tuning.info.bn in
     let bn_is : tuning.info.bn ≡ (setup_in all s).info.bn = ap (λ (i : BigInfo). i.bn) stay.to.info in
     let first_event : tuning.first ≤ event = heard_least (stay_on tuning bis) calls at.number (ap is_some starts.heard) in
@@ -141,7 +132,7 @@ over below airs boxes s n bis all source_within sink_within least greatest is_fr
     let on : OnSource own tuning = on_source below.announcing airs boxes s n made tuning fine.legal_is is in
     let to : TunedTo (setup_in all s) tuning = stay_on_whole below.announcing airs boxes s n (setup_in all s) (calls_in all s) made tuning fine.legal_is fine.within is in
     let bn_is : tuning.info.bn ≡ bn = ap (λ (i : BigInfo). i.bn) to.info in
-    let calls : List stays.Call = calls_on airs made n tuning bis in
+    let calls : List StayCall = calls_on airs made n tuning bis in
     let opens : opened (stay_on tuning bis) calls ≤ next_in own = opened_within below airs boxes s n bis made tuning fine.legal_is source_within is in
     let first_opens : tuning.first ≤ opened (stay_on tuning bis) calls = opened_least (stay_on tuning bis) calls in
     let shown : shown_since (is_tuned n) airs s n bis made ≡ of_stream bis (ticked_since (sink_calls airs n made)) =

@@ -1,8 +1,5 @@
 -- The entries that a stay on a framed stream decides, each of a start that was heard in it, in the order of these starts.
-use Rattle.scenario_laws.proofs.Prelude.{ℕ, zero, suc, ◌≡◌, ◌<◌, ◌≤◌, ◌+◌, ◌-◌, ◌*◌, ◌/◌, Bool, List, [], ◌∷◌, ◌++◌, map, Option, Some, None, refl, sym, ◌∙◌, ap, subst, arith, inl, inr, append_assoc, slice_get, AllZip, flat_map, range_with_len, add-mul, zero-add, div-mul-add, Part, start, Handed, Stay, opened, decided, event_tokens, heard_in, closed_end, Token, time_of, token_of, tokens_of, Fate, whole, broken, undecided, fate_at, units, opened_least, bis_of, AreInOrder, IsBefore, SegmentPlace, all_zip_append, time_in}
-use Rattle.iso_pdu.specs.Layout.{more as further}
-use Rattle.isoal_base.specs.Stays as stays
-use Rattle.isoal_framed.specs.Units.{handed_of}
+use Rattle.scenario_laws.proofs.Known.Sources.Steps.Prelude.{ℕ, zero, suc, ◌≡◌, ◌<◌, ◌≤◌, ◌+◌, ◌-◌, ◌*◌, ◌/◌, Bool, List, [], ◌∷◌, ◌++◌, map, Option, Some, None, refl, sym, ◌∙◌, ap, subst, arith, inl, inr, append_assoc, slice_get, AllZip, flat_map, range_with_len, add-mul, zero-add, div-mul-add, Part, start, Handed, Stay, opened, decided, event_tokens, heard_in, closed_end, Token, time_of, token_of, tokens_of, Fate, whole, broken, undecided, fate_at, units, opened_least, bis_of, AreInOrder, IsBefore, SegmentPlace, all_zip_append, time_in, more as further, framed_handed_of as handed_of, StayCall}
 
 -- ---- places in order, between two payload numbers
 
@@ -51,7 +48,7 @@ are_in_order low places high rise = grind (arith, behind_order)
 -- ---- the entries of a PDU
 
 -- the entry is of the start that the stay heard at this place
-pub record AtStart (stay : Stay) (calls : List stays.Call) (at : SegmentPlace) (entry : Handed) : Type 0 where
+pub record AtStart (stay : Stay) (calls : List StayCall) (at : SegmentPlace) (entry : Handed) : Type 0 where
   pub stream : bis_of entry ≡ stay.bis
   pub parts : List Part
   pub heard : heard_in stay calls at.number ≡ Some parts
@@ -75,21 +72,21 @@ within_behind number at [] here within = omega (arith, here)
 within_behind number at (next ∷ places) here within = (inr (omega (arith, here, within.0), omega (arith, within.1)), within_behind number next places within.0 within.2)
 
 -- entries with their places in a PDU
-record InPdu (stay : Stay) (calls : List stays.Call) (number segment : ℕ) (entries : List Handed) : Type 0 where
+record InPdu (stay : Stay) (calls : List StayCall) (number segment : ℕ) (entries : List Handed) : Type 0 where
   places : List SegmentPlace
   order : Within number segment places
   each : AllZip (AtStart stay calls) places entries
 
-none_in : (stay : Stay) (calls : List stays.Call) (number segment : ℕ) (entries : List Handed) → InPdu stay calls number (segment + 1) entries → InPdu stay calls number segment entries
+none_in : (stay : Stay) (calls : List StayCall) (number segment : ℕ) (entries : List Handed) → InPdu stay calls number (segment + 1) entries → InPdu stay calls number segment entries
 none_in stay calls number segment entries rest = grind (arith, within_from)
 
-one_in : (stay : Stay) (calls : List stays.Call) (number segment : ℕ) (entry : Handed) (entries : List Handed) → AtStart stay calls (record { number = number; segment = segment }) entry
+one_in : (stay : Stay) (calls : List StayCall) (number segment : ℕ) (entry : Handed) (entries : List Handed) → AtStart stay calls (record { number = number; segment = segment }) entry
     → InPdu stay calls number (segment + 1) entries → InPdu stay calls number segment (entry ∷ entries)
 one_in stay calls number segment entry entries is rest =
     record { places = record { number = number; segment = segment } ∷ rest.places; order = (refl, omega arith, rest.order); each = (is, rest.each) }
 
 -- a start at this place
-record StartsAt (stay : Stay) (calls : List stays.Call) (number segment offset time : ℕ) : Type 0 where
+record StartsAt (stay : Stay) (calls : List StayCall) (number segment offset time : ℕ) : Type 0 where
   parts : List Part
   heard : heard_in stay calls number ≡ Some parts
   complete : Bool
@@ -97,22 +94,22 @@ record StartsAt (stay : Stay) (calls : List stays.Call) (number segment offset t
   is_start : slice_get parts segment ≡ Some (start offset complete octets)
   time_is : time ≡ time_of stay (number / stay.info.bn) offset
 
-at_start : (stay : Stay) (calls : List stays.Call) (number segment offset time : ℕ) (entry : Handed) → StartsAt stay calls number segment offset time → bis_of entry ≡ stay.bis
+at_start : (stay : Stay) (calls : List StayCall) (number segment offset time : ℕ) (entry : Handed) → StartsAt stay calls number segment offset time → bis_of entry ≡ stay.bis
     → time_in entry ≡ time → AtStart stay calls (record { number = number; segment = segment }) entry
 at_start stay calls number segment offset time entry starts stream same = search arith
 
-by_fate : (stay : Stay) (calls : List stays.Call) (number segment offset time : ℕ) (fate : Fate) (entries : List Handed) → StartsAt stay calls number segment offset time
+by_fate : (stay : Stay) (calls : List StayCall) (number segment offset time : ℕ) (fate : Fate) (entries : List Handed) → StartsAt stay calls number segment offset time
     → InPdu stay calls number (segment + 1) entries → InPdu stay calls number segment (handed_of stay.bis time fate ++ entries)
 by_fate stay calls number segment offset time (whole octets) entries starts rest = search (one_in, at_start)
 by_fate stay calls number segment offset time broken entries starts rest = search (one_in, at_start)
 by_fate stay calls number segment offset time (undecided octets) entries starts rest = none_in stay calls number segment entries rest
 
 -- what these segments of a PDU, from one on, give in front of other tokens
-abbrev PduGives : Stay → List stays.Call → ℕ → ℕ → ℕ → List Token → List Token → Type 0
+abbrev PduGives : Stay → List StayCall → ℕ → ℕ → ℕ → List Token → List Token → Type 0
 PduGives stay calls max_sdu number segment tokens rest =
     (own : List Handed) × (units max_sdu stay.bis (tokens ++ rest) ≡ own ++ units max_sdu stay.bis rest) × InPdu stay calls number segment own
 
-pdu_gives : (stay : Stay) (calls : List stays.Call) (max_sdu event number : ℕ) (all : List Part) → heard_in stay calls number ≡ Some all → event ≡ number / stay.info.bn
+pdu_gives : (stay : Stay) (calls : List StayCall) (max_sdu event number : ℕ) (all : List Part) → heard_in stay calls number ≡ Some all → event ≡ number / stay.info.bn
     → (segment : ℕ) (parts : List Part) → ((i : ℕ) → slice_get all (segment + i) ≡ slice_get parts i) → (rest : List Token)
     → PduGives stay calls max_sdu number segment (map (token_of stay event) parts) rest
 pdu_gives stay calls max_sdu event number all heard of_event segment [] at rest = ([], refl, record { places = []; order = tt; each = tt })
@@ -135,7 +132,7 @@ pdu_gives stay calls max_sdu event number all heard of_event segment (further co
     let later = pdu_gives stay calls max_sdu event number all heard of_event (segment + 1) parts (λ i. ap (slice_get all) (omega arith) ∙ at (suc i)) rest in
     (later.0, later.1, none_in stay calls number segment later.0 later.2)
 
-number_gives : (stay : Stay) (calls : List stays.Call) (max_sdu event number : ℕ) (heard : Option (List Part)) → heard_in stay calls number ≡ heard → event ≡ number / stay.info.bn
+number_gives : (stay : Stay) (calls : List StayCall) (max_sdu event number : ℕ) (heard : Option (List Part)) → heard_in stay calls number ≡ heard → event ≡ number / stay.info.bn
     → (rest : List Token) → PduGives stay calls max_sdu number 0 (tokens_of stay event heard) rest
 number_gives stay calls max_sdu event number None is of_event rest = ([], refl, record { places = []; order = tt; each = tt })
 number_gives stay calls max_sdu event number (Some parts) is of_event rest = search (pdu_gives, zero-add)
@@ -143,32 +140,32 @@ number_gives stay calls max_sdu event number (Some parts) is of_event rest = sea
 -- ---- the entries of events
 
 -- entries with their places, in PDUs between two numbers
-pub record Told (stay : Stay) (calls : List stays.Call) (low high : ℕ) (entries : List Handed) : Type 0 where
+pub record Told (stay : Stay) (calls : List StayCall) (low high : ℕ) (entries : List Handed) : Type 0 where
   pub places : List SegmentPlace
   pub rise : RiseTo low places high
   pub each : AllZip (AtStart stay calls) places entries
 
-none_told : (stay : Stay) (calls : List stays.Call) (low high : ℕ) → low ≤ high → Told stay calls low high []
+none_told : (stay : Stay) (calls : List StayCall) (low high : ℕ) → low ≤ high → Told stay calls low high []
 none_told stay calls low high least = record { places = []; rise = least; each = tt }
 
-told_on : (stay : Stay) (calls : List stays.Call) (low middle high : ℕ) (xs ys : List Handed) → Told stay calls low middle xs → Told stay calls middle high ys → Told stay calls low high (xs ++ ys)
+told_on : (stay : Stay) (calls : List StayCall) (low middle high : ℕ) (xs ys : List Handed) → Told stay calls low middle xs → Told stay calls middle high ys → Told stay calls low high (xs ++ ys)
 told_on stay calls low middle high xs ys first rest = record {
   places = first.places ++ rest.places;
   rise = rise_on low first.places middle rest.places high first.rise rest.rise;
   each = all_zip_append (AtStart stay calls) first.places rest.places xs ys first.each rest.each;
 }
 
-pdu_told : (stay : Stay) (calls : List stays.Call) (number : ℕ) (entries : List Handed) → InPdu stay calls number 0 entries → Told stay calls number (number + 1) entries
+pdu_told : (stay : Stay) (calls : List StayCall) (number : ℕ) (entries : List Handed) → InPdu stay calls number 0 entries → Told stay calls number (number + 1) entries
 pdu_told stay calls number entries pdu = grind (arith, within_behind)
 
 -- what so many PDUs of an event give in front of other tokens
-abbrev NumbersGive : Stay → List stays.Call → ℕ → ℕ → ℕ → ℕ → List Token → Type 0
+abbrev NumbersGive : Stay → List StayCall → ℕ → ℕ → ℕ → ℕ → List Token → Type 0
 NumbersGive stay calls max_sdu event number count rest =
     (own : List Handed)
     × (units max_sdu stay.bis (flat_map (λ n. tokens_of stay event (heard_in stay calls n)) (range_with_len number count) ++ rest) ≡ own ++ units max_sdu stay.bis rest)
     × Told stay calls number (number + count) own
 
-numbers_give : (stay : Stay) (calls : List stays.Call) (max_sdu event number count : ℕ) → ((n : ℕ) → number ≤ n → n < number + count → event ≡ n / stay.info.bn) → (rest : List Token)
+numbers_give : (stay : Stay) (calls : List StayCall) (max_sdu event number count : ℕ) → ((n : ℕ) → number ≤ n → n < number + count → event ≡ n / stay.info.bn) → (rest : List Token)
     → NumbersGive stay calls max_sdu event number count rest
 numbers_give stay calls max_sdu event number zero of_event rest = ([], refl, none_told stay calls number (number + 0) (omega arith))
 numbers_give stay calls max_sdu event number (suc count) of_event rest =
@@ -185,7 +182,7 @@ numbers_give stay calls max_sdu event number (suc count) of_event rest =
 event_of : (bn event number : ℕ) → event * bn ≤ number → number < event * bn + bn → event ≡ number / bn
 event_of bn event number least below = grind (arith, div-mul-add)
 
-events_told : (stay : Stay) (calls : List stays.Call) (max_sdu first count : ℕ)
+events_told : (stay : Stay) (calls : List StayCall) (max_sdu first count : ℕ)
     → Told stay calls (first * stay.info.bn) ((first + count) * stay.info.bn) (units max_sdu stay.bis (flat_map (event_tokens stay calls) (range_with_len first count)))
 events_told stay calls max_sdu first zero = grind (arith, none_told)
 events_told stay calls max_sdu first (suc count) =
@@ -200,5 +197,5 @@ events_told stay calls max_sdu first (suc count) =
     (subst (λ e. Told stay calls ((first + 1) * bn) (e * bn) (units max_sdu stay.bis others)) end (events_told stay calls max_sdu (first + 1) count))))
 
 -- what a stay decides is of starts that it heard, in PDUs of its closed events
-pub decided_told : (stay : Stay) (calls : List stays.Call) → Told stay calls (stay.first * stay.info.bn) (closed_end stay calls) (decided stay calls)
+pub decided_told : (stay : Stay) (calls : List StayCall) → Told stay calls (stay.first * stay.info.bn) (closed_end stay calls) (decided stay calls)
 decided_told stay calls = grind (arith, opened, opened_least, decided, events_told)

@@ -1,16 +1,9 @@
 -- One stay after the other: what holds of the events and the entries of the earlier stays of a sink with a source, and goes on
 -- over one stay, holds of all of them.
-use Rattle.scenario_laws.proofs.Prelude.{ℕ, ◌≡◌, ◌⊎◌, ◌≤◌, ◌==◌, cond, Bool, true, false, List, [], ◌∷◌, ◌++◌, Option, None, Some, refl, sym, ◌∙◌, ap, subst, arith, inl, inr, append_assoc, eqb-true, false≢true, append-nil, none-some, Handed, Call, tune, BigSync, of_stream, Step, chosen_of, chosen_steps, steps_of_source, Airs, is_of, sink_calls, source_of, SinkUnit, handed_by, Closed, closed_by, closed_in, closed_since, given_since_made, handed_since, is_given, is_made, is_tuned, of_sink, shown_since}
-use Rattle.group_sink.specs.Calls.{place}
-use Rattle.scenario_laws.specs.Laws.{closed_if}
-use Rattle.scenario_laws.proofs.Announced.{Announcing}
-use Rattle.scenario_laws.proofs.Legals.{Legal}
-use Rattle.scenario_laws.proofs.Wholes.{next_in}
+use Rattle.scenario_laws.proofs.Known.Sources.{ℕ, ◌≡◌, ◌⊎◌, ◌≤◌, ◌==◌, cond, Bool, true, false, List, [], ◌∷◌, ◌++◌, Option, None, Some, refl, sym, ◌∙◌, ap, subst, arith, inl, inr, append_assoc, eqb-true, false≢true, append-nil, none-some, Handed, Call, tune, BigSync, of_stream, Step, chosen_of, chosen_steps, steps_of_source, Airs, is_of, sink_calls, source_of, SinkUnit, handed_by, Closed, closed_by, closed_in, closed_since, given_since_made, handed_since, is_given, is_made, is_tuned, of_sink, shown_since, place, closed_if, Announcing, Legal, next_in, shown_if, step_shown, is_its}
 use Rattle.scenario_laws.proofs.Stays.{IsOn, on_since_made}
-use Rattle.scenario_laws.proofs.Closings.{shown_if, step_shown}
 use Rattle.scenario_laws.proofs.Closes.{mine_in, stay_if}
 use Rattle.scenario_laws.proofs.Shown.{shown_on}
-use Rattle.scenario_laws.proofs.Ticks.{is_its}
 
 -- ---- the stay that goes on, and what came before it
 

@@ -1,12 +1,5 @@
 -- Step by step, the stays of a sink with a source, one after the other.
-use Rattle.scenario_laws.proofs.Prelude.{ℕ, ◌≡◌, cond, Bool, true, false, List, [], ◌∷◌, ◌++◌, Option, None, Some, refl, sym, ap, subst, inl, inr, cases_Bool, false≢true, none-some, Handed, BigSync, Step, steps_of_source, Airs, sink_calls, SinkUnit, handed_by, Closed, closed_by, closed_since, given_since_made, handed_since, is_given, is_made, is_tuned, shown_since}
-use Rattle.group_sink.specs.Calls.{place}
-use Rattle.scenario_laws.proofs.Legals.{permitted}
-use Rattle.scenario_laws.proofs.Becoming.{becomes, puts_first}
-use Rattle.scenario_laws.proofs.Wholes.{next_in, next_rises}
-use Rattle.scenario_laws.proofs.Stays.{last_not}
-use Rattle.scenario_laws.proofs.Closes.{made_nothing, mine_in}
-use Rattle.scenario_laws.proofs.StaysInTurn.{Before, InTurn, InTurnAt, Turns, all_closed, at_end, closed_from, here_at, no_stay, off_turn, put_turn, still_turn}
+use Rattle.scenario_laws.proofs.Known.{ℕ, ◌≡◌, cond, Bool, true, false, List, [], ◌∷◌, ◌++◌, Option, None, Some, refl, sym, ap, subst, inl, inr, cases_Bool, false≢true, none-some, Handed, BigSync, Step, steps_of_source, Airs, sink_calls, SinkUnit, handed_by, Closed, closed_by, closed_since, given_since_made, handed_since, is_given, is_made, is_tuned, shown_since, place, permitted, becomes, puts_first, next_in, next_rises, last_not, made_nothing, mine_in, Before, InTurn, InTurnAt, Turns, all_closed, at_end, closed_from, here_at, no_stay, off_turn, put_turn, still_turn}
 
 -- ---- one step
 

@@ -1,23 +1,8 @@
 -- The entries of a framed stream over all stays of a sink with a source: each is of a unit that the source accepted, in order.
-use Rattle.scenario_laws.proofs.Prelude.{ℕ, suc, ◌≡◌, ◌⊎◌, ◌<◌, ◌≤◌, ◌+◌, ◌-◌, ◌*◌, ◌/◌, true, false, List, [], ◌∷◌, ◌++◌, map, Some, refl, sym, ◌∙◌, ap, subst, arith, inl, inr, slice_get, Contains, add-mul, mul-le-mul, cases_Bool, append-nil, div-mul-add, BigInfo, iso_us_of, Handed, valid, lost, Air, opened, Timed, accepted, layings_of, IsOf, Sent, closed_end, entry_of, is_heard, struck, time_of, cases_low, opened_least, anchor_of, framed_reference_of, render_of, Setup, framed_calls, next_of, BigSync, bis_of, of_stream, is_in, stay_on, streams_of, is_member, member_is, Step, steps_of_source, is_started, setup_of, source_calls, Airs, MeetAirs, sink_calls, AreSent, InUnitOrder, IsOfUnit, IsSentAs, by_payload, time_in, whole_stay, Closed, air_in, calls_on, given_since_made, injected_since, is_given, is_injected, is_made, is_tuned, shown_since}
-use Rattle.isoal_base.specs.Stays as stays
-use Rattle.isoal_framed.specs.Struck.{octets_in}
-use Rattle.source_machine.specs.Calls.{Call as SourceCall}
-use Rattle.group_sink.specs.Handing.{handed_since as ticked_since}
-use Rattle.scenario_laws.specs.SourceUnits.{anchor_in}
-use Rattle.scenario_laws.proofs.Below.{Below}
-use Rattle.scenario_laws.proofs.Legals.{Legal}
-use Rattle.scenario_laws.proofs.Sources.{Lawful, lawful, true_not_false}
-use Rattle.scenario_laws.proofs.Wholes.{Within, goes, next_in, within_before, within_itself}
-use Rattle.scenario_laws.proofs.Stays.{OnSource, TunedTo, on_source, rest_not}
-use Rattle.scenario_laws.proofs.Closes.{climbs}
+use Rattle.scenario_laws.proofs.Known.{ℕ, suc, ◌≡◌, ◌⊎◌, ◌<◌, ◌≤◌, ◌+◌, ◌-◌, ◌*◌, ◌/◌, true, false, List, [], ◌∷◌, ◌++◌, map, Some, refl, sym, ◌∙◌, ap, subst, arith, inl, inr, slice_get, Contains, add-mul, mul-le-mul, cases_Bool, append-nil, div-mul-add, BigInfo, iso_us_of, Handed, valid, lost, Air, opened, Timed, accepted, layings_of, IsOf, Sent, closed_end, entry_of, is_heard, struck, time_of, cases_low, opened_least, anchor_of, framed_reference_of, render_of, Setup, framed_calls, next_of, BigSync, bis_of, of_stream, is_in, stay_on, streams_of, is_member, member_is, Step, steps_of_source, is_started, setup_of, source_calls, Airs, MeetAirs, sink_calls, AreSent, InUnitOrder, IsOfUnit, IsSentAs, by_payload, time_in, whole_stay, Closed, air_in, calls_on, given_since_made, injected_since, is_given, is_injected, is_made, is_tuned, shown_since, octets_in, SourceCall, ticked_since, anchor_in, Below, Legal, Lawful, lawful, true_not_false, Within, goes, next_in, within_before, within_itself, OnSource, TunedTo, on_source, rest_not, climbs, laid_by, FramedWhole, laid_end, sent_in_order, Gives, IsEntry, IsNumbered, Numbered, Ordered, are_numbered, has_entry, ordered_later, ordered_none, ordered_on, OverStay, Turns, StayCall}
 use Rattle.scenario_laws.proofs.UnitsLaw.{since}
 use Rattle.scenario_laws.proofs.InOrder.{clean_stay}
-use Rattle.scenario_laws.proofs.FramedCalls.{laid_by}
-use Rattle.scenario_laws.proofs.FramedSends.{FramedWhole, laid_end, sent_in_order}
 use Rattle.scenario_laws.proofs.FramedStays.{heard_least, mul_least, next_of_whole, opened_within, same_air, stay_decided, stay_on_whole, taken_within, whole_units}
-use Rattle.scenario_laws.proofs.Entries.{Gives, IsEntry, IsNumbered, Numbered, Ordered, are_numbered, has_entry, ordered_later, ordered_none, ordered_on}
-use Rattle.scenario_laws.proofs.StaysInTurn.{OverStay, Turns}
 use Rattle.scenario_laws.proofs.Turning.{over_stays}
 
 -- ---- units by payload numbers
@@ -91,7 +76,7 @@ entry_octets : (bis time : ℕ) (octets all : List ℕ) (whole : Type 0) (entry 
     → (bis' time' : ℕ) (octets' : List ℕ) → entry ≡ valid bis' time' octets' → octets' ≡ all
 entry_octets bis time octets all whole entry of_unit is bis' time' octets' same = grind arith
 
-pub one_entry : (setup : Setup) (whole : List SourceCall) (tuning : BigSync) (bis : ℕ) (air : Air) (n : ℕ) (sent : Sent) (entry : Handed) (calls : List stays.Call) → 1 ≤ setup.info.bn
+pub one_entry : (setup : Setup) (whole : List SourceCall) (tuning : BigSync) (bis : ℕ) (air : Air) (n : ℕ) (sent : Sent) (entry : Handed) (calls : List StayCall) → 1 ≤ setup.info.bn
     → TunedTo setup tuning → opened (stay_on tuning bis) calls ≤ next_of setup whole → IsInAir setup whole bis air n sent
     → IsEntry (stay_on tuning bis) (is_heard (stay_on tuning bis) calls) (closed_end (stay_on tuning bis) calls) sent entry
     → IsOfUnit setup whole bis air n entry
@@ -137,7 +122,7 @@ one_entry setup whole tuning bis air n sent entry calls some on opens numbered i
       valid_is = grind (arith, entry_octets, time_of, stay_on);
     }
 
-stay_gives : (setup : Setup) (whole : List SourceCall) (tuning : BigSync) (bis : ℕ) (air : Air) (calls : List stays.Call) → 1 ≤ setup.info.bn → TunedTo setup tuning
+stay_gives : (setup : Setup) (whole : List SourceCall) (tuning : BigSync) (bis : ℕ) (air : Air) (calls : List StayCall) → 1 ≤ setup.info.bn → TunedTo setup tuning
     → opened (stay_on tuning bis) calls ≤ next_of setup whole
     → Gives (IsInAir setup whole bis air) (IsOfUnit setup whole bis air) (tuning.first * tuning.info.bn) (closed_end (stay_on tuning bis) calls)
     (entry_of (stay_on tuning bis) (is_heard (stay_on tuning bis) calls) (closed_end (stay_on tuning bis) calls))

@@ -1,11 +1,6 @@
 -- A step that is left out changes nothing of the sink and of the source: it names another sink, or it means another source and puts
 -- the sink on no train and no group.
-use Rattle.scenario_laws.proofs.Prelude.{ℕ, ◌≡◌, cond, not, Bool, true, List, [], ◌∷◌, Option, None, is_some, arith, subst, option_or, false≢true, append-nil, Settings, Call, Step, box_of, handed_by, handed_up, is_of, sink_calls, source_of, Airs, chosen_given, last_given, steps_of_source, calls_made, made_of, version_given, units_by, is_other, sink_in}
-use Rattle.sink_history.specs.Calls as links
-use Rattle.scenario_laws.proofs.Isolating.Histories.{alike_itself, alike_then}
-use Rattle.scenario_laws.proofs.Isolating.Said.{Said, said_after, said_of, said_stays}
-use Rattle.scenario_laws.proofs.Isolating.Same.{HistoriesAlike, Same}
-use Rattle.scenario_laws.proofs.Isolating.Sums.{left_took}
+use Rattle.scenario_laws.proofs.Known.Sources.Steps.{ℕ, ◌≡◌, cond, not, Bool, true, List, [], ◌∷◌, Option, None, is_some, arith, subst, option_or, false≢true, append-nil, Settings, Call, Step, box_of, handed_by, handed_up, is_of, sink_calls, source_of, Airs, chosen_given, last_given, steps_of_source, calls_made, made_of, version_given, units_by, is_other, sink_in, alike_itself, alike_then, SourceSaid as Said, source_said_after as said_after, source_said_of as said_of, said_stays, HistoriesAlike, Same, left_took, LinkCall}
 use Rattle.scenario_laws.proofs.Isolating.Units.{units_append}
 
 -- ---- what a step leaves
@@ -21,33 +16,15 @@ pub record Leaves (airs : Airs) (s n : ℕ) (step : Step) (made : List Step) : T
   pub boxed : box_of n (step ∷ made) ≡ box_of n made
   pub units : units_by n (handed_by airs made step) ≡ []
 
-pub lives_itself : (made : Option Settings) (a : List links.Call) → HistoriesAlike made a a
+pub lives_itself : (made : Option Settings) (a : List LinkCall) → HistoriesAlike made a a
 lives_itself made a = grind (arith, alike_itself)
 
-pub lives_equal : (made : Option Settings) (a b : List links.Call) → a ≡ b → HistoriesAlike made a b
+pub lives_equal : (made : Option Settings) (a b : List LinkCall) → a ≡ b → HistoriesAlike made a b
 lives_equal made a b is = subst (HistoriesAlike made a) is (lives_itself made a)
 
 pub left_out : (airs : Airs) (s n : ℕ) (step : Step) (made others : List Step) → Leaves airs s n step made → Same airs s n made others
     → Same airs s n (step ∷ made) others
-left_out airs s n step made others leaves same =
-    grind (
-      arith,
-      option_or,
-      last_given,
-      chosen_given,
-      version_given,
-      calls_made,
-      alike_then,
-      made_of,
-      is_of,
-      is_some,
-      units_append,
-      handed_up,
-      handed_by,
-      units_by,
-      append-nil,
-      left_took,
-    )
+left_out airs s n step made others leaves same = grind (arith, alike_then, units_append, append-nil, left_took)
 
 -- ---- another sink is named
 
@@ -82,17 +59,4 @@ box_other n step made other = grind (arith, pass)
 
 pub another_sink : (airs : Airs) (s n : ℕ) (step : Step) (made : List Step) → is_other n (sink_in step) ≡ true → Leaves airs s n step made
 another_sink airs s n step made other =
-    grind (
-      arith,
-      quiet,
-      said_stays,
-      made_other,
-      lives_equal,
-      made_of,
-      calls_made,
-      history_other,
-      source_other,
-      calls_other,
-      box_other,
-      units_by,
-    )
+    grind (arith, quiet, said_stays, made_other, lives_equal, history_other, source_other, calls_other, box_other)

@@ -1,9 +1,5 @@
 -- What a step that both lists of steps have prints of the sink, of its assistants and of the source.
-use Rattle.scenario_laws.proofs.Prelude.{ℕ, zero, suc, ◌≡◌, ◌∙◌, List, ◌++◌, length, map, Option, refl, ap, arith, codes, decimal, option_map, slice_get, range_with_len, Settings, Train, answer_of, outcome_by, state_at, value, writes_waiting, served_out, notified_out, language, notices_waiting, reads_waiting, view_of, Step, Label, reply_line, sink_line, train_words, value_line, Source, Lines, drain_lines, heard_line, if_there, printed_of, printed_where, read_line, read_lines, replied, serve_line, serve_lines, show_lines, stated, tell_line, tell_lines, view_lines, was_read}
-use Rattle.sink_history.specs.Calls.{Call}
-use Rattle.scenario_laws.proofs.Isolating.Histories.{Alike, notices_same, reads_same, repeats, served_grow, told_grow, waiting_same}
-use Rattle.scenario_laws.proofs.Isolating.Moves.{Sourced}
-use Rattle.scenario_laws.proofs.Isolating.Same.{HistoriesAlike}
+use Rattle.scenario_laws.proofs.Known.Sources.Steps.{ℕ, zero, suc, ◌≡◌, ◌∙◌, List, ◌++◌, length, map, Option, refl, ap, arith, codes, decimal, option_map, slice_get, range_with_len, Settings, Train, answer_of, outcome_by, state_at, value, writes_waiting, served_out, notified_out, language, notices_waiting, reads_waiting, view_of, Step, Label, reply_line, sink_line, train_words, value_line, Source, Lines, drain_lines, heard_line, if_there, printed_of, printed_where, read_line, read_lines, replied, serve_line, serve_lines, show_lines, stated, tell_line, tell_lines, view_lines, was_read, LinkCall as Call, Alike, notices_same, reads_same, repeats, served_grow, told_grow, waiting_same, Sourced, HistoriesAlike}
 
 -- ---- one call on a link
 

@@ -1,11 +1,7 @@
 -- What a step prints that is kept: the same over both lists of steps.
-use Rattle.std.proofs.Common.{arith}
-use Rattle.scenario_laws.proofs.Prelude.{ℕ, ◌≡◌, ◌==◌, ◌∙◌, not, false, List, ◌++◌, ap, concat, flat_map, eqb-true, not-false, Step, control_line, handed_line, injected_hearing, stale_lines, is_of, sink_calls, source_of, end_pdu, event_back, stale_in, Airs, chosen_of, chosen_steps, calls_made, source_at, made_of, printed_where, lines_by, unit_lines_by, is_other, sink_in}
-use Rattle.scenario_laws.proofs.Isolating.Kept.{Means, chosen_closing, cond_both, sourced}
+use Rattle.scenario_laws.proofs.Known.Sources.{arith, ℕ, ◌≡◌, ◌==◌, ◌∙◌, not, false, List, ◌++◌, ap, concat, flat_map, eqb-true, not-false, Step, control_line, handed_line, injected_hearing, stale_lines, is_of, sink_calls, source_of, end_pdu, event_back, stale_in, Airs, chosen_of, chosen_steps, calls_made, source_at, made_of, printed_where, lines_by, unit_lines_by, is_other, sink_in, Means, chosen_closing, cond_both, back_same, end_same, pdu_back_same, stale_same, Same, chosen_alike, own_alike, both_alike}
+use Rattle.scenario_laws.proofs.Isolating.Kept.{sourced}
 use Rattle.scenario_laws.proofs.Isolating.Lines.{printed_same}
-use Rattle.scenario_laws.proofs.Isolating.Said.{back_same, end_same, pdu_back_same, stale_same}
-use Rattle.scenario_laws.proofs.Isolating.Same.{Same, chosen_alike, own_alike}
-use Rattle.scenario_laws.proofs.Isolating.Units.{both_alike}
 
 -- a step that names no other sink names this one
 this_one : (sink n : ℕ) → not (sink == n) ≡ false → sink ≡ n

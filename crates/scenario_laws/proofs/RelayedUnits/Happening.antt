@@ -1,7 +1,5 @@
 -- What happens by steps of lines, of what they say: relayed units are no part of the stage, of the sinks and of what is handed up.
-use Rattle.scenario_laws.proofs.Prelude.{◌≡◌, ◌==◌, ◌∙◌, cond, Bool, true, false, List, [], ◌∷◌, ◌++◌, refl, sym, ap, ap₂, eqb-true, Step, handed_by, handed_up, after_offers, happened, offers_at, with_relayed_units, Airs, chosen_of, sinks_made, stage_of}
-use Rattle.scenario_text.specs.declared.step.Step.TheVariants as steps
-use Rattle.scenario_history.specs.Boxes.{closing}
+use Rattle.scenario_laws.proofs.Known.Sources.Steps.Prelude.{◌≡◌, ◌==◌, ◌∙◌, cond, Bool, true, false, List, [], ◌∷◌, ◌++◌, refl, sym, ap, ap₂, eqb-true, Step, handed_by, handed_up, after_offers, happened, offers_at, with_relayed_units, Airs, chosen_of, sinks_made, stage_of, closing}
 use Rattle.scenario_laws.proofs.RelayedUnits.Left.{left_by_relayed_units, left_by_offers}
 
 pub stage_happened : (airs : Airs) (said : List Step) → stage_of (happened airs said) ≡ stage_of said
@@ -24,11 +22,11 @@ closes_if false airs made is = refl
 
 -- a step hands up the same behind its relayed units
 pub hands_alike : (airs : Airs) (made : List Step) (step : Step) → handed_by airs (with_relayed_units airs made step) step ≡ handed_by airs made step
-hands_alike airs made steps.Event = closes_if (chosen_of made == 0) airs made (eqb-true (chosen_of made) 0)
-hands_alike airs made steps.Stop = closes_if (chosen_of made == 0) airs made (eqb-true (chosen_of made) 0)
-hands_alike airs made (steps.Terminate reason) = closes_if (chosen_of made == 0) airs made (eqb-true (chosen_of made) 0)
-hands_alike airs made steps.End =
-    let left = left_by_relayed_units airs made steps.End in ap₂ (λ first second. first ++ second) left.closing_first left.closing_second
+hands_alike airs made Step.Event = closes_if (chosen_of made == 0) airs made (eqb-true (chosen_of made) 0)
+hands_alike airs made Step.Stop = closes_if (chosen_of made == 0) airs made (eqb-true (chosen_of made) 0)
+hands_alike airs made (Step.Terminate reason) = closes_if (chosen_of made == 0) airs made (eqb-true (chosen_of made) 0)
+hands_alike airs made Step.End =
+    let left = left_by_relayed_units airs made Step.End in ap₂ (λ first second. first ++ second) left.closing_first left.closing_second
 hands_alike airs made this = refl
 
 -- all that is handed up: by the steps of lines alone

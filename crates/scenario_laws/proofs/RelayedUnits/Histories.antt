@@ -1,9 +1,6 @@
 -- What happens by steps of lines makes of each sink, its links and its assistants what the lines say: relayed units are no part of what a
 -- source announces and of where it stands.
-use Rattle.scenario_laws.proofs.Prelude.{ℕ, ◌≡◌, ◌+◌, ◌==◌, ◌||◌, ◌&&◌, ◌∙◌, cond, Bool, List, [], ◌∷◌, Option, refl, ap, ap₂, arith, unwrap_or, option_or, train_of, Settings, iso_us_of, Cipher, BaseLine, subgroups_in, Step, Source, calls_after, calls_at, calls_by, made_by, made_of, named_by, events, anchor_of, with_cipher, Identity, Refusal, base_from, base_lines, Offer, after_offer, after_offers, happened, offers_before, with_relayed_unit_unless, with_relayed_units, GroupLine, cipher_of, group_of, ident_of, no_group, Airs, no_identity, source_calls, start_of, chosen_given, chosen_of, is_common, is_of_source, is_source_line, last_given, steps_of_source, calls_made, source_at, the_world}
-use Rattle.sink_history.specs.Calls.{Call}
-use Rattle.scenario_text.specs.declared.step.Step.TheVariants as steps
-use Rattle.sink_history.specs.History.{horizon_of}
+use Rattle.scenario_laws.proofs.Known.Sources.Steps.Prelude.{ℕ, ◌≡◌, ◌+◌, ◌==◌, ◌||◌, ◌&&◌, ◌∙◌, cond, Bool, List, [], ◌∷◌, Option, refl, ap, ap₂, arith, unwrap_or, option_or, train_of, Settings, iso_us_of, Cipher, BaseLine, subgroups_in, Step, Source, calls_after, calls_at, calls_by, made_by, made_of, named_by, events, anchor_of, with_cipher, Identity, Refusal, base_from, base_lines, Offer, after_offer, after_offers, happened, offers_before, with_relayed_unit_unless, with_relayed_units, GroupLine, cipher_of, group_of, ident_of, no_group, Airs, no_identity, source_calls, start_of, chosen_given, chosen_of, is_common, is_of_source, is_source_line, last_given, steps_of_source, calls_made, source_at, the_world, LinkCall as Call, sink_horizon_of as horizon_of}
 use Rattle.scenario_laws.proofs.RelayedUnits.Left.{left_by_relayed_units}
 
 -- ---- what is said of a source, but for its units
@@ -137,7 +134,7 @@ named_next n named this before others made calls same = grind (arith, cond, call
 
 called_next : (n : ℕ) (step : Step) (before others : List Step) (made : Option Settings) (calls : List Call)
     → source_at before ≡ source_at others → calls_after the_world n step before made calls ≡ calls_after the_world n step others made calls
-called_next n (steps.Sink sink streams slots mtu) before others made calls same = refl
+called_next n (Step.Sink sink streams slots mtu) before others made calls same = refl
 called_next n step before others made calls same = named_next n (named_by step) step before others made calls same
 
 pub history_happened : (airs : Airs) (n : ℕ) (said : List Step) → calls_made n (happened airs said) ≡ calls_made n said

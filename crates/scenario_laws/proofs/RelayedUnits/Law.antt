@@ -1,12 +1,7 @@
 -- The relay law: by one induction over the steps of lines.
-use Rattle.scenario_laws.proofs.Prelude.{ℕ, ◌≡◌, ◌||◌, ◌∙◌, Bool, true, false, List, [], ◌∷◌, ◌++◌, arith, None, sym, ap, subst, inl, inr, list_any, and_right, cases_Bool, eqb-true, false≢true, append-nil, Step, Airs, steps_of_source, all_answered, answered_by, happened, offered_to, offers_before, with_relayed_units, RelayLaw, accepted_on, AreSaidLegally, gives_on, line_refusal, had_relay, relays_to}
-use Rattle.scenario_text.specs.declared.step.Step.TheVariants as steps
-use Rattle.scenario_history.specs.RelayedUnits.{passed}
+use Rattle.scenario_laws.proofs.Known.Sources.Steps.{ℕ, ◌≡◌, ◌||◌, ◌∙◌, Bool, true, false, List, [], ◌∷◌, ◌++◌, arith, None, sym, ap, subst, inl, inr, list_any, and_right, cases_Bool, eqb-true, false≢true, append-nil, Step, Airs, steps_of_source, all_answered, answered_by, happened, offered_to, offers_before, with_relayed_units, RelayLaw, accepted_on, AreSaidLegally, gives_on, line_refusal, had_relay, relays_to, passed, gives_none, is_free, line_passes, has_had, had_happened, none_offered}
 use Rattle.scenario_laws.proofs.RelayedUnits.Passing.{all_pass, gives_to, none_taken, passed_append, step_takes}
-use Rattle.scenario_laws.proofs.RelayedUnits.Refused.{gives_none, is_free, line_passes}
 use Rattle.scenario_laws.proofs.RelayedUnits.Offered.{all_offered}
-use Rattle.scenario_laws.proofs.RelayedUnits.One.{has_had}
-use Rattle.scenario_laws.proofs.RelayedUnits.Routes.{had_happened, none_offered}
 
 -- ---- what passes
 
@@ -31,9 +26,9 @@ goes_on airs boxes to step earlier none had before =
 begins : (airs : Airs) (boxes to : ℕ) (step : Step) (earlier : List Step) → line_refusal airs boxes (happened airs earlier) step ≡ None
     → had_relay to earlier ≡ false → relays_to to step ≡ true
     → accepted_on to (happened airs (step ∷ earlier)) ≡ passed (offered_to to (all_answered airs (step ∷ earlier)))
-begins airs boxes to (steps.Relay sink bis into) earlier none before its =
+begins airs boxes to (Step.Relay sink bis into) earlier none before its =
     let made = happened airs earlier in
-    let free = is_free airs boxes made sink bis into (line_passes airs boxes made (steps.Relay sink bis into) none) in
+    let free = is_free airs boxes made sink bis into (line_passes airs boxes made (Step.Relay sink bis into) none) in
     let given = subst (λ t. list_any (gives_on t) (steps_of_source 1 (happened airs earlier)) ≡ false) (eqb-true into to its) free.given in
     none_taken to (steps_of_source 1 (happened airs earlier)) given
     ∙ sym (ap passed (ap (offered_to to) (append-nil (all_answered airs earlier)) ∙ none_offered airs to earlier before))

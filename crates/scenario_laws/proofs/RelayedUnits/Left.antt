@@ -1,5 +1,5 @@
 -- What relayed units leave: a step that chooses a source and one that gives source 1 a unit change nothing else.
-use Rattle.scenario_laws.proofs.Prelude.{◌∙◌, List, [], ◌∷◌, Option, None, Some, append-nil, Step, Refusal, Airs, Offer, after_offer, after_offers, offers_before, with_relayed_unit, with_relayed_unit_unless, with_relayed_units, IsLeft}
+use Rattle.scenario_laws.proofs.Known.Sources.Steps.Prelude.{◌∙◌, List, [], ◌∷◌, Option, None, Some, append-nil, Step, Refusal, Airs, Offer, after_offer, after_offers, offers_before, with_relayed_unit, with_relayed_unit_unless, with_relayed_units, IsLeft}
 
 left_same : (airs : Airs) (steps : List Step) → IsLeft airs steps steps
 left_same airs steps = assumption

@@ -1,10 +1,6 @@
 -- What source 1 accepts on a stream: of the units that are offered to it those that aren't dropped, and of a step that gives it no
 -- unit nothing.
-use Rattle.scenario_laws.proofs.Prelude.{ℕ, ◌≡◌, ◌==◌, ◌&&◌, ◌∙◌, cond, Bool, false, List, [], ◌∷◌, ◌++◌, Option, arith, refl, sym, ap, append_assoc, list_any, false≢true, or_parts, append-nil, map-append, filter-append, accept, accepted, Step, Setup, event, framed_calls, give, timed_accepted, Refusal, setup_of, source_calls, Airs, chosen_of, Answered, Offer, after_offer, after_offers, dropped_for, offered_to, offers_before, with_relayed_unit_unless, PassesAtOnce, accepted_on, gives_on}
-use Rattle.bcast_base.specs.declared.unit.Unit.{Unit as AudioUnit}
-use Rattle.isoal_framed.specs.Calls.{Call as FramedCall}
-use Rattle.source_machine.specs.Calls.{Call}
-use Rattle.scenario_history.specs.RelayedUnits.{answered, passed}
+use Rattle.scenario_laws.proofs.Known.Sources.Steps.Prelude.{ℕ, ◌≡◌, ◌==◌, ◌&&◌, ◌∙◌, cond, Bool, false, List, [], ◌∷◌, ◌++◌, Option, arith, refl, sym, ap, append_assoc, list_any, false≢true, or_parts, append-nil, map-append, filter-append, accept, accepted, Step, Setup, event, framed_calls, give, timed_accepted, Refusal, setup_of, source_calls, Airs, chosen_of, Answered, Offer, after_offer, after_offers, dropped_for, offered_to, offers_before, with_relayed_unit_unless, PassesAtOnce, accepted_on, gives_on, Unit as AudioUnit, FramedCall, SourceCall as Call, answered, passed}
 
 -- ---- the units of a stream, of the calls of its source
 

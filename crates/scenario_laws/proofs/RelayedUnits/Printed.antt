@@ -1,10 +1,6 @@
 -- Without relays a close prints the units of its sinks in order, and nothing else.
-use Rattle.scenario_laws.proofs.Prelude.{ℕ, zero, suc, ◌≡◌, ◌<◌, ◌≤◌, ◌+◌, ◌==◌, ◌∙◌, Bool, true, false, cond, List, [], ◌∷◌, ◌++◌, map, Option, None, Some, refl, ap, arith, append_assoc, flat_map, range_with_len, eq-eqb, eqb-true, ne_eqb, append-nil, flat_map-append, Call, handed_at, Step, handed_line, Handed, Account, SinkUnit, box_of, closing_at, closing_both, closing_by, closing_in, handed_up, answered_by, closes_first, handed_of, offers_at, close_lines, first_lines, output_of, sums_of, unit_lines, is_of, sink_calls, source_of, open_event, Airs, chosen_of, steps_of_source, PrintsUnits, has_relay}
-use Rattle.scenario_text.specs.declared.step.Step.TheVariants as steps
-use Rattle.scenario_history.specs.Boxes.{closing, sink_numbers}
-use Rattle.scenario_history.specs.RelayedUnits.{answered}
+use Rattle.scenario_laws.proofs.Known.Sources.Steps.{ℕ, zero, suc, ◌≡◌, ◌<◌, ◌≤◌, ◌+◌, ◌==◌, ◌∙◌, Bool, true, false, cond, List, [], ◌∷◌, ◌++◌, map, Option, None, Some, refl, ap, arith, append_assoc, flat_map, range_with_len, eq-eqb, eqb-true, ne_eqb, append-nil, flat_map-append, Call, handed_at, Step, handed_line, Handed, Account, SinkUnit, box_of, closing_at, closing_both, closing_by, closing_in, handed_up, answered_by, closes_first, handed_of, offers_at, close_lines, first_lines, output_of, sums_of, unit_lines, is_of, sink_calls, source_of, open_event, Airs, chosen_of, steps_of_source, PrintsUnits, has_relay, closing, sink_numbers, answered, no_offers}
 use Rattle.scenario_laws.proofs.RelayedUnits.Offered.{flat_one, handed_append}
-use Rattle.scenario_laws.proofs.RelayedUnits.Routes.{no_offers}
 
 -- ---- lists
 
@@ -98,6 +94,6 @@ pub plain_close : (airs : Airs) (made : List Step) (step : Step) → has_relay m
 plain_close airs made step none = closed_if (chosen_of made == 0) airs made step refl none
 
 -- and `end` those of both sources, and the sums
-pub plain_end : (airs : Airs) (starts : List Account) (made : List Step) → has_relay made ≡ false → output_of airs starts made steps.End
+pub plain_end : (airs : Airs) (starts : List Account) (made : List Step) → has_relay made ≡ false → output_of airs starts made Step.End
     ≡ unit_lines (closing_both airs made) ++ sums_of starts (handed_up airs made ++ closing_both airs made) made
 plain_end airs starts made none = search (prints_units, append_assoc, flat_map-append, handed_line)

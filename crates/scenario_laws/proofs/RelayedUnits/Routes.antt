@@ -1,9 +1,5 @@
 -- Relays looked back for: whatever is offered is offered by a relay that stands, to a stream that has had a relay.
-use Rattle.scenario_laws.proofs.Prelude.{ℕ, ◌≡◌, ◌==◌, ◌||◌, ◌∙◌, cond, Bool, true, false, List, [], ◌∷◌, ◌++◌, map, Option, None, arith, Some, refl, sym, ap, unwrap_or, All, filter, flat_map, option_or, and_right, eq-eqb, eqb-true, false_from_ne_true, false≢true, or_parts, or_right, All-append, All-cons, All-head, All-nil, All-tail, filter-append, none-some, same_Some, Step, Handed, Airs, chosen_of, last_given, Answered, Offer, after_offer, after_offers, all_answered, answered_by, closes_first, dropped_for, happened, offered_of, offered_to, offers_at, offers_before, units_on, with_relayed_units, NoneRelayed, is_relayed, Route, had_relay, has_relay, makes_relay, relay_given, relay_of, relays_to}
-use Rattle.std.proofs.lemmas.Bool.{or_left}
-use Rattle.bcast_base.specs.declared.unit.Unit.{Unit as AudioUnit}
-use Rattle.scenario_text.specs.declared.step.Step.TheVariants as steps
-use Rattle.scenario_history.specs.RelayedUnits.{answered}
+use Rattle.scenario_laws.proofs.Known.Sources.Steps.Prelude.{ℕ, ◌≡◌, ◌==◌, ◌||◌, ◌∙◌, cond, Bool, true, false, List, [], ◌∷◌, ◌++◌, map, Option, None, arith, Some, refl, sym, ap, unwrap_or, All, filter, flat_map, option_or, and_right, eq-eqb, eqb-true, false_from_ne_true, false≢true, or_parts, or_right, All-append, All-cons, All-head, All-nil, All-tail, filter-append, none-some, same_Some, Step, Handed, Airs, chosen_of, last_given, Answered, Offer, after_offer, after_offers, all_answered, answered_by, closes_first, dropped_for, happened, offered_of, offered_to, offers_at, offers_before, units_on, with_relayed_units, NoneRelayed, is_relayed, Route, had_relay, has_relay, makes_relay, relay_given, relay_of, relays_to, or_left, Unit as AudioUnit, answered}
 use Rattle.scenario_laws.proofs.RelayedUnits.Left.{left_by_relayed_units}
 
 -- ---- a relay that stands
@@ -19,8 +15,8 @@ dropped_had hit route later had before is = grind (arith, none-some)
 -- the stream that a relay goes to has had one
 pub route_had : (n : ℕ) (made : List Step) (route : Route) → relay_of n made ≡ Some route → had_relay route.to made ≡ true
 route_had n [] route is = absurd (none-some route is)
-route_had n (steps.Relay sink bis to ∷ earlier) route is = cc (made_had (sink == n) (record { bis = bis; to = to }) route (last_given (relay_given n) earlier) (had_relay route.to earlier) (route_had n earlier route) is)
-route_had n (steps.Drop sink ∷ earlier) route is = search (dropped_had, route_had n earlier route)
+route_had n (Step.Relay sink bis to ∷ earlier) route is = cc (made_had (sink == n) (record { bis = bis; to = to }) route (last_given (relay_given n) earlier) (had_relay route.to earlier) (route_had n earlier route) is)
+route_had n (Step.Drop sink ∷ earlier) route is = search (dropped_had, route_had n earlier route)
 route_had n (this ∷ earlier) route is = route_had n earlier route is
 
 -- ---- what is offered
@@ -105,8 +101,8 @@ dropped_none hit later none = grind arith
 
 no_route : (n : ℕ) (made : List Step) → has_relay made ≡ false → relay_of n made ≡ None
 no_route n [] none = refl
-no_route n (steps.Relay sink bis to ∷ earlier) none = absurd (false≢true (sym none))
-no_route n (steps.Drop sink ∷ earlier) none = dropped_none (sink == n) (last_given (relay_given n) earlier) (no_route n earlier none)
+no_route n (Step.Relay sink bis to ∷ earlier) none = absurd (false≢true (sym none))
+no_route n (Step.Drop sink ∷ earlier) none = dropped_none (sink == n) (last_given (relay_given n) earlier) (no_route n earlier none)
 no_route n (this ∷ earlier) none = no_route n earlier none
 
 pub no_offers : (airs : Airs) (made : List Step) → has_relay made ≡ false → offers_at airs made ≡ []
@@ -125,11 +121,11 @@ nothing_else airs (step ∷ earlier) none =
 
 none_had : (bis : ℕ) (made : List Step) → has_relay made ≡ false → had_relay bis made ≡ false
 none_had bis [] none = refl
-none_had bis (steps.Relay sink from to ∷ earlier) none = absurd (false≢true (sym none))
+none_had bis (Step.Relay sink from to ∷ earlier) none = absurd (false≢true (sym none))
 none_had bis (this ∷ earlier) none = none_had bis earlier none
 
 not_relayed : (made : List Step) (step : Step) → has_relay made ≡ false → is_relayed made step ≡ false
-not_relayed made (steps.Unit bis time octets) none = and_right (chosen_of made == 1) (had_relay bis made) (none_had bis made none)
+not_relayed made (Step.Unit bis time octets) none = and_right (chosen_of made == 1) (had_relay bis made) (none_had bis made none)
 not_relayed made this none = refl
 
 pub none_relayed : (boxes : ℕ) → NoneRelayed boxes

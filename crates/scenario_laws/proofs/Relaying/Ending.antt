@@ -1,10 +1,6 @@
 -- What the relay of a sink offered is the end of what the sink handed up since it was made: while the relay stands, the sink lives.
-use Rattle.scenario_laws.proofs.Prelude.{ℕ, ◌≡◌, ◌==◌, ◌∙◌, cond, Bool, true, false, List, [], ◌∷◌, ◌++◌, Option, None, Some, arith, is_some, refl, sym, ap, append_assoc, inl, inr, unwrap_or, Contains, option_or, eq-eqb, eqb-true, false_from_ne_true, false≢true, append-nil, map-append, flat_map-append, filter-append, none-some, same_Some, Step, Refusal, SinkUnit, box_of, handed_by, fails_not, permitted, line_refusal, refuse_if, Airs, last_given, sinks_made, handed_since, is_made, of_sink, Offer, after_offer, after_offers, happened, offers_before, units_on, with_relayed_unit_unless, with_relayed_units, handed_on, is_route, offered, AreLegal, AreSaidLegally, Route, had_relay, relay_given, relay_of, EndsWith}
-use Rattle.bcast_base.specs.declared.unit.Unit.{Unit as AudioUnit}
-use Rattle.scenario_text.specs.declared.step.Step.TheVariants as steps
-use Rattle.scenario_history.proofs.Citable.{neither}
-use Rattle.scenario_laws.proofs.RelayedUnits.Citable.{OneStands, contains_cases, first_free, had_happened, happens_legally, has_had, is_free}
-use Rattle.scenario_laws.proofs.RelayedUnits.Citable.{left_by_relayed_units, line_passes, not_yet, one_stands}
+use Rattle.scenario_laws.proofs.Known.Sources.Steps.{ℕ, ◌≡◌, ◌==◌, ◌∙◌, cond, Bool, true, false, List, [], ◌∷◌, ◌++◌, Option, None, Some, arith, is_some, refl, sym, ap, append_assoc, inl, inr, unwrap_or, Contains, option_or, eq-eqb, eqb-true, false_from_ne_true, false≢true, append-nil, map-append, flat_map-append, filter-append, none-some, same_Some, Step, Refusal, SinkUnit, box_of, handed_by, fails_not, permitted, line_refusal, refuse_if, Airs, last_given, sinks_made, handed_since, is_made, of_sink, Offer, after_offer, after_offers, happened, offers_before, units_on, with_relayed_unit_unless, with_relayed_units, handed_on, is_route, offered, AreLegal, AreSaidLegally, Route, had_relay, relay_given, relay_of, EndsWith, Unit as AudioUnit, neither, OneStands, contains_cases, first_free, had_happened, happens_legally, has_had, is_free, left_by_relayed_units, line_passes, one_stands}
+use Rattle.scenario_laws.proofs.RelayedUnits.Offered.{not_yet}
 
 -- ---- a sink with a relay lives
 
@@ -24,11 +20,11 @@ dropped_boxed hit later route box before is = grind (arith, none-some)
 boxed : (airs : Airs) (boxes n : ℕ) (route : Route) (made : List Step) → AreLegal airs boxes made → relay_of n made ≡ Some route
     → is_some (box_of n made) ≡ true
 boxed airs boxes n route [] legal is = absurd (none-some route is)
-boxed airs boxes n route (steps.Relay sink bis to ∷ earlier) legal is =
+boxed airs boxes n route (Step.Relay sink bis to ∷ earlier) legal is =
     made_boxed (sink == n) n sink bis to (last_given (relay_given n) earlier) route (λ k. box_of k earlier) (eqb-true sink n)
     (is_free airs boxes earlier sink bis to legal.1).living (boxed airs boxes n route earlier legal.0) is
-boxed airs boxes n route (steps.Drop sink ∷ earlier) legal is = search (dropped_boxed, boxed airs boxes n route earlier legal.0)
-boxed airs boxes n route (steps.Sink sink streams slots mtu ∷ earlier) legal is =
+boxed airs boxes n route (Step.Drop sink ∷ earlier) legal is = search (dropped_boxed, boxed airs boxes n route earlier legal.0)
+boxed airs boxes n route (Step.Sink sink streams slots mtu ∷ earlier) legal is =
     boxed_if (sink == n) (box_of n earlier) (sinks_made earlier) (boxed airs boxes n route earlier legal.0 is)
 boxed airs boxes n route (this ∷ earlier) legal is = boxed airs boxes n route earlier legal.0 is
 
@@ -92,10 +88,10 @@ dropped_not hit route later is = grind (arith, none-some)
 -- a relay to a stream that had one stood before
 stood : (airs : Airs) (boxes n to : ℕ) (made after_relays : List Step) (step : Step) (route : Route) → line_refusal airs boxes made step ≡ None
     → had_relay to made ≡ true → relay_of n (step ∷ after_relays) ≡ Some route → route.to ≡ to → relay_of n after_relays ≡ Some route
-stood airs boxes n to made after_relays (steps.Relay sink from into) route none had is goes =
+stood airs boxes n to made after_relays (Step.Relay sink from into) route none had is goes =
     still_if (sink == n) (record { bis = from; to = into }) route (last_given (relay_given n) after_relays)
-    (λ its same. false≢true (cc ((is_free airs boxes made sink from into (line_passes airs boxes made (steps.Relay sink from into) none)).had))) is
-stood airs boxes n to made after_relays (steps.Drop sink) route none had is goes = search (dropped_not)
+    (λ its same. false≢true (cc ((is_free airs boxes made sink from into (line_passes airs boxes made (Step.Relay sink from into) none)).had))) is
+stood airs boxes n to made after_relays (Step.Drop sink) route none had is goes = search (dropped_not)
 stood airs boxes n to made after_relays this route none had is goes = is
 
 is_its : (n bis to : ℕ) (made : List Step) (route : Route) → OneStands n bis to made → relay_of n made ≡ Some route → route.to ≡ to
@@ -103,13 +99,13 @@ is_its : (n bis to : ℕ) (made : List Step) (route : Route) → OneStands n bis
 is_its n bis to made route stands is goes = grind (arith, eq-eqb route.bis bis (stands n route is goes).1, eq-eqb route.to to goes)
 
 pub ends_with : (airs : Airs) (boxes n bis to : ℕ) (said : List Step) → AreSaidLegally airs boxes said
-    → Contains said (steps.Relay n bis to) → (route : Route) → relay_of n (happened airs said) ≡ Some route → route.to ≡ to
+    → Contains said (Step.Relay n bis to) → (route : Route) → relay_of n (happened airs said) ≡ Some route → route.to ≡ to
     → EndsWith (own_units n bis (since airs n (happened airs said))) (offered airs n bis to said)
 ends_with airs boxes n bis to [] legal within route is goes = absurd (none-some route is)
 ends_with airs boxes n bis to (step ∷ earlier) legal within route is goes =
     let made = happened airs earlier in
     let left = left_by_relayed_units airs made step in
-    elim (contains_cases step earlier (steps.Relay n bis to) within) [
+    elim (contains_cases step earlier (Step.Relay n bis to) within) [
       | inl line ↦
           let all = own_units n bis (since airs n (happened airs (step ∷ earlier))) in
           let none = sym (had_happened airs to earlier) ∙ first_free airs boxes n bis to step made line legal.1 in

@@ -1,10 +1,7 @@
 -- The units that a sink handed up of a stream, each with the number of the unit of its source that it is.
-use Rattle.scenario_laws.proofs.Prelude.{ℕ, zero, suc, ◌≡◌, ◌<◌, ◌∙◌, Bool, cond, List, [], ◌∷◌, ◌++◌, length, map, slice_get, Option, None, Some, refl, sym, ap, arith, slice_index, AllZip, filter, length-map, map-append, none-some, same_Some, slice_get-map, of_stream, Air, accept, accepted, Setup, event, framed_calls, given, give, Handed, lost, valid, InSourceOrder, InUnitOrder, IsGiven, IsOfUnit, is_valid, valid_in, units_on}
+use Rattle.scenario_laws.proofs.Known.Sources.Steps.Prelude.{ℕ, zero, suc, ◌≡◌, ◌<◌, ◌∙◌, Bool, cond, List, [], ◌∷◌, ◌++◌, length, map, slice_get, Option, None, Some, refl, sym, ap, arith, slice_index, AllZip, filter, length-map, map-append, none-some, same_Some, slice_get-map, of_stream, Air, accept, accepted, Setup, event, framed_calls, given, give, Handed, lost, valid, InSourceOrder, InUnitOrder, IsGiven, IsOfUnit, is_valid, valid_in, units_on, Unit as AudioUnit, FramedCall, SourceCall as Call}
 use Rattle.std.proofs.lemmas.List.Kept.{AllPairs-from_increasing}
-use Rattle.bcast_base.specs.declared.unit.Unit.{Unit as AudioUnit}
-use Rattle.isoal_framed.specs.Calls.{Call as FramedCall}
-use Rattle.source_machine.specs.Calls.{Call}
-use Rattle.scenario_laws.proofs.RelayedUnits.Citable.{event_accepts_none}
+use Rattle.scenario_laws.proofs.RelayedUnits.Passing.{event_accepts_none}
 use Rattle.scenario_laws.proofs.Relaying.Order.{place, place_by, place_gets, place_rises}
 
 -- the number of each of these units, by its place, among the units with these octets

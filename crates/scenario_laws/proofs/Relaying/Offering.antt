@@ -1,11 +1,7 @@
 -- What the relay of a sink offered is in the order of source 0: as an event of source 0 is closed while the relay stands, it is the end
 -- of what the sink handed up, and no other step offers anything.
-use Rattle.scenario_laws.proofs.Prelude.{ℕ, suc, ◌≡◌, ◌⊎◌, ◌<◌, ◌≤◌, ◌&&◌, ◌||◌, ◌∙◌, cond, Bool, true, false, List, [], ◌∷◌, ◌++◌, length, slice_get, Option, None, Some, refl, sym, ap, subst, arith, inl, inr, unwrap_or, Contains, option_or, and_parts, cases_Bool, eqb-true, false≢true, or_parts, append-nil, none-some, IsInRange, Step, given, Handed, Refusal, MeetAirs, Offer, after_offer, after_offers, closes_first, handed_of, happened, offers_before, units_on, with_relayed_unit_unless, with_relayed_units, Route, had_relay, relay_given, relay_of, setup_of, source_calls, Airs, chosen_of, is_of_source, last_given, steps_of_source, is_route, offered, AreLegal, AreSaidLegally, StepsInOrder, given_since_made, handed_since, injected_since, is_given, is_injected, is_made, air_in, of_sink, EndsWith, injected_till_last_offer}
-use Rattle.bcast_base.specs.declared.unit.Unit.{Unit as AudioUnit}
-use Rattle.scenario_text.specs.declared.step.Step.TheVariants as steps
-use Rattle.scenario_history.specs.Boxes.{closing}
-use Rattle.scenario_laws.proofs.RelayedUnits.Citable.{chosen_happened, contains_cases, first_free, first_handed, had_happened, happens_legally}
-use Rattle.scenario_laws.proofs.RelayedUnits.Citable.{in_range, left_by_relayed_units, not_yet}
+use Rattle.scenario_laws.proofs.Known.Sources.Steps.{ℕ, suc, ◌≡◌, ◌⊎◌, ◌<◌, ◌≤◌, ◌&&◌, ◌||◌, ◌∙◌, cond, Bool, true, false, List, [], ◌∷◌, ◌++◌, length, slice_get, Option, None, Some, refl, sym, ap, subst, arith, inl, inr, unwrap_or, Contains, option_or, and_parts, cases_Bool, eqb-true, false≢true, or_parts, append-nil, none-some, IsInRange, Step, given, Handed, Refusal, MeetAirs, Offer, after_offer, after_offers, closes_first, handed_of, happened, offers_before, units_on, with_relayed_unit_unless, with_relayed_units, Route, had_relay, relay_given, relay_of, setup_of, source_calls, Airs, chosen_of, is_of_source, last_given, steps_of_source, is_route, offered, AreLegal, AreSaidLegally, StepsInOrder, given_since_made, handed_since, injected_since, is_given, is_injected, is_made, air_in, of_sink, EndsWith, injected_till_last_offer, Unit as AudioUnit, closing, chosen_happened, contains_cases, first_free, had_happened, happens_legally, left_by_relayed_units}
+use Rattle.scenario_laws.proofs.RelayedUnits.Offered.{first_handed, in_range, not_yet}
 use Rattle.scenario_laws.proofs.Relaying.Ending.{ends_with}
 use Rattle.scenario_laws.proofs.Relaying.Numbered.{Numbered, numbered_slots, numbered_units}
 
@@ -190,7 +186,7 @@ happens_more airs bis made step k octets is =
 
 pub offered_numbered : StepsInOrder → (airs : Airs) → MeetAirs airs → (boxes n bis to : ℕ) (said : List Step)
     → AreSaidLegally airs boxes said
-    → Contains said (steps.Relay n bis to) → 1 ≤ bis → bis ≤ 31 → injected_till_last_offer n bis to said ≡ false
+    → Contains said (Step.Relay n bis to) → 1 ≤ bis → bis ≤ 31 → injected_till_last_offer n bis to said ≡ false
     → Numbered (given bis (source_calls (steps_of_source 0 (happened airs said)))) (offered airs n bis to said)
 offered_numbered order airs meets boxes n bis to [] legal within least greatest clean = absurd (omega (arith, within.1))
 offered_numbered order airs meets boxes n bis to (step ∷ earlier) legal within least greatest clean =
@@ -211,7 +207,7 @@ offered_numbered order airs meets boxes n bis to (step ∷ earlier) legal within
           numbered_end octets (units_on bis (of_sink 0 n (handed_since (is_made n) airs (step ∷ after_relays)))) (offered airs n bis to said)
           (ends_with airs boxes n bis to said legal within way.route way.is way.goes)
           (search (numbered_since, happens_legally, in_range))
-      | inr not ↦ elim (contains_cases step earlier (steps.Relay n bis to) within) [
+      | inr not ↦ elim (contains_cases step earlier (Step.Relay n bis to) within) [
         | inl is ↦
             let free : had_relay to earlier ≡ false =
             sym (had_happened airs to earlier) ∙ first_free airs boxes n bis to step made is legal.1 in

@@ -1,10 +1,5 @@
 -- Of what was offered those units pass that weren't dropped, in order: so what is in the order of the one is in the order of the other.
-use Rattle.scenario_laws.proofs.Prelude.{ℕ, zero, suc, ◌≡◌, ◌<◌, ◌≤◌, ◌+◌, ◌-◌, Bool, true, false, cond, List, [], ◌∷◌, length, map, slice_get, Some, refl, arith, slice_index, AllZip, Contains, filter, IsStrictlyIncreasing, length-map, iso_us_of, sync_delay_of, Air, accepted, Setup, framed_calls, Handed, Step, setup_of, source_calls, Airs, steps_of_source, AreSaidLegally, InUnitOrder, IsOfUnit, Answered, all_answered, happened, offered_to, RelayLaw, offered, InRelayOrder, IsOfOffered}
-use Rattle.std.specs.Prelude.{is_none}
-use Rattle.bcast_base.specs.declared.unit.Unit.{Unit as AudioUnit}
-use Rattle.source_machine.specs.Calls.{Call}
-use Rattle.scenario_text.specs.declared.step.Step.TheVariants as steps
-use Rattle.scenario_history.specs.RelayedUnits.{passed}
+use Rattle.scenario_laws.proofs.Known.Sources.Steps.Prelude.{ℕ, zero, suc, ◌≡◌, ◌<◌, ◌≤◌, ◌+◌, ◌-◌, Bool, true, false, cond, List, [], ◌∷◌, length, map, slice_get, Some, refl, arith, slice_index, AllZip, Contains, filter, IsStrictlyIncreasing, length-map, iso_us_of, sync_delay_of, Air, accepted, Setup, framed_calls, Handed, Step, setup_of, source_calls, Airs, steps_of_source, AreSaidLegally, InUnitOrder, IsOfUnit, Answered, all_answered, happened, offered_to, RelayLaw, offered, InRelayOrder, IsOfOffered, is_none, Unit as AudioUnit, SourceCall as Call, passed}
 
 -- ---- the places of what passes a test
 
@@ -65,7 +60,7 @@ of_offered setup calls to answers units passes offers air number entry of_unit =
     grind (arith, slice_get, place_gets, rendered, sync_delay_of, iso_us_of)
 
 pub in_relay_order : ((boxes : ℕ) → RelayLaw boxes) → (airs : Airs) (boxes : ℕ) (said : List Step) → AreSaidLegally airs boxes said
-    → (n bis to : ℕ) → Contains said (steps.Relay n bis to) → (air : Air) (entries : List Handed)
+    → (n bis to : ℕ) → Contains said (Step.Relay n bis to) → (air : Air) (entries : List Handed)
     → InUnitOrder (setup_of (steps_of_source 1 (happened airs said))) (source_calls (steps_of_source 1 (happened airs said))) to air entries
     → InRelayOrder (setup_of (steps_of_source 1 (happened airs said))) to (offered airs n bis to said) entries
 in_relay_order law airs boxes said legal n bis to within air entries order =

@@ -1,11 +1,9 @@
 -- The group check where a group may have a greater horizon: but for the row of the horizon it finds the same.
-use Rattle.scenario_laws.proofs.Prelude.{ℕ, ◌≡◌, ◌⊎◌, ◌≤◌, ltb, cond, Bool, true, false, List, [], ◌∷◌, Option, None, Some, refl, arith, find, false≢true, le-ltb, ltb-true, lt-ltb, GroupFault, BigInfo, faults, has_fault, horizon_of}
-use Rattle.big_info.specs.declared.fault.GroupFault.TheVariants as faults_of
-use Rattle.big_info.specs.Rows.{first_fault}
+use Rattle.scenario_laws.proofs.Known.Sources.Steps.Prelude.{ℕ, ◌≡◌, ◌⊎◌, ◌≤◌, ltb, cond, Bool, true, false, List, [], ◌∷◌, Option, None, Some, refl, arith, find, false≢true, le-ltb, ltb-true, lt-ltb, GroupFault, BigInfo, faults, has_fault, horizon_of, first_fault}
 
 -- the fault isn't the horizon of the group
 abbrev pub IsNear : GroupFault → Type 0
-IsNear faults_of.Horizon = ⊥
+IsNear GroupFault.Horizon = ⊥
 IsNear _ = Unit {0}
 
 -- no such fault was found
@@ -20,8 +18,8 @@ past : (holds : Bool) (fault : GroupFault) (one other : Option GroupFault) → F
 past holds fault one other is same = grind arith
 
 past_horizon : (close wide : Bool) (one other : Option GroupFault) → (wide ≡ true → close ≡ true)
-    → FoundNear (cond close (Some faults_of.Horizon) one)
-    → (FoundNear one → other ≡ one) → cond wide (Some faults_of.Horizon) other ≡ cond close (Some faults_of.Horizon) one
+    → FoundNear (cond close (Some GroupFault.Horizon) one)
+    → (FoundNear one → other ≡ one) → cond wide (Some GroupFault.Horizon) other ≡ cond close (Some GroupFault.Horizon) one
 past_horizon close wide one other more is same = grind (arith, false≢true)
 
 -- what lies past the greater horizon lies past the smaller one
@@ -31,7 +29,7 @@ past_both near wider reach within past_far = let below = ltb-true wider reach pa
 found : (near wider : ℕ) (info : BigInfo) (all : List GroupFault) → near ≤ wider → FoundNear (find (has_fault near info) all)
     → find (has_fault wider info) all ≡ find (has_fault near info) all
 found near wider info [] within is = refl
-found near wider info (faults_of.Horizon ∷ all) within is = search (past_horizon, ltb, past_both, found near wider info all within)
+found near wider info (GroupFault.Horizon ∷ all) within is = search (past_horizon, ltb, past_both, found near wider info all within)
 found near wider info (fault ∷ all) within is = search (past, found near wider info all within)
 
 pub first_same : (near wider : ℕ) (info : BigInfo) → near ≤ wider → FoundNear (first_fault near info)
@@ -46,7 +44,7 @@ not_past : (holds : Bool) (fault : GroupFault) (rest : Option GroupFault) → Is
 not_past holds fault rest here later = grind arith
 
 not_horizon : (holds : Bool) (rest : Option GroupFault) → holds ≡ false → FoundNear rest
-    → FoundNear (cond holds (Some faults_of.Horizon) rest)
+    → FoundNear (cond holds (Some GroupFault.Horizon) rest)
 not_horizon holds rest none later = grind (arith, false≢true)
 
 pub within_near : (near : ℕ) (info : BigInfo) → horizon_of info ≤ near → FoundNear (first_fault near info)
@@ -55,5 +53,5 @@ within_near near info within = grind (arith, not_horizon, ltb, le-ltb, not_past,
 
 -- ---- either way
 
-pub near_or_horizon : (found : Option GroupFault) → FoundNear found ⊎ (found ≡ Some faults_of.Horizon)
+pub near_or_horizon : (found : Option GroupFault) → FoundNear found ⊎ (found ≡ Some GroupFault.Horizon)
 near_or_horizon found = grind arith

@@ -1,8 +1,5 @@
 -- The migration law over any airs that meet the relation of their framing, one for the text and one for the text in version 2.
-use Rattle.scenario_laws.proofs.Prelude.{ℕ, ◌≡◌, true, List, ◌∷◌, subst, arith, TextLine, Account, Accepted, airs_of, Airs, MeetAirs, rules_of, steps_of, transcript_end, transcript_of, units_of, EndsLasting, IsLastingText, MigrationLaw, PrintsHorizon}
-use Rattle.bcast_io.specs.TextLines.{lines_of}
-use Rattle.scenario_text.specs.Migrated.{migrated}
-use Rattle.scenario_text.specs.declared.step.Step.TheVariants as steps
+use Rattle.scenario_laws.proofs.Known.Sources.Steps.Prelude.{ℕ, ◌≡◌, true, List, ◌∷◌, subst, arith, TextLine, Account, Accepted, airs_of, Airs, MeetAirs, rules_of, steps_of, transcript_end, transcript_of, units_of, EndsLasting, IsLastingText, MigrationLaw, PrintsHorizon, text_lines as lines_of, migrated, Step}
 use Rattle.scenario_laws.proofs.Versions.Migrating.{LinesAlike, text_alike}
 use Rattle.scenario_laws.proofs.Versions.Runs.{Laws}
 

@@ -1,6 +1,6 @@
 -- What a `relay` line is refused for in version 2: what it is refused for in version 1. Lists of steps have the newest first; where a
 -- list is called `own` its steps are those of one source.
-use Rattle.scenario_laws.proofs.Prelude.{ℕ, ◌≡◌, ◌||◌, List, refl, list_any, Step, gives_on, had_relay, has_relay, makes_relay, relay_given, relay_of, relays_to}
+use Rattle.scenario_laws.proofs.Known.Sources.Steps.Prelude.{ℕ, ◌≡◌, ◌||◌, List, refl, list_any, Step, gives_on, had_relay, has_relay, makes_relay, relay_given, relay_of, relays_to}
 use Rattle.scenario_laws.proofs.Versions.Seconds.{gathered, given_same, seconds}
 
 -- ---- relays looked back for

@@ -1,14 +1,10 @@
 -- The steps of a scenario in version 2: `scenario 2` stands for `scenario`. What the steps say that isn't said of the version
 -- stays. Lists of steps have the newest first.
-use Rattle.scenario_laws.proofs.Prelude.{ℕ, ◌≡◌, ◌⊎◌, ◌≤◌, cond, Bool, true, List, [], ◌∷◌, Option, refl, sym, ◌∙◌, ap, inl, arith, unwrap_or, option_or, Step, horizon_in, version_given, base_lines, with_base_line, cipher_given, cipher_of, group_given, group_of, ident_of, identity_given, is_ahead_in, phase_given, source_calls, start_given, start_of, with_source_call, Stage, unbegun, running, chosen_given, is_common, is_of_source, is_over, is_source_line, is_over_at, is_unbegun_at, last_given, sinks_made, sinks_made_by, stage_after, stage_of, steps_of_source, version_at, version_of}
-use Rattle.delegator_history.specs.LastGiven.{last_given as last_of}
-use Rattle.scenario_text.specs.declared.step.Step.TheVariants as steps
-use Rattle.sink_history.specs.History.{horizon_of}
-use Rattle.scenario_history.specs.Steps.{over}
+use Rattle.scenario_laws.proofs.Known.Sources.Steps.Prelude.{ℕ, ◌≡◌, ◌⊎◌, ◌≤◌, cond, Bool, true, List, [], ◌∷◌, Option, refl, sym, ◌∙◌, ap, inl, arith, unwrap_or, option_or, Step, horizon_in, version_given, base_lines, with_base_line, cipher_given, cipher_of, group_given, group_of, ident_of, identity_given, is_ahead_in, phase_given, source_calls, start_given, start_of, with_source_call, Stage, unbegun, running, chosen_given, is_common, is_of_source, is_over, is_source_line, is_over_at, is_unbegun_at, last_given, sinks_made, sinks_made_by, stage_after, stage_of, steps_of_source, version_at, version_of, last_given_in as last_of, sink_horizon_of as horizon_of, over}
 use Rattle.scenario_laws.proofs.Sources.{horizon_greatest}
 
 abbrev pub second : Step → Step
-second (steps.Scenario version) = steps.Scenario 2
+second (Step.Scenario version) = Step.Scenario 2
 second step = step
 
 abbrev pub seconds : List Step → List Step
@@ -16,7 +12,7 @@ seconds [] = []
 seconds (step ∷ earlier) = second step ∷ seconds earlier
 
 -- what holds of `scenario` and `scenario 2`, and of each other step and itself, holds of each step and the one that stands for it
-pub at_second : (P : Step → Step → Type 0) → ((version : ℕ) → P (steps.Scenario version) (steps.Scenario 2)) → ((step : Step) → P step step)
+pub at_second : (P : Step → Step → Type 0) → ((version : ℕ) → P (Step.Scenario version) (Step.Scenario 2)) → ((step : Step) → P step step)
     → (step : Step) → P step (second step)
 at_second x1 first others step = grind arith
 
@@ -24,14 +20,14 @@ at_second x1 first others step = grind arith
 
 pub gathered : {A : Type 0} (f : List Step → A) (with : Step → A → A)
     → ((step : Step) (earlier : List Step) → f (step ∷ earlier) ≡ with step (f earlier))
-    → ((version : ℕ) (a : A) → with (steps.Scenario 2) a ≡ with (steps.Scenario version) a) → (made : List Step) → f (seconds made) ≡ f made
+    → ((version : ℕ) (a : A) → with (Step.Scenario 2) a ≡ with (Step.Scenario version) a) → (made : List Step) → f (seconds made) ≡ f made
 gathered f with next first [] = refl
 gathered f with next first (step ∷ earlier) =
     next (second step) (seconds earlier) ∙ ap (with (second step)) (gathered f with next first earlier)
     ∙ at_second (λ one other. with other (f earlier) ≡ with one (f earlier)) (λ version. first version (f earlier)) (λ same. refl) step
     ∙ sym (next step earlier)
 
-pub given_same : {A : Type 0} (gives : Step → Option A) → ((version : ℕ) → gives (steps.Scenario 2) ≡ gives (steps.Scenario version))
+pub given_same : {A : Type 0} (gives : Step → Option A) → ((version : ℕ) → gives (Step.Scenario 2) ≡ gives (Step.Scenario version))
     → (made : List Step) → last_given gives (seconds made) ≡ last_given gives made
 given_same gives first made =
     cc (gathered (last_given gives) (λ step given. option_or (gives step) given) (λ step earlier. refl) (λ version given. ap (λ one. option_or one given) (first version)) made)
@@ -150,8 +146,8 @@ ahead_stays version later x3 is = grind (arith, is_ahead_in)
 -- a sink's version is that of its scenario
 version_same : (made : List Step) → unwrap_or (last_of version_given made) 1 ≡ version_of made
 version_same [] = refl
-version_same (steps.Scenario version ∷ earlier) = refl
-version_same (steps.End ∷ earlier) = version_same earlier
+version_same (Step.Scenario version ∷ earlier) = refl
+version_same (Step.End ∷ earlier) = version_same earlier
 version_same (this ∷ earlier) = version_same earlier
 
 pub sink_horizon : (made : List Step) → horizon_of made ≡ horizon_in (version_of made)

@@ -1,8 +1,6 @@
 -- A source of a scenario in version 2: what it sends is the same (Core 5.2, volume 6 part B, section 4.4.6, and part G, section
 -- 2). Where a list is called `own` its steps are those of one source, the newest first.
-use Rattle.std.proofs.Common.{arith}
-use Rattle.scenario_laws.proofs.Prelude.{ℕ, ◌≡◌, Bool, List, [], ◌∷◌, ap, ap₂, unwrap_or, range_with_len, air_after, airs_of, pdu_of, stale_of, Setup, framed_calls, Step, is_ahead_in, pdu_in, setup_of, source_calls, stale_in, version_of}
-use Rattle.source_machine.specs.Calls.{Call, event as perform}
+use Rattle.scenario_laws.proofs.Known.Sources.Steps.Prelude.{arith, ℕ, ◌≡◌, Bool, List, [], ◌∷◌, ap, ap₂, unwrap_or, range_with_len, air_after, airs_of, pdu_of, stale_of, Setup, framed_calls, Step, is_ahead_in, pdu_in, setup_of, source_calls, stale_in, version_of, SourceCall as Call, event as perform}
 use Rattle.scenario_laws.proofs.Versions.Seconds.{calls_same, seconds, same}
 
 -- ---- what fixes it

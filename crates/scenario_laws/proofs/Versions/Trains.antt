@@ -1,14 +1,12 @@
 -- The outcome of a train at a sink whose groups may have a greater horizon: what it brought, where it wasn't answered
 -- `BadGroup 11` (Basic Audio Profile 1.0, section 6.5).
-use Rattle.scenario_laws.proofs.Prelude.{ℕ, ◌≡◌, ◌⊎◌, ◌≤◌, cond, Bool, List, Option, Some, Result, Ok, Err, refl, arith, Endpoint, GroupFault, Horizon, BigInfo, info_of, TrainHeard, Snapshot, TrainOutcome, Train, answer_of, big_info_in, outcome_by, by_base, by_big_info, by_broadcast_id, by_group, by_info, by_slot}
+use Rattle.scenario_laws.proofs.Known.Sources.Steps.Prelude.{ℕ, ◌≡◌, ◌⊎◌, ◌≤◌, cond, Bool, List, Option, Some, Result, Ok, Err, refl, arith, Endpoint, GroupFault, Horizon, BigInfo, info_of, TrainHeard, Snapshot, TrainOutcome, Train, answer_of, big_info_in, outcome_by, by_base, by_big_info, by_broadcast_id, by_group, by_info, by_slot, first_fault, SinkSetup as Setup}
 use Rattle.base_grammar.specs.AdReading.{broadcast_id_of}
 use Rattle.bass_operations.specs.declared.wishes.Wish.{Wish}
 use Rattle.big_info.specs.declared.big_fault.BigFault.{BigFault}
-use Rattle.big_info.specs.Rows.{first_fault}
 use Rattle.pacs_records.specs.declared.capability.Capability.{Capability}
-use Rattle.delegator_history.specs.declared.train_heard.TrainHeard.TheVariants as answers
-use Rattle.delegator_history.specs.Trains.{Setup}
 use Rattle.scenario_laws.proofs.Versions.Groups.{FoundNear, IsNear, first_same}
+use Rattle.delegator_history.specs.declared.train_heard.TrainHeard.TheVariants as answers
 
 -- the limits of a sink, but for the greatest horizon of a group
 abbrev pub with_horizon : ℕ → Setup → Setup
