@@ -1,9 +1,6 @@
 -- A close that a box stops: what was printed before is a prefix of what the close prints.
-use Rattle.replay_steps.proofs.Prelude.{ℕ, ◌≡◌, ◌≢◌, ◌<◌, ◌+◌, ◌-◌, ◌==◌, nat_lt, Bool, true, false, cond, List, [], ◌∷◌, ◌++◌, map, refl, sym, ◌∙◌, ap, ap₂, subst, inl, inr, append_assoc, append-nil, arith, eq-eqb, ne_eqb, le-ltb, lt-ltb, Err, filter, flat_map, range_with_len, and_left, and_right, cases_eq, filter-append, Account, Handed, TookAt, Failed, handed_at, airs_of, Step, SinkUnit, accounts_after, Answered, after_offers, answered, dropped_lines, first_lines, unit_lines, is_of, closing_of, handed_all, BoxFails, Histories, accounts_append, CloseFails, printed_before, FirstFails, answer_lines, lines_at, lines_below, offers_below, offers_of, units_below, flat_within, handed_append}
-use Rattle.transcript_text.specs.Lines.{handed_line}
-use Rattle.scenario_history.specs.Boxes.{sink_numbers}
+use Rattle.replay_steps.proofs.Prelude.{ℕ, ◌≡◌, ◌≢◌, ◌<◌, ◌+◌, ◌-◌, ◌==◌, nat_lt, Bool, true, false, cond, List, [], ◌∷◌, ◌++◌, map, refl, sym, ◌∙◌, ap, ap₂, subst, inl, inr, append_assoc, append-nil, arith, eq-eqb, ne_eqb, le-ltb, lt-ltb, Err, filter, flat_map, range_with_len, and_left, and_right, cases_eq, filter-append, Account, Handed, TookAt, Failed, handed_at, airs_of, Step, SinkUnit, accounts_after, Answered, after_offers, answered, dropped_lines, first_lines, unit_lines, is_of, closing_of, handed_all, BoxFails, Histories, accounts_append, CloseFails, printed_before, FirstFails, answer_lines, lines_at, lines_below, offers_below, offers_of, units_below, flat_within, handed_append, handed_line, sink_numbers, lines_append}
 use Rattle.scenario_history.specs.RelayedUnits.{handed_of}
-use Rattle.scenario_sinks.proofs.Citable.{lines_append}
 use Rattle.replay_steps.proofs.Between.{range_about}
 use Rattle.replay_steps.proofs.CloseLines.{answers_of, flat_nothing, none_handed, of_sink, own_handed, own_lines}
 

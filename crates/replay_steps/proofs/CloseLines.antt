@@ -1,11 +1,7 @@
 -- What a close of source 0 prints, sink by sink, is what its definition says: the units of each sink, and then those that its relay
 -- offered and that source 1 didn't take.
-use Rattle.replay_steps.proofs.Prelude.{ℕ, zero, suc, ◌≡◌, ◌<◌, ◌≤◌, ◌+◌, ◌-◌, ◌==◌, Bool, true, false, cond, List, [], ◌∷◌, ◌++◌, map, refl, sym, ◌∙◌, ap, ap₂, subst, inl, inr, append-nil, arith, eq-eqb, ne_eqb, Option, None, Some, filter, flat_map, range_with_len, cases_eq, filter-append, Call, handed_at, Handed, airs_of, Step, SinkUnit, closing, closing_at, closing_in, Answered, Offer, after_offer, after_offers, answered, dropped_for, offered_of, offers_at, units_on, dropped_lines, first_lines, unit_lines, Route, relay_of, is_of, open_event, steps_of_source, closing_of, handed_all, Histories, histories_of, answer_lines, lines_at, lines_below, offers_below, offers_of, units_below, flat_within, flat_one, other_in, handed_flat, lines_map}
-use Rattle.bcast_base.specs.declared.unit.Unit.{Unit as AudioUnit}
-use Rattle.transcript_text.specs.Lines.{handed_line}
-use Rattle.scenario_history.specs.Boxes.{sink_numbers}
+use Rattle.replay_steps.proofs.Prelude.{ℕ, zero, suc, ◌≡◌, ◌<◌, ◌≤◌, ◌+◌, ◌-◌, ◌==◌, Bool, true, false, cond, List, [], ◌∷◌, ◌++◌, map, refl, sym, ◌∙◌, ap, ap₂, subst, inl, inr, append-nil, arith, eq-eqb, ne_eqb, Option, None, Some, filter, flat_map, range_with_len, cases_eq, filter-append, Call, handed_at, Handed, airs_of, Step, SinkUnit, closing, closing_at, closing_in, Answered, Offer, after_offer, after_offers, answered, dropped_for, offered_of, offers_at, units_on, dropped_lines, first_lines, unit_lines, Route, relay_of, is_of, open_event, steps_of_source, closing_of, handed_all, Histories, histories_of, answer_lines, lines_at, lines_below, offers_below, offers_of, units_below, flat_within, flat_one, other_in, handed_flat, lines_map, AudioUnit, handed_line, sink_numbers, own_units}
 use Rattle.scenario_history.specs.RelayedUnits.{handed_of}
-use Rattle.scenario_laws.proofs.RelayedUnits.Citable.{own_handed as own_units}
 use Rattle.replay_steps.proofs.Offering.{after_append, answered_append}
 
 -- ---- lists

@@ -1,7 +1,5 @@
 -- What a close of a source left, whether an event of it was open or none.
-use Rattle.std.proofs.Common.{arith}
-use Rattle.replay_steps.proofs.Prelude.{ℕ, zero, suc, ◌≡◌, ◌≢◌, List, [], ◌++◌, refl, sym, ◌∙◌, subst, append-nil, Option, None, Some, Result, Ok, Err, range_with_len, Account, airs_of, Stop, Refused, OutletFault, Memory, Refusal, Step, SinkUnit, accounts_after, Answered, after_offers, answered, first_lines, unit_lines, is_of, closings_at, CutShort, Histories, with_close, SinksStand, Sinks, RelaysStand, SourcesStand, hands_stop, stands_same, Machine, CloseFails, relay_histories, Closes, FirstMeets, ComponentsStand, SecondMeets}
-use Rattle.scenario_history.specs.Boxes.{sink_numbers}
+use Rattle.replay_steps.proofs.Prelude.{ℕ, zero, suc, ◌≡◌, ◌≢◌, List, [], ◌++◌, refl, sym, ◌∙◌, subst, append-nil, Option, None, Some, Result, Ok, Err, range_with_len, Account, airs_of, Stop, Refused, OutletFault, Memory, Refusal, Step, SinkUnit, accounts_after, Answered, after_offers, answered, first_lines, unit_lines, is_of, closings_at, CutShort, Histories, with_close, SinksStand, Sinks, RelaysStand, SourcesStand, hands_stop, stands_same, Machine, CloseFails, relay_histories, Closes, FirstMeets, ComponentsStand, SecondMeets, arith, sink_numbers}
 use Rattle.scenario_sinks.specs.Closing as sinks
 use Rattle.replay_steps.proofs.BoxStops.{AreFrom, first_fails, from_closings, second_fails}
 use Rattle.replay_steps.proofs.CloseLines.{lines_closed, offers_closed, units_closed}

@@ -1,6 +1,5 @@
 -- A step that closes the open event of source 0, by what the close of each sink made of the components.
-use Rattle.std.proofs.Common.{arith}
-use Rattle.replay_steps.proofs.Prelude.{ℕ, ◌≡◌, ◌==◌, cond, false, List, ◌∷◌, ◌++◌, refl, sym, ◌∙◌, ap, subst, Option, None, Some, range_with_len, Account, airs_of, Step, SinkUnit, closing, handed_by, Answered, Offer, after_offers, answered, answered_by, closes_first, offered_of, offers_at, with_relayed_units, close_lines, first_lines, output_of, unit_lines, is_of, ticked_if, open_event, chosen_of, chosen_steps, steps_of_source, left_by_offers, flat_same, closing_of, handed_all, Histories, with_close, SinksStand, Sinks, stands_same, RelaysStand, SourcesStand, Machine, Stands, histories_of, relay_histories, answer_lines, lines_at, lines_below, offers_below, offers_of, stage_in}
+use Rattle.replay_steps.proofs.Prelude.{ℕ, ◌≡◌, ◌==◌, cond, false, List, ◌∷◌, ◌++◌, refl, sym, ◌∙◌, ap, subst, Option, None, Some, range_with_len, Account, airs_of, Step, SinkUnit, closing, handed_by, Answered, Offer, after_offers, answered, answered_by, closes_first, offered_of, offers_at, with_relayed_units, close_lines, first_lines, output_of, unit_lines, is_of, ticked_if, open_event, chosen_of, chosen_steps, steps_of_source, left_by_offers, flat_same, closing_of, handed_all, Histories, with_close, SinksStand, Sinks, stands_same, RelaysStand, SourcesStand, Machine, Stands, histories_of, relay_histories, answer_lines, lines_at, lines_below, offers_below, offers_of, stage_in, arith}
 use Rattle.replay_steps.proofs.CloseLines.{first_printed, lines_closed, offers_closed, offers_same, units_are, units_closed}
 use Rattle.replay_steps.proofs.Closed.{FirstClosed}
 use Rattle.replay_steps.proofs.AfterRelays.{MeansOne, relays_behind, same_answers, same_answers_after, sources_behind}

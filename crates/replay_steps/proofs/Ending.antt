@@ -1,9 +1,7 @@
 -- The sums of the boxes, and the end of a scenario.
-use Rattle.replay_steps.proofs.Prelude.{◌≡◌, ℕ, ◌≤◌, List, [], ◌∷◌, ◌++◌, length, inr, ne_eqb, refl, sym, ◌∙◌, ap, subst, append-nil, append_assoc, arith, Option, None, Some, Ok, Err, flat_map, range_with_len, Account, airs_of, Call, sum_line, Stop, Refused, OutletFault, Memory, Step, Drop, End, over, running, sinks_made, stage_after, stage_of, steps_of_source, open_event, is_of, sink_calls, source_of, ticked_if, SinkUnit, account_at, accounts_after, box_of, closing, closing_both, closing_by, handed_up, valid_for, Answered, Offer, after_offers, answered, answered_by, with_relayed_units, first_lines, output_of, sum_if, sums_of, unit_lines, no_sink, phase_refusal, box_was_made, octets_add_up, units_add_up, left_by_offers, flat_same, Sources, SourcesStand, drop_says, end_says, sources_stay, Sinks, closings_at, CutShort, with_close, without, SinksStand, accounts_append, hands_then, stands_same, Machine, RelaysStand, CloseFails, Stands, histories_of, relay_histories, BoxesStand, Meets, Tells, phase_line, Closes, ComponentsStand, stage_in}
-use Rattle.scenario_history.specs.Boxes.{sink_numbers}
+use Rattle.replay_steps.proofs.Prelude.{◌≡◌, ℕ, ◌≤◌, List, [], ◌∷◌, ◌++◌, length, inr, ne_eqb, refl, sym, ◌∙◌, ap, subst, append-nil, append_assoc, arith, Option, None, Some, Ok, Err, flat_map, range_with_len, Account, airs_of, Call, sum_line, Stop, Refused, OutletFault, Memory, Step, Drop, End, over, running, sinks_made, stage_after, stage_of, steps_of_source, open_event, is_of, sink_calls, source_of, ticked_if, SinkUnit, account_at, accounts_after, box_of, closing, closing_both, closing_by, handed_up, valid_for, Answered, Offer, after_offers, answered, answered_by, with_relayed_units, first_lines, output_of, sum_if, sums_of, unit_lines, no_sink, phase_refusal, box_was_made, octets_add_up, units_add_up, left_by_offers, flat_same, Sources, SourcesStand, drop_says, end_says, sources_stay, Sinks, closings_at, CutShort, with_close, without, SinksStand, accounts_append, hands_then, stands_same, Machine, RelaysStand, CloseFails, Stands, histories_of, relay_histories, BoxesStand, Meets, Tells, phase_line, Closes, ComponentsStand, stage_in, sink_numbers, not_living}
 use Rattle.scenario_laws.specs.RelayedUnits.Laws.{IsLeft}
 use Rattle.scenario_sinks.specs.Refusals as sinks
-use Rattle.scenario_sinks.specs.Refusals.{not_living}
 use Rattle.scenario_sinks.specs.Sums.{Puts, sum_where, sums_where}
 use Rattle.replay_steps.proofs.BoxStops.{AreFrom, from_closings}
 use Rattle.replay_steps.proofs.Closed.{FirstClosed, first_cut, first_fails_at, never_refused, second_closed, second_cut, second_fails_at}

@@ -1,5 +1,4 @@
-use Rattle.std.proofs.Common.{ℕ, ◌≡◌, ◌-◌, length}
-use Rattle.replay_steps.specs.Losing.{CountsOn}
+use Rattle.replay_steps.proofs.Prelude.{ℕ, ◌≡◌, ◌-◌, length, CountsOn}
 use Rattle.replay_steps.proofs.Losing.{Marked}
 use Rattle.replay_steps.proofs.losses.Losses.next.Given as goal
 

@@ -1,5 +1,4 @@
-use Rattle.std.proofs.Common.{arith}
-use Rattle.replay_steps.proofs.Prelude.{Ok, map, relay_of, closing_of, handed_all, with_close_at, handed_of, relay_histories}
+use Rattle.replay_steps.proofs.Prelude.{Ok, map, relay_of, closing_of, handed_all, with_close_at, handed_of, relay_histories, arith}
 use Rattle.replay_steps.proofs.Relaying.{offers_lent, offers_stop, sink_relays, sink_stops}
 use Rattle.replay_steps.proofs.machine.Machine.close_sink.Goals as goal
 
