@@ -1,6 +1,6 @@
 -- What a step makes of the group that a sink is on: the sink stays there, or is on none then, or the step puts it on one.
-use Rattle.scenario_laws.proofs.Known.Sources.{arith, ℕ, ◌≡◌, ◌⊎◌, ◌==◌, cond, true, false, List, [], ◌∷◌, None, Some, refl, sym, ◌∙◌, ap, inl, inr, cases_Bool, tune, BigSync, Step, chosen_of, chosen_steps, Airs, sink_calls, source_of, big_sync_on, handed_by, closed_by, is_given, is_made, is_tuned, place, Announcing, Legal, Permitted, PutBy, StaysBy, announced, given_stays, plain_stays, air_place, end_place, same_place, tick_if_place, next_in}
-use Rattle.scenario_laws.proofs.ByHand.{as_by_hand}
+use Rattle.scenario_laws.proofs.Known.Sources.{arith, ℕ, ◌≡◌, ◌⊎◌, ◌==◌, cond, true, false, List, [], ◌∷◌, None, Some, refl, sym, ◌∙◌, ap, inl, inr, cases_Bool, tune, BigSync, Step, chosen_of, chosen_steps, Airs, sink_calls, source_of, big_sync_on, handed_by, closed_by, is_given, is_made, is_tuned, place, Legal, Permitted, PutBy, StaysBy, announced, given_stays, plain_stays, air_place, end_place, same_place, tick_if_place, next_in}
+use Rattle.scenario_laws.proofs.Announced.{as_by_hand, Announcing}
 use Rattle.delegator_machine.specs.Groups as machine
 
 -- the sink stays on its group, or on none, and of its source
@@ -73,13 +73,6 @@ becomes airs n (Step.Tuned sink which) earlier ungiven = elim (cases_Bool (sink 
       kept airs n (Step.Tuned sink which) earlier other refl (ap (λ b. cond b (Some (chosen_of earlier)) (source_of n earlier)) other)
       (ap (λ b. place (cond b (tune (big_sync_on (chosen_steps earlier) which) ∷ sink_calls airs n earlier) (sink_calls airs n earlier))) other)
 ]
-becomes airs n (Step.Hear sink back bis subevent) earlier ungiven = search (kept, same_place)
-becomes airs n (Step.Air sink lose) earlier ungiven = search (kept, same_place, air_place)
-becomes airs n (Step.Inject sink back bis subevent octets) earlier ungiven = search (kept, same_place)
-becomes airs n Step.Event earlier ungiven = search (kept, tick_if_place)
-becomes airs n Step.Stop earlier ungiven = search (kept, tick_if_place)
-becomes airs n (Step.Terminate reason) earlier ungiven = search (kept, tick_if_place)
-becomes airs n Step.End earlier ungiven = search (kept, end_place)
 becomes airs n (Step.Announce sink) earlier ungiven = elim (announced airs n sink earlier) [
   | inl stays ↦ stayed airs n (Step.Announce sink) earlier (record { hands = λ made. refl; closes = λ s. refl }) refl stays
   | inr goes ↦ elim goes [
@@ -94,8 +87,7 @@ becomes airs n (Step.Announce sink) earlier ungiven = elim (announced airs n sin
     }))
   ]
 ]
-becomes airs n (Step.Train sink time ext adv acad) earlier ungiven = search (stayed, given_stays)
-becomes airs n step earlier ungiven = search (stayed, plain_stays)
+becomes airs n step earlier ungiven = search (kept, same_place, air_place, tick_if_place, end_place, stayed, given_stays, plain_stays)
 
 -- the group's first event is the source's next one
 pub puts_first : Announcing → (airs : Airs) (boxes n : ℕ) (step : Step) (earlier : List Step) → Legal airs boxes earlier → Permitted airs boxes earlier step

@@ -1,5 +1,6 @@
 -- The laws of lower crates that the laws of units stand on.
-use Rattle.scenario_laws.proofs.Known.Sources.{ℕ, ◌≡◌, ◌<◌, ◌≤◌, ◌+◌, ◌++◌, List, [], length, Some, slice_get, Contains, Group, Bounds, pdu, Stay, opened, Air, IsFramedAir, Timed, decided, Sends, Sent, Fit, InOrder, closed_end, handed, Slots, FromSource, Struck, payload_number, AreAirs, airs_of, content_at, pdu_of, Setup, next_of, IsChecked, Call, BigSync, of_stream, stay_on, stream_calls, streams_of, FramedCall, accepted as timed, FramedFromSource, struck as struck_over, SourceCall, place, ticked_since as handed_since, closes, Announcing, LinesInRange, StayCall}
+use Rattle.scenario_laws.proofs.Known.Sources.{ℕ, ◌≡◌, ◌<◌, ◌≤◌, ◌+◌, ◌++◌, List, [], length, Some, slice_get, Contains, Group, Bounds, pdu, Stay, opened, Air, IsFramedAir, Timed, decided, Sends, Sent, Fit, InOrder, closed_end, handed, Slots, FromSource, Struck, payload_number, AreAirs, airs_of, content_at, pdu_of, Setup, next_of, IsChecked, Call, BigSync, of_stream, stay_on, stream_calls, streams_of, FramedCall, accepted as timed, FramedFromSource, struck as struck_over, SourceCall, place, ticked_since as handed_since, closes, LinesInRange, StayCall}
+use Rattle.scenario_laws.proofs.Announced.{Announcing}
 
 pub record Below : Type 0 where
   -- what a line says is in range

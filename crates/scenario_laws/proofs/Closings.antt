@@ -123,9 +123,6 @@ both_shown s shown least = grind (arith, append-nil)
 
 pub step_shown : (airs : Airs) (boxes s n : ℕ) (step : Step) (earlier : List Step) → Legal airs boxes earlier → s ≤ 1 → n ≤ 7
     → of_sink s n (handed_by airs earlier step) ≡ shown_by airs s n earlier step
-step_shown airs boxes s n Step.Event earlier legal least within = closing_shown airs boxes s (chosen_of earlier) n earlier legal within
-step_shown airs boxes s n Step.Stop earlier legal least within = closing_shown airs boxes s (chosen_of earlier) n earlier legal within
-step_shown airs boxes s n (Step.Terminate reason) earlier legal least within = closing_shown airs boxes s (chosen_of earlier) n earlier legal within
 step_shown airs boxes s n Step.End earlier legal least within =
     cc (
       of_sink_on s n (closing airs 0 earlier) (closing airs 1 earlier),
@@ -133,4 +130,4 @@ step_shown airs boxes s n Step.End earlier legal least within =
       closing_shown airs boxes s 1 n earlier legal within,
       both_shown s (shown_with airs s n earlier) least,
     )
-step_shown airs boxes s n _ earlier legal least within = refl
+step_shown airs boxes s n step earlier legal least within = search (closing_shown airs boxes s (chosen_of earlier) n earlier legal within)

@@ -11,8 +11,7 @@ Ranged steps = AllByRecursion IsInRange steps
 
 ranged_said : (earlier : List Step) (said : Said) → Ranged earlier → InRange said → Ranged (with_said said earlier)
 ranged_said earlier (a_step this) before ranged = (ranged, before)
-ranged_said earlier nothing before ranged = before
-ranged_said earlier (unsaid reason) before ranged = before
+ranged_said earlier said before ranged = search
 
 pub ranged_lines : LinesInRange → (lines : List TextLine) → Ranged (said_of lines)
 ranged_lines ranged [] = tt

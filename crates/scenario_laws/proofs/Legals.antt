@@ -24,8 +24,7 @@ in_range ranged version line = grind (arith, by_reading)
 legal_said : (airs : Airs) (boxes : ℕ) (earlier : List Step) (said : Said) → AreSaidLegally airs boxes earlier → InRange said
     → refusal_said airs boxes (happened airs earlier) said ≡ None → AreSaidLegally airs boxes (with_said said earlier)
 legal_said airs boxes earlier (a_step this) before ranged none = (before, none, ranged)
-legal_said airs boxes earlier nothing before ranged none = before
-legal_said airs boxes earlier (unsaid reason) before ranged none = before
+legal_said airs boxes earlier said before ranged none = search
 
 pub said_legally : LinesInRange → (airs : Airs) (starts : List Account) (lines : List TextLine) → Accepted (rules_of airs starts) lines
     → AreSaidLegally airs (length starts) (said_of lines)

@@ -1,7 +1,7 @@
 -- What a line makes of a sink that it names by its control or by its links: its receivers stay or leave, or a train puts them on
 -- a group; and a sink that follows a train on no group may be of another source then.
-use Rattle.scenario_laws.proofs.Known.Sources.Steps.Prelude.{ℕ, ◌≡◌, ◌⊎◌, ◌==◌, ◌&&◌, cond, Bool, true, false, List, ◌∷◌, Option, None, Some, is_some, refl, ap, inl, inr, arith, by_numbers, with_leave, with_step, TrainHeard, Snapshot, TrainOutcome, Settings, Train, heard, ignored, outcome_by, by_broadcast_id, by_slot, big_sync_in, BigSync, Call, leave, tune, has_group, Step, Source, made_of, named_by, own_train, brings_by, follows, big_sync_of, received_by, source_by, train_by, snapshot_in, Airs, sink_calls, source_after, source_of, with_sink_call, chosen_of, calls_made, source_at, is_tuned, SinkSetup as Setup, taken, place, moved, LinkCall}
-use Rattle.scenario_laws.proofs.Nowhere.{Nowhere, nowhere}
+use Rattle.scenario_laws.proofs.Known.Sources.Steps.Prelude.{ℕ, ◌≡◌, ◌⊎◌, ◌==◌, ◌&&◌, cond, Bool, true, false, List, ◌∷◌, Option, None, Some, is_some, refl, ap, inl, inr, arith, by_numbers, with_leave, with_step, TrainHeard, Snapshot, TrainOutcome, Settings, Train, heard, ignored, outcome_by, by_broadcast_id, by_slot, big_sync_in, BigSync, Call, leave, tune, has_group, Step, Source, made_of, named_by, own_train, brings_by, follows, big_sync_of, received_by, source_by, train_by, snapshot_in, Airs, sink_calls, source_after, source_of, with_sink_call, chosen_of, calls_made, source_at, is_tuned, SinkSetup as Setup, taken, place, moved, LinkCall, is_made, is_injected, is_given}
+use Rattle.scenario_laws.proofs.Places.{Nowhere, nowhere}
 
 -- ---- what becomes of the receivers
 
@@ -54,6 +54,13 @@ plain_stays airs n step earlier none is same begins_not = grind (arith, sink_cal
 
 pub same_if : {A : Type 0} (hit : Bool) (x : A) → cond hit x x ≡ x
 same_if hit x = grind arith
+
+-- whether a step makes the sink is the same whatever came before
+pub made_alike : (n : ℕ) (one other : List Step) (step : Step) → is_made n one step ≡ is_made n other step
+made_alike n one other step = cc
+
+pub given_is_injected : (n : ℕ) (step : Step) → is_injected n step ≡ false → is_given n step ≡ false
+given_is_injected n _ clean = grind arith
 
 -- of a sink that doesn't live
 pub unmoved : (n : ℕ) (named : Option ℕ) (step : Step) (earlier : List Step) (calls : List Call) → made_of n earlier ≡ None → moved n named step earlier calls ≡ calls

@@ -1,6 +1,6 @@
 -- The stays of a sink: it is on the group of the source that it is of, by what fixes the source.
-use Rattle.scenario_laws.proofs.Known.Sources.{ℕ, ◌≡◌, ◌⊎◌, ◌≤◌, ◌||◌, cond, Bool, true, false, List, [], ◌∷◌, Option, Some, refl, sym, ◌∙◌, ap, subst, arith, inl, inr, false≢true, or_parts, none-some, same_Some, iso_us_of, anchor_of, Setup, next_of, Call, tune, BigSync, Step, chosen_of, chosen_steps, steps_of_source, is_started, setup_of, source_calls, Airs, sink_calls, source_of, big_sync_on, any_since, given_since_made, injected_since, is_given, is_injected, is_made, is_tuned, steps_before, place, has_beyond, Announcing, Legal, Permitted, fails_not, permitted, sends, takes, true_not_false, goes, next_in}
-use Rattle.scenario_laws.proofs.ByHand.{as_by_hand}
+use Rattle.scenario_laws.proofs.Known.Sources.{ℕ, ◌≡◌, ◌⊎◌, ◌≤◌, ◌||◌, cond, Bool, true, false, List, [], ◌∷◌, Option, Some, refl, sym, ◌∙◌, ap, subst, arith, inl, inr, false≢true, or_parts, none-some, same_Some, iso_us_of, anchor_of, Setup, next_of, Call, tune, BigSync, Step, chosen_of, chosen_steps, steps_of_source, is_started, setup_of, source_calls, Airs, sink_calls, source_of, big_sync_on, any_since, given_since_made, injected_since, is_given, is_injected, is_made, is_tuned, steps_before, place, has_beyond, Legal, Permitted, fails_not, permitted, sends, takes, true_not_false, goes, next_in, given_is_injected}
+use Rattle.scenario_laws.proofs.Announced.{Announcing, as_by_hand}
 use Rattle.scenario_laws.proofs.Becoming.{Puts, becomes, puts_first}
 
 -- where the stay is on the source's group
@@ -21,9 +21,6 @@ rest_not begins now rest clean is = grind (arith, false≢true, or_parts)
 
 both_not : (begins now rest : Bool) → now ≡ false → (begins ≡ false → rest ≡ false) → cond begins now (now || rest) ≡ false
 both_not begins now rest last before = grind (arith, false≢true)
-
-given_is_injected : (n : ℕ) (step : Step) → is_injected n step ≡ false → is_given n step ≡ false
-given_is_injected n _ clean = grind arith
 
 -- where nothing was injected, no train was given
 pub none_given : (begins : List Step → Step → Bool) (n : ℕ) (made : List Step) → injected_since begins n made ≡ false → any_since begins (is_given n) made ≡ false

@@ -1,5 +1,6 @@
 -- The units law of a stay.
-use Rattle.scenario_laws.proofs.Known.{ℕ, zero, suc, ◌≡◌, ◌≤◌, ◌+◌, ◌-◌, ◌==◌, cond, ltb, Bool, false, List, [], ◌∷◌, ◌++◌, length, Option, Some, refl, sym, ◌∙◌, ap, subst, inl, inr, arith, slice_get, AllByRecursion, Contains, eq-eqb, eqb-true, ltb-false, append-nil, none-some, same_Some, BigInfo, Bounds, Account, Handed, before_event, lay, lays, begun, handed, Struck, air_at, slots_of, Airs, give_fault, Call, tune, hear, BigSync, of_stream, stay_on, streams_of, member_is, Step, IsInRange, chosen_of, chosen_steps, steps_of_source, open_event, setup_of, source_calls, MeetAirs, heard_on_air, is_of, reaches, sink_calls, source_of, positions_of, ticked, ticked_if, unless_lost, big_sync_on, SinkUnit, handed_by, give_refusal, steps_of, IsStayStruck, UnitsLaw, any_since, calls_on, handed_since, injected_since, is_given, is_tuned, of_sink, StreamCall, unframed_accept as accept, unframed_accepted as accepted, SourceCall, source_stream, place, ticked_since, Below, Legal, legal, maps_none, Allowed, Lawful, Settled, bounds_in, lawful, no_group_yet, settled, within_itself, StaysBy, announced, given_stays, plain_stays, BeginsBy, IsOn, IsThere, OnSource, first_next, last_not, none_given, on_before, on_source, rest_not, all_own, sends_own, from_source, stay_within, handed_open, of_sink_on, shown_by, shown_with, step_shown, second_false, chosen_within, end_ticks, event_ticks, all_push}
+use Rattle.scenario_laws.proofs.Known.{ℕ, zero, suc, ◌≡◌, ◌≤◌, ◌+◌, ◌-◌, ◌==◌, cond, ltb, Bool, false, List, [], ◌∷◌, ◌++◌, length, Option, Some, refl, sym, ◌∙◌, ap, subst, inl, inr, arith, slice_get, AllByRecursion, Contains, eq-eqb, eqb-true, ltb-false, append-nil, none-some, same_Some, BigInfo, Bounds, Account, Handed, before_event, lay, lays, begun, handed, Struck, air_at, slots_of, Airs, give_fault, Call, tune, hear, BigSync, of_stream, stay_on, streams_of, member_is, Step, IsInRange, chosen_of, chosen_steps, steps_of_source, open_event, setup_of, source_calls, MeetAirs, heard_on_air, is_of, reaches, sink_calls, source_of, positions_of, ticked, ticked_if, unless_lost, big_sync_on, SinkUnit, handed_by, give_refusal, steps_of, IsStayStruck, UnitsLaw, any_since, calls_on, handed_since, injected_since, is_given, is_tuned, of_sink, StreamCall, unframed_accept as accept, unframed_accepted as accepted, SourceCall, source_stream, place, ticked_since, Below, Legal, legal, maps_none, Allowed, Lawful, Settled, bounds_in, lawful, no_group_yet, settled, within_itself, StaysBy, announced, given_stays, plain_stays, BeginsBy, IsOn, IsThere, OnSource, first_next, last_not, none_given, on_before, on_source, rest_not, all_own, stay_within, handed_open, of_sink_on, shown_by, shown_with, step_shown, second_false, chosen_within, end_ticks, event_ticks, all_push, PutsBy}
+use Rattle.scenario_laws.proofs.FromSources.{sends_own, from_source}
 use Rattle.scenario_laws.proofs.FramedStays.{framed_law, taken_within}
 
 -- ---- no unit is longer than Max_SDU
@@ -114,11 +115,12 @@ abbrev Since : Airs → ℕ → ℕ → List Step → Type 0
 Since airs s n made = of_sink s n (handed_since (is_tuned n) airs made) ≡ ticked_since (sink_calls airs n made)
 
 -- a step that puts the sink nowhere
-still_since : (airs : Airs) (boxes s n : ℕ) (step : Step) (earlier : List Step) (tuning : BigSync) → Legal airs boxes earlier → s ≤ 1 → n ≤ 7 → (BeginsBy airs s n step earlier tuning → ⊥)
+still_since : (airs : Airs) (boxes s n : ℕ) (step : Step) (earlier : List Step) (tuning : BigSync) → Legal airs boxes earlier → s ≤ 1 → n ≤ 7 → ((on : BigSync) → PutsBy airs n step earlier on → ⊥)
     → IsOn airs s n (step ∷ earlier) tuning → (IsOn airs s n earlier tuning → Since airs s n earlier)
     → (source_of n earlier ≡ Some s → ticked_since (sink_calls airs n (step ∷ earlier)) ≡ ticked_since (sink_calls airs n earlier) ++ shown_by airs s n earlier step)
     → of_sink s n (handed_since (is_tuned n) airs earlier ++ handed_by airs earlier step) ≡ ticked_since (sink_calls airs n (step ∷ earlier))
 still_since airs boxes s n step earlier tuning legal least within never is since grow =
+    let begins_not : BeginsBy airs s n step earlier tuning → ⊥ = λ begins. never begins.puts.on begins.puts.by in
     grind (arith, on_before, of_sink_on, handed_since, is_tuned, handed_by, of_sink, since, sink_calls, step_shown, legal)
 
 -- a step by which the receivers stay
@@ -133,27 +135,11 @@ since_after airs boxes s n (Step.Tuned sink which) earlier tuning legal least wi
     put_since s n (sink == n) (big_sync_on (chosen_steps earlier) which) tuning (chosen_of earlier) (sink_calls airs n earlier) (source_of n earlier)
     (handed_since (is_tuned n) airs earlier) (record { place_is = is.place_is; source_is = is.source_is })
     (λ there put_not. since (assumption (rest_not (sink == n) false (any_since (is_tuned n) (is_given n) earlier) is.ungiven put_not)))
-since_after airs boxes s n (Step.Sink sink streams slots mtu) earlier tuning legal least within is since =
-    still_since airs boxes s n (Step.Sink sink streams slots mtu) earlier tuning legal least within (λ begins. begins.puts.by) is since
-    (λ its. gone_since (sink == n) (sink_calls airs n earlier) tuning is.place_is)
-since_after airs boxes s n (Step.Drop sink) earlier tuning legal least within is since = cc (still_since airs boxes s n (Step.Drop sink) earlier tuning legal least within (λ begins. begins.puts.by) is since (λ its. gone_since (sink == n) (sink_calls airs n earlier) tuning is.place_is))
-since_after airs boxes s n (Step.Hear sink back bis subevent) earlier tuning legal least within is since =
-    still_since airs boxes s n (Step.Hear sink back bis subevent) earlier tuning legal least within (λ begins. begins.puts.by) is since
-    (λ its. more_since (reaches sink n earlier) _ (sink_calls airs n earlier) refl)
 since_after airs boxes s n (Step.Air sink lose) earlier tuning legal least within is since =
-    still_since airs boxes s n (Step.Air sink lose) earlier tuning legal least within (λ begins. begins.puts.by) is since
+    still_since airs boxes s n (Step.Air sink lose) earlier tuning legal least within (λ on by. by) is since
     (λ its. more_since (reaches sink n earlier) _ (sink_calls airs n earlier) (air_since airs (chosen_steps earlier) lose (positions_of (chosen_steps earlier)) (sink_calls airs n earlier)))
-since_after airs boxes s n (Step.Inject sink back bis subevent octets) earlier tuning legal least within is since =
-    still_since airs boxes s n (Step.Inject sink back bis subevent octets) earlier tuning legal least within (λ begins. begins.puts.by) is since
-    (λ its. more_since (reaches sink n earlier) _ (sink_calls airs n earlier) refl)
-since_after airs boxes s n Step.Event earlier tuning legal least within is since =
-    still_since airs boxes s n Step.Event earlier tuning legal least within (λ begins. begins.puts.by) is since (λ its. closed_since_by airs s n earlier its)
-since_after airs boxes s n Step.Stop earlier tuning legal least within is since =
-    still_since airs boxes s n Step.Stop earlier tuning legal least within (λ begins. begins.puts.by) is since (λ its. closed_since_by airs s n earlier its)
-since_after airs boxes s n (Step.Terminate reason) earlier tuning legal least within is since =
-    still_since airs boxes s n (Step.Terminate reason) earlier tuning legal least within (λ begins. begins.puts.by) is since (λ its. closed_since_by airs s n earlier its)
 since_after airs boxes s n Step.End earlier tuning legal least within is since =
-    still_since airs boxes s n Step.End earlier tuning legal least within (λ begins. begins.puts.by) is since
+    still_since airs boxes s n Step.End earlier tuning legal least within (λ on by. by) is since
     (grind (arith, end_ticks, open_event, steps_of_source, sink_calls, source_of, tick_since, own_if, handed_open))
 since_after airs boxes s n (Step.Announce sink) earlier tuning legal least within is since = elim (announced airs n sink earlier) [
   | inl stays ↦ stays_since airs boxes s n (Step.Announce sink) earlier tuning stays refl is since
@@ -162,7 +148,8 @@ since_after airs boxes s n (Step.Announce sink) earlier tuning legal least withi
 since_after airs boxes s n (Step.Train sink time ext adv acad) earlier tuning legal least within is since =
     stays_since airs boxes s n (Step.Train sink time ext adv acad) earlier tuning (grind (arith, given_stays, last_not, is_tuned, any_since, is_given)) refl is since
 since_after airs boxes s n step earlier tuning legal least within is since =
-    stays_since airs boxes s n step earlier tuning (plain_stays airs n step earlier refl refl refl refl) refl is since
+    search (still_since airs boxes s n step earlier tuning legal least within, gone_since, more_since, closed_since_by airs s n earlier,
+    stays_since airs boxes s n step earlier tuning, plain_stays airs n step earlier)
 
 pub since : (airs : Airs) (boxes s n : ℕ) (made : List Step) (tuning : BigSync) → Legal airs boxes made → s ≤ 1 → n ≤ 7 → IsOn airs s n made tuning → Since airs s n made
 since airs boxes s n [] tuning legal least within is = refl

@@ -21,32 +21,7 @@ called_sourced _ source source' same made calls = grind (arith, calls_by)
 called_some : (source : Source) (line : Step) (made : Settings) (a b : List Call) → Alike made.setup made.mtu a b
     → Alike made.setup made.mtu (calls_by source line (Some made) a) (calls_by source line (Some made) b)
 called_some source (Step.Drop sink) made a b same = alike_itself made.setup made.mtu []
-called_some source (Step.Pac sink codec caps metadata) made a b same = search (grows)
-called_some source (Step.Locate sink bits) made a b same = grows made.setup made.mtu (Call.stepped (locations_set bits)) a b same
-called_some source (Step.Context sink sink_bits source_bits) made a b same = search (grows)
-called_some source (Step.Tuned sink which) made a b same = search (grows)
-called_some source (Step.Announce sink) made a b same = grows made.setup made.mtu (Call.stepped (train_heard (own_train source))) a b same
-called_some source (Step.Train sink time ext adv acad) made a b same = search (grows)
-called_some source (Step.Lose sink) made a b same = grows made.setup made.mtu (Call.stepped train_lost) a b same
-called_some source (Step.Control sink octets) made a b same = grows made.setup made.mtu (Call.stepped (control_heard octets)) a b same
-called_some source (Step.Write sink octets) made a b same = grows made.setup made.mtu (Call.asked 0 octets) a b same
-called_some source (Step.Add sink op) made a b same = grows made.setup made.mtu (Call.asked 0 (encoding (operations.Add op))) a b same
-called_some source (Step.Modify sink op) made a b same = search (grows)
-called_some source (Step.Remove sink source_id) made a b same = search (grows)
-called_some source (Step.Code sink source_id code) made a b same = search (grows)
-called_some source (Step.Serve sink) made a b same = grows made.setup made.mtu (Call.served 0) a b same
-called_some source (Step.Tell sink) made a b same = grows made.setup made.mtu (Call.notified 0) a b same
-called_some source (Step.Read sink) made a b same = grows made.setup made.mtu (Call.read 0) a b same
-called_some source (Step.Drain sink) made a b same = drains made.setup made.mtu 0 a b same
-called_some source (Step.Forge sink slot octets) made a b same = grows made.setup made.mtu (Call.forged slot octets) a b same
-called_some source (Step.Assist sink link) made a b same = grows made.setup made.mtu (Call.joined link) a b same
-called_some source (Step.Apart sink link) made a b same = grows made.setup made.mtu (Call.parted link) a b same
-called_some source (Step.AWrite sink link octets) made a b same = grows made.setup made.mtu (Call.asked link octets) a b same
-called_some source (Step.AServe sink link) made a b same = grows made.setup made.mtu (Call.served link) a b same
-called_some source (Step.ATell sink link) made a b same = grows made.setup made.mtu (Call.notified link) a b same
-called_some source (Step.ARead sink link) made a b same = grows made.setup made.mtu (Call.read link) a b same
-called_some source (Step.ADrain sink link) made a b same = drains made.setup made.mtu link a b same
-called_some source _ made a b same = same
+called_some source _ made a b same = search (grows, drains)
 
 lives_if : (hit : Bool) (made : Option Settings) (a b a' b' : List Call) → HistoriesAlike made a b → HistoriesAlike made a' b'
     → HistoriesAlike made (cond hit a' a) (cond hit b' b)

@@ -72,11 +72,8 @@ fits_closing : (airs : Airs) (made : List Step) (b n t : ℕ) → box_of n made 
 fits_closing airs made b n t its = fits_at airs made b n t (open_event (steps_of_source t made)) its
 
 fits_step : (airs : Airs) (made : List Step) (b n : ℕ) (step : Step) → box_of n made ≡ Some b → FitsBox b n (handed_by airs made step)
-fits_step airs made b n Step.Event its = fits_closing airs made b n (chosen_of made) its
-fits_step airs made b n Step.Stop its = fits_closing airs made b n (chosen_of made) its
-fits_step airs made b n (Step.Terminate reason) its = fits_closing airs made b n (chosen_of made) its
 fits_step airs made b n Step.End its = search (fits_append, fits_closing)
-fits_step airs made b n _ its = tt
+fits_step airs made b n step its = search (fits_closing)
 
 pub step_octets : (airs : Airs) (made : List Step) (b n : ℕ) (step : Step) → box_of n made ≡ Some b
     → valid_for b (handed_by airs made step) ≡ octets_in (units_by n (handed_by airs made step))

@@ -86,9 +86,6 @@ offers_units airs n bis to made below stands =
 
 -- ---- what the sink hands up of source 0
 
-abbrev mine : ℕ → ℕ → SinkUnit → Bool
-mine s n unit = (unit.source == s) && (unit.sink == n)
-
 pub handed_append : (s n : ℕ) (one other : List SinkUnit) → handed_of s n (one ++ other) ≡ handed_of s n one ++ handed_of s n other
 handed_append s n one other = search (filter-append, map-append)
 
@@ -114,21 +111,13 @@ by_chosen airs n made after_relays hit is same closes = grind (arith, eqb-true, 
 -- what the sink hands up of source 0 by a step, behind the relayed units
 pub first_handed : (airs : Airs) (n : ℕ) (made : List Step) (step : Step) → handed_of 0 n (handed_by airs (with_relayed_units airs made step) step)
     ≡ cond (closes_first made step) (handed_of 0 n (closing airs 0 made)) []
-first_handed airs n made Step.Event =
-    let left = left_by_relayed_units airs made Step.Event in
-    by_chosen airs n made (with_relayed_units airs made Step.Event) (chosen_of made == 0) refl left.chosen left.closing_first
-first_handed airs n made Step.Stop =
-    let left = left_by_relayed_units airs made Step.Stop in
-    by_chosen airs n made (with_relayed_units airs made Step.Stop) (chosen_of made == 0) refl left.chosen left.closing_first
-first_handed airs n made (Step.Terminate reason) =
-    let left = left_by_relayed_units airs made (Step.Terminate reason) in
-    by_chosen airs n made (with_relayed_units airs made (Step.Terminate reason)) (chosen_of made == 0) refl left.chosen left.closing_first
 first_handed airs n made Step.End =
     let after_relays = with_relayed_units airs made Step.End in
     handed_append 0 n (closing airs 0 after_relays) (closing airs 1 after_relays)
     ∙ ap (λ l. handed_of 0 n (closing airs 0 after_relays) ++ l) (not_first airs n 1 after_relays refl)
     ∙ append-nil (handed_of 0 n (closing airs 0 after_relays)) ∙ ap (handed_of 0 n) (left_by_relayed_units airs made Step.End).closing_first
-first_handed airs n made _ = refl
+first_handed airs n made step =
+    search (by_chosen airs n made (with_relayed_units airs made step) (chosen_of made == 0) refl (left_by_relayed_units airs made step).chosen (left_by_relayed_units airs made step).closing_first)
 
 -- ---- one step, and all steps
 

@@ -1,8 +1,6 @@
 -- The sinks of a scenario in version 2: their history is the same, where no train was answered `BadGroup 11` (Basic Audio Profile
 -- 1.0, section 6.5). Lists of steps and of calls have the newest first.
-use Rattle.scenario_laws.proofs.Known.Sources.Steps.{ℕ, ◌≡◌, ◌≤◌, ◌==◌, cond, Bool, true, List, [], ◌∷◌, Option, None, Some, refl, ◌∙◌, ap₂, arith, eqb-true, Settings, born, Step, Source, calls_after, calls_at, calls_by, made_by, made_of, named_by, train_by, calls_made, source_at, the_world, LinkCall as Call, AreQuietCalls, drained_same, quiet_drained, quiet_served}
-use Rattle.scenario_laws.proofs.Versions.Printed.{HearsNear, IsQuietHistory, made_with_horizon}
-use Rattle.scenario_laws.proofs.Versions.Seconds.{at_second, same, second, seconds, sink_grows}
+use Rattle.scenario_laws.proofs.Known.Sources.{ℕ, ◌≡◌, ◌≤◌, ◌==◌, cond, Bool, true, List, [], ◌∷◌, Option, None, Some, refl, ◌∙◌, ap₂, arith, eqb-true, Settings, born, Step, Source, calls_after, calls_at, calls_by, made_by, made_of, named_by, train_by, calls_made, source_at, the_world, LinkCall as Call, AreQuietCalls, drained_same, quiet_drained, quiet_served, HearsNear, IsQuietHistory, made_with_horizon, at_second, same, second, seconds, sink_grows}
 
 -- ---- the source that a line means
 
@@ -30,8 +28,7 @@ wider_if b one two made other is wider = grind arith
 wider_after : (n : ℕ) (step : Step) (earlier : List Step) (made other : Option Settings) → AreWider made other
     → AreWider (made_by n step earlier made) (made_by n (second step) (seconds earlier) other)
 wider_after n (Step.Sink sink streams slots mtu) earlier made other wider = grind (arith, wider_if, seconds, sink_grows)
-wider_after n (Step.Drop sink) earlier made other wider = wider_if (sink == n) None None made other tt wider
-wider_after n _ earlier made other wider = wider
+wider_after n step earlier made other wider = search (wider_if)
 
 pub made_wider : (n : ℕ) (made : List Step) → AreWider (made_of n made) (made_of n (seconds made))
 made_wider n [] = tt

@@ -1,9 +1,9 @@
 -- What the steps of a scenario in version 2 hand up and print: the same, where no train was answered `BadGroup 11`. Lists of
 -- steps have the newest first; where a list is called `own` its steps are those of one source.
-use Rattle.scenario_laws.proofs.Known.Sources.{ℕ, ◌≡◌, false, List, [], ◌∷◌, ◌++◌, Option, None, Some, refl, sym, ◌∙◌, ap, ap₂, arith, concat, Account, airs_of, Step, control_line, Settings, Source, named_by, train_by, printed_at, printed_where, SinkUnit, closing_at, handed_by, handed_up, close_lines, output_of, sink_lines, stale_lines, sums_of, has_relay, end_pdu, open_event, stale_in, chosen_of, chosen_steps, steps_of_source, the_world, LinkCall as Call, closing, plain_close, plain_end, flat_same, AreCalm, AreWider, IsCalm, QuietHistory, is_quiet, history_same, made_wider, quiet_history, source_same, printed_same, has_relay_same, at_second, chosen_same, over_same, same, seconds}
+use Rattle.scenario_laws.proofs.Known.Sources.{ℕ, ◌≡◌, false, List, [], ◌∷◌, ◌++◌, Option, None, Some, refl, sym, ◌∙◌, ap, ap₂, arith, concat, Account, airs_of, Step, control_line, Settings, Source, named_by, train_by, printed_at, printed_where, SinkUnit, closing_at, handed_by, handed_up, close_lines, output_of, sink_lines, stale_lines, sums_of, has_relay, end_pdu, open_event, stale_in, chosen_of, chosen_steps, steps_of_source, the_world, LinkCall as Call, closing, plain_close, plain_end, flat_same, printed_same, has_relay_same, stale_same, at_second, chosen_same, over_same, same, seconds}
+use Rattle.scenario_laws.proofs.Versions.Lived.{AreCalm, AreWider, IsCalm, QuietHistory, is_quiet, history_same, made_wider, quiet_history, source_same}
 use Rattle.scenario_laws.proofs.Versions.Received.{HeardNear, sink_calls_same, source_of_same}
 use Rattle.scenario_laws.proofs.Versions.Refused.{box_same}
-use Rattle.scenario_laws.proofs.Versions.Sources.{stale_same}
 
 -- ---- what is handed up
 

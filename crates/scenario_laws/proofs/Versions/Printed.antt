@@ -1,10 +1,12 @@
 -- What a sink prints whose groups may have a greater horizon, and why a step that names it is refused: the same, where no
 -- train was answered `BadGroup 11` (Basic Audio Profile 1.0, section 6.5; Broadcast Audio Scan Service 1.0, section 3). Lists
 -- of calls have the newest first.
-use Rattle.scenario_laws.proofs.Known.Sources.Steps.{ℕ, zero, suc, ◌≡◌, ◌≤◌, List, [], ◌∷◌, ◌++◌, length, Option, None, Some, refl, ◌∙◌, ap, codes, decimal, map, nat_lt, option_map, slice_get, flat_map, range_with_len, option_or, Snapshot, Settings, Train, outcome_by, state_at, value, writes_waiting, repeated, served_out, notified_out, Acts, acts_of, delivered, language, notices_waiting, reads_waiting, reads_of, view_of, waiting_of, Step, NothingWaiting, RecordsTooLong, Label, control_words, on_link, reply_line, sink_line, value_line, Source, record_of, train_by, drain_lines, heard_line, if_there, printed_of, read_line, read_lines, serve_line, serve_lines, show_lines, snapshot_in, tell_line, tell_lines, view_lines, link_named, link_twice, no_link, no_notice, no_read, no_record_room, nothing_waits, refuse_if, refused_by, is_none, LinkCall as Call, link_steps_of as steps_of, plain_word as plain, AreQuietCalls, acts_same, quiet_reads, quiet_serves, quiet_tells, snapshot_same, told_same, BringsNear, brought_same, with_horizon}
+use Rattle.scenario_laws.proofs.Known.Sources.Steps.Prelude.{ℕ, zero, suc, ◌≡◌, ◌≤◌, List, [], ◌∷◌, ◌++◌, length, Option, None, Some, refl, ◌∙◌, ap, codes, decimal, map, nat_lt, option_map, slice_get, flat_map, range_with_len, option_or, Snapshot, Settings, Train, outcome_by, state_at, value, writes_waiting, repeated, served_out, notified_out, Acts, acts_of, delivered, language, notices_waiting, reads_waiting, reads_of, view_of, waiting_of, Step, NothingWaiting, RecordsTooLong, Label, control_words, on_link, reply_line, sink_line, value_line, Source, record_of, train_by, drain_lines, heard_line, if_there, printed_of, read_line, read_lines, serve_line, serve_lines, show_lines, snapshot_in, tell_line, tell_lines, view_lines, link_named, link_twice, no_link, no_notice, no_read, no_record_room, nothing_waits, refuse_if, refused_by, is_none, LinkCall as Call, link_steps_of as steps_of, plain_word as plain}
 use Rattle.pacs_records.specs.Layout.{greatest_value, value as records_value}
 use Rattle.delegator_history.specs.Writes.{reply_of}
 use Rattle.delegator_history.specs.declared.notice.Notice.{Notice}
+use Rattle.scenario_laws.proofs.Versions.Histories.{AreQuietCalls, acts_same, quiet_reads, quiet_serves, quiet_tells, snapshot_same, told_same}
+use Rattle.scenario_laws.proofs.Versions.Trains.{BringsNear, brought_same, with_horizon}
 use Rattle.delegator_history.specs.Controls as controls
 
 -- the sink, but for the greatest horizon of a group
@@ -128,21 +130,10 @@ hears_same wider sink made calls train is near = cc (brings_same wider made call
 pub printed_same : (wider : ℕ) (source : Source) (step : Step) (made : Settings) (calls : List Call) → IsQuietHistory wider made calls
     → HearsNear made calls (train_by source step)
     → printed_of source step (made_with_horizon wider made) calls ≡ printed_of source step made calls
-printed_same wider source (Step.Serve sink) made calls is near = served_same (plain sink) 0 wider made calls is
-printed_same wider source (Step.Tell sink) made calls is near = told_line_same (plain sink) 0 wider made calls is
-printed_same wider source (Step.Read sink) made calls is near = read_line_same (plain sink) 0 wider made calls is
-printed_same wider source (Step.Drain sink) made calls is near = drains_same (plain sink) 0 wider made calls is
-printed_same wider source (Step.Show sink) made calls is near = shows_same sink wider made calls is
 printed_same wider source (Step.Control sink octets) made calls is near = λ i.
     sink_line sink (control_words (controls.control_heard (its_snapshot wider made calls is i).place octets)) ∷ []
-printed_same wider source (Step.Announce sink) made calls is near = search (hears_same)
-printed_same wider source (Step.Train sink time ext adv acad) made calls is near = search (hears_same)
-printed_same wider source (Step.AServe sink link) made calls is near = served_same (on_link sink link) link wider made calls is
-printed_same wider source (Step.ATell sink link) made calls is near = told_line_same (on_link sink link) link wider made calls is
-printed_same wider source (Step.ARead sink link) made calls is near = read_line_same (on_link sink link) link wider made calls is
-printed_same wider source (Step.ADrain sink link) made calls is near = drains_same (on_link sink link) link wider made calls is
-printed_same wider source (Step.AShow sink link) made calls is near = views_same sink link wider made calls is
-printed_same wider source _ made calls is near = refl
+printed_same wider source step made calls is near =
+    search (served_same, told_line_same, read_line_same, drains_same, shows_same, hears_same, views_same)
 
 -- ---- why a step is refused
 
@@ -154,10 +145,7 @@ read_same link wider made calls is i = refuse_if (is_none (slice_get (its_reads 
 
 waits_same : (step : Step) → Same (λ made calls. nothing_waits made calls step)
 waits_same (Step.Tell sink) = notice_same 0
-waits_same (Step.Read sink) = read_same 0
-waits_same (Step.ATell sink link) = notice_same link
-waits_same (Step.ARead sink link) = read_same link
-waits_same _ = λ wider made calls is. refl
+waits_same step = search (notice_same, read_same)
 
 room_same : (step : Step) → Same (λ made calls. no_record_room made calls step)
 room_same (Step.Pac sink codec caps metadata) = λ wider made calls is i.

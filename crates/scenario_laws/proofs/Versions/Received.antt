@@ -1,7 +1,8 @@
 -- The receivers of the sinks of a scenario in version 2: the calls that each took are the same, where no train was answered
 -- `BadGroup 11` (Core 5.2, volume 6 part B, section 4.4.6). Lists of steps and calls have the newest first; where a list is
 -- called `own` its steps are those of one source.
-use Rattle.scenario_laws.proofs.Known.Sources.{ℕ, zero, suc, ◌≡◌, ◌==◌, cond, Bool, true, List, [], ◌∷◌, Option, None, Some, refl, ◌∙◌, ap, arith, ap₂, eqb-true, with_step, Settings, Train, outcome_by, airs_of, Step, Source, made_of, named_by, follows, follows_by, big_sync_of, received_by, source_by, train_by, snapshot_in, heard_on_air, sink_calls, source_after, source_of, ticked_by, with_sink_call, calls_made, source_at, Call as SinkCall, LinkCall as Call, moved, sourced, AreCalm, AreWider, IsCalm, IsWider, QuietHistory, after_same, is_quiet, history_same, made_wider, quiet_history, source_same, AreQuietCalls, HearsNear, brings_same, its_snapshot, made_with_horizon, at_second, over_same, same, seconds}
+use Rattle.scenario_laws.proofs.Known.Sources.{ℕ, zero, suc, ◌≡◌, ◌==◌, cond, Bool, true, List, [], ◌∷◌, Option, None, Some, refl, ◌∙◌, ap, arith, ap₂, eqb-true, with_step, Settings, Train, outcome_by, airs_of, Step, Source, made_of, named_by, follows, follows_by, big_sync_of, received_by, source_by, train_by, snapshot_in, heard_on_air, sink_calls, source_after, source_of, ticked_by, with_sink_call, calls_made, source_at, Call as SinkCall, LinkCall as Call, moved, sourced, AreQuietCalls, HearsNear, brings_same, its_snapshot, made_with_horizon, at_second, over_same, same, seconds}
+use Rattle.scenario_laws.proofs.Versions.Lived.{AreCalm, AreWider, IsCalm, IsWider, QuietHistory, after_same, is_quiet, history_same, made_wider, quiet_history, source_same}
 
 -- ---- trains
 
@@ -20,8 +21,7 @@ follows_same source None made other calls wider quiet near = refl
 follows_same source (Some train) None None calls wider quiet near = refl
 follows_same source (Some train) (Some made) (Some other) calls wider quiet near =
     ap follows (outcome_wider made other calls train wider quiet (near made refl))
-follows_same source (Some train) None (Some other) calls wider quiet near = absurd wider
-follows_same source (Some train) (Some made) None calls wider quiet near = absurd wider
+follows_same source train made other calls wider quiet near = search
 
 big_sync_same : (horizon : ℕ) (made : Settings) (calls : List Call) (train : Option Train)
     → (wider : IsWider made (made_with_horizon horizon made)) → AreQuietCalls made.setup calls → HearsNear made calls train
@@ -41,8 +41,7 @@ received_same source this (Some made) (Some other) before after calls wider quie
     (near made refl)) ∙ ap₂ (λ one two. with_step (big_sync_of made (snapshot_in made before) (train_by source this)) one two calls)
     (its_snapshot wider.horizon made before (is_quiet made other before wider quiet))
     (its_snapshot wider.horizon made after (is_quiet made other after wider later))
-received_same source this None (Some other) before after calls wider quiet later near = absurd wider
-received_same source this (Some made) None before after calls wider quiet later near = absurd wider
+received_same source step made other before after calls wider quiet later near = search
 
 -- ---- the source of a sink
 

@@ -1,9 +1,7 @@
 -- Why a step of a scenario in version 2 is refused: for the reason of version 1, but where that is BadLine, `BadGroup 11` or
 -- TimeOrder. Lists of steps have the newest first; where a list is called `own` its steps are those of one source.
-use Rattle.scenario_laws.proofs.Known.Sources.{ℕ, ◌≡◌, ◌⊎◌, ◌≤◌, ltb, Bool, true, List, [], ◌∷◌, Option, None, Some, arith, refl, sym, subst, ◌∙◌, ap, ap₂, inl, inr, option_map, option_or, BigInfo, Air, airs_of, Setup, give_fault, Step, Refusal, AfterEnd, Order, Settings, named_by, refused_at, refused_where, refuse_if, box_after, box_of, give_refusal, group_refusal, is_out_of_order, own_refusal, refusal_of, sink_refusal, source_refusal, twin_refusal, setup_of, source_calls, chosen_steps, is_over, version_of, the_world, IsLasting, first_fault, SourceCall as Call, first_same, AreCalm, AreWider, QuietHistory, is_quiet, history_same, made_wider, quiet_history, refused_same, IsLater, ahead_stays, at_second, calls_same, horizon_grows, is_later, over_same, same, seconds, unbegun_same, LinkCall}
-use Rattle.scenario_laws.proofs.Versions.Groups.{near_or_horizon}
-use Rattle.scenario_laws.proofs.Versions.Relays.{relays_same}
-use Rattle.scenario_laws.proofs.Versions.Sources.{airs_same, framed_same, is_ahead, setup_same, with_ahead}
+use Rattle.scenario_laws.proofs.Known.Sources.{ℕ, ◌≡◌, ◌⊎◌, ◌≤◌, ltb, Bool, true, List, [], ◌∷◌, Option, None, Some, arith, refl, sym, subst, ◌∙◌, ap, ap₂, inl, inr, option_map, option_or, BigInfo, Air, airs_of, Setup, give_fault, Step, Refusal, AfterEnd, Order, Settings, named_by, refused_at, refused_where, refuse_if, box_after, box_of, give_refusal, group_refusal, is_out_of_order, own_refusal, refusal_of, sink_refusal, source_refusal, twin_refusal, setup_of, source_calls, chosen_steps, is_over, version_of, the_world, IsLasting, first_fault, SourceCall as Call, first_same, near_or_horizon, refused_same, relays_same, IsLater, ahead_stays, at_second, calls_same, horizon_grows, is_later, over_same, same, seconds, unbegun_same, airs_same, framed_same, is_ahead, setup_same, with_ahead, LinkCall}
+use Rattle.scenario_laws.proofs.Versions.Lived.{AreCalm, AreWider, QuietHistory, is_quiet, history_same, made_wider, quiet_history}
 
 -- the reason is one that version 2 may not have
 abbrev pub IsGone : Option Refusal → Type 0
@@ -81,13 +79,8 @@ named_same this named made calm = grind (arith, seconds, history_same, where_sam
 sink_same : (boxes : ℕ) (made : List Step) (step : Step) → AreCalm made
     → sink_refusal boxes (seconds made) step ≡ sink_refusal boxes made step
 sink_same boxes made (Step.Sink sink streams slots mtu) calm = search (same, box_same)
-sink_same boxes made (Step.Drop sink) calm = search box_same
-sink_same boxes made (Step.Tuned sink which) calm = search box_same
-sink_same boxes made (Step.Hear sink back bis subevent) calm = search box_same
-sink_same boxes made (Step.Air sink lose) calm = search box_same
-sink_same boxes made (Step.Inject sink back bis subevent octets) calm = search box_same
 sink_same boxes made (Step.Relay sink bis to) calm = refl
-sink_same boxes made this calm = named_same this (named_by this) made calm
+sink_same boxes made step calm = search (box_same, named_same step (named_by step) made calm)
 
 -- ---- the order of steps, and both sources
 

@@ -1,8 +1,8 @@
 -- A run over the lines behind `scenario 1` and behind `scenario 2`: it brings the same, where the run in version 1 isn't refused
 -- for BadLine, `BadGroup 11` or TimeOrder, and no `train` step in it prints `BadGroup 11`. Histories have the newest line first.
-use Rattle.scenario_laws.proofs.Known.Sources.{ℕ, suc, ◌≡◌, ◌⊎◌, ◌+◌, nat_eq, false, List, [], ◌∷◌, ◌++◌, length, reverse, Option, None, Some, refl, arith, sym, ◌∙◌, ap, ap₂, subst, inl, inr, concat, false≢true, append-nil, none-some, same_Some, TextLine, Account, Horizon, Settings, Train, answer_of, outcome_by, Accepted, End, Rules, accepted_of, accepted_unless, end_unless, number_after, out, out_unless, refused, reverse_onto, airs_of, Step, refusal_line, Refusal, BadLine, sink_line, train_words, given_train, made_of, printed_where, snapshot_in, handed_up, a_step, nothing, unsaid, output_said, refusal_said, rules_of, said_in, steps_of, with_said, is_misplaced, refusal_of, has_relay, is_over, is_unbegun_at, stage_after, stage_of, version_of, calls_made, source_at, EndsLasting, NonePrintsHorizon, PrintsHorizon, horizon_line, end_of, Said, said_after, said_of, line_passes, none_relayed, nothing_else, Legal, LinesInRange, legal, permitted, AreCalm, IsCalm, HearsNear, has_relay_same, is_later, over_same, second, seconds, near_or_horizon}
+use Rattle.scenario_laws.proofs.Known.Sources.{ℕ, suc, ◌≡◌, ◌⊎◌, ◌+◌, nat_eq, false, List, [], ◌∷◌, ◌++◌, length, reverse, Option, None, Some, refl, arith, sym, ◌∙◌, ap, ap₂, subst, inl, inr, concat, false≢true, append-nil, none-some, same_Some, TextLine, Account, Horizon, Settings, Train, answer_of, outcome_by, Accepted, End, Rules, accepted_of, accepted_unless, end_unless, number_after, out, out_unless, refused, reverse_onto, airs_of, Step, refusal_line, Refusal, BadLine, sink_line, train_words, given_train, made_of, printed_where, snapshot_in, handed_up, a_step, nothing, unsaid, output_said, refusal_said, rules_of, said_in, steps_of, with_said, is_misplaced, refusal_of, has_relay, is_over, is_unbegun_at, stage_after, stage_of, version_of, calls_made, source_at, EndsLasting, NonePrintsHorizon, PrintsHorizon, horizon_line, end_of, Said, said_after, said_of, SaidNever, line_passes, none_relayed, nothing_else, plain_after, says_no_relay, Legal, LinesInRange, legal, permitted, HearsNear, has_relay_same, is_later, over_same, second, seconds, answer_near as near_or_horizon}
 use Rattle.delegator_history.specs.declared.train_heard.TrainHeard.TheVariants.{BadGroup as Refused}
-use Rattle.scenario_laws.proofs.RelayedUnits.FirstLines.{SaidNever, plain_after, says_no_relay}
+use Rattle.scenario_laws.proofs.Versions.Lived.{AreCalm, IsCalm}
 use Rattle.scenario_laws.proofs.Versions.Outputs.{handed_up_same, output_same}
 use Rattle.scenario_laws.proofs.Versions.Horizons.{Announcing, announced_calm}
 use Rattle.scenario_laws.proofs.Versions.Reading.{IsUnsaid, said_later}
@@ -21,9 +21,7 @@ pub record Laws : Type 0 where
 
 unsaid_gone : (boxes : ℕ) (made : List Step) (said : Said) → IsUnsaid said → IsGone (refusal_said airs_of boxes made said)
 unsaid_gone boxes made (unsaid (BadLine word)) is = λ lasting. lasting
-unsaid_gone boxes made (unsaid reason) is = absurd is
-unsaid_gone boxes made (a_step this) is = absurd is
-unsaid_gone boxes made nothing is = absurd is
+unsaid_gone boxes made said is = search
 
 both_last : (one one' two two' : Option Refusal) → one' ≡ one → two' ≡ two → Lasts one two → Lasts one' two'
 both_last one one' two two' same same' lasts = subst (λ r. Lasts r two') (sym same) (subst (Lasts one) (sym same') lasts)
@@ -31,8 +29,7 @@ both_last one one' two two' same same' lasts = subst (λ r. Lasts r two') (sym s
 same_lasts : (boxes : ℕ) (made : List Step) (said : Said) → has_relay made ≡ false → AreCalm made
     → Lasts (refusal_said airs_of boxes made said) (refusal_said airs_of boxes (seconds made) said)
 same_lasts boxes made (a_step this) plain calm = search (both_last, seconds, none_relayed, has_relay_same, step_lasts)
-same_lasts boxes made nothing plain calm = inl refl
-same_lasts boxes made (unsaid reason) plain calm = inl refl
+same_lasts boxes made said plain calm = inl refl
 
 said_same : (boxes : ℕ) (made : List Step) (said later : Said) → (later ≡ said) ⊎ IsUnsaid said
     → refusal_said airs_of boxes made said ≡ None → later ≡ said

@@ -133,10 +133,7 @@ pub use Rattle.transcript_text.specs.declared.refusal.Refusal.{Refusal}
 pub use Rattle.transcript_text.specs.declared.refusal.Refusal.TheVariants.{NoSuchBis, BaseTooLong, Order, BadLine, NoSuchSink, NotOnAir, AfterEnd, LineTooLong, NothingWaiting, RecordsTooLong}
 pub use Rattle.unit_outlets.specs.Account.{Account}
 pub use Rattle.unit_outlets.specs.Handed.{Handed, valid, lost}
-pub use Rattle.announcement_train.proofs.Citable.{adds_to_last, describes_last, plain_is_small}
 pub use Rattle.announcement_train.specs.declared.train.Train.{Train as TrainOctets}
-pub use Rattle.base_grammar.proofs.Drafts.{with_entry_keeps, with_metadata_keeps, with_subgroup_keeps, draft_done, finish_is}
-pub use Rattle.base_grammar.specs.declared.fault.DraftFault.{DraftFault}
 pub use Rattle.bcast_base.specs.declared.unit.Unit.{Unit}
 pub use Rattle.delegator_history.specs.LastGiven.{last_given as last_given_in}
 pub use Rattle.delegator_history.specs.Steps.{nothing as delegator_nothing, Done}
