@@ -177,8 +177,7 @@ stream_heard steps n lose k source event bis subevents pdus sinks are chosen is 
           (heard_on_air airs_of own lose ((k + 1) * nse) (sink_calls airs_of m steps)) (sink_calls airs_of m steps)
           (event_heard own lose k pdus (sink_calls airs_of m steps) are);
       made = refl;
-    })
-    (subst S chosen (subst E is (subst B b (subst N all stands)))))
+    }) (subst S chosen (subst E is (subst B b (subst N all stands)))))
 
 -- each stream of the group sent its PDUs
 pub none_sent : (steps : List Step) (n lose k bis event streams subevents : ℕ) (sinks : Sinks) → OnAir steps n event streams subevents → k < streams → bis ≡ k + 1

@@ -125,8 +125,7 @@ answers_past steps past event n start (suc count) now beyond =
     let rest : List Offer = flat_map (asks steps past event) (range_with_len (start + 1) count) in
     let then : List Step = after_offers airs_of here now in
     ap (filter (of_sink n)) (answered_append here rest now)
-    ∙ filter-append (of_sink n) (answered airs_of here now) (answered airs_of rest then)
-    ∙ ap₂ (λ one two. one ++ two)
+    ∙ filter-append (of_sink n) (answered airs_of here now) (answered airs_of rest then) ∙ ap₂ (λ one two. one ++ two)
     (sink_answers n start (relay_of start steps) (handed_all (closing_of start 0 event past)) now
     ∙ ap (λ b. cond b (answered airs_of here now) []) (ne_eqb start n (λ same. omega (arith, same, beyond))))
     (answers_past steps past event n (start + 1) count then (omega (arith, beyond)))
@@ -142,23 +141,18 @@ own_answers steps past event n start (suc count) now least below =
     let P : ℕ → Type 0 = λ m. answered airs_of (asks steps past event start) now ≡ answered airs_of (asks steps past event m)
     (after_offers airs_of (flat_map (asks steps past event) (range_with_len start (m - start))) now) in
     ap (filter (of_sink n)) (answered_append here rest now)
-    ∙ filter-append (of_sink n) (answered airs_of here now) (answered airs_of rest then)
-    ∙ (elim (cases_eq start n) [
+    ∙ filter-append (of_sink n) (answered airs_of here now) (answered airs_of rest then) ∙ (elim (cases_eq start n) [
       | inl same ↦
-          ap₂ (λ one two. one ++ two)
-          (grind (arith, sink_answers, relay_of, handed_all, closing_of, cond, answered, airs_of, eq-eqb))
-          (answers_past steps past event n (start + 1) count then (omega (arith, same)))
-          ∙ append-nil (answered airs_of here now)
+          ap₂ (λ one two. one ++ two) (grind (arith, sink_answers, relay_of, handed_all, closing_of, cond, answered, airs_of, eq-eqb))
+          (answers_past steps past event n (start + 1) count then (omega (arith, same))) ∙ append-nil (answered airs_of here now)
           ∙ (let none : start - start ≡ 0 = omega arith in
           subst P same (ap (λ k. answered airs_of here (after_offers airs_of (flat_map (asks steps past event) (range_with_len start k)) now)) (sym none)))
       | inr other ↦
           let left : n - start ≡ suc (n - (start + 1)) = omega (arith, least, other) in
-          ap₂ (λ one two. one ++ two)
-          (sink_answers n start (relay_of start steps) (handed_all (closing_of start 0 event past)) now
+          ap₂ (λ one two. one ++ two) (sink_answers n start (relay_of start steps) (handed_all (closing_of start 0 event past)) now
           ∙ ap (λ b. cond b (answered airs_of here now) []) (ne_eqb start n other))
           (own_answers steps past event n (start + 1) count then (omega (arith, least, other)) (omega (arith, below)))
-          ∙ ap (answered airs_of (asks steps past event n))
-          (grind (arith, after_append, flat_map, range_with_len, after_offers, airs_of))
+          ∙ ap (answered airs_of (asks steps past event n)) (grind (arith, after_append, flat_map, range_with_len, after_offers, airs_of))
     ])
 
 -- of what becomes of all that the sinks' relays offer the part of one
@@ -181,8 +175,7 @@ lines_in steps (Some event) is asked =
     let past : Histories = histories_of steps in
     let answers : List Answered = answered airs_of (offers_at airs_of steps) steps in
     flat_within (λ n. flat_map (handed_line n) (handed_of 0 n (closing airs_of 0 steps)) ++ dropped_lines n answers) (λ n. lines_at steps past n event) 0 8
-    (λ n least below.
-    ap₂ (λ one two. one ++ two)
+    (λ n least below. ap₂ (λ one two. one ++ two)
     (ap (flat_map (handed_line n)) (ap (handed_of 0 n) is ∙ own_handed past event n 8 (omega (arith, below))) ∙ own_lines past event n)
     (ap (λ all. answer_lines (filter (of_sink n) (answered airs_of all steps))) asked ∙ ap answer_lines (answers_of steps past event n (omega (arith, below)))))
 

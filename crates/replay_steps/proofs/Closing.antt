@@ -1,9 +1,8 @@
 -- The steps that close the open event of the chosen source.
-use Rattle.replay_steps.proofs.Prelude.{◌≡◌, ◌≤◌, ◌==◌, ◌<◌, ℕ, slice_get, sinks_made, Histories, UnassignedSame, Sources, zero, suc, cond, false, List, [], ◌∷◌, ◌++◌, length, inr, inl, refl, sym, ◌∙◌, ap, append_assoc, append-nil, subst, arith, Option, None, Result, Ok, Err, Account, airs_of, Stop, Refused, OutletFault, Memory, control_line, Step, chosen_of, chosen_steps, is_over, is_over_at, running, stage_of, steps_of_source, end_pdu, open_event, stale_in, SinkUnit, accounts_after, closing, closing_at, handed_by, Answered, answered, answered_by, closes_first, offers_at, with_relayed_units, close_lines, first_lines, output_of, stale_lines, unit_lines, stage_same, fault_of, SourcesStand, closings_at, CutShort, with_close, SinksStand, RelaysStand, Machine, CloseFails, Stands, histories_of, relay_histories, Meets, phase_line, Closes, ComponentsStand, stage_in, sink_numbers}
+use Rattle.replay_steps.proofs.Prelude.{◌≡◌, ◌≤◌, ◌==◌, ◌<◌, ℕ, slice_get, sinks_made, Histories, UnassignedSame, Sources, zero, suc, false, List, [], ◌∷◌, ◌++◌, length, inr, inl, refl, sym, ◌∙◌, ap, append_assoc, append-nil, subst, arith, Option, None, Result, Ok, Err, Account, airs_of, Stop, Refused, OutletFault, Memory, control_line, Step, chosen_of, chosen_steps, is_over, is_over_at, running, stage_of, steps_of_source, end_pdu, open_event, stale_in, SinkUnit, accounts_after, closing, closing_at, handed_by, Answered, answered_by, closes_first, with_relayed_units, close_lines, first_lines, stale_lines, unit_lines, stage_same, fault_of, SourcesStand, closings_at, with_close, Machine, Stands, histories_of, Meets, phase_line, Closes, ComponentsStand, stage_in, sink_numbers}
 use Rattle.scenario_text.specs.declared.step.Step.TheVariants as variants
 use Rattle.scenario_sources.specs.Answers as sources
-use Rattle.replay_steps.proofs.Closed.{first_closed, first_cut, first_fails_at, never_refused, second_closed, second_cut, second_fails_at}
-use Rattle.replay_steps.proofs.CloseLines.{units_closed}
+use Rattle.replay_steps.proofs.Closed.{Did, first_did, second_did, stops_meet}
 use Rattle.replay_steps.proofs.ClosesFirst.{CloseSays, ClosesOpen, first_says, first_stands}
 use Rattle.replay_steps.proofs.RelaysStay.{relays_stay}
 use Rattle.replay_steps.proofs.StepLaws.{no_relayed_units}
@@ -28,34 +27,7 @@ second_says : (made : Step) (tail : List Step → List ℕ) (steps : List Step) 
     → closed ≡ open_event (chosen_steps steps)
     → CloseSays steps made (closings_at 1 closed (histories_of steps)) [] (unit_lines (closings_at 1 closed (histories_of steps)))
 second_says made tail steps closed closes is open_is =
-    grind (
-      arith,
-      closings_at,
-      histories_of,
-      closing,
-      airs_of,
-      chosen_of,
-      closing_is,
-      answered,
-      cond,
-      offers_at,
-      first_lines,
-      answered_by,
-      unit_lines,
-    )
-
--- nothing is printed of no units
-pub nothing_printed : (let none : List SinkUnit = [] in let unasked : List Answered = [] in first_lines none unasked ≡ [])
-unfolding sink_numbers
-nothing_printed = refl
-
--- ---- the sinks closed the event, and relays offered what they handed up
-
-pub record Closed (starts : List Account) (steps : List Step) (made : Step) (new : Machine) (text told : List ℕ) (before after : List Account) : Type 0 where
-  pub passes : phase_line airs_of (length starts) steps made ≡ None
-  pub stands : Stands (made ∷ with_relayed_units airs_of steps made) new
-  pub told_is : told ≡ text ++ close_lines airs_of steps made
-  pub boxes : after ≡ accounts_after before (handed_by airs_of steps made)
+    grind (arith, closing_is)
 
 fault_line : (made : Step) (tail : List Step → List ℕ) (boxes version : ℕ) (steps : List Step) → ClosesOpen made tail → stage_of steps ≡ running version
     → phase_line airs_of boxes steps made ≡ fault_of version steps made
@@ -74,85 +46,60 @@ second_stands made tail steps closed old new closes stands is open_is stage comp
       relays = components.relays;
     })
 
-module _ (made : Step) (tail : List Step → List ℕ) (closes : ClosesOpen made tail) (starts : List Account) (steps : List Step) (closed : Option ℕ)
-    (is : closed ≡ open_event (chosen_steps steps)) (new : Machine) (text told : List ℕ) (before after : List Account) where
+-- the close of such a step, by what it says
+did_as : (steps : List Step) (made : Step) (units : List SinkUnit) (answers : List Answered) (lines : List ℕ) (one other : Type 0) (text told : List ℕ) (before after : List Account)
+    (r : Result (Unit {0}) Stop) → CloseSays steps made units answers lines → (one → other) → Did units answers lines one text told before after r
+    → Did (handed_by airs_of steps made) (answered_by airs_of steps made) (close_lines airs_of steps made) other text told before after r
+did_as steps made units answers lines one other text told before after (Ok x) says then d =
+    (refl, then d.1, d.2 ∙ ap (λ l. text ++ l) (sym says.lines_are), d.3 ∙ ap (accounts_after before) (sym says.units_are))
+did_as steps made units answers lines one other text told before after (Err stop) says then d = grind (arith, says.units_are, says.answers_are, says.lines_are)
 
-  -- what became of a close of the open event of the chosen source
-  closes_all : (source : ℕ) (old : Machine) → Stands steps old → phase_line airs_of (length starts) steps made ≡ None → source ≡ chosen_of steps → source < 2
-      → new.stage ≡ old.stage → Closes (made ∷ steps) (histories_of steps) source closed new text told before after (Ok tt)
-      → Closed starts steps made new text told before after
-  closes_all zero old stands passes chosen within stage m =
-      let all = first_closed (made ∷ steps) (histories_of steps) closed new text told before after m in
-      let says = first_says made tail steps closed closes (sym chosen) is in
-      record {
-        passes = passes;
-        stands = first_stands made tail steps closed old new text told before after closes stands (sym chosen) is stage all;
-        told_is = all.lines ∙ ap (λ l. text ++ l) (sym says.lines_are);
-        boxes = all.boxes ∙ ap (accounts_after before) (sym says.units_are);
-      }
-  closes_all (suc zero) old stands passes chosen within stage m =
-      let all = second_closed (made ∷ steps) (histories_of steps) 0 closed new text told before after m in
-      let says = second_says made tail steps closed closes (sym chosen) is in
-      record {
-        passes = passes;
-        stands = second_stands made tail steps closed old new closes stands (sym chosen) is stage all.components;
-        told_is = all.lines ∙ ap (λ l. text ++ l) (sym says.lines_are);
-        boxes = all.boxes ∙ ap (accounts_after before) (sym says.units_are);
-      }
-  closes_all (suc (suc s)) old stands passes chosen within stage m = absurd (omega (arith, within))
+-- nothing is printed of no units
+pub nothing_printed : (let none : List SinkUnit = [] in let unasked : List Answered = [] in first_lines none unasked ≡ [])
+unfolding sink_numbers
+nothing_printed = refl
 
-  -- a box stopped it
-  close_fails : (source : ℕ) → source ≡ chosen_of steps → source < 2
-      → Closes (made ∷ steps) (histories_of steps) source closed new text told before after (Err OutletFault)
-      → CloseFails (handed_by airs_of steps made) (answered_by airs_of steps made) (output_of airs_of starts steps made) text told before after
-  close_fails zero chosen within m =
-      let says = first_says made tail steps closed closes (sym chosen) is in
-      first_fails_at (made ∷ steps) (histories_of steps) closed _ [] _ _ (tail steps) text told before after new
-      (says.units_are ∙ sym (append-nil (units_closed (histories_of steps) closed))) says.answers_are
-      (closes.output starts steps ∙ ap (λ l. l ++ tail steps) says.lines_are) m
-  close_fails (suc zero) chosen within m =
-      let says = second_says made tail steps closed closes (sym chosen) is in
-      let units : List SinkUnit = closings_at 1 closed (histories_of steps) in
-      subst (λ us. CloseFails us (answered_by airs_of steps made) (output_of airs_of starts steps made) text told before after) (sym says.units_are)
-      (subst (λ asked. CloseFails units asked (output_of airs_of starts steps made) text told before after) (sym says.answers_are)
-      (second_fails_at (made ∷ steps) (histories_of steps) closed [] [] _ (tail steps) text text told before before after new tt
-      (sym (append-nil text) ∙ ap (λ l. text ++ l) (sym nothing_printed)) refl
-      (closes.output starts steps ∙ ap (λ l. l ++ tail steps) says.lines_are ∙ ap (λ l. l ++ (unit_lines units ++ tail steps)) (sym nothing_printed)) m))
-  close_fails (suc (suc s)) chosen within m = absurd (omega (arith, within))
-
-  -- memory ran out
-  close_cut : (source : ℕ) → source ≡ chosen_of steps → source < 2
-      → Closes (made ∷ steps) (histories_of steps) source closed new text told before after (Err Memory) → CutShort (handed_by airs_of steps made) before after
-  close_cut zero chosen within m =
-      first_cut (made ∷ steps) (histories_of steps) closed _ [] text told before after new
-      ((first_says made tail steps closed closes (sym chosen) is).units_are ∙ sym (append-nil (units_closed (histories_of steps) closed))) m
-  close_cut (suc zero) chosen within m = grind (arith, second_says, second_cut, histories_of)
-  close_cut (suc (suc s)) chosen within m = absurd (omega (arith, within))
-
-  close_stops : (source : ℕ) (there : Machine) (stop : Stop) → phase_line airs_of (length starts) steps made ≡ None → source ≡ chosen_of steps → source < 2
-      → Closes (made ∷ steps) (histories_of steps) source closed new text told before after (Err stop)
-      → Meets starts steps made there text told before after (Err stop)
-  close_stops source there (Refused reason) passes chosen within m =
-      absurd (never_refused (made ∷ steps) (histories_of steps) source closed reason new text told before after m)
-  close_stops source there OutletFault passes chosen within m = (passes, close_fails source chosen within m)
-  close_stops source there Memory passes chosen within m = inr (passes, close_cut source chosen within m)
+-- what became of a close of the open event of the chosen source
+close_did : (made : Step) (tail : List Step → List ℕ) (closes : ClosesOpen made tail) (steps : List Step) (closed : Option ℕ) → closed ≡ open_event (chosen_steps steps)
+    → (source : ℕ) (old new : Machine) (text told : List ℕ) (before after : List Account) (r : Result (Unit {0}) Stop) → Stands steps old → source ≡ chosen_of steps
+    → source < 2 → new.stage ≡ old.stage → Closes (made ∷ steps) (histories_of steps) source closed new text told before after r
+    → Did (handed_by airs_of steps made) (answered_by airs_of steps made) (close_lines airs_of steps made) (Stands (made ∷ with_relayed_units airs_of steps made) new)
+    text told before after r
+close_did made tail closes steps closed is zero old new text told before after r stands chosen within stage m =
+    did_as steps made _ _ _ _ _ text told before after r (first_says made tail steps closed closes (sym chosen) is)
+    (first_stands made tail steps closed old new closes stands (sym chosen) is stage)
+    (first_did (made ∷ steps) (histories_of steps) closed new text told before after r m)
+close_did made tail closes steps closed is (suc zero) old new text told before after r stands chosen within stage m =
+    did_as steps made _ _ _ _ _ text told before after r (second_says made tail steps closed closes (sym chosen) is)
+    (second_stands made tail steps closed old new closes stands (sym chosen) is stage)
+    (subst (λ l. Did (closings_at 1 closed (histories_of steps)) [] (l ++ unit_lines (closings_at 1 closed (histories_of steps)))
+    (ComponentsStand (made ∷ steps) (with_close 1 closed (histories_of steps)) new) text told before after r) nothing_printed
+    (second_did (made ∷ steps) (histories_of steps) closed [] [] new text text told before before after r tt
+    (sym (append-nil text) ∙ ap (λ l. text ++ l) (sym nothing_printed)) refl m))
+close_did made tail closes steps closed is (suc (suc s)) old new text told before after r stands chosen within stage m = absurd (omega (arith, within))
 
 -- ---- what the step prints behind its lines
+
+-- the sinks closed the event, and relays offered what they handed up
+pub record Closed (starts : List Account) (steps : List Step) (made : Step) (new : Machine) (text told : List ℕ) (before after : List Account) : Type 0 where
+  pub passes : phase_line airs_of (length starts) steps made ≡ None
+  pub did : Did (handed_by airs_of steps made) (answered_by airs_of steps made) (close_lines airs_of steps made) (Stands (made ∷ with_relayed_units airs_of steps made) new)
+      text told before after (Ok tt)
 
 pub closed_meets : (made : Step) (tail : List Step → List ℕ) (starts : List Account) (steps : List Step) (new : Machine) (text told last : List ℕ) (before after : List Account)
     → ClosesOpen made tail → Closed starts steps made new text told before after → last ≡ told ++ tail steps → Meets starts steps made new text last before after (Ok tt)
 closed_meets made tail starts steps new text told last before after closes all lines = (
   all.passes,
-  all.stands,
-  grind (arith, all.told_is, append_assoc text (close_lines airs_of steps made) (tail steps), closes.output starts steps),
-  all.boxes,
+  all.did.1,
+  grind (arith, all.did.2, append_assoc text (close_lines airs_of steps made) (tail steps), closes.output starts steps),
+  all.did.3,
 )
 
 -- all units went to their boxes, and memory ran out as more was printed
 pub closed_wants : (made : Step) (starts : List Account) (steps : List Step) (new : Machine) (text told : List ℕ) (before after : List Account)
     → Closed starts steps made new text told before after → Meets starts steps made new text told before after (Err Memory)
 closed_wants made starts steps new text told before after all =
-    inr (all.passes, record { done = handed_by airs_of steps made; rest = []; split = sym (append-nil (handed_by airs_of steps made)); boxes = all.boxes })
+    inr (all.passes, record { done = handed_by airs_of steps made; rest = []; split = sym (append-nil (handed_by airs_of steps made)); boxes = all.did.3 })
 
 -- ---- the sources took the step, and then the event is closed
 
@@ -176,15 +123,19 @@ module _ {made : Step} {tail : List Step → List ℕ} (closes : ClosesOpen made
     pub closed_by : new.stage ≡ old.stage
         → ((late : List Step) (past : Histories) → ComponentsStand late past (record old { sources = taken })
         → Closes late past source closed new text told before after (Ok tt)) → Closed starts steps made new text told before after
-    closed_by stage m =
-        closes_all made tail closes starts steps closed (opened (not_over (chosen_of steps) version steps e)) new text told before after source old stands
-        (fault_line made tail (length starts) version steps closes e ∙ passes) chosen within stage (m (made ∷ steps) (histories_of steps) components_then)
+    closed_by stage m = record {
+      passes = fault_line made tail (length starts) version steps closes e ∙ passes;
+      did = close_did made tail closes steps closed (opened (not_over (chosen_of steps) version steps e)) source old new text told before after (Ok tt) stands chosen within
+          stage (m (made ∷ steps) (histories_of steps) components_then);
+    }
 
-    pub stops_by : (there : Machine) (stop : Stop) → ((late : List Step) (past : Histories) → ComponentsStand late past (record old { sources = taken })
+    pub stops_by : (there : Machine) (stop : Stop) → new.stage ≡ old.stage → ((late : List Step) (past : Histories) → ComponentsStand late past (record old { sources = taken })
         → Closes late past source closed new text told before after (Err stop)) → Meets starts steps made there text told before after (Err stop)
-    stops_by there stop m =
-        close_stops made tail closes starts steps closed (opened (not_over (chosen_of steps) version steps e)) new text told before after source there stop
-        (fault_line made tail (length starts) version steps closes e ∙ passes) chosen within (m (made ∷ steps) (histories_of steps) components_then)
+    stops_by there stop stage m =
+        stops_meet starts steps made there _ [] _ _ (tail steps) text told before after stop (fault_line made tail (length starts) version steps closes e ∙ passes)
+        (sym (append-nil (handed_by airs_of steps made))) refl (closes.output starts steps)
+        (close_did made tail closes steps closed (opened (not_over (chosen_of steps) version steps e)) source old new text told before after (Err stop) stands chosen within
+        stage (m (made ∷ steps) (histories_of steps) components_then))
 
     -- a step that prints nothing behind the lines of the close
     pub closes_meet : (r : Result (Unit {0}) Stop) → tail steps ≡ [] → new.stage ≡ old.stage
@@ -192,7 +143,7 @@ module _ {made : Step} {tail : List Step → List ℕ} (closes : ClosesOpen made
         → Closes late past source closed new text told before after r) → Meets starts steps made new text told before after r
     closes_meet (Ok x) none stage m =
         closed_meets made tail starts steps new text told told before after closes (closed_by stage m) (sym (append-nil told) ∙ ap (λ l. told ++ l) (sym none))
-    closes_meet (Err stop) none stage m = stops_by new stop m
+    closes_meet (Err stop) none stage m = stops_by new stop stage m
 
 -- the sources refused it
 pub step_refused : {made : Step} {tail : List Step → List ℕ} {steps : List Step} {old : Machine} (starts : List Account) (version : ℕ) (taken : Sources) (text : List ℕ)

@@ -33,10 +33,8 @@ stands_in (u ∷ us) vs (d ∷ done) unit rest is =
 fails_split : (us vs : List SinkUnit) (text told : List ℕ) (before after : List Account) → BoxFails (us ++ vs) text told before after
     → BoxFails us text told before after ⊎ BoxFails vs (text ++ unit_lines us) told (accounts_after before us) after
 fails_split us vs text told before after f = elim (stands_in us vs f.done f.unit f.rest f.split) [
-  | inl one ↦
-      inl (grind arith)
-  | inr other ↦
-      inr (grind (arith, unit_lines, lines_append, append_assoc, accounts_after, accounts_append))
+  | inl one ↦ inl (grind arith)
+  | inr other ↦ inr (grind (arith, unit_lines, lines_append, append_assoc, accounts_after, accounts_append))
 ]
 
 -- ---- a box stops units of the first sinks
@@ -131,11 +129,7 @@ all_meet steps past event old new text told before after (Err (Refused reason)) 
 all_meet steps past event old new text told before after (Err OutletFault) none components sources held m =
     let f : FailsBelow past event 8 text told before after = fails_below past event 8 text told before after m.hands in
     let within : f.number < 8 = f.within in
-    record {
-      number = f.number;
-      within = f.within;
-      fails = grind (arith, closing_of, accounts_after, units_below, plain_below);
-    }
+    record { number = f.number; within = f.within; fails = grind (arith, closing_of, accounts_after, units_below, plain_below) }
 all_meet steps past event old new text told before after (Err Memory) none components sources held m = m.hands
 
 pub idle_meets : (steps : List Step) (past : Histories) (event : ℕ) (old new : Machine) (text told : List ℕ) (before after : List Account) (r : Result (Unit {0}) Stop)

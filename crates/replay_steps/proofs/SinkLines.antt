@@ -120,20 +120,7 @@ announce_fault_is boxes version n steps e going =
 
 pub announce_nowhere : (boxes version n : ℕ) (steps : List Step) → stage_of steps ≡ running version → is_sending (chosen_steps steps) ≡ true
     → is_some (box_of n steps) ≡ false → phase_refusal airs_of boxes steps (Announce n) ≡ Some NoSuchSink
-announce_nowhere boxes version n steps e going lives =
-    grind (
-      arith,
-      train_ends,
-      setup_of,
-      chosen_steps,
-      source_calls,
-      announce_fault_is,
-      option_or,
-      not_there,
-      calls_made,
-      made_of,
-      made_with_box,
-    )
+announce_nowhere boxes version n steps e going lives = grind (arith, announce_fault_is, not_there, made_with_box)
 
 pub announce_fails : (starts : List Account) (version n : ℕ) (steps : List Step) (new : Machine) (text : List ℕ) (stop : Stop) → Stands steps new → stage_of steps ≡ running version
     → is_sending (chosen_steps steps) ≡ true → is_some (box_of n steps) ≡ true → AnnouncesAs (chosen_steps steps) (Err stop)

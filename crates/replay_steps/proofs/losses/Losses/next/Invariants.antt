@@ -7,5 +7,4 @@ decreases-places l = l.count - l.place
 
 abbrev pub invariant-places : goal.invariant-places
 invariant-places l =
-    (length l.lost ≡ 31)
-    × ((n : ℕ) → CountsOn l.fn.self.lose n l.fn.self.before → Marked l.fn.self.lose n l.count l.place l.lost)
+    (length l.lost ≡ 31) × ((n : ℕ) → CountsOn l.fn.self.lose n l.fn.self.before → Marked l.fn.self.lose n l.count l.place l.lost)

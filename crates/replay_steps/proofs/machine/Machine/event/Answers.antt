@@ -12,7 +12,7 @@ pub returns-in-Err-close-clause-meets : goal.returns-in-Err-close-clause-meets
 returns-in-Err-close-clause-meets g c starts version steps stands e =
     let p = c.in-Ok.ensures.performs version steps stands.sources in
     stops_by event_closes stands p.1 e p.0 p.2 (c.chosen-chosen.ensures.source _ p.1) c.chosen-chosen.ensures.within starts _ _ _ _ _ _ _
-    c.in-Err-close.ensures.closes
+    c.close.ensures.stage c.in-Err-close.ensures.closes
 
 pub returns-in-Ok-put_stale_units-clause-meets : goal.returns-in-Ok-put_stale_units-clause-meets
 returns-in-Ok-put_stale_units-clause-meets g c starts version steps stands e =

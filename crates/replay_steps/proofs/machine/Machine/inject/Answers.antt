@@ -19,8 +19,7 @@ returns-in-Err-heard_at c starts version steps stands e =
 pub returns-in_default : goal.returns-in_default
 returns-in_default c starts version steps stands e =
     absurd (inject_fails starts version c.args.sink c.chosen-source.result c.event_back-event.result c.args.place.bis c.args.place.subevent c.args.octets.now steps c.hear.new.self
-    c.in-Ok.field-0 (c.in-Ok.ensures steps stands)
-    (c.in_default.ensures (histories_of steps) stands.sinks))
+    c.in-Ok.field-0 (c.in-Ok.ensures steps stands) (c.in_default.ensures (histories_of steps) stands.sinks))
 
 pub returns-in-Ok-put_heard : goal.returns-in-Ok-put_heard
 returns-in-Ok-put_heard c starts version steps stands e =

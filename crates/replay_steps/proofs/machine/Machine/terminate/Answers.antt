@@ -11,7 +11,7 @@ pub returns-in-Err-close-clause-meets : goal.returns-in-Err-close-clause-meets
 returns-in-Err-close-clause-meets g c starts version steps stands e =
     let p = c.in-Ok.ensures.ends version steps stands.sources in
     stops_by (terminate_closes c.args.reason) stands p.1 e p.0 p.2 (c.chosen-chosen.ensures.source _ p.1) c.chosen-chosen.ensures.within
-    starts _ _ _ _ _ _ _ c.in-Err-close.ensures.closes
+    starts _ _ _ _ _ _ _ c.close.ensures.stage c.in-Err-close.ensures.closes
 
 pub returns-in-Ok-put_control-clause-meets : goal.returns-in-Ok-put_control-clause-meets
 returns-in-Ok-put_control-clause-meets g c starts version steps stands e =
