@@ -1,6 +1,5 @@
 -- The generated lines have `end`.
-use Rattle.std.proofs.Common.{arith}
-use Rattle.replay_generated.proofs.Prelude.{◌≡◌, ℕ, true, List, [], ◌∷◌, ◌++◌, map, reverse, codes, refl, ap, ◌∙◌, Some, Ok, plain, generated_lines, is_over, version_of, said_by, said_of, with_said, has_end, lines_made}
+use Rattle.replay_generated.proofs.Prelude.{◌≡◌, ℕ, true, List, [], ◌∷◌, ◌++◌, map, codes, refl, ap, ◌∙◌, Some, Ok, plain, generated_lines, has_end, lines_made}
 use Rattle.std.proofs.lemmas.List.{reverse-append, map-append}
 use Rattle.scenario_text.specs.Steps.{read_of, step_of}
 use Rattle.scenario_text.specs.Table.{first_row_of, row_of}
@@ -12,23 +11,7 @@ unfolding read_of step_of row_of first_row_of
 read_end version = refl
 
 ended : (prefix : List (List ℕ)) → has_end (map plain (prefix ++ codes "end" ∷ [])) ≡ true
-ended prefix =
-    grind (
-      arith,
-      has_end,
-      map-append,
-      plain,
-      codes,
-      is_over,
-      said_of,
-      reverse-append,
-      map,
-      with_said,
-      said_by,
-      read_end,
-      version_of,
-      reverse,
-    )
+ended prefix = simp (map-append, reverse-append, read_end)
 
 pub made_end : (seed events : ℕ) → lines_made seed events ≡ map plain (generated_lines seed events) → has_end (lines_made seed events) ≡ true
 made_end seed events are =

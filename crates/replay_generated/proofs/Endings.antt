@@ -4,7 +4,7 @@ use Rattle.scenario_text.specs.Steps.{read_of}
 use Rattle.scenario_lines.specs.Generated.{lines_from, unit_line}
 use Rattle.scenario_history.specs.Relays.{has_relay, makes_relay}
 use Rattle.scenario_laws.proofs.RelayedUnits.Citable.{SaidNever, none_relayed, nothing_else, plain_after, says_no_relay}
-use Rattle.replay_generated.proofs.Accepting.{AllFine, all_fine, first_sink, group_fine, group_step, made_steps, scenario_fine, scenario_step, second_sink, sink_step}
+use Rattle.replay_generated.proofs.Accepting.{AllFine, all_fine, first_sink, group_step, made_steps, scenario_step, second_sink, sink_step}
 use Rattle.replay_generated.proofs.EndLines.{made_end}
 use Rattle.replay_generated.proofs.GeneratedText.{generated_read}
 use Rattle.replay_generated.proofs.Saying.{AllSay, all_say}
@@ -46,12 +46,11 @@ module _ (reads : Reads) (starts : List Account) where
       → has_relay made ≡ false → AllSay lines steps
       → AllFine (length starts) made steps → end_of (rules_of airs_of starts) history (map plain lines) ≡ through
   all_accepted history made [] [] are unrelayed say fine = refl
-  all_accepted history made [] (next ∷ later) are unrelayed say fine = absurd say
-  all_accepted history made (line ∷ lines) [] are unrelayed say fine = absurd say
   all_accepted history made (line ∷ lines) (next ∷ later) are unrelayed say fine =
       accepted_next history made line next are unrelayed fine.0.0 say.0 (map plain lines) fine.0.1
       ∙ all_accepted (plain line ∷ history) (next ∷ made) lines later (made_next history made line next are unrelayed fine.0.0 say.0)
       (plain_after made next (never_relay line next (reads 1 line next say.0)) unrelayed) say.1 fine.1
+  all_accepted history made _ _ are unrelayed say fine = absurd say
 
   -- ---- the generated lines
 
@@ -87,9 +86,10 @@ module _ (reads : Reads) (starts : List Account) where
 
     head_accepted : (later : List TextLine) → end_of (rules_of airs_of starts) [] (plain (codes "scenario 1") ∷ plain group_line ∷ later) ≡ end_of (rules_of airs_of starts) head later
     head_accepted later =
-        accepted_next [] [] (codes "scenario 1") scenario_step refl refl refl (all_say seed events).0 (plain group_line ∷ later) (scenario_fine (length starts))
+        accepted_next [] [] (codes "scenario 1") scenario_step refl refl refl (all_say seed events).0 (plain group_line ∷ later) refl
         ∙ accepted_next (plain (codes "scenario 1") ∷ []) (scenario_step ∷ []) group_line group_step
-        (made_next [] [] (codes "scenario 1") scenario_step refl refl refl (all_say seed events).0) refl refl (all_say seed events).1.0 later (group_fine (length starts))
+        (made_next [] [] (codes "scenario 1") scenario_step refl refl refl (all_say seed events).0) refl refl (all_say seed events).1.0
+            later refl
 
     none_left : length starts ≡ 0 → end_of (rules_of airs_of starts) [] (map plain (generated_lines seed events)) ≡ refused 3 NoOutlet
     none_left none =

@@ -1,5 +1,5 @@
 -- The lines of the generated text are the generated lines: none holds the octet that ends a line, and none passes a limit.
-use Rattle.replay_generated.proofs.Prelude.{◌≡◌, ℕ, zero, suc, ◌+◌, ◌*◌, ◌<◌, ◌≤◌, ◌/◌, ◌%◌, Bool, true, false, cond, not, ◌&&◌, eqb, leb, nat_eq, List, [], ◌∷◌, ◌++◌, length, map, codes, decimal, refl, sym, ap, subst, ◌∙◌, append_assoc, arith, length-append, append-nil, replicate, slice_index, ⊤, lt-leb, le-leb, leb-true, ne_eqb, and_parts, joined, digits, plain, too_long, past, line_limit, text_limit, lines-nothing, drawn, next_state, unit_of, head_lines, generated_lines, generated, text_of}
+use Rattle.replay_generated.proofs.Prelude.{◌≡◌, ℕ, zero, suc, ◌+◌, ◌*◌, ◌<◌, ◌≤◌, ◌/◌, ◌%◌, Bool, true, false, cond, not, ◌&&◌, eqb, leb, nat_eq, List, [], ◌∷◌, ◌++◌, length, map, codes, decimal, refl, sym, ap, ◌∙◌, append_assoc, arith, length-append, append-nil, replicate, slice_index, ⊤, lt-leb, le-leb, leb-true, ne_eqb, and_parts, joined, digits, plain, too_long, past, line_limit, text_limit, lines-nothing, drawn, next_state, unit_of, head_lines, generated_lines, generated, text_of}
 use Rattle.std.proofs.lemmas.Fmt.{decimal_digit}
 use Rattle.hex.specs.Hex.{encode_with, encode_lower, lower_digits}
 use Rattle.bcast_io.specs.TextLines.{newline, line_of, lines_from, lines_of}
@@ -53,12 +53,9 @@ abbrev is_unended : List ℕ → Bool
 is_unended [] = true
 is_unended (octet ∷ line) = not (nat_eq octet newline) && is_unended line
 
-both : (a b : Bool) → (not a && b) ≡ true → (a ≡ false) × (b ≡ true)
-both a b e = grind arith
-
 unended : (line : List ℕ) → is_unended line ≡ true → Unended line
 unended [] e = tt
-unended (octet ∷ line) e = let parts = both (nat_eq octet newline) (is_unended line) e in (parts.0, unended line parts.1)
+unended (octet ∷ line) e = grind (arith, unended line, and_parts)
 
 abbrev are_short : ℕ → List (List ℕ) → Bool
 are_short most [] = true
@@ -98,11 +95,8 @@ unit_shape bis x small = grind (arith, joined, codes, digits, unit_of, decimal_d
 
 unit_short : (bis x : ℕ) → bis < 10 → Unended (unit_line bis x) × (length (unit_line bis x) ≡ 209)
 unit_short bis x small =
-    let shape = unit_shape bis x small in
-    let octets = encoded 100 (x % 256) (omega arith) in
-    let rest = unended_append (codes " - ") (encode_lower (unit_of x)) (unended (codes " - ") refl) octets.0 in
-    let all = unended_append (codes "unit ") ((48 + bis) ∷ (codes " - " ++ encode_lower (unit_of x))) (unended (codes "unit ") refl) (decimal_unended bis small, rest) in
-    (subst Unended (sym shape) all, ap length shape ∙ omega (arith, octets.1))
+    rw (unit_shape bis x small) (grind (arith, unended_append, unended, decimal_unended, encoded 100 (x % 256) (omega arith),
+        length-append))
 
 air_shape : (sink lose : ℕ) → sink < 10 → lose < 10 → air_line sink lose ≡ codes "air " ++ (48 + sink) ∷ 32 ∷ (48 + lose) ∷ []
 unfolding air_line
@@ -119,49 +113,22 @@ events_short : (state x count : ℕ) → AllShort line_limit (made.lines_from st
 unfolding made.lines_from
 events_short state x zero = (all_short line_limit (codes "end" ∷ []) refl, refl)
 events_short state x (suc count) =
-    let first = next_state state in
-    let second = next_state first in
-    let rest = events_short second (x + 1) count in
-    let later = made.lines_from second (x + 1) count in
-    let one = unit_short 1 (x + 1) (omega arith) in
-    let two = unit_short 2 (x + 1) (omega arith) in
-    let heard = air_short 0 (drawn first) (omega arith) (drawn_small first) in
-    let other = air_short 1 (drawn second) (omega arith) (drawn_small second) in
-    let event : Unended (codes "event") = unended (codes "event") refl in
-    let l5 = first_long (air_line 1 (drawn second)) later in
-    let l4 = first_long (air_line 0 (drawn first)) (air_line 1 (drawn second) ∷ later) in
-    let l3 = first_long (codes "event") (air_line 0 (drawn first) ∷ air_line 1 (drawn second) ∷ later) in
-    let l2 = first_long (unit_line 2 (x + 1)) (codes "event" ∷ air_line 0 (drawn first) ∷ air_line 1 (drawn second) ∷ later) in
-    let l1 = first_long (unit_line 1 (x + 1)) (unit_line 2 (x + 1) ∷ codes "event" ∷ air_line 0 (drawn first) ∷ air_line 1 (drawn second) ∷ later) in (
-      ((one.0, omega (arith, one.1)), ((two.0, omega (arith, two.1)), ((event, omega arith), ((heard.0, omega (arith, heard.1)), ((other.0, omega (arith, other.1)), rest.0))))),
-      omega (arith, l1, l2, l3, l4, l5, one.1, two.1, heard.1, other.1, rest.1),
-    )
+    grind (arith, length-append, events_short (next_state (next_state state)) (x + 1) count, unit_short, air_short, drawn_small, unended
+        (codes "event") refl)
 
 short_append : (most : ℕ) (xs ys : List (List ℕ)) → AllShort most xs → AllShort most ys → AllShort most (xs ++ ys)
 short_append most [] ys h k = k
 short_append most (x ∷ xs) ys h k = (h.0, short_append most xs ys h.1 k)
 
-from_zero : (n : ℕ) → n ≡ 0 + n
-from_zero n = omega arith
-
 text_append : (xs ys : List (List ℕ)) → length (text_of (xs ++ ys)) ≡ length (text_of xs) + length (text_of ys)
-text_append [] ys = from_zero (length (text_of ys))
-text_append (x ∷ xs) ys = omega (arith, first_long x (xs ++ ys), first_long x xs, text_append xs ys)
+text_append [] ys = omega arith
+text_append (x ∷ xs) ys = omega (arith, length-append {A = ℕ}, text_append xs ys)
 
 head_length : length (text_of head_lines) ≤ 400
 head_length = leb-true (length (text_of head_lines)) 400 refl
 
 all_fine : (seed events : ℕ) → events ≤ 100000 → AllShort line_limit (generated_lines seed events) × (length (generated seed events) ≤ text_limit)
-all_fine seed events most =
-    let rest = events_short seed 0 events in
-    let later = made.lines_from seed 0 events in
-    let one = unit_short 1 0 (omega arith) in
-    let two = unit_short 2 0 (omega arith) in
-    let l1 = first_long (unit_line 1 0) (unit_line 2 0 ∷ later) in
-    let l2 = first_long (unit_line 2 0) later in (
-      grind (arith, short_append, line_limit, head_lines, all_short),
-      omega (arith, text_append head_lines (unit_line 1 0 ∷ unit_line 2 0 ∷ later), head_length, l1, l2, one.1, two.1, rest.1, most),
-    )
+all_fine seed events most = grind (arith, short_append, all_short, text_append, head_length, length-append, unit_short, events_short)
 
 -- the lines of the generated text are the generated lines
 pub generated_read : (seed events : ℕ) → events ≤ 100000 → lines_of true (generated seed events) ≡ map plain (generated_lines seed events)

@@ -1,7 +1,6 @@
 -- What a generated run promises, by how its lines ended and what was written.
 use Rattle.std.proofs.Common.{arith}
-use Rattle.replay_generated.proofs.Prelude.{◌≡◌, ◌≢◌, ℕ, ◌+◌, ◌<◌, ◌≤◌, List, [], ◌∷◌, length, reverse, refl, sym, subst, ◌∙◌, Option, inl, inr, append-nil, cases_lt, TextLine, AppendsShort, Appends-nothing, Account, airs_of, Airs, Refusal, NoOutlet, counts_of, summary, summary_of, Counts, End, through, refused, Accepted, RoomFor, SinkUnit, Took, rules_of, handed_on, transcript_of, transcript_end, units_of, BoxFails, BoxFailed, Did, EndedOver, GeneratedRun, IsDoneOrMemory, Summed, lines_made, Ends, PrefixTaken, Puts, Told}
-use Rattle.std.specs.Io.KnownBytes.{Appends}
+use Rattle.replay_generated.proofs.Prelude.{◌≡◌, ◌≢◌, ℕ, ◌+◌, ◌<◌, ◌≤◌, List, [], ◌∷◌, length, reverse, refl, sym, subst, Option, inl, inr, append-nil, cases_lt, TextLine, AppendsShort, Appends-nothing, Account, airs_of, Airs, Refusal, NoOutlet, counts_of, summary_of, Counts, End, through, refused, Accepted, RoomFor, SinkUnit, Took, rules_of, handed_on, transcript_of, transcript_end, units_of, BoxFails, BoxFailed, Did, EndedOver, GeneratedRun, IsDoneOrMemory, Summed, lines_made, Ends, PrefixTaken, Puts, Told}
 use Rattle.bcast_base.specs.Counts.{Rose}
 use Rattle.scenario_history.specs.Airs.{MeetAirs}
 use Rattle.scenario_sinks.specs.Faults.{CountsStay, OneCounts}
@@ -28,20 +27,10 @@ AllSame = (airs : Airs) → MeetAirs airs → Same airs
 
 module _ (airs : Airs) (same : Same airs) (starts ends : List Account) (events : ℕ) (lines : List TextLine) (kept kept' : Option (List ℕ)) where
   summed_as : (end : End Refusal) → Summed airs_of starts ends events lines kept kept' end → Summed airs starts ends events lines kept kept' end
-  summed_as end d = record {
-    ends_so = sym (same.end starts lines) ∙ d.ends_so;
-    written = subst (λ (t : List ℕ). Appends kept kept' (summary events t)) (same.octets starts lines) d.written;
-    boxes = subst (λ (us : List SinkUnit). Took starts ends us) (same.units starts lines) d.boxes;
-  }
+  summed_as end d = grind (arith, same.end, same.octets, same.units)
 
   cut_as : CutShort airs_of starts ends events lines kept kept' → CutShort airs starts ends events lines kept kept'
-  cut_as d = record {
-    written = subst (λ (t : List ℕ). AppendsShort kept kept' (summary events t)) (same.octets starts lines) d.written;
-    done = d.done;
-    rest = d.rest;
-    split = sym (same.units starts lines) ∙ d.split;
-    boxes = d.boxes;
-  }
+  cut_as d = grind (arith, same.octets, same.units)
 
   failed_as : BoxFailed airs_of starts ends lines → BoxFailed airs starts ends lines
   failed_as d = record {
@@ -57,11 +46,7 @@ module _ (airs : Airs) (same : Same airs) (starts ends : List Account) (events :
   }
 
   ended_as : (outcome : Outcome) → EndedOver airs_of events lines outcome starts ends kept kept' → EndedOver airs events lines outcome starts ends kept kept'
-  ended_as outcomes.Done d = summed_as through d
-  ended_as (outcomes.Refused line reason) d = summed_as (refused line reason) d
-  ended_as outcomes.OutletFault d = (failed_as d.0, d.1)
-  ended_as outcomes.WriteFault d = cut_as d
-  ended_as outcomes.Memory d = cut_as d
+  ended_as outcome d = grind (arith, summed_as, cut_as, failed_as)
 
 -- ---- what was written
 
@@ -82,30 +67,10 @@ module _ (starts ends : List Account) (events : ℕ) (lines : List TextLine) (ke
       → (Summed airs_of starts ends events lines kept kept' end → EndedOver airs_of events lines ended starts ends kept kept') → ended ≢ outcomes.WriteFault
       → Puts (summary_of events counts) ended kept kept' faults faults' result → Ends starts ends events lines kept kept' faults faults' result
   put_ends counts end ended result told as_ended other (inl put) =
-      let P : Outcome → Type 0 = λ o. EndedOver airs_of events lines o starts ends kept kept' in
-      record {
-        did = subst P (sym put.0) (as_ended (record {
-          ends_so = told.ends_so;
-          written = subst (λ (c : Counts). Appends kept kept' (summary_of events c)) told.counted put.1;
-          boxes = told.boxes;
-        }));
-        rose = λ is. absurd (other (sym put.0 ∙ is));
-        stays = λ is. put.2;
-      }
-  put_ends counts end ended result told as_ended other (inr (inl put)) =
-      let P : Outcome → Type 0 = λ o. EndedOver airs_of events lines o starts ends kept kept' in
-      record {
-        did = subst P (sym put.0) (cut_short counts end told put.1);
-        rose = λ is. put.2;
-        stays = λ is. absurd (is put.0);
-      }
-  put_ends counts end ended result told as_ended other (inr (inr put)) =
-      let P : Outcome → Type 0 = λ o. EndedOver airs_of events lines o starts ends kept kept' in
-      record {
-        did = subst P (sym put.0) (cut_short counts end told put.1);
-        rose = λ is. let no : outcomes.Memory ≡ outcomes.WriteFault = sym put.0 ∙ is in cc;
-        stays = λ is. put.2;
-      }
+      let summed : Summed airs_of starts ends events lines kept kept' end = grind arith in
+      let did = as_ended summed in grind arith
+  put_ends counts end ended result told as_ended other (inr (inl put)) = let cut = cut_short counts end told put.1 in grind arith
+  put_ends counts end ended result told as_ended other (inr (inr put)) = let cut = cut_short counts end told put.1 in grind arith
 
 pub failed_ends : (starts ends : List Account) (events : ℕ) (lines : List TextLine) (kept : Option (List ℕ)) (faults : ℕ) → BoxFailed airs_of starts ends lines
     → Ends starts ends events lines kept kept faults faults outcomes.OutletFault
@@ -139,19 +104,11 @@ complete_over starts ends seed events kept kept' faults faults' outcome e rose w
 -- the counts of the boxes
 module _ (starts ends : List Account) (events : ℕ) (lines : List TextLine) (kept kept' : Option (List ℕ)) where
   counts_stay : (outcome : Outcome) → EndedOver airs_of events lines outcome starts ends kept kept' → outcome ≢ outcomes.OutletFault → CountsStay starts ends
-  counts_stay outcomes.Done e other = took_stay starts ends (units_of airs_of starts lines) e.boxes
-  counts_stay (outcomes.Refused line reason) e other = took_stay starts ends (units_of airs_of starts lines) e.boxes
-  counts_stay outcomes.OutletFault e other = absurd (other refl)
-  counts_stay outcomes.WriteFault e other = took_stay starts ends e.done e.boxes
-  counts_stay outcomes.Memory e other = took_stay starts ends e.done e.boxes
+  counts_stay outcome e other = grind (arith, took_stay)
 
   one_counts : (outcome : Outcome) → EndedOver airs_of events lines outcome starts ends kept kept' → OneCounts starts ends
-  one_counts outcomes.Done e = none_counts starts ends (took_stay starts ends (units_of airs_of starts lines) e.boxes)
-  one_counts (outcomes.Refused line reason) e = none_counts starts ends (took_stay starts ends (units_of airs_of starts lines) e.boxes)
-  one_counts outcomes.OutletFault e =
-      one_then starts e.0.accounts ends (took_stay starts e.0.accounts (units_of airs_of starts (reverse e.0.earlier)) e.0.before) (failed_one (handed_on airs_of e.0.earlier e.0.line) [] e.0.told e.0.accounts ends e.0.fails)
-  one_counts outcomes.WriteFault e = none_counts starts ends (took_stay starts ends e.done e.boxes)
-  one_counts outcomes.Memory e = none_counts starts ends (took_stay starts ends e.done e.boxes)
+  one_counts outcomes.Done e = search (none_counts, took_stay)
+  one_counts outcome e = search (none_counts, took_stay, one_then, failed_one)
 
 refused_so : (starts : List Account) (line : ℕ) (reason : Refusal) (end : End Refusal) → end ≡ refused line reason
     → (2 ≤ length starts → end ≡ through) → (length starts < 2 → end ≡ refused (length starts + 3) NoOutlet) → (reason ≡ NoOutlet) × (length starts < 2)

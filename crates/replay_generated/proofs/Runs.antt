@@ -1,5 +1,5 @@
 -- What a run over lines did, by its history.
-use Rattle.replay_generated.proofs.Prelude.{◌≡◌, ℕ, ◌+◌, true, List, [], ◌∷◌, ◌++◌, length, map, reverse, refl, sym, ap, subst, ◌∙◌, append_assoc, arith, Option, None, Some, Result, Ok, Err, inl, inr, append-nil, TextLine, plain, Account, airs_of, Refusal, refusal_line, lines_of, counts_of, none_counted, with_lines, Counts, counts_append, whole_append, whole_none, through, refused, out, out_unless, end_of, end_unless, accepted_of, accepted_unless, brought, Accepted, SinkUnit, accounts_after, handed_up, Took, rules_of, steps_of, said_after, handed_on, out_of, end_after, last_line_after, last_end_after, has_end, transcript_of, transcript_end, units_of, BoxFails, CutShort, LinesStand, LineMeets, refusal_at, output_at, answered_on, box_fails, meets_at, unassigned_line, took_as, took_history, handed_line, BoxFailed, Counted, PrefixTaken, LineRefused, LineRuns, Ran, Refuses, RunTo, Told, Ending}
+use Rattle.replay_generated.proofs.Prelude.{◌≡◌, ℕ, ◌+◌, true, List, [], ◌∷◌, ◌++◌, length, map, reverse, refl, sym, ap, subst, ◌∙◌, append_assoc, arith, Option, None, Some, Result, Ok, Err, inl, inr, append-nil, TextLine, plain, Account, airs_of, Refusal, refusal_line, lines_of, counts_of, none_counted, with_lines, Counts, counts_append, whole_append, whole_none, through, refused, out, end_of, accepted_of, accepted_unless, brought, Accepted, SinkUnit, accounts_after, handed_up, Took, rules_of, steps_of, said_after, handed_on, out_of, end_after, last_end_after, has_end, transcript_of, transcript_end, units_of, LinesStand, LineMeets, refusal_at, output_at, answered_on, box_fails, meets_at, unassigned_line, took_as, took_history, handed_line, Counted, PrefixTaken, LineRuns, Ran, Refuses, RunTo, Told, Ending}
 use Rattle.transcript_text.specs.declared.stop.Stop.{Stop}
 use Rattle.transcript_text.specs.declared.stop.Stop.TheVariants as stops
 use Rattle.scenario_history.proofs.Citable.{out_accepted, end_accepted, accepted_accepted, reverse_onto, took_all}
@@ -24,7 +24,7 @@ module _ (starts : List Account) (history : List TextLine) (accepted : Accepted 
   units_then lines = ap (λ all. handed_up airs_of (steps_of airs_of all)) (accepted_accepted (rules_of airs_of starts) history lines accepted)
 
   pub units_all : units_of airs_of starts (reverse history) ≡ handed_up airs_of (steps_of airs_of history)
-  units_all = ap (units_of airs_of starts) (sym (append-nil (reverse history))) ∙ units_then []
+  units_all = simp append-nil at (units_then [])
 
   -- the history is all, and `end` is among it
   module _ (lines : List TextLine) (whole : lines ≡ reverse history ++ []) (over : has_end lines ≡ true) where
@@ -32,17 +32,10 @@ module _ (starts : List Account) (history : List TextLine) (accepted : Accepted 
     end_through = ap (end_after airs_of starts) whole ∙ end_then []
 
     ends_through : transcript_end airs_of starts lines ≡ through
-    ends_through =
-        ap (λ e. last_end_after e (has_end lines) (length lines + 1)) end_through ∙ ap (λ b. last_end_after through b (length lines + 1)) over
+    ends_through = λ i. last_end_after (end_through i) (over i) (length lines + 1)
 
     writes_through : transcript_of airs_of starts lines ≡ brought (rules_of airs_of starts) history
-    writes_through =
-        ap (λ e. out_of airs_of starts lines ++ last_line_after e (has_end lines) (length lines + 1)) end_through
-        ∙ ap (λ b. out_of airs_of starts lines ++ last_line_after through b (length lines + 1)) over
-        ∙ append-nil (out_of airs_of starts lines)
-        ∙ ap (out_of airs_of starts) whole
-        ∙ out_then []
-        ∙ append-nil (brought (rules_of airs_of starts) history)
+    writes_through = grind (arith, append-nil, out_then [], end_through)
 
     units_through : units_of airs_of starts lines ≡ handed_up airs_of (steps_of airs_of history)
     units_through = ap (units_of airs_of starts) whole ∙ units_then []
@@ -51,77 +44,52 @@ module _ (starts : List Account) (history : List TextLine) (accepted : Accepted 
   module _ (lines : List TextLine) (line : TextLine) (later : List TextLine) (reason : Refusal) (whole : lines ≡ reverse history ++ line ∷ later)
       (because : refusal_at starts history line ≡ Some reason) where
     out_refused : out (rules_of airs_of starts) history (line ∷ later) ≡ refusal_line (length history + 1) reason
-    out_refused = ap (λ why. out_unless (rules_of airs_of starts) history why (output_at starts history line ++ out (rules_of airs_of starts) (line ∷ history) later)) because
+    out_refused = rw because
 
     end_refused : end_after airs_of starts lines ≡ refused (length history + 1) reason
-    end_refused =
-        ap (end_after airs_of starts) whole ∙ end_then (line ∷ later)
-        ∙ ap (λ why. end_unless history why (end_of (rules_of airs_of starts) (line ∷ history) later)) because
+    end_refused = ap (end_after airs_of starts) whole ∙ end_then (line ∷ later) ∙ rw because
 
     ends_refused : transcript_end airs_of starts lines ≡ refused (length history + 1) reason
     ends_refused = ap (λ e. last_end_after e (has_end lines) (length lines + 1)) end_refused
 
     writes_refused : transcript_of airs_of starts lines ≡ brought (rules_of airs_of starts) history ++ refusal_line (length history + 1) reason
-    writes_refused =
-        ap (λ e. out_of airs_of starts lines ++ last_line_after e (has_end lines) (length lines + 1)) end_refused
-        ∙ append-nil (out_of airs_of starts lines)
-        ∙ ap (out_of airs_of starts) whole
-        ∙ out_then (line ∷ later)
-        ∙ ap (λ last. brought (rules_of airs_of starts) history ++ last) out_refused
+    writes_refused = grind (arith, append-nil, out_then (line ∷ later), end_refused, out_refused)
 
     units_refused : units_of airs_of starts lines ≡ handed_up airs_of (steps_of airs_of history)
-    units_refused =
-        ap (units_of airs_of starts) whole ∙ units_then (line ∷ later)
-        ∙ ap (λ why. handed_up airs_of (steps_of airs_of (accepted_unless history why (accepted_of (rules_of airs_of starts) (line ∷ history) later)))) because
+    units_refused = ap (units_of airs_of starts) whole ∙ units_then (line ∷ later) ∙ rw because
 
 -- ---- the units of further lines
 
--- units that begin with these
-pub record Begins (prefix all : List SinkUnit) : Type 0 where
-  pub rest : List SinkUnit
-  pub split : all ≡ prefix ++ rest
-
-begins_all : (units : List SinkUnit) → Begins units units
-begins_all units = record { rest = []; split = sym (append-nil units) }
-
-begins_more : (prefix middle all : List SinkUnit) → Begins (prefix ++ middle) all → Begins prefix all
-begins_more prefix middle all b = record { rest = middle ++ b.rest; split = b.split ∙ append_assoc prefix middle b.rest }
-
-begins_as : (prefix other all : List SinkUnit) → prefix ≡ other → Begins prefix all → Begins other all
-begins_as prefix other all is b = record { rest = b.rest; split = b.split ∙ ap (λ f. f ++ b.rest) is }
-
-units_rest : (starts : List Account) (history lines : List TextLine)
-    → Begins (handed_up airs_of (steps_of airs_of history)) (handed_up airs_of (steps_of airs_of (accepted_of (rules_of airs_of starts) history lines)))
-units_rest starts history [] = begins_all (handed_up airs_of (steps_of airs_of history))
-units_rest starts history (line ∷ lines) = by_refusal (units_rest starts (line ∷ history) lines) (refusal_at starts history line)
+units_rest : (starts : List Account) (history lines : List TextLine) → (rest : List SinkUnit)
+    × (handed_up airs_of (steps_of airs_of (accepted_of (rules_of airs_of starts) history lines))
+        ≡ handed_up airs_of (steps_of airs_of history) ++ rest)
+units_rest starts history [] = ([], sym (append-nil (handed_up airs_of (steps_of airs_of history))))
+units_rest starts history (line ∷ lines) = by (refusal_at starts history line) (units_rest starts (line ∷ history) lines)
   where
-    by_refusal : Begins (handed_up airs_of (steps_of airs_of (line ∷ history))) (handed_up airs_of (steps_of airs_of (accepted_of (rules_of airs_of starts) (line ∷ history) lines)))
-        → (why : Option Refusal)
-        → Begins (handed_up airs_of (steps_of airs_of history)) (handed_up airs_of (steps_of airs_of (accepted_unless history why (accepted_of (rules_of airs_of starts) (line ∷ history) lines))))
-    by_refusal more (Some reason) = begins_all (handed_up airs_of (steps_of airs_of history))
-    by_refusal more None =
-        begins_more (handed_up airs_of (steps_of airs_of history)) (handed_on airs_of history line) _
-        (begins_as (handed_up airs_of (steps_of airs_of (line ∷ history))) (handed_up airs_of (steps_of airs_of history) ++ handed_on airs_of history line) _ (handed_line airs_of history line) more)
+    by : (why : Option Refusal)
+        → (rest : List SinkUnit) × (handed_up airs_of (steps_of airs_of (accepted_of (rules_of airs_of starts) (line ∷ history) lines))
+        ≡ handed_up airs_of (steps_of airs_of (line ∷ history)) ++ rest)
+        → (rest : List SinkUnit) × (handed_up airs_of (steps_of airs_of
+            (accepted_unless history why (accepted_of (rules_of airs_of starts) (line ∷ history) lines)))
+        ≡ handed_up airs_of (steps_of airs_of history) ++ rest)
+    by (Some reason) more = ([], sym (append-nil (handed_up airs_of (steps_of airs_of history))))
+    by None more = (handed_on airs_of history line ++ more.0, more.1 ∙ ap (λ us. us ++ more.0) (handed_line airs_of history line)
+        ∙ simp append_assoc)
 
 -- the units of an accepted line come behind those of the history
-pub units_line : (starts : List Account) (history : List TextLine) (line : TextLine) (lines later : List TextLine) → lines ≡ reverse history ++ line ∷ later
-    → Accepted (rules_of airs_of starts) history → refusal_at starts history line ≡ None
-    → Begins (handed_up airs_of (steps_of airs_of history) ++ handed_on airs_of history line) (units_of airs_of starts lines)
-units_line starts history line lines later split accepted none =
-    let b = begins_as (handed_up airs_of (steps_of airs_of (line ∷ history))) (handed_up airs_of (steps_of airs_of history) ++ handed_on airs_of history line) _
-    (handed_line airs_of history line) (units_rest starts (line ∷ history) later) in
-    record {
-      rest = b.rest;
-      split = grind (arith, units_then starts history accepted (line ∷ later), b.split);
-    }
+pub units_line : (starts : List Account) (history : List TextLine) (line : TextLine) (later : List TextLine)
+    → Accepted (rules_of airs_of starts) history → refusal_at starts history line ≡ None → (rest : List SinkUnit)
+    × (units_of airs_of starts (reverse history ++ line ∷ later)
+        ≡ (handed_up airs_of (steps_of airs_of history) ++ handed_on airs_of history line) ++ rest)
+units_line starts history line later accepted none =
+    let more = units_rest starts (line ∷ history) later in
+    (more.0, units_then starts history accepted (line ∷ later)
+        ∙ rw none (more.1 ∙ ap (λ us. us ++ more.0) (handed_line airs_of history line)))
 
 -- ---- what the boxes took
 
 took_at : (starts accounts others : List Account) (us : List SinkUnit) → others ≡ accounts → Took starts accounts us → Took starts others us
 took_at starts accounts others us e t = let P : List Account → Type 0 = λ a. Took starts a us in subst P (sym e) t
-
-prefix_taken : (starts ends : List Account) (lines : List TextLine) (done : List SinkUnit) → Begins done (units_of airs_of starts lines) → Took starts ends done → PrefixTaken starts ends lines
-prefix_taken starts ends lines done b t = record { done = done; rest = b.rest; split = b.split; boxes = t }
 
 -- ---- the run as far as it came
 
@@ -144,16 +112,11 @@ running_none olds starts lines left all machine counts are is stands none = reco
   unassigned = λ box least. refl;
 }
 
-module _ {A : Type 0} (olds news : List A) (starts accounts : List Account) (lines : List TextLine) (left : List (List ℕ)) (number : ℕ) (machine : Machine) (counts : Counts)
-    (r : Running olds news starts accounts lines left number machine counts) where
+module _ {A : Type 0} {olds news : List A} {starts accounts : List Account} {lines : List TextLine} {left : List (List ℕ)} {number : ℕ}
+    {machine : Machine}
+    {counts : Counts} (r : Running olds news starts accounts lines left number machine counts) where
   took : Took starts accounts (handed_up airs_of (steps_of airs_of r.history))
   took = took_history starts accounts r.history r.run.stands.boxes
-
-  -- the boxes took a prefix of the units of all lines
-  units_begin : Begins (handed_up airs_of (steps_of airs_of r.history)) (units_of airs_of starts lines)
-  units_begin =
-      let b = units_rest starts r.history (map plain left) in
-      record { rest = b.rest; split = ap (units_of airs_of starts) r.whole ∙ units_then starts r.history r.run.accepted (map plain left) ∙ b.split }
 
   -- the boxes that no line so far took, and after the next line
   pub unassigned_here : UnassignedRun starts lines olds news
@@ -170,7 +133,14 @@ module _ {A : Type 0} (olds news : List A) (starts accounts : List Account) (lin
   }
 
   pub stops_here : PrefixTaken starts accounts lines
-  stops_here = prefix_taken starts accounts lines (handed_up airs_of (steps_of airs_of r.history)) units_begin took
+  stops_here =
+      let more = units_rest starts r.history (map plain left) in
+      record {
+        done = handed_up airs_of (steps_of airs_of r.history);
+        rest = more.0;
+        split = ap (units_of airs_of starts) r.whole ∙ units_then starts r.history r.run.accepted (map plain left) ∙ more.1;
+        boxes = took;
+      }
 
   -- no line is left
   pub runs_through : left ≡ [] → has_end lines ≡ true → Told starts accounts lines counts through
@@ -187,62 +157,42 @@ module _ {A : Type 0} (olds news : List A) (starts accounts : List Account) (lin
     split_at : lines ≡ reverse r.history ++ plain line ∷ map plain later
     split_at = r.whole ∙ ap (λ ls. reverse r.history ++ map plain ls) next
 
-    goes_on : (after : List A) (ends : List Account) (new : Machine) (counts' : Counts) (number' : ℕ) → number' ≡ number + 1 → UnassignedSame (steps_of airs_of r.history) news after
-        → LineRuns starts r.history (plain line) counts' new accounts ends None → Running olds after starts ends lines later number' new counts'
-    goes_on after ends new counts' number' more unassigned run = record {
-      history = plain line ∷ r.history;
-      whole = split_at ∙ sym (reverse_onto (plain line) r.history (map plain later));
-      number_is = omega (arith, more, r.number_is);
-      run = run;
-      unassigned = unassigned_line (plain line) r.history olds news after r.unassigned unassigned;
+    ends_here : (ends : List Account) (new : Machine) (counts' : Counts) (ending : Ending) → LineRuns starts r.history (plain line) counts' new accounts ends (Some ending)
+        → Ran starts ends lines counts' ending
+    ends_here ends new counts' endings.Through f = absurd f
+    ends_here ends new counts' (endings.Refused at reason) f = record {
+      ends_so = ends_refused starts r.history r.run.accepted lines (plain line) (map plain later) reason split_at f.because
+          ∙ ap (λ n. refused n reason) (sym f.number_is);
+      counted = f.counted
+          ∙ ap (λ n. counts_of (brought (rules_of airs_of starts) r.history ++ refusal_line n reason)) f.number_is
+          ∙ ap counts_of (sym (writes_refused starts r.history r.run.accepted lines (plain line) (map plain later) reason split_at f.because));
+      boxes = took_as starts ends _ _ (sym (units_refused starts r.history r.run.accepted lines (plain line) (map plain later) reason split_at f.because))
+          (took_at starts accounts ends (handed_up airs_of (steps_of airs_of r.history)) f.same took);
     }
-
-    refused_here : (ends : List Account) (counts' : Counts) (at : ℕ) (reason : Refusal) → LineRefused starts r.history (plain line) counts' accounts ends at reason
-        → Told starts ends lines counts' (refused at reason)
-    refused_here ends counts' at reason f =
-        let number_is = f.number_is in
-        record {
-          ends_so = ends_refused starts r.history r.run.accepted lines (plain line) (map plain later) reason split_at f.because ∙ ap (λ n. refused n reason) (sym number_is);
-          counted = f.counted
-              ∙ ap (λ n. counts_of (brought (rules_of airs_of starts) r.history ++ refusal_line n reason)) number_is
-              ∙ ap counts_of (sym (writes_refused starts r.history r.run.accepted lines (plain line) (map plain later) reason split_at f.because));
-          boxes = took_as starts ends _ _ (sym (units_refused starts r.history r.run.accepted lines (plain line) (map plain later) reason split_at f.because))
-              (took_at starts accounts ends (handed_up airs_of (steps_of airs_of r.history)) f.same took);
-        }
-
-    failed_here : (ends : List Account) (told : List ℕ) → refusal_at starts r.history (plain line) ≡ None
-        → BoxFails (handed_on airs_of r.history (plain line)) [] told accounts ends → BoxFailed airs_of starts ends lines
-    failed_here ends told none fails = record {
+    ends_here ends new counts' endings.OutletFault f = record {
       earlier = r.history;
       line = plain line;
       later = map plain later;
       comes = split_at;
-      accepted = (r.run.accepted, none);
+      accepted = (r.run.accepted, f.0);
       accounts = accounts;
       before = took_as starts accounts _ _ (sym (units_all starts r.history r.run.accepted)) took;
-      told = told;
-      fails = fails;
+      told = f.1.0;
+      fails = f.1.1;
     }
-
-    cut_here : (ends : List Account) → refusal_at starts r.history (plain line) ≡ None → CutShort (handed_on airs_of r.history (plain line)) accounts ends → PrefixTaken starts ends lines
-    cut_here ends none cut =
+    ends_here ends new counts' endings.Memory (inl same) = subst (λ a. PrefixTaken starts a lines) (sym same) stops_here
+    ends_here ends new counts' endings.Memory (inr cut) =
         let before = handed_up airs_of (steps_of airs_of r.history) in
-        let after : ends ≡ accounts_after starts (before ++ cut.done) =
-        cut.boxes ∙ ap (λ a. accounts_after a cut.done) r.run.stands.boxes.accounts_are ∙ sym (accounts_append before cut.done starts) in
-        let begins = begins_as (before ++ handed_on airs_of r.history (plain line)) ((before ++ cut.done) ++ cut.rest) (units_of airs_of starts lines)
-        (ap (λ us. before ++ us) cut.split ∙ sym (append_assoc before cut.done cut.rest))
-        (units_line starts r.history (plain line) lines (map plain later) split_at r.run.accepted none) in
-        prefix_taken starts ends lines (before ++ cut.done) (begins_more (before ++ cut.done) cut.rest (units_of airs_of starts lines) begins)
-        (took_at starts (accounts_after starts (before ++ cut.done)) ends (before ++ cut.done) after (took_all starts (before ++ cut.done)))
-
-    ends_here : (ends : List Account) (new : Machine) (counts' : Counts) (ending : Ending) → LineRuns starts r.history (plain line) counts' new accounts ends (Some ending)
-        → Ran starts ends lines counts' ending
-    ends_here ends new counts' endings.Through f = absurd f
-    ends_here ends new counts' (endings.Refused at reason) f = refused_here ends counts' at reason f
-    ends_here ends new counts' endings.OutletFault f = failed_here ends f.1.0 f.0 f.1.1
-    ends_here ends new counts' endings.Memory (inl same) =
-        prefix_taken starts ends lines (handed_up airs_of (steps_of airs_of r.history)) units_begin (took_at starts accounts ends (handed_up airs_of (steps_of airs_of r.history)) same took)
-    ends_here ends new counts' endings.Memory (inr cut) = cut_here ends cut.0 cut.1
+        let more = units_line starts r.history (plain line) (map plain later) r.run.accepted cut.0 in
+        record {
+          done = before ++ cut.1.done;
+          rest = cut.1.rest ++ more.0;
+          split = ap (units_of airs_of starts) split_at ∙ more.1 ∙ ap (λ us. (before ++ us) ++ more.0) cut.1.split ∙ simp append_assoc;
+          boxes = took_at starts (accounts_after starts (before ++ cut.1.done)) ends (before ++ cut.1.done)
+              (cut.1.boxes ∙ ap (λ a. accounts_after a cut.1.done) r.run.stands.boxes.accounts_are
+                  ∙ sym (accounts_append before cut.1.done starts))
+              (took_all starts (before ++ cut.1.done));
+        }
 
     -- the line was run
     pub runs_on : (after : List A) (ends : List Account) (new : Machine) (counts' : Counts) (number' : ℕ) (result : Option Ending) → number' ≡ number + 1 → result ≡ None
@@ -250,9 +200,14 @@ module _ {A : Type 0} (olds news : List A) (starts accounts : List Account) (lin
         → ((history : List TextLine) → number' ≡ length history + 1 → RunTo starts history counts machine accounts
         → LineRuns starts history (plain line) counts' new accounts ends result)
         → Running olds after starts ends lines later number' new counts'
-    runs_on after ends new counts' number' result more is unassigned runs =
-        let P : Option Ending → Type 0 = λ o. LineRuns starts r.history (plain line) counts' new accounts ends o in
-        goes_on after ends new counts' number' more (unassigned r.history r.run) (subst P is (runs r.history (more ∙ ap (λ n. n + 1) r.number_is) r.run))
+    runs_on after ends new counts' number' result more is unassigned runs = record {
+      history = plain line ∷ r.history;
+      whole = split_at ∙ sym (reverse_onto (plain line) r.history (map plain later));
+      number_is = omega (arith, more, r.number_is);
+      run = subst (λ o. LineRuns starts r.history (plain line) counts' new accounts ends o) is
+          (runs r.history (more ∙ ap (λ n. n + 1) r.number_is) r.run);
+      unassigned = unassigned_line (plain line) r.history olds news after r.unassigned (unassigned r.history r.run);
+    }
 
     pub runs_out : (ends : List Account) (new : Machine) (counts' : Counts) (number' : ℕ) (result : Option Ending) (ending : Ending) → number' ≡ number + 1 → result ≡ Some ending
         → ((history : List TextLine) → number' ≡ length history + 1 → RunTo starts history counts machine accounts
@@ -285,9 +240,7 @@ module _ (starts : List Account) (history : List TextLine) (line : TextLine) (ma
   line_ran u counts' (Some endings.Memory) is c =
       let m = met (Ok u) is in
       inr (m.0, record { done = handed_on airs_of history line; rest = []; split = sym (append-nil (handed_on airs_of history line)); boxes = m.3 })
-  line_ran u counts' (Some endings.Through) is c = absurd c
-  line_ran u counts' (Some (endings.Refused at reason)) is c = absurd c
-  line_ran u counts' (Some endings.OutletFault) is c = absurd c
+  line_ran u counts' (Some _) is c = absurd c
 
   pub line_refused : (reason : Refusal) (number : ℕ) (counts' : Counts) (ending : Ending) → number ≡ length history + 1 → result ≡ Err (stops.Refused reason)
       → Refuses number reason counts counts' ending → LineRuns starts history line counts' new before after (Some ending)
@@ -303,8 +256,7 @@ module _ (starts : List Account) (history : List TextLine) (line : TextLine) (ma
         same = m.3;
       }
   line_refused reason number counts' endings.Memory next is f = inl (met (Err (stops.Refused reason)) is).3
-  line_refused reason number counts' endings.Through next is f = absurd f
-  line_refused reason number counts' endings.OutletFault next is f = absurd f
+  line_refused reason number counts' _ next is f = absurd f
 
   pub line_failed : (counts' : Counts) → result ≡ Err stops.OutletFault → LineRuns starts history line counts' new before after (Some endings.OutletFault)
   line_failed counts' is =
@@ -316,4 +268,4 @@ module _ (starts : List Account) (history : List TextLine) (line : TextLine) (ma
 
 -- no line was run
 pub none_taken : (starts : List Account) (lines : List TextLine) → PrefixTaken starts starts lines
-none_taken starts lines = prefix_taken starts starts lines [] (record { rest = units_of airs_of starts lines; split = refl }) (took_all starts [])
+none_taken starts lines = record { done = []; rest = units_of airs_of starts lines; split = refl; boxes = took_all starts [] }

@@ -1,7 +1,6 @@
 -- A step of source 0 that is made before the relayed units that stand before it: relayed units touch source 1 alone, so both orders leave
 -- the same.
-use Rattle.std.proofs.Common.{arith}
-use Rattle.replay_steps.proofs.Prelude.{ℕ, ◌≡◌, ◌==◌, Bool, true, false, cond, List, [], ◌∷◌, refl, sym, ◌∙◌, ap, ap₂, not, option_map, Option, None, list_any, option_or, airs_of, Refusal, Step, Offer, after_offer, after_offers, answered, dropped_for, with_relayed_unit, with_relayed_unit_unless, Answered, gives_on, source_refusal, refuse_if, relay_given, relays_to, takes_units, chosen_given, chosen_of, is_of_source, stage_of, steps_of_source, version_at, version_of, left_by_offers, Relays, RelaysStand, Sources, SourcesStand, lent, relay_histories}
+use Rattle.replay_steps.proofs.Prelude.{ℕ, ◌≡◌, ◌==◌, Bool, true, false, cond, List, [], ◌∷◌, refl, sym, ◌∙◌, ap, ap₂, not, option_map, Option, None, list_any, option_or, airs_of, Refusal, Step, Offer, after_offer, after_offers, answered, dropped_for, with_relayed_unit, with_relayed_unit_unless, Answered, gives_on, source_refusal, refuse_if, relay_given, relays_to, takes_units, chosen_given, chosen_of, is_of_source, stage_of, steps_of_source, version_at, version_of, left_by_offers, Relays, RelaysStand, Sources, SourcesStand, lent, relay_histories, arith}
 use Rattle.replay_steps.proofs.Offering.{SaySame, sources_as}
 use Rattle.replay_steps.proofs.RelaysStay.{relays_as}
 

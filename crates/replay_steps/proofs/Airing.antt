@@ -1,13 +1,7 @@
 -- The PDUs of the air that a sink hears.
-use Rattle.replay_steps.proofs.Prelude.{◌≡◌, ℕ, ◌+◌, ◌*◌, ◌<◌, ◌≤◌, ◌==◌, ◌++◌, ◌∷◌, Bool, true, false, not, is_some, if◌then◌else◌, List, length, Option, None, Some, option_map, Ok, Err, refl, sym, ◌∙◌, ap, subst, ne_eqb, arith, le-ltb, option_or, Account, airs_of, Call, heard_line, pdu_line, Refusal, NoSuchSink, NotOnAir, Order, Stop, Refused, OutletFault, Memory, Step, Air, Hear, Inject, Sniff, chosen_of, chosen_steps, running, sinks_made, stage_of, event_back, is_heard, pdu_in, performed, setup_of, source_calls, heard_on_air, reaches, sink_calls, source_of, positions_of, box_of, injected_hearing, calls_made, made_of, air_refusal, no_place, no_sink, phase_refusal, source_refusal, refuse_if, NoPlace, air_says, hear_says, inject_says, sniff_says, sources_stay, Sinks, Histories, with_hearing, SinksStand, stands_same, Machine, OnAir, Reaches, histories_on_air, Stands, histories_of, Quiet, Tells}
-use Rattle.std.proofs.Common.{inl, inr}
-use Rattle.std.proofs.lemmas.Bool.{cases_lt}
-use Rattle.source_machine.specs.Faults.{air_fault}
-use Rattle.group_sink.specs.Calls.{heard_calls}
+use Rattle.replay_steps.proofs.Prelude.{◌≡◌, ℕ, ◌+◌, ◌*◌, ◌<◌, ◌≤◌, ◌==◌, ◌++◌, ◌∷◌, Bool, true, false, not, is_some, if◌then◌else◌, List, length, Option, None, Some, option_map, Ok, Err, refl, sym, ◌∙◌, ap, subst, ne_eqb, arith, le-ltb, option_or, Account, airs_of, Call, heard_line, pdu_line, Refusal, NoSuchSink, NotOnAir, Order, Stop, Refused, OutletFault, Memory, Step, Air, Hear, Inject, Sniff, chosen_of, chosen_steps, running, sinks_made, stage_of, event_back, is_heard, pdu_in, performed, setup_of, source_calls, heard_on_air, reaches, sink_calls, source_of, positions_of, box_of, injected_hearing, calls_made, made_of, air_refusal, no_place, no_sink, phase_refusal, source_refusal, refuse_if, NoPlace, air_says, hear_says, inject_says, sniff_says, sources_stay, Sinks, Histories, with_hearing, SinksStand, stands_same, Machine, OnAir, Reaches, histories_on_air, Stands, histories_of, Quiet, Tells, inl, inr, cases_lt, air_fault, heard_calls, with_heard, SentIs}
 use Rattle.isoal_base.specs.declared.hearing.Hearing.{Hearing}
 use Rattle.scenario_sinks.specs.Hearing.{Hears}
-use Rattle.scenario_sinks.specs.Histories.{with_heard}
-use Rattle.scenario_sources.specs.Answers.{SentIs}
 use Rattle.replay_steps.specs.declared.grid.Grid.{Grid}
 use Rattle.replay_steps.proofs.HeardStreams.{AreHeard, event_heard}
 use Rattle.replay_steps.proofs.RelaysStay.{minds_relays, relays_stay}
@@ -183,8 +177,7 @@ stream_heard steps n lose k source event bis subevents pdus sinks are chosen is 
           (heard_on_air airs_of own lose ((k + 1) * nse) (sink_calls airs_of m steps)) (sink_calls airs_of m steps)
           (event_heard own lose k pdus (sink_calls airs_of m steps) are);
       made = refl;
-    })
-    (subst S chosen (subst E is (subst B b (subst N all stands)))))
+    }) (subst S chosen (subst E is (subst B b (subst N all stands)))))
 
 -- each stream of the group sent its PDUs
 pub none_sent : (steps : List Step) (n lose k bis event streams subevents : ℕ) (sinks : Sinks) → OnAir steps n event streams subevents → k < streams → bis ≡ k + 1

@@ -12,8 +12,7 @@ pub range_split : {A : Type 0} (f : ℕ → List A) (n k : ℕ) → n + k ≡ 8
     → flat_map f (range_with_len 0 8) ≡ flat_map f (range_with_len 0 n) ++ flat_map f (range_with_len n k)
 range_split f n k all =
     let start : 0 + n ≡ n = omega arith in
-    ap (λ m. flat_map f (range_with_len 0 m)) (sym all)
-    ∙ ap (flat_map f) (range_append 0 n k)
+    ap (λ m. flat_map f (range_with_len 0 m)) (sym all) ∙ ap (flat_map f) (range_append 0 n k)
     ∙ flat_map-append f (range_with_len 0 n) (range_with_len (0 + n) k)
     ∙ ap (λ m. flat_map f (range_with_len 0 n) ++ flat_map f (range_with_len m k)) start
 
@@ -85,12 +84,10 @@ between_next steps past event n mid new text told told2 before between after b m
       };
       lines = m.1
           ∙ ap₂ (λ (units : List SinkUnit) (offers : List Offer). told ++ (unit_lines units ++ answer_lines (answered airs_of offers now))) (not_yet past event n)
-          (offers_now steps past event n)
-          ∙ ap (λ prefix. prefix ++ lines_at steps past n event) b.lines
+          (offers_now steps past event n) ∙ ap (λ prefix. prefix ++ lines_at steps past n event) b.lines
           ∙ append_assoc text (lines_below steps past event n) (lines_at steps past n event)
           ∙ ap (λ l. text ++ l) (sym (range_more (λ m. lines_at steps past m event) n));
-      boxes = m.2
-          ∙ ap₂ (λ accounts (units : List SinkUnit). accounts_after accounts units) b.boxes (not_yet past event n)
+      boxes = m.2 ∙ ap₂ (λ accounts (units : List SinkUnit). accounts_after accounts units) b.boxes (not_yet past event n)
           ∙ sym (accounts_append (units_below past event n) (closing_of n 0 event past) before)
           ∙ ap (accounts_after before) (sym (range_more (λ m. closing_of m 0 event past) n));
     }

@@ -1,9 +1,6 @@
 -- A close that a box stops: what was printed before is a prefix of what the close prints.
-use Rattle.replay_steps.proofs.Prelude.{ℕ, ◌≡◌, ◌≢◌, ◌<◌, ◌+◌, ◌-◌, ◌==◌, nat_lt, Bool, true, false, cond, List, [], ◌∷◌, ◌++◌, map, refl, sym, ◌∙◌, ap, ap₂, subst, inl, inr, append_assoc, append-nil, arith, eq-eqb, ne_eqb, le-ltb, lt-ltb, Err, filter, flat_map, range_with_len, and_left, and_right, cases_eq, filter-append, Account, Handed, TookAt, Failed, handed_at, airs_of, Step, SinkUnit, accounts_after, Answered, after_offers, answered, dropped_lines, first_lines, unit_lines, is_of, closing_of, handed_all, BoxFails, Histories, accounts_append, CloseFails, printed_before, FirstFails, answer_lines, lines_at, lines_below, offers_below, offers_of, units_below, flat_within, handed_append}
-use Rattle.transcript_text.specs.Lines.{handed_line}
-use Rattle.scenario_history.specs.Boxes.{sink_numbers}
+use Rattle.replay_steps.proofs.Prelude.{ℕ, ◌≡◌, ◌≢◌, ◌<◌, ◌+◌, ◌-◌, ◌==◌, nat_lt, Bool, true, false, cond, List, [], ◌∷◌, ◌++◌, map, refl, sym, ◌∙◌, ap, ap₂, subst, inl, inr, append_assoc, append-nil, arith, eq-eqb, ne_eqb, le-ltb, lt-ltb, Err, filter, flat_map, range_with_len, and_left, and_right, cases_eq, filter-append, Account, Handed, TookAt, Failed, handed_at, airs_of, Step, SinkUnit, accounts_after, Answered, after_offers, answered, dropped_lines, first_lines, unit_lines, is_of, closing_of, handed_all, BoxFails, Histories, accounts_append, CloseFails, printed_before, FirstFails, answer_lines, lines_at, lines_below, offers_below, offers_of, units_below, flat_within, handed_append, handed_line, sink_numbers, lines_append}
 use Rattle.scenario_history.specs.RelayedUnits.{handed_of}
-use Rattle.scenario_sinks.proofs.Citable.{lines_append}
 use Rattle.replay_steps.proofs.Between.{range_about}
 use Rattle.replay_steps.proofs.CloseLines.{answers_of, flat_nothing, none_handed, of_sink, own_handed, own_lines}
 
@@ -128,41 +125,12 @@ below_printed steps past event number n d less within are =
 -- the sink itself
 here_printed : (steps : List Step) (past : Histories) (event number : ℕ) (d : List SinkUnit) → AreOf 0 number d
     → printed_at number (units_below past event number ++ d) (filter (of_below number) (answered airs_of (offers_below steps past event 8) steps)) ≡ unit_lines d
-here_printed steps past event number d are =
-    grind (
-      arith,
-      flat_map,
-      answer_lines,
-      handed_append,
-      units_below,
-      none_handed,
-      kept_below,
-      answered,
-      airs_of,
-      offers_below,
-      le-ltb,
-      append-nil,
-      own_printed,
-    )
+here_printed steps past event number d are = grind (arith, handed_append, none_handed, kept_below, le-ltb, append-nil, own_printed)
 
 -- a sink above
 above_printed : (steps : List Step) (past : Histories) (event number n : ℕ) (d : List SinkUnit) → number < n → AreOf 0 number d
     → printed_at n (units_below past event number ++ d) (filter (of_below number) (answered airs_of (offers_below steps past event 8) steps)) ≡ []
-above_printed steps past event number n d more are =
-    grind (
-      arith,
-      flat_map,
-      answer_lines,
-      handed_append,
-      units_below,
-      none_handed,
-      other_handed,
-      kept_below,
-      answered,
-      airs_of,
-      offers_below,
-      le-ltb,
-    )
+above_printed steps past event number n d more are = grind (arith, handed_append, none_handed, other_handed, kept_below, le-ltb)
 
 -- what is printed before a unit of a sink of source 0: the lines of the sinks below, and those of the sink's units before it
 first_done : (steps : List Step) (past : Histories) (event number : ℕ) (d : List SinkUnit) → number < 8 → AreOf 0 number d
@@ -171,9 +139,7 @@ first_done : (steps : List Step) (past : Histories) (event number : ℕ) (d : Li
 unfolding sink_numbers
 first_done steps past event number d within are =
     let f : ℕ → List ℕ = λ n. printed_at n (units_below past event number ++ d) (filter (of_below number) (answered airs_of (offers_below steps past event 8) steps)) in
-    range_about f number within
-    ∙ ap₂ (λ prefix back. prefix ++ back)
-    (ap₂ (λ prefix here. prefix ++ here)
+    range_about f number within ∙ ap₂ (λ prefix back. prefix ++ back) (ap₂ (λ prefix here. prefix ++ here)
     (flat_within f (λ n. lines_at steps past n event) 0 number (λ n least less. below_printed steps past event number n d (omega (arith, less)) within are))
     (here_printed steps past event number d are))
     (flat_nothing f (number + 1) (7 - number) (λ n least less. above_printed steps past event number n d (omega (arith, least)) are))
@@ -192,48 +158,42 @@ before_first steps past event number d unit within are source sink =
 
 -- ---- a box stops a close of source 0
 
-regroup_units : (prefix d here others more : List SinkUnit) → ((prefix ++ (d ++ here)) ++ others) ++ more ≡ (prefix ++ d) ++ (here ++ (others ++ more))
-regroup_units prefix d here others more = simp append_assoc
+regroup_units : (prefix d here others : List SinkUnit) → (prefix ++ (d ++ here)) ++ others ≡ (prefix ++ d) ++ (here ++ others)
+regroup_units prefix d here others = simp append_assoc
 
-regroup_lines : (lines own here dropped others tail : List ℕ)
-    → ((lines ++ ((own ++ here) ++ dropped)) ++ others) ++ tail ≡ (lines ++ own) ++ ((here ++ dropped) ++ (others ++ tail))
-regroup_lines lines own here dropped others tail = simp append_assoc
+regroup_lines : (lines own here dropped others : List ℕ) → (lines ++ ((own ++ here) ++ dropped)) ++ others ≡ (lines ++ own) ++ ((here ++ dropped) ++ others)
+regroup_lines lines own here dropped others = simp append_assoc
 
--- behind all units of the close more may come, and behind its lines
-pub first_fails : (steps : List Step) (past : Histories) (event : ℕ) (units more : List SinkUnit) (answers : List Answered) (output tail text told : List ℕ) (before after : List Account)
-    → units ≡ units_below past event 8 ++ more → answers ≡ answered airs_of (offers_below steps past event 8) steps → output ≡ lines_below steps past event 8 ++ tail
-    → FirstFails steps past event text told before after → CloseFails units answers output text told before after
-first_fails steps past event units more answers output tail text told before after all answered_are printed f =
+pub first_fails : (steps : List Step) (past : Histories) (event : ℕ) (text told : List ℕ) (before after : List Account) → FirstFails steps past event text told before after
+    → CloseFails (units_below past event 8) (answered airs_of (offers_below steps past event 8) steps) (lines_below steps past event 8) text told before after
+first_fails steps past event text told before after f =
     let number : ℕ = f.number in
     let d : List SinkUnit = f.fails.done in
     let own : AreOf 0 number (d ++ f.fails.unit ∷ f.fails.rest) = subst (AreOf 0 number) f.fails.split (of_closing number 0 event past) in
-    let are : AreOf 0 number d = of_prefix 0 number d (f.fails.unit ∷ f.fails.rest) own in
     let one : AreOf 0 number (f.fails.unit ∷ f.fails.rest) = of_back 0 number d (f.fails.unit ∷ f.fails.rest) own in
     let prefix : List SinkUnit = units_below past event number in
     let others : List SinkUnit = flat_map (λ n. closing_of n 0 event past) (range_with_len (number + 1) (7 - number)) in
     let lines : List ℕ = lines_below steps past event number in
     let dropped : List ℕ = answer_lines (answered airs_of (offers_of steps past number event) (after_offers airs_of (offers_below steps past event number) steps)) in
     let other_lines : List ℕ = flat_map (λ n. lines_at steps past n event) (range_with_len (number + 1) (7 - number)) in
-    let is : printed_before answers (prefix ++ d) f.fails.unit ≡ lines ++ unit_lines d =
-    ap (λ a. printed_before a (prefix ++ d) f.fails.unit) answered_are ∙ before_first steps past event number d f.fails.unit f.within are one.0 one.1 in
+    let is : printed_before (answered airs_of (offers_below steps past event 8) steps) (prefix ++ d) f.fails.unit ≡ lines ++ unit_lines d =
+    before_first steps past event number d f.fails.unit f.within (of_prefix 0 number d (f.fails.unit ∷ f.fails.rest) own) one.0 one.1 in
     record {
       done = prefix ++ d;
       unit = f.fails.unit;
-      rest = f.fails.rest ++ (others ++ more);
-      split = all ∙ ap (λ us. us ++ more) (range_about (λ n. closing_of n 0 event past) number f.within)
-          ∙ ap (λ us. ((prefix ++ us) ++ others) ++ more) f.fails.split
-          ∙ regroup_units prefix d (f.fails.unit ∷ f.fails.rest) others more;
+      rest = f.fails.rest ++ others;
+      split = range_about (λ n. closing_of n 0 event past) number f.within ∙ ap (λ us. (prefix ++ us) ++ others) f.fails.split
+          ∙ regroup_units prefix d (f.fails.unit ∷ f.fails.rest) others;
       bis = f.fails.bis;
       time = f.fails.time;
       octets = f.fails.octets;
       is_valid = f.fails.is_valid;
       lines = f.fails.lines ∙ append_assoc text lines (unit_lines d) ∙ ap (λ l. text ++ l) (sym is);
-      behind = (unit_lines (f.fails.unit ∷ f.fails.rest) ++ dropped) ++ (other_lines ++ tail);
-      prefix = printed ∙ ap (λ l. l ++ tail) (range_about (λ n. lines_at steps past n event) number f.within)
-          ∙ ap (λ us. ((lines ++ (us ++ dropped)) ++ other_lines) ++ tail)
-          (ap unit_lines f.fails.split ∙ lines_append d (f.fails.unit ∷ f.fails.rest))
-          ∙ regroup_lines lines (unit_lines d) (unit_lines (f.fails.unit ∷ f.fails.rest)) dropped other_lines tail
-          ∙ ap (λ l. l ++ ((unit_lines (f.fails.unit ∷ f.fails.rest) ++ dropped) ++ (other_lines ++ tail))) (sym is);
+      behind = (unit_lines (f.fails.unit ∷ f.fails.rest) ++ dropped) ++ other_lines;
+      prefix = range_about (λ n. lines_at steps past n event) number f.within
+          ∙ ap (λ us. (lines ++ (us ++ dropped)) ++ other_lines) (ap unit_lines f.fails.split ∙ lines_append d (f.fails.unit ∷ f.fails.rest))
+          ∙ regroup_lines lines (unit_lines d) (unit_lines (f.fails.unit ∷ f.fails.rest)) dropped other_lines
+          ∙ ap (λ l. l ++ ((unit_lines (f.fails.unit ∷ f.fails.rest) ++ dropped) ++ other_lines)) (sym is);
       box = subst (λ accounts. TookAt f.fails.unit.box f.fails.octets accounts after (Err Failed)) (sym (accounts_append prefix d before)) f.fails.box;
     }
 
@@ -251,10 +211,10 @@ before_second : (first d : List SinkUnit) (answers : List Answered) (unit : Sink
 before_second first d answers unit are_first are source =
     grind (arith, first_lines, cond, filter, unit_lines, second_apart, filter-append, first_left, second_kept)
 
-pub second_fails : (first us : List SinkUnit) (answers : List Answered) (output tail text mid told : List ℕ) (before between after : List Account) → AreFrom 0 first → AreFrom 1 us
-    → mid ≡ text ++ first_lines first answers → between ≡ accounts_after before first → output ≡ first_lines first answers ++ (unit_lines us ++ tail)
-    → BoxFails us mid told between after → CloseFails (first ++ us) answers output text told before after
-second_fails first us answers output tail text mid told before between after are_first are_second prefix accounts printed f =
+pub second_fails : (first us : List SinkUnit) (answers : List Answered) (text mid told : List ℕ) (before between after : List Account) → AreFrom 0 first → AreFrom 1 us
+    → mid ≡ text ++ first_lines first answers → between ≡ accounts_after before first → BoxFails us mid told between after
+    → CloseFails (first ++ us) answers (first_lines first answers ++ unit_lines us) text told before after
+second_fails first us answers text mid told before between after are_first are_second prefix accounts f =
     let d : List SinkUnit = f.done in
     let own : AreFrom 1 (d ++ f.unit ∷ f.rest) = subst (AreFrom 1) f.split are_second in
     let are : AreFrom 1 d = from_prefix 1 d (f.unit ∷ f.rest) own in
@@ -271,7 +231,7 @@ second_fails first us answers output tail text mid told before between after are
       octets = f.octets;
       is_valid = f.is_valid;
       lines = f.lines ∙ ap (λ l. l ++ unit_lines d) prefix ∙ append_assoc text lines (unit_lines d) ∙ ap (λ l. text ++ l) (sym is);
-      behind = unit_lines (f.unit ∷ f.rest) ++ tail;
+      behind = unit_lines (f.unit ∷ f.rest);
       prefix = grind (arith, unit_lines, lines_append, append_assoc);
       box = subst (λ all. TookAt f.unit.box f.octets all after (Err Failed)) (ap (λ a. accounts_after a d) accounts ∙ sym (accounts_append first d before)) f.box;
     }

@@ -1,11 +1,7 @@
 -- What a close of source 0 prints, sink by sink, is what its definition says: the units of each sink, and then those that its relay
 -- offered and that source 1 didn't take.
-use Rattle.replay_steps.proofs.Prelude.{ℕ, zero, suc, ◌≡◌, ◌<◌, ◌≤◌, ◌+◌, ◌-◌, ◌==◌, Bool, true, false, cond, List, [], ◌∷◌, ◌++◌, map, refl, sym, ◌∙◌, ap, ap₂, subst, inl, inr, append-nil, arith, eq-eqb, ne_eqb, Option, None, Some, filter, flat_map, range_with_len, cases_eq, filter-append, Call, handed_at, Handed, airs_of, Step, SinkUnit, closing, closing_at, closing_in, Answered, Offer, after_offer, after_offers, answered, dropped_for, offered_of, offers_at, units_on, dropped_lines, first_lines, unit_lines, Route, relay_of, is_of, open_event, steps_of_source, closing_of, handed_all, Histories, histories_of, answer_lines, lines_at, lines_below, offers_below, offers_of, units_below, flat_within, flat_one, other_in, handed_flat, lines_map}
-use Rattle.bcast_base.specs.declared.unit.Unit.{Unit as AudioUnit}
-use Rattle.transcript_text.specs.Lines.{handed_line}
-use Rattle.scenario_history.specs.Boxes.{sink_numbers}
+use Rattle.replay_steps.proofs.Prelude.{ℕ, zero, suc, ◌≡◌, ◌<◌, ◌≤◌, ◌+◌, ◌-◌, ◌==◌, Bool, true, false, cond, List, [], ◌∷◌, ◌++◌, map, refl, sym, ◌∙◌, ap, ap₂, subst, inl, inr, append-nil, arith, eq-eqb, ne_eqb, Option, None, Some, filter, flat_map, range_with_len, cases_eq, filter-append, Call, handed_at, Handed, airs_of, Step, SinkUnit, closing, closing_at, closing_in, Answered, Offer, after_offer, after_offers, answered, dropped_for, offered_of, offers_at, units_on, dropped_lines, first_lines, unit_lines, Route, relay_of, is_of, open_event, steps_of_source, closing_of, handed_all, Histories, histories_of, answer_lines, lines_at, lines_below, offers_below, offers_of, units_below, flat_within, flat_one, other_in, handed_flat, lines_map, AudioUnit, handed_line, sink_numbers, own_units}
 use Rattle.scenario_history.specs.RelayedUnits.{handed_of}
-use Rattle.scenario_laws.proofs.RelayedUnits.Citable.{own_handed as own_units}
 use Rattle.replay_steps.proofs.Offering.{after_append, answered_append}
 
 -- ---- lists
@@ -129,8 +125,7 @@ answers_past steps past event n start (suc count) now beyond =
     let rest : List Offer = flat_map (asks steps past event) (range_with_len (start + 1) count) in
     let then : List Step = after_offers airs_of here now in
     ap (filter (of_sink n)) (answered_append here rest now)
-    ∙ filter-append (of_sink n) (answered airs_of here now) (answered airs_of rest then)
-    ∙ ap₂ (λ one two. one ++ two)
+    ∙ filter-append (of_sink n) (answered airs_of here now) (answered airs_of rest then) ∙ ap₂ (λ one two. one ++ two)
     (sink_answers n start (relay_of start steps) (handed_all (closing_of start 0 event past)) now
     ∙ ap (λ b. cond b (answered airs_of here now) []) (ne_eqb start n (λ same. omega (arith, same, beyond))))
     (answers_past steps past event n (start + 1) count then (omega (arith, beyond)))
@@ -146,23 +141,18 @@ own_answers steps past event n start (suc count) now least below =
     let P : ℕ → Type 0 = λ m. answered airs_of (asks steps past event start) now ≡ answered airs_of (asks steps past event m)
     (after_offers airs_of (flat_map (asks steps past event) (range_with_len start (m - start))) now) in
     ap (filter (of_sink n)) (answered_append here rest now)
-    ∙ filter-append (of_sink n) (answered airs_of here now) (answered airs_of rest then)
-    ∙ (elim (cases_eq start n) [
+    ∙ filter-append (of_sink n) (answered airs_of here now) (answered airs_of rest then) ∙ (elim (cases_eq start n) [
       | inl same ↦
-          ap₂ (λ one two. one ++ two)
-          (grind (arith, sink_answers, relay_of, handed_all, closing_of, cond, answered, airs_of, eq-eqb))
-          (answers_past steps past event n (start + 1) count then (omega (arith, same)))
-          ∙ append-nil (answered airs_of here now)
+          ap₂ (λ one two. one ++ two) (grind (arith, sink_answers, relay_of, handed_all, closing_of, cond, answered, airs_of, eq-eqb))
+          (answers_past steps past event n (start + 1) count then (omega (arith, same))) ∙ append-nil (answered airs_of here now)
           ∙ (let none : start - start ≡ 0 = omega arith in
           subst P same (ap (λ k. answered airs_of here (after_offers airs_of (flat_map (asks steps past event) (range_with_len start k)) now)) (sym none)))
       | inr other ↦
           let left : n - start ≡ suc (n - (start + 1)) = omega (arith, least, other) in
-          ap₂ (λ one two. one ++ two)
-          (sink_answers n start (relay_of start steps) (handed_all (closing_of start 0 event past)) now
+          ap₂ (λ one two. one ++ two) (sink_answers n start (relay_of start steps) (handed_all (closing_of start 0 event past)) now
           ∙ ap (λ b. cond b (answered airs_of here now) []) (ne_eqb start n other))
           (own_answers steps past event n (start + 1) count then (omega (arith, least, other)) (omega (arith, below)))
-          ∙ ap (answered airs_of (asks steps past event n))
-          (grind (arith, after_append, flat_map, range_with_len, after_offers, airs_of))
+          ∙ ap (answered airs_of (asks steps past event n)) (grind (arith, after_append, flat_map, range_with_len, after_offers, airs_of))
     ])
 
 -- of what becomes of all that the sinks' relays offer the part of one
@@ -185,8 +175,7 @@ lines_in steps (Some event) is asked =
     let past : Histories = histories_of steps in
     let answers : List Answered = answered airs_of (offers_at airs_of steps) steps in
     flat_within (λ n. flat_map (handed_line n) (handed_of 0 n (closing airs_of 0 steps)) ++ dropped_lines n answers) (λ n. lines_at steps past n event) 0 8
-    (λ n least below.
-    ap₂ (λ one two. one ++ two)
+    (λ n least below. ap₂ (λ one two. one ++ two)
     (ap (flat_map (handed_line n)) (ap (handed_of 0 n) is ∙ own_handed past event n 8 (omega (arith, below))) ∙ own_lines past event n)
     (ap (λ all. answer_lines (filter (of_sink n) (answered airs_of all steps))) asked ∙ ap answer_lines (answers_of steps past event n (omega (arith, below)))))
 

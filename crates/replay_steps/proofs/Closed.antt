@@ -1,26 +1,15 @@
--- What a close of a source left, whether an event of it was open or none.
-use Rattle.std.proofs.Common.{arith}
-use Rattle.replay_steps.proofs.Prelude.{ℕ, zero, suc, ◌≡◌, ◌≢◌, List, [], ◌++◌, refl, sym, ◌∙◌, subst, append-nil, Option, None, Some, Result, Ok, Err, range_with_len, Account, airs_of, Stop, Refused, OutletFault, Memory, Refusal, Step, SinkUnit, accounts_after, Answered, after_offers, answered, first_lines, unit_lines, is_of, closings_at, CutShort, Histories, with_close, SinksStand, Sinks, RelaysStand, SourcesStand, hands_stop, stands_same, Machine, CloseFails, relay_histories, Closes, FirstMeets, ComponentsStand, SecondMeets}
-use Rattle.scenario_history.specs.Boxes.{sink_numbers}
+-- What a close of a source did, whether an event of it was open or none.
+use Rattle.replay_steps.proofs.Prelude.{ℕ, zero, suc, ◌≡◌, ◌≢◌, List, [], ◌∷◌, ◌++◌, refl, sym, ◌∙◌, subst, append-nil, Option, None, Some, Result, Ok, Err, range_with_len, Account, airs_of, Stop, Refused, OutletFault, Memory, Step, SinkUnit, accounts_after, Answered, after_offers, answered, first_lines, unit_lines, is_of, closings_at, CutShort, Histories, with_close, SinksStand, Sinks, RelaysStand, SourcesStand, hands_stop, stands_same, Machine, printed_before, relay_histories, Meets, phase_line, handed_by, answered_by, output_of, inl, inr, ap, append_assoc, accounts_append, hands_then, length, Closes, FirstMeets, ComponentsStand, SecondMeets, arith, sink_numbers}
+use Rattle.std.specs.Prelude.{OnOk}
 use Rattle.scenario_sinks.specs.Closing as sinks
+use Rattle.scenario_sinks.specs.Handing.{Hands}
+use Rattle.replay_steps.specs.Meets.{Becomes}
 use Rattle.replay_steps.proofs.BoxStops.{AreFrom, first_fails, from_closings, second_fails}
 use Rattle.replay_steps.proofs.CloseLines.{lines_closed, offers_closed, units_closed}
 
--- ---- what is left
-
--- source 0 was closed
-pub record FirstClosed (steps : List Step) (past : Histories) (closed : Option ℕ) (new : Machine) (text told : List ℕ) (before after : List Account) : Type 0 where
-  pub components : ComponentsStand (after_offers airs_of (offers_closed steps past closed) steps) (with_close 0 closed past) new
-  pub lines : told ≡ text ++ lines_closed steps past closed
-  pub boxes : after ≡ accounts_after before (units_closed past closed)
-
--- a source beside it was closed
-pub record SecondClosed (steps : List Step) (past : Histories) (source : ℕ) (closed : Option ℕ) (new : Machine) (text told : List ℕ) (before after : List Account) : Type 0 where
-  pub components : ComponentsStand steps (with_close source closed past) new
-  pub lines : told ≡ text ++ unit_lines (closings_at source closed past)
-  pub boxes : after ≡ accounts_after before (closings_at source closed past)
-
--- no event was open
+-- A close handed up these units and printed these lines, and those were answered that relays offered; behind it `stands` holds.
+abbrev pub Did : List SinkUnit → List Answered → List ℕ → (stands : Type 0) → (text told : List ℕ) → (before after : List Account) → Result (Unit {0}) Stop → Type 0
+Did units answers lines stands text told before after r = Becomes None lines units answers stands ⊥ text told before after r
 
 sinks_left : (past : Histories) (source : ℕ) (sinks : Sinks) → SinksStand past sinks → SinksStand (with_close source None past) sinks
 sinks_left past source sinks stands = grind (arith, stands_same, with_close, is_of)
@@ -29,54 +18,76 @@ components_left : (steps : List Step) (past : Histories) (source : ℕ) (machine
 components_left steps past source machine components =
     record { sources = components.sources; sinks = sinks_left past source machine.sinks components.sinks; relays = components.relays }
 
-pub first_closed : (steps : List Step) (past : Histories) (closed : Option ℕ) (new : Machine) (text told : List ℕ) (before after : List Account)
-    → Closes steps past 0 closed new text told before after (Ok tt) → FirstClosed steps past closed new text told before after
-first_closed steps past None new text told before after m =
-    record { components = components_left steps past 0 new m.0; lines = m.1 ∙ sym (append-nil text); boxes = m.2 }
-first_closed steps past (Some event) new text told before after m = record { components = m.0; lines = m.1; boxes = m.2 }
+-- a close of source 0
+pub first_did : (steps : List Step) (past : Histories) (closed : Option ℕ) (new : Machine) (text told : List ℕ) (before after : List Account) (r : Result (Unit {0}) Stop)
+    → Closes steps past 0 closed new text told before after r
+    → Did (units_closed past closed) (answered airs_of (offers_closed steps past closed) steps) (lines_closed steps past closed)
+    (ComponentsStand (after_offers airs_of (offers_closed steps past closed) steps) (with_close 0 closed past) new) text told before after r
+first_did steps past None new text told before after (Ok x) m = (refl, components_left steps past 0 new m.0, m.1 ∙ sym (append-nil text), m.2)
+first_did steps past None new text told before after (Err stop) m = let never = m.3 in absurd (cc never)
+first_did steps past (Some event) new text told before after (Ok x) m = (refl, m.0, m.1, m.2)
+first_did steps past (Some event) new text told before after (Err (Refused reason)) m = absurd m
+first_did steps past (Some event) new text told before after (Err OutletFault) m = (refl, first_fails steps past event text told before after m)
+first_did steps past (Some event) new text told before after (Err Memory) m = inr (refl, m)
 
-pub second_closed : (steps : List Step) (past : Histories) (other : ℕ) (closed : Option ℕ) (new : Machine) (text told : List ℕ) (before after : List Account)
-    → Closes steps past (suc other) closed new text told before after (Ok tt) → SecondClosed steps past (suc other) closed new text told before after
-second_closed steps past other None new text told before after m =
-    record { components = components_left steps past (suc other) new m.0; lines = m.1 ∙ sym (append-nil text); boxes = m.2 }
-second_closed steps past other (Some event) new text told before after m = record { components = m.0; lines = m.1.0; boxes = m.1.1 }
+-- units of source 1 were handed behind those of source 0
+hands_did : (first us : List SinkUnit) (answers : List Answered) (stands : Type 0) (text mid told : List ℕ) (before between after : List Account) (r : Result (Unit {0}) Stop)
+    → AreFrom 0 first → AreFrom 1 us → mid ≡ text ++ first_lines first answers → between ≡ accounts_after before first → OnOk r stands → Hands us mid told between after r
+    → Did (first ++ us) answers (first_lines first answers ++ unit_lines us) stands text told before after r
+hands_did first us answers stands text mid told before between after (Ok x) are own prefix accounts s h = (
+  refl,
+  s,
+  h.0 ∙ ap (λ l. l ++ unit_lines us) prefix ∙ append_assoc text (first_lines first answers) (unit_lines us),
+  h.1 ∙ ap (λ a. accounts_after a us) accounts ∙ sym (accounts_append first us before),
+)
+hands_did first us answers stands text mid told before between after (Err (Refused reason)) are own prefix accounts s h = absurd h
+hands_did first us answers stands text mid told before between after (Err OutletFault) are own prefix accounts s h =
+    (refl, second_fails first us answers text mid told before between after are own prefix accounts h)
+hands_did first us answers stands text mid told before between after (Err Memory) are own prefix accounts s h =
+    inr (refl, hands_then first us [] (unit_lines first) [] before between after (Err Memory) refl accounts h)
 
--- ---- what stopped a close
-
-pub never_refused : (steps : List Step) (past : Histories) (source : ℕ) (closed : Option ℕ) (reason : Refusal) (new : Machine) (text told : List ℕ) (before after : List Account)
-    → Closes steps past source closed new text told before after (Err (Refused reason)) → ⊥
-never_refused steps past source closed reason new text told before after m = grind arith
-
--- a box stopped that of source 0
-pub first_fails_at : (steps : List Step) (past : Histories) (closed : Option ℕ) (units more : List SinkUnit) (answers : List Answered) (output tail text told : List ℕ) (before after : List Account)
-    (new : Machine) → units ≡ units_closed past closed ++ more → answers ≡ answered airs_of (offers_closed steps past closed) steps
-    → output ≡ lines_closed steps past closed ++ tail → Closes steps past 0 closed new text told before after (Err OutletFault)
-    → CloseFails units answers output text told before after
-first_fails_at steps past None units more answers output tail text told before after new all asked printed m = let never = m.3 in absurd (cc never)
-first_fails_at steps past closed units more answers output tail text told before after new all asked printed m = search first_fails
-
-cut_more : (units all more : List SinkUnit) (before after : List Account) → all ≡ units ++ more → CutShort units before after → CutShort all before after
-cut_more units all more before after is cut = grind (arith, hands_stop units more [] [] before after Memory cut)
-
--- memory ran out
-pub first_cut : (steps : List Step) (past : Histories) (closed : Option ℕ) (units more : List SinkUnit) (text told : List ℕ) (before after : List Account) (new : Machine)
-    → units ≡ units_closed past closed ++ more → Closes steps past 0 closed new text told before after (Err Memory) → CutShort units before after
-first_cut steps past None units more text told before after new all m = let never = m.3 in absurd (cc never)
-first_cut steps past (Some event) units more text told before after new all m = cut_more (units_closed past (Some event)) units more before after all m
-
--- the same of source 1, after a close of source 0 or none
-pub second_fails_at : (steps : List Step) (past : Histories) (closed : Option ℕ) (first : List SinkUnit) (answers : List Answered) (output tail text mid told : List ℕ)
-    (before between after : List Account) (new : Machine) → AreFrom 0 first → mid ≡ text ++ first_lines first answers → between ≡ accounts_after before first
-    → output ≡ first_lines first answers ++ (unit_lines (closings_at 1 closed past) ++ tail) → Closes steps past 1 closed new mid told between after (Err OutletFault)
-    → CloseFails (first ++ closings_at 1 closed past) answers output text told before after
+-- a close of source 1, after one of source 0 or none
+pub second_did : (steps : List Step) (past : Histories) (closed : Option ℕ) (first : List SinkUnit) (answers : List Answered) (new : Machine) (text mid told : List ℕ)
+    (before between after : List Account) (r : Result (Unit {0}) Stop) → AreFrom 0 first → mid ≡ text ++ first_lines first answers → between ≡ accounts_after before first
+    → Closes steps past 1 closed new mid told between after r
+    → Did (first ++ closings_at 1 closed past) answers (first_lines first answers ++ unit_lines (closings_at 1 closed past))
+    (ComponentsStand steps (with_close 1 closed past) new) text told before after r
 unfolding sink_numbers
-second_fails_at steps past None first answers output tail text mid told before between after new are prefix accounts printed m = let never = m.3 in absurd (cc never)
-second_fails_at steps past (Some event) first answers output tail text mid told before between after new are prefix accounts printed m =
-    second_fails first (closings_at 1 (Some event) past) answers output tail text mid told before between after are (from_closings 1 event past (range_with_len 0 8)) prefix accounts printed m
+second_did steps past None first answers new text mid told before between after (Ok x) are prefix accounts m =
+    hands_did first [] answers _ text mid told before between after (Ok x) are tt prefix accounts (components_left steps past 1 new m.0) (m.1 ∙ sym (append-nil mid), m.2)
+second_did steps past None first answers new text mid told before between after (Err stop) are prefix accounts m = let never = m.3 in absurd (cc never)
+second_did steps past (Some event) first answers new text mid told before between after (Ok x) are prefix accounts m =
+    hands_did first _ answers _ text mid told before between after (Ok x) are (from_closings 1 event past (range_with_len 0 8)) prefix accounts m.0 m.1
+second_did steps past (Some event) first answers new text mid told before between after (Err stop) are prefix accounts m =
+    hands_did first _ answers ⊥ text mid told before between after (Err stop) are (from_closings 1 event past (range_with_len 0 8)) prefix accounts tt m
 
-pub second_cut : (steps : List Step) (past : Histories) (closed : Option ℕ) (text told : List ℕ) (before after : List Account) (new : Machine)
-    → Closes steps past 1 closed new text told before after (Err Memory) → CutShort (closings_at 1 closed past) before after
-second_cut steps past closed text told before after new m = grind arith
+-- it stopped: more may be behind the units and the lines of the close
+pub stops_meet : (starts : List Account) (steps : List Step) (made : Step) (there : Machine) (units more : List SinkUnit) (answers : List Answered) (lines tail : List ℕ)
+    (text told : List ℕ) (before after : List Account) (stop : Stop) → phase_line airs_of (length starts) steps made ≡ None
+    → handed_by airs_of steps made ≡ units ++ more → answered_by airs_of steps made ≡ answers → output_of airs_of starts steps made ≡ lines ++ tail
+    → Did units answers lines ⊥ text told before after (Err stop) → Meets starts steps made there text told before after (Err stop)
+stops_meet starts steps made there units more answers lines tail text told before after (Refused reason) passes handed asked printed d = absurd d.1
+stops_meet starts steps made there units more answers lines tail text told before after OutletFault passes handed asked printed d =
+    let f = d.1 in (
+      passes,
+      record {
+        done = f.done;
+        unit = f.unit;
+        rest = f.rest ++ more;
+        split = handed ∙ ap (λ us. us ++ more) f.split ∙ append_assoc f.done (f.unit ∷ f.rest) more;
+        bis = f.bis;
+        time = f.time;
+        octets = f.octets;
+        is_valid = f.is_valid;
+        lines = f.lines ∙ ap (λ a. text ++ printed_before a f.done f.unit) (sym asked);
+        behind = f.behind ++ tail;
+        prefix = grind (arith, append_assoc);
+        box = f.box;
+      },
+    )
+stops_meet starts steps made there units more answers lines tail text told before after Memory passes handed asked printed (inl same) = inl same
+stops_meet starts steps made there units more answers lines tail text told before after Memory passes handed asked printed (inr d) =
+    inr (passes, subst (λ us. CutShort us before after) (sym handed) (hands_stop units more [] [] before after Memory d.1))
 
 -- ---- which source is closed
 

@@ -1,8 +1,6 @@
 -- A step that closes the open event of source 0, by what the close of each sink made of the components.
-use Rattle.std.proofs.Common.{arith}
-use Rattle.replay_steps.proofs.Prelude.{ℕ, ◌≡◌, ◌==◌, cond, false, List, ◌∷◌, ◌++◌, refl, sym, ◌∙◌, ap, subst, Option, None, Some, range_with_len, Account, airs_of, Step, SinkUnit, closing, handed_by, Answered, Offer, after_offers, answered, answered_by, closes_first, offered_of, offers_at, with_relayed_units, close_lines, first_lines, output_of, unit_lines, is_of, ticked_if, open_event, chosen_of, chosen_steps, steps_of_source, left_by_offers, flat_same, closing_of, handed_all, Histories, with_close, SinksStand, Sinks, stands_same, RelaysStand, SourcesStand, Machine, Stands, histories_of, relay_histories, answer_lines, lines_at, lines_below, offers_below, offers_of, stage_in}
+use Rattle.replay_steps.proofs.Prelude.{ℕ, ◌≡◌, ◌==◌, cond, false, List, ◌∷◌, ◌++◌, refl, sym, ◌∙◌, ap, subst, Option, None, Some, range_with_len, Account, airs_of, Step, SinkUnit, closing, handed_by, Answered, Offer, after_offers, answered, answered_by, closes_first, offered_of, offers_at, with_relayed_units, close_lines, output_of, is_of, ticked_if, open_event, chosen_of, chosen_steps, steps_of_source, left_by_offers, flat_same, closing_of, handed_all, Histories, with_close, SinksStand, Sinks, stands_same, RelaysStand, SourcesStand, Machine, ComponentsStand, Stands, histories_of, relay_histories, lines_below, offers_below, offers_of, stage_in, arith}
 use Rattle.replay_steps.proofs.CloseLines.{first_printed, lines_closed, offers_closed, offers_same, units_are, units_closed}
-use Rattle.replay_steps.proofs.Closed.{FirstClosed}
 use Rattle.replay_steps.proofs.AfterRelays.{MeansOne, relays_behind, same_answers, same_answers_after, sources_behind}
 use Rattle.replay_steps.proofs.RelaysStay.{minds_relays}
 use Rattle.replay_steps.proofs.Stepping.{GoesOn}
@@ -33,24 +31,7 @@ all_behind made steps past event number means = grind (arith, flat_same, offers_
 
 lines_behind : (made : Step) (steps : List Step) (past : Histories) (event number : ℕ) → MeansOne made → chosen_of steps ≡ 0
     → lines_below (made ∷ steps) past event number ≡ lines_below steps past event number
-lines_behind made steps past event number means is =
-    grind (
-      arith,
-      flat_same,
-      lines_at,
-      range_with_len,
-      unit_lines,
-      closing_of,
-      answer_lines,
-      answered,
-      airs_of,
-      after_offers,
-      offers_behind,
-      all_behind,
-      same_answers_after,
-      offers_below,
-      offers_of,
-    )
+lines_behind made steps past event number means is = grind (arith, flat_same, offers_behind, all_behind, same_answers_after)
 
 offers_past : (made : Step) (steps : List Step) (past : Histories) (closed : Option ℕ) → MeansOne made → offers_closed (made ∷ steps) past closed ≡ offers_closed steps past closed
 offers_past made steps past None means = refl
@@ -79,29 +60,7 @@ pub first_says : (made : Step) (tail : List Step → List ℕ) (steps : List Ste
     → CloseSays steps made (units_closed (histories_of steps) closed) (answered airs_of (offers_closed (made ∷ steps) (histories_of steps) closed) (made ∷ steps))
     (lines_closed (made ∷ steps) (histories_of steps) closed)
 first_says made tail steps closed closes is open_is =
-    grind (
-      arith,
-      histories_of,
-      open_event,
-      steps_of_source,
-      open_first,
-      units_are,
-      closing,
-      airs_of,
-      answers_are,
-      answered,
-      offers_same,
-      offers_past,
-      same_answers,
-      offers_closed,
-      cond,
-      first_lines,
-      answered_by,
-      unit_lines,
-      chosen_of,
-      first_printed,
-      lines_past,
-    )
+    grind (arith, open_first, units_are, answers_are, offers_same, offers_past, same_answers, first_printed, lines_past)
 
 -- ---- the machine then
 
@@ -118,21 +77,21 @@ sinks_behind made tail steps offers closed sinks closes is open_is stands =
     subst (λ (p : Histories). SinksStand p sinks) (sym (closes.past late))
     (grind (arith, with_close, open_event, chosen_steps, histories_of, stands_same, ticked_if, is_of))
 
-pub first_stands : (made : Step) (tail : List Step → List ℕ) (steps : List Step) (closed : Option ℕ) (old new : Machine) (text told : List ℕ) (before after : List Account)
-    → ClosesOpen made tail → Stands steps old → chosen_of steps ≡ 0 → closed ≡ open_event (chosen_steps steps) → new.stage ≡ old.stage
-    → FirstClosed (made ∷ steps) (histories_of steps) closed new text told before after → Stands (made ∷ with_relayed_units airs_of steps made) new
-first_stands made tail steps closed old new text told before after closes stands is open_is stage m =
+pub first_stands : (made : Step) (tail : List Step → List ℕ) (steps : List Step) (closed : Option ℕ) (old new : Machine) → ClosesOpen made tail → Stands steps old
+    → chosen_of steps ≡ 0 → closed ≡ open_event (chosen_steps steps) → new.stage ≡ old.stage
+    → ComponentsStand (after_offers airs_of (offers_closed (made ∷ steps) (histories_of steps) closed) (made ∷ steps)) (with_close 0 closed (histories_of steps)) new
+    → Stands (made ∷ with_relayed_units airs_of steps made) new
+first_stands made tail steps closed old new closes stands is open_is stage components =
     let own : closed ≡ open_event (steps_of_source 0 steps) = open_first steps closed is open_is in
     let offers : List Offer = offers_at airs_of steps in
     let all : offers_closed (made ∷ steps) (histories_of steps) closed ≡ offers =
     offers_past made steps (histories_of steps) closed closes.means ∙ sym (offers_same steps closed own) in
     let late : List Step = after_offers airs_of offers steps in
-    subst (λ before_it. Stands (made ∷ before_it) new) (sym (relayed_units_are made tail steps closes is))
-    (record {
+    subst (λ before_it. Stands (made ∷ before_it) new) (sym (relayed_units_are made tail steps closes is)) (record {
       stage = ap stage_in stage ∙ stands.stage ∙ sym (left_by_offers airs_of offers steps).stage ∙ sym (closes.means.goes_on late);
       sources = sources_behind made steps offers new.sources closes.means is
-          (subst (λ o. SourcesStand (after_offers airs_of o (made ∷ steps)) new.sources) all m.components.sources);
-      sinks = sinks_behind made tail steps offers closed new.sinks closes is own m.components.sinks;
+          (subst (λ o. SourcesStand (after_offers airs_of o (made ∷ steps)) new.sources) all components.sources);
+      sinks = sinks_behind made tail steps offers closed new.sinks closes is own components.sinks;
       relays = relays_behind made steps offers new.relays closes.means is
-          (subst (λ o. RelaysStand (relay_histories (after_offers airs_of o (made ∷ steps))) new.relays) all m.components.relays);
+          (subst (λ o. RelaysStand (relay_histories (after_offers airs_of o (made ∷ steps))) new.relays) all components.relays);
     })

@@ -1,14 +1,13 @@
 -- The steps that close the open event of the chosen source.
-use Rattle.replay_steps.proofs.Prelude.{◌≡◌, ◌==◌, ◌<◌, ℕ, zero, suc, cond, false, List, [], ◌∷◌, ◌++◌, length, inr, inl, refl, sym, ◌∙◌, ap, append_assoc, append-nil, subst, arith, Option, None, Result, Ok, Err, Account, airs_of, Stop, Refused, OutletFault, Memory, control_line, Step, chosen_of, chosen_steps, is_over, is_over_at, running, stage_of, steps_of_source, end_pdu, open_event, stale_in, SinkUnit, accounts_after, closing, closing_at, handed_by, Answered, answered, answered_by, closes_first, offers_at, with_relayed_units, close_lines, first_lines, output_of, stale_lines, unit_lines, stage_same, fault_of, SourcesStand, closings_at, CutShort, with_close, SinksStand, RelaysStand, Machine, CloseFails, Stands, histories_of, relay_histories, Meets, phase_line, Closes, ComponentsStand, stage_in}
+use Rattle.replay_steps.proofs.Prelude.{◌≡◌, ◌≤◌, ◌==◌, ◌<◌, ℕ, slice_get, sinks_made, Histories, UnassignedSame, Sources, zero, suc, false, List, [], ◌∷◌, ◌++◌, length, inr, inl, refl, sym, ◌∙◌, ap, append_assoc, append-nil, subst, arith, Option, None, Result, Ok, Err, Account, airs_of, Stop, Refused, OutletFault, Memory, control_line, Step, chosen_of, chosen_steps, is_over, is_over_at, running, stage_of, steps_of_source, end_pdu, open_event, stale_in, SinkUnit, accounts_after, closing, closing_at, handed_by, Answered, answered_by, closes_first, with_relayed_units, close_lines, first_lines, stale_lines, unit_lines, stage_same, fault_of, SourcesStand, closings_at, with_close, Machine, Stands, histories_of, Meets, phase_line, Closes, ComponentsStand, stage_in, sink_numbers}
 use Rattle.scenario_text.specs.declared.step.Step.TheVariants as variants
-use Rattle.scenario_history.specs.Boxes.{sink_numbers}
 use Rattle.scenario_sources.specs.Answers as sources
-use Rattle.replay_steps.proofs.Closed.{first_closed, first_cut, first_fails_at, never_refused, second_closed, second_cut, second_fails_at}
-use Rattle.replay_steps.proofs.CloseLines.{units_closed}
+use Rattle.replay_steps.proofs.Closed.{Did, first_did, second_did, stops_meet}
 use Rattle.replay_steps.proofs.ClosesFirst.{CloseSays, ClosesOpen, first_says, first_stands}
 use Rattle.replay_steps.proofs.RelaysStay.{relays_stay}
 use Rattle.replay_steps.proofs.StepLaws.{no_relayed_units}
 use Rattle.replay_steps.proofs.Stepping.{as_step, source_fault, sources_stand}
+use Rattle.replay_steps.proofs.Unassigned.{unassigned_in}
 
 -- ---- the scenario goes on for each source
 
@@ -28,43 +27,7 @@ second_says : (made : Step) (tail : List Step → List ℕ) (steps : List Step) 
     → closed ≡ open_event (chosen_steps steps)
     → CloseSays steps made (closings_at 1 closed (histories_of steps)) [] (unit_lines (closings_at 1 closed (histories_of steps)))
 second_says made tail steps closed closes is open_is =
-    grind (
-      arith,
-      closings_at,
-      histories_of,
-      closing,
-      airs_of,
-      chosen_of,
-      closing_is,
-      answered,
-      cond,
-      offers_at,
-      first_lines,
-      answered_by,
-      unit_lines,
-    )
-
--- nothing is printed of no units
-pub nothing_printed : (let none : List SinkUnit = [] in let unasked : List Answered = [] in first_lines none unasked ≡ [])
-unfolding sink_numbers
-nothing_printed = refl
-
--- ---- the sinks closed the event, and relays offered what they handed up
-
-pub record Closed (starts : List Account) (steps : List Step) (made : Step) (new : Machine) (text told : List ℕ) (before after : List Account) : Type 0 where
-  pub passes : phase_line airs_of (length starts) steps made ≡ None
-  pub stands : Stands (made ∷ with_relayed_units airs_of steps made) new
-  pub told_is : told ≡ text ++ close_lines airs_of steps made
-  pub boxes : after ≡ accounts_after before (handed_by airs_of steps made)
-
--- the components once the sources took the step
-pub components_then : (made : Step) (tail : List Step → List ℕ) (steps : List Step) (old mid : Machine) → ClosesOpen made tail → Stands steps old
-    → SourcesStand (made ∷ steps) mid.sources → mid.sinks ≡ old.sinks → mid.relays ≡ old.relays → ComponentsStand (made ∷ steps) (histories_of steps) mid
-components_then made tail steps old mid closes stands sources sinks held = record {
-  sources = sources;
-  sinks = subst (λ k. SinksStand (histories_of steps) k) (sym sinks) stands.sinks;
-  relays = subst (λ r. RelaysStand (relay_histories (made ∷ steps)) r) (sym held) (relays_stay steps made old.relays closes.minds stands.relays);
-}
+    grind (arith, closing_is)
 
 fault_line : (made : Step) (tail : List Step → List ℕ) (boxes version : ℕ) (steps : List Step) → ClosesOpen made tail → stage_of steps ≡ running version
     → phase_line airs_of boxes steps made ≡ fault_of version steps made
@@ -83,101 +46,117 @@ second_stands made tail steps closed old new closes stands is open_is stage comp
       relays = components.relays;
     })
 
+-- the close of such a step, by what it says
+did_as : (steps : List Step) (made : Step) (units : List SinkUnit) (answers : List Answered) (lines : List ℕ) (one other : Type 0) (text told : List ℕ) (before after : List Account)
+    (r : Result (Unit {0}) Stop) → CloseSays steps made units answers lines → (one → other) → Did units answers lines one text told before after r
+    → Did (handed_by airs_of steps made) (answered_by airs_of steps made) (close_lines airs_of steps made) other text told before after r
+did_as steps made units answers lines one other text told before after (Ok x) says then d =
+    (refl, then d.1, d.2 ∙ ap (λ l. text ++ l) (sym says.lines_are), d.3 ∙ ap (accounts_after before) (sym says.units_are))
+did_as steps made units answers lines one other text told before after (Err stop) says then d = grind (arith, says.units_are, says.answers_are, says.lines_are)
+
+-- nothing is printed of no units
+pub nothing_printed : (let none : List SinkUnit = [] in let unasked : List Answered = [] in first_lines none unasked ≡ [])
+unfolding sink_numbers
+nothing_printed = refl
+
 -- what became of a close of the open event of the chosen source
-pub closes_all : (made : Step) (tail : List Step → List ℕ) (starts : List Account) (version source : ℕ) (steps : List Step) (closed : Option ℕ) (old new : Machine)
-    (text told : List ℕ) (before after : List Account) → ClosesOpen made tail → Stands steps old → stage_of steps ≡ running version → fault_of version steps made ≡ None
-    → closed ≡ open_event (chosen_steps steps) → source ≡ chosen_of steps → source < 2 → new.stage ≡ old.stage
-    → Closes (made ∷ steps) (histories_of steps) source closed new text told before after (Ok tt) → Closed starts steps made new text told before after
-closes_all made tail starts version zero steps closed old new text told before after closes stands e passes is chosen within stage m =
-    let all = first_closed (made ∷ steps) (histories_of steps) closed new text told before after m in
-    let says = first_says made tail steps closed closes (sym chosen) is in
-    record {
-      passes = fault_line made tail (length starts) version steps closes e ∙ passes;
-      stands = first_stands made tail steps closed old new text told before after closes stands (sym chosen) is stage all;
-      told_is = all.lines ∙ ap (λ l. text ++ l) (sym says.lines_are);
-      boxes = all.boxes ∙ ap (accounts_after before) (sym says.units_are);
-    }
-closes_all made tail starts version (suc zero) steps closed old new text told before after closes stands e passes is chosen within stage m =
-    let all = second_closed (made ∷ steps) (histories_of steps) 0 closed new text told before after m in
-    let says = second_says made tail steps closed closes (sym chosen) is in
-    record {
-      passes = fault_line made tail (length starts) version steps closes e ∙ passes;
-      stands = second_stands made tail steps closed old new closes stands (sym chosen) is stage all.components;
-      told_is = all.lines ∙ ap (λ l. text ++ l) (sym says.lines_are);
-      boxes = all.boxes ∙ ap (accounts_after before) (sym says.units_are);
-    }
-closes_all made tail starts version (suc (suc s)) steps closed old new text told before after closes stands e passes is chosen within stage m = absurd (omega (arith, within))
-
--- a box stopped it
-close_fails : (made : Step) (tail : List Step → List ℕ) (starts : List Account) (source : ℕ) (steps : List Step) (closed : Option ℕ) (new : Machine)
-    (text told : List ℕ) (before after : List Account) → ClosesOpen made tail
-    → closed ≡ open_event (chosen_steps steps) → source ≡ chosen_of steps → source < 2
-    → Closes (made ∷ steps) (histories_of steps) source closed new text told before after (Err OutletFault)
-    → CloseFails (handed_by airs_of steps made) (answered_by airs_of steps made) (output_of airs_of starts steps made) text told before after
-close_fails made tail starts zero steps closed new text told before after closes is chosen within m =
-    let says = first_says made tail steps closed closes (sym chosen) is in
-    first_fails_at (made ∷ steps) (histories_of steps) closed (handed_by airs_of steps made) [] (answered_by airs_of steps made) (output_of airs_of starts steps made) (tail steps)
-    text told before after new (says.units_are ∙ sym (append-nil (units_closed (histories_of steps) closed))) says.answers_are
-    (closes.output starts steps ∙ ap (λ l. l ++ tail steps) says.lines_are) m
-close_fails made tail starts (suc zero) steps closed new text told before after closes is chosen within m =
-    let says = second_says made tail steps closed closes (sym chosen) is in
-    let units : List SinkUnit = closings_at 1 closed (histories_of steps) in
-    subst (λ us. CloseFails us (answered_by airs_of steps made) (output_of airs_of starts steps made) text told before after) (sym says.units_are)
-    (subst (λ asked. CloseFails units asked (output_of airs_of starts steps made) text told before after) (sym says.answers_are)
-    (second_fails_at (made ∷ steps) (histories_of steps) closed [] [] (output_of airs_of starts steps made) (tail steps) text text told before before after new tt
-    (sym (append-nil text) ∙ ap (λ l. text ++ l) (sym nothing_printed)) refl
-    (closes.output starts steps ∙ ap (λ l. l ++ tail steps) says.lines_are ∙ ap (λ l. l ++ (unit_lines units ++ tail steps)) (sym nothing_printed)) m))
-close_fails made tail starts (suc (suc s)) steps closed new text told before after closes is chosen within m = absurd (omega (arith, within))
-
--- memory ran out
-close_cut : (made : Step) (tail : List Step → List ℕ) (source : ℕ) (steps : List Step) (closed : Option ℕ) (new : Machine) (text told : List ℕ) (before after : List Account)
-    → ClosesOpen made tail → closed ≡ open_event (chosen_steps steps) → source ≡ chosen_of steps → source < 2
-    → Closes (made ∷ steps) (histories_of steps) source closed new text told before after (Err Memory) → CutShort (handed_by airs_of steps made) before after
-close_cut made tail zero steps closed new text told before after closes is chosen within m =
-    let says = first_says made tail steps closed closes (sym chosen) is in
-    first_cut (made ∷ steps) (histories_of steps) closed (handed_by airs_of steps made) [] text told before after new
-    (says.units_are ∙ sym (append-nil (units_closed (histories_of steps) closed))) m
-close_cut made tail (suc zero) steps closed new text told before after closes is chosen within m = grind (arith, second_says, second_cut, histories_of)
-close_cut made tail (suc (suc s)) steps closed new text told before after closes is chosen within m = absurd (omega (arith, within))
-
-pub close_stops : (made : Step) (tail : List Step → List ℕ) (starts : List Account) (version source : ℕ) (steps : List Step) (closed : Option ℕ) (new there : Machine)
-    (text told : List ℕ) (before after : List Account) (stop : Stop) → ClosesOpen made tail → stage_of steps ≡ running version → fault_of version steps made ≡ None
-    → closed ≡ open_event (chosen_steps steps) → source ≡ chosen_of steps → source < 2
-    → Closes (made ∷ steps) (histories_of steps) source closed new text told before after (Err stop) → Meets starts steps made there text told before after (Err stop)
-close_stops made tail starts version source steps closed new there text told before after (Refused reason) closes e passes is chosen within m =
-    absurd (never_refused (made ∷ steps) (histories_of steps) source closed reason new text told before after m)
-close_stops made tail starts version source steps closed new there text told before after OutletFault closes e passes is chosen within m =
-    (fault_line made tail (length starts) version steps closes e ∙ passes, close_fails made tail starts source steps closed new text told before after closes is chosen within m)
-close_stops made tail starts version source steps closed new there text told before after Memory closes e passes is chosen within m =
-    inr (fault_line made tail (length starts) version steps closes e ∙ passes, close_cut made tail source steps closed new text told before after closes is chosen within m)
+close_did : (made : Step) (tail : List Step → List ℕ) (closes : ClosesOpen made tail) (steps : List Step) (closed : Option ℕ) → closed ≡ open_event (chosen_steps steps)
+    → (source : ℕ) (old new : Machine) (text told : List ℕ) (before after : List Account) (r : Result (Unit {0}) Stop) → Stands steps old → source ≡ chosen_of steps
+    → source < 2 → new.stage ≡ old.stage → Closes (made ∷ steps) (histories_of steps) source closed new text told before after r
+    → Did (handed_by airs_of steps made) (answered_by airs_of steps made) (close_lines airs_of steps made) (Stands (made ∷ with_relayed_units airs_of steps made) new)
+    text told before after r
+close_did made tail closes steps closed is zero old new text told before after r stands chosen within stage m =
+    did_as steps made _ _ _ _ _ text told before after r (first_says made tail steps closed closes (sym chosen) is)
+    (first_stands made tail steps closed old new closes stands (sym chosen) is stage)
+    (first_did (made ∷ steps) (histories_of steps) closed new text told before after r m)
+close_did made tail closes steps closed is (suc zero) old new text told before after r stands chosen within stage m =
+    did_as steps made _ _ _ _ _ text told before after r (second_says made tail steps closed closes (sym chosen) is)
+    (second_stands made tail steps closed old new closes stands (sym chosen) is stage)
+    (subst (λ l. Did (closings_at 1 closed (histories_of steps)) [] (l ++ unit_lines (closings_at 1 closed (histories_of steps)))
+    (ComponentsStand (made ∷ steps) (with_close 1 closed (histories_of steps)) new) text told before after r) nothing_printed
+    (second_did (made ∷ steps) (histories_of steps) closed [] [] new text text told before before after r tt
+    (sym (append-nil text) ∙ ap (λ l. text ++ l) (sym nothing_printed)) refl m))
+close_did made tail closes steps closed is (suc (suc s)) old new text told before after r stands chosen within stage m = absurd (omega (arith, within))
 
 -- ---- what the step prints behind its lines
+
+-- the sinks closed the event, and relays offered what they handed up
+pub record Closed (starts : List Account) (steps : List Step) (made : Step) (new : Machine) (text told : List ℕ) (before after : List Account) : Type 0 where
+  pub passes : phase_line airs_of (length starts) steps made ≡ None
+  pub did : Did (handed_by airs_of steps made) (answered_by airs_of steps made) (close_lines airs_of steps made) (Stands (made ∷ with_relayed_units airs_of steps made) new)
+      text told before after (Ok tt)
 
 pub closed_meets : (made : Step) (tail : List Step → List ℕ) (starts : List Account) (steps : List Step) (new : Machine) (text told last : List ℕ) (before after : List Account)
     → ClosesOpen made tail → Closed starts steps made new text told before after → last ≡ told ++ tail steps → Meets starts steps made new text last before after (Ok tt)
 closed_meets made tail starts steps new text told last before after closes all lines = (
   all.passes,
-  all.stands,
-  grind (arith, all.told_is, append_assoc text (close_lines airs_of steps made) (tail steps), closes.output starts steps),
-  all.boxes,
+  all.did.1,
+  grind (arith, all.did.2, append_assoc text (close_lines airs_of steps made) (tail steps), closes.output starts steps),
+  all.did.3,
 )
 
 -- all units went to their boxes, and memory ran out as more was printed
-pub closed_wants : (made : Step) (starts : List Account) (steps : List Step) (new there : Machine) (text told last : List ℕ) (before after : List Account)
-    → Closed starts steps made new text told before after → Meets starts steps made there text last before after (Err Memory)
-closed_wants made starts steps new there text told last before after all =
-    inr (all.passes, record { done = handed_by airs_of steps made; rest = []; split = sym (append-nil (handed_by airs_of steps made)); boxes = all.boxes })
+pub closed_wants : (made : Step) (starts : List Account) (steps : List Step) (new : Machine) (text told : List ℕ) (before after : List Account)
+    → Closed starts steps made new text told before after → Meets starts steps made new text told before after (Err Memory)
+closed_wants made starts steps new text told before after all =
+    inr (all.passes, record { done = handed_by airs_of steps made; rest = []; split = sym (append-nil (handed_by airs_of steps made)); boxes = all.did.3 })
 
--- a step that prints nothing behind them
-pub closes_meet : (made : Step) (starts : List Account) (version source : ℕ) (steps : List Step) (closed : Option ℕ) (old new : Machine)
-    (text told : List ℕ) (before after : List Account) (r : Result (Unit {0}) Stop) → ClosesOpen made (λ own. []) → Stands steps old → stage_of steps ≡ running version
-    → fault_of version steps made ≡ None → closed ≡ open_event (chosen_steps steps) → source ≡ chosen_of steps → source < 2 → new.stage ≡ old.stage
-    → Closes (made ∷ steps) (histories_of steps) source closed new text told before after r → Meets starts steps made new text told before after r
-closes_meet made starts version source steps closed old new text told before after (Ok x) closes stands e passes is chosen within stage m =
-    closed_meets made (λ own. []) starts steps new text told told before after closes
-    (closes_all made (λ own. []) starts version source steps closed old new text told before after closes stands e passes is chosen within stage m) (sym (append-nil told))
-closes_meet made starts version source steps closed old new text told before after (Err stop) closes stands e passes is chosen within stage m =
-    close_stops made (λ own. []) starts version source steps closed new new text told before after stop closes e passes is chosen within m
+-- ---- the sources took the step, and then the event is closed
+
+module _ {made : Step} {tail : List Step → List ℕ} (closes : ClosesOpen made tail) {steps : List Step} {old : Machine} (stands : Stands steps old)
+    {taken : Sources} (sources : SourcesStand (made ∷ steps) taken) where
+
+  components_then : ComponentsStand (made ∷ steps) (histories_of steps) (record old { sources = taken })
+  components_then =
+      record { sources = sources; sinks = stands.sinks; relays = relays_stay steps made old.relays closes.minds stands.relays }
+
+  -- the boxes that no sink took
+  pub others_stay : {A : Type 0} (boxes after : List A)
+      → ((late : List Step) (past : Histories) → ComponentsStand late past (record old { sources = taken }) → UnassignedSame past boxes after)
+      → (box : ℕ) → sinks_made steps ≤ box → slice_get after box ≡ slice_get boxes box
+  others_stay boxes after others = unassigned_in steps boxes after (others (made ∷ steps) (histories_of steps) components_then)
+
+  module _ {version : ℕ} (e : stage_of steps ≡ running version) (passes : fault_of version steps made ≡ None) {source : ℕ} {closed : Option ℕ}
+      (opened : is_over (chosen_steps steps) ≡ false → closed ≡ open_event (chosen_steps steps)) (chosen : source ≡ chosen_of steps) (within : source < 2)
+      (starts : List Account) (new : Machine) (text told : List ℕ) (before after : List Account) where
+
+    pub closed_by : new.stage ≡ old.stage
+        → ((late : List Step) (past : Histories) → ComponentsStand late past (record old { sources = taken })
+        → Closes late past source closed new text told before after (Ok tt)) → Closed starts steps made new text told before after
+    closed_by stage m = record {
+      passes = fault_line made tail (length starts) version steps closes e ∙ passes;
+      did = close_did made tail closes steps closed (opened (not_over (chosen_of steps) version steps e)) source old new text told before after (Ok tt) stands chosen within
+          stage (m (made ∷ steps) (histories_of steps) components_then);
+    }
+
+    pub stops_by : (there : Machine) (stop : Stop) → new.stage ≡ old.stage → ((late : List Step) (past : Histories) → ComponentsStand late past (record old { sources = taken })
+        → Closes late past source closed new text told before after (Err stop)) → Meets starts steps made there text told before after (Err stop)
+    stops_by there stop stage m =
+        stops_meet starts steps made there _ [] _ _ (tail steps) text told before after stop (fault_line made tail (length starts) version steps closes e ∙ passes)
+        (sym (append-nil (handed_by airs_of steps made))) refl (closes.output starts steps)
+        (close_did made tail closes steps closed (opened (not_over (chosen_of steps) version steps e)) source old new text told before after (Err stop) stands chosen within
+        stage (m (made ∷ steps) (histories_of steps) components_then))
+
+    -- a step that prints nothing behind the lines of the close
+    pub closes_meet : (r : Result (Unit {0}) Stop) → tail steps ≡ [] → new.stage ≡ old.stage
+        → ((late : List Step) (past : Histories) → ComponentsStand late past (record old { sources = taken })
+        → Closes late past source closed new text told before after r) → Meets starts steps made new text told before after r
+    closes_meet (Ok x) none stage m =
+        closed_meets made tail starts steps new text told told before after closes (closed_by stage m) (sym (append-nil told) ∙ ap (λ l. told ++ l) (sym none))
+    closes_meet (Err stop) none stage m = stops_by new stop stage m
+
+-- the sources refused it
+pub step_refused : {made : Step} {tail : List Step → List ℕ} {steps : List Step} {old : Machine} (starts : List Account) (version : ℕ) (taken : Sources) (text : List ℕ)
+    (accounts : List Account) (stop : Stop) → ClosesOpen made tail → Stands steps old → stage_of steps ≡ running version → sources.Answers version steps made taken (Err stop)
+    → Meets starts steps made (record old { sources = taken }) text text accounts accounts (Err stop)
+step_refused {made} {tail} {steps} {old} starts version taken text accounts (Refused reason) closes stands e c = (
+  fault_line made tail (length starts) version steps closes e ∙ c.0,
+  sources_stand steps old (record old { sources = taken }) stands refl refl refl c.1,
+  refl,
+  refl,
+)
+step_refused starts version taken text accounts OutletFault closes stands e c = absurd c
+step_refused starts version taken text accounts Memory closes stands e c = inl refl
 
 -- ---- event, stop, terminate
 
@@ -196,41 +175,3 @@ stop_closes = grind (arith, append-nil, close_lines, airs_of)
 
 pub terminate_closes : (reason : ℕ) → ClosesOpen (variants.Terminate reason) (terminate_tail reason)
 terminate_closes reason = grind arith
-
--- the sources refused it
-
-pub event_refused : (starts : List Account) (version : ℕ) (made : List Step) (old new : Machine) (text : List ℕ) (accounts : List Account) (stop : Stop)
-    → Stands made old → new.stage ≡ old.stage → new.sinks ≡ old.sinks → new.relays ≡ old.relays → stage_of made ≡ running version
-    → sources.Performs version made new.sources (Err stop) → Meets starts made variants.Event new text text accounts accounts (Err stop)
-event_refused starts version made old new text accounts (Refused reason) stands stage same held e c = (
-  fault_line variants.Event event_tail (length starts) version made event_closes e ∙ c.0,
-  sources_stand made old new stands stage same held c.1,
-  refl,
-  refl,
-)
-event_refused starts version made old new text accounts OutletFault stands stage same held e c = absurd c
-event_refused starts version made old new text accounts Memory stands stage same held e c = inl refl
-
-pub stop_refused : (starts : List Account) (version : ℕ) (made : List Step) (old new : Machine) (text : List ℕ) (accounts : List Account) (stop : Stop)
-    → Stands made old → new.stage ≡ old.stage → new.sinks ≡ old.sinks → new.relays ≡ old.relays → stage_of made ≡ running version
-    → sources.Closes version made variants.Stop new.sources (Err stop) → Meets starts made variants.Stop new text text accounts accounts (Err stop)
-stop_refused starts version made old new text accounts (Refused reason) stands stage same held e c = (
-  fault_line variants.Stop (λ own. []) (length starts) version made stop_closes e ∙ c.0,
-  sources_stand made old new stands stage same held c.1,
-  refl,
-  refl,
-)
-stop_refused starts version made old new text accounts OutletFault stands stage same held e c = absurd c
-stop_refused starts version made old new text accounts Memory stands stage same held e c = inl refl
-
-pub terminate_refused : (starts : List Account) (version reason : ℕ) (made : List Step) (old new : Machine) (text : List ℕ) (accounts : List Account) (stop : Stop)
-    → Stands made old → new.stage ≡ old.stage → new.sinks ≡ old.sinks → new.relays ≡ old.relays → stage_of made ≡ running version
-    → sources.Terminates version made reason new.sources (Err stop) → Meets starts made (variants.Terminate reason) new text text accounts accounts (Err stop)
-terminate_refused starts version reason made old new text accounts (Refused cause) stands stage same held e c = (
-  fault_line (variants.Terminate reason) (terminate_tail reason) (length starts) version made (terminate_closes reason) e ∙ c.0,
-  sources_stand made old new stands stage same held c.1,
-  refl,
-  refl,
-)
-terminate_refused starts version reason made old new text accounts OutletFault stands stage same held e c = absurd c
-terminate_refused starts version reason made old new text accounts Memory stands stage same held e c = inl refl

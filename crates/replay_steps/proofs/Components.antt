@@ -1,6 +1,5 @@
 -- A box that fails has no room for the valid units of its sink.
-use Rattle.replay_steps.proofs.Prelude.{◌≡◌, ℕ, ◌+◌, ◌<◌, ◌^◌, eq-eqb, List, [], ◌∷◌, ◌++◌, length, map, sym, ap, subst, ◌∙◌, append_assoc, length-append, arith, Option, Some, slice_get, slice_set, suc, IsTrue, option_map, map-append, Account, valid, Holds, RoomFor, SinkUnit, Took, accounts_after, onto_valid, valid_for, with_units, took_all, valid_append, Answered, unit_lines, BoxFails, CloseFails}
-use Rattle.std.specs.Prelude.{sum}
+use Rattle.replay_steps.proofs.Prelude.{◌≡◌, ℕ, ◌+◌, ◌<◌, ◌^◌, eq-eqb, List, [], ◌∷◌, ◌++◌, length, map, sym, ap, subst, ◌∙◌, append_assoc, length-append, arith, Option, Some, slice_get, slice_set, suc, IsTrue, option_map, map-append, Account, valid, Holds, RoomFor, SinkUnit, Took, accounts_after, onto_valid, valid_for, with_units, took_all, valid_append, Answered, unit_lines, BoxFails, CloseFails, sum}
 use Rattle.std.proofs.lemmas.List.Sums.{sum_by-append, sum_by-cons}
 use Rattle.bcast_base.specs.Counts.{Rose}
 

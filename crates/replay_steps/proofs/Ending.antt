@@ -1,14 +1,12 @@
 -- The sums of the boxes, and the end of a scenario.
-use Rattle.replay_steps.proofs.Prelude.{◌≡◌, ℕ, ◌≤◌, List, [], ◌∷◌, ◌++◌, length, inr, ne_eqb, refl, sym, ◌∙◌, ap, subst, append-nil, append_assoc, arith, Option, None, Some, Ok, Err, flat_map, range_with_len, Account, airs_of, Call, sum_line, Stop, Refused, OutletFault, Memory, Step, Drop, End, over, running, sinks_made, stage_after, stage_of, steps_of_source, open_event, is_of, sink_calls, source_of, ticked_if, SinkUnit, account_at, accounts_after, box_of, closing, closing_both, closing_by, handed_up, valid_for, Answered, Offer, after_offers, answered, answered_by, with_relayed_units, first_lines, output_of, sum_if, sums_of, unit_lines, no_sink, phase_refusal, box_was_made, octets_add_up, units_add_up, left_by_offers, flat_same, Sources, SourcesStand, drop_says, end_says, sources_stay, Sinks, closings_at, CutShort, with_close, without, SinksStand, accounts_append, hands_then, stands_same, Machine, RelaysStand, CloseFails, Stands, histories_of, relay_histories, BoxesStand, Meets, Tells, phase_line, Closes, ComponentsStand, stage_in}
-use Rattle.scenario_history.specs.Boxes.{sink_numbers}
+use Rattle.replay_steps.proofs.Prelude.{◌≡◌, ℕ, ◌≤◌, false, is_over, Histories, Result, List, [], ◌∷◌, ◌++◌, length, inr, ne_eqb, refl, sym, ◌∙◌, ap, subst, append-nil, append_assoc, arith, Option, None, Some, Ok, Err, flat_map, range_with_len, Account, airs_of, Call, sum_line, Stop, Refused, OutletFault, Memory, Step, Drop, End, over, running, sinks_made, stage_after, stage_of, steps_of_source, open_event, is_of, sink_calls, source_of, ticked_if, SinkUnit, account_at, accounts_after, box_of, closing, closing_both, closing_by, handed_up, valid_for, Answered, Offer, after_offers, answered, answered_by, with_relayed_units, first_lines, sum_if, sums_of, unit_lines, no_sink, phase_refusal, box_was_made, octets_add_up, units_add_up, left_by_offers, flat_same, Sources, SourcesStand, drop_says, end_says, sources_stay, Sinks, closings_at, with_close, without, SinksStand, accounts_append, stands_same, Machine, RelaysStand, Stands, histories_of, relay_histories, BoxesStand, Meets, Tells, phase_line, Closes, ComponentsStand, stage_in, sink_numbers, not_living}
 use Rattle.scenario_laws.specs.RelayedUnits.Laws.{IsLeft}
 use Rattle.scenario_sinks.specs.Refusals as sinks
-use Rattle.scenario_sinks.specs.Refusals.{not_living}
 use Rattle.scenario_sinks.specs.Sums.{Puts, sum_where, sums_where}
 use Rattle.replay_steps.proofs.BoxStops.{AreFrom, from_closings}
-use Rattle.replay_steps.proofs.Closed.{FirstClosed, first_cut, first_fails_at, never_refused, second_closed, second_cut, second_fails_at}
+use Rattle.replay_steps.proofs.Closed.{Did, first_did, second_did, stops_meet}
 use Rattle.replay_steps.proofs.CloseLines.{first_printed, lines_closed, offers_closed, offers_same, units_are, units_closed}
-use Rattle.replay_steps.proofs.Closing.{closing_is}
+use Rattle.replay_steps.proofs.Closing.{closing_is, not_over}
 use Rattle.replay_steps.proofs.RelaysStay.{relays_stay}
 use Rattle.replay_steps.proofs.Stepping.{or_none, sinks_stand}
 
@@ -65,6 +63,11 @@ pub record Opens (steps : List Step) (first second : Option ℕ) : Type 0 where
   pub one : first ≡ open_event (steps_of_source 0 steps)
   pub two : second ≡ open_event (steps_of_source 1 steps)
 
+pub opens_at : {version : ℕ} {steps : List Step} {first second : Option ℕ} → stage_of steps ≡ running version
+    → (is_over (steps_of_source 0 steps) ≡ false → first ≡ open_event (steps_of_source 0 steps))
+    → (is_over (steps_of_source 1 steps) ≡ false → second ≡ open_event (steps_of_source 1 steps)) → Opens steps first second
+opens_at {version} {steps} e one two = record { one = one (not_over 0 version steps e); two = two (not_over 1 version steps e) }
+
 -- the steps with the relayed units of the close of source 0
 abbrev pub after_relays : List Step → Option ℕ → List Step
 after_relays steps first = after_offers airs_of (offers_closed steps (histories_of steps) first) steps
@@ -96,91 +99,49 @@ abbrev end_sums : List Account → List Step → List ℕ
 end_sums starts steps = sums_of starts (handed_up airs_of steps ++ closing_both airs_of steps) steps
 
 -- a box stopped the close of source 0, or memory ran out
-pub first_stops : (starts : List Account) (version : ℕ) (steps : List Step) (first second : Option ℕ) (new there : Machine) (text told : List ℕ) (before after : List Account) (stop : Stop)
+pub first_stops : (starts : List Account) (version : ℕ) (steps : List Step) (first second : Option ℕ) (new : Machine) (text told : List ℕ) (before after : List Account) (stop : Stop)
     → stage_of steps ≡ running version → Opens steps first second → Closes steps (histories_of steps) 0 first new text told before after (Err stop)
-    → Meets starts steps End there text told before after (Err stop)
-first_stops starts version steps first second new there text told before after (Refused reason) e opens c =
-    absurd (never_refused steps (histories_of steps) 0 first reason new text told before after c)
-first_stops starts version steps first second new there text told before after OutletFault e opens c = (
-  end_passes (length starts) version steps e,
-  first_fails_at steps (histories_of steps) first (closing_both airs_of steps) (closing airs_of 1 steps) (answered_by airs_of steps End) (output_of airs_of starts steps End)
-      (unit_lines (closing airs_of 1 steps) ++ end_sums starts steps) text told before after new
-      (ap (λ us. us ++ closing airs_of 1 steps) (units_are steps first opens.one)) (end_offers steps first second opens)
-      (ap (λ l. l ++ (unit_lines (closing airs_of 1 steps) ++ end_sums starts steps)) (end_lines steps first second opens)) c,
-)
-first_stops starts version steps first second new there text told before after Memory e opens c = inr (
-  end_passes (length starts) version steps e,
-  first_cut steps (histories_of steps) first (closing_both airs_of steps) (closing airs_of 1 steps) text told before after new
-      (ap (λ us. us ++ closing airs_of 1 steps) (units_are steps first opens.one)) c,
-)
+    → Meets starts steps End new text told before after (Err stop)
+first_stops starts version steps first second new text told before after stop e opens c =
+    stops_meet starts steps End new _ (closing airs_of 1 steps) _ _ (unit_lines (closing airs_of 1 steps) ++ end_sums starts steps) text told before after stop
+    (end_passes (length starts) version steps e) (ap (λ us. us ++ closing airs_of 1 steps) (units_are steps first opens.one)) (end_offers steps first second opens)
+    (ap (λ l. l ++ (unit_lines (closing airs_of 1 steps) ++ end_sums starts steps)) (end_lines steps first second opens))
+    (first_did steps (histories_of steps) first new text told before after (Err stop) c)
 
--- source 0 was closed: its lines are those of the end, and its units went to their boxes
-first_told : (steps : List Step) (first second : Option ℕ) (mid : Machine) (text told : List ℕ) (before between : List Account) → Opens steps first second
-    → FirstClosed steps (histories_of steps) first mid text told before between → told ≡ text ++ first_lines (closing airs_of 0 steps) (answered_by airs_of steps End)
-first_told steps first second mid text told before between opens c = c.lines ∙ ap (λ l. text ++ l) (sym (end_lines steps first second opens))
+-- source 0 was closed, and then the close of source 1 is called
+abbrev pub BothDid : List Step → (first second : Option ℕ) → Machine → (text told : List ℕ) → (before after : List Account) → Result (Unit {0}) Stop → Type 0
+BothDid steps first second new text told before after r =
+    Did (closing_both airs_of steps) (answered_by airs_of steps End) (first_lines (closing airs_of 0 steps) (answered_by airs_of steps End) ++ unit_lines (closing airs_of 1 steps))
+    (ComponentsStand (after_relays steps first) (with_close 1 second (with_close 0 first (histories_of steps))) new) text told before after r
 
-first_boxes : (steps : List Step) (first second : Option ℕ) (mid : Machine) (text told : List ℕ) (before between : List Account) → Opens steps first second
-    → FirstClosed steps (histories_of steps) first mid text told before between → between ≡ accounts_after before (closing airs_of 0 steps)
-first_boxes steps first second mid text told before between opens c = c.boxes ∙ ap (accounts_after before) (sym (units_are steps first opens.one))
-
--- the same at the close of source 1
-pub second_stops : (starts : List Account) (version : ℕ) (steps : List Step) (first second : Option ℕ) (mid new there : Machine) (text told last : List ℕ)
-    (before between after : List Account) (stop : Stop) → stage_of steps ≡ running version → Opens steps first second
-    → FirstClosed steps (histories_of steps) first mid text told before between
-    → Closes (after_relays steps first) (with_close 0 first (histories_of steps)) 1 second new told last between after (Err stop)
-    → Meets starts steps End there text last before after (Err stop)
-second_stops starts version steps first second mid new there text told last before between after (Refused reason) e opens c d =
-    absurd (never_refused (after_relays steps first) (with_close 0 first (histories_of steps)) 1 second reason new told last between after d)
-second_stops starts version steps first second mid new there text told last before between after OutletFault e opens c d =
+pub both_did : (steps : List Step) (first second : Option ℕ) (mid new : Machine) (text told last : List ℕ) (before between after : List Account) (r : Result (Unit {0}) Stop)
+    → Opens steps first second → Closes steps (histories_of steps) 0 first mid text told before between (Ok tt)
+    → ((late : List Step) (past : Histories) → ComponentsStand late past mid → Closes late past 1 second new told last between after r)
+    → BothDid steps first second new text last before after r
+both_did steps first second mid new text told last before between after r opens c closes =
+    let one = first_did steps (histories_of steps) first mid text told before between (Ok tt) c in
+    let ones : List SinkUnit = closing airs_of 0 steps in
     let answers : List Answered = answered_by airs_of steps End in
-    let output : List ℕ = output_of airs_of starts steps End in
-    let ones : List SinkUnit = closing airs_of 0 steps in (
-      end_passes (length starts) version steps e,
-      subst (λ us. CloseFails (ones ++ us) answers output text last before after) (second_units steps first second opens)
-          (second_fails_at (after_relays steps first) (with_close 0 first (histories_of steps)) second ones answers output (end_sums starts steps) text told last before between after new
-          (from_first steps first second opens) (first_told steps first second mid text told before between opens c) (first_boxes steps first second mid text told before between opens c)
-          (ap (λ us. first_lines ones answers ++ (unit_lines us ++ end_sums starts steps)) (sym (second_units steps first second opens))) d),
-    )
-second_stops starts version steps first second mid new there text told last before between after Memory e opens c d =
-    let ones : List SinkUnit = closing airs_of 0 steps in
-    inr (
-      end_passes (length starts) version steps e,
-      subst (λ us. CutShort (ones ++ us) before after) (second_units steps first second opens)
-          (hands_then ones (closings_at 1 second (with_close 0 first (histories_of steps))) [] (unit_lines ones) [] before between after (Err Memory) refl
-          (first_boxes steps first second mid text told before between opens c)
-          (second_cut (after_relays steps first) (with_close 0 first (histories_of steps)) second told last between after new d)),
-    )
+    let left : Histories = with_close 0 first (histories_of steps) in
+    subst (λ us. Did (ones ++ us) answers (first_lines ones answers ++ unit_lines us) (ComponentsStand (after_relays steps first) (with_close 1 second left) new)
+    text last before after r) (second_units steps first second opens)
+    (second_did (after_relays steps first) left second ones answers new text told last before between after r (from_first steps first second opens)
+    (one.2 ∙ ap (λ l. text ++ l) (sym (end_lines steps first second opens))) (one.3 ∙ ap (accounts_after before) (sym (units_are steps first opens.one)))
+    (closes (after_relays steps first) left one.1))
 
--- ---- both sources were closed
-
-pub record BothClosed (steps : List Step) (first second : Option ℕ) (new : Machine) (text told : List ℕ) (before after : List Account) : Type 0 where
-  pub components : ComponentsStand (after_relays steps first) (with_close 1 second (with_close 0 first (histories_of steps))) new
-  pub lines : told ≡ text ++ (first_lines (closing airs_of 0 steps) (answered_by airs_of steps End) ++ unit_lines (closing airs_of 1 steps))
-  pub boxes : after ≡ accounts_after before (closing_both airs_of steps)
-
-pub both_closed : (steps : List Step) (first second : Option ℕ) (mid new : Machine) (text told last : List ℕ) (before between after : List Account) → Opens steps first second
-    → FirstClosed steps (histories_of steps) first mid text told before between
-    → Closes (after_relays steps first) (with_close 0 first (histories_of steps)) 1 second new told last between after (Ok tt)
-    → BothClosed steps first second new text last before after
-both_closed steps first second mid new text told last before between after opens c d =
-    let two = second_closed (after_relays steps first) (with_close 0 first (histories_of steps)) 0 second new told last between after d in
-    let ones : List SinkUnit = closing airs_of 0 steps in
-    let lines : List ℕ = first_lines ones (answered_by airs_of steps End) in
-    let is : closings_at 1 second (with_close 0 first (histories_of steps)) ≡ closing airs_of 1 steps = second_units steps first second opens in
-    record {
-      components = two.components;
-      lines = two.lines ∙ ap (λ us. told ++ unit_lines us) is
-          ∙ ap (λ prefix. prefix ++ unit_lines (closing airs_of 1 steps)) (first_told steps first second mid text told before between opens c)
-          ∙ append_assoc text lines (unit_lines (closing airs_of 1 steps));
-      boxes = grind (arith, two.boxes, first_boxes steps first second mid text told before between opens c, accounts_append ones (closing airs_of 1 steps) before);
-    }
+pub second_stops : (starts : List Account) (version : ℕ) (steps : List Step) (first second : Option ℕ) (new : Machine) (text last : List ℕ) (before after : List Account) (stop : Stop)
+    → stage_of steps ≡ running version → BothDid steps first second new text last before after (Err stop) → Meets starts steps End new text last before after (Err stop)
+second_stops starts version steps first second new text last before after stop e d =
+    stops_meet starts steps End new _ [] _ _ (end_sums starts steps) text last before after stop (end_passes (length starts) version steps e)
+    (sym (append-nil (closing_both airs_of steps))) refl
+    (sym (append_assoc (first_lines (closing airs_of 0 steps) (answered_by airs_of steps End)) (unit_lines (closing airs_of 1 steps)) (end_sums starts steps))) d
 
 -- memory ran out as the sums were put
-pub sums_stop : (starts : List Account) (version : ℕ) (steps : List Step) (first second : Option ℕ) (new there : Machine) (text told last : List ℕ) (before after : List Account)
-    → stage_of steps ≡ running version → BothClosed steps first second new text told before after → Meets starts steps End there text last before after (Err Memory)
-sums_stop starts version steps first second new there text told last before after e c = inr (
+pub sums_stop : (starts : List Account) (version : ℕ) (steps : List Step) (first second : Option ℕ) (new : Machine) (text told : List ℕ) (before after : List Account)
+    → stage_of steps ≡ running version → BothDid steps first second new text told before after (Ok tt) → Meets starts steps End new text told before after (Err Memory)
+sums_stop starts version steps first second new text told before after e d = inr (
   end_passes (length starts) version steps e,
-  record { done = closing_both airs_of steps; rest = []; split = sym (append-nil (closing_both airs_of steps)); boxes = c.boxes },
+  record { done = closing_both airs_of steps; rest = []; split = sym (append-nil (closing_both airs_of steps)); boxes = d.3 },
 )
 
 end_sinks : (steps late : List Step) (first second : Option ℕ) (offers : List Offer) (sinks : Sinks) → late ≡ after_offers airs_of offers steps → Opens steps first second
@@ -199,8 +160,7 @@ end_stands version steps first second new e opens stage components =
     let offers : List Offer = offers_closed steps (histories_of steps) first in
     let late : List Step = after_relays steps first in
     let same : with_relayed_units airs_of steps End ≡ late = ap (λ all. after_offers airs_of all steps) (offers_same steps first opens.one) in
-    subst (λ made. Stands (End ∷ made) new) (sym same)
-    (record {
+    subst (λ made. Stands (End ∷ made) new) (sym same) (record {
       stage = stage ∙ sym (ap (stage_after End) ((left_by_offers airs_of offers steps).stage ∙ e));
       sources = sources_stay End late new.sources end_says components.sources;
       sinks = end_sinks steps late first second offers new.sinks refl opens components.sinks;
@@ -209,16 +169,16 @@ end_stands version steps first second new e opens stage components =
 
 pub end_meets : (starts : List Account) (version : ℕ) (steps : List Step) (first second : Option ℕ) (new : Machine) (text told last : List ℕ) (before after : List Account)
     → stage_of steps ≡ running version → BoxesStand starts steps before → Opens steps first second → stage_in new.stage ≡ over version
-    → BothClosed steps first second new text told before after → last ≡ told ++ sums_where after (λ n. box_of n steps) sink_numbers
+    → BothDid steps first second new text told before after (Ok tt) → last ≡ told ++ sums_where after (λ n. box_of n steps) sink_numbers
     → Meets starts steps End new text last before after (Ok tt)
 end_meets starts version steps first second new text told last before after e boxes opens stage c sums =
     let lines : List ℕ = first_lines (closing airs_of 0 steps) (answered_by airs_of steps End) in
     let more : List ℕ = unit_lines (closing airs_of 1 steps) in
     let accounts : after ≡ accounts_after starts (handed_up airs_of steps ++ closing_both airs_of steps) =
-    c.boxes ∙ ap (λ a. accounts_after a (closing_both airs_of steps)) boxes.accounts_are ∙ sym (accounts_append (handed_up airs_of steps) (closing_both airs_of steps) starts) in
+    c.3 ∙ ap (λ a. accounts_after a (closing_both airs_of steps)) boxes.accounts_are ∙ sym (accounts_append (handed_up airs_of steps) (closing_both airs_of steps) starts) in
     let puts : sums_where after (λ n. box_of n steps) sink_numbers ≡ end_sums starts steps = grind (arith, sums_same starts steps (handed_up airs_of steps ++ closing_both airs_of steps) sink_numbers boxes.room) in (
       end_passes (length starts) version steps e,
-      end_stands version steps first second new e opens stage c.components,
-      grind (arith, c.lines, append_assoc text (lines ++ more) (end_sums starts steps), append_assoc lines more (end_sums starts steps)),
-      c.boxes,
+      end_stands version steps first second new e opens stage c.1,
+      grind (arith, c.2, append_assoc text (lines ++ more) (end_sums starts steps), append_assoc lines more (end_sums starts steps)),
+      c.3,
     )

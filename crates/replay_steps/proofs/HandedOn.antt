@@ -1,6 +1,5 @@
 -- What a line hands up comes behind what the lines before it did, and the boxes took it.
-use Rattle.std.proofs.Common.{arith}
-use Rattle.replay_steps.proofs.Prelude.{◌≡◌, List, ◌∷◌, ◌++◌, sym, subst, append-nil, TextLine, Account, airs_of, Airs, Step, SinkUnit, handed_up, Took, happened, handed_happened, Said, a_step, nothing, unsaid, said_of, steps_of, said_after, handed_on, handed_said, with_said, took_all, BoxesStand}
+use Rattle.replay_steps.proofs.Prelude.{◌≡◌, List, ◌∷◌, ◌++◌, sym, subst, append-nil, TextLine, Account, airs_of, Airs, Step, SinkUnit, handed_up, Took, happened, handed_happened, Said, a_step, nothing, unsaid, said_of, steps_of, said_after, handed_on, handed_said, with_said, took_all, BoxesStand, arith}
 
 handed_with : (airs : Airs) (earlier : List Step) (said : Said)
     → handed_up airs (happened airs (with_said said earlier)) ≡ handed_up airs (happened airs earlier) ++ handed_said airs (happened airs earlier) said

@@ -1,14 +1,7 @@
 -- What a sink hears of the streams of an event.
-use Rattle.replay_steps.proofs.Prelude.{◌≡◌, ℕ, suc, ◌+◌, ◌*◌, ◌<◌, ◌≤◌, Bool, true, false, if◌then◌else◌, List, [], length, Option, None, Some, refl, sym, ◌∙◌, ap, arith, airs_of, BigInfo, Call, Step, event_back, pdu_in, setup_of, hear_at, heard_on_air, is_lost, position_at, unless_lost, range_with_len}
-use Rattle.std.proofs.Common.{zero, ◌-◌, get_or}
-use Rattle.std.proofs.Math.Nat.{add-mul}
+use Rattle.replay_steps.proofs.Prelude.{◌≡◌, ℕ, suc, ◌+◌, ◌*◌, ◌<◌, ◌≤◌, Bool, true, false, if◌then◌else◌, List, [], length, Option, None, Some, refl, sym, ◌∙◌, ap, arith, airs_of, BigInfo, Call, Step, event_back, pdu_in, setup_of, hear_at, heard_on_air, is_lost, position_at, unless_lost, range_with_len, zero, ◌-◌, get_or, add-mul, div-mul-add, mod-mul-add, map, slice_get, slice_index_or, hear, heard_calls, heard_first, heard_where, Position, LosesFrom, lost_at, unlost}
 use Rattle.std.proofs.lemmas.List.FromFn.{get_or-map-range_with_len, length-map-range_with_len}
-use Rattle.std.proofs.lemmas.Nat.{div-mul-add, mod-mul-add}
 use Rattle.std.proofs.lemmas.Option.{slice_get-get_or}
-use Rattle.std.specs.Prelude.{map, slice_get, slice_index_or}
-use Rattle.group_sink.specs.Calls.{hear, heard_calls, heard_first, heard_where}
-use Rattle.scenario_history.specs.Sinks.{Position}
-use Rattle.replay_steps.specs.Losing.{LosesFrom, lost_at, unlost}
 
 -- what was sent and isn't lost, subevent by subevent
 pub unlost_count : (sent : List (List ℕ)) (lost : List Bool) → length (unlost sent lost) ≡ length sent

@@ -1,8 +1,6 @@
 -- Where no sink has a relay, an event of source 0 that is closed for all sinks at once is closed as for one behind the other.
-use Rattle.replay_steps.proofs.Prelude.{ℕ, zero, suc, ◌≡◌, ◌≤◌, ◌<◌, ◌+◌, ◌⊎◌, ◌==◌, ◌&&◌, not, Bool, true, false, List, [], ◌∷◌, ◌++◌, refl, sym, ◌∙◌, ap, subst, inl, inr, arith, append_assoc, append-nil, eqb-true, option_map, is_none, Option, None, Some, Result, Ok, Err, flat_map, list_all, range_with_len, and_parts, cases_eq, not-false, Account, airs_of, Stop, Refused, OutletFault, Memory, Step, SinkUnit, accounts_after, after_offers, offered_of, unit_lines, Route, relay_of, closing_of, handed_all, BoxFails, Histories, accounts_append, is_idle, RelaysStand, SourcesStand, Machine, lent, relay_histories, Closes, FirstMeets, ComponentsStand, lines_at, lines_below, offers_below, offers_of, units_below, flat_within}
-use Rattle.scenario_history.specs.Boxes.{sink_numbers}
+use Rattle.replay_steps.proofs.Prelude.{ℕ, zero, suc, ◌≡◌, ◌≤◌, ◌<◌, ◌+◌, ◌⊎◌, ◌==◌, ◌&&◌, not, Bool, true, false, List, [], ◌∷◌, ◌++◌, refl, sym, ◌∙◌, ap, subst, inl, inr, arith, append_assoc, append-nil, eqb-true, option_map, is_none, Option, None, Some, Result, Ok, Err, flat_map, list_all, range_with_len, and_parts, cases_eq, not-false, Account, airs_of, Stop, Refused, OutletFault, Memory, Step, SinkUnit, accounts_after, after_offers, offered_of, unit_lines, Route, relay_of, closing_of, handed_all, BoxFails, Histories, accounts_append, is_idle, RelaysStand, SourcesStand, Machine, lent, relay_histories, Closes, FirstMeets, ComponentsStand, lines_at, lines_below, offers_below, offers_of, units_below, flat_within, sink_numbers, lines_append}
 use Rattle.scenario_sinks.specs.Closing as sinks
-use Rattle.scenario_sinks.proofs.Citable.{lines_append}
 use Rattle.replay_steps.proofs.Between.{range_more}
 use Rattle.replay_steps.proofs.Closed.{first_closes, second_closes}
 use Rattle.replay_steps.proofs.CloseLines.{flat_nothing}
@@ -35,10 +33,8 @@ stands_in (u ∷ us) vs (d ∷ done) unit rest is =
 fails_split : (us vs : List SinkUnit) (text told : List ℕ) (before after : List Account) → BoxFails (us ++ vs) text told before after
     → BoxFails us text told before after ⊎ BoxFails vs (text ++ unit_lines us) told (accounts_after before us) after
 fails_split us vs text told before after f = elim (stands_in us vs f.done f.unit f.rest f.split) [
-  | inl one ↦
-      inl (grind arith)
-  | inr other ↦
-      inr (grind (arith, unit_lines, lines_append, append_assoc, accounts_after, accounts_append))
+  | inl one ↦ inl (grind arith)
+  | inr other ↦ inr (grind (arith, unit_lines, lines_append, append_assoc, accounts_after, accounts_append))
 ]
 
 -- ---- a box stops units of the first sinks
@@ -133,11 +129,7 @@ all_meet steps past event old new text told before after (Err (Refused reason)) 
 all_meet steps past event old new text told before after (Err OutletFault) none components sources held m =
     let f : FailsBelow past event 8 text told before after = fails_below past event 8 text told before after m.hands in
     let within : f.number < 8 = f.within in
-    record {
-      number = f.number;
-      within = f.within;
-      fails = grind (arith, closing_of, accounts_after, units_below, plain_below);
-    }
+    record { number = f.number; within = f.within; fails = grind (arith, closing_of, accounts_after, units_below, plain_below) }
 all_meet steps past event old new text told before after (Err Memory) none components sources held m = m.hands
 
 pub idle_meets : (steps : List Step) (past : Histories) (event : ℕ) (old new : Machine) (text told : List ℕ) (before after : List Account) (r : Result (Unit {0}) Stop)

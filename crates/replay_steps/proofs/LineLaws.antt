@@ -1,5 +1,5 @@
 -- A line by its step.
-use Rattle.replay_steps.proofs.Prelude.{◌≡◌, ℕ, ◌≤◌, nat_le, List, [], ◌∷◌, ◌++◌, length, inl, inr, Option, None, Some, Result, Ok, Err, refl, sym, ◌∙◌, ap, subst, is_some, arith, option_or, leb-false, TextLine, plain, Account, airs_of, BadLine, happened, with_relayed_units, append-nil, read_of, Step, sinks_made, sinks_made_by, version_at, version_of, is_over, hands_alike, left_by_relayed_units, stage_happened, passes_both, accounts_after, box_of, handed_by, handed_up, is_relayed, is_out_of_order, sink_refusal, refuse_if, a_step, nothing, unsaid, said_of, steps_of, said_by, said_after, with_said, refusal_said, output_said, handed_said, fails_not, Machine, Stop, Refused, OutletFault, Memory, Stands, BoxesStand, StepMeets, accounts_append}
+use Rattle.replay_steps.proofs.Prelude.{◌≡◌, ℕ, ◌≤◌, List, [], ◌∷◌, ◌++◌, length, inl, inr, Option, None, Some, Result, Ok, Err, refl, sym, ◌∙◌, ap, subst, arith, option_or, leb-false, TextLine, plain, Account, airs_of, BadLine, happened, with_relayed_units, append-nil, read_of, Step, sinks_made, sinks_made_by, version_at, version_of, hands_alike, left_by_relayed_units, stage_happened, passes_both, accounts_after, handed_by, handed_up, is_relayed, a_step, nothing, unsaid, said_of, steps_of, said_by, said_after, with_said, refusal_said, output_said, handed_said, fails_not, Machine, Stop, Refused, OutletFault, Memory, Stands, BoxesStand, StepMeets, accounts_append}
 use Rattle.scenario_words.specs.declared.fault.LineFault.TheVariants.{BadLine as Misfit}
 use Rattle.scenario_history.specs.Refusals.{refusal_of}
 use Rattle.replay_steps.specs.LineMeets.{LineMeets, LinesStand}
@@ -12,22 +12,7 @@ first_none : {A : Type 0} (a b : Option A) → option_or a b ≡ None → a ≡ 
 first_none a b e = grind arith
 
 room_stays : (boxes : ℕ) (earlier : List Step) (made : Step) → refusal_of airs_of boxes earlier made ≡ None → sinks_made earlier ≤ boxes → sinks_made (made ∷ earlier) ≤ boxes
-room_stays boxes earlier _ e room =
-    grind (
-      arith,
-      last_none,
-      refuse_if,
-      is_over,
-      is_out_of_order,
-      first_none,
-      sink_refusal,
-      is_some,
-      box_of,
-      sinks_made,
-      leb-false,
-      fails_not,
-      nat_le,
-    )
+room_stays boxes earlier _ e room = grind (arith, last_none, first_none, leb-false, fails_not)
 
 boxes_go_on : (starts before after : List Account) (earlier : List Step) (made : Step) → BoxesStand starts earlier before → refusal_of airs_of (length starts) earlier made ≡ None
     → after ≡ accounts_after before (handed_by airs_of earlier made) → BoxesStand starts (made ∷ with_relayed_units airs_of earlier made) after

@@ -1,10 +1,5 @@
 -- The PDUs of an event that are lost, counted on.
-use Rattle.replay_steps.proofs.Prelude.{◌≡◌, ℕ, ◌+◌, ◌*◌, ◌/◌, ◌%◌, ◌<◌, sym, ◌∙◌, ap, arith, List, true, false, Bool}
-use Rattle.std.proofs.Common.{◌≤◌, ◌-◌, length, get_or, set, zero, suc, replicate, refl, get_or-set_other, get_or-set_same, inl, inr}
-use Rattle.std.proofs.Math.Nat.{add-mul}
-use Rattle.std.proofs.lemmas.Bool.{cases_eq, cases_lt, eq-eqb, ne_eqb, lt-ltb}
-use Rattle.std.proofs.lemmas.Nat.{div-add-mod', mod-mul-add, mod_below}
-use Rattle.replay_steps.specs.Losing.{CountsOn, lost_at}
+use Rattle.replay_steps.proofs.Prelude.{◌≡◌, ℕ, ◌+◌, ◌*◌, ◌/◌, ◌%◌, ◌<◌, sym, ◌∙◌, ap, arith, List, true, false, Bool, ◌≤◌, ◌-◌, length, get_or, set, zero, suc, replicate, refl, get_or-set_other, get_or-set_same, inl, inr, add-mul, cases_eq, cases_lt, eq-eqb, ne_eqb, lt-ltb, div-add-mod', mod-mul-add, mod_below, CountsOn, lost_at}
 
 whole : (n lose e : ℕ) → n + e ≡ n / lose * lose + (n % lose + e)
 whole n lose e = omega (arith, div-add-mod' n lose)

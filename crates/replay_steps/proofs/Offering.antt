@@ -1,10 +1,6 @@
 -- Units that relays offer to source 1, by what they make of the sources, of the relays and of the text.
-use Rattle.replay_steps.proofs.Prelude.{ℕ, ◌≡◌, ◌≢◌, ◌<◌, ◌≤◌, ◌+◌, ◌==◌, ◌||◌, List, [], ◌∷◌, ◌++◌, length, map, take, get_or, not, refl, sym, ◌∙◌, ap, subst, append_assoc, append-nil, arith, eq-eqb, ne_eqb, option_map, slice_get, Option, None, Some, Result, Ok, Err, list_any, option_or, map-append, take_all, take_more, flat_map-append, Handed, airs_of, dropped_line, Refusal, Stop, Refused, OutletFault, Memory, Step, Source, Answered, Offer, after_offer, after_offers, answered, offered_of, units_on, valid_on, with_relayed_unit, answer_line, gives_on, source_refusal, refuse_if, Route, takes_units, chosen_of, steps_of_source, version_of, Relays, RelaysStand, handed_as, handed_of, Answers, Sources, SourcesStand, lent, relay_histories, Drops, GivesSecond, OffersMeet, answer_lines}
-use Rattle.bcast_base.specs.declared.unit.Unit.{Unit as AudioUnit}
-use Rattle.scenario_text.specs.declared.step.Step.TheVariants.{Unit as UnitLine}
-use Rattle.scenario_sinks.specs.declared.route.Route.{Route as LentRoute}
+use Rattle.replay_steps.proofs.Prelude.{ℕ, ◌≡◌, ◌≢◌, ◌<◌, ◌≤◌, ◌+◌, ◌==◌, ◌||◌, List, [], ◌∷◌, ◌++◌, length, map, take, get_or, not, refl, sym, ◌∙◌, ap, subst, append_assoc, append-nil, arith, eq-eqb, ne_eqb, option_map, slice_get, Option, None, Some, Result, Ok, Err, list_any, option_or, map-append, take_all, take_more, flat_map-append, Handed, airs_of, dropped_line, Refusal, Stop, Refused, OutletFault, Memory, Step, Source, Answered, Offer, after_offer, after_offers, answered, offered_of, units_on, valid_on, with_relayed_unit, answer_line, gives_on, source_refusal, refuse_if, Route, takes_units, chosen_of, steps_of_source, version_of, Relays, RelaysStand, handed_as, handed_of, Answers, Sources, SourcesStand, lent, relay_histories, Drops, GivesSecond, OffersMeet, answer_lines, AudioUnit, UnitLine, LentRoute, octets_of}
 use Rattle.scenario_sinks.specs.RelayHistories as pasts
-use Rattle.scenario_sinks.specs.State.Gathering.{octets_of}
 use Rattle.scenario_sinks.specs.declared.gathered.HandedUnit.{HandedUnit}
 use Rattle.replay_steps.proofs.RelaysStay.{relays_as}
 use Rattle.replay_steps.proofs.Stepping.{or_none}

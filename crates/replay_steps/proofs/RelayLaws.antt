@@ -1,11 +1,8 @@
 -- The steps that say something of relays: `relay`, `drop`, and a `unit` line.
-use Rattle.std.proofs.Common.{arith}
-use Rattle.replay_steps.proofs.Prelude.{ℕ, ◌≡◌, ◌≢◌, ◌==◌, ◌&&◌, ◌||◌, Bool, true, false, cond, not, nat_lt, is_some, List, ◌∷◌, refl, sym, ◌∙◌, ap, subst, unwrap_or, option_map, eq-eqb, ne_eqb, Option, None, Some, Ok, Err, list_any, option_or, BigInfo, airs_of, Call, Settings, made_of, Refusal, NoSuchBis, NoSuchSink, Order, RelayTaken, Stop, Refused, Step, Drop, Relay, box_of, gives_on, is_relay_beyond, is_relay_taken, may_relay, phase_refusal, relay_refusal, relayed_or, refuse_if, had_relay, relay_given, relay_of, sink_calls, setup_of, takes_units, chosen_of, last_given, running, stage_of, steps_of_source, calls_made, source_at, Relays, with_relay, RelaysStand, Answers, fault_of, named_says, sources_stay, SinksStand, Sinks, stands_same, Machine, Stands, lent, histories_of, relay_histories, Quiet, phase_line, stage_in}
-use Rattle.delegator_machine.specs.Groups.{with_leave}
+use Rattle.replay_steps.proofs.Prelude.{ℕ, ◌≡◌, ◌≢◌, ◌==◌, ◌&&◌, ◌||◌, Bool, true, false, cond, not, nat_lt, is_some, List, ◌∷◌, refl, sym, ◌∙◌, ap, subst, unwrap_or, option_map, eq-eqb, ne_eqb, Option, None, Some, Ok, Err, list_any, option_or, BigInfo, airs_of, Call, Settings, made_of, Refusal, NoSuchBis, NoSuchSink, Order, RelayTaken, Stop, Refused, Step, Drop, Relay, box_of, gives_on, is_relay_beyond, is_relay_taken, may_relay, phase_refusal, relay_refusal, relayed_or, refuse_if, had_relay, relay_given, relay_of, sink_calls, setup_of, takes_units, chosen_of, last_given, running, stage_of, steps_of_source, calls_made, source_at, Relays, with_relay, RelaysStand, Answers, fault_of, named_says, sources_stay, SinksStand, Sinks, stands_same, Machine, Stands, lent, histories_of, relay_histories, Quiet, phase_line, stage_in, arith, with_leave, UnitLine}
 use Rattle.sink_history.specs.Calls as links
 use Rattle.sink_history.specs.History.{Source}
 use Rattle.sink_history.specs.Moves.{received_by}
-use Rattle.scenario_text.specs.declared.step.Step.TheVariants.{Unit as UnitLine}
 use Rattle.scenario_sinks.specs.RelayHistories.{with_relayed_unit, without}
 use Rattle.replay_steps.proofs.RelaysStay.{relays_as}
 use Rattle.replay_steps.proofs.Stepping.{GoesOn, source_fault, sources_stand}
@@ -109,56 +106,23 @@ pub relay_fault : (boxes version n bis to : ℕ) (steps : List Step) → stage_o
     → phase_line airs_of boxes steps (Relay n bis to) ≡ relay_refusal steps n bis to
 relay_fault boxes version n bis to steps e = rw e refl
 
-pub may_not_first : (steps : List Step) → takes_units (steps_of_source 0 steps) ≡ false → may_relay steps ≡ false
-may_not_first steps none = grind (arith, takes_units, steps_of_source, setup_of)
-
-pub may_not_second : (steps : List Step) → takes_units (steps_of_source 0 steps) ≡ true → takes_units (steps_of_source 1 steps) ≡ false → may_relay steps ≡ false
-may_not_second steps first none = grind (arith, takes_units, steps_of_source, setup_of)
-
-may_by_framing : (steps : List Step) (framed : Bool) → takes_units (steps_of_source 0 steps) ≡ true → takes_units (steps_of_source 1 steps) ≡ true
-    → ((setup_of (steps_of_source 1 steps)).info.framing == 1) ≡ framed → may_relay steps ≡ framed
-may_by_framing steps framed first second is = grind (arith, takes_units, steps_of_source, setup_of)
-
--- both sources stream, and the second has this group
-pub may_not_unframed : (steps : List Step) (second : BigInfo) → takes_units (steps_of_source 0 steps) ≡ true → takes_units (steps_of_source 1 steps) ≡ true
-    → second ≡ (setup_of (steps_of_source 1 steps)).info → second.framing ≢ 1 → may_relay steps ≡ false
-may_not_unframed steps second one two is other = grind (arith, may_by_framing, ne_eqb)
-
-pub may_framed : (steps : List Step) (second : BigInfo) → takes_units (steps_of_source 0 steps) ≡ true → takes_units (steps_of_source 1 steps) ≡ true
-    → second ≡ (setup_of (steps_of_source 1 steps)).info → second.framing ≡ 1 → may_relay steps ≡ true
-may_framed steps second one two is same = grind (arith, may_by_framing, eq-eqb)
-
 -- the rows of the line, by what each tests
 abbrev rows : (may lives beyond taken : Bool) → Option Refusal
 rows may lives beyond taken =
     option_or (refuse_if (not may) Order) (option_or (refuse_if (not lives) NoSuchSink) (option_or (refuse_if beyond NoSuchBis) (refuse_if taken RelayTaken)))
 
-pub relay_early : (steps : List Step) (n bis to : ℕ) → may_relay steps ≡ false → relay_refusal steps n bis to ≡ Some Order
-relay_early steps n bis to may = grind (arith, is_some, box_of, is_relay_beyond, is_relay_taken)
-
-pub relay_nowhere : (steps : List Step) (n bis to : ℕ) → may_relay steps ≡ true → is_some (box_of n steps) ≡ false → relay_refusal steps n bis to ≡ Some NoSuchSink
-relay_nowhere steps n bis to may lives = grind (arith, is_some, box_of, is_relay_beyond, is_relay_taken)
-
--- both sources stream, and the sink lives
-pub relay_by : (steps : List Step) (n bis to : ℕ) (beyond taken : Bool) → may_relay steps ≡ true → is_some (box_of n steps) ≡ true
-    → is_relay_beyond steps bis to ≡ beyond → is_relay_taken steps n to ≡ taken
-    → relay_refusal steps n bis to ≡ option_or (refuse_if beyond NoSuchBis) (refuse_if taken RelayTaken)
-relay_by steps n bis to beyond taken may lives is has = grind (arith, is_some, box_of, is_relay_beyond, is_relay_taken)
-
-pub relay_beyond : (steps : List Step) (n bis to : ℕ) → may_relay steps ≡ true → is_some (box_of n steps) ≡ true → is_relay_beyond steps bis to ≡ true
-    → relay_refusal steps n bis to ≡ Some NoSuchBis
-relay_beyond steps n bis to may lives is = relay_by steps n bis to true (is_relay_taken steps n to) may lives is refl
-
--- the streams of a `relay` line, by the groups of the sources
-pub beyond_by : (steps : List Step) (bis to : ℕ) (first second : BigInfo) → first ≡ (setup_of (steps_of_source 0 steps)).info
-    → second ≡ (setup_of (steps_of_source 1 steps)).info → is_relay_beyond steps bis to ≡ (nat_lt first.num_bis bis || nat_lt second.num_bis to)
-beyond_by steps bis to first second one two = grind (arith, nat_lt)
-
--- the room's answer is that of the steps
-pub taken_is : (steps : List Step) (n to : ℕ) (taken : Bool)
-    → taken ≡ (is_some ((relay_histories steps).routes n) || ((relay_histories steps).relayed to || (relay_histories steps).given to))
-    → is_relay_taken steps n to ≡ taken
-taken_is steps n to taken is = grind (arith, had_relay, list_any, gives_on, steps_of_source, relay_of)
+-- both sources stream, with these groups, and the room has its answer
+pub relay_rows : (steps : List Step) (n bis to : ℕ) (first second : BigInfo) (framed lives beyond taken : Bool)
+    → (takes_units (steps_of_source 0 steps) ≡ true) × (first ≡ (setup_of (steps_of_source 0 steps)).info)
+    → (takes_units (steps_of_source 1 steps) ≡ true) × (second ≡ (setup_of (steps_of_source 1 steps)).info)
+    → (second.framing == 1) ≡ framed → is_some (box_of n steps) ≡ lives → (nat_lt first.num_bis bis || nat_lt second.num_bis to) ≡ beyond
+    → (is_some ((relay_histories steps).routes n) || ((relay_histories steps).relayed to || (relay_histories steps).given to)) ≡ taken
+    → relay_refusal steps n bis to ≡ rows framed lives beyond taken
+relay_rows steps n bis to first second framed lives beyond taken one two frames living past has =
+    let may : may_relay steps ≡ framed = grind (arith, takes_units, steps_of_source, setup_of) in
+    let far : is_relay_beyond steps bis to ≡ beyond = grind (arith, nat_lt) in
+    let is : is_relay_taken steps n to ≡ taken = grind (arith, had_relay, list_any, gives_on, steps_of_source, relay_of) in
+    λ i. rows (may i) (living i) (far i) (is i)
 
 -- ---- the relay is made
 

@@ -1,6 +1,5 @@
 -- A close of source 0, sink by sink: each hands its units up, and then its relay offers them to source 1.
-use Rattle.std.proofs.Common.{arith}
-use Rattle.replay_steps.proofs.Prelude.{ℕ, ◌≡◌, List, ◌++◌, ◌∙◌, ap, append_assoc, append-nil, Result, Ok, Err, Account, Handed, airs_of, Stop, Step, answered, offered_of, unit_lines, relay_of, ClosesAt, closing_of, handed_all, Histories, with_close_at, SinksStand, Sinks, Sources, Relays, Machine, OffersMeet, SinkMeets, answer_lines, offers_of}
+use Rattle.replay_steps.proofs.Prelude.{ℕ, ◌≡◌, List, ◌++◌, ◌∙◌, ap, append_assoc, append-nil, Result, Ok, Err, Account, Handed, airs_of, Stop, Step, answered, offered_of, unit_lines, relay_of, ClosesAt, closing_of, handed_all, Histories, with_close_at, SinksStand, Sinks, Sources, Relays, Machine, OffersMeet, SinkMeets, answer_lines, offers_of, arith}
 
 -- ---- one sink
 

@@ -1,7 +1,5 @@
 -- Steps that say nothing of relays leave them.
-use Rattle.std.proofs.Common.{arith}
-use Rattle.replay_steps.proofs.Prelude.{ℕ, ◌≡◌, ◌||◌, Bool, true, false, cond, List, ◌∷◌, sym, ap, unwrap_or, option_map, is_none, Option, None, list_all, list_any, range_with_len, option_or, Step, Drop, Relay, gives_on, is_relayed, Route, had_relay, relay_given, relay_of, relays_to, is_of_source, last_given, steps_of_source, Relays, RelaysStand, lent, relay_histories}
-use Rattle.scenario_text.specs.declared.step.Step.TheVariants.{Unit as UnitLine}
+use Rattle.replay_steps.proofs.Prelude.{ℕ, ◌≡◌, ◌||◌, Bool, true, false, cond, List, ◌∷◌, sym, ap, unwrap_or, option_map, is_none, Option, None, list_all, list_any, range_with_len, option_or, Step, Drop, Relay, gives_on, is_relayed, Route, had_relay, relay_given, relay_of, relays_to, is_of_source, last_given, steps_of_source, Relays, RelaysStand, lent, relay_histories, arith, UnitLine}
 use Rattle.scenario_sinks.specs.RelayHistories as relays
 
 -- the relays by another past that is the same

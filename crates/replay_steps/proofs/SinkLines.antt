@@ -1,9 +1,7 @@
 -- The lines of a sink's control and of its links.
-use Rattle.std.proofs.Common.{arith}
-use Rattle.replay_steps.proofs.Prelude.{◌≡◌, ℕ, List, [], ◌∷◌, ◌++◌, Bool, true, false, is_some, cond, refl, sym, ◌∙◌, ap, subst, Option, None, Some, Result, Ok, Err, length, concat, option_or, Account, airs_of, NoSuchSink, Order, Stop, Refused, OutletFault, Memory, Step, Announce, End, Stage, chosen_steps, running, stage_after, stage_of, is_sending, setup_of, source_calls, box_of, handed_by, output_of, sink_lines, phase_refusal, train_ends, calls_made, source_at, the_world, Settings, made_of, named_by, refused_at, refused_where, refusal_of, IsSinkLine, AnnouncesAs, SaysNothing, Histories, with_line, SinksStand, Machine, Stands, histories_of, Tells, closes_first, is_relayed}
+use Rattle.replay_steps.proofs.Prelude.{◌≡◌, ℕ, List, [], ◌∷◌, ◌++◌, Bool, true, false, is_some, cond, refl, sym, ◌∙◌, ap, subst, Option, None, Some, Result, Ok, Err, length, concat, option_or, Account, airs_of, NoSuchSink, Order, Stop, Refused, OutletFault, Memory, Step, Announce, End, Stage, chosen_steps, running, stage_after, stage_of, is_sending, setup_of, source_calls, box_of, handed_by, output_of, sink_lines, phase_refusal, train_ends, calls_made, source_at, the_world, Settings, made_of, named_by, refused_at, refused_where, refusal_of, IsSinkLine, AnnouncesAs, SaysNothing, Histories, with_line, SinksStand, Machine, Stands, histories_of, Tells, closes_first, is_relayed, arith, announce_fault}
 use Rattle.announcement_train.specs.declared.train.Train.{Train as Announced}
 use Rattle.sink_history.specs.Calls.{Call}
-use Rattle.source_machine.specs.Faults.{announce_fault}
 use Rattle.sink_history.specs.History.{Source}
 use Rattle.sink_history.specs.Output.{printed_at, printed_of, printed_where}
 use Rattle.scenario_sinks.specs.SinkLines.{SinkLineMakes}
@@ -122,20 +120,7 @@ announce_fault_is boxes version n steps e going =
 
 pub announce_nowhere : (boxes version n : ℕ) (steps : List Step) → stage_of steps ≡ running version → is_sending (chosen_steps steps) ≡ true
     → is_some (box_of n steps) ≡ false → phase_refusal airs_of boxes steps (Announce n) ≡ Some NoSuchSink
-announce_nowhere boxes version n steps e going lives =
-    grind (
-      arith,
-      train_ends,
-      setup_of,
-      chosen_steps,
-      source_calls,
-      announce_fault_is,
-      option_or,
-      not_there,
-      calls_made,
-      made_of,
-      made_with_box,
-    )
+announce_nowhere boxes version n steps e going lives = grind (arith, announce_fault_is, not_there, made_with_box)
 
 pub announce_fails : (starts : List Account) (version n : ℕ) (steps : List Step) (new : Machine) (text : List ℕ) (stop : Stop) → Stands steps new → stage_of steps ≡ running version
     → is_sending (chosen_steps steps) ≡ true → is_some (box_of n steps) ≡ true → AnnouncesAs (chosen_steps steps) (Err stop)

@@ -1,6 +1,5 @@
 -- Each step by its own clause.
-use Rattle.std.proofs.Common.{arith}
-use Rattle.replay_steps.proofs.Prelude.{◌≡◌, ℕ, cond, List, [], ◌∷◌, ◌++◌, length, map, false, inl, None, Result, Ok, Err, refl, sym, ◌∙◌, ap, subst, append-nil, length-map, Account, airs_of, Step, Scenario, is_over, running, stage_of, unbegun, accounts_after, handed_by, handed_up, after_offers, closes_first, offers_at, with_relayed_units, output_of, is_relayed, line_refusal, phase_refusal, relayed_or, boxes_stay, Machine, Stop, Memory, Stands, BoxesStand, Quiet, Tells, Meets, StepMeets, phase_line}
+use Rattle.replay_steps.proofs.Prelude.{◌≡◌, ℕ, cond, List, [], ◌∷◌, ◌++◌, length, map, false, inl, None, Result, Ok, Err, refl, sym, ◌∙◌, ap, subst, append-nil, length-map, Account, airs_of, Step, Scenario, is_over, running, stage_of, unbegun, accounts_after, handed_by, handed_up, after_offers, closes_first, offers_at, with_relayed_units, output_of, is_relayed, line_refusal, phase_refusal, relayed_or, boxes_stay, Machine, Stop, Memory, Stands, BoxesStand, Quiet, Tells, Meets, StepMeets, phase_line, arith}
 
 pub boxes_counted : {A : Type 0} (f : A → Account) (items : List A) (starts : List Account) (steps : List Step) (n : ℕ) → n ≡ length items
     → BoxesStand starts steps (map f items) → n ≡ length starts

@@ -1,13 +1,10 @@
 -- A step by the room that it belongs to.
-use Rattle.std.proofs.Common.{arith}
-use Rattle.replay_steps.proofs.Prelude.{◌≡◌, ℕ, ◌==◌, List, [], ◌∷◌, true, false, if◌then◌else◌, unwrap_or, refl, sym, ◌∙◌, ap, subst, Option, None, Some, Result, Ok, Err, option_or, airs_of, BigInfo, Settings, tune, Refusal, NoSuchBis, Order, Stop, Refused, OutletFault, Memory, Step, Sink, Source, Tuned, Stage, chosen_of, chosen_steps, running, stage_after, stage_of, version_at, group_of, no_group, setup_of, takes_units, box_of, big_sync_on, horizon_of, version_given, horizon_in, sinks_made, has_beyond, is_misplaced, is_out_of_phase, phase_refusal, relayed_or, sink_refusal, source_refusal, twin_refusal, refuse_if, Sources, fault_of, SourcesStand, SaysNothing, sink_says, sources_stay, tuned_says, Sinks, Histories, with_sink, with_tuning, SinksStand, Machine, Relays, RelaysStand, Stands, histories_of, relay_histories, Quiet, phase_line, stage_in}
-use Rattle.delegator_machine.specs.Groups.{by_numbers}
+use Rattle.replay_steps.proofs.Prelude.{◌≡◌, ℕ, ◌==◌, List, [], ◌∷◌, true, false, if◌then◌else◌, unwrap_or, refl, sym, ◌∙◌, ap, subst, Option, None, Some, Result, Ok, Err, option_or, airs_of, BigInfo, Settings, tune, Refusal, NoSuchBis, Order, Stop, Refused, OutletFault, Memory, Step, Sink, Source, Tuned, Stage, chosen_of, chosen_steps, running, stage_after, stage_of, version_at, group_of, no_group, setup_of, takes_units, box_of, big_sync_on, horizon_of, version_given, horizon_in, sinks_made, has_beyond, is_misplaced, is_out_of_phase, phase_refusal, relayed_or, sink_refusal, source_refusal, twin_refusal, refuse_if, Sources, fault_of, SourcesStand, SaysNothing, sink_says, sources_stay, tuned_says, Sinks, Histories, with_sink, with_tuning, SinksStand, Machine, Relays, RelaysStand, Stands, histories_of, relay_histories, Quiet, phase_line, stage_in, arith, by_numbers, not_made, not_tuned}
 use Rattle.delegator_history.specs.Announced.{numbers_alone}
 use Rattle.delegator_history.specs.LastGiven.{last_given}
 use Rattle.sync_reference.specs.BigSync.{BigSync}
 use Rattle.scenario_sources.specs.Answers as sources
 use Rattle.scenario_sinks.specs.Refusals as sinks
-use Rattle.scenario_sinks.specs.Refusals.{not_made, not_tuned}
 use Rattle.replay_steps.proofs.RelaysStay.{beside, minds_relays, relays_stay}
 
 pub or_none : (a : Option Refusal) → option_or a None ≡ a

@@ -1,7 +1,7 @@
 -- The boxes that no `sink` line of a text takes, by the lines that were run.
-use Rattle.replay_steps.proofs.Prelude.{◌≡◌, ◌≤◌, List, [], ◌∷◌, ◌++◌, reverse, ap, ◌∙◌, arith, refl, Option, None, Some, TextLine, Account, airs_of, Airs, Refusal, accepted_accepted, Step, a_step, nothing, unsaid, rules_of, said_after, said_of, steps_of, sinks_happened, sinks_made}
+use Rattle.replay_steps.proofs.Prelude.{◌≡◌, ◌≤◌, List, [], ◌∷◌, ◌++◌, reverse, ap, ◌∙◌, arith, refl, Option, None, Some, TextLine, Account, airs_of, Airs, Refusal, accepted_accepted, Step, a_step, nothing, unsaid, rules_of, said_after, said_of, steps_of, sinks_happened, sinks_made, UnassignedBy, UnassignedRun}
 use Rattle.scenario_history.specs.Runs.{Accepted, accepted_of, accepted_unless}
-use Rattle.replay_steps.specs.Unassigned.{UnassignedBy, UnassignedRun, UnassignedSame}
+use Rattle.replay_steps.specs.Unassigned.{UnassignedSame}
 
 -- ---- a line more takes no box back
 

@@ -1,15 +1,7 @@
 -- What a step makes of the group that a sink is on: the sink stays there, or is on none then, or the step puts it on one.
-use Rattle.std.proofs.Common.{arith}
-use Rattle.scenario_laws.proofs.Prelude.{ℕ, ◌≡◌, ◌⊎◌, ◌==◌, cond, true, false, List, [], ◌∷◌, None, Some, refl, sym, ◌∙◌, ap, inl, inr, cases_Bool, tune, BigSync, Step, chosen_of, chosen_steps, Airs, sink_calls, source_of, big_sync_on, handed_by, closed_by, is_given, is_made, is_tuned}
+use Rattle.scenario_laws.proofs.Known.Sources.{arith, ℕ, ◌≡◌, ◌⊎◌, ◌==◌, cond, true, false, List, [], ◌∷◌, None, Some, refl, sym, ◌∙◌, ap, inl, inr, cases_Bool, tune, BigSync, Step, chosen_of, chosen_steps, Airs, sink_calls, source_of, big_sync_on, handed_by, closed_by, is_given, is_made, is_tuned, place, Legal, Permitted, PutBy, StaysBy, announced, given_stays, plain_stays, air_place, end_place, same_place, tick_if_place, next_in}
+use Rattle.scenario_laws.proofs.Announced.{as_by_hand, Announcing}
 use Rattle.delegator_machine.specs.Groups as machine
-use Rattle.group_sink.specs.Calls.{place}
-use Rattle.scenario_text.specs.declared.step.Step.TheVariants as steps
-use Rattle.scenario_laws.proofs.ByHand.{as_by_hand}
-use Rattle.scenario_laws.proofs.Announced.{Announcing}
-use Rattle.scenario_laws.proofs.Legals.{Legal, Permitted}
-use Rattle.scenario_laws.proofs.Moves.{PutBy, StaysBy, announced, given_stays, plain_stays}
-use Rattle.scenario_laws.proofs.Places.{air_place, end_place, same_place, tick_if_place}
-use Rattle.scenario_laws.proofs.Wholes.{next_in}
 
 -- the sink stays on its group, or on none, and of its source
 pub record Keeps (airs : Airs) (n : ℕ) (step : Step) (earlier : List Step) : Type 0 where
@@ -29,8 +21,8 @@ pub record Parts (airs : Airs) (n : ℕ) (step : Step) (earlier : List Step) : T
   pub nowhere : place (sink_calls airs n (step ∷ earlier)) ≡ None
 
 abbrev pub PutsBy : Airs → ℕ → Step → List Step → BigSync → Type 0
-PutsBy airs n (steps.Tuned sink which) earlier on = (big_sync_on (chosen_steps earlier) which ≡ on) × ((sink == n) ≡ true)
-PutsBy airs n (steps.Announce sink) earlier on = (put : PutBy airs n sink earlier) × (machine.by_numbers put.big_sync ≡ on)
+PutsBy airs n (Step.Tuned sink which) earlier on = (big_sync_on (chosen_steps earlier) which ≡ on) × ((sink == n) ≡ true)
+PutsBy airs n (Step.Announce sink) earlier on = (put : PutBy airs n sink earlier) × (machine.by_numbers put.big_sync ≡ on)
 PutsBy airs n _ earlier on = ⊥
 
 -- the step synchronizes the sink to a BIG, by hand or by a train
@@ -56,19 +48,19 @@ stayed : (airs : Airs) (n : ℕ) (step : Step) (earlier : List Step) → Silent 
 stayed airs n step earlier silent made_not stays = grind (arith, kept, gone)
 
 pub becomes : (airs : Airs) (n : ℕ) (step : Step) (earlier : List Step) → is_given n step ≡ false → Becomes airs n step earlier
-becomes airs n (steps.Sink sink streams slots mtu) earlier ungiven = elim (cases_Bool (sink == n)) [
-  | inl again ↦ gone airs n (steps.Sink sink streams slots mtu) earlier (record { hands = λ made. refl; closes = λ s. refl }) (ap (λ b. place (cond b [] (sink_calls airs n earlier))) again)
+becomes airs n (Step.Sink sink streams slots mtu) earlier ungiven = elim (cases_Bool (sink == n)) [
+  | inl again ↦ gone airs n (Step.Sink sink streams slots mtu) earlier (record { hands = λ made. refl; closes = λ s. refl }) (ap (λ b. place (cond b [] (sink_calls airs n earlier))) again)
   | inr other ↦
-      kept airs n (steps.Sink sink streams slots mtu) earlier refl other
+      kept airs n (Step.Sink sink streams slots mtu) earlier refl other
       (ap (λ b. cond b None (source_of n earlier)) other) (ap (λ b. place (cond b [] (sink_calls airs n earlier))) other)
 ]
-becomes airs n (steps.Drop sink) earlier ungiven = elim (cases_Bool (sink == n)) [
-  | inl again ↦ gone airs n (steps.Drop sink) earlier (record { hands = λ made. refl; closes = λ s. refl }) (ap (λ b. place (cond b [] (sink_calls airs n earlier))) again)
+becomes airs n (Step.Drop sink) earlier ungiven = elim (cases_Bool (sink == n)) [
+  | inl again ↦ gone airs n (Step.Drop sink) earlier (record { hands = λ made. refl; closes = λ s. refl }) (ap (λ b. place (cond b [] (sink_calls airs n earlier))) again)
   | inr other ↦
-      kept airs n (steps.Drop sink) earlier refl refl
+      kept airs n (Step.Drop sink) earlier refl refl
       (ap (λ b. cond b None (source_of n earlier)) other) (ap (λ b. place (cond b [] (sink_calls airs n earlier))) other)
 ]
-becomes airs n (steps.Tuned sink which) earlier ungiven = elim (cases_Bool (sink == n)) [
+becomes airs n (Step.Tuned sink which) earlier ungiven = elim (cases_Bool (sink == n)) [
   | inl put ↦ inr (inr (record {
     on = big_sync_on (chosen_steps earlier) which;
     silent = record { hands = λ made. refl; closes = λ s. refl };
@@ -78,20 +70,13 @@ becomes airs n (steps.Tuned sink which) earlier ungiven = elim (cases_Bool (sink
     by = (refl, put);
   }))
   | inr other ↦
-      kept airs n (steps.Tuned sink which) earlier other refl (ap (λ b. cond b (Some (chosen_of earlier)) (source_of n earlier)) other)
+      kept airs n (Step.Tuned sink which) earlier other refl (ap (λ b. cond b (Some (chosen_of earlier)) (source_of n earlier)) other)
       (ap (λ b. place (cond b (tune (big_sync_on (chosen_steps earlier) which) ∷ sink_calls airs n earlier) (sink_calls airs n earlier))) other)
 ]
-becomes airs n (steps.Hear sink back bis subevent) earlier ungiven = search (kept, same_place)
-becomes airs n (steps.Air sink lose) earlier ungiven = search (kept, same_place, air_place)
-becomes airs n (steps.Inject sink back bis subevent octets) earlier ungiven = search (kept, same_place)
-becomes airs n steps.Event earlier ungiven = search (kept, tick_if_place)
-becomes airs n steps.Stop earlier ungiven = search (kept, tick_if_place)
-becomes airs n (steps.Terminate reason) earlier ungiven = search (kept, tick_if_place)
-becomes airs n steps.End earlier ungiven = search (kept, end_place)
-becomes airs n (steps.Announce sink) earlier ungiven = elim (announced airs n sink earlier) [
-  | inl stays ↦ stayed airs n (steps.Announce sink) earlier (record { hands = λ made. refl; closes = λ s. refl }) refl stays
+becomes airs n (Step.Announce sink) earlier ungiven = elim (announced airs n sink earlier) [
+  | inl stays ↦ stayed airs n (Step.Announce sink) earlier (record { hands = λ made. refl; closes = λ s. refl }) refl stays
   | inr goes ↦ elim goes [
-    | inl follows ↦ gone airs n (steps.Announce sink) earlier (record { hands = λ made. refl; closes = λ s. refl }) (ap place follows.same ∙ follows.nowhere)
+    | inl follows ↦ gone airs n (Step.Announce sink) earlier (record { hands = λ made. refl; closes = λ s. refl }) (ap place follows.same ∙ follows.nowhere)
     | inr put ↦ inr (inr (record {
       on = machine.by_numbers put.big_sync;
       silent = record { hands = λ made. refl; closes = λ s. refl };
@@ -102,13 +87,12 @@ becomes airs n (steps.Announce sink) earlier ungiven = elim (announced airs n si
     }))
   ]
 ]
-becomes airs n (steps.Train sink time ext adv acad) earlier ungiven = search (stayed, given_stays)
-becomes airs n step earlier ungiven = search (stayed, plain_stays)
+becomes airs n step earlier ungiven = search (kept, same_place, air_place, tick_if_place, end_place, stayed, given_stays, plain_stays)
 
 -- the group's first event is the source's next one
 pub puts_first : Announcing → (airs : Airs) (boxes n : ℕ) (step : Step) (earlier : List Step) → Legal airs boxes earlier → Permitted airs boxes earlier step
     → (puts : Puts airs n step earlier) → puts.on.first ≡ next_in (chosen_steps earlier)
-puts_first laws airs boxes n (steps.Tuned sink which) earlier legal permits puts = ap (λ (t : BigSync). t.first) (sym puts.by.0)
-puts_first laws airs boxes n (steps.Announce sink) earlier legal permits puts =
+puts_first laws airs boxes n (Step.Tuned sink which) earlier legal permits puts = ap (λ (t : BigSync). t.first) (sym puts.by.0)
+puts_first laws airs boxes n (Step.Announce sink) earlier legal permits puts =
     ap (λ (t : BigSync). t.first) (sym puts.by.1 ∙ (as_by_hand laws airs boxes n sink earlier puts.by.0.big_sync legal permits puts.by.0.brings).0)
 puts_first laws airs boxes n _ earlier legal permits puts = absurd puts.by

@@ -1,14 +1,6 @@
 -- The laws of lower crates that the laws of units stand on.
-use Rattle.scenario_laws.proofs.Prelude.{ℕ, ◌≡◌, ◌<◌, ◌≤◌, ◌+◌, ◌++◌, List, [], length, Some, slice_get, Contains, Group, Bounds, pdu, Stay, opened, Air, IsFramedAir, Timed, decided, Sends, Sent, Fit, InOrder, closed_end, handed, Slots, FromSource, Struck, payload_number, AreAirs, airs_of, content_at, pdu_of, Setup, next_of, IsChecked, Call, BigSync, of_stream, stay_on, stream_calls, streams_of}
-use Rattle.isoal_base.specs.Stays as stays
-use Rattle.isoal_framed.specs.Calls.{Call as FramedCall, accepted as timed}
-use Rattle.isoal_framed.specs.Struck.{FromSource as FramedFromSource, struck as struck_over}
-use Rattle.source_machine.specs.Calls.{Call as SourceCall}
-use Rattle.group_sink.specs.Calls.{place}
-use Rattle.group_sink.specs.Handing.{handed_since}
-use Rattle.group_sink.specs.Streams.{closes}
+use Rattle.scenario_laws.proofs.Known.Sources.{ℕ, ◌≡◌, ◌<◌, ◌≤◌, ◌+◌, ◌++◌, List, [], length, Some, slice_get, Contains, Group, Bounds, pdu, Stay, opened, Air, IsFramedAir, Timed, decided, Sends, Sent, Fit, InOrder, closed_end, handed, Slots, FromSource, Struck, payload_number, AreAirs, airs_of, content_at, pdu_of, Setup, next_of, IsChecked, Call, BigSync, of_stream, stay_on, stream_calls, streams_of, FramedCall, accepted as timed, FramedFromSource, struck as struck_over, SourceCall, place, ticked_since as handed_since, closes, LinesInRange, StayCall}
 use Rattle.scenario_laws.proofs.Announced.{Announcing}
-use Rattle.scenario_laws.proofs.Legals.{LinesInRange}
 
 pub record Below : Type 0 where
   -- what a line says is in range
@@ -27,11 +19,11 @@ pub record Below : Type 0 where
       → 1 ≤ bis → bis ≤ group.info.num_bis → subevent < group.info.nse
       → pdu_of setup others event bis subevent ≡ pdu_of setup airs event bis subevent
   -- the units law of a stay in which each PDU heard is the source's own
-  pub struck : (stay : Stay) → (slots : Slots) → (calls : List stays.Call) → Bounds stay.info → stay.info.framing ≡ 0
+  pub struck : (stay : Stay) → (slots : Slots) → (calls : List StayCall) → Bounds stay.info → stay.info.framing ≡ 0
       → ((event : ℕ) → (slot : ℕ) → (unit : List ℕ) → slots event slot ≡ Some unit → length unit ≤ stay.info.max_sdu) → FromSource stay slots calls
       → Struck stay slots calls (handed stay calls)
   -- the framed units law of such a stay
-  pub framed_struck : (stay : Stay) → (units : List Sent) → (laid : ℕ) → (calls : List stays.Call) → 1 ≤ stay.info.bn → InOrder 0 laid units → closed_end stay calls ≤ laid
+  pub framed_struck : (stay : Stay) → (units : List Sent) → (laid : ℕ) → (calls : List StayCall) → 1 ≤ stay.info.bn → InOrder 0 laid units → closed_end stay calls ≤ laid
       → Fit stay.info.max_sdu units → FramedFromSource stay units calls → decided stay calls ≡ struck_over stay units calls
   -- a framed air sends units
   pub sends_units : (group : Group) → (calls : List FramedCall) → (air : Air) → group.info.framing ≡ 1

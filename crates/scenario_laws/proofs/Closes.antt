@@ -1,18 +1,8 @@
 -- The events of a source that a sink closes rise, over all its stays with the source.
-use Rattle.scenario_laws.proofs.Prelude.{ℕ, zero, suc, ◌≡◌, ◌≢◌, ◌<◌, ◌≤◌, ◌+◌, ◌==◌, cond, not, Bool, true, false, List, [], ◌∷◌, ◌++◌, map, Option, None, Some, refl, sym, ap, subst, arith, inl, inr, IsStrictlyIncreasing, cases_Bool, eq-eqb, eqb-true, eqb-false, false≢true, leb-true, or_parts, none-some, same_Some, Call, tune, hear, BigSync, Step, chosen_of, chosen_steps, is_over, steps_of_source, event_back, is_sending, open_event, pdu_in, performed, Airs, heard_on_air, is_of, reaches, sink_calls, source_of, positions_of, ticked, unless_lost, big_sync_on, Closed, closed_by, closed_since, any_since, given_since_made, is_given, is_made, is_tuned}
-use Rattle.delegator_machine.specs.Groups as machine
-use Rattle.group_sink.specs.Calls.{place}
-use Rattle.group_sink.specs.Streams.{closes}
-use Rattle.scenario_text.specs.declared.step.Step.TheVariants as steps
-use Rattle.scenario_laws.specs.Laws.{closed_if}
-use Rattle.scenario_laws.proofs.Announced.{Announcing}
-use Rattle.scenario_laws.proofs.ByHand.{as_by_hand}
-use Rattle.scenario_laws.proofs.Legals.{Legal, Permitted, permitted}
-use Rattle.scenario_laws.proofs.Moves.{StaysBy, announced, given_stays, plain_stays}
-use Rattle.scenario_laws.proofs.Wholes.{next_in, next_rises}
-use Rattle.scenario_laws.proofs.Places.{air_place}
+use Rattle.scenario_laws.proofs.Known.Sources.{ℕ, zero, suc, ◌≡◌, ◌≢◌, ◌<◌, ◌≤◌, ◌+◌, ◌==◌, cond, not, Bool, true, false, List, [], ◌∷◌, ◌++◌, map, Option, None, Some, refl, sym, ap, subst, arith, inl, inr, IsStrictlyIncreasing, cases_Bool, eq-eqb, eqb-true, eqb-false, false≢true, leb-true, or_parts, none-some, same_Some, Call, tune, hear, BigSync, Step, chosen_of, chosen_steps, is_over, steps_of_source, event_back, is_sending, open_event, pdu_in, performed, Airs, heard_on_air, is_of, reaches, sink_calls, source_of, positions_of, ticked, unless_lost, big_sync_on, Closed, closed_by, closed_since, any_since, given_since_made, is_given, is_made, is_tuned, place, closes, closed_if, Legal, Permitted, permitted, StaysBy, announced, given_stays, plain_stays, next_in, next_rises, air_place, end_ticks, event_ticks, is_its}
+use Rattle.scenario_laws.proofs.Announced.{Announcing, as_by_hand}
 use Rattle.scenario_laws.proofs.Stays.{IsOn, begins_calls, begins_next, last_not, on_before, rest_not}
-use Rattle.scenario_laws.proofs.Ticks.{end_ticks, event_ticks, is_its}
+use Rattle.delegator_machine.specs.Groups as machine
 
 -- ---- numbers that rise between two bounds
 
@@ -28,6 +18,10 @@ climb_from low from (x ∷ xs) high least climb = (omega (arith, least, climb.0)
 pub climb_on : (low : ℕ) (xs : List ℕ) (middle : ℕ) (ys : List ℕ) (high : ℕ) → Climb low xs middle → Climb middle ys high → Climb low (xs ++ ys) high
 climb_on low [] middle ys high first rest = climb_from low middle ys high first rest
 climb_on low (x ∷ xs) middle ys high first rest = (first.0, climb_on (x + 1) xs middle ys high first.1 rest)
+
+pub climb_up : (low : ℕ) (xs : List ℕ) (high : ℕ) → Climb low xs high → low ≤ high
+climb_up low [] high climb = climb
+climb_up low (x ∷ xs) high climb = omega (arith, climb.0, climb_up (x + 1) xs high climb.1)
 
 pub climbs : (low : ℕ) (xs : List ℕ) (high : ℕ) → Climb low xs high → IsStrictlyIncreasing xs
 climbs low [] high climb k below = absurd (omega (arith, below))
@@ -129,67 +123,51 @@ stays_move : (airs : Airs) (s n : ℕ) (step : Step) (earlier : List Step) (next
     → Moves (mine_in s n earlier) (sink_calls airs n earlier) (next_in (steps_of_source s earlier)) [] (mine_in s n (step ∷ earlier)) (sink_calls airs n (step ∷ earlier)) next'
 stays_move airs s n step earlier next' stays more within = grind (arith, stay_moves, off_moves, sink_calls, next_in, steps_of_source, is_of)
 
-announced_moves : Announcing → (airs : Airs) (boxes s n sink : ℕ) (earlier : List Step) (next' : ℕ) → Legal airs boxes earlier → Permitted airs boxes earlier (steps.Announce sink)
+announced_moves : Announcing → (airs : Airs) (boxes s n sink : ℕ) (earlier : List Step) (next' : ℕ) → Legal airs boxes earlier → Permitted airs boxes earlier (Step.Announce sink)
     → next_in (steps_of_source s earlier) ≤ next' → its_prefix airs s n earlier ≤ next_in (steps_of_source s earlier)
     → Moves (mine_in s n earlier) (sink_calls airs n earlier) (next_in (steps_of_source s earlier)) []
-    (mine_in s n (steps.Announce sink ∷ earlier)) (sink_calls airs n (steps.Announce sink ∷ earlier)) next'
+    (mine_in s n (Step.Announce sink ∷ earlier)) (sink_calls airs n (Step.Announce sink ∷ earlier)) next'
 announced_moves laws airs boxes s n sink earlier next' legal permits more within = elim (announced airs n sink earlier) [
-  | inl stays ↦ stays_move airs s n (steps.Announce sink) earlier next' stays more within
+  | inl stays ↦ stays_move airs s n (Step.Announce sink) earlier next' stays more within
   | inr goes ↦ elim goes [
     | inl follows ↦ grind (arith, off_moves, sink_calls, next_in, steps_of_source)
     | inr put ↦
         let on : BigSync = machine.by_numbers put.big_sync in
         let first_is : on.first ≡ next_in (chosen_steps earlier) = ap (λ (t : BigSync). t.first) (as_by_hand laws airs boxes n sink earlier put.big_sync legal permits put.brings).0 in
-        subst (λ calls. Moves (mine_in s n earlier) (sink_calls airs n earlier) (next_in (steps_of_source s earlier)) [] (mine_in s n (steps.Announce sink ∷ earlier)) calls next') (sym put.calls_is)
+        subst (λ calls. Moves (mine_in s n earlier) (sink_calls airs n earlier) (next_in (steps_of_source s earlier)) [] (mine_in s n (Step.Announce sink ∷ earlier)) calls next') (sym put.calls_is)
         (subst (λ source. Moves (mine_in s n earlier) (sink_calls airs n earlier) (next_in (steps_of_source s earlier)) [] (is_of s source) (tune on ∷ sink_calls airs n earlier) next')
         (sym put.source_is)
         (grind (arith, on_moves, chosen_of, sink_calls, next_in, steps_of_source, eqb-true)))
   ]
 ]
 
+event_moves : (airs : Airs) (s n : ℕ) (earlier : List Step) (next' : ℕ) → next_in (steps_of_source s earlier) ≤ next' → its_prefix airs s n earlier ≤ next_in (steps_of_source s earlier)
+    → Moves (mine_in s n earlier) (sink_calls airs n earlier) (next_in (steps_of_source s earlier)) (closed_by airs s n earlier Step.Event)
+    (mine_in s n earlier) (sink_calls airs n (Step.Event ∷ earlier)) next'
+event_moves airs s n earlier next' more within =
+    close_moves (mine_in s n earlier) (chosen_of earlier == s) (open_event (steps_of_source s earlier)) (sink_calls airs n earlier) _ (next_in (steps_of_source s earlier)) next'
+    (open_before (steps_of_source s earlier)) more within
+    (λ mine. event_ticks (chosen_of earlier) s (λ t. open_event (steps_of_source t earlier)) (sink_calls airs n earlier) (source_of n earlier) (is_its s (source_of n earlier) mine))
+
 pub moves_by : Announcing → (airs : Airs) (boxes s n : ℕ) (step : Step) (earlier : List Step) (next' : ℕ) → Legal airs boxes earlier → Permitted airs boxes earlier step
     → is_given n step ≡ false → s ≤ 1 → next_in (steps_of_source s earlier) ≤ next' → its_prefix airs s n earlier ≤ next_in (steps_of_source s earlier)
     → Moves (mine_in s n earlier) (sink_calls airs n earlier) (next_in (steps_of_source s earlier)) (closed_by airs s n earlier step)
     (mine_in s n (step ∷ earlier)) (sink_calls airs n (step ∷ earlier)) next'
-moves_by laws airs boxes s n (steps.Sink sink streams slots mtu) earlier next' legal permits ungiven least more within =
-    gone_moves s (sink == n) (sink_calls airs n earlier) (source_of n earlier) (next_in (steps_of_source s earlier)) next' more within
-moves_by laws airs boxes s n (steps.Drop sink) earlier next' legal permits ungiven least more within =
-    gone_moves s (sink == n) (sink_calls airs n earlier) (source_of n earlier) (next_in (steps_of_source s earlier)) next' more within
-moves_by laws airs boxes s n (steps.Tuned sink which) earlier next' legal permits ungiven least more within =
+moves_by laws airs boxes s n (Step.Tuned sink which) earlier next' legal permits ungiven least more within =
     put_moves s (sink == n) (big_sync_on (chosen_steps earlier) which) (chosen_of earlier) (sink_calls airs n earlier) (source_of n earlier) (next_in (steps_of_source s earlier)) next' more
     (λ same. ap (λ t. next_in (steps_of_source t earlier)) (eqb-true (chosen_of earlier) s same)) within
-moves_by laws airs boxes s n (steps.Hear sink back bis subevent) earlier next' legal permits ungiven least more within =
-    more_moves (mine_in s n earlier) (reaches sink n earlier)
-    (hear (event_back (chosen_steps earlier) back) bis subevent (pdu_in airs (chosen_steps earlier) (event_back (chosen_steps earlier) back) bis subevent) ∷ sink_calls airs n earlier)
-    (sink_calls airs n earlier) (next_in (steps_of_source s earlier)) next' more refl (λ tuning. refl) within
-moves_by laws airs boxes s n (steps.Air sink lose) earlier next' legal permits ungiven least more within =
+moves_by laws airs boxes s n (Step.Air sink lose) earlier next' legal permits ungiven least more within =
     more_moves (mine_in s n earlier) (reaches sink n earlier) (heard_on_air airs (chosen_steps earlier) lose (positions_of (chosen_steps earlier)) (sink_calls airs n earlier))
     (sink_calls airs n earlier) (next_in (steps_of_source s earlier)) next' more
     (air_place airs (chosen_steps earlier) lose (positions_of (chosen_steps earlier)) (sink_calls airs n earlier))
     (air_closes airs (chosen_steps earlier) lose (positions_of (chosen_steps earlier)) (sink_calls airs n earlier)) within
-moves_by laws airs boxes s n (steps.Inject sink back bis subevent octets) earlier next' legal permits ungiven least more within =
-    more_moves (mine_in s n earlier) (reaches sink n earlier) (hear (event_back (chosen_steps earlier) back) bis subevent octets ∷ sink_calls airs n earlier)
-    (sink_calls airs n earlier) (next_in (steps_of_source s earlier)) next' more refl (λ tuning. refl) within
-moves_by laws airs boxes s n steps.Event earlier next' legal permits ungiven least more within =
-    close_moves (mine_in s n earlier) (chosen_of earlier == s) (open_event (steps_of_source s earlier)) (sink_calls airs n earlier) _ (next_in (steps_of_source s earlier)) next'
-    (open_before (steps_of_source s earlier)) more within
-    (λ mine. event_ticks (chosen_of earlier) s (λ t. open_event (steps_of_source t earlier)) (sink_calls airs n earlier) (source_of n earlier) (is_its s (source_of n earlier) mine))
-moves_by laws airs boxes s n steps.Stop earlier next' legal permits ungiven least more within =
-    close_moves (mine_in s n earlier) (chosen_of earlier == s) (open_event (steps_of_source s earlier)) (sink_calls airs n earlier) _ (next_in (steps_of_source s earlier)) next'
-    (open_before (steps_of_source s earlier)) more within
-    (λ mine. event_ticks (chosen_of earlier) s (λ t. open_event (steps_of_source t earlier)) (sink_calls airs n earlier) (source_of n earlier) (is_its s (source_of n earlier) mine))
-moves_by laws airs boxes s n (steps.Terminate reason) earlier next' legal permits ungiven least more within =
-    close_moves (mine_in s n earlier) (chosen_of earlier == s) (open_event (steps_of_source s earlier)) (sink_calls airs n earlier) _ (next_in (steps_of_source s earlier)) next'
-    (open_before (steps_of_source s earlier)) more within
-    (λ mine. event_ticks (chosen_of earlier) s (λ t. open_event (steps_of_source t earlier)) (sink_calls airs n earlier) (source_of n earlier) (is_its s (source_of n earlier) mine))
-moves_by laws airs boxes s n steps.End earlier next' legal permits ungiven least more within =
+moves_by laws airs boxes s n Step.End earlier next' legal permits ungiven least more within =
     close_moves (mine_in s n earlier) true (open_event (steps_of_source s earlier)) (sink_calls airs n earlier) _ (next_in (steps_of_source s earlier)) next'
     (open_before (steps_of_source s earlier)) more within
     (λ mine. end_ticks s (λ t. open_event (steps_of_source t earlier)) (sink_calls airs n earlier) (source_of n earlier) least (is_its s (source_of n earlier) mine))
-moves_by laws airs boxes s n (steps.Announce sink) earlier next' legal permits ungiven least more within = announced_moves laws airs boxes s n sink earlier next' legal permits more within
-moves_by laws airs boxes s n (steps.Train sink time ext adv acad) earlier next' legal permits ungiven least more within =
-    stays_move airs s n (steps.Train sink time ext adv acad) earlier next' (given_stays airs n sink time ext adv acad earlier ungiven) more within
-moves_by laws airs boxes s n step earlier next' legal permits ungiven least more within = stays_move airs s n step earlier next' (plain_stays airs n step earlier refl refl refl refl) more within
+moves_by laws airs boxes s n (Step.Announce sink) earlier next' legal permits ungiven least more within = announced_moves laws airs boxes s n sink earlier next' legal permits more within
+moves_by laws airs boxes s n step earlier next' legal permits ungiven least more within =
+    search (gone_moves, more_moves, event_moves airs s n earlier next' more within, stays_move, given_stays, plain_stays)
 
 -- ---- all events that a sink closed
 

@@ -1,12 +1,7 @@
 -- Of all that is handed up by a step, what is of one sink and one source.
-use Rattle.scenario_laws.proofs.Prelude.{ℕ, zero, suc, ◌≡◌, ◌≢◌, ◌≤◌, ◌+◌, ◌==◌, ◌&&◌, cond, eqb, not, Bool, true, false, List, [], ◌∷◌, ◌++◌, map, Option, None, Some, refl, ◌∙◌, ap, arith, inl, inr, is_some, flat_map, range_with_len, cases_eq, cond-false, cond-true, eq-eqb, ne_eqb, eqb-true, false≢true, and_right, and_left, not-false, append-nil, map-append, filter-append, none-some, Handed, Call, handed_at, Step, NoSuchSink, Settings, made_of, chosen_of, sinks_made, steps_of_source, open_event, Airs, is_of, sink_calls, source_of, with_sink_call, SinkUnit, box_after, box_of, closing_at, closing_by, closing_in, handed_by, no_sink, of_sink}
-use Rattle.group_sink.specs.Calls.{place}
-use Rattle.scenario_text.specs.declared.step.Step.TheVariants as steps
-use Rattle.scenario_history.specs.Boxes.{closing, sink_numbers}
-use Rattle.scenario_laws.proofs.Legals.{Legal, Permitted, fails_not, permitted}
-use Rattle.scenario_laws.proofs.Moves.{unmoved}
-use Rattle.scenario_laws.proofs.RelayedUnits.Citable.{flat_one}
-use Rattle.scenario_laws.proofs.Places.{air_place, end_place, same_place, tick_if_place}
+use Rattle.scenario_laws.proofs.Known.Sources.Steps.{ℕ, zero, suc, ◌≡◌, ◌≢◌, ◌≤◌, ◌+◌, ◌==◌, ◌&&◌, cond, eqb, not, Bool, true, false, List, [], ◌∷◌, ◌++◌, map, Option, None, Some, refl, ◌∙◌, ap, arith, inl, inr, is_some, flat_map, range_with_len, cases_eq, cond-false, cond-true, eq-eqb, ne_eqb, eqb-true, false≢true, and_right, and_left, not-false, append-nil, map-append, filter-append, none-some, Handed, Call, handed_at, Step, NoSuchSink, Settings, made_of, chosen_of, sinks_made, steps_of_source, open_event, Airs, is_of, sink_calls, source_of, with_sink_call, SinkUnit, box_after, box_of, closing_at, closing_by, closing_in, handed_by, no_sink, of_sink, place, closing, sink_numbers, Permitted, fails_not, permitted, unmoved, air_place, end_place, same_place, tick_if_place}
+use Rattle.scenario_laws.proofs.Legals.{Legal}
+use Rattle.scenario_laws.proofs.RelayedUnits.Offered.{flat_one}
 
 -- ---- a sink that is on a group has a box
 
@@ -27,8 +22,8 @@ made_anew again count anew box made before none = grind (arith, none-some)
 -- a sink without a box doesn't live
 unmade : (n : ℕ) (made : List Step) → box_of n made ≡ None → made_of n made ≡ None
 unmade n [] none = refl
-unmade n (steps.Sink sink streams slots mtu ∷ earlier) none = made_anew (sink == n) (sinks_made earlier) _ (box_of n earlier) (made_of n earlier) (unmade n earlier) none
-unmade n (steps.Drop sink ∷ earlier) none = made_as (sink == n) (box_of n earlier) (made_of n earlier) (unmade n earlier) none
+unmade n (Step.Sink sink streams slots mtu ∷ earlier) none = made_anew (sink == n) (sinks_made earlier) _ (box_of n earlier) (made_of n earlier) (unmade n earlier) none
+unmade n (Step.Drop sink ∷ earlier) none = made_as (sink == n) (box_of n earlier) (made_of n earlier) (unmade n earlier) none
 unmade n (_ ∷ earlier) none = unmade n earlier none
 
 has_box : (sink : ℕ) (earlier : List Step) → no_sink sink earlier ≡ None → is_some (box_of sink earlier) ≡ true
@@ -102,10 +97,10 @@ abbrev pub shown_with : Airs → ℕ → ℕ → List Step → List Handed
 shown_with airs s n earlier = shown_if (is_of s (source_of n earlier)) (sink_calls airs n earlier) (open_event (steps_of_source s earlier))
 
 abbrev pub shown_by : Airs → ℕ → ℕ → List Step → Step → List Handed
-shown_by airs s n earlier steps.Event = cond (chosen_of earlier == s) (shown_with airs s n earlier) []
-shown_by airs s n earlier steps.Stop = cond (chosen_of earlier == s) (shown_with airs s n earlier) []
-shown_by airs s n earlier (steps.Terminate reason) = cond (chosen_of earlier == s) (shown_with airs s n earlier) []
-shown_by airs s n earlier steps.End = shown_with airs s n earlier
+shown_by airs s n earlier Step.Event = cond (chosen_of earlier == s) (shown_with airs s n earlier) []
+shown_by airs s n earlier Step.Stop = cond (chosen_of earlier == s) (shown_with airs s n earlier) []
+shown_by airs s n earlier (Step.Terminate reason) = cond (chosen_of earlier == s) (shown_with airs s n earlier) []
+shown_by airs s n earlier Step.End = shown_with airs s n earlier
 shown_by airs s n earlier _ = []
 
 cond_same : (units : List Handed) (b : Bool) → cond b units units ≡ units
@@ -128,14 +123,11 @@ both_shown s shown least = grind (arith, append-nil)
 
 pub step_shown : (airs : Airs) (boxes s n : ℕ) (step : Step) (earlier : List Step) → Legal airs boxes earlier → s ≤ 1 → n ≤ 7
     → of_sink s n (handed_by airs earlier step) ≡ shown_by airs s n earlier step
-step_shown airs boxes s n steps.Event earlier legal least within = closing_shown airs boxes s (chosen_of earlier) n earlier legal within
-step_shown airs boxes s n steps.Stop earlier legal least within = closing_shown airs boxes s (chosen_of earlier) n earlier legal within
-step_shown airs boxes s n (steps.Terminate reason) earlier legal least within = closing_shown airs boxes s (chosen_of earlier) n earlier legal within
-step_shown airs boxes s n steps.End earlier legal least within =
+step_shown airs boxes s n Step.End earlier legal least within =
     cc (
       of_sink_on s n (closing airs 0 earlier) (closing airs 1 earlier),
       closing_shown airs boxes s 0 n earlier legal within,
       closing_shown airs boxes s 1 n earlier legal within,
       both_shown s (shown_with airs s n earlier) least,
     )
-step_shown airs boxes s n _ earlier legal least within = refl
+step_shown airs boxes s n step earlier legal least within = search (closing_shown airs boxes s (chosen_of earlier) n earlier legal within)

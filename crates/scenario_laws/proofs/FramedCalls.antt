@@ -1,9 +1,6 @@
 -- What a source of a framed group lays: how many events, with which anchors, and that its units fit Max_SDU.
-use Rattle.scenario_laws.proofs.Prelude.{ℕ, zero, suc, ◌≡◌, ◌⊎◌, ◌<◌, ◌≤◌, ◌+◌, ◌*◌, ◌==◌, cond, ltb, Bool, true, List, [], ◌∷◌, ◌++◌, length, Some, refl, sym, ◌∙◌, ap, subst, arith, inl, inr, slice_get, unwrap_or, AllByRecursion, add-mul, cases_eq, cond-false, eq-eqb, eqb-true, ltb-false, ne_eqb, length-append, none-some, same_Some, BigInfo, horizon_of, iso_us_of, Air, IsAirOf, IsFramedAir, Laying, Timed, accept, accepted, layings_of, Setup, give, event, events, framed_calls, framed_lays, laid_before, laid_with, lay_anchor, timed_accepted, Airs, AreAccepted}
-use Rattle.isoal_framed.specs.Calls.{Call as FramedCall, lay}
+use Rattle.scenario_laws.proofs.Known.Sources.Steps.{ℕ, zero, suc, ◌≡◌, ◌⊎◌, ◌<◌, ◌≤◌, ◌+◌, ◌*◌, ◌==◌, cond, ltb, Bool, true, List, [], ◌∷◌, ◌++◌, length, Some, refl, sym, ◌∙◌, ap, subst, arith, inl, inr, slice_get, unwrap_or, AllByRecursion, add-mul, cases_eq, cond-false, eq-eqb, eqb-true, ltb-false, ne_eqb, length-append, none-some, same_Some, BigInfo, horizon_of, iso_us_of, Air, IsAirOf, IsFramedAir, Laying, Timed, accept, accepted, layings_of, Setup, give, event, events, framed_calls, framed_lays, laid_before, laid_with, lay_anchor, timed_accepted, Airs, AreAccepted, FramedCall, framed_lay as lay, SourceCall as Call, second_false}
 use Rattle.isoal_framed.specs.Places.{Act}
-use Rattle.source_machine.specs.Calls.{Call}
-use Rattle.scenario_laws.proofs.RelayedUnits.Citable.{second_false}
 
 -- ---- the events laid, by their anchors
 

@@ -1,13 +1,6 @@
 -- Each PDU that a sink hears on a stream of its group is the source's own at its payload number, where none is injected.
-use Rattle.scenario_laws.proofs.Prelude.{ℕ, zero, suc, ◌≡◌, ◌≢◌, ◌<◌, ◌≤◌, ◌+◌, ◌*◌, ◌/◌, ◌%◌, ◌&&◌, ◌||◌, ◌==◌, cond, ltb, leb, Bool, true, false, List, [], ◌∷◌, Option, None, Some, refl, sym, ◌∙◌, ap, subst, arith, inl, inr, AllByRecursion, div-lt_iff_lt-mul, and_parts, eqb-true, eqb-false, ltb-false, leb-false, false≢true, mod_below, none-some, Bounds, Content, pdu, laid, payload_number, AreAirs, Airs, Setup, events, next_of, air_fault, Call, tune, hear, BigSync, stay_on, stream_calls, Step, NotOnAir, chosen_of, chosen_steps, steps_of_source, setup_of, source_calls, performed, event_back, is_started, pdu_in, open_event, MeetAirs, position_at, is_lost, is_of, hear_at, unless_lost, heard_on_air, reaches, sink_calls, source_of, positions_of, ticked_if, big_sync_on, air_refusal, no_place, injected_since, is_injected, is_tuned}
-use Rattle.isoal_base.specs.Stays as stays
-use Rattle.source_machine.specs.Calls.{Call as SourceCall}
-use Rattle.scenario_text.specs.declared.step.Step.TheVariants as steps
+use Rattle.scenario_laws.proofs.Known.Sources.{ℕ, zero, suc, ◌≡◌, ◌≢◌, ◌<◌, ◌≤◌, ◌+◌, ◌*◌, ◌/◌, ◌%◌, ◌&&◌, ◌||◌, ◌==◌, cond, ltb, leb, Bool, true, false, List, [], ◌∷◌, Option, None, Some, refl, sym, ◌∙◌, ap, subst, arith, inl, inr, AllByRecursion, div-lt_iff_lt-mul, and_parts, eqb-true, eqb-false, ltb-false, leb-false, false≢true, mod_below, none-some, Bounds, Content, pdu, laid, payload_number, AreAirs, Airs, Setup, events, next_of, air_fault, Call, tune, hear, BigSync, stay_on, stream_calls, Step, NotOnAir, chosen_of, chosen_steps, steps_of_source, setup_of, source_calls, performed, event_back, is_started, pdu_in, open_event, MeetAirs, position_at, is_lost, is_of, hear_at, unless_lost, heard_on_air, reaches, sink_calls, source_of, positions_of, ticked_if, big_sync_on, air_refusal, no_place, injected_since, is_injected, is_tuned, SourceCall, Legal, Permitted, fails_not, maps_none, permitted, Lawful, are_accepted, bounds_in, group_in, lawful, settled, Within, within_before, StaysBy, announced, given_stays, plain_stays, StayCall}
 use Rattle.scenario_laws.proofs.Announced.{Announcing}
-use Rattle.scenario_laws.proofs.Legals.{Legal, Permitted, fails_not, maps_none, permitted}
-use Rattle.scenario_laws.proofs.Sources.{Lawful, are_accepted, bounds_in, group_in, lawful, settled}
-use Rattle.scenario_laws.proofs.Wholes.{Within, within_before}
-use Rattle.scenario_laws.proofs.Moves.{StaysBy, announced, given_stays, plain_stays}
 use Rattle.scenario_laws.proofs.Stays.{BeginsBy, IsOn, OnSource, begins_calls, last_not, on_before, on_source, rest_not}
 
 -- each PDU of a stream that these steps of a source sent is the source's own, by what it lays at each number
@@ -24,9 +17,9 @@ its_airs airs meets own legal started =
 -- ---- what a stay takes
 
 -- the call is no hear, or hears the source's own PDU, by what the source lays at each number
-abbrev pub Own : (ℕ → Content) → stays.Call → Type 0
-Own laid (stays.hear number octets) = octets ≡ pdu (laid number)
-Own laid stays.close = Unit {0}
+abbrev pub Own : (ℕ → Content) → StayCall → Type 0
+Own laid (StayCall.hear number octets) = octets ≡ pdu (laid number)
+Own laid StayCall.close = Unit {0}
 
 abbrev pub AllOwn : (ℕ → Content) → BigSync → ℕ → List Call → Type 0
 AllOwn laid tuning bis calls = AllByRecursion (Own laid) (stream_calls (stay_on tuning bis) calls)
@@ -115,40 +108,30 @@ own_after : (airs : Airs) (laid : ℕ → Content) (tuning : BigSync) (boxes s n
     → Permitted airs boxes earlier step → 1 ≤ bis → source_of n earlier ≡ Some s → cond (is_tuned n earlier step) (is_injected n step) (is_injected n step || injected) ≡ false
     → (injected ≡ false → Ready airs laid tuning bis (steps_of_source s earlier) (sink_calls airs n earlier))
     → AllOwn laid tuning bis (sink_calls airs n (step ∷ earlier))
-own_after airs laid tuning boxes s n bis (steps.Sink sink streams slots mtu) earlier injected permits least there clean ready =
-    gone_own laid tuning bis (sink == n) (sink_calls airs n earlier) (ready clean).all
-own_after airs laid tuning boxes s n bis (steps.Drop sink) earlier injected permits least there clean ready =
-    gone_own laid tuning bis (sink == n) (sink_calls airs n earlier) (ready clean).all
-own_after airs laid tuning boxes s n bis (steps.Tuned sink which) earlier injected permits least there clean ready =
+own_after airs laid tuning boxes s n bis (Step.Tuned sink which) earlier injected permits least there clean ready =
     put_own laid tuning bis (sink == n) injected (big_sync_on (chosen_steps earlier) which) (sink_calls airs n earlier) clean (λ none. (ready none).all)
-own_after airs laid tuning boxes s n bis (steps.Hear sink back stream subevent) earlier injected permits least there clean ready =
+own_after airs laid tuning boxes s n bis (Step.Hear sink back stream subevent) earlier injected permits least there clean ready =
     let at : OnAir (chosen_steps earlier) back stream subevent = on_air (chosen_steps earlier) back stream subevent permits.by_source in
     mine_own laid tuning bis (reaches sink n earlier) _ (sink_calls airs n earlier) (ready clean).all
     (λ mine. let now = sent_by airs laid tuning bis s n sink earlier (sink_calls airs n earlier) there mine (ready clean) in
     hear_own laid tuning bis (event_back (chosen_steps earlier) back) stream subevent _ (sink_calls airs n earlier) now.all
     (place_own airs laid tuning (chosen_steps earlier) bis back stream subevent now.sent least at.stream at.subevent_below at.performed_then))
-own_after airs laid tuning boxes s n bis (steps.Air sink lose) earlier injected permits least there clean ready =
+own_after airs laid tuning boxes s n bis (Step.Air sink lose) earlier injected permits least there clean ready =
     let some : (performed (chosen_steps earlier) == 0) ≡ false = fails_not (performed (chosen_steps earlier) == 0) NotOnAir permits.by_source in
     let near : performed (chosen_steps earlier) ≢ 0 = eqb-false (performed (chosen_steps earlier)) 0 some in
     mine_own laid tuning bis (reaches sink n earlier) (heard_on_air airs (chosen_steps earlier) lose (positions_of (chosen_steps earlier)) (sink_calls airs n earlier)) (sink_calls airs n earlier)
     (ready clean).all
     (λ mine. let now = sent_by airs laid tuning bis s n sink earlier (sink_calls airs n earlier) there mine (ready clean) in
     air_own airs laid tuning (chosen_steps earlier) bis lose (positions_of (chosen_steps earlier)) (sink_calls airs n earlier) now.sent least now.bounds.nse (omega (arith, near)) (omega arith) now.all)
-own_after airs laid tuning boxes s n bis (steps.Inject sink back stream subevent octets) earlier injected permits least there clean ready = grind (arith, inject_own, laid, is_of, chosen_of, source_of, hear, event_back, chosen_steps, sink_calls)
-own_after airs laid tuning boxes s n bis steps.Event earlier injected permits least there clean ready =
-    tick_if_own laid tuning bis (is_of (chosen_of earlier) (source_of n earlier)) (open_event (chosen_steps earlier)) (sink_calls airs n earlier) (ready clean).all
-own_after airs laid tuning boxes s n bis steps.Stop earlier injected permits least there clean ready =
-    tick_if_own laid tuning bis (is_of (chosen_of earlier) (source_of n earlier)) (open_event (chosen_steps earlier)) (sink_calls airs n earlier) (ready clean).all
-own_after airs laid tuning boxes s n bis (steps.Terminate reason) earlier injected permits least there clean ready =
-    tick_if_own laid tuning bis (is_of (chosen_of earlier) (source_of n earlier)) (open_event (chosen_steps earlier)) (sink_calls airs n earlier) (ready clean).all
-own_after airs laid tuning boxes s n bis steps.End earlier injected permits least there clean ready =
+own_after airs laid tuning boxes s n bis (Step.Inject sink back stream subevent octets) earlier injected permits least there clean ready = grind (arith, inject_own, laid, is_of, chosen_of, source_of, hear, event_back, chosen_steps, sink_calls)
+own_after airs laid tuning boxes s n bis Step.End earlier injected permits least there clean ready =
     tick_if_own laid tuning bis (is_of 1 (source_of n earlier)) (open_event (steps_of_source 1 earlier))
     (ticked_if (is_of 0 (source_of n earlier)) (open_event (steps_of_source 0 earlier)) (sink_calls airs n earlier))
     (tick_if_own laid tuning bis (is_of 0 (source_of n earlier)) (open_event (steps_of_source 0 earlier)) (sink_calls airs n earlier) (ready clean).all)
-own_after airs laid tuning boxes s n bis (steps.Announce sink) earlier injected permits least there clean ready = grind (arith, announced, stays_own, laid, rest_not, is_tuned)
-own_after airs laid tuning boxes s n bis (steps.Train sink time ext adv acad) earlier injected permits least there clean ready = grind (arith, stays_own, laid, given_stays, last_not, is_tuned)
+own_after airs laid tuning boxes s n bis (Step.Announce sink) earlier injected permits least there clean ready = grind (arith, announced, stays_own, laid, rest_not, is_tuned)
+own_after airs laid tuning boxes s n bis (Step.Train sink time ext adv acad) earlier injected permits least there clean ready = grind (arith, stays_own, laid, given_stays, last_not, is_tuned)
 own_after airs laid tuning boxes s n bis step earlier injected permits least there clean ready =
-    stays_own airs laid tuning n bis step earlier injected clean (plain_stays airs n step earlier refl refl refl refl) (λ none. (ready none).all)
+    search (gone_own, tick_if_own, (ready clean).all, stays_own, plain_stays)
 
 begins_own : (airs : Airs) (laid : ℕ → Content) (s n bis : ℕ) (step : Step) (earlier : List Step) (tuning : BigSync) → BeginsBy airs s n step earlier tuning
     → AllOwn laid tuning bis (sink_calls airs n (step ∷ earlier))

@@ -1,12 +1,8 @@
 -- The history of a sink of any lines: what its links write is octets, and it has at most eight slots.
-use Rattle.scenario_laws.proofs.Prelude.{ℕ, zero, suc, ◌≡◌, ◌<◌, ◌==◌, cond, Bool, List, [], ◌∷◌, Option, Some, arith, AllByRecursion, append-nil, none-some, TextLine, encoding, born, repeated, AreOctets, IsAsked, Step, IsInRange, Settings, World, history_of, calls_after, calls_at, made_by, made_of, named_by, a_step, nothing, unsaid, with_said}
+use Rattle.scenario_laws.proofs.Known.Sources.Steps.Prelude.{ℕ, zero, suc, ◌≡◌, ◌<◌, ◌==◌, cond, Bool, List, [], ◌∷◌, Option, Some, arith, AllByRecursion, append-nil, none-some, TextLine, encoding, born, repeated, AreOctets, IsAsked, Step, IsInRange, Settings, World, history_of, calls_after, calls_at, made_by, made_of, named_by, a_step, nothing, unsaid, with_said, LinkCall as Call, nil_octets, cons_octets, Said, said_of}
 use Rattle.bcast_base.specs.Encoding.{IsOctets}
-use Rattle.bass_operations.specs.declared.operation.Operation.TheVariants as operations
-use Rattle.sink_history.specs.Calls.{Call}
-use Rattle.scenario_text.specs.declared.step.Step.TheVariants as steps
-use Rattle.scenario_text.proofs.Citable.{nil_octets, cons_octets}
-use Rattle.scenario_history.specs.Lines.{Said, said_of}
 use Rattle.scenario_laws.proofs.Legals.{InRange, LinesInRange, in_range}
+use Rattle.bass_operations.specs.declared.operation.Operation.TheVariants as operations
 
 -- ---- steps of lines
 
@@ -15,8 +11,7 @@ Ranged steps = AllByRecursion IsInRange steps
 
 ranged_said : (earlier : List Step) (said : Said) → Ranged earlier → InRange said → Ranged (with_said said earlier)
 ranged_said earlier (a_step this) before ranged = (ranged, before)
-ranged_said earlier nothing before ranged = before
-ranged_said earlier (unsaid reason) before ranged = before
+ranged_said earlier said before ranged = search
 
 pub ranged_lines : LinesInRange → (lines : List TextLine) → Ranged (said_of lines)
 ranged_lines ranged [] = tt
@@ -57,7 +52,7 @@ octets_at world n named step earlier made calls ranged before = grind (arith, oc
 
 octets_called : (world : World) (n : ℕ) (step : Step) (earlier : List Step) (made : Option Settings) (calls : List Call) → IsInRange step
     → AreOctets calls → AreOctets (calls_after world n step earlier made calls)
-octets_called world n (steps.Sink sink streams slots mtu) earlier made calls ranged before = octets_if (sink == n) (born mtu) calls (octets_born mtu) before
+octets_called world n (Step.Sink sink streams slots mtu) earlier made calls ranged before = octets_if (sink == n) (born mtu) calls (octets_born mtu) before
 octets_called world n step earlier made calls ranged before = octets_at world n (named_by step) step earlier made calls ranged before
 
 pub history_octets : (world : World) (n : ℕ) (steps : List Step) → Ranged steps → AreOctets (history_of world n steps)

@@ -1,22 +1,7 @@
 -- The valid units that a sink hands up of a source are units that the source accepted, in order.
-use Rattle.scenario_laws.proofs.Prelude.{ℕ, ◌≡◌, ◌<◌, ◌≤◌, ◌+◌, ◌==◌, cond, leb, Bool, true, false, List, [], ◌∷◌, ◌++◌, length, map, Option, None, Some, refl, sym, ◌∙◌, ap, subst, arith, inl, inr, eq-eqb, cases_Bool, leb-true, false≢true, append-nil, filter-append, BigInfo, Handed, slots_of, Airs, Setup, events, Call, tick, BigSync, handed_at, of_stream, is_in, stay_on, stream_calls, is_member, member_is, Step, chosen_of, steps_of_source, setup_of, source_calls, open_event, MeetAirs, is_of, sink_calls, source_of, ticked, SinkUnit, handed_by, closed_by, given_since_made, handed_since, injected_since, is_given, is_injected, is_made, is_tuned, of_sink, shown_since, InSourceOrder, valid_in}
-use Rattle.isoal_unframed.specs.Calls.{events as laid_events}
-use Rattle.isoal_unframed.specs.Histories.{units_of}
-use Rattle.source_machine.specs.Calls.{Call as SourceCall, stream_calls as source_stream}
-use Rattle.group_sink.specs.Calls.{place}
-use Rattle.group_sink.specs.Streams.{closes}
-use Rattle.scenario_text.specs.declared.step.Step.TheVariants as steps
-use Rattle.scenario_laws.proofs.Announced.{Announcing}
-use Rattle.scenario_laws.proofs.Below.{Below}
-use Rattle.scenario_laws.proofs.Legals.{Legal, legal}
-use Rattle.scenario_laws.proofs.Sources.{lawful, true_not_false}
-use Rattle.scenario_laws.proofs.Wholes.{Within, events_more, next_in, next_rises, within_before, within_itself}
-use Rattle.scenario_laws.proofs.Stays.{IsOn, OnSource, TunedTo, last_not, not_in_stay, on_since_made, on_source, rest_not}
+use Rattle.scenario_laws.proofs.Known.{ℕ, ◌≡◌, ◌<◌, ◌≤◌, ◌+◌, ◌==◌, cond, leb, Bool, true, false, List, [], ◌∷◌, ◌++◌, length, map, Option, None, Some, refl, sym, ◌∙◌, ap, subst, arith, inl, inr, eq-eqb, cases_Bool, leb-true, false≢true, append-nil, filter-append, BigInfo, Handed, slots_of, Airs, Setup, events, Call, tick, BigSync, handed_at, of_stream, is_in, stay_on, stream_calls, is_member, member_is, Step, chosen_of, steps_of_source, setup_of, source_calls, open_event, MeetAirs, is_of, sink_calls, source_of, ticked, SinkUnit, handed_by, closed_by, given_since_made, handed_since, injected_since, is_given, is_injected, is_made, is_tuned, of_sink, shown_since, InSourceOrder, valid_in, laid_events, unframed_units_of as units_of, SourceCall, source_stream, place, closes, Announcing, Below, Legal, legal, lawful, true_not_false, Within, events_more, next_in, next_rises, within_before, within_itself, IsOn, OnSource, TunedTo, last_not, not_in_stay, on_since_made, on_source, rest_not, handed_open, shown_by, shown_if, step_shown, end_ticks, event_ticks, is_its, Climb, climbs, event_of, prefix, prefix_of, its_prefix, mine_in, open_before, on_whole, shown_on, tick_hands, tick_others, climb_up}
 use Rattle.scenario_laws.proofs.UnitsLaw.{slot_short}
-use Rattle.scenario_laws.proofs.Closings.{handed_open, shown_by, shown_if, step_shown}
-use Rattle.scenario_laws.proofs.Ticks.{end_ticks, event_ticks, is_its}
-use Rattle.scenario_laws.proofs.Closes.{Climb, climbs, closing, event_of, prefix, prefix_of, its_prefix, mine_in, moved, open_before}
-use Rattle.scenario_laws.proofs.Shown.{on_whole, shown_on, tick_hands, tick_others}
+use Rattle.scenario_laws.proofs.Closes.{closing, moved}
 use Rattle.scenario_laws.proofs.Numbers.{laid_least, Ordered, ordered_none, ordered_later, ordered_more, close_batch}
 
 -- ---- no PDU was injected into the sink
@@ -29,10 +14,6 @@ clean_stay airs s n made tuning is ungiven clean = not_in_stay (is_injected n) a
 
 abbrev Fits : Setup → List SourceCall → ℕ → Type 0
 Fits setup whole bis = (event : ℕ) → (slot : ℕ) → (unit : List ℕ) → slots_of setup whole bis event slot ≡ Some unit → length unit ≤ setup.info.max_sdu
-
-climb_between : (low : ℕ) (xs : List ℕ) (high : ℕ) → Climb low xs high → low ≤ high
-climb_between low [] high climb = climb
-climb_between low (x ∷ xs) high climb = omega (arith, climb.0, climb_between (x + 1) xs high climb.1)
 
 ordered_same : (setup : Setup) (whole : List SourceCall) (bis next later : ℕ) (units more : List Handed) → next ≤ later → more ≡ [] → Ordered setup whole bis next units
     → Ordered setup whole bis later (units ++ valid_in more)
@@ -146,22 +127,22 @@ by_step : Below → (airs : Airs) → MeetAirs airs → (boxes s n bis : ℕ) (s
     → its_prefix airs s n earlier ≤ prefix (mine_in s n (step ∷ earlier)) (sink_calls airs n (step ∷ earlier)) next
     → Ordered setup whole bis (prefix (mine_in s n (step ∷ earlier)) (sink_calls airs n (step ∷ earlier)) next)
     (units ++ valid_in (of_stream bis (shown_by airs s n earlier step)))
-by_step below airs meets boxes s n bis setup whole steps.Event earlier ready next more units order past =
+by_step below airs meets boxes s n bis setup whole Step.Event earlier ready next more units order past =
     close_orders below airs meets boxes s n bis setup whole earlier ready (open_event (steps_of_source s earlier)) (open_before (steps_of_source s earlier)) (mine_in s n earlier)
     (chosen_of earlier == s) refl _
     (λ mine. event_ticks (chosen_of earlier) s (λ t. open_event (steps_of_source t earlier)) (sink_calls airs n earlier) (source_of n earlier) (is_its s (source_of n earlier) mine))
     next more units order past
-by_step below airs meets boxes s n bis setup whole steps.Stop earlier ready next more units order past =
+by_step below airs meets boxes s n bis setup whole Step.Stop earlier ready next more units order past =
     close_orders below airs meets boxes s n bis setup whole earlier ready (open_event (steps_of_source s earlier)) (open_before (steps_of_source s earlier)) (mine_in s n earlier)
     (chosen_of earlier == s) refl _
     (λ mine. event_ticks (chosen_of earlier) s (λ t. open_event (steps_of_source t earlier)) (sink_calls airs n earlier) (source_of n earlier) (is_its s (source_of n earlier) mine))
     next more units order past
-by_step below airs meets boxes s n bis setup whole (steps.Terminate reason) earlier ready next more units order past =
+by_step below airs meets boxes s n bis setup whole (Step.Terminate reason) earlier ready next more units order past =
     close_orders below airs meets boxes s n bis setup whole earlier ready (open_event (steps_of_source s earlier)) (open_before (steps_of_source s earlier)) (mine_in s n earlier)
     (chosen_of earlier == s) refl _
     (λ mine. event_ticks (chosen_of earlier) s (λ t. open_event (steps_of_source t earlier)) (sink_calls airs n earlier) (source_of n earlier) (is_its s (source_of n earlier) mine))
     next more units order past
-by_step below airs meets boxes s n bis setup whole steps.End earlier ready next more units order past =
+by_step below airs meets boxes s n bis setup whole Step.End earlier ready next more units order past =
     close_orders below airs meets boxes s n bis setup whole earlier ready (open_event (steps_of_source s earlier)) (open_before (steps_of_source s earlier)) (mine_in s n earlier) true refl _
     (λ mine. end_ticks s (λ t. open_event (steps_of_source t earlier)) (sink_calls airs n earlier) (source_of n earlier) ready.source_below (is_its s (source_of n earlier) mine))
     next more units order past
@@ -187,7 +168,7 @@ orders below airs meets boxes s n bis setup whole (step ∷ earlier) ready =
     (sym (step_shown airs boxes s n step earlier legal_before ready.source_below ready.sink_below))
     (by_step below airs meets boxes s n bis setup whole step earlier before (next_in (steps_of_source s (step ∷ earlier))) (next_rises airs boxes s earlier step ready.legal_is)
     (valid_in (shown_since (is_made n) airs s n bis earlier)) (orders below airs meets boxes s n bis setup whole earlier before)
-    (climb_between (its_prefix airs s n earlier) (map event_of (closed_by airs s n earlier step)) (its_prefix airs s n (step ∷ earlier)) now.climbs_on)))
+    (climb_up (its_prefix airs s n earlier) (map event_of (closed_by airs s n earlier step)) (its_prefix airs s n (step ∷ earlier)) now.climbs_on)))
 
 pub units_in_order : Below → (airs : Airs) → MeetAirs airs → (boxes s n bis : ℕ) (made : List Step) → Legal airs boxes made → (setup_of (steps_of_source s made)).info.framing ≡ 0 → s ≤ 1
     → n ≤ 7 → 1 ≤ bis → bis ≤ 31 → given_since_made n made ≡ false → injected_since (is_made n) n made ≡ false

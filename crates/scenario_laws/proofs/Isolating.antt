@@ -1,9 +1,7 @@
 -- A sink is isolated from other sinks and from the source that it is not of.
-pub mod Elsewhere
 pub mod Isolated
 pub mod Kept
 pub mod Left
-pub mod Lines
 pub mod Histories
 pub mod Moves
 pub mod Printed

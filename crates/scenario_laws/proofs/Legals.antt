@@ -1,10 +1,7 @@
 -- The steps of lines of which none was refused, and what happens by them: each is in range, and no refusal holds of it after those
 -- before it.
-use Rattle.scenario_laws.proofs.Prelude.{ℕ, ◌≡◌, List, [], ◌∷◌, length, Option, None, Some, Result, Ok, arith, TextLine, Account, Accepted, LineFault, Step, IsInRange, happened, Airs, a_step, nothing, unsaid, said_by, said_in, steps_of, with_said, refusal_said, rules_of, AreLegal, AreSaidLegally}
-use Rattle.scenario_text.specs.Steps.{read_of}
-use Rattle.scenario_history.specs.Lines.{Said, said_of}
-use Rattle.scenario_laws.proofs.RelayedUnits.Citable.{happens_legally}
 pub use Rattle.scenario_history.proofs.Citable.{Permitted, fails_not, maps_none, neither, permitted}
+use Rattle.scenario_laws.proofs.Known.Sources.Steps.{ℕ, ◌≡◌, List, [], ◌∷◌, length, Option, None, Some, Result, Ok, arith, TextLine, Account, Accepted, LineFault, Step, IsInRange, happened, Airs, a_step, nothing, unsaid, said_by, said_in, steps_of, with_said, refusal_said, rules_of, AreLegal, AreSaidLegally, read_of, Said, said_of, happens_legally}
 
 abbrev pub Legal : Airs → ℕ → List Step → Type 0
 Legal airs boxes steps = AreLegal airs boxes steps
@@ -27,8 +24,7 @@ in_range ranged version line = grind (arith, by_reading)
 legal_said : (airs : Airs) (boxes : ℕ) (earlier : List Step) (said : Said) → AreSaidLegally airs boxes earlier → InRange said
     → refusal_said airs boxes (happened airs earlier) said ≡ None → AreSaidLegally airs boxes (with_said said earlier)
 legal_said airs boxes earlier (a_step this) before ranged none = (before, none, ranged)
-legal_said airs boxes earlier nothing before ranged none = before
-legal_said airs boxes earlier (unsaid reason) before ranged none = before
+legal_said airs boxes earlier said before ranged none = search
 
 pub said_legally : LinesInRange → (airs : Airs) (starts : List Account) (lines : List TextLine) → Accepted (rules_of airs starts) lines
     → AreSaidLegally airs (length starts) (said_of lines)

@@ -1,11 +1,5 @@
 -- No notice is forged over a link other than 0, and every sink of any lines agrees with its assistants.
-use Rattle.std.proofs.Common.{arith}
-use Rattle.scenario_laws.proofs.Prelude.{ℕ, ◌≡◌, ◌≢◌, ◌<◌, ◌==◌, cond, Bool, false, List, [], ◌∷◌, Option, None, Some, refl, unwrap_or, option_or, ne_eqb, TextLine, Settings, NoneNotifies, notified_and_read, forging_by, is_forged, read_waits, state, view, AreOctets, made_of, steps_of, Airs, calls_made, the_world}
-use Rattle.delegator_history.specs.LastGiven.{last_given}
-use Rattle.delegator_history.specs.Trains.{Setup}
-use Rattle.sink_history.specs.Calls as links
-use Rattle.sink_history.specs.Calls.{Call}
-use Rattle.scenario_laws.proofs.RelayedUnits.Citable.{history_happened, made_happened}
+use Rattle.scenario_laws.proofs.Known.Sources.Steps.{arith, ℕ, ◌≡◌, ◌≢◌, ◌<◌, ◌==◌, cond, Bool, false, List, [], ◌∷◌, Option, None, Some, refl, unwrap_or, option_or, ne_eqb, TextLine, Settings, NoneNotifies, notified_and_read, forging_by, is_forged, read_waits, state, view, AreOctets, made_of, steps_of, Airs, calls_made, the_world, last_given_in as last_given, SinkSetup as Setup, LinkCall as Call, history_happened, made_happened}
 use Rattle.scenario_laws.specs.Links.{AgreementLaw, Agrees}
 use Rattle.scenario_laws.proofs.Legals.{LinesInRange}
 use Rattle.scenario_laws.proofs.HistoryOctets.{few_slots, history_octets, ranged_lines}
@@ -31,8 +25,8 @@ not_by is_there given before = grind arith
 
 not_forged : (link : ℕ) (calls : List Call) → link ≢ 0 → is_forged link calls ≡ false
 not_forged link [] other = refl
-not_forged link (links.joined at ∷ earlier) other = not_by (at == link) (last_given (forging_by link) earlier) (not_forged link earlier other)
-not_forged link (links.forged slot octets ∷ earlier) other = cc (ne_eqb link 0 other, not_forged link earlier other)
+not_forged link (Call.joined at ∷ earlier) other = not_by (at == link) (last_given (forging_by link) earlier) (not_forged link earlier other)
+not_forged link (Call.forged slot octets ∷ earlier) other = cc (ne_eqb link 0 other, not_forged link earlier other)
 not_forged link (call ∷ earlier) other = not_forged link earlier other
 
 pub apart_agree : LinesInRange → OfLinks → (airs : Airs) (lines : List TextLine) (n link slot : ℕ) (made : Settings)

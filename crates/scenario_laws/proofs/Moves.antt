@@ -1,12 +1,7 @@
 -- What a line makes of a sink that it names by its control or by its links: its receivers stay or leave, or a train puts them on
 -- a group; and a sink that follows a train on no group may be of another source then.
-use Rattle.scenario_laws.proofs.Prelude.{ℕ, ◌≡◌, ◌⊎◌, ◌==◌, ◌&&◌, cond, Bool, true, false, List, ◌∷◌, Option, None, Some, is_some, refl, ap, inl, inr, arith, by_numbers, with_leave, with_step, TrainHeard, Snapshot, TrainOutcome, Settings, Train, heard, ignored, outcome_by, by_broadcast_id, by_slot, big_sync_in, BigSync, Call, leave, tune, has_group, Step, Source, made_of, named_by, own_train, brings_by, follows, big_sync_of, received_by, source_by, train_by, snapshot_in, Airs, sink_calls, source_after, source_of, with_sink_call, chosen_of, calls_made, source_at, is_tuned}
-use Rattle.delegator_history.specs.Trains.{Setup, taken}
-use Rattle.group_sink.specs.Calls.{place}
-use Rattle.sink_history.specs.Calls as links
-use Rattle.scenario_text.specs.declared.step.Step.TheVariants as steps
-use Rattle.scenario_history.specs.Sinks.{moved}
-use Rattle.scenario_laws.proofs.Nowhere.{Nowhere, nowhere}
+use Rattle.scenario_laws.proofs.Known.Sources.Steps.Prelude.{ℕ, ◌≡◌, ◌⊎◌, ◌==◌, ◌&&◌, cond, Bool, true, false, List, ◌∷◌, Option, None, Some, is_some, refl, ap, inl, inr, arith, by_numbers, with_leave, with_step, TrainHeard, Snapshot, TrainOutcome, Settings, Train, heard, ignored, outcome_by, by_broadcast_id, by_slot, big_sync_in, BigSync, Call, leave, tune, has_group, Step, Source, made_of, named_by, own_train, brings_by, follows, big_sync_of, received_by, source_by, train_by, snapshot_in, Airs, sink_calls, source_after, source_of, with_sink_call, chosen_of, calls_made, source_at, is_tuned, SinkSetup as Setup, taken, place, moved, LinkCall, is_made, is_injected, is_given}
+use Rattle.scenario_laws.proofs.Places.{Nowhere, nowhere}
 
 -- ---- what becomes of the receivers
 
@@ -60,12 +55,19 @@ plain_stays airs n step earlier none is same begins_not = grind (arith, sink_cal
 pub same_if : {A : Type 0} (hit : Bool) (x : A) → cond hit x x ≡ x
 same_if hit x = grind arith
 
+-- whether a step makes the sink is the same whatever came before
+pub made_alike : (n : ℕ) (one other : List Step) (step : Step) → is_made n one step ≡ is_made n other step
+made_alike n one other step = cc
+
+pub given_is_injected : (n : ℕ) (step : Step) → is_injected n step ≡ false → is_given n step ≡ false
+given_is_injected n _ clean = grind arith
+
 -- of a sink that doesn't live
 pub unmoved : (n : ℕ) (named : Option ℕ) (step : Step) (earlier : List Step) (calls : List Call) → made_of n earlier ≡ None → moved n named step earlier calls ≡ calls
 unmoved n named step earlier calls none = grind (arith, same_if)
 
 -- a train that is given to another sink
-pub given_stays : (airs : Airs) (n sink time : ℕ) (ext adv acad : List ℕ) (earlier : List Step) → (sink == n) ≡ false → StaysBy airs n (steps.Train sink time ext adv acad) earlier
+pub given_stays : (airs : Airs) (n sink time : ℕ) (ext adv acad : List ℕ) (earlier : List Step) → (sink == n) ≡ false → StaysBy airs n (Step.Train sink time ext adv acad) earlier
 given_stays airs n sink time ext adv acad earlier other = search arith
 
 -- ---- a train that is announced
@@ -79,11 +81,11 @@ heard_by : (setup : Setup) (snapshot : Snapshot) (train : Train) (id : Option (L
 heard_by setup snapshot train id other answer encrypted is = grind (arith, heard_at)
 
 -- what the source of a line announces synchronizes a sink, of this history, to this BIG
-pub record BroughtTo (source : Source) (lives : List links.Call) (big_sync : BigSync) : Type 0 where
+pub record BroughtTo (source : Source) (lives : List LinkCall) (big_sync : BigSync) : Type 0 where
   pub made : Settings
   pub is : big_sync_of made (snapshot_in made lives) (Some (own_train source)) ≡ Some big_sync
 
-by_train : (source : Source) (lives : List links.Call) (made : Settings) (later : Snapshot) (calls : List Call) (its_source : Option ℕ)
+by_train : (source : Source) (lives : List LinkCall) (made : Settings) (later : Snapshot) (calls : List Call) (its_source : Option ℕ)
     → (has_group (snapshot_in made lives).place ≡ false → place calls ≡ None) → (brought : TrainOutcome) → outcome_by made.setup (snapshot_in made lives) (own_train source) ≡ brought
     → Went (BroughtTo source lives) source.number (is_some (big_sync_in brought)) calls (with_step (big_sync_in brought) (snapshot_in made lives) later calls)
     its_source (cond (follows brought) (Some source.number) its_source)
@@ -94,10 +96,10 @@ by_train source lives made later calls its_source nowhere (heard slot answer enc
 by_train source lives made later calls its_source nowhere (taken slot bits encrypted big_sync) is =
     inr (inr (record { big_sync = big_sync; brings = record { made = made; is = ap big_sync_in is }; calls_is = refl; source_is = refl; begins_is = refl }))
 
-by_made : (source : Source) (n : ℕ) (here there : List links.Call) (made : Option Settings) (calls : List Call) (its_source : Option ℕ)
+by_made : (source : Source) (n : ℕ) (here there : List LinkCall) (made : Option Settings) (calls : List Call) (its_source : Option ℕ)
     → Nowhere made here calls
-    → Went (BroughtTo source here) source.number (brings_by source (steps.Announce n) made here) calls (received_by source (steps.Announce n) made here there calls)
-    its_source (source_by source (steps.Announce n) made here its_source)
+    → Went (BroughtTo source here) source.number (brings_by source (Step.Announce n) made here) calls (received_by source (Step.Announce n) made here there calls)
+    its_source (source_by source (Step.Announce n) made here its_source)
 by_made source n here there None calls its_source nowhere = inl (record { left = inl refl; same = refl; begins_not = refl })
 by_made source n here there (Some made) calls its_source nowhere = search (by_train, nowhere)
 
@@ -111,18 +113,18 @@ Brings n sink earlier big_sync = ((sink == n) ≡ true) × BroughtTo (source_at 
 
 abbrev pub PutBy : Airs → ℕ → ℕ → List Step → Type 0
 PutBy airs n sink earlier =
-    Put (Brings n sink earlier) (chosen_of earlier) (is_tuned n earlier (steps.Announce sink)) (sink_calls airs n earlier) (sink_calls airs n (steps.Announce sink ∷ earlier))
-    (source_of n (steps.Announce sink ∷ earlier))
+    Put (Brings n sink earlier) (chosen_of earlier) (is_tuned n earlier (Step.Announce sink)) (sink_calls airs n earlier) (sink_calls airs n (Step.Announce sink ∷ earlier))
+    (source_of n (Step.Announce sink ∷ earlier))
 
 abbrev pub FollowsBy : Airs → ℕ → ℕ → List Step → Type 0
 FollowsBy airs n sink earlier =
-    Follows (chosen_of earlier) (is_tuned n earlier (steps.Announce sink)) (sink_calls airs n earlier) (sink_calls airs n (steps.Announce sink ∷ earlier))
-    (source_of n (steps.Announce sink ∷ earlier))
+    Follows (chosen_of earlier) (is_tuned n earlier (Step.Announce sink)) (sink_calls airs n earlier) (sink_calls airs n (Step.Announce sink ∷ earlier))
+    (source_of n (Step.Announce sink ∷ earlier))
 
-pub announced : (airs : Airs) (n sink : ℕ) (earlier : List Step) → StaysBy airs n (steps.Announce sink) earlier ⊎ (FollowsBy airs n sink earlier ⊎ PutBy airs n sink earlier)
+pub announced : (airs : Airs) (n sink : ℕ) (earlier : List Step) → StaysBy airs n (Step.Announce sink) earlier ⊎ (FollowsBy airs n sink earlier ⊎ PutBy airs n sink earlier)
 announced airs n sink earlier =
-    went_if (BroughtTo (source_at earlier) (calls_made n earlier)) (chosen_of earlier) (sink == n) (brings_by (source_at earlier) (steps.Announce sink) (made_of n earlier) (calls_made n earlier))
+    went_if (BroughtTo (source_at earlier) (calls_made n earlier)) (chosen_of earlier) (sink == n) (brings_by (source_at earlier) (Step.Announce sink) (made_of n earlier) (calls_made n earlier))
     (sink_calls airs n earlier)
-    (received_by (source_at earlier) (steps.Announce sink) (made_of n earlier) (calls_made n earlier) (calls_made n (steps.Announce sink ∷ earlier)) (sink_calls airs n earlier))
-    (source_of n earlier) (source_by (source_at earlier) (steps.Announce sink) (made_of n earlier) (calls_made n earlier) (source_of n earlier))
-    (by_made (source_at earlier) sink (calls_made n earlier) (calls_made n (steps.Announce sink ∷ earlier)) (made_of n earlier) (sink_calls airs n earlier) (source_of n earlier) (nowhere airs n earlier))
+    (received_by (source_at earlier) (Step.Announce sink) (made_of n earlier) (calls_made n earlier) (calls_made n (Step.Announce sink ∷ earlier)) (sink_calls airs n earlier))
+    (source_of n earlier) (source_by (source_at earlier) (Step.Announce sink) (made_of n earlier) (calls_made n earlier) (source_of n earlier))
+    (by_made (source_at earlier) sink (calls_made n earlier) (calls_made n (Step.Announce sink ∷ earlier)) (made_of n earlier) (sink_calls airs n earlier) (source_of n earlier) (nowhere airs n earlier))

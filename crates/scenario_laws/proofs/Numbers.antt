@@ -1,21 +1,7 @@
 -- The units of an event by their numbers, and what a close hands of them.
-use Rattle.scenario_laws.proofs.Prelude.{ℕ, zero, suc, ◌≡◌, ◌<◌, ◌≤◌, ◌+◌, ◌-◌, ◌==◌, min, cond, Bool, false, List, [], ◌∷◌, ◌++◌, length, map, Some, refl, sym, ◌∙◌, ap, subst, arith, inl, inr, slice_get, AllZip, AllByRecursion, range_with_len, cases_eq, eq-eqb, ne_eqb, false≢true, none-some, slice_get_within, BigInfo, Bounds, per_event_of, horizon_of, Handed, valid, lost, opened, before_event, lay, lays, begun, handed, unit_at, IsStruck, Place, Struck, air_at, closed_slots, begun_within, lays_accepted, all_zip_append, place_of, slots_of, Airs, Setup, give, events, given, laid_with, next_of, prefix_accepted, lays_events, BigSync, bis_of, stay_on, stream_calls, Step, steps_of_source, MeetAirs, sink_calls, injected_since, is_tuned, IsGiven, is_valid, time_in, valid_in, whole_stay}
+use Rattle.scenario_laws.proofs.Known.{ℕ, zero, suc, ◌≡◌, ◌<◌, ◌≤◌, ◌+◌, ◌-◌, ◌==◌, min, cond, Bool, false, List, [], ◌∷◌, ◌++◌, length, map, Some, refl, sym, ◌∙◌, ap, subst, arith, inl, inr, slice_get, AllZip, AllByRecursion, range_with_len, cases_eq, eq-eqb, ne_eqb, false≢true, none-some, slice_get_within, BigInfo, Bounds, per_event_of, horizon_of, Handed, valid, lost, opened, before_event, lay, lays, begun, handed, unit_at, IsStruck, Place, Struck, air_at, closed_slots, begun_within, lays_accepted, all_zip_append, place_of, slots_of, Airs, Setup, give, events, given, laid_with, next_of, prefix_accepted, lays_events, BigSync, bis_of, stay_on, stream_calls, Step, steps_of_source, MeetAirs, sink_calls, injected_since, is_tuned, IsGiven, is_valid, time_in, valid_in, whole_stay, StreamCall, unframed_accept as accept, unframed_accepted as accepted, laid_events, unframed_units_of as units_of, window_time_of as time_of, SourceCall, event as perform, source_stream, Below, Legal, Settled, bounds_in, lawful, settled, Within, IsOn, OnSource, TunedTo, on_source, Own, all_own, Climb, climb_from, climb_on, slot_time_is, StayCall}
 use Rattle.std.proofs.lemmas.Slice.Zip.{AllZip-long}
-use Rattle.isoal_base.specs.Stays as stays
-use Rattle.isoal_unframed.specs.Calls.{Call as StreamCall, accept, accepted, events as laid_events}
-use Rattle.isoal_unframed.specs.Histories.{units_of}
-use Rattle.isoal_unframed.specs.State.Windows.{time_of}
-use Rattle.source_machine.specs.Calls.{Call as SourceCall, event as perform, stream_calls as source_stream}
-use Rattle.scenario_laws.proofs.Below.{Below}
-use Rattle.scenario_laws.proofs.Legals.{Legal}
-use Rattle.scenario_laws.proofs.Sources.{Settled, bounds_in, lawful, settled}
-use Rattle.scenario_laws.proofs.Wholes.{Within}
-use Rattle.scenario_laws.proofs.Stays.{IsOn, OnSource, TunedTo, on_source}
-use Rattle.scenario_laws.proofs.Hears.{Own, all_own}
-use Rattle.scenario_laws.proofs.Plains.{sends_own}
-use Rattle.scenario_laws.proofs.FromSources.{from_source}
-use Rattle.scenario_laws.proofs.Closes.{Climb, climb_from, climb_on}
-use Rattle.scenario_laws.proofs.Shown.{slot_time_is}
+use Rattle.scenario_laws.proofs.FromSources.{sends_own, from_source}
 
 -- ---- the units of the slots of a stream, by their numbers
 
@@ -167,7 +153,7 @@ valid_not_lost b t stream time octets same = false≢true (ap is_valid same)
 opened_octets : (b t : ℕ) (o : List ℕ) (stream time : ℕ) (octets : List ℕ) → valid b t o ≡ valid stream time octets → o ≡ octets
 opened_octets b t o stream time octets is = ap octets_inside is
 
-struck_slots : (setup : Setup) (whole : List SourceCall) (tuning : BigSync) (bis event slot : ℕ) (calls : List stays.Call) (unit : Handed) → TunedTo setup tuning → tuning.first ≤ event
+struck_slots : (setup : Setup) (whole : List SourceCall) (tuning : BigSync) (bis event slot : ℕ) (calls : List StayCall) (unit : Handed) → TunedTo setup tuning → tuning.first ≤ event
     → IsStruck (stay_on tuning bis) (slots_of setup whole bis) calls event slot unit → IsSlots setup whole bis event slot unit
 struck_slots setup whole tuning bis event slot calls (valid b t o) on least struck stream time octets is = (
   sym (ap bis_of is) ∙ struck.0,
@@ -176,17 +162,17 @@ struck_slots setup whole tuning bis event slot calls (valid b t o) on least stru
 )
 struck_slots setup whole tuning bis event slot calls (lost b t) on least struck stream time octets is = absurd (valid_not_lost b t stream time octets is)
 
-last_batch : (setup : Setup) (whole : List SourceCall) (tuning : BigSync) (bis event : ℕ) (sc : List stays.Call) → TunedTo setup tuning
+last_batch : (setup : Setup) (whole : List SourceCall) (tuning : BigSync) (bis event : ℕ) (sc : List StayCall) → TunedTo setup tuning
     → opened (stay_on tuning bis) sc ≡ event → tuning.first ≤ event → setup.first ≤ event → event < next_of setup whole
     → Struck (stay_on tuning bis) (slots_of setup whole bis) sc (handed (stay_on tuning bis) sc)
-    → Struck (stay_on tuning bis) (slots_of setup whole bis) (stays.close ∷ sc) (handed (stay_on tuning bis) (stays.close ∷ sc))
+    → Struck (stay_on tuning bis) (slots_of setup whole bis) (StayCall.close ∷ sc) (handed (stay_on tuning bis) (StayCall.close ∷ sc))
     → Batch setup whole bis (first_in setup.info (source_stream setup.info bis whole) (event - setup.first)) (past_in setup.info (source_stream setup.info bis whole) (event - setup.first))
     (valid_in (units_of (stay_on tuning bis) sc event))
 last_batch setup whole tuning bis event sc on is past from_first performed_then before now =
-    let rest : AllZip (λ (at : Place) entry. IsStruck (stay_on tuning bis) (slots_of setup whole bis) (stays.close ∷ sc) at.event at.slot entry)
+    let rest : AllZip (λ (at : Place) entry. IsStruck (stay_on tuning bis) (slots_of setup whole bis) (StayCall.close ∷ sc) at.event at.slot entry)
     (map (λ slot. record { event = opened (stay_on tuning bis) sc; slot = slot }) (range_with_len 0 (per_event_of tuning.info)))
     (map (unit_at (stay_on tuning bis) sc (opened (stay_on tuning bis) sc)) (range_with_len 0 (per_event_of tuning.info))) =
-    zip_rest (λ (at : Place) entry. IsStruck (stay_on tuning bis) (slots_of setup whole bis) (stays.close ∷ sc) at.event at.slot entry)
+    zip_rest (λ (at : Place) entry. IsStruck (stay_on tuning bis) (slots_of setup whole bis) (StayCall.close ∷ sc) at.event at.slot entry)
     (closed_slots (stay_on tuning bis) sc) (map (λ slot. record { event = opened (stay_on tuning bis) sc; slot = slot }) (range_with_len 0 (per_event_of tuning.info)))
     (handed (stay_on tuning bis) sc) (map (unit_at (stay_on tuning bis) sc (opened (stay_on tuning bis) sc)) (range_with_len 0 (per_event_of tuning.info)))
     (AllZip-long _ _ _ before) now in
@@ -197,9 +183,9 @@ last_batch setup whole tuning bis event sc on is past from_first performed_then 
     batch setup whole bis event (unit_at (stay_on tuning bis) sc event) 0 (per_event_of tuning.info)
     (first_in setup.info (source_stream setup.info bis whole) (event - setup.first)) from_first performed_then
     (omega (arith, count)) (omega arith) (omega (arith, begun_least))
-    (λ slot least below. struck_slots setup whole tuning bis event slot (stays.close ∷ sc) (unit_at (stay_on tuning bis) sc event slot) on past
-    (subst (λ e. IsStruck (stay_on tuning bis) (slots_of setup whole bis) (stays.close ∷ sc) e slot (unit_at (stay_on tuning bis) sc e slot)) is
-    (zip_at (λ (at : Place) entry. IsStruck (stay_on tuning bis) (slots_of setup whole bis) (stays.close ∷ sc) at.event at.slot entry)
+    (λ slot least below. struck_slots setup whole tuning bis event slot (StayCall.close ∷ sc) (unit_at (stay_on tuning bis) sc event slot) on past
+    (subst (λ e. IsStruck (stay_on tuning bis) (slots_of setup whole bis) (StayCall.close ∷ sc) e slot (unit_at (stay_on tuning bis) sc e slot)) is
+    (zip_at (λ (at : Place) entry. IsStruck (stay_on tuning bis) (slots_of setup whole bis) (StayCall.close ∷ sc) at.event at.slot entry)
     (λ slot. record { event = opened (stay_on tuning bis) sc; slot = slot }) (unit_at (stay_on tuning bis) sc (opened (stay_on tuning bis) sc)) 0 (per_event_of tuning.info) rest slot least below)))
 
 -- what the stay's next close hands on the stream
@@ -215,13 +201,13 @@ close_batch below airs meets boxes s n bis setup whole tuning made legal within 
     let there : OnSource own tuning = on_source below.announcing airs boxes s n made tuning legal is in
     let bounds : Bounds tuning.info = subst Bounds (sym there.tuned.info) (bounds_in own settles there.started) in
     let plain : tuning.info.framing ≡ 0 = ap (λ (i : BigInfo). i.framing) on.info ∙ plain_source in
-    let calls : List stays.Call = stream_calls (stay_on tuning bis) (sink_calls airs n made) in
+    let calls : List StayCall = stream_calls (stay_on tuning bis) (sink_calls airs n made) in
     let short : (e : ℕ) → (slot : ℕ) → (unit : List ℕ) → slots_of setup whole bis e slot ≡ Some unit → length unit ≤ tuning.info.max_sdu =
     λ e slot unit has. subst (λ (i : BigInfo). length unit ≤ i.max_sdu) (sym on.info) (fits e slot unit has) in
     let all : AllByRecursion (Own (air_at (stay_on tuning bis) (slots_of setup whole bis))) calls = search (all_own, air_at, stay_on, slots_of, sends_own) in
     let before : Struck (stay_on tuning bis) (slots_of setup whole bis) calls (handed (stay_on tuning bis) calls) =
     below.struck (stay_on tuning bis) (slots_of setup whole bis) calls bounds plain short (from_source (stay_on tuning bis) (slots_of setup whole bis) calls all) in
-    let now : Struck (stay_on tuning bis) (slots_of setup whole bis) (stays.close ∷ calls) (handed (stay_on tuning bis) (stays.close ∷ calls)) =
-    below.struck (stay_on tuning bis) (slots_of setup whole bis) (stays.close ∷ calls) bounds plain short
-    (from_source (stay_on tuning bis) (slots_of setup whole bis) (stays.close ∷ calls) (tt, all)) in
+    let now : Struck (stay_on tuning bis) (slots_of setup whole bis) (StayCall.close ∷ calls) (handed (stay_on tuning bis) (StayCall.close ∷ calls)) =
+    below.struck (stay_on tuning bis) (slots_of setup whole bis) (StayCall.close ∷ calls) bounds plain short
+    (from_source (stay_on tuning bis) (slots_of setup whole bis) (StayCall.close ∷ calls) (tt, all)) in
     last_batch setup whole tuning bis event calls on opened_at past (omega (arith, past, on.first)) performed_then before now

@@ -1,16 +1,79 @@
--- Two airs that meet the relation of their framing give one transcript: no step, no line and no text tells them apart.
-use Rattle.scenario_laws.proofs.Prelude.{ℕ, ◌≡◌, ◌+◌, ◌==◌, cond, true, List, [], ◌∷◌, ◌++◌, length, Option, None, refl, sym, ◌∙◌, ap, subst, arith, TextLine, Account, Accepted, End, accepted_of, accepted_unless, end_unless, out, out_unless, AreAirs, stale_of, Airs, event_fault, Step, Refusal, chosen_of, chosen_steps, is_started, setup_of, source_calls, stale_in, MeetAirs, answered_by, closing_both, handed_up, line_refusal, refusal_of, close_lines, first_lines, output_of, sums_of, unit_lines, handed_said, output_said, refusal_said, rules_of, steps_of, end_after, out_of, transcript_end, transcript_of, units_of}
-use Rattle.scenario_history.specs.Runs.{end_of}
-use Rattle.source_machine.specs.Calls.{event as perform}
-use Rattle.scenario_text.specs.declared.step.Step.TheVariants as steps
-use Rattle.scenario_history.specs.Boxes.{closing}
-use Rattle.scenario_history.specs.Lines.{Said, handed_on, said_after}
-use Rattle.scenario_laws.proofs.RelayedUnits.Citable.{line_passes}
-use Rattle.scenario_laws.proofs.Legals.{Legal, LinesInRange, legal, permitted, said_legally}
-use Rattle.scenario_laws.proofs.OneHappening.{answers_same, happened_same}
-use Rattle.scenario_laws.proofs.Sources.{Lawful, are_accepted, checked, group_in, hears, lawful, no_end, settled, takes}
-use Rattle.scenario_laws.proofs.TwoAirs.{Both, Twice, chosen_same, closing_both_same, closing_same, handed_same, handed_up_same, legal_too}
-use Rattle.scenario_laws.proofs.TwoAirs.{pdu_same, refusal_same, sink_same}
+-- Over two airs that meet the relation of their framing the same happens: relays offer the same units, and source 1 takes the same of
+-- them.
+use Rattle.scenario_laws.proofs.Known.Sources.{arith, ℕ, ◌≡◌, ◌∙◌, cond, not, Bool, true, false, List, [], ◌∷◌, None, refl, ap, flat_map, option_map, Step, give_fault, Offer, after_offer, after_offers, answered_by, closes_first, dropped_for, handed_of, happened, offered_of, offers_at, with_relayed_unit_unless, with_relayed_units, give_refusal, refusal_of, relay_of, setup_of, source_calls, takes_units, Airs, steps_of_source, AreSaidLegally, ◌+◌, ◌==◌, ◌++◌, length, Option, sym, subst, TextLine, Account, Accepted, End, accepted_of, accepted_unless, end_unless, out, out_unless, AreAirs, stale_of, event_fault, Refusal, chosen_of, chosen_steps, is_started, stale_in, MeetAirs, closing_both, handed_up, line_refusal, close_lines, first_lines, output_of, sums_of, unit_lines, handed_said, output_said, refusal_said, rules_of, steps_of, end_after, out_of, transcript_end, transcript_of, units_of, sink_numbers, closing, answered, Runs, happens_legally, left_by_offers, line_passes, runs_at, runs_still, unless_legal, Legal, LinesInRange, legal, permitted, said_legally, lawful, takes, Lawful, are_accepted, checked, group_in, hears, no_end, settled, end_of, event as perform, Said, line_handed_on as handed_on, said_after}
+use Rattle.scenario_laws.proofs.TwoAirs.{Both, Twice, closing_same, in_order, its_same, legal_too, chosen_same, closing_both_same, handed_same, handed_up_same, pdu_same, refusal_same, sink_same}
+
+-- ---- units that are offered
+
+dropped_same : (airs others : Airs) → Both airs others → (boxes : ℕ) (offer : Offer) (made : List Step) → Twice airs others boxes made
+    → dropped_for airs offer made ≡ dropped_for others offer made
+dropped_same airs others both boxes offer made twice = grind (arith, in_order, not, its_same, lawful, takes)
+
+offers_same : (airs others : Airs) → Both airs others → (boxes : ℕ) (made : List Step) → Legal airs boxes made
+    → offers_at airs made ≡ offers_at others made
+offers_same airs others both boxes made legal =
+    ap (λ units. flat_map (λ n. offered_of n (relay_of n made) (handed_of 0 n units)) sink_numbers)
+    (closing_same airs others both boxes 0 made legal)
+
+-- the same becomes of these units
+record Alike (airs others : Airs) (offers : List Offer) (made : List Step) : Type 0 where
+  steps : after_offers airs offers made ≡ after_offers others offers made
+  answers : answered airs offers made ≡ answered others offers made
+
+alike : (airs others : Airs) → Both airs others → (boxes : ℕ) (offers : List Offer) (made : List Step) → Legal airs boxes made → Runs made
+    → Alike airs others offers made
+alike airs others both boxes [] made legal runs = record { steps = refl; answers = refl }
+alike airs others both boxes (offer ∷ offers) made legal runs =
+    let next : List Step = after_offer airs offer made in
+    let reason : dropped_for airs offer made ≡ dropped_for others offer made =
+    dropped_same airs others both boxes offer made (record { here = legal; there = legal_too airs others both boxes made legal }) in
+    let same : next ≡ after_offer others offer made = ap (λ r. with_relayed_unit_unless r offer made) reason in
+    let rest : Alike airs others offers next = alike airs others both boxes offers next
+    (unless_legal airs boxes (dropped_for airs offer made) offer made legal runs refl)
+    (runs_still made next (left_by_offers airs (offer ∷ []) made).stage runs) in
+    record {
+      steps = rest.steps ∙ ap (after_offers others offers) same;
+      answers = grind (arith, dropped_for);
+    }
+
+-- ---- relayed units before a step
+
+record RelayedUnitsAlike (airs others : Airs) (closes : Bool) (made : List Step) : Type 0 where
+  steps : after_offers airs (cond closes (offers_at airs made) []) made ≡ after_offers others (cond closes (offers_at others made) []) made
+  answers : answered airs (cond closes (offers_at airs made) []) made ≡ answered others (cond closes (offers_at others made) []) made
+
+relayed_units_alike : (closes : Bool) (airs others : Airs) → Both airs others → (boxes : ℕ) (made : List Step) → Legal airs boxes made
+    → (closes ≡ true → Runs made) → RelayedUnitsAlike airs others closes made
+relayed_units_alike true airs others both boxes made legal runs =
+    let offers = offers_same airs others both boxes made legal in
+    let both_ways : Alike airs others (offers_at airs made) made =
+    alike airs others both boxes (offers_at airs made) made legal (runs refl) in
+    assumption (
+      both_ways.steps ∙ ap (λ os. after_offers others os made) offers,
+      both_ways.answers ∙ ap (λ os. answered others os made) offers,
+    )
+relayed_units_alike false airs others both boxes made legal runs = record { steps = refl; answers = refl }
+
+before_step : (airs others : Airs) → Both airs others → (boxes : ℕ) (made : List Step) (step : Step) → Legal airs boxes made
+    → refusal_of airs boxes made step ≡ None → RelayedUnitsAlike airs others (closes_first made step) made
+before_step airs others both boxes made step legal none = search (relayed_units_alike, runs_at)
+
+pub answers_same : (airs others : Airs) → Both airs others → (boxes : ℕ) (made : List Step) (step : Step) → Legal airs boxes made
+    → refusal_of airs boxes made step ≡ None → answered_by airs made step ≡ answered_by others made step
+answers_same airs others both boxes made step legal none = (before_step airs others both boxes made step legal none).answers
+
+-- ---- what happens by lines
+
+pub happened_same : (airs others : Airs) → Both airs others → (boxes : ℕ) (said : List Step) → AreSaidLegally airs boxes said
+    → happened airs said ≡ happened others said
+happened_same airs others both boxes [] legal = refl
+happened_same airs others both boxes (step ∷ earlier) legal =
+    let made : List Step = happened airs earlier in
+    let relayed_units = before_step airs others both boxes made step (happens_legally airs boxes earlier legal.0)
+    (line_passes airs boxes made step legal.1) in
+    ap (λ after_relays. step ∷ after_relays) (relayed_units.steps ∙ ap (λ m. with_relayed_units others m step) (happened_same airs others both boxes earlier legal.0))
+
+-- ---- two airs that meet the relation of their framing give one transcript: no step, no line and no text tells them apart
 
 -- ---- what is printed
 
@@ -20,11 +83,11 @@ performed_airs : (airs : Airs) → MeetAirs airs → (own : List Step) → Lawfu
 performed_airs airs meets own legal started none =
     meets.meet (group_in own (settled airs own legal) started) (setup_of own) (perform ∷ source_calls own) refl (are_accepted airs own legal, none)
 
-stale_same : (airs others : Airs) → Both airs others → (boxes : ℕ) (made : List Step) → Twice airs others boxes made → refusal_of airs boxes made steps.Event ≡ None
+stale_same : (airs others : Airs) → Both airs others → (boxes : ℕ) (made : List Step) → Twice airs others boxes made → refusal_of airs boxes made Step.Event ≡ None
     → stale_in airs (chosen_steps made) ≡ stale_in others (chosen_steps made)
 stale_same airs others both boxes made twice none =
     let own : List Step = chosen_steps made in
-    let permits = permitted airs boxes made steps.Event none in
+    let permits = permitted airs boxes made Step.Event none in
     let started : is_started own ≡ true = takes own permits.in_phase in
     let goes_on : event_fault (setup_of own) (source_calls own) ≡ None = no_end (event_fault (setup_of own) (source_calls own)) permits.by_source in
     let legal_here : Lawful airs own = lawful airs boxes (chosen_of made) made twice.here in
@@ -46,18 +109,18 @@ close_same airs others both boxes made step legal none =
     (closing_same airs others both boxes (chosen_of made) made legal)
 
 ends_same : (airs others : Airs) → Both airs others → (starts : List Account) (made : List Step) → Legal airs (length starts) made
-    → refusal_of airs (length starts) made steps.End ≡ None → output_of airs starts made steps.End ≡ output_of others starts made steps.End
+    → refusal_of airs (length starts) made Step.End ≡ None → output_of airs starts made Step.End ≡ output_of others starts made Step.End
 ends_same airs others both starts made legal none =
     let boxes = length starts in
     ap (λ answers. first_lines (closing airs 0 made) answers
     ++ (unit_lines (closing airs 1 made) ++ sums_of starts (handed_up airs made ++ closing_both airs made) made))
-    (answers_same airs others both boxes made steps.End legal none) ∙ ap (λ us. first_lines us (answered_by others made steps.End)
+    (answers_same airs others both boxes made Step.End legal none) ∙ ap (λ us. first_lines us (answered_by others made Step.End)
     ++ (unit_lines (closing airs 1 made) ++ sums_of starts (handed_up airs made ++ closing_both airs made) made))
-    (closing_same airs others both boxes 0 made legal) ∙ ap (λ us. first_lines (closing others 0 made) (answered_by others made steps.End)
+    (closing_same airs others both boxes 0 made legal) ∙ ap (λ us. first_lines (closing others 0 made) (answered_by others made Step.End)
     ++ (unit_lines us ++ sums_of starts (handed_up airs made ++ closing_both airs made) made))
-    (closing_same airs others both boxes 1 made legal) ∙ ap (λ us. first_lines (closing others 0 made) (answered_by others made steps.End)
+    (closing_same airs others both boxes 1 made legal) ∙ ap (λ us. first_lines (closing others 0 made) (answered_by others made Step.End)
     ++ (unit_lines (closing others 1 made) ++ sums_of starts (us ++ closing_both airs made) made))
-    (handed_up_same airs others both boxes made legal) ∙ ap (λ us. first_lines (closing others 0 made) (answered_by others made steps.End)
+    (handed_up_same airs others both boxes made legal) ∙ ap (λ us. first_lines (closing others 0 made) (answered_by others made Step.End)
     ++ (unit_lines (closing others 1 made) ++ sums_of starts (handed_up others made ++ us) made))
     (closing_both_same airs others both boxes made legal)
 
@@ -135,19 +198,19 @@ end_same airs others told starts history [] accepted = refl
 end_same airs others told starts history (line ∷ lines) accepted = cc (end_by history (refusal_said airs (length starts) (steps_of airs history) (said_after history line)) _ _ (λ none. end_same airs others told starts (line ∷ history) lines (accepted, none)), refused_same airs others told starts history line accepted)
 
 -- the same lines come before the first refusal, and they are accepted
-pub record Runs (airs others : Airs) (starts : List Account) (one other : List TextLine) : Type 0 where
+pub record BothRun (airs others : Airs) (starts : List Account) (one other : List TextLine) : Type 0 where
   pub same : one ≡ other
   pub accepted : Accepted (rules_of airs starts) one
 
 runs_by : (airs others : Airs) (starts : List Account) (history : List TextLine) (reason : Option Refusal) (all all' : List TextLine) → Accepted (rules_of airs starts) history
-    → (reason ≡ None → Runs airs others starts all all') → Runs airs others starts (accepted_unless history reason all) (accepted_unless history reason all')
+    → (reason ≡ None → BothRun airs others starts all all') → BothRun airs others starts (accepted_unless history reason all) (accepted_unless history reason all')
 runs_by airs others starts history reason all all' accepted same = grind arith
 
 runs_same : (airs others : Airs) → Told airs others → (starts : List Account) (history lines : List TextLine) → Accepted (rules_of airs starts) history
-    → Runs airs others starts (accepted_of (rules_of airs starts) history lines) (accepted_of (rules_of others starts) history lines)
+    → BothRun airs others starts (accepted_of (rules_of airs starts) history lines) (accepted_of (rules_of others starts) history lines)
 runs_same airs others told starts history [] accepted = record { same = refl; accepted = accepted }
 runs_same airs others told starts history (line ∷ lines) accepted =
-    subst (λ reason. Runs airs others starts
+    subst (λ reason. BothRun airs others starts
     (accepted_unless history (refusal_said airs (length starts) (steps_of airs history) (said_after history line)) (accepted_of (rules_of airs starts) (line ∷ history) lines))
     (accepted_unless history reason (accepted_of (rules_of others starts) (line ∷ history) lines))) (refused_same airs others told starts history line accepted)
     (runs_by airs others starts history (refusal_said airs (length starts) (steps_of airs history) (said_after history line)) _ _ accepted

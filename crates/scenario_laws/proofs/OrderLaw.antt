@@ -1,9 +1,5 @@
 -- The order law, of both framings.
-use Rattle.scenario_laws.proofs.Prelude.{List, length, Account, steps_of, OrderLaw, StepsInOrder}
-use Rattle.scenario_laws.proofs.Below.{Below}
-use Rattle.scenario_laws.proofs.Legals.{legal}
-use Rattle.scenario_laws.proofs.Closes.{closes_rise}
-use Rattle.scenario_laws.proofs.Shown.{slots_are_shown}
+use Rattle.scenario_laws.proofs.Known.{List, length, Account, steps_of, OrderLaw, StepsInOrder, Below, legal, closes_rise, slots_are_shown}
 use Rattle.scenario_laws.proofs.InOrder.{units_in_order}
 use Rattle.scenario_laws.proofs.StartOrder.{starts_in_order}
 use Rattle.scenario_laws.proofs.UnitOrder.{entries_in_order}

@@ -1,15 +1,11 @@
 -- What the relayed units do to a scenario.
 pub mod Citable
 pub mod Dropped
-pub mod Happening
-pub mod Law
 pub mod Left
 pub mod Histories
 pub mod Legal
 pub mod Offered
 pub mod One
-pub mod Passing
 pub mod Printed
 pub mod Refused
 pub mod Routes
-pub mod FirstLines

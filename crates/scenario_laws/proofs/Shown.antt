@@ -1,26 +1,13 @@
 -- What a sink hands up on a stream of a source is one entry for each slot of each event of it that the sink closed.
-use Rattle.scenario_laws.proofs.Prelude.{ℕ, zero, suc, ◌≡◌, ◌<◌, ◌≤◌, ◌+◌, ◌-◌, ◌*◌, cond, leb, eqb, Bool, true, false, List, [], ◌∷◌, ◌++◌, map, Option, None, Some, refl, sym, ◌∙◌, ap, subst, arith, inl, inr, AllZip, Contains, range_with_len, add-mul, cases_Bool, cond-true, append-nil, append_cancel_left, filter-append, BigInfo, per_event_of, iso_us_of, Handed, anchor_of, unframed_reference_of, render_of, Stay, opened, handed, numbers_of, unit_at, unit_of, all_zip_append, Setup, Call, tick, BigSync, bis_of, handed_at, of_stream, is_in, stay_on, stream_calls, streams_of, is_member, member_is, Step, steps_of_source, setup_of, source_calls, Airs, is_of, sink_calls, source_of, SinkUnit, handed_by, Closed, closed_at, closed_by, closed_in, closed_since, IsOfSlot, given_since_made, handed_since, is_given, is_made, of_sink, shown_since, slots_closed, time_in, whole_stay}
+use Rattle.scenario_laws.proofs.Known.Sources.{ℕ, zero, suc, ◌≡◌, ◌<◌, ◌≤◌, ◌+◌, ◌-◌, ◌*◌, cond, leb, eqb, Bool, true, false, List, [], ◌∷◌, ◌++◌, map, Option, None, Some, refl, sym, ◌∙◌, ap, subst, arith, inl, inr, AllZip, Contains, range_with_len, add-mul, cases_Bool, cond-true, append-nil, append_cancel_left, filter-append, BigInfo, per_event_of, iso_us_of, Handed, anchor_of, unframed_reference_of, render_of, Stay, opened, handed, numbers_of, unit_at, unit_of, all_zip_append, Setup, Call, tick, BigSync, bis_of, handed_at, of_stream, is_in, stay_on, stream_calls, streams_of, is_member, member_is, Step, steps_of_source, setup_of, source_calls, Airs, is_of, sink_calls, source_of, SinkUnit, handed_by, Closed, closed_at, closed_by, closed_in, closed_since, IsOfSlot, given_since_made, handed_since, is_given, is_made, of_sink, shown_since, slots_closed, time_in, whole_stay, unframed_heard_in as heard_in, unframed_units_of as units_of, window_handed_of as handed_of, window_time_of as time_of, SourceCall, place, ticked_by_sink as ticked_by, ticked_since, closes, closed_if, Legal, true_not_false, Within, within_before, within_itself, handed_open, of_sink_on, shown_by, shown_if, step_shown, is_its, StayCall}
 use Rattle.std.proofs.lemmas.Grind.{flat_map-append}
-use Rattle.isoal_base.specs.Stays as stays
-use Rattle.isoal_unframed.specs.Histories.{heard_in, units_of}
-use Rattle.isoal_unframed.specs.State.Windows.{handed_of, time_of}
-use Rattle.source_machine.specs.Calls.{Call as SourceCall}
-use Rattle.group_sink.specs.Calls.{place}
-use Rattle.group_sink.specs.Handing.{handed_by as ticked_by, handed_since as ticked_since}
-use Rattle.group_sink.specs.Streams.{closes}
-use Rattle.scenario_laws.specs.Laws.{closed_if}
 use Rattle.scenario_laws.proofs.Announced.{Announcing}
 use Rattle.scenario_laws.proofs.Below.{Below}
-use Rattle.scenario_laws.proofs.Legals.{Legal}
-use Rattle.scenario_laws.proofs.Sources.{true_not_false}
-use Rattle.scenario_laws.proofs.Wholes.{Within, within_before, within_itself}
 use Rattle.scenario_laws.proofs.Stays.{OnSource, TunedTo, on_since_made, on_source, rest_not}
-use Rattle.scenario_laws.proofs.Closings.{handed_open, of_sink_on, shown_by, shown_if, step_shown}
-use Rattle.scenario_laws.proofs.Ticks.{is_its}
 
 -- ---- the units of one close on one stream
 
-close_hands : (stay : Stay) (over : Bool) (calls : List stays.Call) → handed stay (cond over (stays.close ∷ calls) calls) ≡ handed stay calls ++ cond over (units_of stay calls (opened stay calls)) []
+close_hands : (stay : Stay) (over : Bool) (calls : List StayCall) → handed stay (cond over (StayCall.close ∷ calls) calls) ≡ handed stay calls ++ cond over (units_of stay calls (opened stay calls)) []
 close_hands stay over calls = grind (arith, append-nil)
 
 pub tick_hands : Below → (event : ℕ) (calls : List Call) (tuning : BigSync) (bis : ℕ) → tuning.info.framing ≡ 0 → place calls ≡ Some tuning → Contains (streams_of tuning.which) bis
@@ -42,18 +29,23 @@ tick_others below event calls tuning bis is out =
     ∙ sym (filter-append (λ entry. eqb (bis_of entry) bis) (ticked_since calls) (handed_at calls event))
     ∙ below.others tuning (tick event ∷ calls) bis is out
 
--- the time of a slot by the stay's anchor is that by the source's
-pub slot_time_is : (setup : Setup) (tuning : BigSync) (bis event slot : ℕ) → TunedTo setup tuning → tuning.first ≤ event
-    → time_of (stay_on tuning bis) event slot ≡ time_of (whole_stay setup bis) event slot
-slot_time_is setup tuning bis event slot on least =
+-- what a stay renders by its anchor is rendered then by the source's
+pub render_same : (reference : BigInfo → ℕ → ℕ) (setup : Setup) (tuning : BigSync) (event : ℕ) → TunedTo setup tuning → tuning.first ≤ event
+    → render_of (reference tuning.info (anchor_of tuning.anchor tuning.first event (iso_us_of tuning.info))) tuning.delay
+    ≡ render_of (reference setup.info (anchor_of setup.origin setup.first event (iso_us_of setup.info))) setup.delay
+render_same reference setup tuning event on least =
     let both : event - setup.first ≡ (tuning.first - setup.first) + (event - tuning.first) = omega (arith, least, on.first) in
     let product : (event - setup.first) * iso_us_of setup.info ≡ (tuning.first - setup.first) * iso_us_of setup.info + (event - tuning.first) * iso_us_of setup.info =
     ap (λ d. d * iso_us_of setup.info) both ∙ add-mul (tuning.first - setup.first) (event - tuning.first) (iso_us_of setup.info) in
     let anchor : anchor_of tuning.anchor tuning.first event (iso_us_of setup.info) ≡ anchor_of setup.origin setup.first event (iso_us_of setup.info) =
     omega (arith, product, on.anchor) in
-    ap (λ (i : BigInfo). render_of (unframed_reference_of i (anchor_of tuning.anchor tuning.first event (iso_us_of i)) slot) tuning.delay) on.info
-    ∙ ap (λ a. render_of (unframed_reference_of setup.info a slot) tuning.delay) anchor
-    ∙ ap (λ d. render_of (unframed_reference_of setup.info (anchor_of setup.origin setup.first event (iso_us_of setup.info)) slot) d) on.delay
+    ap (λ (i : BigInfo). render_of (reference i (anchor_of tuning.anchor tuning.first event (iso_us_of i))) tuning.delay) on.info
+    ∙ ap (λ a. render_of (reference setup.info a) tuning.delay) anchor
+    ∙ ap (render_of (reference setup.info (anchor_of setup.origin setup.first event (iso_us_of setup.info)))) on.delay
+
+pub slot_time_is : (setup : Setup) (tuning : BigSync) (bis event slot : ℕ) → TunedTo setup tuning → tuning.first ≤ event
+    → time_of (stay_on tuning bis) event slot ≡ time_of (whole_stay setup bis) event slot
+slot_time_is setup tuning bis event slot on least = render_same (λ info anchor. unframed_reference_of info anchor slot) setup tuning event on least
 
 handed_is : (bis time : ℕ) (unit : Option (List ℕ)) → (bis_of (handed_of bis time unit) ≡ bis) × (time_in (handed_of bis time unit) ≡ time)
 handed_is bis time unit = grind arith
@@ -64,7 +56,7 @@ zip_maps R f g start zero each = tt
 zip_maps R f g start (suc count) each =
     (each start (omega arith), zip_maps R f g (start + 1) count (λ i below. each i (omega (arith, below))))
 
-units_in_slots : (setup : Setup) (tuning : BigSync) (bis : ℕ) (calls : List stays.Call) (event : ℕ) → TunedTo setup tuning → tuning.first ≤ event
+units_in_slots : (setup : Setup) (tuning : BigSync) (bis : ℕ) (calls : List StayCall) (event : ℕ) → TunedTo setup tuning → tuning.first ≤ event
     → AllZip (IsOfSlot setup bis) (map (λ slot. record { event = event; slot = slot }) (range_with_len 0 (per_event_of setup.info)))
     (map (unit_at (stay_on tuning bis) calls event) (range_with_len 0 (per_event_of setup.info)))
 units_in_slots setup tuning bis calls event on least =
@@ -80,7 +72,7 @@ one_slots : (setup : Setup) (bis : ℕ) (closed : Closed) → is_in closed.which
     → slots_closed setup bis (closed ∷ []) ≡ map (λ slot. record { event = closed.event; slot = slot }) (range_with_len 0 (per_event_of setup.info))
 one_slots setup bis closed taken = search (append-nil, cond-true)
 
-taken_zip : (setup : Setup) (tuning : BigSync) (bis : ℕ) (calls : List stays.Call) (count : ℕ) → TunedTo setup tuning → is_in tuning.which bis ≡ true → (over : Bool)
+taken_zip : (setup : Setup) (tuning : BigSync) (bis : ℕ) (calls : List StayCall) (count : ℕ) → TunedTo setup tuning → is_in tuning.which bis ≡ true → (over : Bool)
     → AllZip (IsOfSlot setup bis) (slots_closed setup bis (cond over (record { event = tuning.first + count; which = tuning.which } ∷ []) []))
     (cond over (units_of (stay_on tuning bis) calls (tuning.first + count)) [])
 taken_zip setup tuning bis calls count on taken false = tt

@@ -1,13 +1,9 @@
 -- The steps of one source of a scenario of which no line was refused: its group stands before its start, it takes calls only
 -- behind it, and what fixes it stays.
-use Rattle.scenario_laws.proofs.Prelude.{ℕ, ◌≡◌, ◌⊎◌, ◌≤◌, ◌||◌, ◌&&◌, ◌==◌, not, cond, Bool, true, false, List, [], ◌∷◌, Option, None, refl, sym, ◌∙◌, ap, subst, arith, inl, inr, unwrap_or, cases_Bool, eqb-true, false≢true, or_parts, not-false, none-some, Group, Bounds, NoFault, FitsWidths, without_cipher, IsChecked, Step, IsInRange, GroupRanges, BaseTooLong, stage_same, chosen_of, is_common, is_of_source, is_source_line, is_unbegun_at, stage_of, steps_of_source, version_of, Phase, checked_info, cipher_of, group_of, info_with, is_absent_at, is_ciphered, Airs, is_described_at, is_sending, is_started, no_group, takes_units, phase_of, setup_of, source_calls, start_of, was_started_at, AreAccepted, is_base_too_long, counter_ends, group_refusal, is_misplaced, is_out_of_phase, source_refusal, refuse_if, horizon_in}
-use Rattle.big_info.specs.Rows.{first_fault}
+use Rattle.scenario_laws.proofs.Known.Sources.Steps.{ℕ, ◌≡◌, ◌⊎◌, ◌≤◌, ◌||◌, ◌&&◌, ◌==◌, not, cond, Bool, true, false, List, [], ◌∷◌, Option, None, refl, sym, ◌∙◌, ap, subst, arith, inl, inr, unwrap_or, cases_Bool, eqb-true, false≢true, or_parts, not-false, none-some, Group, Bounds, NoFault, FitsWidths, without_cipher, IsChecked, Step, IsInRange, GroupRanges, BaseTooLong, stage_same, chosen_of, is_common, is_of_source, is_source_line, is_unbegun_at, stage_of, steps_of_source, version_of, Phase, checked_info, cipher_of, group_of, info_with, is_absent_at, is_ciphered, Airs, is_described_at, is_sending, is_started, no_group, takes_units, phase_of, setup_of, source_calls, start_of, was_started_at, AreAccepted, is_base_too_long, counter_ends, group_refusal, is_misplaced, is_out_of_phase, source_refusal, refuse_if, horizon_in, first_fault, source_is_heard as is_heard, Permitted, maps_none, neither, permitted, may_be_sent}
 use Rattle.big_info.proofs.Citable.{bounds_of, no_fault_within}
 use Rattle.source_machine.specs.declared.fault.EventFault.{EventFault}
-use Rattle.scenario_text.specs.declared.step.Step.TheVariants as steps
-use Rattle.scenario_history.specs.Source.{is_heard}
-use Rattle.scenario_laws.proofs.Legals.{Legal, Permitted, maps_none, neither, permitted}
-use Rattle.scenario_laws.proofs.StartGroups.{may_be_sent}
+use Rattle.scenario_laws.proofs.Legals.{Legal}
 
 -- ---- tests
 
@@ -101,8 +97,8 @@ begins : (own : List Step) → (is_started own ≡ true → is_unbegun_at (stage
 begins own before is = grind (arith, cases_Bool, is_started, true_not_false, is_unbegun_at, stage_of, not-false)
 
 settled_after : (airs : Airs) (own : List Step) (step : Step) → Settled own → Allowed airs own step → Settled (step ∷ own)
-settled_after airs own (steps.Group framing origin delay iso sdu max_sdu max_pdu num_bis bn nse irc pto sub spacing phy) before allows = grind (arith, widths_in, false≢true, no_group_yet)
-settled_after airs own (steps.Start first) before allows = record {
+settled_after airs own (Step.Group framing origin delay iso sdu max_sdu max_pdu num_bis bn nse irc pto sub spacing phy) before allows = grind (arith, widths_in, false≢true, no_group_yet)
+settled_after airs own (Step.Start first) before allows = record {
   widths = before.widths;
   uncoded = before.uncoded;
   no_fault = λ started. no_fault_within (horizon_in allows.version) (unwrap_or (group_of own) no_group).info (horizon_greatest (allows.version == 2))
@@ -113,10 +109,10 @@ settled_after airs own (steps.Start first) before allows = record {
   under_way = λ started. allows.in_place;
   unbegun = λ idle. absurd (false≢true (sym idle));
 }
-settled_after airs own steps.Stop before allows = grind (arith, sends, false≢true)
-settled_after airs own (steps.Terminate reason) before allows = grind (arith, sends, false≢true)
-settled_after airs own (steps.Unit bis time octets) before allows = grind (arith, true_not_false, is_started, takes)
-settled_after airs own steps.Event before allows = grind (arith, true_not_false, is_started, takes)
+settled_after airs own Step.Stop before allows = grind (arith, sends, false≢true)
+settled_after airs own (Step.Terminate reason) before allows = grind (arith, sends, false≢true)
+settled_after airs own (Step.Unit bis time octets) before allows = grind (arith, true_not_false, is_started, takes)
+settled_after airs own Step.Event before allows = grind (arith, true_not_false, is_started, takes)
 settled_after airs own _ before allows = assumption
 
 pub settled : (airs : Airs) (own : List Step) → Lawful airs own → Settled own

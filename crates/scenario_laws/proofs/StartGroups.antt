@@ -1,8 +1,6 @@
 -- Which groups a source may be started with: those of which no row of the group check holds but that of a cipher. Then none
 -- holds of the group without its cipher.
-use Rattle.scenario_laws.proofs.Prelude.{ℕ, ◌≡◌, ◌<◌, cond, Bool, true, false, List, [], ◌∷◌, ◌++◌, Option, None, Some, refl, sym, ap, arith, unwrap_or, find, AllByRecursion, false≢true, none-some, BigInfo, Cipher, GroupFault, faults, number_of, IsFirstFault, NoFault, has_fault, with_cipher, without_cipher, none_holds, group_refusal}
-use Rattle.big_info.specs.declared.fault.GroupFault.TheVariants as of_group
-use Rattle.big_info.specs.Rows.{first_fault}
+use Rattle.scenario_laws.proofs.Known.Sources.Steps.Prelude.{ℕ, ◌≡◌, ◌<◌, cond, Bool, true, false, List, [], ◌∷◌, ◌++◌, Option, None, Some, refl, sym, ap, arith, unwrap_or, find, AllByRecursion, false≢true, none-some, BigInfo, Cipher, GroupFault, faults, number_of, IsFirstFault, NoFault, has_fault, with_cipher, without_cipher, none_holds, group_refusal, first_fault}
 
 not_found : (holds : Bool) (fault : GroupFault) (rest : Option GroupFault) → cond holds (Some fault) rest ≡ None → (holds ≡ false) × (rest ≡ None)
 not_found holds fault rest none = grind (arith, none-some)
@@ -22,11 +20,11 @@ no_fault_in greatest info none = each_of (has_fault greatest info) (none_found (
 
 abbrev but_last : List GroupFault
 but_last =
-    of_group.RangeIso ∷ of_group.RangeSdu ∷ of_group.RangePdu ∷ of_group.Bn ∷ of_group.NseNotMultiple ∷ of_group.Irc ∷ of_group.PhyNotSupported
-    ∷ of_group.FramedPduSmall ∷ of_group.UnframedMultiple ∷ of_group.UnframedBn ∷ of_group.Horizon ∷ of_group.SubInterval ∷ of_group.SyncDelay ∷ []
+    GroupFault.RangeIso ∷ GroupFault.RangeSdu ∷ GroupFault.RangePdu ∷ GroupFault.Bn ∷ GroupFault.NseNotMultiple ∷ GroupFault.Irc ∷ GroupFault.PhyNotSupported
+    ∷ GroupFault.FramedPduSmall ∷ GroupFault.UnframedMultiple ∷ GroupFault.UnframedBn ∷ GroupFault.Horizon ∷ GroupFault.SubInterval ∷ GroupFault.SyncDelay ∷ []
 
-differs : (fault : GroupFault) → number_of fault < number_of of_group.Encrypted → fault ≡ of_group.Encrypted → ⊥
-differs fault below same = let number : number_of fault ≡ number_of of_group.Encrypted = ap number_of same in omega (arith, below, number)
+differs : (fault : GroupFault) → number_of fault < number_of GroupFault.Encrypted → fault ≡ GroupFault.Encrypted → ⊥
+differs fault below same = let number : number_of fault ≡ number_of GroupFault.Encrypted = ap number_of same in omega (arith, below, number)
 
 passed : (holds : Bool) (fault last : GroupFault) (rest : Option GroupFault) → cond holds (Some fault) rest ≡ Some last → (fault ≡ last → ⊥)
     → (holds ≡ false) × (rest ≡ Some last)
@@ -44,34 +42,22 @@ found_last test (fault ∷ all) last is others =
 it_holds : (holds : Bool) (last : GroupFault) → cond holds (Some last) None ≡ Some last → holds ≡ true
 it_holds holds last is = grind (arith, none-some)
 
-before_last : (test : GroupFault → Bool) → AllByRecursion (λ fault. test fault ≡ false) but_last → (other : GroupFault) → number_of other < number_of of_group.Encrypted → test other ≡ false
+before_last : (test : GroupFault → Bool) → AllByRecursion (λ fault. test fault ≡ false) but_last → (other : GroupFault) → number_of other < number_of GroupFault.Encrypted → test other ≡ false
 before_last test all other below = grind arith
 
-first_encrypted : (greatest : ℕ) (info : BigInfo) → first_fault greatest info ≡ Some of_group.Encrypted → IsFirstFault greatest info of_group.Encrypted
+first_encrypted : (greatest : ℕ) (info : BigInfo) → first_fault greatest info ≡ Some GroupFault.Encrypted → IsFirstFault greatest info GroupFault.Encrypted
 unfolding first_fault
 first_encrypted greatest info is =
     let test : GroupFault → Bool = has_fault greatest info in
-    let found = found_last test but_last of_group.Encrypted is (
-      differs of_group.RangeIso (omega arith),
+    let found = found_last test but_last GroupFault.Encrypted is (
+      differs GroupFault.RangeIso (omega arith),
       grind (arith, differs),
     ) in
-    record { holds = it_holds (test of_group.Encrypted) of_group.Encrypted found.1; none_before = before_last test found.0 }
+    record { holds = it_holds (test GroupFault.Encrypted) GroupFault.Encrypted found.1; none_before = before_last test found.0 }
 
 pub may_be_sent : (greatest : ℕ) (info : BigInfo) (cipher : Option Cipher) (found : Option GroupFault) → first_fault greatest (with_cipher info cipher) ≡ found
     → group_refusal found ≡ None → NoFault greatest (without_cipher info)
 may_be_sent greatest info None None is none = no_fault_in greatest (without_cipher info) is
-may_be_sent greatest info (Some cipher) None is none = absurd (false≢true (sym (no_fault_in greatest (with_cipher info (Some cipher)) is of_group.Encrypted)))
-may_be_sent greatest info cipher (Some of_group.Encrypted) is none = none_holds greatest (with_cipher info cipher) (first_encrypted greatest (with_cipher info cipher) is)
-may_be_sent greatest info cipher (Some of_group.RangeIso) is none = absurd (none-some _ (sym none))
-may_be_sent greatest info cipher (Some of_group.RangeSdu) is none = absurd (none-some _ (sym none))
-may_be_sent greatest info cipher (Some of_group.RangePdu) is none = absurd (none-some _ (sym none))
-may_be_sent greatest info cipher (Some of_group.Bn) is none = absurd (none-some _ (sym none))
-may_be_sent greatest info cipher (Some of_group.NseNotMultiple) is none = absurd (none-some _ (sym none))
-may_be_sent greatest info cipher (Some of_group.Irc) is none = absurd (none-some _ (sym none))
-may_be_sent greatest info cipher (Some of_group.PhyNotSupported) is none = absurd (none-some _ (sym none))
-may_be_sent greatest info cipher (Some of_group.FramedPduSmall) is none = absurd (none-some _ (sym none))
-may_be_sent greatest info cipher (Some of_group.UnframedMultiple) is none = absurd (none-some _ (sym none))
-may_be_sent greatest info cipher (Some of_group.UnframedBn) is none = absurd (none-some _ (sym none))
-may_be_sent greatest info cipher (Some of_group.Horizon) is none = absurd (none-some _ (sym none))
-may_be_sent greatest info cipher (Some of_group.SubInterval) is none = absurd (none-some _ (sym none))
-may_be_sent greatest info cipher (Some of_group.SyncDelay) is none = absurd (none-some _ (sym none))
+may_be_sent greatest info (Some cipher) None is none = absurd (false≢true (sym (no_fault_in greatest (with_cipher info (Some cipher)) is GroupFault.Encrypted)))
+may_be_sent greatest info cipher (Some GroupFault.Encrypted) is none = none_holds greatest (with_cipher info cipher) (first_encrypted greatest (with_cipher info cipher) is)
+may_be_sent greatest info cipher (Some fault) is none = absurd (none-some _ (sym none))

@@ -1,14 +1,7 @@
 -- The stays of a sink: it is on the group of the source that it is of, by what fixes the source.
-use Rattle.scenario_laws.proofs.Prelude.{ℕ, ◌≡◌, ◌⊎◌, ◌≤◌, ◌||◌, cond, Bool, true, false, List, [], ◌∷◌, Option, Some, refl, sym, ◌∙◌, ap, subst, arith, inl, inr, false≢true, or_parts, none-some, same_Some, iso_us_of, anchor_of, Setup, next_of, Call, tune, BigSync, Step, chosen_of, chosen_steps, steps_of_source, is_started, setup_of, source_calls, Airs, sink_calls, source_of, big_sync_on, any_since, given_since_made, injected_since, is_given, is_injected, is_made, is_tuned, steps_before}
-use Rattle.group_sink.specs.Calls.{place}
-use Rattle.scenario_text.specs.declared.step.Step.TheVariants as steps
-use Rattle.scenario_history.specs.Refusals.{has_beyond}
-use Rattle.scenario_laws.proofs.Announced.{Announcing}
-use Rattle.scenario_laws.proofs.ByHand.{as_by_hand}
-use Rattle.scenario_laws.proofs.Legals.{Legal, Permitted, fails_not, permitted}
+use Rattle.scenario_laws.proofs.Known.Sources.{ℕ, ◌≡◌, ◌⊎◌, ◌≤◌, ◌||◌, cond, Bool, true, false, List, [], ◌∷◌, Option, Some, refl, sym, ◌∙◌, ap, subst, arith, inl, inr, false≢true, or_parts, none-some, same_Some, iso_us_of, anchor_of, Setup, next_of, Call, tune, BigSync, Step, chosen_of, chosen_steps, steps_of_source, is_started, setup_of, source_calls, Airs, sink_calls, source_of, big_sync_on, any_since, given_since_made, injected_since, is_given, is_injected, is_made, is_tuned, steps_before, place, has_beyond, Legal, Permitted, fails_not, permitted, sends, takes, true_not_false, goes, next_in, given_is_injected}
+use Rattle.scenario_laws.proofs.Announced.{Announcing, as_by_hand}
 use Rattle.scenario_laws.proofs.Becoming.{Puts, becomes, puts_first}
-use Rattle.scenario_laws.proofs.Sources.{sends, takes, true_not_false}
-use Rattle.scenario_laws.proofs.Wholes.{goes, next_in}
 
 -- where the stay is on the source's group
 pub record TunedTo (setup : Setup) (tuning : BigSync) : Type 0 where
@@ -28,9 +21,6 @@ rest_not begins now rest clean is = grind (arith, false≢true, or_parts)
 
 both_not : (begins now rest : Bool) → now ≡ false → (begins ≡ false → rest ≡ false) → cond begins now (now || rest) ≡ false
 both_not begins now rest last before = grind (arith, false≢true)
-
-given_is_injected : (n : ℕ) (step : Step) → is_injected n step ≡ false → is_given n step ≡ false
-given_is_injected n _ clean = grind arith
 
 -- where nothing was injected, no train was given
 pub none_given : (begins : List Step → Step → Bool) (n : ℕ) (made : List Step) → injected_since begins n made ≡ false → any_since begins (is_given n) made ≡ false
@@ -118,8 +108,8 @@ tuned_to airs boxes s earlier tuning which started same within chosen = search a
 
 pub begins_to : Announcing → (airs : Airs) (boxes s n : ℕ) (step : Step) (earlier : List Step) (tuning : BigSync) → Legal airs boxes earlier → Permitted airs boxes earlier step
     → BeginsBy airs s n step earlier tuning → OnSource (steps_of_source s earlier) tuning
-begins_to laws airs boxes s n (steps.Tuned sink which) earlier tuning legal permits begins = grind (arith, tuned_to, takes, chosen_steps, fails_not, setup_of)
-begins_to laws airs boxes s n (steps.Announce sink) earlier tuning legal permits begins =
+begins_to laws airs boxes s n (Step.Tuned sink which) earlier tuning legal permits begins = grind (arith, tuned_to, takes, chosen_steps, fails_not, setup_of)
+begins_to laws airs boxes s n (Step.Announce sink) earlier tuning legal permits begins =
     let by_hand = as_by_hand laws airs boxes n sink earlier begins.puts.by.0.big_sync legal permits begins.puts.by.0.brings in
     tuned_to airs boxes s earlier tuning begins.puts.by.0.big_sync.which (sends (chosen_steps earlier) permits.in_phase)
     (sym by_hand.0 ∙ begins.puts.by.1 ∙ begins.on_is) by_hand.1 begins.chosen_is

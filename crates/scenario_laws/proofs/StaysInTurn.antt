@@ -1,16 +1,6 @@
 -- One stay after the other: what holds of the events and the entries of the earlier stays of a sink with a source, and goes on
 -- over one stay, holds of all of them.
-use Rattle.scenario_laws.proofs.Prelude.{ℕ, ◌≡◌, ◌⊎◌, ◌≤◌, ◌==◌, cond, Bool, true, false, List, [], ◌∷◌, ◌++◌, Option, None, Some, refl, sym, ◌∙◌, ap, subst, arith, inl, inr, append_assoc, eqb-true, false≢true, append-nil, none-some, Handed, Call, tune, BigSync, of_stream, Step, chosen_of, chosen_steps, steps_of_source, Airs, is_of, sink_calls, source_of, SinkUnit, handed_by, Closed, closed_by, closed_in, closed_since, given_since_made, handed_since, is_given, is_made, is_tuned, of_sink, shown_since}
-use Rattle.group_sink.specs.Calls.{place}
-use Rattle.scenario_laws.specs.Laws.{closed_if}
-use Rattle.scenario_laws.proofs.Announced.{Announcing}
-use Rattle.scenario_laws.proofs.Legals.{Legal}
-use Rattle.scenario_laws.proofs.Wholes.{next_in}
-use Rattle.scenario_laws.proofs.Stays.{IsOn, on_since_made}
-use Rattle.scenario_laws.proofs.Closings.{shown_if, step_shown}
-use Rattle.scenario_laws.proofs.Closes.{mine_in, stay_if}
-use Rattle.scenario_laws.proofs.Shown.{shown_on}
-use Rattle.scenario_laws.proofs.Ticks.{is_its}
+use Rattle.scenario_laws.proofs.Known.{ℕ, ◌≡◌, ◌⊎◌, ◌≤◌, ◌==◌, cond, Bool, true, false, List, [], ◌∷◌, ◌++◌, Option, None, Some, refl, sym, ◌∙◌, ap, subst, arith, inl, inr, append_assoc, eqb-true, false≢true, append-nil, none-some, Handed, Call, tune, BigSync, of_stream, Step, chosen_of, chosen_steps, steps_of_source, Airs, is_of, sink_calls, source_of, SinkUnit, handed_by, Closed, closed_by, closed_in, closed_since, given_since_made, handed_since, is_given, is_made, is_tuned, of_sink, shown_since, cases_Bool, place, closed_if, Announcing, Legal, permitted, next_in, next_rises, IsOn, on_since_made, last_not, shown_if, step_shown, mine_in, stay_if, made_nothing, shown_on, is_its, becomes, puts_first}
 
 -- ---- the stay that goes on, and what came before it
 
@@ -96,11 +86,6 @@ none_shown airs boxes s n bis step earlier legal least within nowhere = grind (a
 
 -- ---- what holds of all stays
 
-abbrev pub InTurnAt : (ℕ → List Closed → List Handed → Type 0) → Airs → ℕ → ℕ → ℕ → List Step → Type 0
-InTurnAt Q airs s n bis made =
-    InTurn Q s n bis (here_at airs s n made) (next_in (steps_of_source s made)) (closed_from (is_made n) airs s n made) (closed_from (is_tuned n) airs s n made)
-    (handed_since (is_made n) airs made) (handed_since (is_tuned n) airs made)
-
 -- the claim goes on over a stay up to the source's next event
 abbrev pub OverStay : (ℕ → List Closed → List Handed → Type 0) → (List Step → Type 0) → Airs → ℕ → ℕ → ℕ → Type 0
 OverStay Q Fine airs s n bis = (made : List Step) → Fine made → (tuning : BigSync) → IsOn airs s n made tuning → (past : List Closed) → (entries : List Handed) → Q tuning.first past entries
@@ -117,44 +102,6 @@ pub record Turns (Q : ℕ → List Closed → List Handed → Type 0) (Fine : Li
   pub source_within : s ≤ 1
   pub sink_within : n ≤ 7
 
-pub at_end : (Q : ℕ → List Closed → List Handed → Type 0) (Fine : List Step → Type 0) (airs : Airs) (boxes s n bis : ℕ) → Turns Q Fine airs boxes s n bis → (made : List Step) → Fine made
-    → (here : Option BigSync) → here_at airs s n made ≡ here
-    → InTurn Q s n bis here (next_in (steps_of_source s made)) (closed_from (is_made n) airs s n made) (closed_from (is_tuned n) airs s n made) (handed_since (is_made n) airs made)
-    (handed_since (is_tuned n) airs made)
-    → Q (next_in (steps_of_source s made)) (closed_from (is_made n) airs s n made) (shown s n bis (handed_since (is_made n) airs made))
-at_end Q Fine airs boxes s n bis turns made fine here there all = grind (arith, next_in, append-nil, stay_is, mine_in, on_since_made, is_its)
-
--- what is known before a step
-pub record Before (Q : ℕ → List Closed → List Handed → Type 0) (Fine : List Step → Type 0) (airs : Airs) (boxes s n bis : ℕ) (step : Step) (earlier : List Step) : Type 0 where
-  pub turns : Turns Q Fine airs boxes s n bis
-  pub fine : Fine earlier
-  pub legal_is : Legal airs boxes (step ∷ earlier)
-  pub still : is_made n earlier step ≡ false
-  pub ungiven : is_given n step ≡ false
-  pub all : InTurnAt Q airs s n bis earlier
-  pub more : next_in (steps_of_source s earlier) ≤ next_in (steps_of_source s (step ∷ earlier))
-
--- ---- a step by which the stay goes on, or the sink stays where it isn't on the source's group
-
-on_turn : (Q : ℕ → List Closed → List Handed → Type 0) (Fine : List Step → Type 0) (airs : Airs) (boxes s n bis : ℕ) (step : Step) (earlier : List Step)
-    → Before Q Fine airs boxes s n bis step earlier → is_tuned n earlier step ≡ false → here_at airs s n (step ∷ earlier) ≡ here_at airs s n earlier → InTurnAt Q airs s n bis (step ∷ earlier)
-on_turn Q Fine airs boxes s n bis step earlier before begins_not same =
-    same_turn Q s n bis (here_at airs s n earlier) (here_at airs s n (step ∷ earlier)) (is_made n earlier step) (is_tuned n earlier step) (next_in (steps_of_source s (step ∷ earlier)))
-    (closed_from (is_made n) airs s n earlier ++ closed_by airs s n earlier step) (closed_from (is_tuned n) airs s n earlier ++ closed_by airs s n earlier step)
-    (handed_since (is_made n) airs earlier ++ handed_by airs earlier step) (handed_since (is_tuned n) airs earlier ++ handed_by airs earlier step) same before.still begins_not
-    (goes_on Q before.turns.rises s n bis (here_at airs s n earlier) (next_in (steps_of_source s earlier)) (next_in (steps_of_source s (step ∷ earlier)))
-    (closed_from (is_made n) airs s n earlier) (closed_from (is_tuned n) airs s n earlier) (closed_by airs s n earlier step) (handed_since (is_made n) airs earlier)
-    (handed_since (is_tuned n) airs earlier) (handed_by airs earlier step) before.more (none_closed airs s n step earlier)
-    (none_shown airs boxes s n bis step earlier before.legal_is.0 before.turns.source_within before.turns.sink_within) before.all)
-
--- the place and the source are the same
-pub still_turn : (Q : ℕ → List Closed → List Handed → Type 0) (Fine : List Step → Type 0) (airs : Airs) (boxes s n bis : ℕ) (step : Step) (earlier : List Step)
-    → Before Q Fine airs boxes s n bis step earlier → is_tuned n earlier step ≡ false → source_of n (step ∷ earlier) ≡ source_of n earlier
-    → place (sink_calls airs n (step ∷ earlier)) ≡ place (sink_calls airs n earlier) → InTurnAt Q airs s n bis (step ∷ earlier)
-still_turn Q Fine airs boxes s n bis step earlier before begins_not source_same same =
-    on_turn Q Fine airs boxes s n bis step earlier before begins_not
-    (ap (λ source. stay_if (is_of s source) (sink_calls airs n (step ∷ earlier))) source_same ∙ ap (λ p. cond (mine_in s n earlier) p None) same)
-
 -- ---- a step by which a stay is over, or another begins: all that came is past
 
 pub past_list : {A : Type 0} (made : Bool) (xs more : List A) → made ≡ false → more ≡ [] → cond made [] (xs ++ more) ≡ xs
@@ -170,44 +117,110 @@ fresh_closed here begins closed fresh = grind (arith, cond, in_stay_none)
 pub fresh_shown : (s n bis : ℕ) (here : Option BigSync) (begins : Bool) (units : List SinkUnit) → IsFresh here begins → in_stay here (shown s n bis (cond begins [] units)) ≡ []
 fresh_shown s n bis here begins units fresh = grind (arith, cond, in_stay_none)
 
-anew_turn : (Q : ℕ → List Closed → List Handed → Type 0) (Fine : List Step → Type 0) (airs : Airs) (boxes s n bis : ℕ) (step : Step) (earlier : List Step)
-    → Before Q Fine airs boxes s n bis step earlier → closed_by airs s n earlier step ≡ [] → handed_by airs earlier step ≡ []
-    → next_in (steps_of_source s earlier) ≤ first_of (here_at airs s n (step ∷ earlier)) (next_in (steps_of_source s (step ∷ earlier)))
-    → IsFresh (here_at airs s n (step ∷ earlier)) (is_tuned n earlier step) → InTurnAt Q airs s n bis (step ∷ earlier)
-anew_turn Q Fine airs boxes s n bis step earlier before no_closed no_shown least fresh =
-    let later : ℕ = first_of (here_at airs s n (step ∷ earlier)) (next_in (steps_of_source s (step ∷ earlier))) in
-    let known : Q later (closed_from (is_made n) airs s n earlier) (shown s n bis (handed_since (is_made n) airs earlier)) =
-    before.turns.rises (next_in (steps_of_source s earlier)) later (closed_from (is_made n) airs s n earlier) (shown s n bis (handed_since (is_made n) airs earlier)) least
-    (at_end Q Fine airs boxes s n bis before.turns earlier before.fine (here_at airs s n earlier) refl before.all) in
-    let past : List Closed = closed_from (is_made n) airs s n (step ∷ earlier) in
-    let entries : List Handed = shown s n bis (handed_since (is_made n) airs (step ∷ earlier)) in
-    record {
-      past = past;
-      entries = entries;
-      claim = grind (arith, past_list, is_made, closed_by, handed_since, handed_by);
-      closed_is = grind (arith, fresh_closed, is_tuned, closed_by, append-nil);
-      shown_is = grind (arith, fresh_shown, is_tuned, handed_since, handed_by, append-nil);
-    }
-
--- the sink is on no group then
-pub off_turn : (Q : ℕ → List Closed → List Handed → Type 0) (Fine : List Step → Type 0) (airs : Airs) (boxes s n bis : ℕ) (step : Step) (earlier : List Step)
-    → Before Q Fine airs boxes s n bis step earlier → closed_by airs s n earlier step ≡ [] → handed_by airs earlier step ≡ []
-    → place (sink_calls airs n (step ∷ earlier)) ≡ None → InTurnAt Q airs s n bis (step ∷ earlier)
-off_turn Q Fine airs boxes s n bis step earlier before no_closed no_shown nowhere =
-    let none : here_at airs s n (step ∷ earlier) ≡ None = no_stay (mine_in s n (step ∷ earlier)) (sink_calls airs n (step ∷ earlier)) nowhere in
-    anew_turn Q Fine airs boxes s n bis step earlier before no_closed no_shown
-    (subst (λ here. next_in (steps_of_source s earlier) ≤ first_of here (next_in (steps_of_source s (step ∷ earlier)))) (sym none) before.more) (inl none)
-
 -- it is synchronized to this BIG of the chosen source, from the source's next event on
 put_least : (chosen s : ℕ) (on : BigSync) (rest : List Call) (next next' : ℕ) → next ≤ next' → ((chosen == s) ≡ true → on.first ≡ next) → (mine : Bool) → (chosen == s) ≡ mine
     → next ≤ first_of (stay_if mine (tune on ∷ rest)) next'
 put_least chosen s on rest next next' more first mine is = grind arith
 
-pub put_turn : (Q : ℕ → List Closed → List Handed → Type 0) (Fine : List Step → Type 0) (airs : Airs) (boxes s n bis : ℕ) (step : Step) (earlier : List Step) (on : BigSync)
-    → Before Q Fine airs boxes s n bis step earlier → closed_by airs s n earlier step ≡ [] → handed_by airs earlier step ≡ [] → is_tuned n earlier step ≡ true
-    → sink_calls airs n (step ∷ earlier) ≡ tune on ∷ sink_calls airs n earlier → source_of n (step ∷ earlier) ≡ Some (chosen_of earlier) → on.first ≡ next_in (chosen_steps earlier)
-    → InTurnAt Q airs s n bis (step ∷ earlier)
-put_turn Q Fine airs boxes s n bis step earlier on before no_closed no_shown begins calls_is source_is first_is =
-    anew_turn Q Fine airs boxes s n bis step earlier before no_closed no_shown
-    (grind (arith, next_in, steps_of_source, put_least, chosen_of, sink_calls, eqb-true))
-    (inr begins)
+-- the sink is made: it closed nothing and handed up nothing
+made_turn : (Q : ℕ → List Closed → List Handed → Type 0) → ((e : ℕ) → Q e [] []) → (s n bis : ℕ) (here : Option BigSync) (again : Bool) → here ≡ None → again ≡ true
+    → (next : ℕ) (closed now : List Closed) (units units_now : List SinkUnit) → InTurn Q s n bis here next (cond again [] closed) now (cond again [] units) units_now
+made_turn Q none s n bis None true nowhere is next closed now units units_now = record { past = []; entries = []; claim = none next; closed_is = refl; shown_is = refl }
+made_turn Q none s n bis (Some tuning) again nowhere is next closed now units units_now = absurd (none-some tuning (sym nowhere))
+made_turn Q none s n bis here false nowhere is next closed now units units_now = absurd (false≢true is)
+
+-- ---- step by step, the stays of a sink with a source, one after the other
+
+module _ (Q : ℕ → List Closed → List Handed → Type 0) (Fine : List Step → Type 0) (airs : Airs) (boxes s n bis : ℕ) where
+  abbrev InTurnAt : List Step → Type 0
+  InTurnAt made =
+      InTurn Q s n bis (here_at airs s n made) (next_in (steps_of_source s made)) (closed_from (is_made n) airs s n made) (closed_from (is_tuned n) airs s n made)
+      (handed_since (is_made n) airs made) (handed_since (is_tuned n) airs made)
+
+  -- what is known before a step
+  record Before (step : Step) (earlier : List Step) : Type 0 where
+    turns : Turns Q Fine airs boxes s n bis
+    fine : Fine earlier
+    legal_is : Legal airs boxes (step ∷ earlier)
+    still : is_made n earlier step ≡ false
+    ungiven : is_given n step ≡ false
+    all : InTurnAt earlier
+    more : next_in (steps_of_source s earlier) ≤ next_in (steps_of_source s (step ∷ earlier))
+
+  at_end : Turns Q Fine airs boxes s n bis → (made : List Step) → Fine made → (here : Option BigSync) → here_at airs s n made ≡ here
+      → InTurn Q s n bis here (next_in (steps_of_source s made)) (closed_from (is_made n) airs s n made) (closed_from (is_tuned n) airs s n made)
+      (handed_since (is_made n) airs made) (handed_since (is_tuned n) airs made)
+      → Q (next_in (steps_of_source s made)) (closed_from (is_made n) airs s n made) (shown s n bis (handed_since (is_made n) airs made))
+  at_end turns made fine here there all = grind (arith, next_in, append-nil, stay_is, mine_in, on_since_made, is_its)
+
+  -- the place and the source are the same
+  still_turn : (step : Step) (earlier : List Step) → Before step earlier → is_tuned n earlier step ≡ false → source_of n (step ∷ earlier) ≡ source_of n earlier
+      → place (sink_calls airs n (step ∷ earlier)) ≡ place (sink_calls airs n earlier) → InTurnAt (step ∷ earlier)
+  still_turn step earlier before begins_not source_same same =
+      same_turn Q s n bis (here_at airs s n earlier) (here_at airs s n (step ∷ earlier)) (is_made n earlier step) (is_tuned n earlier step) (next_in (steps_of_source s (step ∷ earlier)))
+      (closed_from (is_made n) airs s n earlier ++ closed_by airs s n earlier step) (closed_from (is_tuned n) airs s n earlier ++ closed_by airs s n earlier step)
+      (handed_since (is_made n) airs earlier ++ handed_by airs earlier step) (handed_since (is_tuned n) airs earlier ++ handed_by airs earlier step)
+      (ap (λ source. stay_if (is_of s source) (sink_calls airs n (step ∷ earlier))) source_same ∙ ap (λ p. cond (mine_in s n earlier) p None) same) before.still begins_not
+      (goes_on Q before.turns.rises s n bis (here_at airs s n earlier) (next_in (steps_of_source s earlier)) (next_in (steps_of_source s (step ∷ earlier)))
+      (closed_from (is_made n) airs s n earlier) (closed_from (is_tuned n) airs s n earlier) (closed_by airs s n earlier step) (handed_since (is_made n) airs earlier)
+      (handed_since (is_tuned n) airs earlier) (handed_by airs earlier step) before.more (none_closed airs s n step earlier)
+      (none_shown airs boxes s n bis step earlier before.legal_is.0 before.turns.source_within before.turns.sink_within) before.all)
+
+  anew_turn : (step : Step) (earlier : List Step) → Before step earlier → closed_by airs s n earlier step ≡ [] → handed_by airs earlier step ≡ []
+      → next_in (steps_of_source s earlier) ≤ first_of (here_at airs s n (step ∷ earlier)) (next_in (steps_of_source s (step ∷ earlier)))
+      → IsFresh (here_at airs s n (step ∷ earlier)) (is_tuned n earlier step) → InTurnAt (step ∷ earlier)
+  anew_turn step earlier before no_closed no_shown least fresh =
+      let later : ℕ = first_of (here_at airs s n (step ∷ earlier)) (next_in (steps_of_source s (step ∷ earlier))) in
+      let known : Q later (closed_from (is_made n) airs s n earlier) (shown s n bis (handed_since (is_made n) airs earlier)) =
+      before.turns.rises (next_in (steps_of_source s earlier)) later (closed_from (is_made n) airs s n earlier) (shown s n bis (handed_since (is_made n) airs earlier)) least
+      (at_end before.turns earlier before.fine (here_at airs s n earlier) refl before.all) in
+      let past : List Closed = closed_from (is_made n) airs s n (step ∷ earlier) in
+      let entries : List Handed = shown s n bis (handed_since (is_made n) airs (step ∷ earlier)) in
+      record {
+        past = past;
+        entries = entries;
+        claim = grind (arith, past_list, is_made, closed_by, handed_since, handed_by);
+        closed_is = grind (arith, fresh_closed, is_tuned, closed_by, append-nil);
+        shown_is = grind (arith, fresh_shown, is_tuned, handed_since, handed_by, append-nil);
+      }
+
+  turn_after : (step : Step) (earlier : List Step) → Before step earlier → InTurnAt (step ∷ earlier)
+  turn_after step earlier before = elim (becomes airs n step earlier before.ungiven) [
+    | inl keeps ↦ still_turn step earlier before keeps.begins_not keeps.same_source keeps.same_place
+    | inr moves ↦ elim moves [
+      | inl parts ↦
+          let none : here_at airs s n (step ∷ earlier) ≡ None = no_stay (mine_in s n (step ∷ earlier)) (sink_calls airs n (step ∷ earlier)) parts.nowhere in
+          anew_turn step earlier before (parts.silent.closes s) (parts.silent.hands earlier)
+          (subst (λ here. next_in (steps_of_source s earlier) ≤ first_of here (next_in (steps_of_source s (step ∷ earlier)))) (sym none) before.more) (inl none)
+      | inr puts ↦
+          let first_is : puts.on.first ≡ next_in (chosen_steps earlier) =
+          puts_first before.turns.laws airs boxes n step earlier before.legal_is.0 (permitted airs boxes earlier step before.legal_is.1) puts in
+          anew_turn step earlier before (puts.silent.closes s) (puts.silent.hands earlier)
+          (grind (arith, next_in, steps_of_source, put_least, chosen_of, sink_calls, eqb-true, puts.calls_is, puts.source_is)) (inr puts.begins)
+    ]
+  ]
+
+  turn : Turns Q Fine airs boxes s n bis → (made : List Step) → Fine made → InTurnAt made
+  turn turns [] fine = made_turn Q turns.none s n bis None true refl refl (next_in []) [] [] [] []
+  turn turns (step ∷ earlier) fine = elim (cases_Bool (is_made n earlier step)) [
+    | inl made ↦
+        made_turn Q turns.none s n bis (here_at airs s n (step ∷ earlier)) (is_made n earlier step)
+        (no_stay (mine_in s n (step ∷ earlier)) (sink_calls airs n (step ∷ earlier)) (ap place (made_nothing airs n step earlier made))) made (next_in (steps_of_source s (step ∷ earlier)))
+        (closed_from (is_made n) airs s n earlier ++ closed_by airs s n earlier step) (closed_from (is_tuned n) airs s n (step ∷ earlier))
+        (handed_since (is_made n) airs earlier ++ handed_by airs earlier step) (handed_since (is_tuned n) airs (step ∷ earlier))
+    | inr still ↦
+        turn_after step earlier (assumption (
+          turns.before step earlier still fine,
+          turns.legal (step ∷ earlier) fine,
+          last_not (is_made n earlier step) (is_given n step) (given_since_made n earlier) (turns.ungiven (step ∷ earlier) fine),
+          turn turns earlier (turns.before step earlier still fine),
+          next_rises airs boxes s earlier step (turns.legal (step ∷ earlier) fine),
+        ))
+  ]
+
+  -- the claim holds of all events and entries
+  pub over_stays : Turns Q Fine airs boxes s n bis → (made : List Step) → Fine made
+      → Q (next_in (steps_of_source s made)) (closed_since airs s n made) (shown_since (is_made n) airs s n bis made)
+  over_stays turns made fine =
+      subst (λ closed. Q (next_in (steps_of_source s made)) closed (shown_since (is_made n) airs s n bis made)) (all_closed airs s n made)
+      (at_end turns made fine (here_at airs s n made) refl (turn turns made fine))

@@ -1,6 +1,5 @@
 -- Which events a sink of one source closes by a step: those of its source alone.
-use Rattle.scenario_laws.proofs.Prelude.{ℕ, ◌≡◌, ◌≢◌, ◌≤◌, ◌==◌, cond, true, List, [], ◌∷◌, Option, Some, arith, cases_eq, cond-false, cond-true, eq-eqb, ne_eqb, eqb-true, false≢true, Call, Step, chosen_of, Airs, is_of, ticked, ticked_if}
-use Rattle.scenario_text.specs.declared.step.Step.TheVariants as steps
+use Rattle.scenario_laws.proofs.Known.Sources.Steps.Prelude.{ℕ, ◌≡◌, ◌≢◌, ◌≤◌, ◌==◌, cond, true, List, [], ◌∷◌, Option, Some, arith, cases_eq, cond-false, cond-true, eq-eqb, ne_eqb, eqb-true, false≢true, Call, Step, chosen_of, Airs, is_of, ticked, ticked_if}
 use Rattle.scenario_laws.proofs.Legals.{Legal}
 
 -- the sink is of this source
@@ -25,5 +24,5 @@ end_ticks s opens calls source least is = cc (is, end_of s opens calls least)
 
 pub chosen_within : (airs : Airs) (boxes : ℕ) (made : List Step) → Legal airs boxes made → chosen_of made ≤ 1
 chosen_within airs boxes [] legal = omega arith
-chosen_within airs boxes (steps.Source source ∷ earlier) legal = legal.2
+chosen_within airs boxes (Step.Source source ∷ earlier) legal = legal.2
 chosen_within airs boxes (_ ∷ earlier) legal = chosen_within airs boxes earlier legal.0

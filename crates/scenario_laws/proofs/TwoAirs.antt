@@ -1,11 +1,5 @@
 -- Two airs that meet the relation of their framing: no source, no refusal, no sink and no close tells them apart.
-use Rattle.scenario_laws.proofs.Prelude.{ℕ, zero, suc, ◌≡◌, Bool, true, false, List, [], ◌∷◌, Option, None, refl, sym, ◌∙◌, ap, arith, unwrap_or, option_or, or_parts, Air, AreAirs, airs_of, pdu_of, Airs, Setup, IsChecked, Call, Step, Refusal, chosen_of, chosen_steps, steps_of_source, event_back, is_started, open_event, pdu_in, setup_of, source_calls, MeetAirs, heard_on_air, sink_calls, position_at, with_sink_call, closing_at, closing_both, handed_by, handed_up, refusal_of, refuse_if}
-use Rattle.source_machine.specs.Calls.{Call as SourceCall}
-use Rattle.scenario_history.specs.Boxes.{closing}
-use Rattle.scenario_laws.proofs.Legals.{Legal, permitted}
-use Rattle.scenario_laws.proofs.Sources.{Lawful, checked, group_in, hears, lawful, settled, takes}
-use Rattle.scenario_laws.proofs.RelayedUnits.Citable.{flat_same}
-use Rattle.scenario_laws.proofs.Hears.{its_airs}
+use Rattle.scenario_laws.proofs.Known.{ℕ, zero, suc, ◌≡◌, Bool, true, false, List, [], ◌∷◌, Option, None, refl, sym, ◌∙◌, ap, arith, unwrap_or, option_or, or_parts, Air, AreAirs, airs_of, pdu_of, Airs, Setup, IsChecked, Call, Step, Refusal, chosen_of, chosen_steps, steps_of_source, event_back, is_started, open_event, pdu_in, setup_of, source_calls, MeetAirs, heard_on_air, sink_calls, position_at, with_sink_call, closing_at, closing_both, handed_by, handed_up, refusal_of, refuse_if, SourceCall, closing, Legal, permitted, Lawful, checked, group_in, hears, lawful, settled, takes, flat_same, its_airs}
 
 -- the relation has at most one solution
 abbrev pub OneAir : Type 0

@@ -1,24 +1,10 @@
 -- The entries of a framed stream over all stays of a sink with a source: each is of a unit that the source accepted, in order.
-use Rattle.scenario_laws.proofs.Prelude.{ℕ, suc, ◌≡◌, ◌⊎◌, ◌<◌, ◌≤◌, ◌+◌, ◌-◌, ◌*◌, ◌/◌, true, false, List, [], ◌∷◌, ◌++◌, map, Some, refl, sym, ◌∙◌, ap, subst, arith, inl, inr, slice_get, Contains, add-mul, mul-le-mul, cases_Bool, append-nil, div-mul-add, BigInfo, iso_us_of, Handed, valid, lost, Air, opened, Timed, accepted, layings_of, IsOf, Sent, closed_end, entry_of, is_heard, struck, time_of, cases_low, opened_least, anchor_of, framed_reference_of, render_of, Setup, framed_calls, next_of, BigSync, bis_of, of_stream, is_in, stay_on, streams_of, is_member, member_is, Step, steps_of_source, is_started, setup_of, source_calls, Airs, MeetAirs, sink_calls, AreSent, InUnitOrder, IsOfUnit, IsSentAs, by_payload, time_in, whole_stay, Closed, air_in, calls_on, given_since_made, injected_since, is_given, is_injected, is_made, is_tuned, shown_since}
-use Rattle.isoal_base.specs.Stays as stays
-use Rattle.isoal_framed.specs.Struck.{octets_in}
-use Rattle.source_machine.specs.Calls.{Call as SourceCall}
-use Rattle.group_sink.specs.Handing.{handed_since as ticked_since}
-use Rattle.scenario_laws.specs.SourceUnits.{anchor_in}
-use Rattle.scenario_laws.proofs.Below.{Below}
-use Rattle.scenario_laws.proofs.Legals.{Legal}
-use Rattle.scenario_laws.proofs.Sources.{Lawful, lawful, true_not_false}
-use Rattle.scenario_laws.proofs.Wholes.{Within, goes, next_in, within_before, within_itself}
-use Rattle.scenario_laws.proofs.Stays.{OnSource, TunedTo, on_source, rest_not}
-use Rattle.scenario_laws.proofs.Closes.{climbs}
+use Rattle.scenario_laws.proofs.Known.{ℕ, suc, ◌≡◌, ◌⊎◌, ◌<◌, ◌≤◌, ◌+◌, ◌-◌, ◌*◌, ◌/◌, true, false, List, [], ◌∷◌, ◌++◌, map, Some, refl, sym, ◌∙◌, ap, subst, arith, inl, inr, slice_get, Contains, add-mul, mul-le-mul, cases_Bool, append-nil, div-mul-add, BigInfo, iso_us_of, Handed, valid, lost, Air, opened, Timed, accepted, layings_of, IsOf, Sent, closed_end, entry_of, is_heard, struck, time_of, cases_low, opened_least, anchor_of, framed_reference_of, render_of, Setup, framed_calls, next_of, BigSync, bis_of, of_stream, is_in, stay_on, streams_of, is_member, member_is, Step, steps_of_source, is_started, setup_of, source_calls, Airs, MeetAirs, sink_calls, AreSent, InUnitOrder, IsOfUnit, IsSentAs, by_payload, time_in, whole_stay, Closed, air_in, calls_on, given_since_made, injected_since, is_given, is_injected, is_made, is_tuned, shown_since, octets_in, SourceCall, ticked_since, anchor_in, Below, Legal, Lawful, lawful, true_not_false, Within, goes, next_in, within_before, within_itself, OnSource, TunedTo, on_source, rest_not, climbs, laid_by, StayCall, render_same}
 use Rattle.scenario_laws.proofs.UnitsLaw.{since}
 use Rattle.scenario_laws.proofs.InOrder.{clean_stay}
-use Rattle.scenario_laws.proofs.FramedCalls.{laid_by}
-use Rattle.scenario_laws.proofs.FramedSends.{FramedWhole, laid_end, sent_in_order}
-use Rattle.scenario_laws.proofs.FramedStays.{heard_least, mul_least, next_of_whole, opened_within, same_air, stay_decided, stay_on_whole, taken_within, whole_units}
-use Rattle.scenario_laws.proofs.Entries.{Gives, IsEntry, IsNumbered, Numbered, Ordered, are_numbered, has_entry, ordered_later, ordered_none, ordered_on}
-use Rattle.scenario_laws.proofs.StaysInTurn.{OverStay, Turns}
-use Rattle.scenario_laws.proofs.Turning.{over_stays}
+use Rattle.scenario_laws.proofs.FramedStays.{FramedWhole, laid_end, sent_in_order, heard_least, mul_least, next_of_whole, opened_within, same_air, stay_decided, stay_on_whole, taken_within, whole_units}
+use Rattle.scenario_laws.proofs.Gains.{Gives, IsEntry, IsNumbered, Numbered, Ordered, are_numbered, has_entry, ordered_later, ordered_none, ordered_on}
+use Rattle.scenario_laws.proofs.StaysInTurn.{OverStay, Turns, over_stays}
 
 -- ---- units by payload numbers
 
@@ -31,9 +17,8 @@ pub numbered_on : (setup : Setup) (whole : List SourceCall) (bis low : ℕ) (ns 
     → Numbered (IsNumbered setup.info.bn (layings_of (framed_calls setup bis whole)) (accepted (framed_calls setup bis whole))) low ns units
     → Numbered (IsSent setup whole bis) low ns (map (by_payload setup) units)
 numbered_on setup whole bis low [] [] all = tt
-numbered_on setup whole bis low (n ∷ ns) [] all = absurd all
-numbered_on setup whole bis low [] (unit ∷ units) all = absurd all
 numbered_on setup whole bis low (n ∷ ns) (unit ∷ units) all = (all.0, (unit, refl, all.1), numbered_on setup whole bis (n + 1) ns units all.2)
+numbered_on setup whole bis low ns units all = search
 
 -- the air sends the unit, which is of the one of this number among those accepted
 abbrev pub IsInAir : Setup → List SourceCall → ℕ → Air → ℕ → Sent → Type 0
@@ -60,15 +45,7 @@ numbered_each x1 x2 low ns units each all = search
 -- the time of a start by the stay's anchor is that by the source's
 pub start_time_is : (setup : Setup) (tuning : BigSync) (bis event offset : ℕ) → TunedTo setup tuning → tuning.first ≤ event
     → time_of (stay_on tuning bis) event offset ≡ time_of (whole_stay setup bis) event offset
-start_time_is setup tuning bis event offset on least =
-    let both : event - setup.first ≡ (tuning.first - setup.first) + (event - tuning.first) = omega (arith, least, on.first) in
-    let product : (event - setup.first) * iso_us_of setup.info ≡ (tuning.first - setup.first) * iso_us_of setup.info + (event - tuning.first) * iso_us_of setup.info =
-    ap (λ d. d * iso_us_of setup.info) both ∙ add-mul (tuning.first - setup.first) (event - tuning.first) (iso_us_of setup.info) in
-    let anchor : anchor_of tuning.anchor tuning.first event (iso_us_of setup.info) ≡ anchor_of setup.origin setup.first event (iso_us_of setup.info) =
-    omega (arith, product, on.anchor) in
-    ap (λ (i : BigInfo). render_of (framed_reference_of i (anchor_of tuning.anchor tuning.first event (iso_us_of i)) offset) tuning.delay) on.info
-    ∙ ap (λ a. render_of (framed_reference_of setup.info a offset) tuning.delay) anchor
-    ∙ ap (λ d. render_of (framed_reference_of setup.info (anchor_of setup.origin setup.first event (iso_us_of setup.info)) offset) d) on.delay
+start_time_is setup tuning bis event offset on least = render_same (λ info anchor. framed_reference_of info anchor offset) setup tuning event on least
 
 event_is : (first bn event number : ℕ) → event * bn ≤ number → number < event * bn + bn → (first * bn + number) / bn ≡ first + event
 event_is first bn event number least below =
@@ -83,15 +60,11 @@ entry_stream : (bis time : ℕ) (octets : List ℕ) (whole : Type 0) (entry : Ha
     → (bis_of entry ≡ bis) × (time_in entry ≡ time)
 entry_stream bis time octets whole entry is = grind (arith, bis_of, time_in)
 
-abbrev octets_of : Handed → List ℕ
-octets_of (valid bis time octets) = octets
-octets_of (lost bis time) = []
-
 entry_octets : (bis time : ℕ) (octets all : List ℕ) (whole : Type 0) (entry : Handed) → (whole → octets ≡ all) → ((entry ≡ lost bis time) ⊎ (whole × (entry ≡ valid bis time octets)))
     → (bis' time' : ℕ) (octets' : List ℕ) → entry ≡ valid bis' time' octets' → octets' ≡ all
 entry_octets bis time octets all whole entry of_unit is bis' time' octets' same = grind arith
 
-pub one_entry : (setup : Setup) (whole : List SourceCall) (tuning : BigSync) (bis : ℕ) (air : Air) (n : ℕ) (sent : Sent) (entry : Handed) (calls : List stays.Call) → 1 ≤ setup.info.bn
+pub one_entry : (setup : Setup) (whole : List SourceCall) (tuning : BigSync) (bis : ℕ) (air : Air) (n : ℕ) (sent : Sent) (entry : Handed) (calls : List StayCall) → 1 ≤ setup.info.bn
     → TunedTo setup tuning → opened (stay_on tuning bis) calls ≤ next_of setup whole → IsInAir setup whole bis air n sent
     → IsEntry (stay_on tuning bis) (is_heard (stay_on tuning bis) calls) (closed_end (stay_on tuning bis) calls) sent entry
     → IsOfUnit setup whole bis air n entry
@@ -137,7 +110,7 @@ one_entry setup whole tuning bis air n sent entry calls some on opens numbered i
       valid_is = grind (arith, entry_octets, time_of, stay_on);
     }
 
-stay_gives : (setup : Setup) (whole : List SourceCall) (tuning : BigSync) (bis : ℕ) (air : Air) (calls : List stays.Call) → 1 ≤ setup.info.bn → TunedTo setup tuning
+stay_gives : (setup : Setup) (whole : List SourceCall) (tuning : BigSync) (bis : ℕ) (air : Air) (calls : List StayCall) → 1 ≤ setup.info.bn → TunedTo setup tuning
     → opened (stay_on tuning bis) calls ≤ next_of setup whole
     → Gives (IsInAir setup whole bis air) (IsOfUnit setup whole bis air) (tuning.first * tuning.info.bn) (closed_end (stay_on tuning bis) calls)
     (entry_of (stay_on tuning bis) (is_heard (stay_on tuning bis) calls) (closed_end (stay_on tuning bis) calls))

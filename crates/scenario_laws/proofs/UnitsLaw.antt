@@ -1,25 +1,7 @@
 -- The units law of a stay.
-use Rattle.scenario_laws.proofs.Prelude.{ℕ, zero, suc, ◌≡◌, ◌≤◌, ◌+◌, ◌-◌, ◌==◌, cond, ltb, Bool, false, List, [], ◌∷◌, ◌++◌, length, Option, Some, refl, sym, ◌∙◌, ap, subst, inl, inr, arith, slice_get, AllByRecursion, Contains, eq-eqb, eqb-true, ltb-false, append-nil, none-some, same_Some, BigInfo, Bounds, Account, Handed, before_event, lay, lays, begun, handed, Struck, air_at, slots_of, Airs, give_fault, Call, tune, hear, BigSync, of_stream, stay_on, streams_of, member_is, Step, IsInRange, chosen_of, chosen_steps, steps_of_source, open_event, setup_of, source_calls, MeetAirs, heard_on_air, is_of, reaches, sink_calls, source_of, positions_of, ticked, ticked_if, unless_lost, big_sync_on, SinkUnit, handed_by, give_refusal, steps_of, IsStayStruck, UnitsLaw, any_since, calls_on, handed_since, injected_since, is_given, is_tuned, of_sink}
-use Rattle.isoal_unframed.specs.Calls.{Call as StreamCall, accept, accepted}
-use Rattle.source_machine.specs.Calls.{Call as SourceCall, stream_calls as source_stream}
-use Rattle.group_sink.specs.Calls.{place}
-use Rattle.group_sink.specs.Handing.{handed_since as ticked_since}
-use Rattle.scenario_text.specs.declared.step.Step.TheVariants as steps
-use Rattle.scenario_laws.proofs.Below.{Below}
-use Rattle.scenario_laws.proofs.Legals.{Legal, legal, maps_none}
-use Rattle.scenario_laws.proofs.Sources.{Allowed, Lawful, Settled, bounds_in, lawful, no_group_yet, settled}
-use Rattle.scenario_laws.proofs.Wholes.{within_itself}
-use Rattle.scenario_laws.proofs.Moves.{StaysBy, announced, given_stays, plain_stays}
-use Rattle.scenario_laws.proofs.Stays.{BeginsBy, IsOn, IsThere, OnSource, first_next, last_not, none_given, on_before, on_source, rest_not}
-use Rattle.scenario_laws.proofs.Hears.{all_own}
-use Rattle.scenario_laws.proofs.Plains.{sends_own}
-use Rattle.scenario_laws.proofs.FromSources.{from_source}
+use Rattle.scenario_laws.proofs.Known.{ℕ, zero, suc, ◌≡◌, ◌≤◌, ◌+◌, ◌-◌, ◌==◌, cond, ltb, Bool, false, List, [], ◌∷◌, ◌++◌, length, Option, Some, refl, sym, ◌∙◌, ap, subst, inl, inr, arith, slice_get, AllByRecursion, Contains, eq-eqb, eqb-true, ltb-false, append-nil, none-some, same_Some, BigInfo, Bounds, Account, Handed, before_event, lay, lays, begun, handed, Struck, air_at, slots_of, Airs, give_fault, Call, tune, hear, BigSync, of_stream, stay_on, streams_of, member_is, Step, IsInRange, chosen_of, chosen_steps, steps_of_source, open_event, setup_of, source_calls, MeetAirs, heard_on_air, is_of, reaches, sink_calls, source_of, positions_of, ticked, ticked_if, unless_lost, big_sync_on, SinkUnit, handed_by, give_refusal, steps_of, IsStayStruck, UnitsLaw, any_since, calls_on, handed_since, injected_since, is_given, is_tuned, of_sink, StreamCall, unframed_accept as accept, unframed_accepted as accepted, SourceCall, source_stream, place, ticked_since, Below, Legal, legal, maps_none, Allowed, Lawful, Settled, bounds_in, lawful, no_group_yet, settled, within_itself, StaysBy, announced, given_stays, plain_stays, BeginsBy, IsOn, IsThere, OnSource, first_next, last_not, none_given, on_before, on_source, rest_not, all_own, stay_within, handed_open, of_sink_on, shown_by, shown_with, step_shown, second_false, chosen_within, end_ticks, event_ticks, all_push, PutsBy}
+use Rattle.scenario_laws.proofs.FromSources.{sends_own, from_source}
 use Rattle.scenario_laws.proofs.FramedStays.{framed_law, taken_within}
-use Rattle.scenario_laws.proofs.Closes.{stay_within}
-use Rattle.scenario_laws.proofs.Closings.{handed_open, of_sink_on, shown_by, shown_with, step_shown}
-use Rattle.scenario_laws.proofs.RelayedUnits.Citable.{second_false}
-use Rattle.scenario_laws.proofs.Ticks.{chosen_within, end_ticks, event_ticks}
-use Rattle.scenario_laws.proofs.FramedCalls.{all_push}
 
 -- ---- no unit is longer than Max_SDU
 
@@ -58,22 +40,7 @@ ShortIn bis own = Short (setup_of own).info.max_sdu (source_stream (setup_of own
 
 short_after : (airs : Airs) (bis : ℕ) (own : List Step) (step : Step) → Settled own → Allowed airs own step → ShortIn bis own → ShortIn bis (step ∷ own)
 short_after airs bis own _ is allows before =
-    grind (
-      arith,
-      short_none,
-      setup_of,
-      source_calls,
-      no_group_yet,
-      maps_none,
-      give_refusal,
-      give_fault,
-      length,
-      ltb-false,
-      second_false,
-      ltb,
-      short_if,
-      short_lays,
-    )
+    grind (arith, short_none, no_group_yet, maps_none, length, ltb-false, second_false, ltb, short_if, short_lays)
 
 short_of : (airs : Airs) (bis : ℕ) (own : List Step) → Lawful airs own → ShortIn bis own
 short_of airs bis [] legal = tt
@@ -148,11 +115,12 @@ abbrev Since : Airs → ℕ → ℕ → List Step → Type 0
 Since airs s n made = of_sink s n (handed_since (is_tuned n) airs made) ≡ ticked_since (sink_calls airs n made)
 
 -- a step that puts the sink nowhere
-still_since : (airs : Airs) (boxes s n : ℕ) (step : Step) (earlier : List Step) (tuning : BigSync) → Legal airs boxes earlier → s ≤ 1 → n ≤ 7 → (BeginsBy airs s n step earlier tuning → ⊥)
+still_since : (airs : Airs) (boxes s n : ℕ) (step : Step) (earlier : List Step) (tuning : BigSync) → Legal airs boxes earlier → s ≤ 1 → n ≤ 7 → ((on : BigSync) → PutsBy airs n step earlier on → ⊥)
     → IsOn airs s n (step ∷ earlier) tuning → (IsOn airs s n earlier tuning → Since airs s n earlier)
     → (source_of n earlier ≡ Some s → ticked_since (sink_calls airs n (step ∷ earlier)) ≡ ticked_since (sink_calls airs n earlier) ++ shown_by airs s n earlier step)
     → of_sink s n (handed_since (is_tuned n) airs earlier ++ handed_by airs earlier step) ≡ ticked_since (sink_calls airs n (step ∷ earlier))
 still_since airs boxes s n step earlier tuning legal least within never is since grow =
+    let begins_not : BeginsBy airs s n step earlier tuning → ⊥ = λ begins. never begins.puts.on begins.puts.by in
     grind (arith, on_before, of_sink_on, handed_since, is_tuned, handed_by, of_sink, since, sink_calls, step_shown, legal)
 
 -- a step by which the receivers stay
@@ -163,40 +131,25 @@ stays_since airs boxes s n step earlier tuning stays none is since =
 
 since_after : (airs : Airs) (boxes s n : ℕ) (step : Step) (earlier : List Step) (tuning : BigSync) → Legal airs boxes earlier → s ≤ 1 → n ≤ 7 → IsOn airs s n (step ∷ earlier) tuning
     → (IsOn airs s n earlier tuning → Since airs s n earlier) → Since airs s n (step ∷ earlier)
-since_after airs boxes s n (steps.Tuned sink which) earlier tuning legal least within is since =
+since_after airs boxes s n (Step.Tuned sink which) earlier tuning legal least within is since =
     put_since s n (sink == n) (big_sync_on (chosen_steps earlier) which) tuning (chosen_of earlier) (sink_calls airs n earlier) (source_of n earlier)
     (handed_since (is_tuned n) airs earlier) (record { place_is = is.place_is; source_is = is.source_is })
     (λ there put_not. since (assumption (rest_not (sink == n) false (any_since (is_tuned n) (is_given n) earlier) is.ungiven put_not)))
-since_after airs boxes s n (steps.Sink sink streams slots mtu) earlier tuning legal least within is since =
-    still_since airs boxes s n (steps.Sink sink streams slots mtu) earlier tuning legal least within (λ begins. begins.puts.by) is since
-    (λ its. gone_since (sink == n) (sink_calls airs n earlier) tuning is.place_is)
-since_after airs boxes s n (steps.Drop sink) earlier tuning legal least within is since = cc (still_since airs boxes s n (steps.Drop sink) earlier tuning legal least within (λ begins. begins.puts.by) is since (λ its. gone_since (sink == n) (sink_calls airs n earlier) tuning is.place_is))
-since_after airs boxes s n (steps.Hear sink back bis subevent) earlier tuning legal least within is since =
-    still_since airs boxes s n (steps.Hear sink back bis subevent) earlier tuning legal least within (λ begins. begins.puts.by) is since
-    (λ its. more_since (reaches sink n earlier) _ (sink_calls airs n earlier) refl)
-since_after airs boxes s n (steps.Air sink lose) earlier tuning legal least within is since =
-    still_since airs boxes s n (steps.Air sink lose) earlier tuning legal least within (λ begins. begins.puts.by) is since
+since_after airs boxes s n (Step.Air sink lose) earlier tuning legal least within is since =
+    still_since airs boxes s n (Step.Air sink lose) earlier tuning legal least within (λ on by. by) is since
     (λ its. more_since (reaches sink n earlier) _ (sink_calls airs n earlier) (air_since airs (chosen_steps earlier) lose (positions_of (chosen_steps earlier)) (sink_calls airs n earlier)))
-since_after airs boxes s n (steps.Inject sink back bis subevent octets) earlier tuning legal least within is since =
-    still_since airs boxes s n (steps.Inject sink back bis subevent octets) earlier tuning legal least within (λ begins. begins.puts.by) is since
-    (λ its. more_since (reaches sink n earlier) _ (sink_calls airs n earlier) refl)
-since_after airs boxes s n steps.Event earlier tuning legal least within is since =
-    still_since airs boxes s n steps.Event earlier tuning legal least within (λ begins. begins.puts.by) is since (λ its. closed_since_by airs s n earlier its)
-since_after airs boxes s n steps.Stop earlier tuning legal least within is since =
-    still_since airs boxes s n steps.Stop earlier tuning legal least within (λ begins. begins.puts.by) is since (λ its. closed_since_by airs s n earlier its)
-since_after airs boxes s n (steps.Terminate reason) earlier tuning legal least within is since =
-    still_since airs boxes s n (steps.Terminate reason) earlier tuning legal least within (λ begins. begins.puts.by) is since (λ its. closed_since_by airs s n earlier its)
-since_after airs boxes s n steps.End earlier tuning legal least within is since =
-    still_since airs boxes s n steps.End earlier tuning legal least within (λ begins. begins.puts.by) is since
+since_after airs boxes s n Step.End earlier tuning legal least within is since =
+    still_since airs boxes s n Step.End earlier tuning legal least within (λ on by. by) is since
     (grind (arith, end_ticks, open_event, steps_of_source, sink_calls, source_of, tick_since, own_if, handed_open))
-since_after airs boxes s n (steps.Announce sink) earlier tuning legal least within is since = elim (announced airs n sink earlier) [
-  | inl stays ↦ stays_since airs boxes s n (steps.Announce sink) earlier tuning stays refl is since
+since_after airs boxes s n (Step.Announce sink) earlier tuning legal least within is since = elim (announced airs n sink earlier) [
+  | inl stays ↦ stays_since airs boxes s n (Step.Announce sink) earlier tuning stays refl is since
   | inr goes ↦ grind (arith, none-some, of_sink, cond, handed_since, is_tuned)
 ]
-since_after airs boxes s n (steps.Train sink time ext adv acad) earlier tuning legal least within is since =
-    stays_since airs boxes s n (steps.Train sink time ext adv acad) earlier tuning (grind (arith, given_stays, last_not, is_tuned, any_since, is_given)) refl is since
+since_after airs boxes s n (Step.Train sink time ext adv acad) earlier tuning legal least within is since =
+    stays_since airs boxes s n (Step.Train sink time ext adv acad) earlier tuning (grind (arith, given_stays, last_not, is_tuned, any_since, is_given)) refl is since
 since_after airs boxes s n step earlier tuning legal least within is since =
-    stays_since airs boxes s n step earlier tuning (plain_stays airs n step earlier refl refl refl refl) refl is since
+    search (still_since airs boxes s n step earlier tuning legal least within, gone_since, more_since, closed_since_by airs s n earlier,
+    stays_since airs boxes s n step earlier tuning, plain_stays airs n step earlier)
 
 pub since : (airs : Airs) (boxes s n : ℕ) (made : List Step) (tuning : BigSync) → Legal airs boxes made → s ≤ 1 → n ≤ 7 → IsOn airs s n made tuning → Since airs s n made
 since airs boxes s n [] tuning legal least within is = refl

@@ -1,8 +1,6 @@
 -- The steps of a source so far, as a part of all its steps: what fixes it is the same, and its calls are the first of all.
-use Rattle.scenario_laws.proofs.Prelude.{ℕ, ◌≡◌, ◌≤◌, cond, Bool, true, false, List, [], ◌∷◌, ◌++◌, refl, sym, ◌∙◌, arith, append_assoc, Setup, give, events, next_of, Step, is_of_source, steps_of_source, is_started, setup_of, source_calls, Airs}
-use Rattle.source_machine.specs.Calls.{Call as SourceCall, event as perform}
-use Rattle.scenario_text.specs.declared.step.Step.TheVariants as steps
-use Rattle.scenario_laws.proofs.Legals.{Legal, permitted}
+use Rattle.scenario_laws.proofs.Known.Sources.Steps.Prelude.{ℕ, ◌≡◌, ◌≤◌, cond, Bool, true, false, List, [], ◌∷◌, ◌++◌, refl, sym, ◌∙◌, arith, append_assoc, Setup, give, events, next_of, Step, is_of_source, steps_of_source, is_started, setup_of, source_calls, Airs, SourceCall, event as perform, permitted}
+use Rattle.scenario_laws.proofs.Legals.{Legal}
 use Rattle.scenario_laws.proofs.Sources.{Allowed, Lawful, its_step, lawful, not_yet, settled, setup_stays, started_stays}
 
 -- these calls and others behind them
@@ -18,8 +16,8 @@ extends_less : (whole calls : List SourceCall) (call : SourceCall) → Extends w
 extends_less whole calls call more = (more.0 ++ call ∷ [], more.1 ∙ sym (append_assoc more.0 (call ∷ []) calls))
 
 extends_before : (whole : List SourceCall) (own : List Step) (step : Step) → Extends whole (source_calls (step ∷ own)) → Extends whole (source_calls own)
-extends_before whole own (steps.Unit bis time octets) more = extends_less whole (source_calls own) (give bis time octets) more
-extends_before whole own steps.Event more = extends_less whole (source_calls own) perform more
+extends_before whole own (Step.Unit bis time octets) more = extends_less whole (source_calls own) (give bis time octets) more
+extends_before whole own Step.Event more = extends_less whole (source_calls own) perform more
 extends_before whole own _ more = more
 
 within_if : (airs : Airs) (setup : Setup) (whole : List SourceCall) (own : List Step) (step : Step) (is_its : Bool) → Lawful airs own → (is_its ≡ true → Allowed airs own step)

@@ -1,10 +1,5 @@
 -- Two histories of one sink of which one has trains more that it ignored: they come to the same, and each call keeps that.
-use Rattle.scenario_laws.proofs.Prelude.{ℕ, zero, suc, ◌≡◌, min, cond, false, List, ◌∷◌, length, Option, arith, refl, ap, unwrap_or, option_or, false≢true, none_change, snapshot_goes_on, Snapshot, snapshot_of, train_heard, written, TrainOutcome, Train, outcome_by, done_by_outcome, value_at, is_joined, joining_by, served_of, step_by, writes, writes_waiting, drained, read_out, repeated, served_out, notified_out, acts_of, made_all, notices_waiting, reads_waiting, waiting_of, follows}
-use Rattle.delegator_history.specs.States.{Step}
-use Rattle.delegator_history.specs.Steps.{nothing}
-use Rattle.delegator_history.specs.Trains.{Setup}
-use Rattle.sink_history.specs.Calls as links
-use Rattle.sink_history.specs.Calls.{Call, steps_of, with_step}
+use Rattle.scenario_laws.proofs.Known.Sources.Steps.Prelude.{ℕ, zero, suc, ◌≡◌, min, cond, false, List, ◌∷◌, length, Option, arith, refl, ap, unwrap_or, option_or, false≢true, none_change, snapshot_goes_on, Snapshot, snapshot_of, train_heard, written, TrainOutcome, Train, outcome_by, done_by_outcome, value_at, is_joined, joining_by, served_of, step_by, writes, writes_waiting, drained, read_out, repeated, served_out, notified_out, acts_of, made_all, notices_waiting, reads_waiting, waiting_of, follows, DelegatorStep as Step, delegator_nothing as nothing, SinkSetup as Setup, LinkCall as Call, link_steps_of as steps_of, link_with_step as with_step}
 
 -- ---- what two histories have alike
 
@@ -85,19 +80,19 @@ reads_same setup mtu link a b same = cc (same.acts link)
 pub served_grow : (setup : Setup) (mtu : Option ℕ) (link : ℕ) (a b : List Call) → Alike setup mtu a b
     → Alike setup mtu (served_out link a) (served_out link b)
 served_grow setup mtu link a b same =
-    repeats setup mtu (length (writes_waiting link a)) (length (writes_waiting link b)) (links.served link) a b
+    repeats setup mtu (length (writes_waiting link a)) (length (writes_waiting link b)) (Call.served link) a b
     (ap length (waiting_same setup mtu link a b same)) same
 
 pub told_grow : (setup : Setup) (mtu : Option ℕ) (link : ℕ) (a b : List Call) → Alike setup mtu a b
     → Alike setup mtu (notified_out setup mtu link a) (notified_out setup mtu link b)
 told_grow setup mtu link a b same =
-    repeats setup mtu (length (notices_waiting setup mtu link a)) (length (notices_waiting setup mtu link b)) (links.notified link) a b
+    repeats setup mtu (length (notices_waiting setup mtu link a)) (length (notices_waiting setup mtu link b)) (Call.notified link) a b
     (ap length (notices_same setup mtu link a b same)) same
 
 read_grow : (setup : Setup) (mtu : Option ℕ) (link : ℕ) (a b : List Call) → Alike setup mtu a b
     → Alike setup mtu (read_out setup mtu link a) (read_out setup mtu link b)
 read_grow setup mtu link a b same =
-    repeats setup mtu (length (reads_waiting setup mtu link a)) (length (reads_waiting setup mtu link b)) (links.read link) a b
+    repeats setup mtu (length (reads_waiting setup mtu link a)) (length (reads_waiting setup mtu link b)) (Call.read link) a b
     (ap length (reads_same setup mtu link a b same)) same
 
 pub drains : (setup : Setup) (mtu : Option ℕ) (link : ℕ) (a b : List Call) → Alike setup mtu a b
@@ -110,10 +105,10 @@ pub done_nothing : (brought : TrainOutcome) → follows brought ≡ false → do
 done_nothing brought not = grind (arith, false≢true)
 
 pub ignores : (setup : Setup) (mtu : Option ℕ) (train : Train) (a : List Call)
-    → follows (outcome_by setup (snapshot_of setup (steps_of a)) train) ≡ false → Alike setup mtu (links.stepped (train_heard train) ∷ a) a
+    → follows (outcome_by setup (snapshot_of setup (steps_of a)) train) ≡ false → Alike setup mtu (Call.stepped (train_heard train) ∷ a) a
 ignores setup mtu train a not =
     let snapshot : Snapshot = snapshot_of setup (steps_of a) in
-    let more : List Call = links.stepped (train_heard train) ∷ a in
+    let more : List Call = Call.stepped (train_heard train) ∷ a in
     let now : snapshot_of setup (steps_of more) ≡ snapshot = grind (arith, snapshot_goes_on, train_heard, done_nothing, outcome_by) in record {
       snapshot = now;
       joined = λ link. refl;

@@ -1,14 +1,10 @@
 -- What a line makes of two histories of the sink that it names which come to the same: of the histories, of the receivers, and of the
 -- source that the sink is of.
-use Rattle.scenario_laws.proofs.Prelude.{ℕ, ◌≡◌, cond, Bool, true, List, [], ◌∷◌, Option, None, Some, subst, arith, encoding, control_heard, locations_set, train_heard, train_lost, Settings, Train, outcome_by, born, Step, is_source_line, calls_made, source_at, the_world, Source, calls_at, calls_by, made_of, named_by, own_train, follows, follows_by, received_by, source_by, train_by}
-use Rattle.bass_operations.specs.declared.operation.Operation.TheVariants as operations
-use Rattle.group_sink.specs.Calls as sinks
-use Rattle.sink_history.specs.Calls as links
-use Rattle.sink_history.specs.Calls.{Call}
-use Rattle.scenario_text.specs.declared.step.Step.TheVariants as steps
-use Rattle.scenario_history.specs.Sinks.{moved}
+use Rattle.scenario_laws.proofs.Known.Sources.Steps.Prelude.{ℕ, ◌≡◌, cond, Bool, true, List, [], ◌∷◌, Option, None, Some, subst, arith, encoding, control_heard, locations_set, train_heard, train_lost, Settings, Train, outcome_by, born, Step, is_source_line, calls_made, source_at, the_world, Source, calls_at, calls_by, made_of, named_by, own_train, follows, follows_by, received_by, source_by, train_by, LinkCall as Call, moved}
 use Rattle.scenario_laws.proofs.Isolating.Histories.{Alike, alike_itself, drains, grows}
 use Rattle.scenario_laws.proofs.Isolating.Same.{HistoriesAlike}
+use Rattle.bass_operations.specs.declared.operation.Operation.TheVariants as operations
+use Rattle.group_sink.specs.Calls as sinks
 
 -- ---- a line takes something of a source only where it is a source line
 
@@ -24,33 +20,8 @@ called_sourced _ source source' same made calls = grind (arith, calls_by)
 
 called_some : (source : Source) (line : Step) (made : Settings) (a b : List Call) → Alike made.setup made.mtu a b
     → Alike made.setup made.mtu (calls_by source line (Some made) a) (calls_by source line (Some made) b)
-called_some source (steps.Drop sink) made a b same = alike_itself made.setup made.mtu []
-called_some source (steps.Pac sink codec caps metadata) made a b same = search (grows)
-called_some source (steps.Locate sink bits) made a b same = grows made.setup made.mtu (links.stepped (locations_set bits)) a b same
-called_some source (steps.Context sink sink_bits source_bits) made a b same = search (grows)
-called_some source (steps.Tuned sink which) made a b same = search (grows)
-called_some source (steps.Announce sink) made a b same = grows made.setup made.mtu (links.stepped (train_heard (own_train source))) a b same
-called_some source (steps.Train sink time ext adv acad) made a b same = search (grows)
-called_some source (steps.Lose sink) made a b same = grows made.setup made.mtu (links.stepped train_lost) a b same
-called_some source (steps.Control sink octets) made a b same = grows made.setup made.mtu (links.stepped (control_heard octets)) a b same
-called_some source (steps.Write sink octets) made a b same = grows made.setup made.mtu (links.asked 0 octets) a b same
-called_some source (steps.Add sink op) made a b same = grows made.setup made.mtu (links.asked 0 (encoding (operations.Add op))) a b same
-called_some source (steps.Modify sink op) made a b same = search (grows)
-called_some source (steps.Remove sink source_id) made a b same = search (grows)
-called_some source (steps.Code sink source_id code) made a b same = search (grows)
-called_some source (steps.Serve sink) made a b same = grows made.setup made.mtu (links.served 0) a b same
-called_some source (steps.Tell sink) made a b same = grows made.setup made.mtu (links.notified 0) a b same
-called_some source (steps.Read sink) made a b same = grows made.setup made.mtu (links.read 0) a b same
-called_some source (steps.Drain sink) made a b same = drains made.setup made.mtu 0 a b same
-called_some source (steps.Forge sink slot octets) made a b same = grows made.setup made.mtu (links.forged slot octets) a b same
-called_some source (steps.Assist sink link) made a b same = grows made.setup made.mtu (links.joined link) a b same
-called_some source (steps.Apart sink link) made a b same = grows made.setup made.mtu (links.parted link) a b same
-called_some source (steps.AWrite sink link octets) made a b same = grows made.setup made.mtu (links.asked link octets) a b same
-called_some source (steps.AServe sink link) made a b same = grows made.setup made.mtu (links.served link) a b same
-called_some source (steps.ATell sink link) made a b same = grows made.setup made.mtu (links.notified link) a b same
-called_some source (steps.ARead sink link) made a b same = grows made.setup made.mtu (links.read link) a b same
-called_some source (steps.ADrain sink link) made a b same = drains made.setup made.mtu link a b same
-called_some source _ made a b same = same
+called_some source (Step.Drop sink) made a b same = alike_itself made.setup made.mtu []
+called_some source _ made a b same = search (grows, drains)
 
 lives_if : (hit : Bool) (made : Option Settings) (a b a' b' : List Call) → HistoriesAlike made a b → HistoriesAlike made a' b'
     → HistoriesAlike made (cond hit a' a) (cond hit b' b)
@@ -73,8 +44,8 @@ gone_lives hit made a b same = grind arith
 pub history_grows : (n : ℕ) (step : Step) (earlier others : List Step) → Sourced step (source_at earlier) (source_at others)
     → made_of n earlier ≡ made_of n others → HistoriesAlike (made_of n earlier) (calls_made n earlier) (calls_made n others)
     → HistoriesAlike (made_of n (step ∷ earlier)) (calls_made n (step ∷ earlier)) (calls_made n (step ∷ others))
-history_grows n (steps.Sink sink streams slots mtu) earlier others sourced sink_same same = search (born_lives)
-history_grows n (steps.Drop sink) earlier others sourced sink_same same = search (gone_lives)
+history_grows n (Step.Sink sink streams slots mtu) earlier others sourced sink_same same = search (born_lives)
+history_grows n (Step.Drop sink) earlier others sourced sink_same same = search (gone_lives)
 history_grows n step earlier others sourced sink_same same =
     subst (λ made. HistoriesAlike (made_of n earlier) (calls_at the_world n (named_by step) step earlier (made_of n earlier) (calls_made n earlier))
     (calls_at the_world n (named_by step) step others made (calls_made n others))) sink_same

@@ -1,11 +1,97 @@
--- What a step prints that is kept: the same over both lists of steps.
-use Rattle.std.proofs.Common.{arith}
-use Rattle.scenario_laws.proofs.Prelude.{ℕ, ◌≡◌, ◌==◌, ◌∙◌, not, false, List, ◌++◌, ap, concat, flat_map, eqb-true, not-false, Step, control_line, handed_line, injected_hearing, stale_lines, is_of, sink_calls, source_of, end_pdu, event_back, stale_in, Airs, chosen_of, chosen_steps, calls_made, source_at, made_of, printed_where, lines_by, unit_lines_by, is_other, sink_in}
+-- What a step that both lists of steps have prints of the sink, of its assistants and of the source.
+use Rattle.scenario_laws.proofs.Known.Sources.{ℕ, zero, suc, ◌≡◌, ◌∙◌, List, ◌++◌, length, map, Option, refl, ap, arith, codes, decimal, option_map, slice_get, range_with_len, Settings, Train, answer_of, outcome_by, state_at, value, writes_waiting, served_out, notified_out, language, notices_waiting, reads_waiting, view_of, Step, Label, reply_line, sink_line, train_words, value_line, Source, Lines, drain_lines, heard_line, if_there, printed_of, printed_where, read_line, read_lines, replied, serve_line, serve_lines, show_lines, stated, tell_line, tell_lines, view_lines, was_read, ◌==◌, not, false, concat, flat_map, eqb-true, not-false, control_line, handed_line, injected_hearing, stale_lines, is_of, sink_calls, source_of, end_pdu, event_back, stale_in, Airs, chosen_of, chosen_steps, calls_made, source_at, made_of, lines_by, unit_lines_by, is_other, sink_in, LinkCall as Call, Alike, notices_same, reads_same, repeats, served_grow, told_grow, waiting_same, Sourced, HistoriesAlike, Same, chosen_alike, own_alike, back_same, end_same, pdu_back_same, both_alike}
 use Rattle.scenario_laws.proofs.Isolating.Kept.{Means, chosen_closing, cond_both, sourced}
-use Rattle.scenario_laws.proofs.Isolating.Lines.{printed_same}
-use Rattle.scenario_laws.proofs.Isolating.Said.{back_same, end_same, pdu_back_same, stale_same}
-use Rattle.scenario_laws.proofs.Isolating.Same.{Same, chosen_alike, own_alike}
-use Rattle.scenario_laws.proofs.Isolating.Units.{both_alike}
+use Rattle.scenario_laws.proofs.Isolating.Said.{stale_same}
+
+-- ---- one call on a link
+
+pub replied_same : (made : Settings) (link : ℕ) (a b : List Call) → Alike made.setup made.mtu a b
+    → replied made link a ≡ replied made link b
+replied_same made link a b same = cc (same.snapshot, waiting_same made.setup made.mtu link a b same)
+
+read_same : (made : Settings) (link : ℕ) (a b : List Call) → Alike made.setup made.mtu a b → was_read made link a ≡ was_read made link b
+read_same made link a b same = grind (arith, option_map, value, state_at, slice_get, reads_waiting, stated, reads_same)
+
+serve_same : (label : Label) (made : Settings) (link : ℕ) (a b : List Call) → Alike made.setup made.mtu a b
+    → serve_line label made link a ≡ serve_line label made link b
+serve_same label made link a b same = ap (if_there (reply_line label)) (replied_same made link a b same)
+
+tell_same : (label : Label) (made : Settings) (link : ℕ) (a b : List Call) → Alike made.setup made.mtu a b
+    → tell_line label made link a ≡ tell_line label made link b
+tell_same label made link a b same = grind (arith, if_there, value_line, notices_same)
+
+read_line_same : (label : Label) (made : Settings) (link : ℕ) (a b : List Call) → Alike made.setup made.mtu a b
+    → read_line label made link a ≡ read_line label made link b
+read_line_same label made link a b same = ap (if_there (value_line label.read label.numbers)) (read_same made link a b same)
+
+-- ---- a drain
+
+append_same : (xs ys xs' ys' : Lines) → xs ≡ xs' → ys ≡ ys' → xs ++ ys ≡ xs' ++ ys'
+append_same xs ys xs' ys' first rest = ap (λ ls. ls ++ ys) first ∙ ap (λ ls. xs' ++ ls) rest
+
+serves_same : (label : Label) (made : Settings) (link count : ℕ) (a b : List Call) → Alike made.setup made.mtu a b
+    → serve_lines label made link count a ≡ serve_lines label made link count b
+serves_same label made link zero a b same = refl
+serves_same label made link (suc count) a b same = search (append_same, serve_same, repeats, serves_same label made link count a b same)
+
+tells_same : (label : Label) (made : Settings) (link count : ℕ) (a b : List Call) → Alike made.setup made.mtu a b
+    → tell_lines label made link count a ≡ tell_lines label made link count b
+tells_same label made link zero a b same = refl
+tells_same label made link (suc count) a b same = search (append_same, tell_same, repeats, tells_same label made link count a b same)
+
+reads_lines_same : (label : Label) (made : Settings) (link count : ℕ) (a b : List Call) → Alike made.setup made.mtu a b
+    → read_lines label made link count a ≡ read_lines label made link count b
+reads_lines_same label made link zero a b same = refl
+reads_lines_same label made link (suc count) a b same =
+    search (append_same, read_line_same, repeats, reads_lines_same label made link count a b same)
+
+drain_same : (label : Label) (made : Settings) (link : ℕ) (a b : List Call) → Alike made.setup made.mtu a b
+    → drain_lines label made link a ≡ drain_lines label made link b
+drain_same label made link a b same =
+    let served : Alike made.setup made.mtu (served_out link a) (served_out link b) = served_grow made.setup made.mtu link a b same in
+    let sa : List Call = served_out link a in
+    let sb : List Call = served_out link b in
+    let told : Alike made.setup made.mtu (notified_out made.setup made.mtu link sa)
+    (notified_out made.setup made.mtu link sb) = told_grow made.setup made.mtu link sa sb served in
+    let ta : List Call = notified_out made.setup made.mtu link sa in
+    let tb : List Call = notified_out made.setup made.mtu link sb in
+    append_same (serve_lines label made link (length (writes_waiting link a)) a ++ tell_lines label made link
+    (length (notices_waiting made.setup made.mtu link sa)) sa)
+    (read_lines label made link (length (reads_waiting made.setup made.mtu link ta)) ta)
+    (serve_lines label made link (length (writes_waiting link b)) b ++ tell_lines label made link
+    (length (notices_waiting made.setup made.mtu link sb)) sb)
+    (read_lines label made link (length (reads_waiting made.setup made.mtu link tb)) tb)
+    (grind (arith, append_same, serve_lines, length, writes_waiting, tell_lines, notices_waiting, waiting_same, serves_same, notices_same, tells_same))
+    (grind (arith, read_lines, length, reads_same, reads_lines_same, reads_waiting))
+
+-- ---- states and views
+
+shown_same : (sink : ℕ) (made : Settings) (a b : List Call) → Alike made.setup made.mtu a b
+    → show_lines sink made a ≡ show_lines sink made b
+shown_same sink made a b same = grind (arith, same.snapshot, same.acts 0)
+
+views_same : (sink link : ℕ) (made : Settings) (a b : List Call) → Alike made.setup made.mtu a b
+    → view_lines sink link made a ≡ view_lines sink link made b
+views_same sink link made a b same = grind (arith, map, value_line, codes, decimal, value, view_of, language, range_with_len)
+
+-- ---- trains
+
+train_same : (sink : ℕ) (made : Settings) (a b : List Call) (train : Train) → Alike made.setup made.mtu a b
+    → heard_line sink made a train ≡ heard_line sink made b train
+train_same sink made a b train same = ap (λ snapshot. sink_line sink (train_words (answer_of (outcome_by made.setup snapshot train)))) same.snapshot
+
+-- ---- what a line prints that names the sink
+
+printed_sourced : (line : Step) (source source' : Source) → Sourced line source source' → (made : Settings) (calls : List Call)
+    → printed_of source line made calls ≡ printed_of source' line made calls
+printed_sourced _ source source' sourced made calls = grind arith
+
+pub printed_same : (line : Step) (source source' : Source) (made made' : Option Settings) (a b : List Call) → Sourced line source source'
+    → made ≡ made' → HistoriesAlike made a b → printed_where source line made a ≡ printed_where source' line made' b
+printed_same line source source' made made' a b sourced sinks_same same =
+    grind (arith, printed_sourced, serve_same, tell_same, read_line_same, drain_same, shown_same, train_same, views_same)
+
+-- ---- what a step prints that is kept: the same over both lists of steps
 
 -- a step that names no other sink names this one
 this_one : (sink n : ℕ) → not (sink == n) ≡ false → sink ≡ n
@@ -13,10 +99,8 @@ this_one sink n is = eqb-true sink n (not-false (sink == n) is)
 
 -- ---- units
 
-pub append_same : (xs ys xs' ys' : List ℕ) → xs ≡ xs' → ys ≡ ys' → xs ++ ys ≡ xs' ++ ys'
-append_same xs ys xs' ys' first rest = ap (λ ls. ls ++ ys) first ∙ ap (λ ls. xs' ++ ls) rest
-
--- ---- a PDU that is injected
+pub octets_on : (xs ys xs' ys' : List ℕ) → xs ≡ xs' → ys ≡ ys' → xs ++ ys ≡ xs' ++ ys'
+octets_on xs ys xs' ys' first rest = ap (λ ls. ls ++ ys) first ∙ ap (λ ls. xs' ++ ls) rest
 
 -- ---- lines of the sink
 
@@ -33,7 +117,7 @@ pub lines_same : (airs : Airs) (s n : ℕ) (step : Step) (made others : List Ste
 lines_same airs s n last made others this means same =
     grind (
       arith,
-      append_same,
+      octets_on,
       unit_lines_by,
       chosen_of,
       stale_lines,

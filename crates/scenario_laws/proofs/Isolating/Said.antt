@@ -1,8 +1,6 @@
 -- What is said of a source, looked back for: eight facts, of which all else that sinks and lines take of it are functions.
-use Rattle.std.proofs.Common.{arith}
-use Rattle.scenario_laws.proofs.Prelude.{ℕ, zero, suc, ◌≡◌, ◌-◌, ◌%◌, ◌^◌, ◌==◌, ◌||◌, ◌∙◌, not, cond, Bool, false, List, [], ◌∷◌, Option, None, Some, ap, unwrap_or, option_or, train_of, Endpoint, Cipher, Call, hear, BigSync, control, pdu, BaseLine, subgroups_in, Step, base_from, base_lines, with_base_line, Position, hear_at, heard_on_air, is_lost, position_at, positions_of, unless_lost, GroupLine, Phase, absent, cipher_given, cipher_of, end_pdu, event_back, group_given, Airs, pdu_of, stale_of, group_of, ident_of, identity_given, is_ahead_in, is_sending_at, no_group, no_identity, open_event, pdu_in, phase_given, setup_from, setup_of, source_calls, stale_in, start_given, start_of, with_source_call, Stage, chosen_of, chosen_steps, is_of_source, is_over_at, last_given, stage_after, stage_of, steps_of_source, version_at, big_sync_on, source_at, Source, Setup, events, next_anchor_of, next_of, with_cipher, Identity}
+use Rattle.scenario_laws.proofs.Known.Sources.Steps.Prelude.{arith, ℕ, zero, suc, ◌≡◌, ◌-◌, ◌%◌, ◌^◌, ◌==◌, ◌||◌, ◌∙◌, not, cond, Bool, false, List, [], ◌∷◌, Option, None, Some, ap, unwrap_or, option_or, train_of, Endpoint, Cipher, Call, hear, BigSync, control, pdu, BaseLine, subgroups_in, Step, base_from, base_lines, with_base_line, Position, hear_at, heard_on_air, is_lost, position_at, positions_of, unless_lost, GroupLine, Phase, absent, cipher_given, cipher_of, end_pdu, event_back, group_given, Airs, pdu_of, stale_of, group_of, ident_of, identity_given, is_ahead_in, is_sending_at, no_group, no_identity, open_event, pdu_in, phase_given, setup_from, setup_of, source_calls, stale_in, start_given, start_of, with_source_call, Stage, chosen_of, chosen_steps, is_of_source, is_over_at, last_given, stage_after, stage_of, steps_of_source, version_at, big_sync_on, source_at, Source, Setup, events, next_anchor_of, next_of, with_cipher, Identity, SourceCall, event as perform}
 use Rattle.iso_pdu.specs.Control.{terminate}
-use Rattle.source_machine.specs.Calls.{Call as SourceCall, event as perform}
 
 pub record Said : Type 0 where
   pub stage : Stage

@@ -1,8 +1,5 @@
 -- What two lists of steps have alike of one sink and of one source, where steps that concern neither are left out of one of them.
-use Rattle.scenario_laws.proofs.Prelude.{ℕ, ◌≡◌, ◌≢◌, false, List, Option, None, Some, is_some, ap, unwrap_or, Settings, Step, box_of, handed_up, is_of, sink_calls, source_of, Airs, chosen_given, chosen_of, chosen_steps, last_given, steps_of_source, calls_made, source_at, horizon_in, made_of, version_given, units_by}
-use Rattle.delegator_history.specs.LastGiven.{last_given as last_of}
-use Rattle.sink_history.specs.Calls.{Call}
-use Rattle.sink_history.specs.History.{horizon_of}
+use Rattle.scenario_laws.proofs.Known.Sources.Steps.Prelude.{ℕ, ◌≡◌, ◌≢◌, false, List, Option, None, Some, is_some, ap, unwrap_or, Settings, Step, box_of, handed_up, is_of, sink_calls, source_of, Airs, chosen_given, chosen_of, chosen_steps, last_given, steps_of_source, calls_made, source_at, horizon_in, made_of, version_given, units_by, last_given_in as last_of, LinkCall as Call, sink_horizon_of as horizon_of}
 use Rattle.scenario_laws.proofs.Isolating.Histories.{Alike}
 use Rattle.scenario_laws.proofs.Isolating.Sums.{TookAlike}
 use Rattle.scenario_laws.proofs.Isolating.Said.{chosen_said, said_of, source_same}

@@ -1,8 +1,6 @@
 -- What the box of a sink took since the sink was made: the valid units that the sink handed up since then, and nothing else, since no
 -- two sinks have one box and a new sink has a new one.
-use Rattle.scenario_laws.proofs.Prelude.{ℕ, ◌≡◌, ◌<◌, ◌≤◌, ◌==◌, ◌∙◌, cond, Bool, true, false, List, [], ◌∷◌, ◌++◌, map, Option, None, Some, arith, refl, sym, ap, AllByRecursion, filter, flat_map, cases_eq, eq-eqb, eqb-true, ne_eqb, append-nil, none-some, Handed, valid, lost, Call, handed_at, Step, box_was_made, valid_append, SinkUnit, box_of, closing_at, closing_in, handed_by, handed_up, onto_valid, valid_for, open_event, Airs, chosen_of, sinks_made, sinks_made_by, steps_of_source, units_by}
-use Rattle.scenario_text.specs.declared.step.Step.TheVariants as steps
-use Rattle.scenario_history.specs.Boxes.{closing}
+use Rattle.scenario_laws.proofs.Known.Sources.Steps.Prelude.{ℕ, ◌≡◌, ◌<◌, ◌≤◌, ◌==◌, ◌∙◌, cond, Bool, true, false, List, [], ◌∷◌, ◌++◌, map, Option, None, Some, arith, refl, sym, ap, AllByRecursion, filter, flat_map, cases_eq, eq-eqb, eqb-true, ne_eqb, append-nil, none-some, Handed, valid, lost, Call, handed_at, Step, box_was_made, valid_append, SinkUnit, box_of, closing_at, closing_in, handed_by, handed_up, onto_valid, valid_for, open_event, Airs, chosen_of, sinks_made, sinks_made_by, steps_of_source, units_by, closing}
 
 -- the octets of the valid ones
 abbrev pub octets_in : List Handed → List (List ℕ)
@@ -26,8 +24,8 @@ gone_hits m k b bm bk hm hk before em ek = grind (arith, none-some)
 
 one_box : (made : List Step) (m k b : ℕ) → box_of m made ≡ Some b → box_of k made ≡ Some b → m ≡ k
 one_box [] m k b em ek = absurd (none-some b em)
-one_box (steps.Sink sink streams slots mtu ∷ made) m k b em ek = cc (made_hits sink m k (sinks_made made) b (box_of m made) (box_of k made) (sink == m) (sink == k) (box_was_made m made b) (box_was_made k made b) (one_box made m k b) refl refl em ek)
-one_box (steps.Drop sink ∷ made) m k b em ek = search (gone_hits, one_box made m k b)
+one_box (Step.Sink sink streams slots mtu ∷ made) m k b em ek = cc (made_hits sink m k (sinks_made made) b (box_of m made) (box_of k made) (sink == m) (sink == k) (box_was_made m made b) (box_was_made k made b) (one_box made m k b) refl refl em ek)
+one_box (Step.Drop sink ∷ made) m k b em ek = search (gone_hits, one_box made m k b)
 one_box (_ ∷ made) m k b em ek = one_box made m k b em ek
 
 -- ---- the units that go to the box of a sink are those of the sink
@@ -74,11 +72,8 @@ fits_closing : (airs : Airs) (made : List Step) (b n t : ℕ) → box_of n made 
 fits_closing airs made b n t its = fits_at airs made b n t (open_event (steps_of_source t made)) its
 
 fits_step : (airs : Airs) (made : List Step) (b n : ℕ) (step : Step) → box_of n made ≡ Some b → FitsBox b n (handed_by airs made step)
-fits_step airs made b n steps.Event its = fits_closing airs made b n (chosen_of made) its
-fits_step airs made b n steps.Stop its = fits_closing airs made b n (chosen_of made) its
-fits_step airs made b n (steps.Terminate reason) its = fits_closing airs made b n (chosen_of made) its
-fits_step airs made b n steps.End its = search (fits_append, fits_closing)
-fits_step airs made b n _ its = tt
+fits_step airs made b n Step.End its = search (fits_append, fits_closing)
+fits_step airs made b n step its = search (fits_closing)
 
 pub step_octets : (airs : Airs) (made : List Step) (b n : ℕ) (step : Step) → box_of n made ≡ Some b
     → valid_for b (handed_by airs made step) ≡ octets_in (units_by n (handed_by airs made step))

@@ -1,9 +1,6 @@
 -- The units that a sink hands up as an event is closed: of the source that it is of alone, whatever other sinks do.
-use Rattle.scenario_laws.proofs.Prelude.{ℕ, ◌≡◌, ◌==◌, ◌∙◌, cond, Bool, false, List, [], ◌∷◌, ◌++◌, map, Option, None, Some, is_some, refl, arith, ap, flat_map, cases_eq, eq-eqb, false≢true, ne_eqb, map-append, filter-append, Handed, Call, Step, SinkUnit, box_of, closing_at, closing_both, closing_by, closing_in, is_of, sink_calls, source_of, open_event, Airs, steps_of_source, units_by}
-use Rattle.scenario_history.specs.Boxes.{closing}
-use Rattle.scenario_laws.proofs.Isolating.Said.{open_same}
-use Rattle.scenario_laws.proofs.RelayedUnits.Citable.{flat_same}
-use Rattle.scenario_laws.proofs.Isolating.Same.{Same}
+use Rattle.scenario_laws.proofs.Known.Sources.Steps.{ℕ, ◌≡◌, ◌==◌, ◌∙◌, cond, Bool, false, List, [], ◌∷◌, ◌++◌, map, Option, None, Some, is_some, refl, arith, ap, flat_map, cases_eq, eq-eqb, false≢true, ne_eqb, map-append, filter-append, Handed, Call, Step, SinkUnit, box_of, closing_at, closing_both, closing_by, closing_in, is_of, sink_calls, source_of, open_event, Airs, steps_of_source, units_by, closing, open_same, Same}
+use Rattle.scenario_laws.proofs.RelayedUnits.Printed.{flat_same}
 
 -- ---- lists
 

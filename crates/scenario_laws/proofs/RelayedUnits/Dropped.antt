@@ -1,18 +1,10 @@
 -- A unit that a relay offers is dropped for one of four reasons: the stream that it goes to is one of source 1, which is framed and
 -- takes times ahead.
-use Rattle.scenario_laws.proofs.Prelude.{ℕ, ◌≡◌, ◌==◌, ◌&&◌, ◌∙◌, not, cond, Bool, true, false, List, [], ◌∷◌, ltb, arith, None, Some, refl, ap, subst, inl, inr, slice_index_or, All, option_map, option_or, and_parts, eqb-true, false≢true, or_parts, All-head, All-tail, Step, Airs, permitted, stage_same, give_refusal, is_out_of_phase, refusal_of, source_refusal, refuse_if, Phase, absent, described, is_ciphered, is_sending, is_sending_at, is_started, phase_of, sending, setup_of, stopped, takes_units, was_started_at, chosen_of, is_of_source, is_source_line, steps_of_source, version_at, version_of, DroppedLaw, Offer, after_offer, closes_first, dropped_for, happened, offers_at, AreLegal, had_relay, relay_of}
-use Rattle.std.proofs.lemmas.Bool.{or_cases}
+use Rattle.scenario_laws.proofs.Known.Sources.Steps.{ℕ, ◌≡◌, ◌==◌, ◌&&◌, ◌∙◌, not, cond, Bool, true, false, List, [], ◌∷◌, ltb, arith, None, Some, refl, ap, subst, inl, inr, slice_index_or, All, option_map, option_or, and_parts, eqb-true, false≢true, or_parts, All-head, All-tail, Step, Airs, permitted, stage_same, give_refusal, is_out_of_phase, refusal_of, source_refusal, refuse_if, Phase, absent, described, is_ciphered, is_sending, is_sending_at, is_started, phase_of, sending, setup_of, stopped, takes_units, was_started_at, chosen_of, is_of_source, is_source_line, steps_of_source, version_at, version_of, DroppedLaw, Offer, after_offer, closes_first, dropped_for, happened, offers_at, AreLegal, had_relay, relay_of, or_cases, stage_happened, left_by_offers, Runs, happens_legally, runs_at, runs_still, unless_legal, is_free, line_passes, Stands, offers_stand, route_had, Refusal}
 use Rattle.relay_role.specs.Relayed.{drop_name}
-use Rattle.scenario_text.specs.declared.step.Step.TheVariants as steps
-use Rattle.source_machine.specs.UnitFaults as give_faults
-use Rattle.transcript_text.specs.declared.refusal.Refusal.TheVariants as refusals
-use Rattle.relay_role.specs.declared.dropped.DropName.TheVariants as drops
 use Rattle.scenario_laws.specs.RelayedUnits.Dropped.{AreDroppedByName, refusal_named, second_at, second_of}
-use Rattle.scenario_laws.proofs.RelayedUnits.Happening.{stage_happened}
-use Rattle.scenario_laws.proofs.RelayedUnits.Left.{left_by_offers}
-use Rattle.scenario_laws.proofs.RelayedUnits.Legal.{Runs, happens_legally, runs_at, runs_still, unless_legal}
-use Rattle.scenario_laws.proofs.RelayedUnits.Refused.{is_free, line_passes}
-use Rattle.scenario_laws.proofs.RelayedUnits.Routes.{Stands, offers_stand, route_had}
+use Rattle.source_machine.specs.UnitFaults as give_faults
+use Rattle.relay_role.specs.declared.dropped.DropName.TheVariants as drops
 
 -- ---- source 1 once it has a relay
 
@@ -22,10 +14,8 @@ pub record Settled (own : List Step) (to : ℕ) : Type 0 where
   pub within : ltb (setup_of own).info.num_bis to ≡ false
 
 sending_started : (phase : Phase) → is_sending_at phase ≡ true → was_started_at phase ≡ true
-sending_started absent is = is
-sending_started described is = is
 sending_started sending is = refl
-sending_started stopped is = refl
+sending_started phase is = search
 
 settled_if : (mine : Bool) (step : Step) (own : List Step) (to : ℕ) → (mine ≡ true → is_out_of_phase own step ≡ false) → Settled own to
     → Settled (cond mine (step ∷ own) own) to
@@ -43,7 +33,7 @@ in_phase : (airs : Airs) (boxes : ℕ) (earlier : List Step) (step : Step) → r
 in_phase airs boxes earlier step none mine = grind (arith, false≢true, by_line)
 
 settled_now : (airs : Airs) (boxes : ℕ) (earlier : List Step) (sink bis to : ℕ)
-    → refusal_of airs boxes earlier (steps.Relay sink bis to) ≡ None → Settled (steps_of_source 1 earlier) to
+    → refusal_of airs boxes earlier (Step.Relay sink bis to) ≡ None → Settled (steps_of_source 1 earlier) to
 settled_now airs boxes earlier sink bis to none =
     let own = steps_of_source 1 earlier in
     let free = is_free airs boxes earlier sink bis to none in
@@ -59,7 +49,7 @@ settled_now airs boxes earlier sink bis to none =
 pub settled : (airs : Airs) (boxes to : ℕ) (made : List Step) → AreLegal airs boxes made → had_relay to made ≡ true
     → Settled (steps_of_source 1 made) to
 settled airs boxes to [] legal had = absurd (false≢true had)
-settled airs boxes to (steps.Relay sink bis into ∷ earlier) legal had = elim (or_cases (into == to) (had_relay to earlier) had) [
+settled airs boxes to (Step.Relay sink bis into ∷ earlier) legal had = elim (or_cases (into == to) (had_relay to earlier) had) [
   | inl its ↦ subst (Settled (steps_of_source 1 earlier)) (eqb-true into to its) (settled_now airs boxes earlier sink bis into legal.1)
   | inr before ↦ settled airs boxes to earlier legal.0 before
 ]
@@ -76,8 +66,8 @@ same_reason : (long above full : Bool) → option_map give_refusal (cond long (S
 same_reason long above full = grind arith
 
 by_takes : (takes : Bool) (airs : Airs) (version : ℕ) (own : List Step) (offer : Offer) → Settled own offer.route.to → version_of own ≡ 2
-    → option_or (refuse_if (not takes) refusals.Order)
-    (source_refusal airs version own (steps.Unit offer.route.to (Some offer.unit.time) offer.unit.octets))
+    → option_or (refuse_if (not takes) Refusal.Order)
+    (source_refusal airs version own (Step.Unit offer.route.to (Some offer.unit.time) offer.unit.octets))
     ≡ option_map refusal_named (drop_name airs offer.route.to offer.unit (second_at takes own))
 by_takes takes airs version own offer set second = grind (arith, same_reason, ltb, eqb-true)
 

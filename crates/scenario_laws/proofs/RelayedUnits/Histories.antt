@@ -1,10 +1,39 @@
--- What happens by steps of lines makes of each sink, its links and its assistants what the lines say: relayed units are no part of what a
+-- What happens by steps of lines, of what they say: relayed units are no part of the stage, of the sinks and of what is handed up.
+use Rattle.scenario_laws.proofs.Known.Sources.Steps.Prelude.{◌≡◌, ◌==◌, ◌∙◌, cond, Bool, true, false, List, [], ◌∷◌, ◌++◌, refl, sym, ap, ap₂, eqb-true, Step, handed_by, handed_up, after_offers, happened, offers_at, with_relayed_units, Airs, chosen_of, sinks_made, stage_of, ℕ, ◌+◌, ◌||◌, ◌&&◌, Option, arith, unwrap_or, option_or, train_of, Settings, iso_us_of, Cipher, BaseLine, subgroups_in, Source, calls_after, calls_at, calls_by, made_by, made_of, named_by, events, anchor_of, with_cipher, Identity, Refusal, base_from, base_lines, Offer, after_offer, offers_before, with_relayed_unit_unless, GroupLine, cipher_of, group_of, ident_of, no_group, no_identity, source_calls, start_of, chosen_given, is_common, is_of_source, is_source_line, last_given, steps_of_source, calls_made, source_at, the_world, closing, LinkCall as Call, sink_horizon_of as horizon_of}
+use Rattle.scenario_laws.proofs.RelayedUnits.Left.{left_by_relayed_units, left_by_offers}
+
+pub stage_happened : (airs : Airs) (said : List Step) → stage_of (happened airs said) ≡ stage_of said
+stage_happened airs [] = refl
+stage_happened airs (step ∷ earlier) = cc ((left_by_relayed_units airs (happened airs earlier) step).stage, stage_happened airs earlier)
+
+pub sinks_happened : (airs : Airs) (said : List Step) → sinks_made (happened airs said) ≡ sinks_made said
+sinks_happened airs [] = refl
+sinks_happened airs (step ∷ earlier) = cc ((left_by_relayed_units airs (happened airs earlier) step).sinks, sinks_happened airs earlier)
+
+-- ---- what is handed up
+
+closes_if : (hit : Bool) (airs : Airs) (made : List Step) → (hit ≡ true → chosen_of made ≡ 0)
+    → (let after = after_offers airs (cond hit (offers_at airs made) []) made in closing airs (chosen_of after) after ≡ closing airs (chosen_of made) made)
+closes_if true airs made is =
+    let after = after_offers airs (offers_at airs made) made in
+    let left = left_by_offers airs (offers_at airs made) made in
+    ap (λ c. closing airs c after) (left.chosen ∙ is refl) ∙ left.closing_first ∙ ap (λ c. closing airs c made) (sym (is refl))
+closes_if false airs made is = refl
+
+-- a step hands up the same behind its relayed units
+pub hands_alike : (airs : Airs) (made : List Step) (step : Step) → handed_by airs (with_relayed_units airs made step) step ≡ handed_by airs made step
+hands_alike airs made Step.End =
+    let left = left_by_relayed_units airs made Step.End in ap₂ (λ first second. first ++ second) left.closing_first left.closing_second
+hands_alike airs made step = search (closes_if (chosen_of made == 0) airs made (eqb-true (chosen_of made) 0))
+
+-- all that is handed up: by the steps of lines alone
+pub handed_happened : (airs : Airs) (earlier : List Step) (step : Step)
+    → handed_up airs (happened airs (step ∷ earlier)) ≡ handed_up airs (happened airs earlier) ++ handed_by airs (happened airs earlier) step
+handed_happened airs earlier step =
+    ap₂ (λ before now. before ++ now) (left_by_relayed_units airs (happened airs earlier) step).handed (hands_alike airs (happened airs earlier) step)
+
+-- ---- what happens by steps of lines makes of each sink, its links and its assistants what the lines say: relayed units are no part of what a
 -- source announces and of where it stands.
-use Rattle.scenario_laws.proofs.Prelude.{ℕ, ◌≡◌, ◌+◌, ◌==◌, ◌||◌, ◌&&◌, ◌∙◌, cond, Bool, List, [], ◌∷◌, Option, refl, ap, ap₂, arith, unwrap_or, option_or, train_of, Settings, iso_us_of, Cipher, BaseLine, subgroups_in, Step, Source, calls_after, calls_at, calls_by, made_by, made_of, named_by, events, anchor_of, with_cipher, Identity, Refusal, base_from, base_lines, Offer, after_offer, after_offers, happened, offers_before, with_relayed_unit_unless, with_relayed_units, GroupLine, cipher_of, group_of, ident_of, no_group, Airs, no_identity, source_calls, start_of, chosen_given, chosen_of, is_common, is_of_source, is_source_line, last_given, steps_of_source, calls_made, source_at, the_world}
-use Rattle.sink_history.specs.Calls.{Call}
-use Rattle.scenario_text.specs.declared.step.Step.TheVariants as steps
-use Rattle.sink_history.specs.History.{horizon_of}
-use Rattle.scenario_laws.proofs.RelayedUnits.Left.{left_by_relayed_units}
 
 -- ---- what is said of a source, but for its units
 
@@ -137,7 +166,7 @@ named_next n named this before others made calls same = grind (arith, cond, call
 
 called_next : (n : ℕ) (step : Step) (before others : List Step) (made : Option Settings) (calls : List Call)
     → source_at before ≡ source_at others → calls_after the_world n step before made calls ≡ calls_after the_world n step others made calls
-called_next n (steps.Sink sink streams slots mtu) before others made calls same = refl
+called_next n (Step.Sink sink streams slots mtu) before others made calls same = refl
 called_next n step before others made calls same = named_next n (named_by step) step before others made calls same
 
 pub history_happened : (airs : Airs) (n : ℕ) (said : List Step) → calls_made n (happened airs said) ≡ calls_made n said

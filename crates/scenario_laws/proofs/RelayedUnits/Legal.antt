@@ -1,9 +1,6 @@
 -- Lines of which none was refused give steps of which none is: relayed units are steps that source 1 takes, and what closes an event of
 -- source 0 is permitted behind them as before.
-use Rattle.scenario_laws.proofs.Prelude.{ℕ, ◌≡◌, ◌≤◌, ◌||◌, ◌∙◌, not, cond, Bool, true, false, List, [], ◌∷◌, length, leb, ltb, Option, None, Some, refl, ap, arith, option_map, option_or, eqb-true, false≢true, ltb-false, none-some, IsInRange, Step, Airs, give_fault, has_its_time, UnitFault, Refusal, fails_not, maps_none, permitted, give_refusal, is_misplaced, is_out_of_phase, refusal_of, refuse_if, source_refusal, setup_of, source_calls, takes_units, Stage, chosen_of, chosen_steps, is_over, is_over_at, is_unbegun, is_unbegun_at, stage_of, steps_of_source, version_at, Offer, after_offer, after_offers, closes_first, dropped_for, happened, offers_at, with_relayed_unit_unless, with_relayed_units, AreLegal, AreSaidLegally}
-use Rattle.scenario_text.specs.declared.step.Step.TheVariants as steps
-use Rattle.transcript_text.specs.declared.refusal.Refusal.TheVariants as refusals
-use Rattle.scenario_history.proofs.Citable.{neither}
+use Rattle.scenario_laws.proofs.Known.Sources.Steps.Prelude.{ℕ, ◌≡◌, ◌≤◌, ◌||◌, ◌∙◌, not, cond, Bool, true, false, List, [], ◌∷◌, length, leb, ltb, Option, None, Some, refl, ap, arith, option_map, option_or, eqb-true, false≢true, ltb-false, none-some, IsInRange, Step, Airs, give_fault, has_its_time, UnitFault, Refusal, fails_not, maps_none, permitted, give_refusal, is_misplaced, is_out_of_phase, refusal_of, refuse_if, source_refusal, setup_of, source_calls, takes_units, Stage, chosen_of, chosen_steps, is_over, is_over_at, is_unbegun, is_unbegun_at, stage_of, steps_of_source, version_at, Offer, after_offer, after_offers, closes_first, dropped_for, happened, offers_at, with_relayed_unit_unless, with_relayed_units, AreLegal, AreSaidLegally, neither}
 use Rattle.scenario_laws.proofs.RelayedUnits.Left.{left_by_offers}
 use Rattle.scenario_laws.proofs.RelayedUnits.Refused.{line_passes}
 
@@ -40,34 +37,19 @@ bounded airs boxes (step ∷ earlier) legal = search (bounded_if, bounded airs b
 
 chosen_below : (airs : Airs) (boxes : ℕ) (made : List Step) → AreLegal airs boxes made → chosen_of made ≤ 1
 chosen_below airs boxes [] legal = omega arith
-chosen_below airs boxes (steps.Source source ∷ earlier) legal = legal.2
+chosen_below airs boxes (Step.Source source ∷ earlier) legal = legal.2
 chosen_below airs boxes (this ∷ earlier) legal = chosen_below airs boxes earlier legal.0
 
 none_of_four : (over misplaced out : Bool) (source : Option Refusal) → over ≡ false → misplaced ≡ false → out ≡ false → source ≡ None
-    → option_or (refuse_if over refusals.AfterEnd) (option_or (refuse_if (misplaced || out) refusals.Order) (option_or source None)) ≡ None
+    → option_or (refuse_if over Refusal.AfterEnd) (option_or (refuse_if (misplaced || out) Refusal.Order) (option_or source None)) ≡ None
 none_of_four over misplaced out source p q r s = rw (p, q, r, s) refl
 
-choosing : (airs : Airs) (boxes source : ℕ) (made : List Step) → Runs made → refusal_of airs boxes made (steps.Source source) ≡ None
+choosing : (airs : Airs) (boxes source : ℕ) (made : List Step) → Runs made → refusal_of airs boxes made (Step.Source source) ≡ None
 choosing airs boxes source made runs = none_of_four (is_over made) (is_unbegun made) false None runs.goes_on runs.begun refl refl
 
 giving : (airs : Airs) (boxes : ℕ) (offer : Offer) (made : List Step) → Runs made → dropped_for airs offer made ≡ None
-    → refusal_of airs boxes (steps.Source 1 ∷ made) (steps.Unit offer.route.to (Some offer.unit.time) offer.unit.octets) ≡ None
-giving airs boxes offer made runs none =
-    grind (
-      arith,
-      steps_of_source,
-      neither,
-      refuse_if,
-      not,
-      takes_units,
-      source_refusal,
-      version_at,
-      stage_of,
-      none_of_four,
-      is_over,
-      is_unbegun,
-      fails_not,
-    )
+    → refusal_of airs boxes (Step.Source 1 ∷ made) (Step.Unit offer.route.to (Some offer.unit.time) offer.unit.octets) ≡ None
+giving airs boxes offer made runs none = grind (arith, neither, not, none_of_four, fails_not)
 
 pub second_false : (a b : Bool) (x y : UnitFault) (z : Option UnitFault) → cond a (Some x) (cond b (Some y) z) ≡ None → b ≡ false
 second_false a b x y z none = grind (arith, none-some)
@@ -75,29 +57,7 @@ second_false a b x y z none = grind (arith, none-some)
 -- what passes has at most so many octets as a unit of a line
 short : (airs : Airs) (boxes : ℕ) (offer : Offer) (made : List Step) → AreLegal airs boxes made → dropped_for airs offer made ≡ None
     → length offer.unit.octets ≤ 4095
-short airs boxes offer made legal none =
-    grind (
-      arith,
-      steps_of_source,
-      setup_of,
-      give_fault,
-      source_calls,
-      neither,
-      refuse_if,
-      not,
-      takes_units,
-      option_map,
-      give_refusal,
-      length,
-      ltb-false,
-      second_false,
-      ltb,
-      cond,
-      has_its_time,
-      leb,
-      maps_none,
-      bounded,
-    )
+short airs boxes offer made legal none = grind (arith, neither, not, length, ltb-false, second_false, ltb, cond, leb, maps_none, bounded)
 
 -- ---- relayed units
 
@@ -122,8 +82,8 @@ legal_if closes airs boxes made legal runs = grind (arith, all_legal)
 -- why a step that closes an event is refused, of the stage of the scenario and of the steps of the source
 abbrev close_refusal : Airs → Step → Stage → List Step → Option Refusal
 close_refusal airs step stage own =
-    option_or (refuse_if (is_over_at stage) refusals.AfterEnd)
-    (option_or (refuse_if (is_misplaced stage step || is_out_of_phase own step) refusals.Order)
+    option_or (refuse_if (is_over_at stage) Refusal.AfterEnd)
+    (option_or (refuse_if (is_misplaced stage step || is_out_of_phase own step) Refusal.Order)
     (option_or (source_refusal airs (version_at stage) own step) None))
 
 chosen_alike : (made others : List Step) → chosen_of others ≡ chosen_of made → steps_of_source 0 others ≡ steps_of_source 0 made

@@ -1,12 +1,5 @@
 -- What is offered to a stream of source 1 is what one sink handed up of one of its streams.
-use Rattle.scenario_laws.proofs.Prelude.{ℕ, zero, suc, ◌≡◌, ◌≢◌, ◌<◌, ◌≤◌, ◌+◌, ◌==◌, ◌&&◌, ◌∙◌, Bool, true, false, cond, List, [], ◌∷◌, ◌++◌, map, Option, None, Some, refl, sym, ap, subst, arith, inl, inr, Contains, filter, flat_map, range_with_len, cases_Bool, cases_eq, and_right, eq-eqb, eqb-true, false_from_ne_true, false≢true, or_parts, append-nil, map-append, filter-append, IsInRange, Step, Handed, SinkUnit, handed_by, open_event, Airs, chosen_of, steps_of_source, Answered, Offer, after_offer, all_answered, answered_by, closes_first, dropped_for, handed_of, happened, offered_of, offered_to, offers_at, units_on, with_relayed_units, handed_on, is_route, offered, AreSaidLegally, Route, had_relay, relay_of, relays_to}
-use Rattle.bcast_base.specs.declared.unit.Unit.{Unit as AudioUnit}
-use Rattle.scenario_text.specs.declared.step.Step.TheVariants as steps
-use Rattle.scenario_history.specs.Boxes.{closing, sink_numbers}
-use Rattle.scenario_history.specs.RelayedUnits.{answered}
-use Rattle.scenario_laws.proofs.RelayedUnits.Left.{left_by_relayed_units}
-use Rattle.scenario_laws.proofs.RelayedUnits.One.{OneStands, contains_cases, first_free, one_stands}
-use Rattle.scenario_laws.proofs.RelayedUnits.Routes.{had_happened, none_now, none_offered, route_had}
+use Rattle.scenario_laws.proofs.Known.Sources.Steps.{ℕ, zero, suc, ◌≡◌, ◌≢◌, ◌<◌, ◌≤◌, ◌+◌, ◌==◌, ◌&&◌, ◌∙◌, Bool, true, false, cond, List, [], ◌∷◌, ◌++◌, map, Option, None, Some, refl, sym, ap, subst, arith, inl, inr, Contains, filter, flat_map, range_with_len, cases_Bool, cases_eq, and_right, eq-eqb, eqb-true, false_from_ne_true, false≢true, or_parts, append-nil, map-append, filter-append, IsInRange, Step, Handed, SinkUnit, handed_by, open_event, Airs, chosen_of, steps_of_source, Answered, Offer, after_offer, all_answered, answered_by, closes_first, dropped_for, handed_of, happened, offered_of, offered_to, offers_at, units_on, with_relayed_units, handed_on, is_route, offered, AreSaidLegally, Route, had_relay, relay_of, relays_to, Unit as AudioUnit, closing, sink_numbers, answered, left_by_relayed_units, OneStands, contains_cases, first_free, one_stands, had_happened, none_now, none_offered, route_had}
 
 -- ---- lists
 
@@ -93,9 +86,6 @@ offers_units airs n bis to made below stands =
 
 -- ---- what the sink hands up of source 0
 
-abbrev mine : ℕ → ℕ → SinkUnit → Bool
-mine s n unit = (unit.source == s) && (unit.sink == n)
-
 pub handed_append : (s n : ℕ) (one other : List SinkUnit) → handed_of s n (one ++ other) ≡ handed_of s n one ++ handed_of s n other
 handed_append s n one other = search (filter-append, map-append)
 
@@ -121,21 +111,13 @@ by_chosen airs n made after_relays hit is same closes = grind (arith, eqb-true, 
 -- what the sink hands up of source 0 by a step, behind the relayed units
 pub first_handed : (airs : Airs) (n : ℕ) (made : List Step) (step : Step) → handed_of 0 n (handed_by airs (with_relayed_units airs made step) step)
     ≡ cond (closes_first made step) (handed_of 0 n (closing airs 0 made)) []
-first_handed airs n made steps.Event =
-    let left = left_by_relayed_units airs made steps.Event in
-    by_chosen airs n made (with_relayed_units airs made steps.Event) (chosen_of made == 0) refl left.chosen left.closing_first
-first_handed airs n made steps.Stop =
-    let left = left_by_relayed_units airs made steps.Stop in
-    by_chosen airs n made (with_relayed_units airs made steps.Stop) (chosen_of made == 0) refl left.chosen left.closing_first
-first_handed airs n made (steps.Terminate reason) =
-    let left = left_by_relayed_units airs made (steps.Terminate reason) in
-    by_chosen airs n made (with_relayed_units airs made (steps.Terminate reason)) (chosen_of made == 0) refl left.chosen left.closing_first
-first_handed airs n made steps.End =
-    let after_relays = with_relayed_units airs made steps.End in
+first_handed airs n made Step.End =
+    let after_relays = with_relayed_units airs made Step.End in
     handed_append 0 n (closing airs 0 after_relays) (closing airs 1 after_relays)
     ∙ ap (λ l. handed_of 0 n (closing airs 0 after_relays) ++ l) (not_first airs n 1 after_relays refl)
-    ∙ append-nil (handed_of 0 n (closing airs 0 after_relays)) ∙ ap (handed_of 0 n) (left_by_relayed_units airs made steps.End).closing_first
-first_handed airs n made _ = refl
+    ∙ append-nil (handed_of 0 n (closing airs 0 after_relays)) ∙ ap (handed_of 0 n) (left_by_relayed_units airs made Step.End).closing_first
+first_handed airs n made step =
+    search (by_chosen airs n made (with_relayed_units airs made step) (chosen_of made == 0) refl (left_by_relayed_units airs made step).chosen (left_by_relayed_units airs made step).closing_first)
 
 -- ---- one step, and all steps
 
@@ -173,10 +155,10 @@ not_yet airs n bis to step earlier none =
     ap (λ l. l ++ cond (is_route bis to (relay_of n made)) now []) (not_offered airs n bis to earlier none)
     ∙ ap (λ hit. cond hit now []) (no_way n bis to made (relay_of n made) refl (had_happened airs to earlier ∙ none))
 
-pub in_range : (airs : Airs) (boxes n bis to : ℕ) (said : List Step) → AreSaidLegally airs boxes said → Contains said (steps.Relay n bis to)
+pub in_range : (airs : Airs) (boxes n bis to : ℕ) (said : List Step) → AreSaidLegally airs boxes said → Contains said (Step.Relay n bis to)
     → n ≤ 7
 in_range airs boxes n bis to [] legal within = absurd (omega (arith, within.1))
-in_range airs boxes n bis to (step ∷ earlier) legal within = elim (contains_cases step earlier (steps.Relay n bis to) within) [
+in_range airs boxes n bis to (step ∷ earlier) legal within = elim (contains_cases step earlier (Step.Relay n bis to) within) [
   | inl is ↦ subst IsInRange is legal.2
   | inr before ↦ in_range airs boxes n bis to earlier legal.0 before
 ]
@@ -186,7 +168,7 @@ units_append : (to : ℕ) (one other : List Answered) → map (λ (a : Answered)
 units_append to one other = search (filter-append, map-append)
 
 pub all_offered : (airs : Airs) (boxes n bis to : ℕ) (said : List Step) → AreSaidLegally airs boxes said
-    → Contains said (steps.Relay n bis to)
+    → Contains said (Step.Relay n bis to)
     → map (λ (a : Answered). a.offer.unit) (offered_to to (all_answered airs said)) ≡ offered airs n bis to said
 all_offered airs boxes n bis to [] legal within = absurd (omega (arith, within.1))
 all_offered airs boxes n bis to (step ∷ earlier) legal within =
@@ -194,7 +176,7 @@ all_offered airs boxes n bis to (step ∷ earlier) legal within =
     let now = answered_by airs made step in
     let units = λ (answers : List Answered). map (λ (a : Answered). a.offer.unit) (offered_to to answers) in
     let parts = units_append to (all_answered airs earlier) now in
-    elim (contains_cases step earlier (steps.Relay n bis to) within) [
+    elim (contains_cases step earlier (Step.Relay n bis to) within) [
       | inl is ↦
           let none = first_free airs boxes n bis to step made is legal.1 in
           let before = sym (had_happened airs to earlier) ∙ none in

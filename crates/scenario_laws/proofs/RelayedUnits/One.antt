@@ -1,7 +1,5 @@
 -- A stream of source 1 has one relay: no other relay to it stands.
-use Rattle.scenario_laws.proofs.Prelude.{ℕ, ◌≡◌, ◌<◌, ◌⊎◌, ◌==◌, ◌∙◌, Bool, true, false, cond, List, [], ◌∷◌, length, None, Some, refl, sym, ap, subst, arith, inl, inr, slice_index_or, unwrap_or, Contains, option_or, eq-eqb, eqb-true, false≢true, or_right, none-some, same_Some, Step, Airs, last_given, happened, with_relayed_units, line_refusal, AreSaidLegally, Route, had_relay, relay_given, relay_of, relays_to}
-use Rattle.std.proofs.lemmas.Bool.{or_left}
-use Rattle.scenario_text.specs.declared.step.Step.TheVariants as steps
+use Rattle.scenario_laws.proofs.Known.Sources.Steps.Prelude.{ℕ, ◌≡◌, ◌<◌, ◌⊎◌, ◌==◌, ◌∙◌, Bool, true, false, cond, List, [], ◌∷◌, length, None, Some, refl, sym, ap, subst, arith, inl, inr, slice_index_or, unwrap_or, Contains, option_or, eq-eqb, eqb-true, false≢true, or_right, none-some, same_Some, Step, Airs, last_given, happened, with_relayed_units, line_refusal, AreSaidLegally, Route, had_relay, relay_given, relay_of, relays_to, or_left}
 use Rattle.scenario_laws.proofs.RelayedUnits.Left.{left_by_relayed_units}
 use Rattle.scenario_laws.proofs.RelayedUnits.Refused.{is_free, line_passes}
 use Rattle.scenario_laws.proofs.RelayedUnits.Routes.{had_happened, route_had}
@@ -15,18 +13,18 @@ at_place first rest one k below is = grind arith
 pub contains_cases : (first : Step) (rest : List Step) (one : Step) → Contains (first ∷ rest) one → (first ≡ one) ⊎ Contains rest one
 contains_cases first rest one within = at_place first rest one within.0 within.1 within.2
 
-pub has_had : (n bis to : ℕ) (said : List Step) → Contains said (steps.Relay n bis to) → had_relay to said ≡ true
+pub has_had : (n bis to : ℕ) (said : List Step) → Contains said (Step.Relay n bis to) → had_relay to said ≡ true
 has_had n bis to [] within = absurd (omega (arith, within.1))
-has_had n bis to (step ∷ earlier) within = elim (contains_cases step earlier (steps.Relay n bis to) within) [
+has_had n bis to (step ∷ earlier) within = elim (contains_cases step earlier (Step.Relay n bis to) within) [
   | inl is ↦ or_left (relays_to to step) (had_relay to earlier) (ap (relays_to to) is ∙ eq-eqb to to refl)
   | inr before ↦ or_right (relays_to to step) (had_relay to earlier) (has_had n bis to earlier before)
 ]
 
 -- it stands where its stream had no relay
-pub first_free : (airs : Airs) (boxes n bis to : ℕ) (step : Step) (made : List Step) → step ≡ steps.Relay n bis to
+pub first_free : (airs : Airs) (boxes n bis to : ℕ) (step : Step) (made : List Step) → step ≡ Step.Relay n bis to
     → line_refusal airs boxes made step ≡ None → had_relay to made ≡ false
 first_free airs boxes n bis to this made is none =
-    cc ((is_free airs boxes made n bis to (line_passes airs boxes made (steps.Relay n bis to) (subst (λ s. line_refusal airs boxes made s ≡ None) is none))).had)
+    cc ((is_free airs boxes made n bis to (line_passes airs boxes made (Step.Relay n bis to) (subst (λ s. line_refusal airs boxes made s ≡ None) is none))).had)
 
 -- ---- the relays that stand
 
@@ -41,7 +39,7 @@ new_if true n bis to m made route its none is goes = grind (arith, same_Some)
 new_if false n bis to m made route its none is goes =
     absurd (false≢true (sym none ∙ ap (λ b. had_relay b made) (sym goes) ∙ route_had m made route is))
 
-new_stands : (n bis to : ℕ) (made : List Step) → had_relay to made ≡ false → OneStands n bis to (steps.Relay n bis to ∷ made)
+new_stands : (n bis to : ℕ) (made : List Step) → had_relay to made ≡ false → OneStands n bis to (Step.Relay n bis to ∷ made)
 new_stands n bis to made none m route is goes = new_if (n == m) n bis to m made route (eqb-true n m) none is goes
 
 other_if : (hit : Bool) (n bis to from into m : ℕ) (made : List Step) (route : Route) → OneStands n bis to made → had_relay to made ≡ true
@@ -61,20 +59,20 @@ dropped_if false n bis to m made route stands is goes = stands m route is goes
 stands_on : (airs : Airs) (boxes n bis to : ℕ) (step : Step) (made after_relays : List Step) → line_refusal airs boxes made step ≡ None
     → ((b : ℕ) → had_relay b after_relays ≡ had_relay b made) → OneStands n bis to after_relays → had_relay to made ≡ true
     → OneStands n bis to (step ∷ after_relays)
-stands_on airs boxes n bis to (steps.Relay sink from into) made after_relays none same stands had m route is goes =
+stands_on airs boxes n bis to (Step.Relay sink from into) made after_relays none same stands had m route is goes =
     other_if (sink == m) n bis to from into m after_relays route stands (same to ∙ had)
-    (same into ∙ first_free airs boxes sink from into (steps.Relay sink from into) made refl none) is goes
-stands_on airs boxes n bis to (steps.Drop sink) made after_relays none same stands had m route is goes =
+    (same into ∙ first_free airs boxes sink from into (Step.Relay sink from into) made refl none) is goes
+stands_on airs boxes n bis to (Step.Drop sink) made after_relays none same stands had m route is goes =
     dropped_if (sink == m) n bis to m after_relays route stands is goes
 stands_on airs boxes n bis to this made after_relays none same stands had m route is goes = stands m route is goes
 
 pub one_stands : (airs : Airs) (boxes n bis to : ℕ) (said : List Step) → AreSaidLegally airs boxes said
-    → Contains said (steps.Relay n bis to) → OneStands n bis to (happened airs said)
+    → Contains said (Step.Relay n bis to) → OneStands n bis to (happened airs said)
 one_stands airs boxes n bis to [] legal within = absurd (omega (arith, within.1))
 one_stands airs boxes n bis to (step ∷ earlier) legal within =
     let made = happened airs earlier in
     let left = left_by_relayed_units airs made step in
-    elim (contains_cases step earlier (steps.Relay n bis to) within) [
+    elim (contains_cases step earlier (Step.Relay n bis to) within) [
       | inl is ↦
           subst (λ s. OneStands n bis to (s ∷ with_relayed_units airs made step)) (sym is)
           (new_stands n bis to (with_relayed_units airs made step) (left.had to ∙ first_free airs boxes n bis to step made is legal.1))

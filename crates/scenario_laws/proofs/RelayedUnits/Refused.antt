@@ -1,9 +1,7 @@
 -- What the lines say of which none was refused: a `relay` line is of a stream that had neither a relay nor a unit, and no `unit`
 -- line of source 1 names a stream that has had a relay.
-use Rattle.scenario_laws.proofs.Prelude.{ℕ, ◌≡◌, not, Bool, true, false, List, Option, None, Some, is_some, arith, list_any, and_cases, and_left, and_right, eqb-true, false_from_ne_true, false≢true, or_parts, not-false, none-some, Step, Refusal, fails_not, permitted, box_of, gives_on, is_relay_beyond, is_relay_taken, is_relayed, line_refusal, may_relay, no_sink, refusal_of, relayed_or, refuse_if, had_relay, relay_of, Airs, steps_of_source}
-use Rattle.scenario_text.specs.declared.step.Step.TheVariants as steps
-use Rattle.scenario_history.proofs.Citable.{neither}
-use Rattle.scenario_laws.proofs.RelayedUnits.Passing.{gives_to}
+use Rattle.scenario_laws.proofs.Known.Sources.Steps.Prelude.{ℕ, ◌≡◌, not, Bool, true, false, List, Option, None, Some, is_some, arith, list_any, and_cases, and_left, and_right, eqb-true, false_from_ne_true, false≢true, or_parts, not-false, none-some, Step, Refusal, fails_not, permitted, box_of, gives_on, is_relay_beyond, is_relay_taken, is_relayed, line_refusal, may_relay, no_sink, refusal_of, relayed_or, refuse_if, had_relay, relay_of, Airs, steps_of_source, neither}
+use Rattle.scenario_laws.proofs.RelayedUnits.Left.{gives_to}
 
 -- ---- the step of a line
 
@@ -33,30 +31,9 @@ pub record IsFree (made : List Step) (sink bis to : ℕ) : Type 0 where
   pub had : had_relay to made ≡ false
   pub given : list_any (gives_on to) (steps_of_source 1 made) ≡ false
 
-pub is_free : (airs : Airs) (boxes : ℕ) (made : List Step) (sink bis to : ℕ) → refusal_of airs boxes made (steps.Relay sink bis to) ≡ None
+pub is_free : (airs : Airs) (boxes : ℕ) (made : List Step) (sink bis to : ℕ) → refusal_of airs boxes made (Step.Relay sink bis to) ≡ None
     → IsFree made sink bis to
-is_free airs boxes made sink bis to none =
-    grind (
-      arith,
-      neither,
-      refuse_if,
-      not,
-      may_relay,
-      no_sink,
-      is_relay_beyond,
-      or_parts,
-      is_some,
-      relay_of,
-      fails_not,
-      is_relay_taken,
-      had_relay,
-      list_any,
-      gives_on,
-      steps_of_source,
-      not-false,
-      box_of,
-      permitted,
-    )
+is_free airs boxes made sink bis to none = grind (arith, neither, not, or_parts, fails_not, not-false, permitted)
 
 -- ---- a `unit` line
 

@@ -1,12 +1,7 @@
 -- The history of a sink whose groups may have a greater horizon: what it has, what its links bring and what it prints are the
 -- same, where no train was answered `BadGroup 11` (Basic Audio Profile 1.0, section 6.5; Broadcast Audio Scan Service 1.0,
 -- section 3). Lists of steps and of calls have the newest first.
-use Rattle.scenario_laws.proofs.Prelude.{ℕ, zero, suc, ◌≡◌, ◌≤◌, List, [], ◌∷◌, length, Option, refl, ◌∙◌, ap, arith, slice_get, Snapshot, done_by, snapshot_of, train_heard, outcome_by, step_by, writes_waiting, drained, repeated, notified_and_read, notified_out, Acts, acts_by, acts_of, notices_waiting, reads_waiting, waiting_of}
-use Rattle.delegator_history.specs.States.{Answered, Step, answered, snapshot_in}
-use Rattle.delegator_history.specs.Steps.{Done}
-use Rattle.delegator_history.specs.Trains.{Setup}
-use Rattle.sink_history.specs.Calls as links
-use Rattle.sink_history.specs.Calls.{Call, steps_of, with_step}
+use Rattle.scenario_laws.proofs.Known.Sources.Steps.Prelude.{ℕ, zero, suc, ◌≡◌, ◌≤◌, List, [], ◌∷◌, length, Option, refl, ◌∙◌, ap, arith, slice_get, Snapshot, done_by, snapshot_of, train_heard, outcome_by, step_by, writes_waiting, drained, repeated, notified_and_read, notified_out, Acts, acts_by, acts_of, notices_waiting, reads_waiting, waiting_of, DelegatorAnswered as Answered, DelegatorStep as Step, delegator_answered as answered, delegator_snapshot_in as snapshot_in, Done, SinkSetup as Setup, LinkCall as Call, link_steps_of as steps_of, link_with_step as with_step}
 use Rattle.scenario_laws.proofs.Versions.Trains.{BringsNear, brought_same, with_horizon}
 
 -- ---- what it has
@@ -72,21 +67,21 @@ reads_same wider setup mtu link calls within quiet = cc (acts_same wider setup m
 -- ---- drains
 
 pub quiet_served : (setup : Setup) (link : ℕ) (calls : List Call) → AreQuietCalls setup calls
-    → AreQuietCalls setup (links.served link ∷ calls)
+    → AreQuietCalls setup (Call.served link ∷ calls)
 quiet_served setup link calls quiet = grind (arith, slice_get, writes_waiting)
 
 pub quiet_serves : (setup : Setup) (link count : ℕ) (calls : List Call) → AreQuietCalls setup calls
-    → AreQuietCalls setup (repeated count (links.served link) calls)
+    → AreQuietCalls setup (repeated count (Call.served link) calls)
 quiet_serves setup link zero calls quiet = quiet
 quiet_serves setup link (suc count) calls quiet = search (quiet_served, quiet_serves setup link count calls quiet)
 
 pub quiet_tells : (setup : Setup) (link count : ℕ) (calls : List Call) → AreQuietCalls setup calls
-    → AreQuietCalls setup (repeated count (links.notified link) calls)
+    → AreQuietCalls setup (repeated count (Call.notified link) calls)
 quiet_tells setup link zero calls quiet = quiet
 quiet_tells setup link (suc count) calls quiet = quiet_tells setup link count calls quiet
 
 pub quiet_reads : (setup : Setup) (link count : ℕ) (calls : List Call) → AreQuietCalls setup calls
-    → AreQuietCalls setup (repeated count (links.read link) calls)
+    → AreQuietCalls setup (repeated count (Call.read link) calls)
 quiet_reads setup link zero calls quiet = quiet
 quiet_reads setup link (suc count) calls quiet = quiet_reads setup link count calls quiet
 

@@ -1,19 +1,8 @@
 -- A train that a source announces isn't answered `BadGroup 11`: its group passed the group check of the version that its sinks
 -- are of too (Basic Audio Profile 1.0, section 6.5; Core 5.2, volume 6 part B, section 4.4.6). Lists of steps have the newest
 -- first; where a list is called `own` its steps are those of one source.
-use Rattle.std.proofs.Common.{arith}
-use Rattle.scenario_laws.proofs.Prelude.{ℕ, ◌≡◌, ◌≤◌, ◌-◌, ◌*◌, ◌/◌, ◌==◌, not, cond, Bool, true, false, List, [], ◌∷◌, Option, None, Some, Ok, refl, sym, subst, unwrap_or, eqb-true, false≢true, ltb-false, not-false, same_Some, MayAnnounce, train_of, IsTrain, Tells, TellsInfo, Endpoint, Horizon, BigInfo, info_of, NoFault, Settings, without_cipher, next_anchor_of, next_of, Step, made_of, own_train, horizon_in, base_of, is_base_too_long, group_refusal, refusal_of, source_refusal, refuse_if, checked_info, cipher_of, group_of, identity_of, is_sending, is_started, no_group, setup_of, Airs, source_calls, chosen_of, chosen_steps, is_of_source, is_unbegun_at, stage_of, steps_of_source, version_of, announced_of, calls_made, source_at, snapshot_in}
-use Rattle.announcement_train.specs.declared.train.Train.{Train}
-use Rattle.announcement_train.specs.Told.{numbers_of}
-use Rattle.big_info.specs.Schedule.{horizon_of as group_horizon}
-use Rattle.delegator_history.specs.Trains.{Setup, Train as Heard}
-use Rattle.scenario_text.specs.declared.step.Step.TheVariants as steps
-use Rattle.scenario_laws.proofs.Citable.{Lawful, Legal, Permitted, bounds_in, lawful, may_announce, may_be_sent, neither, permitted, sends}
-use Rattle.scenario_laws.proofs.Citable.{settled}
-use Rattle.scenario_laws.proofs.Versions.Groups.{within_near}
+use Rattle.scenario_laws.proofs.Known.Sources.{arith, ℕ, ◌≡◌, ◌≤◌, ◌-◌, ◌*◌, ◌/◌, ◌==◌, not, cond, Bool, true, false, List, [], ◌∷◌, Option, None, Some, Ok, refl, sym, subst, unwrap_or, eqb-true, false≢true, ltb-false, not-false, same_Some, MayAnnounce, train_of, IsTrain, Tells, TellsInfo, Endpoint, Horizon, BigInfo, info_of, NoFault, Settings, without_cipher, next_anchor_of, next_of, Step, made_of, own_train, horizon_in, base_of, is_base_too_long, group_refusal, refusal_of, source_refusal, refuse_if, checked_info, cipher_of, group_of, identity_of, is_sending, is_started, no_group, setup_of, Airs, source_calls, chosen_of, chosen_steps, is_of_source, is_unbegun_at, stage_of, steps_of_source, version_of, announced_of, calls_made, source_at, snapshot_in, TrainOctets as Train, told_numbers_of as numbers_of, horizon_of as group_horizon, SinkSetup as Setup, Train as Heard, Lawful, Legal, Permitted, bounds_in, lawful, may_announce, may_be_sent, neither, permitted, sends, settled, within_near, ReadsNear, outcome_near, sink_horizon}
 use Rattle.scenario_laws.proofs.Versions.Lived.{IsCalm}
-use Rattle.scenario_laws.proofs.Versions.Seconds.{sink_horizon}
-use Rattle.scenario_laws.proofs.Versions.Trains.{ReadsNear, outcome_near}
 
 -- ---- `scenario` comes first
 
@@ -21,7 +10,7 @@ unbegun_empty : (airs : Airs) (boxes : ℕ) (made : List Step) → Legal airs bo
 unbegun_empty airs boxes (this ∷ earlier) legal unbegun = grind (arith, false≢true, permitted)
 unbegun_empty airs boxes made legal unbegun = search (false≢true, permitted)
 
-first_alone : (airs : Airs) (boxes version : ℕ) (earlier : List Step) → Legal airs boxes (steps.Scenario version ∷ earlier) → earlier ≡ []
+first_alone : (airs : Airs) (boxes version : ℕ) (earlier : List Step) → Legal airs boxes (Step.Scenario version ∷ earlier) → earlier ≡ []
 first_alone airs boxes version earlier legal = grind (arith, unbegun_empty, not-false, is_unbegun_at, stage_of, permitted)
 
 -- ---- the greatest horizon of a group for a sink
@@ -38,11 +27,10 @@ horizon_if b one made horizon is has = grind arith
 horizon_made : (airs : Airs) (boxes n : ℕ) (made : List Step) → Legal airs boxes made
     → HasHorizon (made_of n made) (horizon_in (version_of made))
 horizon_made airs boxes n [] legal = tt
-horizon_made airs boxes n (steps.Scenario version ∷ earlier) legal = grind (arith, first_alone airs boxes version earlier legal)
-horizon_made airs boxes n (steps.Sink sink streams slots mtu ∷ earlier) legal =
+horizon_made airs boxes n (Step.Scenario version ∷ earlier) legal = grind (arith, first_alone airs boxes version earlier legal)
+horizon_made airs boxes n (Step.Sink sink streams slots mtu ∷ earlier) legal =
     search (horizon_if, sink_horizon, horizon_made airs boxes n earlier legal.0)
-horizon_made airs boxes n (steps.Drop sink ∷ earlier) legal = search (horizon_if, horizon_made airs boxes n earlier legal.0)
-horizon_made airs boxes n (this ∷ earlier) legal = horizon_made airs boxes n earlier legal.0
+horizon_made airs boxes n (this ∷ earlier) legal = search (horizon_if, horizon_made airs boxes n earlier legal.0)
 
 -- ---- the horizon of the group of a source
 
@@ -55,17 +43,17 @@ within_if : (b : Bool) (own : List Step) (step : Step) (horizon : ℕ) → (b �
 within_if b own this horizon here before = grind arith
 
 -- the group check found that its horizon is no greater
-started_within : (version first : ℕ) (own : List Step) → source_refusal (λ setup calls. []) version own (steps.Start first) ≡ None
+started_within : (version first : ℕ) (own : List Step) → source_refusal (λ setup calls. []) version own (Step.Start first) ≡ None
     → group_horizon (unwrap_or (group_of own) no_group).info ≤ horizon_in version
 started_within version first own none =
     let sound : NoFault (horizon_in version) (without_cipher (unwrap_or (group_of own) no_group).info) = grind (arith, may_be_sent, horizon_in, unwrap_or, group_of, no_group, cipher_of, checked_info, neither, group_refusal, refuse_if, is_base_too_long) in
     ltb-false (horizon_in version) (group_horizon (unwrap_or (group_of own) no_group).info) (sound Horizon)
 
-starts_in : (airs : Airs) (boxes s first : ℕ) (earlier : List Step) → Permitted airs boxes earlier (steps.Start first)
-    → is_of_source s earlier (steps.Start first) ≡ true
-    → IsWithin (steps.Start first ∷ steps_of_source s earlier) (horizon_in (version_of earlier))
+starts_in : (airs : Airs) (boxes s first : ℕ) (earlier : List Step) → Permitted airs boxes earlier (Step.Start first)
+    → is_of_source s earlier (Step.Start first) ≡ true
+    → IsWithin (Step.Start first ∷ steps_of_source s earlier) (horizon_in (version_of earlier))
 starts_in airs boxes s first earlier permits is =
-    subst (λ t. IsWithin (steps.Start first ∷ steps_of_source t earlier) (horizon_in (version_of earlier)))
+    subst (λ t. IsWithin (Step.Start first ∷ steps_of_source t earlier) (horizon_in (version_of earlier)))
     (eqb-true (chosen_of earlier) s is) (λ started. started_within (version_of earlier) first (chosen_steps earlier) permits.by_source)
 
 -- where the source was sending before the step
@@ -77,26 +65,26 @@ stops_in s earlier sending is before = grind (arith, sends, steps_of_source, not
 group_within : (airs : Airs) (boxes s : ℕ) (made : List Step) → Legal airs boxes made
     → IsWithin (steps_of_source s made) (horizon_in (version_of made))
 group_within airs boxes s [] legal = λ started. absurd (false≢true started)
-group_within airs boxes s (steps.Scenario version ∷ earlier) legal =
-    subst (λ before. IsWithin (steps.Scenario version ∷ steps_of_source s before) (horizon_in version))
+group_within airs boxes s (Step.Scenario version ∷ earlier) legal =
+    subst (λ before. IsWithin (Step.Scenario version ∷ steps_of_source s before) (horizon_in version))
     (sym (first_alone airs boxes version earlier legal)) (λ started. absurd (false≢true started))
-group_within airs boxes s (steps.Group framing origin delay iso sdu max_sdu max_pdu num_bis bn nse irc pto sub spacing phy ∷ earlier) legal =
-    let this : Step = steps.Group framing origin delay iso sdu max_sdu max_pdu num_bis bn nse irc pto sub spacing phy in
+group_within airs boxes s (Step.Group framing origin delay iso sdu max_sdu max_pdu num_bis bn nse irc pto sub spacing phy ∷ earlier) legal =
+    let this : Step = Step.Group framing origin delay iso sdu max_sdu max_pdu num_bis bn nse irc pto sub spacing phy in
     within_if (is_of_source s earlier this) (steps_of_source s earlier) this (horizon_in (version_of earlier))
     (λ is started. absurd (false≢true started)) (group_within airs boxes s earlier legal.0)
-group_within airs boxes s (steps.Start first ∷ earlier) legal =
-    within_if (is_of_source s earlier (steps.Start first)) (steps_of_source s earlier) (steps.Start first) (horizon_in (version_of earlier))
-    (starts_in airs boxes s first earlier (permitted airs boxes earlier (steps.Start first) legal.1))
+group_within airs boxes s (Step.Start first ∷ earlier) legal =
+    within_if (is_of_source s earlier (Step.Start first)) (steps_of_source s earlier) (Step.Start first) (horizon_in (version_of earlier))
+    (starts_in airs boxes s first earlier (permitted airs boxes earlier (Step.Start first) legal.1))
     (group_within airs boxes s earlier legal.0)
-group_within airs boxes s (steps.Stop ∷ earlier) legal =
+group_within airs boxes s (Step.Stop ∷ earlier) legal =
     let before : IsWithin (steps_of_source s earlier) (horizon_in (version_of earlier)) = group_within airs boxes s earlier legal.0 in
-    within_if (is_of_source s earlier steps.Stop) (steps_of_source s earlier) steps.Stop (horizon_in (version_of earlier))
-    (λ is started. stops_in s earlier (permitted airs boxes earlier steps.Stop legal.1).in_phase is before) before
-group_within airs boxes s (steps.Terminate reason ∷ earlier) legal =
+    within_if (is_of_source s earlier Step.Stop) (steps_of_source s earlier) Step.Stop (horizon_in (version_of earlier))
+    (λ is started. stops_in s earlier (permitted airs boxes earlier Step.Stop legal.1).in_phase is before) before
+group_within airs boxes s (Step.Terminate reason ∷ earlier) legal =
     let before : IsWithin (steps_of_source s earlier) (horizon_in (version_of earlier)) = group_within airs boxes s earlier legal.0 in
-    within_if (is_of_source s earlier (steps.Terminate reason)) (steps_of_source s earlier) (steps.Terminate reason)
+    within_if (is_of_source s earlier (Step.Terminate reason)) (steps_of_source s earlier) (Step.Terminate reason)
     (horizon_in (version_of earlier))
-    (λ is started. stops_in s earlier (permitted airs boxes earlier (steps.Terminate reason) legal.1).in_phase is before) before
+    (λ is started. stops_in s earlier (permitted airs boxes earlier (Step.Terminate reason) legal.1).in_phase is before) before
 group_within airs boxes s (this ∷ earlier) legal = search (within_if, group_within airs boxes s earlier legal.0)
 
 -- ---- what a sink reads of an announced train
@@ -119,10 +107,6 @@ same_group_horizon : (one other : BigInfo) → numbers_of one ≡ numbers_of oth
 unfolding horizon_by
 same_group_horizon one other same = grind arith
 
-read_as : (octets found : List ℕ) (info read : BigInfo) → Some found ≡ Some octets → info_of octets ≡ Ok info → info_of found ≡ Ok read
-    → info ≡ read
-read_as octets found info read same is reads = search (same_Some)
-
 reads_near : (setup : Setup) (train : Train) (heard : Heard) (broadcast_id : List ℕ) (base : Endpoint) (info : BigInfo) (event anchor : ℕ)
     → heard.acad ≡ train.acad → Tells train broadcast_id base info event anchor → group_horizon info ≤ setup.horizon → ReadsNear setup heard
 reads_near setup train heard broadcast_id base info event anchor same tells within octets its found is =
@@ -136,10 +120,10 @@ its_horizon : (made : Option Settings) (sink : Settings) (horizon : ℕ) → Has
 its_horizon made sink horizon has is = subst (λ one. HasHorizon one horizon) is has
 
 pub announced_calm : Announcing → (airs : Airs) (boxes n : ℕ) (earlier : List Step) → Legal airs boxes earlier
-    → refusal_of airs boxes earlier (steps.Announce n) ≡ None → IsCalm earlier (steps.Announce n)
+    → refusal_of airs boxes earlier (Step.Announce n) ≡ None → IsCalm earlier (Step.Announce n)
 announced_calm laws airs boxes n earlier legal none m made names is =
     let own : List Step = chosen_steps earlier in
-    let permits : Permitted airs boxes earlier (steps.Announce n) = permitted airs boxes earlier (steps.Announce n) none in
+    let permits : Permitted airs boxes earlier (Step.Announce n) = permitted airs boxes earlier (Step.Announce n) none in
     let lawful_own : Lawful airs own = lawful airs boxes (chosen_of earlier) earlier legal in
     let started : is_started own ≡ true = sends own permits.in_phase in
     let event : ℕ = next_of (setup_of own) (source_calls own) in

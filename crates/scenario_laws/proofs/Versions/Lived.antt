@@ -1,11 +1,6 @@
 -- The sinks of a scenario in version 2: their history is the same, where no train was answered `BadGroup 11` (Basic Audio Profile
 -- 1.0, section 6.5). Lists of steps and of calls have the newest first.
-use Rattle.scenario_laws.proofs.Prelude.{ℕ, ◌≡◌, ◌≤◌, ◌==◌, cond, Bool, true, List, [], ◌∷◌, Option, None, Some, refl, ◌∙◌, ap₂, arith, eqb-true, Settings, born, Step, Source, calls_after, calls_at, calls_by, made_by, made_of, named_by, train_by, calls_made, source_at, the_world}
-use Rattle.sink_history.specs.Calls.{Call}
-use Rattle.scenario_text.specs.declared.step.Step.TheVariants as steps
-use Rattle.scenario_laws.proofs.Versions.Histories.{AreQuietCalls, drained_same, quiet_drained, quiet_served}
-use Rattle.scenario_laws.proofs.Versions.Printed.{HearsNear, IsQuietHistory, made_with_horizon}
-use Rattle.scenario_laws.proofs.Versions.Seconds.{at_second, same, second, seconds, sink_grows}
+use Rattle.scenario_laws.proofs.Known.Sources.{ℕ, ◌≡◌, ◌≤◌, ◌==◌, cond, Bool, true, List, [], ◌∷◌, Option, None, Some, refl, ◌∙◌, ap₂, arith, eqb-true, Settings, born, Step, Source, calls_after, calls_at, calls_by, made_by, made_of, named_by, train_by, calls_made, source_at, the_world, LinkCall as Call, AreQuietCalls, drained_same, quiet_drained, quiet_served, HearsNear, IsQuietHistory, made_with_horizon, at_second, same, second, seconds, sink_grows}
 
 -- ---- the source that a line means
 
@@ -32,9 +27,8 @@ wider_if b one two made other is wider = grind arith
 
 wider_after : (n : ℕ) (step : Step) (earlier : List Step) (made other : Option Settings) → AreWider made other
     → AreWider (made_by n step earlier made) (made_by n (second step) (seconds earlier) other)
-wider_after n (steps.Sink sink streams slots mtu) earlier made other wider = grind (arith, wider_if, seconds, sink_grows)
-wider_after n (steps.Drop sink) earlier made other wider = wider_if (sink == n) None None made other tt wider
-wider_after n _ earlier made other wider = wider
+wider_after n (Step.Sink sink streams slots mtu) earlier made other wider = grind (arith, wider_if, seconds, sink_grows)
+wider_after n step earlier made other wider = search (wider_if)
 
 pub made_wider : (n : ℕ) (made : List Step) → AreWider (made_of n made) (made_of n (seconds made))
 made_wider n [] = tt
@@ -81,8 +75,8 @@ quiet_at n named this earlier made calls quiet near = grind (arith, quiet_chosen
 quiet_after : (n : ℕ) (step : Step) (earlier : List Step) (made : Option Settings) (calls : List Call) → QuietHistory made calls
     → ((sink : Settings) → named_by step ≡ Some n → made ≡ Some sink → HearsNear sink calls (train_by (source_at earlier) step))
     → QuietHistory (made_by n step earlier made) (calls_after the_world n step earlier made calls)
-quiet_after n (steps.Sink sink streams slots mtu) earlier made calls quiet near = grind (arith, quiet_if, born, quiet_born)
-quiet_after n (steps.Drop sink) earlier made calls quiet near = quiet_if (sink == n) None made [] calls tt quiet
+quiet_after n (Step.Sink sink streams slots mtu) earlier made calls quiet near = grind (arith, quiet_if, born, quiet_born)
+quiet_after n (Step.Drop sink) earlier made calls quiet near = quiet_if (sink == n) None made [] calls tt quiet
 quiet_after n this earlier made calls quiet near = quiet_at n (named_by this) this earlier made calls quiet near
 
 pub quiet_history : (n : ℕ) (made : List Step) → AreCalm made → QuietHistory (made_of n made) (calls_made n made)
@@ -109,7 +103,7 @@ at_same n named this earlier made other calls others wider quiet same = grind (a
 pub after_same : (n : ℕ) (step : Step) (earlier : List Step) (made other : Option Settings) (calls others : List Call) → AreWider made other
     → QuietHistory made calls → others ≡ calls
     → calls_after the_world n step (seconds earlier) other others ≡ calls_after the_world n step earlier made calls
-after_same n (steps.Sink sink streams slots mtu) earlier made other calls others wider quiet same = cc (same)
+after_same n (Step.Sink sink streams slots mtu) earlier made other calls others wider quiet same = cc (same)
 after_same n this earlier made other calls others wider quiet same = search (at_same, same)
 
 pub history_same : (n : ℕ) (made : List Step) → AreCalm made → calls_made n (seconds made) ≡ calls_made n made

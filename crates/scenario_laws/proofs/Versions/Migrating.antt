@@ -1,16 +1,7 @@
 -- The migration law, over the airs of each stream by its framing: a text and the text in version 2.
-use Rattle.scenario_laws.proofs.Prelude.{ℕ, ◌≡◌, ◌⊎◌, ◌+◌, nat_eq, cond, leb, Bool, true, List, [], ◌∷◌, ◌++◌, length, reverse, Option, None, arith, Some, refl, sym, ◌∙◌, ap, subst, inl, inr, append-nil, TextLine, plain, too_long, line_limit, line_of, Account, Accepted, End, Rules, accepted_of, accepted_unless, end_unless, out, out_unless, refused, through, reverse_onto, is_blank, airs_of, Step, Refusal, LineTooLong, a_step, nothing, unsaid, output_said, refusal_said, said_in, steps_of, with_said, has_relay, is_over, is_unbegun_at, stage_of, version_of, end_after, has_end, last_end_after, last_line_after, out_of, transcript_end, transcript_of, units_of, EndsLasting, IsLastingText, NonePrintsHorizon}
+use Rattle.scenario_laws.proofs.Known.Sources.{ℕ, ◌≡◌, ◌⊎◌, ◌+◌, nat_eq, cond, leb, Bool, true, List, [], ◌∷◌, ◌++◌, length, reverse, Option, None, arith, Some, refl, sym, ◌∙◌, ap, subst, inl, inr, append-nil, TextLine, plain, too_long, line_limit, line_of, Account, Accepted, End, Rules, accepted_of, accepted_unless, end_unless, out, out_unless, refused, through, reverse_onto, is_blank, airs_of, Step, Refusal, LineTooLong, a_step, nothing, unsaid, output_said, refusal_said, said_in, steps_of, with_said, has_relay, is_over, is_unbegun_at, stage_of, version_of, end_after, has_end, last_end_after, last_line_after, out_of, transcript_end, transcript_of, units_of, EndsLasting, IsLastingText, NonePrintsHorizon, Airs, MeetAirs, rules_of, MigrationLaw, PrintsHorizon, text_lines, text_lines as lines_of, end_of, migrated, decimal_in, read_of, step_of, first_row_of, row_of, said_after, said_of, seconds}
 use Rattle.std.specs.Fmt.{digits as numerals}
-use Rattle.bcast_io.specs.TextLines.{lines_of as text_lines}
-use Rattle.scenario_history.specs.Runs.{end_of}
-use Rattle.scenario_text.specs.Migrated.{migrated}
-use Rattle.scenario_words.specs.Reading.{decimal_in}
-use Rattle.scenario_text.specs.Steps.{read_of, step_of}
-use Rattle.scenario_text.specs.Table.{first_row_of, row_of}
-use Rattle.scenario_text.specs.declared.step.Step.TheVariants as steps
-use Rattle.scenario_history.specs.Lines.{said_after, said_of}
 use Rattle.scenario_laws.proofs.Versions.Runs.{Begins, Its, Laws, RunAlike, RunsAlike, Stands, run_alike}
-use Rattle.scenario_laws.proofs.Versions.Seconds.{seconds}
 use Rattle.scenario_laws.proofs.Versions.Texts.{Turned, here, later, first_version, second_version, same_count, text_turn}
 
 -- ---- an empty line, or a comment
@@ -48,23 +39,23 @@ lasting_next history reason end none lasting = subst (λ r. EndsLasting (end_unl
 
 -- ---- the line of the version
 
-says_first : said_in 1 (plain first_version) ≡ a_step (steps.Scenario 1)
+says_first : said_in 1 (plain first_version) ≡ a_step (Step.Scenario 1)
 unfolding read_of step_of row_of first_row_of decimal_in numerals
 says_first = refl
 
-says_second : said_in 1 (plain second_version) ≡ a_step (steps.Scenario 2)
+says_second : said_in 1 (plain second_version) ≡ a_step (Step.Scenario 2)
 unfolding read_of step_of row_of first_row_of decimal_in numerals
 says_second = refl
 
-first_says : (made : List Step) → made ≡ [] → said_in (version_of made) (plain first_version) ≡ a_step (steps.Scenario 1)
-first_says made none = subst (λ before. said_in (version_of before) (plain first_version) ≡ a_step (steps.Scenario 1)) (sym none) says_first
+first_says : (made : List Step) → made ≡ [] → said_in (version_of made) (plain first_version) ≡ a_step (Step.Scenario 1)
+first_says made none = subst (λ before. said_in (version_of before) (plain first_version) ≡ a_step (Step.Scenario 1)) (sym none) says_first
 
-second_says : (made : List Step) → made ≡ [] → said_in (version_of made) (plain second_version) ≡ a_step (steps.Scenario 2)
+second_says : (made : List Step) → made ≡ [] → said_in (version_of made) (plain second_version) ≡ a_step (Step.Scenario 2)
 second_says made none = cc (none, says_second)
 
 -- what the line of the version says behind lines that say no step
 abbrev SaysVersion : List TextLine → ℕ → List ℕ → Type 0
-SaysVersion history version line = said_after history (plain line) ≡ a_step (steps.Scenario version)
+SaysVersion history version line = said_after history (plain line) ≡ a_step (Step.Scenario version)
 
 its_refusal : (starts : List Account) (history : List TextLine) (version : ℕ) (line : List ℕ) → said_of history ≡ []
     → SaysVersion history version line → (Its starts).refusal history (plain line) ≡ None
@@ -76,23 +67,7 @@ its_output starts history version line says = ap (output_said airs_of starts (st
 
 first_stands : (starts : List Account) (history : List TextLine) → said_of history ≡ [] → Accepted (Its starts) history
     → Stands starts (plain first_version ∷ history) (plain second_version ∷ history)
-first_stands starts history none accepted =
-    grind (
-      arith,
-      first_version,
-      first_says,
-      second_version,
-      second_says,
-      plain,
-      with_said,
-      seconds,
-      is_unbegun_at,
-      stage_of,
-      nat_eq,
-      version_of,
-      has_relay,
-      its_refusal,
-    )
+first_stands starts history none accepted = grind (arith, first_says, second_says, seconds, nat_eq, its_refusal)
 
 -- ---- the lines of both texts
 
@@ -161,23 +136,7 @@ pub record LinesAlike (starts : List Account) (lines others : List TextLine) : T
 
 lines_alike : (starts : List Account) (lines others : List TextLine) → length others ≡ length lines → RunAlike starts [] [] lines others
     → LinesAlike starts lines others
-lines_alike starts lines others count alike =
-    grind (
-      arith,
-      end_after,
-      airs_of,
-      through,
-      has_end,
-      is_over,
-      through_all,
-      append-nil,
-      reverse,
-      last_line_after,
-      length,
-      out_of,
-      refused,
-      last_end_after,
-    )
+lines_alike starts lines others count alike = grind (arith, through, through_all, append-nil, reverse, length, refused)
 
 same_lines : (starts : List Account) (lines others : List TextLine) → others ≡ lines → LinesAlike starts lines others
 same_lines starts lines others same = search arith
@@ -188,3 +147,41 @@ text_alike laws starts text lasting = elim (text_turn text) [
   | inl same ↦ same_lines starts (text_lines true text) (text_lines true (migrated text)) same
   | inr turned ↦ search (lines_alike, same_count, turned_alike, lasting_before, end_after, airs_of, has_end, length)
 ]
+
+-- ---- the migration law over any airs that meet the relation of their framing, one for the text and one for the text in version 2
+
+-- any two airs that meet their relation give one transcript
+pub record OneTranscript : Type 0 where
+  pub octets : (airs others : Airs) (starts : List Account) (lines : List TextLine) → MeetAirs airs → MeetAirs others
+      → transcript_of airs starts lines ≡ transcript_of others starts lines
+  pub end : (airs others : Airs) (starts : List Account) (lines : List TextLine) → MeetAirs airs → MeetAirs others
+      → transcript_end airs starts lines ≡ transcript_end others starts lines
+  pub units : (airs others : Airs) (starts : List Account) (lines : List TextLine) → MeetAirs airs → MeetAirs others
+      → units_of airs starts lines ≡ units_of others starts lines
+  pub accepted : (airs others : Airs) (starts : List Account) (lines : List TextLine) → MeetAirs airs → MeetAirs others
+      → Accepted (rules_of airs starts) lines → Accepted (rules_of others starts) lines
+  pub steps : (airs others : Airs) (starts : List Account) (lines : List TextLine) → MeetAirs airs → MeetAirs others
+      → Accepted (rules_of airs starts) lines → steps_of airs lines ≡ steps_of others lines
+
+-- a `train` step prints the same over all airs
+prints_over : (airs others : Airs) (starts : List Account) (earlier : List TextLine) (line : TextLine)
+    → steps_of airs earlier ≡ steps_of others earlier → PrintsHorizon airs starts earlier line → PrintsHorizon others starts earlier line
+prints_over airs others starts earlier line same prints = search arith
+
+lasting_over : OneTranscript → MeetAirs airs_of → (airs : Airs) (starts : List Account) (text : List ℕ) → MeetAirs airs
+    → IsLastingText airs starts text → IsLastingText airs_of starts text
+lasting_over one meet airs starts text meets lasting = record {
+  trains = λ earlier line later is accepted prints. lasting.trains earlier line later is
+      (one.accepted airs_of airs starts (line ∷ earlier) meet meets accepted) (grind (arith, prints_over, airs_of));
+  end = subst EndsLasting (one.end airs airs_of starts (lines_of true text) meets meet) lasting.end;
+}
+
+pub migration_law_holds : Laws → OneTranscript → MeetAirs airs_of → (starts : List Account) → MigrationLaw starts
+migration_law_holds laws one meet starts airs others meets meet_too text lasting =
+    let alike : LinesAlike starts (lines_of true text) (lines_of true (migrated text)) =
+    text_alike laws starts text (lasting_over one meet airs starts text meets lasting) in
+    record {
+      octets = grind (arith, airs_of);
+      end = grind (arith, airs_of);
+      units = grind (arith, airs_of);
+    }

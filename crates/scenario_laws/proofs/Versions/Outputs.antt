@@ -1,17 +1,9 @@
 -- What the steps of a scenario in version 2 hand up and print: the same, where no train was answered `BadGroup 11`. Lists of
 -- steps have the newest first; where a list is called `own` its steps are those of one source.
-use Rattle.scenario_laws.proofs.Prelude.{ℕ, ◌≡◌, false, List, [], ◌∷◌, ◌++◌, Option, None, Some, refl, sym, ◌∙◌, ap, ap₂, arith, concat, Account, airs_of, Step, control_line, Settings, Source, named_by, train_by, printed_at, printed_where, SinkUnit, closing_at, handed_by, handed_up, close_lines, output_of, sink_lines, stale_lines, sums_of, has_relay, end_pdu, open_event, stale_in, chosen_of, chosen_steps, steps_of_source, the_world}
-use Rattle.sink_history.specs.Calls.{Call}
-use Rattle.scenario_text.specs.declared.step.Step.TheVariants as steps
-use Rattle.scenario_history.specs.Boxes.{closing}
-use Rattle.scenario_laws.proofs.RelayedUnits.Citable.{plain_close, plain_end, flat_same}
+use Rattle.scenario_laws.proofs.Known.Sources.{ℕ, ◌≡◌, false, List, [], ◌∷◌, ◌++◌, Option, None, Some, refl, sym, ◌∙◌, ap, ap₂, arith, concat, Account, airs_of, Step, control_line, Settings, Source, named_by, train_by, printed_at, printed_where, SinkUnit, closing_at, handed_by, handed_up, close_lines, output_of, sink_lines, stale_lines, sums_of, has_relay, end_pdu, open_event, stale_in, chosen_of, chosen_steps, steps_of_source, the_world, LinkCall as Call, closing, plain_close, plain_end, flat_same, printed_same, has_relay_same, stale_same, at_second, chosen_same, over_same, same, seconds}
 use Rattle.scenario_laws.proofs.Versions.Lived.{AreCalm, AreWider, IsCalm, QuietHistory, is_quiet, history_same, made_wider, quiet_history, source_same}
-use Rattle.scenario_laws.proofs.Versions.Printed.{printed_same}
 use Rattle.scenario_laws.proofs.Versions.Received.{HeardNear, sink_calls_same, source_of_same}
 use Rattle.scenario_laws.proofs.Versions.Refused.{box_same}
-use Rattle.scenario_laws.proofs.Versions.Relays.{has_relay_same}
-use Rattle.scenario_laws.proofs.Versions.Sources.{stale_same}
-use Rattle.scenario_laws.proofs.Versions.Seconds.{at_second, chosen_same, over_same, same, seconds}
 
 -- ---- what is handed up
 
@@ -61,23 +53,23 @@ close_same made step none calm =
     cc (plain_close airs_of (seconds made) step (has_relay_same made ∙ none), closing_chosen made calm, plain_close airs_of made step none)
 
 ends_same : (starts : List Account) (made : List Step) → has_relay made ≡ false → AreCalm made
-    → output_of airs_of starts (seconds made) steps.End ≡ output_of airs_of starts made steps.End
+    → output_of airs_of starts (seconds made) Step.End ≡ output_of airs_of starts made Step.End
 ends_same starts made none calm =
     plain_end airs_of starts (seconds made) (has_relay_same made ∙ none)
-    ∙ simp (handed_same made steps.End calm, handed_up_same made calm, sums_same) (sym (plain_end airs_of starts made none))
+    ∙ simp (handed_same made Step.End calm, handed_up_same made calm, sums_same) (sym (plain_end airs_of starts made none))
 
 pub output_same : (starts : List Account) (made : List Step) (step : Step) → has_relay made ≡ false → AreCalm made → IsCalm made step
     → output_of airs_of starts (seconds made) step ≡ output_of airs_of starts made step
-output_same starts made steps.Event none calm is =
+output_same starts made Step.Event none calm is =
     let own : chosen_steps (seconds made) ≡ seconds (chosen_steps made) = search same in
-    λ i. close_same made steps.Event none calm i ++ stale_lines ((ap (stale_in airs_of) own ∙ stale_same (chosen_steps made)) i)
-output_same starts made steps.Stop none calm is = close_same made steps.Stop none calm
-output_same starts made (steps.Terminate reason) none calm is =
+    λ i. close_same made Step.Event none calm i ++ stale_lines ((ap (stale_in airs_of) own ∙ stale_same (chosen_steps made)) i)
+output_same starts made Step.Stop none calm is = close_same made Step.Stop none calm
+output_same starts made (Step.Terminate reason) none calm is =
     let ended : end_pdu (chosen_steps (seconds made)) reason ≡ end_pdu (chosen_steps made) reason = search same in
-    λ i. close_same made (steps.Terminate reason) none calm i ++ control_line (ended i)
-output_same starts made steps.End none calm is = ends_same starts made none calm
-output_same starts made (steps.Drop sink) none calm is = search (handed_up_same made calm, box_same)
-output_same starts made (steps.Inject sink back bis subevent octets) none calm is =
+    λ i. close_same made (Step.Terminate reason) none calm i ++ control_line (ended i)
+output_same starts made Step.End none calm is = ends_same starts made none calm
+output_same starts made (Step.Drop sink) none calm is = search (handed_up_same made calm, box_same)
+output_same starts made (Step.Inject sink back bis subevent octets) none calm is =
     search (same, source_of_same sink made calm, sink_calls_same sink made calm)
-output_same starts made (steps.Sniff back bis subevent) none calm is = search same
+output_same starts made (Step.Sniff back bis subevent) none calm is = search same
 output_same starts made step none calm is = search (lines_same made step calm is)

@@ -1,19 +1,13 @@
 -- What a sink prints whose groups may have a greater horizon, and why a step that names it is refused: the same, where no
 -- train was answered `BadGroup 11` (Basic Audio Profile 1.0, section 6.5; Broadcast Audio Scan Service 1.0, section 3). Lists
 -- of calls have the newest first.
-use Rattle.scenario_laws.proofs.Prelude.{ℕ, zero, suc, ◌≡◌, ◌≤◌, List, [], ◌∷◌, ◌++◌, length, Option, None, Some, refl, ◌∙◌, ap, codes, decimal, map, nat_lt, option_map, slice_get, flat_map, range_with_len, option_or, Snapshot, Settings, Train, outcome_by, state_at, value, writes_waiting, repeated, served_out, notified_out, Acts, acts_of, delivered, language, notices_waiting, reads_waiting, reads_of, view_of, waiting_of, Step, NothingWaiting, RecordsTooLong, Label, control_words, on_link, reply_line, sink_line, value_line, Source, record_of, train_by, drain_lines, heard_line, if_there, printed_of, read_line, read_lines, serve_line, serve_lines, show_lines, snapshot_in, tell_line, tell_lines, view_lines, link_named, link_twice, no_link, no_notice, no_read, no_record_room, nothing_waits, refuse_if, refused_by}
-use Rattle.std.specs.Prelude.{is_none}
+use Rattle.scenario_laws.proofs.Known.Sources.Steps.Prelude.{ℕ, zero, suc, ◌≡◌, ◌≤◌, List, [], ◌∷◌, ◌++◌, length, Option, None, Some, refl, ◌∙◌, ap, codes, decimal, map, nat_lt, option_map, slice_get, flat_map, range_with_len, option_or, Snapshot, Settings, Train, outcome_by, state_at, value, writes_waiting, repeated, served_out, notified_out, Acts, acts_of, delivered, language, notices_waiting, reads_waiting, reads_of, view_of, waiting_of, Step, NothingWaiting, RecordsTooLong, Label, control_words, on_link, reply_line, sink_line, value_line, Source, record_of, train_by, drain_lines, heard_line, if_there, printed_of, read_line, read_lines, serve_line, serve_lines, show_lines, snapshot_in, tell_line, tell_lines, view_lines, link_named, link_twice, no_link, no_notice, no_read, no_record_room, nothing_waits, refuse_if, refused_by, is_none, LinkCall as Call, link_steps_of as steps_of, plain_word as plain}
 use Rattle.pacs_records.specs.Layout.{greatest_value, value as records_value}
-use Rattle.delegator_history.specs.Controls as controls
 use Rattle.delegator_history.specs.Writes.{reply_of}
 use Rattle.delegator_history.specs.declared.notice.Notice.{Notice}
-use Rattle.sink_history.specs.Calls as links
-use Rattle.sink_history.specs.Calls.{Call, steps_of}
-use Rattle.scenario_text.specs.declared.step.Step.TheVariants as steps
-use Rattle.transcript_text.specs.SinkLines.{plain}
-use Rattle.scenario_laws.proofs.Versions.Histories.{AreQuietCalls, acts_same, quiet_reads, quiet_serves, quiet_tells}
-use Rattle.scenario_laws.proofs.Versions.Histories.{snapshot_same, told_same}
+use Rattle.scenario_laws.proofs.Versions.Histories.{AreQuietCalls, acts_same, quiet_reads, quiet_serves, quiet_tells, snapshot_same, told_same}
 use Rattle.scenario_laws.proofs.Versions.Trains.{BringsNear, brought_same, with_horizon}
+use Rattle.delegator_history.specs.Controls as controls
 
 -- the sink, but for the greatest horizon of a group
 abbrev pub made_with_horizon : ℕ → Settings → Settings
@@ -64,19 +58,19 @@ read_line_same label link wider made calls is i =
 serves_same : (label : Label) (link count : ℕ) → Same (λ made. serve_lines label made link count)
 serves_same label link zero wider made calls is = refl
 serves_same label link (suc count) wider made calls is = λ i. serves_same label link count wider made calls is i
-    ++ served_same label link wider made (repeated count (links.served link) calls)
+    ++ served_same label link wider made (repeated count (Call.served link) calls)
     (record { within = is.within; quiet = quiet_serves made.setup link count calls is.quiet }) i
 
 tells_same : (label : Label) (link count : ℕ) → Same (λ made. tell_lines label made link count)
 tells_same label link zero wider made calls is = refl
 tells_same label link (suc count) wider made calls is = λ i. tells_same label link count wider made calls is i
-    ++ told_line_same label link wider made (repeated count (links.notified link) calls)
+    ++ told_line_same label link wider made (repeated count (Call.notified link) calls)
     (record { within = is.within; quiet = quiet_tells made.setup link count calls is.quiet }) i
 
 reads_lines_same : (label : Label) (link count : ℕ) → Same (λ made. read_lines label made link count)
 reads_lines_same label link zero wider made calls is = refl
 reads_lines_same label link (suc count) wider made calls is = λ i. reads_lines_same label link count wider made calls is i
-    ++ read_line_same label link wider made (repeated count (links.read link) calls)
+    ++ read_line_same label link wider made (repeated count (Call.read link) calls)
     (record { within = is.within; quiet = quiet_reads made.setup link count calls is.quiet }) i
 
 drains_same : (label : Label) (link : ℕ) → Same (λ made. drain_lines label made link)
@@ -136,21 +130,10 @@ hears_same wider sink made calls train is near = cc (brings_same wider made call
 pub printed_same : (wider : ℕ) (source : Source) (step : Step) (made : Settings) (calls : List Call) → IsQuietHistory wider made calls
     → HearsNear made calls (train_by source step)
     → printed_of source step (made_with_horizon wider made) calls ≡ printed_of source step made calls
-printed_same wider source (steps.Serve sink) made calls is near = served_same (plain sink) 0 wider made calls is
-printed_same wider source (steps.Tell sink) made calls is near = told_line_same (plain sink) 0 wider made calls is
-printed_same wider source (steps.Read sink) made calls is near = read_line_same (plain sink) 0 wider made calls is
-printed_same wider source (steps.Drain sink) made calls is near = drains_same (plain sink) 0 wider made calls is
-printed_same wider source (steps.Show sink) made calls is near = shows_same sink wider made calls is
-printed_same wider source (steps.Control sink octets) made calls is near = λ i.
+printed_same wider source (Step.Control sink octets) made calls is near = λ i.
     sink_line sink (control_words (controls.control_heard (its_snapshot wider made calls is i).place octets)) ∷ []
-printed_same wider source (steps.Announce sink) made calls is near = search (hears_same)
-printed_same wider source (steps.Train sink time ext adv acad) made calls is near = search (hears_same)
-printed_same wider source (steps.AServe sink link) made calls is near = served_same (on_link sink link) link wider made calls is
-printed_same wider source (steps.ATell sink link) made calls is near = told_line_same (on_link sink link) link wider made calls is
-printed_same wider source (steps.ARead sink link) made calls is near = read_line_same (on_link sink link) link wider made calls is
-printed_same wider source (steps.ADrain sink link) made calls is near = drains_same (on_link sink link) link wider made calls is
-printed_same wider source (steps.AShow sink link) made calls is near = views_same sink link wider made calls is
-printed_same wider source _ made calls is near = refl
+printed_same wider source step made calls is near =
+    search (served_same, told_line_same, read_line_same, drains_same, shows_same, hears_same, views_same)
 
 -- ---- why a step is refused
 
@@ -161,14 +144,11 @@ read_same : (link : ℕ) → Same (λ made. no_read made link)
 read_same link wider made calls is i = refuse_if (is_none (slice_get (its_reads link wider made calls is i) 0)) NothingWaiting
 
 waits_same : (step : Step) → Same (λ made calls. nothing_waits made calls step)
-waits_same (steps.Tell sink) = notice_same 0
-waits_same (steps.Read sink) = read_same 0
-waits_same (steps.ATell sink link) = notice_same link
-waits_same (steps.ARead sink link) = read_same link
-waits_same _ = λ wider made calls is. refl
+waits_same (Step.Tell sink) = notice_same 0
+waits_same step = search (notice_same, read_same)
 
 room_same : (step : Step) → Same (λ made calls. no_record_room made calls step)
-room_same (steps.Pac sink codec caps metadata) = λ wider made calls is i.
+room_same (Step.Pac sink codec caps metadata) = λ wider made calls is i.
     refuse_if (nat_lt greatest_value (length (records_value ((its_snapshot wider made calls is i).capability.entries
     ++ record_of codec caps metadata ∷ [])))) RecordsTooLong
 room_same _ = λ wider made calls is. refl

@@ -1,12 +1,8 @@
 -- A line that version 1 of the scenario language reads, version 2 reads as the same step: each row of version 1 stands in
 -- version 2, where a sink has up to eight slots.
-use Rattle.scenario_laws.proofs.Prelude.{ℕ, ◌≡◌, ◌⊎◌, ◌≤◌, cond, Bool, true, List, [], ◌∷◌, Option, None, Some, Result, Err, refl, sym, subst, inl, arith, bytes_eq, nat_eq, le-leb, leb-true, TextLine, ◌>>=◌, LineFault, at_known, at_row, Row, event_rows, first_rows, link_row_of_2, link_rows, row_in, rows_of_2, sink_row, sink_rows, source_rows, tuned_row, drop_row, stop_row, end_row, Step, BadLine, unsaid, said_by, said_in}
+use Rattle.scenario_laws.proofs.Known.Sources.{ℕ, ◌≡◌, ◌⊎◌, ◌≤◌, cond, Bool, true, List, [], ◌∷◌, Option, None, Some, Result, Err, refl, sym, subst, inl, arith, bytes_eq, nat_eq, le-leb, leb-true, TextLine, ◌>>=◌, LineFault, at_known, at_row, Row, event_rows, first_rows, link_row_of_2, link_rows, row_in, rows_of_2, sink_row, sink_rows, source_rows, tuned_row, drop_row, stop_row, end_row, Step, BadLine, unsaid, said_by, said_in, Left, decimal_in, read_of, step_of, first_row_of, link_row_of, row_of, row_of_2, sink_row_of, source_row_of, Said, IsLater}
 use Rattle.scenario_words.specs.declared.fault.LineFault.TheVariants.{BadLine as Misfit}
-use Rattle.scenario_words.specs.Reading.{Left, decimal_in, next_of, taken}
-use Rattle.scenario_text.specs.Steps.{read_of, step_of}
-use Rattle.scenario_text.specs.Table.{first_row_of, link_row_of, row_of, row_of_2, sink_row_of, source_row_of}
-use Rattle.scenario_history.specs.Lines.{Said}
-use Rattle.scenario_laws.proofs.Versions.Seconds.{IsLater}
+use Rattle.scenario_words.specs.Reading.{next_of, taken}
 
 -- ---- what is read twice
 
@@ -73,8 +69,7 @@ in_rows_on first (row ∷ rows) (other ∷ others) here there on rest =
     (cond (bytes_eq first word) (Some other) (row_in first others there))) (sym on.0)
     (known_if (bytes_eq first row.first) row other (row_in first rows here) (row_in first others there) on.1
     (in_rows_on first rows others here there on.2 rest))
-in_rows_on first [] (other ∷ others) here there on rest = absurd on
-in_rows_on first (row ∷ rows) [] here there on rest = absurd on
+in_rows_on first rows others here there on rest = search
 
 first_rows_on : (version : ℕ) → RowsOn (first_rows version) (first_rows 2)
 first_rows_on version = grind (arith, slots_on, same_rows, tuned_row, drop_row, stop_row, end_row)

@@ -1,16 +1,8 @@
 -- The receivers of the sinks of a scenario in version 2: the calls that each took are the same, where no train was answered
 -- `BadGroup 11` (Core 5.2, volume 6 part B, section 4.4.6). Lists of steps and calls have the newest first; where a list is
 -- called `own` its steps are those of one source.
-use Rattle.scenario_laws.proofs.Prelude.{ℕ, zero, suc, ◌≡◌, ◌==◌, cond, Bool, true, List, [], ◌∷◌, Option, None, Some, refl, ◌∙◌, ap, arith, ap₂, eqb-true, with_step, Settings, Train, outcome_by, airs_of, Step, Source, made_of, named_by, follows, follows_by, big_sync_of, received_by, source_by, train_by, snapshot_in, heard_on_air, sink_calls, source_after, source_of, ticked_by, with_sink_call, calls_made, source_at}
-use Rattle.group_sink.specs.Calls.{Call as SinkCall}
-use Rattle.sink_history.specs.Calls.{Call}
-use Rattle.scenario_text.specs.declared.step.Step.TheVariants as steps
-use Rattle.scenario_history.specs.Sinks.{moved, sourced}
-use Rattle.scenario_laws.proofs.Versions.Lived.{AreCalm, AreWider, IsCalm, IsWider, QuietHistory, after_same, is_quiet, history_same, made_wider, quiet_history}
-use Rattle.scenario_laws.proofs.Versions.Lived.{source_same}
-use Rattle.scenario_laws.proofs.Versions.Histories.{AreQuietCalls}
-use Rattle.scenario_laws.proofs.Versions.Printed.{HearsNear, brings_same, its_snapshot, made_with_horizon}
-use Rattle.scenario_laws.proofs.Versions.Seconds.{at_second, over_same, same, seconds}
+use Rattle.scenario_laws.proofs.Known.Sources.{ℕ, zero, suc, ◌≡◌, ◌==◌, cond, Bool, true, List, [], ◌∷◌, Option, None, Some, refl, ◌∙◌, ap, arith, ap₂, eqb-true, with_step, Settings, Train, outcome_by, airs_of, Step, Source, made_of, named_by, follows, follows_by, big_sync_of, received_by, source_by, train_by, snapshot_in, heard_on_air, sink_calls, source_after, source_of, ticked_by, with_sink_call, calls_made, source_at, Call as SinkCall, LinkCall as Call, moved, sourced, AreQuietCalls, HearsNear, brings_same, its_snapshot, made_with_horizon, at_second, over_same, same, seconds}
+use Rattle.scenario_laws.proofs.Versions.Lived.{AreCalm, AreWider, IsCalm, IsWider, QuietHistory, after_same, is_quiet, history_same, made_wider, quiet_history, source_same}
 
 -- ---- trains
 
@@ -29,8 +21,7 @@ follows_same source None made other calls wider quiet near = refl
 follows_same source (Some train) None None calls wider quiet near = refl
 follows_same source (Some train) (Some made) (Some other) calls wider quiet near =
     ap follows (outcome_wider made other calls train wider quiet (near made refl))
-follows_same source (Some train) None (Some other) calls wider quiet near = absurd wider
-follows_same source (Some train) (Some made) None calls wider quiet near = absurd wider
+follows_same source train made other calls wider quiet near = search
 
 big_sync_same : (horizon : ℕ) (made : Settings) (calls : List Call) (train : Option Train)
     → (wider : IsWider made (made_with_horizon horizon made)) → AreQuietCalls made.setup calls → HearsNear made calls train
@@ -50,8 +41,7 @@ received_same source this (Some made) (Some other) before after calls wider quie
     (near made refl)) ∙ ap₂ (λ one two. with_step (big_sync_of made (snapshot_in made before) (train_by source this)) one two calls)
     (its_snapshot wider.horizon made before (is_quiet made other before wider quiet))
     (its_snapshot wider.horizon made after (is_quiet made other after wider later))
-received_same source this None (Some other) before after calls wider quiet later near = absurd wider
-received_same source this (Some made) None before after calls wider quiet later near = absurd wider
+received_same source step made other before after calls wider quiet later near = search
 
 -- ---- the source of a sink
 
@@ -77,8 +67,8 @@ sourced_same n sink step earlier source others names calm is same =
 
 source_next : (n : ℕ) (step : Step) (earlier : List Step) (source others : Option ℕ) → AreCalm earlier → IsCalm earlier step
     → others ≡ source → source_after n step (seconds earlier) others ≡ source_after n step earlier source
-source_next n (steps.Announce sink) earlier source others calm is stays = search (sourced_same)
-source_next n (steps.Train sink time ext adv acad) earlier source others calm is stays = search (sourced_same)
+source_next n (Step.Announce sink) earlier source others calm is stays = search (sourced_same)
+source_next n (Step.Train sink time ext adv acad) earlier source others calm is stays = search (sourced_same)
 source_next n _ earlier source others calm is stays = search (same, stays)
 
 pub source_of_same : (n : ℕ) (made : List Step) → AreCalm made → source_of n (seconds made) ≡ source_of n made
@@ -128,17 +118,17 @@ moved_same n (Some sink) this earlier calls others names calm is later same =
 
 call_next : (n : ℕ) (step : Step) (earlier : List Step) (calls others : List SinkCall) → AreCalm earlier → IsCalm earlier step
     → others ≡ calls → with_sink_call airs_of n step (seconds earlier) others ≡ with_sink_call airs_of n step earlier calls
-call_next n (steps.Sink sink streams slots mtu) earlier calls others calm is stays = search stays
-call_next n (steps.Drop sink) earlier calls others calm is stays = search stays
-call_next n (steps.Tuned sink which) earlier calls others calm is stays = search (same, stays)
-call_next n (steps.Hear sink back bis subevent) earlier calls others calm is stays = search (same, source_of_same n earlier calm, stays)
-call_next n (steps.Air sink lose) earlier calls others calm is stays = search (air_same, same, source_of_same n earlier calm, stays)
-call_next n (steps.Inject sink back bis subevent octets) earlier calls others calm is stays =
+call_next n (Step.Sink sink streams slots mtu) earlier calls others calm is stays = search stays
+call_next n (Step.Drop sink) earlier calls others calm is stays = search stays
+call_next n (Step.Tuned sink which) earlier calls others calm is stays = search (same, stays)
+call_next n (Step.Hear sink back bis subevent) earlier calls others calm is stays = search (same, source_of_same n earlier calm, stays)
+call_next n (Step.Air sink lose) earlier calls others calm is stays = search (air_same, same, source_of_same n earlier calm, stays)
+call_next n (Step.Inject sink back bis subevent octets) earlier calls others calm is stays =
     search (same, source_of_same n earlier calm, stays)
-call_next n steps.Event earlier calls others calm is stays = search (same, over_same, source_of_same n earlier calm, stays)
-call_next n steps.Stop earlier calls others calm is stays = search (same, over_same, source_of_same n earlier calm, stays)
-call_next n (steps.Terminate reason) earlier calls others calm is stays = search (same, over_same, source_of_same n earlier calm, stays)
-call_next n steps.End earlier calls others calm is stays = search (ticked_same, seconds)
+call_next n Step.Event earlier calls others calm is stays = search (same, over_same, source_of_same n earlier calm, stays)
+call_next n Step.Stop earlier calls others calm is stays = search (same, over_same, source_of_same n earlier calm, stays)
+call_next n (Step.Terminate reason) earlier calls others calm is stays = search (same, over_same, source_of_same n earlier calm, stays)
+call_next n Step.End earlier calls others calm is stays = search (ticked_same, seconds)
 call_next n this earlier calls others calm is stays =
     moved_same n (named_by this) this earlier calls others refl calm is (quiet_history n (this ∷ earlier) (calm, is)) stays
 

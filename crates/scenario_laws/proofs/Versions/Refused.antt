@@ -1,17 +1,7 @@
 -- Why a step of a scenario in version 2 is refused: for the reason of version 1, but where that is BadLine, `BadGroup 11` or
 -- TimeOrder. Lists of steps have the newest first; where a list is called `own` its steps are those of one source.
-use Rattle.scenario_laws.proofs.Prelude.{ℕ, ◌≡◌, ◌⊎◌, ◌≤◌, ltb, Bool, true, List, [], ◌∷◌, Option, None, Some, arith, refl, sym, subst, ◌∙◌, ap, ap₂, inl, inr, option_map, option_or, BigInfo, Air, airs_of, Setup, give_fault, Step, Refusal, AfterEnd, Order, Settings, named_by, refused_at, refused_where, refuse_if, box_after, box_of, give_refusal, group_refusal, is_out_of_order, own_refusal, refusal_of, sink_refusal, source_refusal, twin_refusal, setup_of, source_calls, chosen_steps, is_over, version_of, the_world, IsLasting}
-use Rattle.big_info.specs.Rows.{first_fault}
-use Rattle.source_machine.specs.Calls.{Call}
-use Rattle.sink_history.specs.Calls as links
-use Rattle.scenario_text.specs.declared.step.Step.TheVariants as steps
-use Rattle.scenario_laws.proofs.Versions.Groups.{first_same, near_or_horizon}
+use Rattle.scenario_laws.proofs.Known.Sources.{ℕ, ◌≡◌, ◌⊎◌, ◌≤◌, ltb, Bool, true, List, [], ◌∷◌, Option, None, Some, arith, refl, sym, subst, ◌∙◌, ap, ap₂, inl, inr, option_map, option_or, BigInfo, Air, airs_of, Setup, give_fault, Step, Refusal, AfterEnd, Order, Settings, named_by, refused_at, refused_where, refuse_if, box_after, box_of, give_refusal, group_refusal, is_out_of_order, own_refusal, refusal_of, sink_refusal, source_refusal, twin_refusal, setup_of, source_calls, chosen_steps, is_over, version_of, the_world, IsLasting, first_fault, SourceCall as Call, first_same, near_or_horizon, refused_same, relays_same, IsLater, ahead_stays, at_second, calls_same, horizon_grows, is_later, over_same, same, seconds, unbegun_same, airs_same, framed_same, is_ahead, setup_same, with_ahead, LinkCall}
 use Rattle.scenario_laws.proofs.Versions.Lived.{AreCalm, AreWider, QuietHistory, is_quiet, history_same, made_wider, quiet_history}
-use Rattle.scenario_laws.proofs.Versions.Printed.{refused_same}
-use Rattle.scenario_laws.proofs.Versions.Relays.{relays_same}
-use Rattle.scenario_laws.proofs.Versions.Seconds.{IsLater, ahead_stays, at_second, calls_same, horizon_grows, is_later, over_same, same}
-use Rattle.scenario_laws.proofs.Versions.Seconds.{seconds, unbegun_same}
-use Rattle.scenario_laws.proofs.Versions.Sources.{airs_same, framed_same, is_ahead, setup_same, with_ahead}
 
 -- the reason is one that version 2 may not have
 abbrev pub IsGone : Option Refusal → Type 0
@@ -64,8 +54,8 @@ unit_lasts own bis time octets =
 
 source_lasts : (version later : ℕ) (own : List Step) (step : Step) → IsLater version later
     → Lasts (source_refusal airs_of version own step) (source_refusal airs_of later (seconds own) step)
-source_lasts version later own (steps.Start first) is = search (same, lasts_or, group_lasts, horizon_grows)
-source_lasts version later own (steps.Unit bis time octets) is = unit_lasts own bis time octets
+source_lasts version later own (Step.Start first) is = search (same, lasts_or, group_lasts, horizon_grows)
+source_lasts version later own (Step.Unit bis time octets) is = unit_lasts own bis time octets
 source_lasts version later own _ is = inl (search same)
 
 -- ---- a step of a sink
@@ -78,7 +68,7 @@ pub box_same : (n : ℕ) (made : List Step) → box_of n (seconds made) ≡ box_
 box_same n [] = refl
 box_same n (step ∷ earlier) = cc (at_second (λ one two. box_after n two (seconds earlier) (box_of n (seconds earlier)) ≡ box_after n one (seconds earlier) (box_of n (seconds earlier))) (λ version. refl) (λ same. refl) step, box_next n step earlier (box_of n earlier) (box_of n (seconds earlier)) (box_same n earlier))
 
-where_same : (step : Step) (made other : Option Settings) (calls : List links.Call) → AreWider made other → QuietHistory made calls
+where_same : (step : Step) (made other : Option Settings) (calls : List LinkCall) → AreWider made other → QuietHistory made calls
     → refused_where step other calls ≡ refused_where step made calls
 where_same this made other calls wider quiet = grind (arith, refused_same, is_quiet)
 
@@ -88,14 +78,9 @@ named_same this named made calm = grind (arith, seconds, history_same, where_sam
 
 sink_same : (boxes : ℕ) (made : List Step) (step : Step) → AreCalm made
     → sink_refusal boxes (seconds made) step ≡ sink_refusal boxes made step
-sink_same boxes made (steps.Sink sink streams slots mtu) calm = search (same, box_same)
-sink_same boxes made (steps.Drop sink) calm = search box_same
-sink_same boxes made (steps.Tuned sink which) calm = search box_same
-sink_same boxes made (steps.Hear sink back bis subevent) calm = search box_same
-sink_same boxes made (steps.Air sink lose) calm = search box_same
-sink_same boxes made (steps.Inject sink back bis subevent octets) calm = search box_same
-sink_same boxes made (steps.Relay sink bis to) calm = refl
-sink_same boxes made this calm = named_same this (named_by this) made calm
+sink_same boxes made (Step.Sink sink streams slots mtu) calm = search (same, box_same)
+sink_same boxes made (Step.Relay sink bis to) calm = refl
+sink_same boxes made step calm = search (box_same, named_same step (named_by step) made calm)
 
 -- ---- the order of steps, and both sources
 
@@ -103,7 +88,7 @@ order_same : (made : List Step) (step : Step) → is_out_of_order (seconds made)
 order_same made step = grind (arith, unbegun_same, same)
 
 twin_same : (made : List Step) (step : Step) → twin_refusal (seconds made) step ≡ twin_refusal made step
-twin_same made steps.End = refl
+twin_same made Step.End = refl
 twin_same made _ = search (same, relays_same, box_same)
 
 -- ---- the first reason that holds

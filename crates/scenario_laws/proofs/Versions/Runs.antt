@@ -1,21 +1,12 @@
 -- A run over the lines behind `scenario 1` and behind `scenario 2`: it brings the same, where the run in version 1 isn't refused
 -- for BadLine, `BadGroup 11` or TimeOrder, and no `train` step in it prints `BadGroup 11`. Histories have the newest line first.
-use Rattle.scenario_laws.proofs.Prelude.{ℕ, suc, ◌≡◌, ◌⊎◌, ◌+◌, nat_eq, false, List, [], ◌∷◌, ◌++◌, length, reverse, Option, None, Some, refl, arith, sym, ◌∙◌, ap, ap₂, subst, inl, inr, concat, false≢true, append-nil, none-some, same_Some, TextLine, Account, Horizon, Settings, Train, answer_of, outcome_by, Accepted, End, Rules, accepted_of, accepted_unless, end_unless, number_after, out, out_unless, refused, reverse_onto, airs_of, Step, refusal_line, Refusal, BadLine, sink_line, train_words, given_train, made_of, printed_where, snapshot_in, handed_up, a_step, nothing, unsaid, output_said, refusal_said, rules_of, said_in, steps_of, with_said, is_misplaced, refusal_of, has_relay, is_over, is_unbegun_at, stage_after, stage_of, version_of, calls_made, source_at, EndsLasting, NonePrintsHorizon, PrintsHorizon, horizon_line}
+use Rattle.scenario_laws.proofs.Known.Sources.{ℕ, suc, ◌≡◌, ◌⊎◌, ◌+◌, nat_eq, false, List, [], ◌∷◌, ◌++◌, length, reverse, Option, None, Some, refl, arith, sym, ◌∙◌, ap, ap₂, subst, inl, inr, concat, false≢true, append-nil, none-some, same_Some, TextLine, Account, Horizon, Settings, Train, answer_of, outcome_by, Accepted, End, Rules, accepted_of, accepted_unless, end_unless, number_after, out, out_unless, refused, reverse_onto, airs_of, Step, refusal_line, Refusal, BadLine, sink_line, train_words, given_train, made_of, printed_where, snapshot_in, handed_up, a_step, nothing, unsaid, output_said, refusal_said, rules_of, said_in, steps_of, with_said, is_misplaced, refusal_of, has_relay, is_over, is_unbegun_at, stage_after, stage_of, version_of, calls_made, source_at, EndsLasting, NonePrintsHorizon, PrintsHorizon, horizon_line, end_of, Said, said_after, said_of, SaidNever, line_passes, none_relayed, nothing_else, plain_after, says_no_relay, Legal, LinesInRange, legal, permitted, HearsNear, has_relay_same, is_later, over_same, second, seconds, answer_near as near_or_horizon}
 use Rattle.delegator_history.specs.declared.train_heard.TrainHeard.TheVariants.{BadGroup as Refused}
-use Rattle.scenario_history.specs.Runs.{end_of}
-use Rattle.scenario_text.specs.declared.step.Step.TheVariants as steps
-use Rattle.scenario_history.specs.Lines.{Said, said_after, said_of}
-use Rattle.scenario_laws.proofs.RelayedUnits.Citable.{SaidNever, line_passes, none_relayed, nothing_else, plain_after, says_no_relay}
-use Rattle.scenario_laws.proofs.Citable.{Legal, LinesInRange, legal, permitted}
 use Rattle.scenario_laws.proofs.Versions.Lived.{AreCalm, IsCalm}
 use Rattle.scenario_laws.proofs.Versions.Outputs.{handed_up_same, output_same}
-use Rattle.scenario_laws.proofs.Versions.Printed.{HearsNear}
 use Rattle.scenario_laws.proofs.Versions.Horizons.{Announcing, announced_calm}
 use Rattle.scenario_laws.proofs.Versions.Reading.{IsUnsaid, said_later}
 use Rattle.scenario_laws.proofs.Versions.Refused.{IsGone, Lasts, step_lasts}
-use Rattle.scenario_laws.proofs.Versions.Relays.{has_relay_same}
-use Rattle.scenario_laws.proofs.Versions.Seconds.{is_later, over_same, second, seconds}
-use Rattle.scenario_laws.proofs.Versions.Trains.{near_or_horizon}
 
 -- the rules of a scenario with these boxes
 abbrev pub Its : List Account → Rules TextLine Refusal
@@ -30,9 +21,7 @@ pub record Laws : Type 0 where
 
 unsaid_gone : (boxes : ℕ) (made : List Step) (said : Said) → IsUnsaid said → IsGone (refusal_said airs_of boxes made said)
 unsaid_gone boxes made (unsaid (BadLine word)) is = λ lasting. lasting
-unsaid_gone boxes made (unsaid reason) is = absurd is
-unsaid_gone boxes made (a_step this) is = absurd is
-unsaid_gone boxes made nothing is = absurd is
+unsaid_gone boxes made said is = search
 
 both_last : (one one' two two' : Option Refusal) → one' ≡ one → two' ≡ two → Lasts one two → Lasts one' two'
 both_last one one' two two' same same' lasts = subst (λ r. Lasts r two') (sym same) (subst (Lasts one) (sym same') lasts)
@@ -40,8 +29,7 @@ both_last one one' two two' same same' lasts = subst (λ r. Lasts r two') (sym s
 same_lasts : (boxes : ℕ) (made : List Step) (said : Said) → has_relay made ≡ false → AreCalm made
     → Lasts (refusal_said airs_of boxes made said) (refusal_said airs_of boxes (seconds made) said)
 same_lasts boxes made (a_step this) plain calm = search (both_last, seconds, none_relayed, has_relay_same, step_lasts)
-same_lasts boxes made nothing plain calm = inl refl
-same_lasts boxes made (unsaid reason) plain calm = inl refl
+same_lasts boxes made said plain calm = inl refl
 
 said_same : (boxes : ℕ) (made : List Step) (said later : Said) → (later ≡ said) ⊎ IsUnsaid said
     → refusal_said airs_of boxes made said ≡ None → later ≡ said
@@ -55,31 +43,14 @@ as_said lines plain = nothing_else airs_of (said_of lines) plain
 
 answers_so : (starts : List Account) (earlier : List TextLine) (line : TextLine) (sink time : ℕ) (ext adv acad : List ℕ) (made : Settings)
     → has_relay (said_of earlier) ≡ false
-    → said_after earlier line ≡ a_step (steps.Train sink time ext adv acad) → made_of sink (said_of earlier) ≡ Some made
+    → said_after earlier line ≡ a_step (Step.Train sink time ext adv acad) → made_of sink (said_of earlier) ≡ Some made
     → answer_of (outcome_by made.setup (snapshot_in made (calls_made sink (said_of earlier)))
     (given_train (source_at (said_of earlier)) time ext adv acad)) ≡ Refused Horizon → (Its starts).output earlier line ≡ horizon_line sink
-answers_so starts earlier line sink time ext adv acad made plain says lives wider =
-    grind (
-      arith,
-      given_train,
-      source_at,
-      output_said,
-      airs_of,
-      as_said,
-      concat,
-      printed_where,
-      calls_made,
-      append-nil,
-      sink_line,
-      train_words,
-      answer_of,
-      outcome_by,
-      snapshot_in,
-    )
+answers_so starts earlier line sink time ext adv acad made plain says lives wider = grind (arith, as_said, append-nil)
 
 given_calm : (starts : List Account) (earlier : List TextLine) (line : TextLine) (sink time : ℕ) (ext adv acad : List ℕ)
-    → has_relay (said_of earlier) ≡ false → said_after earlier line ≡ a_step (steps.Train sink time ext adv acad) → (PrintsHorizon airs_of starts earlier line → ⊥)
-    → IsCalm (said_of earlier) (steps.Train sink time ext adv acad)
+    → has_relay (said_of earlier) ≡ false → said_after earlier line ≡ a_step (Step.Train sink time ext adv acad) → (PrintsHorizon airs_of starts earlier line → ⊥)
+    → IsCalm (said_of earlier) (Step.Train sink time ext adv acad)
 given_calm starts earlier line sink time ext adv acad plain says never n made names lives =
     let before : List Step = said_of earlier in
     let train : Train = given_train (source_at before) time ext adv acad in
@@ -94,10 +65,10 @@ step_calm : Laws → (starts : List Account) (earlier : List TextLine) (line : T
     → has_relay (said_of earlier) ≡ false → said_after earlier line ≡ a_step step
     → Accepted (Its starts) earlier → refusal_of airs_of (length starts) (said_of earlier) step ≡ None
     → (PrintsHorizon airs_of starts earlier line → ⊥) → IsCalm (said_of earlier) step
-step_calm laws starts earlier line (steps.Announce sink) plain says accepted none never =
+step_calm laws starts earlier line (Step.Announce sink) plain says accepted none never =
     announced_calm laws.announcing airs_of (length starts) sink (said_of earlier)
     (subst (Legal airs_of (length starts)) (as_said earlier plain) (legal laws.ranged airs_of starts earlier accepted)) none
-step_calm laws starts earlier line (steps.Train sink time ext adv acad) plain says accepted none never =
+step_calm laws starts earlier line (Step.Train sink time ext adv acad) plain says accepted none never =
     given_calm starts earlier line sink time ext adv acad plain says never
 step_calm laws starts earlier line _ plain says accepted none never = λ n made names lives. tt
 

@@ -1,12 +1,9 @@
 -- The lines of a text in version 2: those of the text, but that `scenario 2` stands for `scenario 1` behind empty lines and
 -- comments. Both have the same number of octets, so that the limit of a text cuts both alike.
-use Rattle.scenario_laws.proofs.Prelude.{ℕ, suc, ◌≡◌, ◌⊎◌, ◌≤◌, ◌<◌, ◌+◌, ◌==◌, cond, eqb, Bool, true, false, List, [], ◌∷◌, ◌++◌, length, refl, sym, ◌∙◌, ap, ap₂, subst, append_assoc, inl, inr, arith, codes, AllByRecursion, cases_lt, le-leb, lt-leb, append-nil, TextLine, plain, line_of, newline, text_limit, is_blank, migrated_line, migrated_lines}
+use Rattle.scenario_laws.proofs.Known.Sources.Steps.Prelude.{ℕ, suc, ◌≡◌, ◌⊎◌, ◌≤◌, ◌<◌, ◌+◌, ◌==◌, cond, eqb, Bool, true, false, List, [], ◌∷◌, ◌++◌, length, refl, sym, ◌∙◌, ap, ap₂, subst, append_assoc, inl, inr, arith, codes, AllByRecursion, cases_lt, le-leb, lt-leb, append-nil, TextLine, plain, line_of, newline, text_limit, is_blank, migrated_line, migrated_lines, past, lines_from, text_lines, migrated, text_again}
 use Rattle.std.proofs.lemmas.Slice.Eq.{bytes_eq-Decides}
-use Rattle.bcast_io.specs.TextLines.{past, lines_from, lines_of as text_lines}
 use Rattle.scenario_words.specs.Joined.{onto_first}
 use Rattle.scenario_text.specs.MigratedLines.{behind, lines_of, text_of}
-use Rattle.scenario_text.specs.Migrated.{migrated}
-use Rattle.scenario_text.proofs.Citable.{text_again}
 
 abbrev pub first_version : List ℕ
 first_version = codes "scenario 1"

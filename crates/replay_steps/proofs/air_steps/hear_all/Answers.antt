@@ -1,6 +1,4 @@
-use Rattle.replay_steps.proofs.Prelude.{◌≡◌, ℕ, ◌+◌, ◌*◌, ◌∙◌, ap, sym, subst, arith, chosen_steps, setup_of, SinksStand, histories_on_air}
-use Rattle.std.proofs.Math.Nat.{add-mul}
-use Rattle.replay_steps.specs.Losing.{CountsOn, LosesFrom}
+use Rattle.replay_steps.proofs.Prelude.{◌≡◌, ℕ, ◌+◌, ◌*◌, ◌∙◌, ap, sym, subst, arith, chosen_steps, setup_of, SinksStand, histories_on_air, add-mul, CountsOn, LosesFrom}
 use Rattle.replay_steps.proofs.Airing.{air_begins, air_ends}
 use Rattle.replay_steps.proofs.air_steps.hear_all.Goals as goal
 

@@ -1,5 +1,4 @@
-use Rattle.replay_steps.proofs.Prelude.{◌≡◌, ◌+◌, ◌*◌, List, Step, SourcesStand, SinksStand, OnAir, histories_on_air, histories_of}
-use Rattle.replay_steps.specs.Losing.{CountsOn}
+use Rattle.replay_steps.proofs.Prelude.{◌≡◌, ◌+◌, ◌*◌, List, Step, SourcesStand, SinksStand, OnAir, histories_on_air, histories_of, CountsOn}
 use Rattle.replay_steps.proofs.air_steps.hear_all.Given as goal
 
 abbrev pub invariant-streams : goal.invariant-streams

@@ -1,5 +1,4 @@
-use Rattle.replay_steps.proofs.Prelude.{ℕ, List, sym, subst, arith, Step, chosen_steps}
-use Rattle.replay_steps.specs.Losing.{unlost}
+use Rattle.replay_steps.proofs.Prelude.{ℕ, List, sym, subst, arith, Step, chosen_steps, unlost}
 use Rattle.replay_steps.proofs.Airing.{none_sent, stream_heard}
 use Rattle.replay_steps.proofs.HeardStreams.{AreHeard, are_heard}
 use Rattle.replay_steps.proofs.air_steps.hear_stream.Goals as goal

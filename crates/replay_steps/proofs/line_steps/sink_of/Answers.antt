@@ -1,5 +1,4 @@
-use Rattle.replay_steps.proofs.Prelude.{arith}
-use Rattle.std.proofs.lemmas.Grind.{common_steps}
+use Rattle.replay_steps.proofs.Prelude.{arith, common_steps}
 use Rattle.replay_steps.proofs.line_steps.sink_of.Goals as goal
 
 pub unreachable-requires : goal.unreachable-requires

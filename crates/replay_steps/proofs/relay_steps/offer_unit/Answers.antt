@@ -19,8 +19,7 @@ returns-in-Ok c steps own route s r =
     let to : own.to ≡ c.args.route.now.to = sym (ap (λ (way : Route). way.to) route) in
     let offer = offer_of c.args.sink own c.args.unit.now.time c.in-Some.octets.now in
     offers_taken steps c.args.sink own c.args.unit.now c.in-Some.octets.now c.give_second.new.sources c.give.new.self c.args.text.now (sym (rw c.in-Some.is at c.octets.ensures))
-    (sym c.get.ensures.same ∙ c.if-get.false ∙ c.get-2.ensures.same ∙ stream)
-    (c.in-Ok.ensures steps offer to refl s)
+    (sym c.get.ensures.same ∙ c.if-get.false ∙ c.get-2.ensures.same ∙ stream) (c.in-Ok.ensures steps offer to refl s)
     (routes_after_relays offer c.args.route.now.to steps c.give.new.self to (c.give.ensures (relay_histories steps) r))
 
 pub returns-in-Err-Refused : goal.returns-in-Err-Refused
@@ -32,8 +31,7 @@ returns-in-Err-Refused c steps own route s r =
     c.drop_unit.new.text c.drop_unit.result (sym (rw c.in-Some.is at c.octets.ensures))
     (sym c.get.ensures.same ∙ c.if-get.false ∙ c.get-2.ensures.same ∙ stream) stream
     (subst (λ (stop : Stop). GivesSecond steps offer c.give_second.new.sources (Err stop)) c.in-Err-Refused.field-0-is
-    (c.in-Err-Refused.ensures steps offer to refl s))
-    r c.drop_unit.ensures
+    (c.in-Err-Refused.ensures steps offer to refl s)) r c.drop_unit.ensures
 
 pub returns-in-Err-OutletFault : goal.returns-in-Err-OutletFault
 returns-in-Err-OutletFault c steps own route s r =

@@ -1,4 +1,4 @@
-use Rattle.scenario_laws.proofs.Prelude.{ℕ, zero, suc, ◌≡◌, ◌<◌, ◌+◌, ◌/◌, Bool, List, [], ◌∷◌, ◌++◌, length, map, Option, None, Some, refl, sym, ◌∙◌, ap, arith, inl, inr, slice_get, slice_index_or, cases_eq, ne_eqb, none-some, same_Some, framed, pdu, Sends, Sent, carried, parts_at, framed_calls, its_air, its_calls, its_setup, by_payload}
+use Rattle.scenario_laws.proofs.Known.Sources.Steps.Prelude.{ℕ, zero, suc, ◌≡◌, ◌<◌, ◌+◌, ◌/◌, Bool, List, [], ◌∷◌, ◌++◌, length, map, Option, None, Some, refl, sym, ◌∙◌, ap, arith, inl, inr, slice_get, slice_index_or, cases_eq, ne_eqb, none-some, same_Some, framed, pdu, Sends, Sent, carried, parts_at, framed_calls, its_air, its_calls, its_setup, by_payload}
 use Rattle.scenario_laws.proofs.history_laws.beginnings_are_worked.Goals as goal
 
 -- no number before the first carries anything

@@ -1,4 +1,4 @@
-use Rattle.std.proofs.Common.{arith}
+use Rattle.scenario_laws.proofs.Known.Sources.Steps.Prelude.{arith}
 use Rattle.scenario_laws.proofs.OneTranscript.{accepted_same, answered_same, brought_same, end_after_same, handed_on_same, out_of_same, steps_same, transcript_end_same, transcript_same, units_same}
 use Rattle.scenario_laws.proofs.history_laws.one_transcript.Goals as goal
 

@@ -1,4 +1,4 @@
-use Rattle.std.proofs.Common.{arith}
+use Rattle.scenario_laws.proofs.Known.Sources.Steps.Prelude.{arith}
 use Rattle.scenario_laws.proofs.OrderLaw.{stays_in_order}
 use Rattle.scenario_laws.proofs.history_laws.steps_keep_order.Goals as goal
 

@@ -1,4 +1,4 @@
-use Rattle.scenario_laws.proofs.Below.{Below}
+use Rattle.scenario_laws.proofs.Known.{Below}
 use Rattle.scenario_laws.proofs.UnitsLaw.{units_law_holds}
 use Rattle.scenario_laws.proofs.history_laws.units_law.Goals as goal
 

@@ -1,4 +1,4 @@
-use Rattle.scenario_laws.proofs.Linked.{links_agree}
+use Rattle.scenario_laws.proofs.Known.Sources.{links_agree}
 use Rattle.scenario_laws.proofs.link_laws.agreement_law.Goals as goal
 
 pub returns : goal.returns

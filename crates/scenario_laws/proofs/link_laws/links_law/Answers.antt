@@ -1,5 +1,4 @@
-use Rattle.std.proofs.Common.{arith}
-use Rattle.scenario_laws.proofs.Linked.{apart_agree}
+use Rattle.scenario_laws.proofs.Known.Sources.{arith, apart_agree}
 use Rattle.scenario_laws.proofs.link_laws.links_law.Goals as goal
 
 pub returns : goal.returns

@@ -1,6 +1,5 @@
-use Rattle.scenario_laws.proofs.Prelude.{length}
-use Rattle.scenario_history.specs.Lines.{said_of}
-use Rattle.scenario_laws.proofs.Citable.{said_legally}
+use Rattle.scenario_laws.proofs.Known.Sources.Steps.Prelude.{length, said_of}
+use Rattle.scenario_laws.proofs.Legals.{said_legally}
 use Rattle.scenario_laws.proofs.relay_laws.relay_lines_law.Goals as goal
 
 pub returns : goal.returns

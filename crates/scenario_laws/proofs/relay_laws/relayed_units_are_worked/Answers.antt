@@ -1,5 +1,4 @@
-use Rattle.scenario_laws.proofs.Prelude.{ℕ, ◌≡◌, ◌+◌, List, [], ◌∷◌, map, Some, refl, arith, slice_get, AllZip, IsStrictlyIncreasing, none-some, same_Some, Handed, lost, valid, equal_units, handed_both, its_setup, IsOfFirst, UnitPlace}
-use Rattle.bcast_base.specs.declared.unit.Unit.{Unit as AudioUnit}
+use Rattle.scenario_laws.proofs.Known.Sources.Steps.Prelude.{ℕ, ◌≡◌, ◌+◌, List, [], ◌∷◌, map, Some, refl, arith, slice_get, AllZip, IsStrictlyIncreasing, none-some, same_Some, Handed, lost, valid, equal_units, handed_both, its_setup, IsOfFirst, UnitPlace, Unit as AudioUnit}
 use Rattle.scenario_laws.proofs.relay_laws.relayed_units_are_worked.Goals as goal
 
 abbrev octets_of : Handed → List ℕ

@@ -1,6 +1,4 @@
-use Rattle.std.proofs.Common.{arith}
-use Rattle.scenario_laws.proofs.Prelude.{length}
-use Rattle.scenario_laws.proofs.Citable.{said_legally}
+use Rattle.scenario_laws.proofs.Known.Sources.{arith, length, said_legally}
 use Rattle.scenario_laws.proofs.Relaying.Both.{relayed_units}
 use Rattle.scenario_laws.proofs.relay_laws.relayed_units_law.Goals as goal
 

@@ -1,5 +1,5 @@
+use Rattle.scenario_laws.proofs.Known.Sources.Steps.{none_relayed, nothing_else}
 use Rattle.scenario_laws.proofs.RelayedUnits.Printed.{prints_units}
-use Rattle.scenario_laws.proofs.RelayedUnits.Routes.{none_relayed, nothing_else}
 use Rattle.scenario_laws.proofs.relayed_unit_laws.nothing_happens_without_relays.Goals as goal
 
 pub returns-clause-happens : goal.returns-clause-happens

@@ -1,4 +1,4 @@
-use Rattle.scenario_laws.proofs.RelayedUnits.Passing.{passes_at_once}
+use Rattle.scenario_laws.proofs.RelayedUnits.Left.{passes_at_once}
 use Rattle.scenario_laws.proofs.relayed_unit_laws.what_is_not_dropped_is_accepted.Goals as goal
 
 pub returns : goal.returns

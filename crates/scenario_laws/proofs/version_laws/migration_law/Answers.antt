@@ -1,5 +1,5 @@
-use Rattle.std.proofs.Common.{arith}
-use Rattle.scenario_laws.proofs.Versions.Overs.{migration_law_holds}
+use Rattle.scenario_laws.proofs.Known.Sources.Steps.Prelude.{arith}
+use Rattle.scenario_laws.proofs.Versions.Migrating.{migration_law_holds}
 use Rattle.scenario_laws.proofs.version_laws.migration_law.Goals as goal
 
 pub returns : goal.returns

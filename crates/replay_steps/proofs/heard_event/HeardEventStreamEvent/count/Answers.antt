@@ -1,4 +1,4 @@
-use Rattle.std.proofs.Common.{sym, ◌∙◌}
+use Rattle.replay_steps.proofs.Prelude.{sym, ◌∙◌}
 use Rattle.replay_steps.proofs.HeardStreams.{unlost_count}
 use Rattle.replay_steps.proofs.heard_event.HeardEventStreamEvent.count.Goals as goal
 

@@ -1,4 +1,4 @@
-use Rattle.std.proofs.Common.{◌≡◌, true, false, get_or, subst, arith}
+use Rattle.replay_steps.proofs.Prelude.{◌≡◌, true, false, get_or, subst, arith}
 use Rattle.replay_steps.proofs.HeardStreams.{kept_there, lost_there, unlost_count}
 use Rattle.replay_steps.proofs.heard_event.HeardEventStreamEvent.pdu.Goals as goal
 

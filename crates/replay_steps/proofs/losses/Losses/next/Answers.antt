@@ -1,5 +1,4 @@
-use Rattle.std.proofs.Common.{◌+◌, refl, sym, ◌∙◌, ap, arith, length-set}
-use Rattle.replay_steps.specs.Losing.{lost_at}
+use Rattle.replay_steps.proofs.Prelude.{◌+◌, refl, sym, ◌∙◌, ap, arith, length-set, lost_at}
 use Rattle.replay_steps.proofs.Losing.{counts_on, none_everywhere, none_marked, one_marked}
 use Rattle.replay_steps.proofs.losses.Losses.next.Goals as goal
 

@@ -1,5 +1,4 @@
-use Rattle.std.proofs.Common.{ℕ, ◌≡◌, ◌-◌, length}
-use Rattle.replay_steps.specs.Losing.{CountsOn}
+use Rattle.replay_steps.proofs.Prelude.{ℕ, ◌≡◌, ◌-◌, length, CountsOn}
 use Rattle.replay_steps.proofs.Losing.{Marked}
 use Rattle.replay_steps.proofs.losses.Losses.next.Given as goal
 
@@ -8,5 +7,4 @@ decreases-places l = l.count - l.place
 
 abbrev pub invariant-places : goal.invariant-places
 invariant-places l =
-    (length l.lost ≡ 31)
-    × ((n : ℕ) → CountsOn l.fn.self.lose n l.fn.self.before → Marked l.fn.self.lose n l.count l.place l.lost)
+    (length l.lost ≡ 31) × ((n : ℕ) → CountsOn l.fn.self.lose n l.fn.self.before → Marked l.fn.self.lose n l.count l.place l.lost)

@@ -1,5 +1,4 @@
-use Rattle.std.proofs.Common.{arith}
-use Rattle.replay_steps.proofs.Prelude.{Ok, map, relay_of, closing_of, handed_all, with_close_at, handed_of, relay_histories}
+use Rattle.replay_steps.proofs.Prelude.{Ok, map, relay_of, closing_of, handed_all, with_close_at, handed_of, relay_histories, arith}
 use Rattle.replay_steps.proofs.Relaying.{offers_lent, offers_stop, sink_relays, sink_stops}
 use Rattle.replay_steps.proofs.machine.Machine.close_sink.Goals as goal
 
@@ -14,8 +13,7 @@ returns-in-Err-offer_all-clause-closes g c steps past components =
     let lent = c.lent-units.ensures (with_close_at c.args.sink 0 c.args.event past) (handed_all (closing_of c.args.sink 0 c.args.event past)) closed.lends in
     let offered = c.in-Err-offer_all.ensures steps (relay_of c.args.sink steps) (c.route-route.ensures (relay_histories steps) components.relays) components.sources components.relays in
     offers_stop steps past c.args.sink c.args.event c.close_at.new.self c.args.self.now c.offer_all.new.sources c.offer_all.new.relays c.args.text.now c.close_at.new.text
-    c.offer_all.new.text _ _ c.in-Err-offer_all.stop closed
-    (grind (arith, offers_lent, map, handed_of))
+    c.offer_all.new.text _ _ c.in-Err-offer_all.stop closed (grind (arith, offers_lent, map, handed_of))
 
 pub returns-clause-closes : goal.returns-clause-closes
 returns-clause-closes g c steps past components =

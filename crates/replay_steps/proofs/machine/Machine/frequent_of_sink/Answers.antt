@@ -1,5 +1,4 @@
-use Rattle.replay_steps.proofs.Prelude.{sym, subst, arith, IsSinkLine}
-use Rattle.std.proofs.lemmas.Grind.{common_steps}
+use Rattle.replay_steps.proofs.Prelude.{sym, subst, arith, IsSinkLine, common_steps}
 use Rattle.scenario_text.specs.Ranges.{IsInRange}
 use Rattle.replay_steps.proofs.StepLaws.{meets_as}
 use Rattle.replay_steps.proofs.machine.Machine.frequent_of_sink.Goals as goal

@@ -1,5 +1,4 @@
-use Rattle.std.proofs.Common.{arith}
-use Rattle.replay_steps.proofs.Prelude.{refl}
+use Rattle.replay_steps.proofs.Prelude.{refl, arith}
 use Rattle.scenario_sources.specs.Described.{group_step}
 use Rattle.replay_steps.proofs.Stepping.{sources_meet}
 use Rattle.replay_steps.proofs.machine.Machine.group.Goals as goal

@@ -1,11 +1,10 @@
-use Rattle.replay_steps.proofs.Prelude.{refl, histories_of}
-use Rattle.scenario_text.specs.declared.step.Step.TheVariants.{Hear as HearStep}
+use Rattle.replay_steps.proofs.Prelude.{refl, histories_of, Hear}
 use Rattle.replay_steps.proofs.Airing.{hear_brings, hear_meets, place_fails, reach_fails}
 use Rattle.replay_steps.proofs.machine.Machine.hear.Goals as goal
 
 pub returns-in-Err : goal.returns-in-Err
 returns-in-Err c boxes version steps stands e =
-    reach_fails boxes version c.args.sink steps (HearStep c.args.sink c.args.place.back c.args.place.bis c.args.place.subevent) c.args.self.now c.in-Err.stop stands
+    reach_fails boxes version c.args.sink steps (Hear c.args.sink c.args.place.back c.args.place.bis c.args.place.subevent) c.args.self.now c.in-Err.stop stands
     (hear_brings c.args.sink c.args.place.back c.args.place.bis c.args.place.subevent) e (c.in-Err.ensures steps stands)
 
 pub returns-in-Ok-heard_at : goal.returns-in-Ok-heard_at
@@ -19,6 +18,6 @@ returns-in-Ok-heard_at c boxes version steps stands e =
 pub returns-in-Err-heard_at : goal.returns-in-Err-heard_at
 returns-in-Err-heard_at c boxes version steps stands e =
     let reach = c.in-Ok.ensures steps stands in
-    place_fails boxes version c.args.sink c.args.place.back c.args.place.bis c.args.place.subevent steps (HearStep c.args.sink c.args.place.back c.args.place.bis c.args.place.subevent)
+    place_fails boxes version c.args.sink c.args.place.back c.args.place.bis c.args.place.subevent steps (Hear c.args.sink c.args.place.back c.args.place.bis c.args.place.subevent)
     c.args.self.now c.in-Ok.field-0 c.in-Err-heard_at.stop stands
     (hear_brings c.args.sink c.args.place.back c.args.place.bis c.args.place.subevent) refl e reach (c.in-Err-heard_at.ensures.err steps stands.sources reach.0)

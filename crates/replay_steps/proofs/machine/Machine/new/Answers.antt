@@ -1,4 +1,4 @@
-use Rattle.std.proofs.Common.{arith}
+use Rattle.replay_steps.proofs.Prelude.{arith}
 use Rattle.replay_steps.proofs.LineLaws.{nothing_handed}
 use Rattle.replay_steps.proofs.machine.Machine.new.Goals as goal
 

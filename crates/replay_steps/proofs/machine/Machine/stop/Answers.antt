@@ -1,24 +1,18 @@
-use Rattle.replay_steps.proofs.Prelude.{[], ◌∷◌, refl, chosen_of, histories_of}
-use Rattle.scenario_text.specs.declared.step.Step.TheVariants.{Stop as StopStep}
-use Rattle.replay_steps.proofs.Closing.{closes_meet, not_over, components_then, stop_closes, stop_refused}
-use Rattle.replay_steps.proofs.Unassigned.{unassigned_in}
+use Rattle.replay_steps.proofs.Prelude.{refl, arith}
+use Rattle.replay_steps.proofs.Closing.{closes_meet, others_stay, step_refused, stop_closes}
 use Rattle.replay_steps.proofs.machine.Machine.stop.Goals as goal
 
 pub returns-in-Err-clause-meets : goal.returns-in-Err-clause-meets
 returns-in-Err-clause-meets g c starts version steps stands e =
-    stop_refused starts version steps c.args.self.now (record c.args.self.now { sources = c.stop.new.self }) c.args.text.now _ c.in-Err.stop stands refl refl refl e
-    (c.in-Err.ensures.closes version steps stands.sources)
+    step_refused starts version c.stop.new.self c.args.text.now _ c.in-Err.stop stop_closes stands e
+    (grind (arith, c.in-Err.ensures.closes version steps stands.sources))
 
 pub returns-clause-meets : goal.returns-clause-meets
 returns-clause-meets g c starts version steps stands e =
-    let stopped = c.in-Ok.ensures.closes version steps stands.sources in
-    let components = components_then StopStep (λ own. []) steps c.args.self.now (record c.args.self.now { sources = c.stop.new.self }) stop_closes stands stopped.1 refl refl in
-    closes_meet StopStep starts version c.chosen-chosen.result steps c.in-Ok.closed c.args.self.now c.close.new.self c.args.text.now c.close.new.text _ _ c.close.result
-    stop_closes stands e stopped.0 (stopped.2 (not_over (chosen_of steps) version steps e)) (c.chosen-chosen.ensures.source (StopStep ∷ steps) stopped.1) c.chosen-chosen.ensures.within c.close.ensures.stage
-    (c.close.ensures.closes (StopStep ∷ steps) (histories_of steps) components)
+    let p = c.in-Ok.ensures.closes version steps stands.sources in
+    closes_meet stop_closes stands p.1 e p.0 p.2 (c.chosen-chosen.ensures.source _ p.1) c.chosen-chosen.ensures.within starts _ _ _ _ _ _
+    refl c.close.ensures.stage c.close.ensures.closes
 
 pub returns-clause-unassigned : goal.returns-clause-unassigned
 returns-clause-unassigned g c steps stands =
-    let stopped = c.in-Ok.ensures.closes 0 steps stands.sources in
-    let components = components_then StopStep (λ own. []) steps c.args.self.now (record c.args.self.now { sources = c.stop.new.self }) stop_closes stands stopped.1 refl refl in
-    unassigned_in steps _ _ (c.close.ensures.others (StopStep ∷ steps) (histories_of steps) components)
+    others_stay stop_closes stands (c.in-Ok.ensures.closes 0 steps stands.sources).1 _ _ c.close.ensures.others
