@@ -149,8 +149,9 @@ fn hear_all(sources: &Sources, sinks: &mut Sinks, sink: u8, grid: Grid, event: u
         → SinksStand (histories_of steps) sinks.old → SinksStand (histories_of (AirStep sink lose ∷ steps)) sinks.new }
 {
     let mut losses = Losses::first(grid, event, lose);
+    let mut lost = [false; 31];
     'streams: for stream in 0..grid.streams {
-        let lost = losses.next(grid.subevents);
+        losses.next(grid.subevents, &mut lost);
         hear_stream(sources, sinks, sink, event, stream, &lost);
     }
 }

@@ -30,18 +30,18 @@ impl Losses {
         }
     }
 
-    /// Which PDUs of the next stream are lost, by subevent from 0, where it has so many.
-    pub(crate) fn next(&mut self, subevents: u8) -> [bool; 31]
+    /// Tells which PDUs of the next stream are lost, by subevent from 0, where it has so many.
+    pub(crate) fn next(&mut self, subevents: u8, lost: &mut [bool; 31])
         requires { subevents ≤ 31 }
         ensures lose { self.new.lose ≡ self.old.lose }
         ensures counted { (count : ℕ) → CountsOn self.old.lose count self.old.before
             → CountsOn self.old.lose (count + subevents) self.new.before }
         ensures lost { (count : ℕ) → CountsOn self.old.lose count self.old.before
-            → LosesFrom self.old.lose count subevents result }
+            → LosesFrom self.old.lose count subevents lost.new }
     {
-        let mut lost = [false; 31];
+        *lost = [false; 31];
         if self.lose == 0 {
-            return lost;
+            return;
         }
         let count = u16::from(subevents);
         let mut place = self.before;
@@ -50,6 +50,5 @@ impl Losses {
             place += u16::from(self.lose);
         }
         self.before = place - count;
-        lost
     }
 }
