@@ -15,12 +15,13 @@ use program::{Form, explain_with_tallies};
 use replay_lines::Ending;
 use rows::ExplainedRows;
 use status::Status;
+use std::io::Read;
 use std::process::ExitCode;
 use std::rt::Env;
 use std::{env, io};
 
 fn main(rt: HostRuntime) -> ExitCode {
-    let status = match run(&rt) {
+    let status = match run(&rt, rt.stdin()) {
         Ok(status) => status,
         Err(Memory) => Status::Ended(Ending::Memory),
     };
@@ -31,11 +32,11 @@ fn main(rt: HostRuntime) -> ExitCode {
 }
 
 /// Runs the program over standard input and output.
-fn run<R: Input + Print + Env + AllocGlobal>(rt: &R) -> Result<Status, Memory> {
+fn run<R: Print + Env + AllocGlobal, I: Read + Drop>(rt: &R, input: I) -> Result<Status, Memory> {
     let Some(form) = form_of(rt)? else {
         return Ok(Status::Usage);
     };
-    let mut source = ReadSource::new(rt.reader());
+    let mut source = ReadSource::new(input);
     let mut sink = ExplainedRows::new(WriteSink::new(io::writer(rt)));
     explain_with_tallies(rt.alloc(), form, &mut source, &mut sink)
 }

@@ -12,12 +12,13 @@ use bcast_io::{ReadSource, WriteSink};
 use program::{replay_with_tallies, words_behind_name};
 use replay_words::Words;
 use status::Status;
+use std::io::Read;
 use std::process::ExitCode;
 use std::rt::Env;
 use std::{env, io};
 
 fn main(rt: HostRuntime) -> ExitCode {
-    let status = match run(&rt) {
+    let status = match run(&rt, rt.stdin()) {
         Ok(status) => status,
         Err(Memory) => Status::Memory,
     };
@@ -28,12 +29,12 @@ fn main(rt: HostRuntime) -> ExitCode {
 }
 
 /// Runs the program over standard input and output.
-fn run<R: Input + Print + Env + AllocGlobal>(rt: &R) -> Result<Status, Memory> {
+fn run<R: Print + Env + AllocGlobal, I: Read + Drop>(rt: &R, input: I) -> Result<Status, Memory> {
     let alloc = rt.alloc();
     let Some(words) = words_of(rt)? else {
         return Ok(Status::Usage);
     };
-    let mut source = ReadSource::new(rt.reader());
+    let mut source = ReadSource::new(input);
     let mut sink = WriteSink::new(io::writer(rt));
     replay_with_tallies(alloc, &words, &mut source, &mut sink)
 }
