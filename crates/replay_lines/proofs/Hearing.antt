@@ -1,6 +1,6 @@
 -- What a listener changes at a line: nothing where it goes on, and where it fails the run ends before the line.
 use Rattle.std.proofs.Common.{arith}
-use Rattle.replay_lines.proofs.Prelude.{◌≡◌, ◌≢◌, Bool, false, true, List, refl, ap, inl, Option, ℕ, Appends, Keeps, Rose, TextLine, Account, airs_of, rules_of, brought, Airs, Machine, Ending, Ended, Heard, as_told, Broken, Comes, ReadsAtMost, read_limit, RunTo, StepRuns, StepHeard, Laws, World}
+use Rattle.replay_lines.proofs.Prelude.{◌≡◌, ◌≢◌, ◌+◌, length, ReadsAhead, Bool, false, true, List, refl, ap, inl, Option, ℕ, Appends, Keeps, Rose, TextLine, Account, airs_of, rules_of, brought, Airs, Machine, Ending, Ended, Heard, as_told, Broken, Comes, ReadsAtMost, read_limit, RunTo, StepRuns, StepHeard, Laws, World}
 use Rattle.replay_lines.specs.declared.ending.Ending.TheVariants as endings
 use Rattle.replay_lines.proofs.LineEndings.{step_memory}
 use Rattle.replay_lines.proofs.Promises.{promised_run}
@@ -22,12 +22,8 @@ module _ (airs : Airs) (starts ends : List Account) (left left' kept kept' : Opt
   pub ended_told : (may_fail : Bool) (ending : Ending) → Ended airs ending starts ends left left' kept kept'
       → Ended airs (as_told may_fail ending) starts ends left left' kept kept'
   ended_told false ending e = e
-  ended_told true endings.Done e = e
-  ended_told true (endings.Refused line reason) e = e
-  ended_told true endings.ReadFault e = e
   ended_told true endings.WriteFault e = e.0
-  ended_told true endings.OutletFault e = e
-  ended_told true endings.Memory e = e
+  ended_told true _ e = e
 
   -- whatever may be told of the listener, it may fail
   pub told_more : (may_fail : Bool) (ending : Ending) → Ended airs (as_told may_fail ending) starts ends left left' kept kept'
@@ -55,11 +51,11 @@ step_told may_fail starts lines left left' kept kept' machine accounts result s 
 
 -- the run ends before a line
 pub broken_before : (starts : List Account) (history : List TextLine) (line : TextLine) (left left' kept mid kept' : Option (List ℕ)) (machine : Machine)
-    (accounts : List Account) → Comes left left' history line → RunTo starts history kept mid machine accounts → Keeps mid kept'
-    → Broken airs_of starts accounts left left' kept kept'
-broken_before starts history line left left' kept mid kept' machine accounts comes run keeps =
-    step_memory starts history line left left' kept kept' accounts accounts comes run.accepted
-    (kept_on kept mid kept' (brought (rules_of airs_of starts) history) run.written keeps) run.stands.boxes (inl refl)
+    (accounts : List Account) (number : ℕ) → number ≡ length history + 1 → Comes left left' history line → ReadsAhead left left' number
+    → RunTo starts history kept mid machine accounts → Keeps mid kept' → Broken airs_of starts accounts left left' kept kept'
+broken_before starts history line left left' kept mid kept' machine accounts number is_next comes ahead run keeps =
+    step_memory starts history line left left' kept kept' machine accounts number is_next comes ahead
+    (run_kept starts history kept mid kept' machine accounts run keeps) accounts (inl refl)
 
 -- ---- what is promised
 

@@ -1,4 +1,5 @@
 -- What the whole lines of a prefix of a text bring is a prefix of what all lines bring.
+use Rattle.std.proofs.Common.{arith}
 use Rattle.replay_lines.proofs.Prelude.{◌≡◌, ℕ, ◌+◌, Bool, true, false, cond, eqb, leb, List, [], ◌∷◌, ◌++◌, length, refl, sym, ap, ◌∙◌, append_assoc, Option, None, Some, append-nil, MayFollow, TextLine, past, newline, text_limit, line_of, lines_of, Account, Rules, out, out_unless, accepted_of, accepted_unless, brought_by, Step, SinkUnit, handed_up, rules_of, steps_of, Airs, out_of, end_after, has_end, last_line_after, transcript_of, units_of, Refusal}
 use Rattle.bcast_io.specs.TextLines.{lines_from}
 use Rattle.replay_lines.proofs.Endings.{units_rest}
@@ -33,7 +34,7 @@ lines_more taken part (x ∷ prefix) rest =
 
 -- ---- octets and units
 
-out_more : (rules : Rules TextLine Refusal) (history lines later : List TextLine)
+pub out_more : (rules : Rules TextLine Refusal) (history lines later : List TextLine)
     → (rest : List ℕ) × (out rules history (lines ++ later) ≡ out rules history lines ++ rest)
 out_more rules history [] later = (out rules history later, refl)
 out_more rules history (line ∷ lines) later = by_refusal (rules.refusal history line) (out_more rules (line ∷ history) lines later)
@@ -59,7 +60,7 @@ steps_unless airs starts history line why lines =
     steps_of airs (accepted_unless history why (accepted_of (rules_of airs starts) (line ∷ history) lines))
 
 module _ (airs : Airs) (starts : List Account) where
-  units_more : (history lines later : List TextLine)
+  pub units_more : (history lines later : List TextLine)
       → (rest : List SinkUnit)
       × (handed_up airs (steps_after airs starts history (lines ++ later)) ≡ handed_up airs (steps_after airs starts history lines) ++ rest)
   units_more history [] later = units_rest airs starts history later
@@ -80,11 +81,7 @@ module _ (airs : Airs) (starts : List Account) where
 
   pub transcript_more : (over : Bool) (text prefix rest : List ℕ) → text ≡ prefix ++ rest → MayFollow over true rest
       → (more : List ℕ) × (transcript_of airs starts (lines_of true text) ≡ brought_by airs over starts prefix ++ more)
-  transcript_more true text prefix rest whole follows = (
-    [],
-    ap (λ t. transcript_of airs starts (lines_of true t)) (whole ∙ ap (λ r. prefix ++ r) (follows refl).1 ∙ append-nil prefix)
-        ∙ sym (append-nil (transcript_of airs starts (lines_of true prefix))),
-  )
+  transcript_more true text prefix rest whole follows = ([], grind (arith, append-nil))
   transcript_more false text prefix rest whole follows =
       let all = lines_of true text in
       let later = lines_more 0 [] prefix rest in
@@ -97,11 +94,7 @@ module _ (airs : Airs) (starts : List Account) where
 
   pub units_of_more : (over : Bool) (text prefix rest : List ℕ) → text ≡ prefix ++ rest → MayFollow over true rest
       → (more : List SinkUnit) × (units_of airs starts (lines_of true text) ≡ units_of airs starts (lines_of over prefix) ++ more)
-  units_of_more true text prefix rest whole follows = (
-    [],
-    ap (λ t. units_of airs starts (lines_of true t)) (whole ∙ ap (λ r. prefix ++ r) (follows refl).1 ∙ append-nil prefix)
-        ∙ sym (append-nil (units_of airs starts (lines_of true prefix))),
-  )
+  units_of_more true text prefix rest whole follows = ([], grind (arith, append-nil))
   units_of_more false text prefix rest whole follows =
       let later = lines_more 0 [] prefix rest in
       let more = units_more [] (lines_of false prefix) later.0 in (

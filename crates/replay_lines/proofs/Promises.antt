@@ -1,8 +1,8 @@
 -- What is promised of a run, from what it did.
 use Rattle.std.proofs.Common.{arith}
-use Rattle.replay_lines.proofs.Prelude.{◌≡◌, ◌≢◌, List, refl, TextLine, Account, Rose, airs_of, Airs, MeetAirs, transcript_of, Ending, Promised, Did, DidOver, ReadsAtMost, read_limit, AllSame, Laws, World}
+use Rattle.replay_lines.proofs.Prelude.{◌≡◌, ◌≢◌, List, refl, subst, TextLine, Account, Rose, airs_of, Airs, MeetAirs, transcript_of, Ending, Promised, Did, DidOver, ReadsAtMost, read_limit, AllSame, Laws, World}
 use Rattle.replay_lines.specs.declared.ending.Ending.TheVariants as endings
-use Rattle.replay_lines.proofs.Completing.{ended_at, ended_whole, ended_ahead, ended_complete}
+use Rattle.replay_lines.proofs.Completing.{ended_whole, ended_ahead, ended_complete}
 use Rattle.replay_lines.proofs.Counting.{ended_counts, ended_one}
 use Rattle.replay_lines.proofs.Endings.{ends_at_once}
 use Rattle.replay_lines.proofs.OtherAirs.{ahead_as, complete_as, counts_as, ended_as, took_text_as}
@@ -14,9 +14,9 @@ one_of boxes laws airs others meets meet_too lines = grind arith
 
 module _ (old new : World) (ending : Ending) where
   did : AllSame → DidOver airs_of ending old new → (other : Ending) → ending ≡ other → Did other old new
-  did same e other is = λ airs meets.
+  did same e other is airs meets =
       ended_as airs_of airs (same airs meets) old.boxes new.boxes old.left new.left old.taken new.taken other
-      (ended_at ending other old.boxes new.boxes old.left new.left old.taken new.taken e is)
+      (let P : Ending → Type 0 = λ s. DidOver airs_of s old new in subst P is e)
 
   pub promised_run : DidOver airs_of ending old new → ReadsAtMost old.left new.left read_limit
       → (ending ≡ endings.ReadFault → Rose old.reads new.reads) → (ending ≢ endings.ReadFault → new.reads ≡ old.reads)
@@ -33,19 +33,18 @@ module _ (old new : World) (ending : Ending) where
     no_write_fault = no_write;
     no_outlet_fault = λ airs meets other.
         counts_as airs_of airs (laws.same airs meets) old.boxes new.boxes old.left new.left old.taken new.taken ending
-        (ended_counts ending old.boxes new.boxes old.left new.left old.taken new.taken e other);
-    one_outlet_fault = ended_one ending old.boxes new.boxes old.left new.left old.taken new.taken e;
+        (ended_counts old new ending e other);
+    one_outlet_fault = ended_one old new ending e;
     boxes = λ airs meets text is whole.
         took_text_as airs_of airs (laws.same airs meets) old.boxes new.boxes old.left new.left old.taken new.taken text
-        (ended_whole text old.boxes new.boxes old.left new.left old.taken new.taken ending e is whole);
+        (ended_whole old new text is ending e whole);
     complete = λ airs meets text is.
         complete_as airs_of airs (laws.same airs meets) old.boxes new.boxes old.left new.left old.taken new.taken text
         old.reads new.reads old.writes new.writes ending
-        (ended_complete text old.boxes new.boxes old.left new.left old.taken new.taken old.reads new.reads old.writes new.writes ending
-        e is read write);
+        (ended_complete old new text is ending e read write);
     reading_ahead = λ airs meets.
         ahead_as airs_of airs (laws.same airs meets) old.boxes new.boxes old.left new.left old.taken new.taken ending
-        (ended_ahead ending old.boxes new.boxes old.left new.left old.taken new.taken e);
+        (ended_ahead old new ending e);
     reads_at_most = within;
     some_airs = (airs_of, laws.meet);
     one_transcript = one_of old.boxes laws;

@@ -19,7 +19,7 @@ returns-in-Err-Failed-clause-runs g c =
     let boxes = map (λ b. (goal.Outlet-dyn g (b.vtable, b.value)).account b.value) c.args.outlets.now.items in
     failed_told airs_of starts boxes left left' kept (g.K.ByteSink.contents c.begin_line.new.sink) g.L.Listener.may_fail c.in-Err-Failed.ensures.allowed
     (broken_before starts lines (plain c.args.line.now) left left' kept (g.K.ByteSink.contents c.args.sink.now) (g.K.ByteSink.contents c.begin_line.new.sink)
-    c.args.machine.now boxes comes run c.begin_line.ensures.kept)
+    c.args.machine.now boxes c.args.number e comes ahead run c.begin_line.ensures.kept)
 
 pub returns-in-Err-Memory-clause-runs : goal.returns-in-Err-Memory-clause-runs
 returns-in-Err-Memory-clause-runs g c =
@@ -27,7 +27,7 @@ returns-in-Err-Memory-clause-runs g c =
     let boxes = map (λ b. (goal.Outlet-dyn g (b.vtable, b.value)).account b.value) c.args.outlets.now.items in
     wanted_told airs_of starts boxes left left' kept (g.K.ByteSink.contents c.begin_line.new.sink) g.L.Listener.may_fail
     (broken_before starts lines (plain c.args.line.now) left left' kept (g.K.ByteSink.contents c.args.sink.now) (g.K.ByteSink.contents c.begin_line.new.sink)
-    c.args.machine.now boxes comes run c.begin_line.ensures.kept)
+    c.args.machine.now boxes c.args.number e comes ahead run c.begin_line.ensures.kept)
 
 pub returns-in-Ok-clause-told : goal.returns-in-Ok-clause-told
 returns-in-Ok-clause-told g c =
