@@ -50,11 +50,7 @@ closed_all past event sinks stands = grind (arith, slice_get, cond, ticked_if, i
 
 pub between_starts : (steps : List Step) (past : Histories) (event : ℕ) (machine : Machine) (text : List ℕ) (before : List Account) → ComponentsStand steps past machine
     → FirstBetween steps past event 0 machine text text before before
-between_starts steps past event machine text before components = record {
-  components = record { sources = components.sources; sinks = closed_none past event machine.sinks components.sinks; relays = components.relays };
-  lines = sym (append-nil text);
-  boxes = refl;
-}
+between_starts steps past event machine text before components = grind (arith, closed_none, append-nil)
 
 -- what the next sink offers is what it offers by the steps before the relayed units of those below it
 offers_now : (steps : List Step) (past : Histories) (event n : ℕ)

@@ -202,9 +202,7 @@ first_fails steps past event text told before after f =
 -- units of source 1 print nothing among those of source 0
 second_apart : (first d : List SinkUnit) (answers : List Answered) → AreFrom 1 d → first_lines (first ++ d) answers ≡ first_lines first answers
 unfolding sink_numbers
-second_apart first d answers are =
-    flat_within (λ n. printed_at n (first ++ d) answers) (λ n. printed_at n first answers) 0 8
-    (grind (arith, flat_map, dropped_lines, handed_append, second_handed, append-nil))
+second_apart first d answers are = grind (arith, flat_within, handed_append, second_handed, append-nil)
 
 before_second : (first d : List SinkUnit) (answers : List Answered) (unit : SinkUnit) → AreFrom 0 first → AreFrom 1 d → unit.source ≡ 1
     → printed_before answers (first ++ d) unit ≡ first_lines first answers ++ unit_lines d

@@ -1,5 +1,5 @@
 -- What a close of a source did, whether an event of it was open or none.
-use Rattle.replay_steps.proofs.Prelude.{ℕ, zero, suc, ◌≡◌, ◌≢◌, List, [], ◌∷◌, ◌++◌, refl, sym, ◌∙◌, subst, append-nil, Option, None, Some, Result, Ok, Err, range_with_len, Account, airs_of, Stop, Refused, OutletFault, Memory, Step, SinkUnit, accounts_after, Answered, after_offers, answered, first_lines, unit_lines, is_of, closings_at, CutShort, Histories, with_close, SinksStand, Sinks, RelaysStand, SourcesStand, hands_stop, stands_same, Machine, printed_before, relay_histories, Meets, phase_line, handed_by, answered_by, output_of, inl, inr, ap, append_assoc, accounts_append, hands_then, length, Closes, FirstMeets, ComponentsStand, SecondMeets, arith, sink_numbers}
+use Rattle.replay_steps.proofs.Prelude.{ℕ, zero, suc, ◌≡◌, ◌≢◌, List, [], ◌∷◌, ◌++◌, refl, sym, ◌∙◌, subst, append-nil, Option, None, Some, Result, Ok, Err, range_with_len, Account, airs_of, Stop, Refused, OutletFault, Memory, Step, SinkUnit, accounts_after, Answered, after_offers, answered, first_lines, unit_lines, is_of, closings_at, CutShort, Histories, with_close, SinksStand, Sinks, hands_stop, stands_same, Machine, printed_before, Meets, phase_line, handed_by, answered_by, output_of, inl, inr, ap, append_assoc, accounts_append, hands_then, length, Closes, FirstMeets, ComponentsStand, SecondMeets, arith, sink_numbers}
 use Rattle.std.specs.Prelude.{OnOk}
 use Rattle.scenario_sinks.specs.Closing as sinks
 use Rattle.scenario_sinks.specs.Handing.{Hands}
@@ -23,12 +23,7 @@ pub first_did : (steps : List Step) (past : Histories) (closed : Option ℕ) (ne
     → Closes steps past 0 closed new text told before after r
     → Did (units_closed past closed) (answered airs_of (offers_closed steps past closed) steps) (lines_closed steps past closed)
     (ComponentsStand (after_offers airs_of (offers_closed steps past closed) steps) (with_close 0 closed past) new) text told before after r
-first_did steps past None new text told before after (Ok x) m = (refl, components_left steps past 0 new m.0, m.1 ∙ sym (append-nil text), m.2)
-first_did steps past None new text told before after (Err stop) m = let never = m.3 in absurd (cc never)
-first_did steps past (Some event) new text told before after (Ok x) m = (refl, m.0, m.1, m.2)
-first_did steps past (Some event) new text told before after (Err (Refused reason)) m = absurd m
-first_did steps past (Some event) new text told before after (Err OutletFault) m = (refl, first_fails steps past event text told before after m)
-first_did steps past (Some event) new text told before after (Err Memory) m = inr (refl, m)
+first_did steps past v2 new text told before after v8 m = grind (arith, components_left, append-nil, first_fails)
 
 -- units of source 1 were handed behind those of source 0
 hands_did : (first us : List SinkUnit) (answers : List Answered) (stands : Type 0) (text mid told : List ℕ) (before between after : List Account) (r : Result (Unit {0}) Stop)
@@ -106,15 +101,7 @@ first_closes steps past source closed event new text told before after r zeroth 
 second_meets : (steps : List Step) (past : Histories) (other event : ℕ) (old new : Machine) (text told : List ℕ) (before after : List Account) (r : Result (Unit {0}) Stop)
     → ComponentsStand steps past old → new.sources ≡ old.sources → new.relays ≡ old.relays
     → sinks.Closes past (suc other) (Some event) new.sinks text told before after r → SecondMeets steps past (suc other) event new text told before after r
-second_meets steps past other event old new text told before after (Ok x) components sources held m = (
-  record {
-    sources = subst (λ s. SourcesStand steps s) (sym sources) components.sources;
-    sinks = m.stands;
-    relays = subst (λ r. RelaysStand (relay_histories steps) r) (sym held) components.relays;
-  },
-  m.hands,
-)
-second_meets steps past other event old new text told before after (Err stop) components sources held m = m.hands
+second_meets steps past other event old new text told before after v10 components sources held m = grind arith
 
 pub second_closes : (steps : List Step) (past : Histories) (source : ℕ) (closed : Option ℕ) (event : ℕ) (old new : Machine) (text told : List ℕ) (before after : List Account)
     (r : Result (Unit {0}) Stop) → source ≢ 0 → closed ≡ Some event → ComponentsStand steps past old → new.sources ≡ old.sources → new.relays ≡ old.relays

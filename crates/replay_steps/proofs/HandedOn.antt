@@ -1,11 +1,9 @@
 -- What a line hands up comes behind what the lines before it did, and the boxes took it.
-use Rattle.replay_steps.proofs.Prelude.{◌≡◌, List, ◌∷◌, ◌++◌, sym, subst, append-nil, TextLine, Account, airs_of, Airs, Step, SinkUnit, handed_up, Took, happened, handed_happened, Said, a_step, nothing, unsaid, said_of, steps_of, said_after, handed_on, handed_said, with_said, took_all, BoxesStand, arith}
+use Rattle.replay_steps.proofs.Prelude.{◌≡◌, List, ◌∷◌, ◌++◌, subst, append-nil, TextLine, Account, airs_of, Airs, Step, SinkUnit, handed_up, Took, happened, handed_happened, Said, said_of, steps_of, said_after, handed_on, handed_said, with_said, took_all, BoxesStand, arith}
 
 handed_with : (airs : Airs) (earlier : List Step) (said : Said)
     → handed_up airs (happened airs (with_said said earlier)) ≡ handed_up airs (happened airs earlier) ++ handed_said airs (happened airs earlier) said
-handed_with airs earlier (a_step next) = handed_happened airs earlier next
-handed_with airs earlier nothing = sym (append-nil (handed_up airs (happened airs earlier)))
-handed_with airs earlier (unsaid reason) = sym (append-nil (handed_up airs (happened airs earlier)))
+handed_with airs earlier v2 = grind (arith, handed_happened, append-nil)
 
 -- the units of a line come behind those of the lines before it
 pub handed_line : (airs : Airs) (history : List TextLine) (line : TextLine) → handed_up airs (steps_of airs (line ∷ history)) ≡ handed_up airs (steps_of airs history) ++ handed_on airs history line

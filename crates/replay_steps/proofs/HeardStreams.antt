@@ -56,17 +56,11 @@ first_heard own lose k pdus calls (suc s) are within =
 pub event_heard : (own : List Step) (lose k : ℕ) (pdus : List (Option (List ℕ))) (calls : List Call) → AreHeard own lose k pdus
     → heard_calls (event_back own 0) (k + 1) pdus (heard_on_air airs_of own lose (k * (setup_of own).info.nse) calls)
     ≡ heard_on_air airs_of own lose ((k + 1) * (setup_of own).info.nse) calls
-event_heard own lose k pdus calls are =
-    let nse : ℕ = (setup_of own).info.nse in
-    let all : (k + 1) * nse ≡ k * nse + nse = omega (arith, add-mul k 1 nse) in
-    ap (λ n. heard_first (event_back own 0) (k + 1) pdus n (heard_on_air airs_of own lose (k * nse) calls)) are.count
-    ∙ first_heard own lose k pdus calls nse are (omega arith) ∙ ap (λ i. heard_on_air airs_of own lose i calls) (sym all)
+event_heard own lose k pdus calls are = grind (arith, add-mul, first_heard)
 
 -- the number of a PDU, counted over all events, streams and subevents
 count_is : (event streams k nse s : ℕ) → event * streams * nse + k * nse + s ≡ (event * streams + (k + 1 - 1)) * nse + s
-count_is event streams k nse s =
-    let same : k + 1 - 1 ≡ k = omega arith in
-    ap (λ c. c + s) (sym (add-mul (event * streams) k nse)) ∙ ap (λ j. (event * streams + j) * nse + s) (sym same)
+count_is event streams k nse s = grind arith
 
 -- what a sink hears of what a stream sent
 pub are_heard : (own : List Step) (lose k bis event streams subevents : ℕ) (sent : List (List ℕ)) (lost : List Bool)

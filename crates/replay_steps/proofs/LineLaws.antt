@@ -1,9 +1,8 @@
 -- A line by its step.
-use Rattle.replay_steps.proofs.Prelude.{◌≡◌, ℕ, ◌≤◌, List, [], ◌∷◌, ◌++◌, length, inl, inr, Option, None, Some, Result, Ok, Err, refl, sym, ◌∙◌, ap, subst, arith, option_or, leb-false, TextLine, plain, Account, airs_of, BadLine, happened, with_relayed_units, append-nil, read_of, Step, sinks_made, sinks_made_by, version_at, version_of, hands_alike, left_by_relayed_units, stage_happened, passes_both, accounts_after, handed_by, handed_up, is_relayed, a_step, nothing, unsaid, said_of, steps_of, said_by, said_after, with_said, refusal_said, output_said, handed_said, fails_not, Machine, Stop, Refused, OutletFault, Memory, Stands, BoxesStand, StepMeets, accounts_append}
+use Rattle.replay_steps.proofs.Prelude.{◌≡◌, ℕ, ◌≤◌, List, [], ◌∷◌, ◌++◌, length, inl, inr, Option, None, Some, Result, Ok, Err, refl, sym, ◌∙◌, ap, subst, arith, option_or, leb-false, TextLine, plain, Account, airs_of, BadLine, happened, with_relayed_units, append-nil, read_of, Step, sinks_made, sinks_made_by, version_at, version_of, hands_alike, left_by_relayed_units, stage_happened, passes_both, accounts_after, handed_by, handed_up, is_relayed, a_step, unsaid, said_of, steps_of, said_by, said_after, with_said, refusal_said, output_said, handed_said, fails_not, Machine, Stop, Refused, OutletFault, Memory, Stands, BoxesStand, StepMeets, accounts_append}
 use Rattle.scenario_words.specs.declared.fault.LineFault.TheVariants.{BadLine as Misfit}
 use Rattle.scenario_history.specs.Refusals.{refusal_of}
 use Rattle.replay_steps.specs.LineMeets.{LineMeets, LinesStand}
-use Rattle.replay_steps.proofs.StepLaws.{stands_beside}
 
 last_none : {A : Type 0} (a b : Option A) → option_or a b ≡ None → b ≡ None
 last_none a b e = grind arith
@@ -82,18 +81,7 @@ line_meets starts lines line version made new text told before after r boxes is 
 pub none_meets : (starts : List Account) (lines : List TextLine) (line : List ℕ) (version : ℕ) (machine : Machine) (text : List ℕ) (accounts : List Account)
     → LinesStand starts lines machine accounts → version ≡ version_of (said_of lines) → read_of version line ≡ Ok None
     → LineMeets starts lines (plain line) machine text text accounts accounts (Ok tt)
-none_meets starts lines line version machine text accounts st is reads =
-    let says : said_after lines (plain line) ≡ nothing = ap (λ v. said_by (read_of v line)) (sym is) ∙ ap said_by reads in
-    let same : said_of (plain line ∷ lines) ≡ said_of lines = ap (λ s. with_said s (said_of lines)) says in
-    let before = steps_of airs_of lines in (
-      ap (refusal_said airs_of (length starts) before) says,
-      record {
-        stands = (let P : List Step → Type 0 = λ s. Stands (happened airs_of s) machine in subst P (sym same) st.stands);
-        boxes = (let P : List Step → Type 0 = λ s. BoxesStand starts (happened airs_of s) accounts in subst P (sym same) st.boxes);
-      },
-      sym (append-nil text) ∙ ap (λ s. text ++ output_said airs_of starts before s) (sym says),
-      ap (λ s. accounts_after accounts (handed_said airs_of before s)) (sym says),
-    )
+none_meets starts lines line version machine text accounts st is reads = grind (arith, append-nil)
 
 -- a line that isn't of the grammar
 pub misfit_meets : (starts : List Account) (lines : List TextLine) (line : List ℕ) (version word : ℕ) (machine : Machine) (text : List ℕ) (accounts : List Account)
@@ -114,7 +102,4 @@ meets_at starts history line new text told before after result r cleared is meet
 -- the memory that is kept for the octets of later units is no part of it
 pub lines_beside : (starts : List Account) (lines : List TextLine) (machine new : Machine) (accounts : List Account) → new.stage ≡ machine.stage
     → new.sources ≡ machine.sources → new.sinks ≡ machine.sinks → new.relays ≡ machine.relays → LinesStand starts lines machine accounts → LinesStand starts lines new accounts
-lines_beside starts lines machine new accounts stage sources sinks relays stand = record {
-  stands = stands_beside (steps_of airs_of lines) machine new stage sources sinks relays stand.stands;
-  boxes = stand.boxes;
-}
+lines_beside starts lines machine new accounts stage sources sinks relays stand = grind arith

@@ -6,7 +6,7 @@ pub use Rattle.std.proofs.lemmas.Grind.{common_steps}
 pub use Rattle.std.proofs.lemmas.List.{map-append, take_all, take_more, length-map}
 pub use Rattle.std.proofs.lemmas.List.Concat.{flat_map-append}
 pub use Rattle.std.proofs.lemmas.List.Elements.{filter-append}
-pub use Rattle.std.proofs.lemmas.Nat.{div-mul-add, mod-mul-add, div-add-mod', mod_below}
+pub use Rattle.std.proofs.lemmas.Nat.{div-mul-add, mod-mul-add, div-add-mod'}
 pub use Rattle.std.specs.List.{flat_map, range_with_len, list_all, list_any, filter, concat}
 pub use Rattle.std.specs.Option.{option_or}
 pub use Rattle.std.specs.Prelude.{slice_index_or, sum, IsSome}
@@ -31,8 +31,8 @@ pub use Rattle.scenario_history.proofs.Citable.{took_all, box_was_made, valid_ap
 pub use Rattle.scenario_history.specs.Boxes.{box_of, SinkUnit, accounts_after, closing_by, Took, valid_for, handed_up, closing, closing_at, handed_by, closing_in, Holds, RoomFor, onto_valid, with_units, account_at, closing_both}
 unfoldable pub use Rattle.scenario_history.specs.Boxes.{sink_numbers}
 pub use Rattle.scenario_history.specs.Lines.{Said, a_step, nothing, unsaid, said_of, steps_of, said_after, handed_said, with_said, handed_on, rules_of, said_by, refusal_said, output_said}
-pub use Rattle.scenario_history.specs.Output.{unit_lines, close_lines, first_lines, output_of, stale_lines, dropped_lines, injected_hearing, sink_lines, answer_line, sum_if, sums_of}
-pub use Rattle.scenario_history.specs.Refusals.{no_sink, phase_refusal, relayed_or, sink_refusal, source_refusal, no_place, is_relayed, gives_on, has_beyond, is_misplaced, is_out_of_phase, twin_refusal, air_refusal, train_ends, line_refusal, is_relay_beyond, is_relay_taken, may_relay, relay_refusal}
+pub use Rattle.scenario_history.specs.Output.{unit_lines, close_lines, first_lines, output_of, stale_lines, dropped_lines, sink_lines, answer_line, sum_if, sums_of}
+pub use Rattle.scenario_history.specs.Refusals.{no_sink, phase_refusal, relayed_or, sink_refusal, source_refusal, no_place, is_relayed, gives_on, has_beyond, is_misplaced, is_out_of_phase, twin_refusal, air_refusal, train_ends, line_refusal, relay_refusal}
 pub use Rattle.scenario_history.specs.RelayedUnits.{Offer, after_offers, answered, offered_of, Answered, happened, answered_by, closes_first, offers_at, with_relayed_units, after_offer, dropped_for, with_relayed_unit, units_on, with_relayed_unit_unless, valid_on}
 pub use Rattle.scenario_history.specs.Relays.{relay_of, Route, relay_given, relays_to, had_relay}
 pub use Rattle.scenario_history.specs.Sinks.{is_of, ticked_if, sink_calls, source_of, hear_at, heard_on_air, is_lost, reaches, position_at, positions_of, unless_lost, Position}
@@ -44,7 +44,7 @@ pub use Rattle.scenario_sink.specs.SinkLines.{IsSinkLine}
 pub use Rattle.scenario_sinks.proofs.Citable.{accounts_append, hands_stop, hands_then, stands_same, lines_append}
 pub use Rattle.scenario_sinks.specs.Closing.{closing_of, handed_all, closings_at, ClosesAt}
 pub use Rattle.scenario_sinks.specs.Handing.{BoxFails, CutShort}
-pub use Rattle.scenario_sinks.specs.Histories.{Histories, with_close, with_close_at, without, with_sink, with_tuning, with_hearing, with_line, with_heard}
+pub use Rattle.scenario_sinks.specs.Histories.{Histories, with_close, with_close_at, without, with_sink, with_tuning, with_line, with_heard}
 pub use Rattle.scenario_sinks.specs.Refusals.{not_made, not_tuned, not_living}
 pub use Rattle.scenario_sinks.specs.RelayHistories.{is_idle, with_relay}
 pub use Rattle.scenario_sinks.specs.State.Gathering.{handed_of, handed_as, octets_of}
@@ -54,7 +54,7 @@ pub use Rattle.scenario_sinks.specs.Unassigned.{UnassignedSame}
 pub use Rattle.scenario_sinks.specs.declared.relays.Relays.{Relays}
 pub use Rattle.scenario_sinks.specs.declared.route.Route.{Route as LentRoute}
 pub use Rattle.scenario_sinks.specs.declared.sinks.Sinks.{Sinks}
-pub use Rattle.scenario_sources.proofs.Citable.{SaysNothing, sources_stay, sink_says, tuned_says, air_says, hear_says, inject_says, sniff_says, drop_says, end_says, named_says, scenario_begins}
+pub use Rattle.scenario_sources.proofs.Citable.{SaysNothing, sources_stay, sink_says, tuned_says, drop_says, end_says, named_says, scenario_begins}
 pub use Rattle.scenario_sources.specs.Answers.{NoPlace, Answers, AnnouncesAs, SentIs}
 pub use Rattle.scenario_sources.specs.Faults.{fault_of}
 pub use Rattle.scenario_sources.specs.State.Standing.{SourcesStand}
@@ -62,7 +62,7 @@ pub use Rattle.scenario_sources.specs.declared.sources.Sources.{Sources}
 pub use Rattle.scenario_text.specs.Steps.{read_of}
 pub use Rattle.scenario_text.specs.declared.step.Step.{Step}
 pub use Rattle.scenario_text.specs.declared.step.Step.TheVariants.{End, Scenario, Sink, Source, Tuned, Air, Hear, Inject, Sniff, Meta, Bis, Cipher, Drop, Relay, Ident, Subgroup, Start, Announce, Unit as UnitLine}
-pub use Rattle.sink_history.specs.History.{made_of, named_by, horizon_of, version_given, horizon_in}
+pub use Rattle.sink_history.specs.History.{made_of, named_by, version_given, horizon_in}
 pub use Rattle.sink_history.specs.Refusals.{refuse_if, refusal_of, refused_at, refused_where}
 pub use Rattle.source_machine.specs.Airs.{airs_of, Airs}
 pub use Rattle.source_machine.specs.Faults.{air_fault, announce_fault}

@@ -1,5 +1,5 @@
 -- A close of source 0, sink by sink: each hands its units up, and then its relay offers them to source 1.
-use Rattle.replay_steps.proofs.Prelude.{ℕ, ◌≡◌, List, ◌++◌, ◌∙◌, ap, append_assoc, append-nil, Result, Ok, Err, Account, Handed, airs_of, Stop, Step, answered, offered_of, unit_lines, relay_of, ClosesAt, closing_of, handed_all, Histories, with_close_at, SinksStand, Sinks, Sources, Relays, Machine, OffersMeet, SinkMeets, answer_lines, offers_of, arith}
+use Rattle.replay_steps.proofs.Prelude.{ℕ, ◌≡◌, List, append_assoc, append-nil, Result, Ok, Err, Account, Handed, Stop, Step, offered_of, relay_of, ClosesAt, closing_of, handed_all, Histories, with_close_at, SinksStand, Sinks, Sources, Relays, Machine, OffersMeet, SinkMeets, offers_of, arith}
 
 -- ---- one sink
 
@@ -14,12 +14,7 @@ pub sink_relays : (steps : List Step) (past : Histories) (n event : ℕ) (mid : 
     → ClosesAt past n 0 event mid text told before after (Ok tt)
     → OffersMeet steps (offers_of steps past n event) new.sources new.relays told told2 (Ok tt)
     → SinksStand (with_close_at n 0 event past) new.sinks → SinkMeets steps past n event new text told2 before after (Ok tt)
-sink_relays steps past n event mid new text told told2 before after c o s =
-    let lines : List ℕ = answer_lines (answered airs_of (offers_of steps past n event) steps) in (
-      record { sources = o.0; sinks = s; relays = o.1 },
-      o.2 ∙ ap (λ prefix. prefix ++ lines) c.hands.0 ∙ append_assoc text (unit_lines (closing_of n 0 event past)) lines,
-      c.hands.1,
-    )
+sink_relays steps past n event mid new text told told2 before after c o s = grind (arith, append_assoc)
 
 -- a box stopped it, or memory ran out as its units were handed
 pub sink_stops : (steps : List Step) (past : Histories) (n event : ℕ) (mid : Sinks) (new : Machine) (text told : List ℕ) (before after : List Account) (stop : Stop)

@@ -1,5 +1,5 @@
 -- The lines of a sink's control and of its links.
-use Rattle.replay_steps.proofs.Prelude.{◌≡◌, ℕ, List, [], ◌∷◌, ◌++◌, Bool, true, false, is_some, cond, refl, sym, ◌∙◌, ap, subst, Option, None, Some, Result, Ok, Err, length, concat, option_or, Account, airs_of, NoSuchSink, Order, Stop, Refused, OutletFault, Memory, Step, Announce, End, Stage, chosen_steps, running, stage_after, stage_of, is_sending, setup_of, source_calls, box_of, handed_by, output_of, sink_lines, phase_refusal, train_ends, calls_made, source_at, the_world, Settings, made_of, named_by, refused_at, refused_where, refusal_of, IsSinkLine, AnnouncesAs, SaysNothing, Histories, with_line, SinksStand, Machine, Stands, histories_of, Tells, closes_first, is_relayed, arith, announce_fault}
+use Rattle.replay_steps.proofs.Prelude.{◌≡◌, ℕ, List, [], ◌∷◌, Bool, true, false, is_some, cond, refl, ◌∙◌, ap, Option, None, Some, Result, Ok, Err, length, concat, option_or, Account, airs_of, NoSuchSink, Order, Stop, Step, Announce, End, Stage, chosen_steps, running, stage_after, stage_of, is_sending, setup_of, source_calls, box_of, handed_by, output_of, sink_lines, phase_refusal, train_ends, calls_made, source_at, the_world, Settings, made_of, named_by, refused_at, refused_where, refusal_of, IsSinkLine, AnnouncesAs, SaysNothing, Histories, with_line, Machine, Stands, histories_of, Tells, closes_first, is_relayed, arith, announce_fault}
 use Rattle.announcement_train.specs.declared.train.Train.{Train as Announced}
 use Rattle.sink_history.specs.Calls.{Call}
 use Rattle.sink_history.specs.History.{Source}
@@ -66,14 +66,8 @@ named_meets : (starts : List Account) (n : ℕ) (steps : List Step) (made : Step
     → output_of airs_of starts steps made ≡ concat (printed_where (source_at steps) made (made_of n steps) (calls_made n steps))
     → new.stage ≡ old.stage → new.sources ≡ old.sources → minds_relays made ≡ false → new.relays ≡ old.relays
     → SinkLineMakes (histories_of steps) n (source_at steps) made new.sinks text told r → Tells starts steps made new text told r
-named_meets starts n steps made old new text told (Ok x) stands is nothing on past output stage same minds held m = (
-  is ∙ m.0,
-  brought steps made old new stands nothing on stage same minds held (let P : Histories → Type 0 = λ p. SinksStand p new.sinks in subst P (sym past) m.1),
-  m.2 ∙ ap (λ l. text ++ l) (sym output),
-)
-named_meets starts n steps made old new text told (Err (Refused reason)) stands is nothing on past output stage same minds held m =
-    (is ∙ m.0, sinks_stand steps old new stands stage same held m.1, m.2)
-named_meets starts n steps made old new text told r stands is nothing on past output stage same minds held m = search (brought, sinks_stand)
+named_meets starts n steps made old new text told v8 stands is nothing on past output stage same minds held m =
+    grind (arith, brought, sinks_stand)
 
 pub line_meets : (starts : List Account) (version n : ℕ) (steps : List Step) (made : Step) (old new : Machine) (text told : List ℕ) (r : Result (Unit {0}) Stop)
     → Stands steps old → stage_of steps ≡ running version → IsSinkLine made → named_by made ≡ Some n → new.stage ≡ old.stage → new.sources ≡ old.sources
@@ -86,9 +80,6 @@ line_meets starts version n steps made old new text told r stands e line named s
     (line_prints starts steps made line ∙ ap (λ o. concat (printed_at the_world steps made o)) named) stage same (line_minds made line) held m
 
 -- ---- announce
-
-announce_says : (n : ℕ) → SaysNothing (Announce n)
-announce_says n = grind arith
 
 pub announce_early : (boxes version n : ℕ) (steps : List Step) → stage_of steps ≡ running version → is_sending (chosen_steps steps) ≡ false
     → phase_refusal airs_of boxes steps (Announce n) ≡ Some Order
@@ -125,14 +116,9 @@ announce_nowhere boxes version n steps e going lives = grind (arith, announce_fa
 pub announce_fails : (starts : List Account) (version n : ℕ) (steps : List Step) (new : Machine) (text : List ℕ) (stop : Stop) → Stands steps new → stage_of steps ≡ running version
     → is_sending (chosen_steps steps) ≡ true → is_some (box_of n steps) ≡ true → AnnouncesAs (chosen_steps steps) (Err stop)
     → Tells starts steps (Announce n) new text text (Err stop)
-announce_fails starts version n steps new text (Refused reason) stands e going lives a = grind (arith, train_ends, setup_of, chosen_steps, source_calls, announce_fault_is, length, option_or, hears_train, calls_made, made_of, made_with_box)
-announce_fails starts version n steps new text OutletFault stands e going lives a = a
-announce_fails starts version n steps new text Memory stands e going lives a = tt
+announce_fails starts version n steps new text v6 stands e going lives a = grind (arith, announce_fault_is, hears_train, made_with_box)
 
 pub announce_meets : (starts : List Account) (version n : ℕ) (steps : List Step) (train : Announced) (old new : Machine) (text told : List ℕ) (r : Result (Unit {0}) Stop)
     → Stands steps old → stage_of steps ≡ running version → AnnouncesAs (chosen_steps steps) (Ok train) → new.stage ≡ old.stage → new.sources ≡ old.sources
     → new.relays ≡ old.relays → SinkLineMakes (histories_of steps) n (source_at steps) (Announce n) new.sinks text told r → Tells starts steps (Announce n) new text told r
-announce_meets starts version n steps train old new text told r stands e a stage same held m =
-    named_meets starts n steps (Announce n) old new text told r stands
-    (announce_fault_is (length starts) version n steps e a.0 ∙ ap (λ f. option_or (refused_where (Announce n) (made_of n steps) (calls_made n steps)) (train_ends f)) a.1
-    ∙ or_none (refused_where (Announce n) (made_of n steps) (calls_made n steps))) (announce_says n) refl refl refl stage same refl held m
+announce_meets starts version n steps train old new text told r stands e a stage same held m = grind arith

@@ -1,5 +1,5 @@
 -- A step by the room that it belongs to.
-use Rattle.replay_steps.proofs.Prelude.{◌≡◌, ℕ, ◌==◌, List, [], ◌∷◌, true, false, if◌then◌else◌, unwrap_or, refl, sym, ◌∙◌, ap, subst, Option, None, Some, Result, Ok, Err, option_or, airs_of, BigInfo, Settings, tune, Refusal, NoSuchBis, Order, Stop, Refused, OutletFault, Memory, Step, Sink, Source, Tuned, Stage, chosen_of, chosen_steps, running, stage_after, stage_of, version_at, group_of, no_group, setup_of, takes_units, box_of, big_sync_on, horizon_of, version_given, horizon_in, sinks_made, has_beyond, is_misplaced, is_out_of_phase, phase_refusal, relayed_or, sink_refusal, source_refusal, twin_refusal, refuse_if, Sources, fault_of, SourcesStand, SaysNothing, sink_says, sources_stay, tuned_says, Sinks, Histories, with_sink, with_tuning, SinksStand, Machine, Relays, RelaysStand, Stands, histories_of, relay_histories, Quiet, phase_line, stage_in, arith, by_numbers, not_made, not_tuned}
+use Rattle.replay_steps.proofs.Prelude.{◌≡◌, ℕ, ◌==◌, List, [], ◌∷◌, true, false, if◌then◌else◌, unwrap_or, refl, sym, ◌∙◌, ap, subst, Option, None, Result, Ok, Err, option_or, airs_of, BigInfo, Settings, tune, Refusal, NoSuchBis, Stop, Step, Sink, Tuned, Stage, chosen_of, chosen_steps, running, stage_after, stage_of, version_at, group_of, no_group, setup_of, takes_units, box_of, big_sync_on, version_given, horizon_in, sinks_made, has_beyond, is_misplaced, is_out_of_phase, phase_refusal, relayed_or, sink_refusal, source_refusal, twin_refusal, refuse_if, fault_of, SourcesStand, SaysNothing, sink_says, sources_stay, tuned_says, Histories, with_sink, with_tuning, SinksStand, Machine, RelaysStand, Stands, histories_of, relay_histories, Quiet, phase_line, stage_in, arith, by_numbers, not_made, not_tuned}
 use Rattle.delegator_history.specs.Announced.{numbers_alone}
 use Rattle.delegator_history.specs.LastGiven.{last_given}
 use Rattle.sync_reference.specs.BigSync.{BigSync}
@@ -24,9 +24,6 @@ pub source_fault : (boxes version : ℕ) (steps : List Step) (made : Step) → G
 source_fault boxes version steps made on e =
     grind (arith, or_assoc, refuse_if, is_out_of_phase, chosen_steps, source_refusal, airs_of, twin_refusal)
 
-stage_stays : (steps : List Step) (made : Step) (old new : Machine) → GoesOn made → Stands steps old → new.stage ≡ old.stage → stage_in new.stage ≡ stage_of (made ∷ steps)
-stage_stays steps made old new on stands same = ap stage_in same ∙ stands.stage ∙ sym (on.stage (stage_of steps))
-
 -- a line is refused for what its step is refused for, where it gives no unit
 pub as_step : (boxes : ℕ) (steps : List Step) (made : Step) → minds_relays made ≡ false → phase_line airs_of boxes steps made ≡ phase_refusal airs_of boxes steps made
 as_step boxes steps made minds = ap (λ relayed. relayed_or relayed (phase_refusal airs_of boxes steps made)) ((beside made minds).none steps)
@@ -39,21 +36,11 @@ relays_kept steps made old new minds stands held = grind (arith, relays_stay ste
 -- the machine after a refused step of the sources, or of the sinks
 pub sources_stand : (steps : List Step) (old new : Machine) → Stands steps old → new.stage ≡ old.stage → new.sinks ≡ old.sinks → new.relays ≡ old.relays
     → SourcesStand steps new.sources → Stands steps new
-sources_stand steps old new stands stage same held sources = record {
-  stage = ap stage_in stage ∙ stands.stage;
-  sources = sources;
-  sinks = let S : Sinks → Type 0 = λ k. SinksStand (histories_of steps) k in subst S (sym same) stands.sinks;
-  relays = let R : Relays → Type 0 = λ r. RelaysStand (relay_histories steps) r in subst R (sym held) stands.relays;
-}
+sources_stand steps old new stands stage same held sources = grind arith
 
 pub sinks_stand : (steps : List Step) (old new : Machine) → Stands steps old → new.stage ≡ old.stage → new.sources ≡ old.sources → new.relays ≡ old.relays
     → SinksStand (histories_of steps) new.sinks → Stands steps new
-sinks_stand steps old new stands stage same held sinks = record {
-  stage = ap stage_in stage ∙ stands.stage;
-  sources = let S : Sources → Type 0 = λ s. SourcesStand steps s in subst S (sym same) stands.sources;
-  sinks = sinks;
-  relays = let R : Relays → Type 0 = λ r. RelaysStand (relay_histories steps) r in subst R (sym held) stands.relays;
-}
+sinks_stand steps old new stands stage same held sinks = grind arith
 
 -- a step that says nothing of a source, by what it made of the sinks
 pub brought : (steps : List Step) (made : Step) (old new : Machine) → Stands steps old → SaysNothing made → stage_of (made ∷ steps) ≡ stage_of steps
@@ -61,12 +48,17 @@ pub brought : (steps : List Step) (made : Step) (old new : Machine) → Stands s
     → SinksStand (histories_of (made ∷ steps)) new.sinks → Stands (made ∷ steps) new
 brought steps made old new stands nothing on stage same minds held heard = record {
   stage = ap stage_in stage ∙ stands.stage ∙ sym on;
-  sources = let S : Sources → Type 0 = λ s. SourcesStand (made ∷ steps) s in subst S (sym same) (sources_stay made steps old.sources nothing stands.sources);
+  sources = rw same (sources_stay made steps old.sources nothing stands.sources);
   sinks = heard;
   relays = relays_kept steps made old new minds stands held;
 }
 
 -- ---- a step of the sources alone
+
+pub sources_refuse : (boxes version : ℕ) (steps : List Step) (made : Step) (old new : Machine) (stop : Stop) → phase_line airs_of boxes steps made ≡ fault_of version steps made
+    → Stands steps old → new.stage ≡ old.stage → new.sinks ≡ old.sinks → new.relays ≡ old.relays → sources.Answers version steps made new.sources (Err stop)
+    → Quiet boxes steps made new (Err stop)
+sources_refuse boxes version steps made old new stop is stands stage same held a = grind (arith, sources_stand)
 
 pub sources_meet : (boxes version : ℕ) (steps : List Step) (made : Step) (old new : Machine) (r : Result (Unit {0}) Stop) → GoesOn made
     → histories_of (made ∷ steps) ≡ histories_of steps → Stands steps old → stage_of steps ≡ running version → new.stage ≡ old.stage → new.sinks ≡ old.sinks
@@ -74,54 +66,24 @@ pub sources_meet : (boxes version : ℕ) (steps : List Step) (made : Step) (old 
 sources_meet boxes version steps made old new (Ok x) on past stands e stage same minds held a = (
   as_step boxes steps made minds ∙ source_fault boxes version steps made on e ∙ a.0,
   record {
-    stage = stage_stays steps made old new on stands stage;
+    stage = ap stage_in stage ∙ stands.stage ∙ sym (on.stage (stage_of steps));
     sources = a.1;
-    sinks = let P : Histories → Type 0 = λ p. SinksStand p new.sinks in let S : Sinks → Type 0 = λ s. SinksStand (histories_of steps) s in
-        subst P (sym past) (subst S (sym same) stands.sinks);
+    sinks = subst (λ (p : Histories). SinksStand p new.sinks) (sym past) (rw same stands.sinks);
     relays = relays_kept steps made old new minds stands held;
   },
 )
-sources_meet boxes version steps made old new (Err (Refused reason)) on past stands e stage same minds held a =
-    (as_step boxes steps made minds ∙ source_fault boxes version steps made on e ∙ a.0, sources_stand steps old new stands stage same held a.1)
-sources_meet boxes version steps made old new (Err OutletFault) on past stands e stage same minds held a = a
-sources_meet boxes version steps made old new (Err Memory) on past stands e stage same minds held a = tt
-
-pub choose_meets : (boxes version source : ℕ) (steps : List Step) (old new : Machine) → Stands steps old → stage_of steps ≡ running version
-    → new.stage ≡ old.stage → new.sinks ≡ old.sinks → new.relays ≡ old.relays → SourcesStand (Source source ∷ steps) new.sources
-    → Quiet boxes steps (Source source) new (Ok tt)
-choose_meets boxes version source steps old new stands e stage same held s = (
-  rw e refl,
-  record {
-    stage = ap stage_in stage ∙ stands.stage;
-    sources = s;
-    sinks = let S : Sinks → Type 0 = λ k. SinksStand (histories_of steps) k in subst S (sym same) stands.sinks;
-    relays = relays_kept steps (Source source) old new refl stands held;
-  },
-)
+sources_meet boxes version steps made old new (Err stop) on past stands e stage same minds held a =
+    sources_refuse boxes version steps made old new stop (as_step boxes steps made minds ∙ source_fault boxes version steps made on e) stands stage same held a
 
 -- ---- a step of the sinks alone
-
--- less is said after want of memory
-pub less_said : (fault : Option Refusal) (past next : Histories) (new : Sinks) (r : Result (Unit {0}) Stop) → sinks.Answers fault past next new r → sinks.Tunes fault past next new r
-less_said fault past next new r a = grind arith
 
 pub sinks_meet : (boxes : ℕ) (steps : List Step) (made : Step) (fault : Option Refusal) (next : Histories) (old new : Machine) (r : Result (Unit {0}) Stop) → Stands steps old
     → phase_refusal airs_of boxes steps made ≡ fault → SaysNothing made → stage_of (made ∷ steps) ≡ stage_of steps → histories_of (made ∷ steps) ≡ next
     → new.stage ≡ old.stage → new.sources ≡ old.sources → minds_relays made ≡ false → new.relays ≡ old.relays
     → sinks.Tunes fault (histories_of steps) next new.sinks r → Quiet boxes steps made new r
-sinks_meet boxes steps made fault next old new (Ok x) stands is nothing on past stage same minds held a = (
-  as_step boxes steps made minds ∙ is ∙ a.0,
-  record {
-    stage = ap stage_in stage ∙ stands.stage ∙ sym on;
-    sources = let S : Sources → Type 0 = λ s. SourcesStand (made ∷ steps) s in subst S (sym same) (sources_stay made steps old.sources nothing stands.sources);
-    sinks = let P : Histories → Type 0 = λ p. SinksStand p new.sinks in subst P (sym past) a.1;
-    relays = relays_kept steps made old new minds stands held;
-  },
-)
-sinks_meet boxes steps made fault next old new (Err (Refused reason)) stands is nothing on past stage same minds held a =
-    (as_step boxes steps made minds ∙ is ∙ a.0, sinks_stand steps old new stands stage same held a.1)
-sinks_meet boxes steps made fault next old new (Err OutletFault) stands is nothing on past stage same minds held a = a
-sinks_meet boxes steps made fault next old new (Err Memory) stands is nothing on past stage same minds held a = tt
+sinks_meet boxes steps made fault next old new (Ok x) stands is nothing on past stage same minds held a =
+    (as_step boxes steps made minds ∙ is ∙ a.0, brought steps made old new stands nothing on stage same minds held (rw past a.1))
+sinks_meet boxes steps made fault next old new (Err stop) stands is nothing on past stage same minds held a = grind (arith, as_step, sinks_stand)
 
 -- ---- sink
 
@@ -133,9 +95,6 @@ version_by other earlier same = grind arith
 version_said : (steps : List Step) → unwrap_or (last_given version_given steps) 1 ≡ version_at (stage_of steps)
 version_said [] = refl
 version_said (step ∷ earlier) = version_by step earlier (version_said earlier)
-
-horizon_said : (version horizon : ℕ) (steps : List Step) → stage_of steps ≡ running version → horizon ≡ horizon_in version → horizon ≡ horizon_of steps
-horizon_said version horizon steps e is = is ∙ ap horizon_in (sym (version_said steps ∙ ap version_at e))
 
 -- what the line says, in a scenario whose groups have at most this horizon
 abbrev made_with : (streams slots horizon : ℕ) → Option ℕ → Settings
@@ -149,15 +108,10 @@ make_meets boxes version n streams slots horizon mtu steps old new r stands e is
     let fault : Option Refusal = not_made (box_of n steps) (sinks_made steps) boxes in
     let next : Histories = with_sink n (made_with streams slots horizon mtu) (histories_of steps) in
     sinks_meet boxes steps (Sink n streams slots mtu) fault next old new r stands (rw e (or_none fault)) (sink_says n streams slots mtu) refl
-    (ap (λ h. with_sink n (made_with streams slots h mtu) (histories_of steps)) (sym (horizon_said version horizon steps e is))) stage same refl held
-    (less_said fault (histories_of steps) next new.sinks r a)
+    (ap (λ h. with_sink n (made_with streams slots h mtu) (histories_of steps)) (ap horizon_in (version_said steps ∙ ap version_at e) ∙ sym is)) stage same refl held
+    (grind arith)
 
 -- ---- tuned
-
--- the chosen source is not between its start and its stop
-pub tuned_early : (boxes version n which : ℕ) (steps : List Step) → stage_of steps ≡ running version → takes_units (chosen_steps steps) ≡ false
-    → phase_refusal airs_of boxes steps (Tuned n which) ≡ Some Order
-tuned_early boxes version n which steps e going = rw (e, going) refl
 
 -- a `group` line says the numbers of a group and nothing more
 plain_by : (step : Step) (own : List Step) → numbers_alone (unwrap_or (group_of own) no_group).info ≡ (unwrap_or (group_of own) no_group).info

@@ -1,5 +1,5 @@
-use Rattle.replay_steps.proofs.Prelude.{refl, length, histories_of, Inject}
-use Rattle.replay_steps.proofs.Airing.{inject_brings, inject_fails, inject_meets, place_fails, quiet_tells, reach_fails}
+use Rattle.replay_steps.proofs.Prelude.{◌≡◌, true, false, is_some, refl, sym, ◌∙◌, ap, length, histories_of, Inject}
+use Rattle.replay_steps.proofs.Airing.{inject_brings, inject_meets, place_fails, quiet_tells, reach_fails}
 use Rattle.replay_steps.proofs.machine.Machine.inject.Goals as goal
 
 pub returns-in-Err : goal.returns-in-Err
@@ -18,8 +18,8 @@ returns-in-Err-heard_at c starts version steps stands e =
 
 pub returns-in_default : goal.returns-in_default
 returns-in_default c starts version steps stands e =
-    absurd (inject_fails starts version c.args.sink c.chosen-source.result c.event_back-event.result c.args.place.bis c.args.place.subevent c.args.octets.now steps c.hear.new.self
-    c.in-Ok.field-0 (c.in-Ok.ensures steps stands) (c.in_default.ensures (histories_of steps) stands.sinks))
+    let never : true ≡ false = sym (c.in-Ok.ensures steps stands).2 ∙ ap is_some (c.in_default.ensures (histories_of steps) stands.sinks) in
+    absurd (cc never)
 
 pub returns-in-Ok-put_heard : goal.returns-in-Ok-put_heard
 returns-in-Ok-put_heard c starts version steps stands e =

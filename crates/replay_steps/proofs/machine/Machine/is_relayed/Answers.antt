@@ -1,12 +1,10 @@
-use Rattle.replay_steps.proofs.Prelude.{relay_histories}
-use Rattle.replay_steps.proofs.RelayLaws.{first_free, is_first, is_second, second_had}
+use Rattle.replay_steps.proofs.Prelude.{refl, eq-eqb, ne_eqb, relay_histories}
+use Rattle.replay_steps.proofs.RelayLaws.{is_second}
 use Rattle.replay_steps.proofs.machine.Machine.is_relayed.Goals as goal
 
 pub returns-then-chosen-ne1 : goal.returns-then-chosen-ne1
-returns-then-chosen-ne1 c steps stands =
-    first_free steps c.args.bis (is_first steps c.chosen.result (c.chosen.ensures.source steps stands.sources) c.if-chosen-ne1.true)
+returns-then-chosen-ne1 c steps stands = rw (is_second steps _ _ (c.chosen.ensures.source steps stands.sources) (ne_eqb _ 1 c.if-chosen-ne1.true)) refl
 
 pub returns : goal.returns
 returns c steps stands =
-    second_had steps c.args.bis c.had_relay.result (is_second steps c.chosen.result (c.chosen.ensures.source steps stands.sources) c.if-chosen-ne1.false)
-    (c.had_relay.ensures (relay_histories steps) stands.relays)
+    rw (is_second steps _ _ (c.chosen.ensures.source steps stands.sources) (eq-eqb _ 1 c.if-chosen-ne1.false)) (c.had_relay.ensures (relay_histories steps) stands.relays)

@@ -1,10 +1,9 @@
-use Rattle.replay_steps.proofs.Prelude.{◌++◌, ◌∙◌, ap, refl, length, pdu_line}
-use Rattle.replay_steps.proofs.Airing.{sniff_early, sniff_fails, sniff_meets}
+use Rattle.replay_steps.proofs.Prelude.{◌++◌, ◌∙◌, ap, refl, pdu_line}
+use Rattle.replay_steps.proofs.Airing.{sniff_fails, sniff_meets}
 use Rattle.replay_steps.proofs.machine.Machine.sniff.Goals as goal
 
 pub returns-in_default : goal.returns-in_default
-returns-in_default c starts version steps stands e =
-    (sniff_early (length starts) version c.args.place.back c.args.place.bis c.args.place.subevent steps e (c.in_default.ensures steps stands.sources), stands, refl)
+returns-in_default c starts version steps stands e = (rw (e, c.in_default.ensures steps stands.sources) refl, stands, refl)
 
 pub returns-in-Ok-put_pdu : goal.returns-in-Ok-put_pdu
 returns-in-Ok-put_pdu c starts version steps stands e =
