@@ -28,8 +28,7 @@ module _ (airs : Airs) (starts ends : List Account) (left left' kept kept' : Opt
   -- whatever may be told of the listener, it may fail
   pub told_more : (may_fail : Bool) (ending : Ending) → Ended airs (as_told may_fail ending) starts ends left left' kept kept'
       → Ended airs (as_told true ending) starts ends left left' kept kept'
-  told_more false ending e = ended_told true ending e
-  told_more true ending e = e
+  told_more may_fail ending e = grind arith
 
   -- it failed
   pub failed_told : (may_fail : Bool) → may_fail ≡ true → Broken airs starts ends left left' kept kept'

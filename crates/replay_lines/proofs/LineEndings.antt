@@ -221,19 +221,11 @@ module _ (starts : List Account) (history : List TextLine) (line : TextLine) (le
 
     -- writing what comes before the unit was cut short
     fault_cut : AppendsShort mid kept' told → FaultCut airs_of starts after left left' kept kept'
-    fault_cut short = record {
-      earlier = history;
-      line = line;
-      comes = c;
-      accepted = (run.accepted, none);
-      accounts = before;
-      before = grind (arith, units_all, took_history);
-      told = told;
-      fails = f;
-      between = mid;
-      written = subst (λ xs. Appends kept mid xs) (sym (out_all starts history run.accepted)) run.written;
-      cut = short;
-    }
+    fault_cut short =
+        let accepted : Accepted (rules_of airs_of starts) (line ∷ history) = (run.accepted, none) in
+        let took : Took starts before (units_of airs_of starts (reverse history)) = grind (arith, units_all, took_history) in
+        let written : Appends kept mid (out_of airs_of starts (reverse history)) = rw (out_all starts history run.accepted) run.written in
+        search
 
     stopped : (ending : Ending) → Puts told mid kept' (Some ending) → Ended airs_of ending starts after left left' kept kept'
     stopped endings.WriteFault p = ends_write kept' after told part_told (inr (fault_cut p)) p

@@ -33,37 +33,23 @@ module _ (airs others : Airs) (same : Same airs others) (starts ends : List Acco
   fails_as earlier line text told before after accepted f = search (← same.handed starts, ← same.output starts, ← same.answered starts)
 
   failed_as : FaultCut airs starts ends left left' kept kept' → FaultCut others starts ends left left' kept kept'
-  failed_as d = record {
-    earlier = d.earlier;
-    line = d.line;
-    comes = d.comes;
-    accepted = same.accepted starts (d.line ∷ d.earlier) d.accepted;
-    accounts = d.accounts;
-    before = took_as starts d.accounts _ _ (same.units starts (reverse d.earlier)) d.before;
-    told = d.told;
-    fails = fails_as d.earlier d.line [] d.told d.accounts ends d.accepted d.fails;
-    between = d.between;
-    written = subst (λ octets. Appends kept d.between octets) (same.out starts (reverse d.earlier)) d.written;
-    cut = d.cut;
-  }
+  failed_as d =
+      let before = took_as starts d.accounts _ _ (same.units starts (reverse d.earlier)) d.before in
+      let accepted = same.accepted starts (d.line ∷ d.earlier) d.accepted in
+      let fails = fails_as d.earlier d.line [] d.told d.accounts ends d.accepted d.fails in
+      let written : Appends kept d.between (out_of others starts (reverse d.earlier)) = rw same.out at d.written in
+      search
 
   broken_as : Broken airs starts ends left left' kept kept' → Broken others starts ends left left' kept kept'
   broken_as d = grind (arith, brought_as, same.units, failed_as)
 
   outlet_fault_as : OutletFaulted airs starts ends left left' kept kept' → OutletFaulted others starts ends left left' kept kept'
-  outlet_fault_as d = record {
-    earlier = d.earlier;
-    line = d.line;
-    comes = d.comes;
-    ahead = d.ahead;
-    accepted = same.accepted starts (d.line ∷ d.earlier) d.accepted;
-    accounts = d.accounts;
-    before = took_as starts d.accounts _ _ (same.units starts (reverse d.earlier)) d.before;
-    told = d.told;
-    fails = fails_as d.earlier d.line (out_of others starts (reverse d.earlier)) d.told d.accounts ends d.accepted
-        (subst (λ text. LineFails airs starts d.earlier d.line text d.told d.accounts ends) (same.out starts (reverse d.earlier)) d.fails);
-    written = d.written;
-  }
+  outlet_fault_as d =
+      let before = took_as starts d.accounts _ _ (same.units starts (reverse d.earlier)) d.before in
+      let accepted = same.accepted starts (d.line ∷ d.earlier) d.accepted in
+      let fails =
+      fails_as d.earlier d.line (out_of others starts (reverse d.earlier)) d.told d.accounts ends d.accepted (rw same.out at d.fails) in
+      search
 
   cut_at_as : (line : ℕ) → CutAt airs starts ends left left' kept kept' line → CutAt others starts ends left left' kept kept' line
   cut_at_as line d = grind (arith, same.accepted, same.out, same.units)

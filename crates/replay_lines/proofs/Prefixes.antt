@@ -1,6 +1,6 @@
 -- What the whole lines of a prefix of a text bring is a prefix of what all lines bring.
 use Rattle.std.proofs.Common.{arith}
-use Rattle.replay_lines.proofs.Prelude.{◌≡◌, ℕ, ◌+◌, Bool, true, false, cond, eqb, leb, List, [], ◌∷◌, ◌++◌, length, refl, sym, ap, ◌∙◌, append_assoc, Option, None, Some, append-nil, MayFollow, TextLine, past, newline, text_limit, line_of, lines_of, Account, Rules, out, out_unless, accepted_of, accepted_unless, brought_by, Step, SinkUnit, handed_up, rules_of, steps_of, Airs, out_of, end_after, has_end, last_line_after, transcript_of, units_of, Refusal}
+use Rattle.replay_lines.proofs.Prelude.{◌≡◌, ℕ, ◌+◌, Bool, true, false, cond, List, [], ◌∷◌, ◌++◌, length, refl, sym, ap, ◌∙◌, append_assoc, Option, None, Some, append-nil, MayFollow, TextLine, lines_of, Account, Rules, out, out_unless, accepted_of, accepted_unless, brought_by, Step, SinkUnit, handed_up, rules_of, steps_of, Airs, out_of, end_after, has_end, last_line_after, transcript_of, units_of, Refusal}
 use Rattle.bcast_io.specs.TextLines.{lines_from}
 use Rattle.replay_lines.proofs.Endings.{units_rest}
 
@@ -23,14 +23,7 @@ lines_more : (taken : ℕ) (part prefix rest : List ℕ)
 unfolding lines_from
 lines_more taken part [] rest = (lines_from true taken part rest, refl)
 lines_more taken part (x ∷ prefix) rest =
-    let ended = lines_from true (taken + 1) [] (prefix ++ rest) in
-    let ended_prefix = lines_from false (taken + 1) [] prefix in
-    let going = lines_from true (taken + 1) (part ++ x ∷ []) (prefix ++ rest) in
-    let going_prefix = lines_from false (taken + 1) (part ++ x ∷ []) prefix in
-    prefix_of_either (leb text_limit taken) (past ∷ [])
-    (cond (eqb x newline) (line_of part ∷ ended) going) (cond (eqb x newline) (line_of part ∷ ended_prefix) going_prefix)
-    (prefix_of_line (eqb x newline) (line_of part) ended ended_prefix going going_prefix
-    (lines_more (taken + 1) [] prefix rest) (lines_more (taken + 1) (part ++ x ∷ []) prefix rest))
+    search (prefix_of_either, prefix_of_line, lines_more (taken + 1) [] prefix rest, lines_more (taken + 1) (part ++ x ∷ []) prefix rest)
 
 -- ---- octets and units
 
@@ -44,11 +37,7 @@ out_more rules history (line ∷ lines) later = by_refusal (rules.refusal histor
         → (rest : List ℕ) × (out_unless rules history why (rules.output history line ++ out rules (line ∷ history) (lines ++ later))
         ≡ out_unless rules history why (rules.output history line ++ out rules (line ∷ history) lines) ++ rest)
     by_refusal (Some reason) more = ([], sym (append-nil (rules.refused_line (length history + 1) reason)))
-    by_refusal None more = (
-      more.0,
-      ap (λ octets. rules.output history line ++ octets) more.1
-          ∙ sym (append_assoc (rules.output history line) (out rules (line ∷ history) lines) more.0),
-    )
+    by_refusal None more = (more.0, grind (arith, append_assoc))
 
 -- the steps of the lines that are accepted of these after a history
 abbrev steps_after : Airs → List Account → List TextLine → List TextLine → List Step

@@ -26,22 +26,7 @@ module _ (airs : Airs) (starts ends : List Account) (text : List ℕ) (left kept
       (at.0, ap (lines_of true) rest.1 ∙ at.1)
 
   fault_in : FaultCut airs starts ends (Some text) left kept kept' → FaultCutIn airs starts ends kept kept' (lines_of true text)
-  fault_in cut =
-      let at = line_in cut.earlier cut.line cut.comes in
-      record {
-        earlier = cut.earlier;
-        line = cut.line;
-        later = at.0;
-        comes = at.1;
-        accepted = cut.accepted;
-        accounts = cut.accounts;
-        before = cut.before;
-        told = cut.told;
-        fails = cut.fails;
-        between = cut.between;
-        written = cut.written;
-        cut = cut.cut;
-      }
+  fault_in cut = let at = line_in cut.earlier cut.line cut.comes in search
 
 module _ (old new : World) (text : List ℕ) (document : DocumentIs old.left new.left (stands_for text)) (left : Option (List ℕ)) where
   done_in : (airs : Airs) → Done airs old.boxes new.boxes (Some text) left old.taken new.taken

@@ -1,31 +1,23 @@
 -- What is promised where a document wasn't read, and of the laws.
-use Rattle.replay_lines.proofs.Prelude.{◌≡◌, ℕ, ◌+◌, true, List, refl, Option, Ok, arith, Rose, ReadPrefix, document_limit, Promised, World, Ending, lines_of, AppendsPrefix, AppendsPrefix-nothing, MeetAirs, Airs, none_counts, DocumentLaws, FromToml, Standing, refused_for, stands_for, transcript_over}
+use Rattle.replay_lines.proofs.Prelude.{Account, None, ◌≡◌, ℕ, ◌+◌, true, List, refl, Option, Ok, arith, Rose, ReadPrefix, document_limit, Promised, World, Ending, lines_of, AppendsPrefix, AppendsPrefix-nothing, MeetAirs, Airs, none_counts, DocumentLaws, FromToml, Standing, refused_for, stands_for, transcript_over}
 use Rattle.replay_lines.specs.declared.ending.Ending.TheVariants as endings
 use Rattle.replay_lines.specs.FromToml.{Unread}
 use Rattle.replay_lines.proofs.Endings.{keeps_same}
 
 -- the laws that are promised of every run
 pub laws_of : (old new : World) (ending : Ending) → Promised old new ending → DocumentLaws old.boxes
-laws_of old new ending p = record {
-  some_airs = p.some_airs;
-  one_transcript = one_over;
-  units_law = p.units_law;
-  order_law = p.order_law;
-  moment_law = p.moment_law;
-  in_time_law = p.in_time_law;
-  hearing_law = p.hearing_law;
-  agreement_law = p.agreement_law;
-  links_law = p.links_law;
-  migration_law = p.migration_law;
-  isolation_law = p.isolation_law;
-  relay_law = p.relay_law;
-  relayed_units_law = p.relayed_units_law;
-}
+laws_of old new ending p = assumption one_over
   where
     one_over : (airs others : Airs) → MeetAirs airs → MeetAirs others → (standing : Standing)
         → transcript_over airs old.boxes standing ≡ transcript_over others old.boxes standing
     one_over airs others meets meet_too (refused_for cause) = refl
     one_over airs others meets meet_too (stands_for text) = p.one_transcript airs others meets meet_too (lines_of true text)
+
+-- so of every document
+pub laws_at : ((old : World) → Promised old old endings.Memory) → (boxes : List Account) → DocumentLaws boxes
+laws_at promised boxes =
+    let old : World = record { left = None; reads = 0; taken = None; writes = 0; boxes = boxes } in laws_of old old endings.Memory
+        (promised old)
 
 -- nothing was put
 pub nothing_put : (kept : Option (List ℕ)) (octets : List ℕ) → AppendsPrefix kept kept octets
