@@ -41,9 +41,6 @@ abbrev pub IsOn : List Step → BigSync → Type 0
 IsOn own big_sync =
     IsOnGroup (base_of own) (checked_info own) (next_of (setup_of own) (source_calls own)) (next_anchor_of (setup_of own) (source_calls own)) big_sync
 
-same_tuning : (own : List Step) (big_sync : BigSync) → Settled own → Tellable own → IsOn own big_sync → by_numbers big_sync ≡ big_sync_on own big_sync.which
-same_tuning own big_sync is tells on = grind (arith, unwrap_or, group_of, no_group, subgroups_of)
-
 -- the train synchronizes the sink to the BIG of the source
 pub announced_on : Announcing → (airs : Airs) (boxes n : ℕ) (earlier : List Step) (made : Settings) (big_sync : BigSync)
     → Legal airs boxes earlier → Permitted airs boxes earlier (Step.Announce n)
@@ -66,8 +63,8 @@ pub announced_tuning : Announcing → (airs : Airs) (boxes n : ℕ) (earlier : L
     → by_numbers big_sync ≡ big_sync_on (chosen_steps earlier) big_sync.which
 announced_tuning laws airs boxes n earlier made big_sync legal permits is =
     let legal_own : Lawful airs (chosen_steps earlier) = lawful airs boxes (chosen_of earlier) earlier legal in
-    same_tuning (chosen_steps earlier) big_sync (settled airs (chosen_steps earlier) legal_own) (tellable airs (chosen_steps earlier) legal_own)
-    (announced_on laws airs boxes n earlier made big_sync legal permits is)
+    grind (arith, unwrap_or, group_of, no_group, subgroups_of, (settled airs (chosen_steps earlier) legal_own), (tellable airs
+    (chosen_steps earlier) legal_own), (announced_on laws airs boxes n earlier made big_sync legal permits is))
 
 pub announced_within : Announcing → (airs : Airs) (boxes n : ℕ) (earlier : List Step) (made : Settings) (big_sync : BigSync)
     → Legal airs boxes earlier → Permitted airs boxes earlier (Step.Announce n)
@@ -86,14 +83,12 @@ none_of : (test in_set : ℕ → Bool) (xs : List ℕ) → ((x : ℕ) → in_set
 none_of test in_set [] none = refl
 none_of test in_set (x ∷ xs) none = kept test x (filter in_set xs) (in_set x) (none x) (none_of test in_set xs none)
 
-above_out : (num_bis which bis : ℕ) → which < 2 ^ num_bis → num_bis < bis → is_in which bis ≡ true → ⊥
-above_out num_bis which bis small above in_set = grind (arith, pow-le-pow_right, div-eq_of_lt, false≢true)
-
 none_beyond : (num_bis which : ℕ) → which < 2 ^ num_bis → has_beyond num_bis which ≡ false
 unfolding has_beyond
 none_beyond num_bis which small =
     none_of (λ bis. ltb num_bis bis) (is_in which) (range_with_len 1 31)
-    (λ bis in_set. elim (cases_Bool (ltb num_bis bis)) [ inl above ↦ absurd (above_out num_bis which bis small (ltb-true num_bis bis above) in_set) | inr within ↦ within ])
+    (λ bis in_set. elim (cases_Bool (ltb num_bis bis)) [ inl above ↦ absurd (grind (arith, pow-le-pow_right, div-eq_of_lt, false≢true,
+    (ltb-true num_bis bis above))) | inr within ↦ within ])
 
 -- ---- as by hand
 

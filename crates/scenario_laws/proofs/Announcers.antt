@@ -43,9 +43,6 @@ plain_fits n most = record {
   entries = entries_fit (is_lc3 lc3) 1 n (omega arith) (omega (arith, most));
 }
 
-plain_is_base : (delay n : ℕ) → delay < 2 ^ 24 → 1 ≤ n → n ≤ 31 → IsBase (plain_base_of delay n)
-plain_is_base delay n width least most = search (length-map-range_with_len, plain_fits, append-nil, all_new, ltb-false, plain_is_small)
-
 -- ---- the BASE of lines
 
 finishes : (last : Bool) (octets : ℕ) → last ≡ false → ltb 252 octets ≡ false → size_fault (cond last (Some DraftFault.NoBis) None) octets ≡ None
@@ -54,7 +51,8 @@ finishes last octets some short = cc (some, short)
 pub is_base : (group : GroupLine) (subgroups : List Subgroup) → group.delay < 2 ^ 24 → 1 ≤ group.info.num_bis → group.info.num_bis ≤ 31
     → IsDraft (endpoint group.delay subgroups) → is_empty_last (last_of subgroups) ≡ false → ltb 252 (length (encoding (base_from group subgroups))) ≡ false
     → IsBase (base_from group subgroups)
-is_base group [] width least most draft some short = plain_is_base group.delay group.info.num_bis width least most
+is_base group [] width least most draft some short =
+    search (length-map-range_with_len, plain_fits, append-nil, all_new, ltb-false, plain_is_small)
 is_base group (subgroup ∷ others) width least most draft some short =
     draft_done (endpoint group.delay (subgroup ∷ others)) draft (sym (finish_is (endpoint group.delay (subgroup ∷ others)))
     ∙ finishes (is_empty_last (last_of (subgroup ∷ others))) (length (encoding (endpoint group.delay (subgroup ∷ others)))) some short)
@@ -94,24 +92,18 @@ opens_next own codec config before ranged full delay width =
     with_subgroup_keeps delay codec config (subgroups_of own) (subgroups_of own ++ opened codec config ∷ []) (Ok tt) (before.draft delay width) ranged.0
     (λ reads. are_read config ranged.4 ranged.2) refl tt (full_then (is_last_bare own) full)
 
-some_there : (subgroups : List Subgroup) → not (is_some (last_of subgroups)) ≡ false → Refuses (metadata_fault subgroups) (Ok tt)
-some_there subgroups is = grind (arith, false≢true)
-
 describes_next : (own : List Step) (metadata : List ℕ) → Tellable own → IsInRange (Step.Meta metadata) → not (has_subgroup own) ≡ false
     → (delay : ℕ) → delay < 2 ^ 24 → IsDraft (endpoint delay (subgroups_of (Step.Meta metadata ∷ own)))
 describes_next own metadata before ranged some delay width =
     with_metadata_keeps delay metadata (subgroups_of own) (subgroups_of (Step.Meta metadata ∷ own)) (Ok tt) (before.draft delay width) (are_read metadata ranged.2 ranged.1)
-    (describes_last metadata (base_lines own)) tt (some_there (subgroups_of own) some)
-
-new_there : (subgroups : List Subgroup) (bis : ℕ) → not (is_some (last_of subgroups)) ≡ false → stands_in (indices subgroups) bis ≡ false → Refuses (entry_fault subgroups bis) (Ok tt)
-new_there subgroups bis is none = grind (arith, false≢true)
+    (describes_last metadata (base_lines own)) tt (grind (arith, false≢true))
 
 adds_next : (own : List Step) (bis : ℕ) (config : List ℕ) → Tellable own → IsInRange (Step.Bis bis config) → not (has_subgroup own) ≡ false → has_bis own bis ≡ false
     → (delay : ℕ) → delay < 2 ^ 24 → IsDraft (endpoint delay (subgroups_of (Step.Bis bis config ∷ own)))
 adds_next own bis config before ranged some none delay width =
     with_entry_keeps delay (record { bis = bis; config = config }) (subgroups_of own) (subgroups_of (Step.Bis bis config ∷ own)) (Ok tt) (before.draft delay width)
     (λ last is reads. are_read config ranged.2 ranged.1) (ranged.3, ranged.4)
-    (adds_to_last (record { bis = bis; config = config }) (base_lines own)) tt (new_there (subgroups_of own) bis some none)
+    (adds_to_last (record { bis = bis; config = config }) (base_lines own)) tt (grind (arith, false≢true))
 
 -- ---- each line
 
@@ -144,9 +136,6 @@ tellable airs (step ∷ own) lawful = tellable_after airs own step (tellable air
 
 -- ---- what it announces
 
-widths_with : (info : BigInfo) (cipher : Option Cipher) → FitsWidths info → FitsWidths (with_cipher info cipher)
-widths_with info cipher widths = assumption
-
 no_train_end : (fault : Option AnnounceFault) → train_ends fault ≡ None → fault ≡ None
 no_train_end fault none = grind (arith, none-some)
 
@@ -164,7 +153,7 @@ may_announce airs own lawful is_its none =
       three = tells.three;
       base_is = is_base (group_line own) (subgroups_of own) tells.delay (bounds_in own is started).num_bis (omega (arith, is.widths.num_bis))
           (tells.draft (group_line own).delay tells.delay) (tells.full started) (tells.short started);
-      widths = widths_with (group_line own).info (cipher_of own) is.widths;
+      widths = assumption;
       cipher = tells.cipher;
       count = grind (arith, leb-false, next_of, setup_of, source_calls, counts, leb, no_train_end, announce_fault);
       late = omega (arith, origin);

@@ -1,5 +1,5 @@
 -- The events of a source that a sink closes rise, over all its stays with the source.
-use Rattle.scenario_laws.proofs.Known.Sources.{ℕ, zero, suc, ◌≡◌, ◌≢◌, ◌<◌, ◌≤◌, ◌+◌, ◌==◌, cond, not, Bool, true, false, List, [], ◌∷◌, ◌++◌, map, Option, None, Some, refl, sym, ap, subst, arith, inl, inr, IsStrictlyIncreasing, cases_Bool, eq-eqb, eqb-true, eqb-false, false≢true, leb-true, or_parts, none-some, same_Some, Call, tune, hear, BigSync, Step, chosen_of, chosen_steps, is_over, steps_of_source, event_back, is_sending, open_event, pdu_in, performed, Airs, heard_on_air, is_of, reaches, sink_calls, source_of, positions_of, ticked, unless_lost, big_sync_on, Closed, closed_by, closed_since, any_since, given_since_made, is_given, is_made, is_tuned, place, closes, closed_if, Legal, Permitted, permitted, StaysBy, announced, given_stays, plain_stays, next_in, next_rises, air_place, end_ticks, event_ticks, is_its}
+use Rattle.scenario_laws.proofs.Known.Sources.{ℕ, zero, suc, ◌≡◌, ◌≢◌, ◌<◌, ◌≤◌, ◌+◌, ◌==◌, cond, not, Bool, true, false, List, [], ◌∷◌, ◌++◌, map, Option, None, Some, refl, sym, ap, subst, arith, inl, inr, IsStrictlyIncreasing, cases_Bool, eq-eqb, eqb-true, eqb-false, false≢true, leb-true, or_parts, none-some, same_Some, Call, tune, hear, BigSync, Step, chosen_of, chosen_steps, is_over, steps_of_source, event_back, is_sending, open_event, performed, Airs, heard_on_air, is_of, reaches, sink_calls, source_of, positions_of, ticked, unless_lost, big_sync_on, Closed, closed_by, closed_since, any_since, given_since_made, is_given, is_made, is_tuned, place, closes, closed_if, Legal, Permitted, permitted, StaysBy, announced, given_stays, plain_stays, next_in, next_rises, air_place, end_ticks, event_ticks, is_its}
 use Rattle.scenario_laws.proofs.Announced.{Announcing, as_by_hand}
 use Rattle.scenario_laws.proofs.Stays.{IsOn, begins_calls, begins_next, last_not, on_before, rest_not}
 use Rattle.delegator_machine.specs.Groups as machine
@@ -185,10 +185,6 @@ moved laws airs boxes s n step earlier legal ungiven least within = search (move
 pub made_nothing : (airs : Airs) (n : ℕ) (step : Step) (earlier : List Step) → is_made n earlier step ≡ true → sink_calls airs n (step ∷ earlier) ≡ []
 made_nothing airs n step earlier made = grind (arith, false≢true)
 
-closing_anew : (airs : Airs) (s n : ℕ) (step : Step) (earlier : List Step) → is_made n earlier step ≡ true → Closing airs s n (step ∷ earlier)
-closing_anew airs s n step earlier made =
-    grind (arith, next_in, steps_of_source, none_prefix, sink_calls, made_nothing, map, cond, closed_since, closed_by)
-
 climbs_further : (again : Bool) (before now : List Closed) (low high : ℕ) → again ≡ false → Climb 0 (map event_of before) low → Climb low (map event_of now) high
     → Climb 0 (map event_of (cond again [] (before ++ now))) high
 climbs_further again before now low high on first rest = grind (arith, false≢true, map_on, climb_on)
@@ -205,7 +201,7 @@ closing_on laws airs boxes s n step earlier legal ungiven least on before =
 pub closing : Announcing → (airs : Airs) (boxes s n : ℕ) (made : List Step) → Legal airs boxes made → given_since_made n made ≡ false → s ≤ 1 → Closing airs s n made
 closing laws airs boxes s n [] legal ungiven least = record { rise = omega arith; within = omega arith }
 closing laws airs boxes s n (step ∷ earlier) legal ungiven least = elim (cases_Bool (is_made n earlier step)) [
-  | inl again ↦ closing_anew airs s n step earlier again
+  | inl again ↦ grind (arith, next_in, steps_of_source, none_prefix, sink_calls, made_nothing, map, cond, closed_since, closed_by)
   | inr on ↦
       closing_on laws airs boxes s n step earlier legal (last_not (is_made n earlier step) (is_given n step) (given_since_made n earlier) ungiven) least on
       (closing laws airs boxes s n earlier legal.0 (rest_not (is_made n earlier step) (is_given n step) (given_since_made n earlier) ungiven on) least)

@@ -11,19 +11,11 @@ gone_housed gone box calls before none = grind arith
 is_none : (box : Option ℕ) → is_some box ≡ true → box ≡ None → ⊥
 is_none box has none = grind (arith, false≢true, none-some)
 
-made_as : (gone : Bool) (box : Option ℕ) (made : Option Settings) → (box ≡ None → made ≡ None) → cond gone None box ≡ None
-    → cond gone None made ≡ None
-made_as gone box made before none = grind arith
-
-made_anew : (again : Bool) (count : ℕ) (anew : Settings) (box : Option ℕ) (made : Option Settings) → (box ≡ None → made ≡ None)
-    → cond again (Some count) box ≡ None → cond again (Some anew) made ≡ None
-made_anew again count anew box made before none = grind (arith, none-some)
-
 -- a sink without a box doesn't live
 unmade : (n : ℕ) (made : List Step) → box_of n made ≡ None → made_of n made ≡ None
 unmade n [] none = refl
-unmade n (Step.Sink sink streams slots mtu ∷ earlier) none = made_anew (sink == n) (sinks_made earlier) _ (box_of n earlier) (made_of n earlier) (unmade n earlier) none
-unmade n (Step.Drop sink ∷ earlier) none = made_as (sink == n) (box_of n earlier) (made_of n earlier) (unmade n earlier) none
+unmade n (Step.Sink sink streams slots mtu ∷ earlier) none = grind (arith, none-some, (unmade n earlier))
+unmade n (Step.Drop sink ∷ earlier) none = grind (arith, (unmade n earlier))
 unmade n (_ ∷ earlier) none = unmade n earlier none
 
 has_box : (sink : ℕ) (earlier : List Step) → no_sink sink earlier ≡ None → is_some (box_of sink earlier) ≡ true

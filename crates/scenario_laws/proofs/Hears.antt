@@ -79,10 +79,6 @@ pub record OnAir (own : List Step) (back bis subevent : ℕ) : Type 0 where
   pub subevent_below : subevent < (setup_of own).info.nse
   pub performed_then : back < performed own
 
-pub on_air : (own : List Step) (back bis subevent : ℕ) → no_place own back bis subevent ≡ None → OnAir own back bis subevent
-on_air own back bis subevent none =
-    grind (arith, air_fault, setup_of, source_calls, maps_none, air_refusal, none-some, ltb, leb, events, ltb-false, leb-false)
-
 -- ---- step by step
 
 -- what reaches a sink is of its source
@@ -111,7 +107,8 @@ own_after : (airs : Airs) (laid : ℕ → Content) (tuning : BigSync) (boxes s n
 own_after airs laid tuning boxes s n bis (Step.Tuned sink which) earlier injected permits least there clean ready =
     put_own laid tuning bis (sink == n) injected (big_sync_on (chosen_steps earlier) which) (sink_calls airs n earlier) clean (λ none. (ready none).all)
 own_after airs laid tuning boxes s n bis (Step.Hear sink back stream subevent) earlier injected permits least there clean ready =
-    let at : OnAir (chosen_steps earlier) back stream subevent = on_air (chosen_steps earlier) back stream subevent permits.by_source in
+    let at : OnAir (chosen_steps earlier) back stream subevent = grind (arith, air_fault, setup_of, source_calls, maps_none, air_refusal,
+    none-some, ltb, leb, events, ltb-false, leb-false) in
     mine_own laid tuning bis (reaches sink n earlier) _ (sink_calls airs n earlier) (ready clean).all
     (λ mine. let now = sent_by airs laid tuning bis s n sink earlier (sink_calls airs n earlier) there mine (ready clean) in
     hear_own laid tuning bis (event_back (chosen_steps earlier) back) stream subevent _ (sink_calls airs n earlier) now.all

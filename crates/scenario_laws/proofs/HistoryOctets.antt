@@ -1,5 +1,5 @@
 -- The history of a sink of any lines: what its links write is octets, and it has at most eight slots.
-use Rattle.scenario_laws.proofs.Known.Sources.Steps.Prelude.{ℕ, zero, suc, ◌≡◌, ◌<◌, ◌==◌, cond, Bool, List, [], ◌∷◌, Option, Some, arith, AllByRecursion, append-nil, none-some, TextLine, encoding, born, repeated, AreOctets, IsAsked, Step, IsInRange, Settings, World, history_of, calls_after, calls_at, made_by, made_of, named_by, a_step, nothing, unsaid, with_said, LinkCall as Call, nil_octets, cons_octets, Said, said_of}
+use Rattle.scenario_laws.proofs.Known.Sources.Steps.Prelude.{ℕ, zero, suc, ◌≡◌, ◌<◌, ◌==◌, cond, Bool, List, [], ◌∷◌, Option, Some, arith, AllByRecursion, append-nil, none-some, TextLine, encoding, born, repeated, AreOctets, IsAsked, Step, IsInRange, Settings, World, history_of, calls_after, calls_at, made_by, made_of, named_by, a_step, with_said, LinkCall as Call, nil_octets, cons_octets, Said, said_of}
 use Rattle.bcast_base.specs.Encoding.{IsOctets}
 use Rattle.scenario_laws.proofs.Legals.{InRange, LinesInRange, in_range}
 use Rattle.bass_operations.specs.declared.operation.Operation.TheVariants as operations
@@ -33,9 +33,6 @@ few_slots n (step ∷ earlier) ranged = few_by n step earlier (made_of n earlier
 octets_if : (is_its : Bool) (here there : List Call) → AreOctets here → AreOctets there → AreOctets (cond is_its here there)
 octets_if is_its here there first second = grind arith
 
-octets_born : (mtu : Option ℕ) → AreOctets (born mtu)
-octets_born mtu = grind arith
-
 repeats : (count : ℕ) (call : Call) (calls : List Call) → IsAsked call → AreOctets calls → AreOctets (repeated count call calls)
 repeats zero call calls is before = before
 repeats (suc count) call calls is before = (is, repeats count call calls is before)
@@ -46,14 +43,11 @@ remove_octets source_id small = cons_octets 5 (source_id ∷ []) (omega arith) (
 code_octets : (source_id : ℕ) (code : List ℕ) → source_id < 256 → IsOctets code → IsOctets (encoding (operations.Code source_id code))
 code_octets source_id code small octets = grind (arith, cons_octets, append-nil)
 
-octets_at : (world : World) (n : ℕ) (named : Option ℕ) (step : Step) (earlier : List Step) (made : Option Settings) (calls : List Call)
-    → IsInRange step → AreOctets calls → AreOctets (calls_at world n named step earlier made calls)
-octets_at world n named step earlier made calls ranged before = grind (arith, octets_if, remove_octets, code_octets, repeats)
-
 octets_called : (world : World) (n : ℕ) (step : Step) (earlier : List Step) (made : Option Settings) (calls : List Call) → IsInRange step
     → AreOctets calls → AreOctets (calls_after world n step earlier made calls)
-octets_called world n (Step.Sink sink streams slots mtu) earlier made calls ranged before = octets_if (sink == n) (born mtu) calls (octets_born mtu) before
-octets_called world n step earlier made calls ranged before = octets_at world n (named_by step) step earlier made calls ranged before
+octets_called world n (Step.Sink sink streams slots mtu) earlier made calls ranged before = octets_if (sink == n) (born mtu) calls
+    (grind arith) before
+octets_called world n step earlier made calls ranged before = grind (arith, octets_if, remove_octets, code_octets, repeats)
 
 pub history_octets : (world : World) (n : ℕ) (steps : List Step) → Ranged steps → AreOctets (history_of world n steps)
 history_octets world n [] ranged = tt

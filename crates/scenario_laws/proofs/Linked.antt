@@ -20,12 +20,9 @@ links_agree in_range laws airs lines n link slot made is below plain =
 
 -- ---- links other than 0
 
-not_by : (is_there : Bool) (given : Option Bool) → unwrap_or given false ≡ false → unwrap_or (option_or (cond is_there (Some false) None) given) false ≡ false
-not_by is_there given before = grind arith
-
 not_forged : (link : ℕ) (calls : List Call) → link ≢ 0 → is_forged link calls ≡ false
 not_forged link [] other = refl
-not_forged link (Call.joined at ∷ earlier) other = not_by (at == link) (last_given (forging_by link) earlier) (not_forged link earlier other)
+not_forged link (Call.joined at ∷ earlier) other = grind (arith, (not_forged link earlier other))
 not_forged link (Call.forged slot octets ∷ earlier) other = cc (ne_eqb link 0 other, not_forged link earlier other)
 not_forged link (call ∷ earlier) other = not_forged link earlier other
 

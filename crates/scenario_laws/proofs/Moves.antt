@@ -76,10 +76,6 @@ heard_at : (setup : Setup) (snapshot : Snapshot) (train : Train) (slot : Option 
     → by_slot setup snapshot train slot ≡ heard other answer encrypted → has_group snapshot.place ≡ false
 heard_at setup snapshot train slot other answer encrypted is = grind arith
 
-heard_by : (setup : Setup) (snapshot : Snapshot) (train : Train) (id : Option (List ℕ)) (other : ℕ) (answer : TrainHeard) (encrypted : Option Bool)
-    → by_broadcast_id setup snapshot train id ≡ heard other answer encrypted → has_group snapshot.place ≡ false
-heard_by setup snapshot train id other answer encrypted is = grind (arith, heard_at)
-
 -- what the source of a line announces synchronizes a sink, of this history, to this BIG
 pub record BroughtTo (source : Source) (lives : List LinkCall) (big_sync : BigSync) : Type 0 where
   pub made : Settings
@@ -91,7 +87,7 @@ by_train : (source : Source) (lives : List LinkCall) (made : Settings) (later : 
     its_source (cond (follows brought) (Some source.number) its_source)
 by_train source lives made later calls its_source nowhere (ignored answer) is = grind (arith, left_or_not, has_group, snapshot_in)
 by_train source lives made later calls its_source nowhere (heard slot answer encrypted) is =
-    let off : has_group (snapshot_in made lives).place ≡ false = heard_by made.setup (snapshot_in made lives) (own_train source) _ slot answer encrypted is in
+    let off : has_group (snapshot_in made lives).place ≡ false = grind (arith, heard_at) in
     inr (inl (assumption (ap (λ was. with_leave was (has_group later.place) calls) off, nowhere off)))
 by_train source lives made later calls its_source nowhere (taken slot bits encrypted big_sync) is =
     inr (inr (record { big_sync = big_sync; brings = record { made = made; is = ap big_sync_in is }; calls_is = refl; source_is = refl; begins_is = refl }))
@@ -102,10 +98,6 @@ by_made : (source : Source) (n : ℕ) (here there : List LinkCall) (made : Optio
     its_source (source_by source (Step.Announce n) made here its_source)
 by_made source n here there None calls its_source nowhere = inl (record { left = inl refl; same = refl; begins_not = refl })
 by_made source n here there (Some made) calls its_source nowhere = search (by_train, nowhere)
-
-went_if : (Brings : BigSync → Type 0) (chosen : ℕ) (hit begins : Bool) (calls more : List Call) (source new : Option ℕ) → Went Brings chosen begins calls more source new
-    → Went (λ big_sync. (hit ≡ true) × Brings big_sync) chosen (hit && begins) calls (cond hit more calls) source (cond hit new source)
-went_if x1 chosen hit begins calls more source new went = grind (arith, follows)
 
 -- `announce` names the sink of this number, and synchronizes it to this BIG
 abbrev pub Brings : ℕ → ℕ → List Step → BigSync → Type 0
@@ -123,8 +115,5 @@ FollowsBy airs n sink earlier =
 
 pub announced : (airs : Airs) (n sink : ℕ) (earlier : List Step) → StaysBy airs n (Step.Announce sink) earlier ⊎ (FollowsBy airs n sink earlier ⊎ PutBy airs n sink earlier)
 announced airs n sink earlier =
-    went_if (BroughtTo (source_at earlier) (calls_made n earlier)) (chosen_of earlier) (sink == n) (brings_by (source_at earlier) (Step.Announce sink) (made_of n earlier) (calls_made n earlier))
-    (sink_calls airs n earlier)
-    (received_by (source_at earlier) (Step.Announce sink) (made_of n earlier) (calls_made n earlier) (calls_made n (Step.Announce sink ∷ earlier)) (sink_calls airs n earlier))
-    (source_of n earlier) (source_by (source_at earlier) (Step.Announce sink) (made_of n earlier) (calls_made n earlier) (source_of n earlier))
-    (by_made (source_at earlier) sink (calls_made n earlier) (calls_made n (Step.Announce sink ∷ earlier)) (made_of n earlier) (sink_calls airs n earlier) (source_of n earlier) (nowhere airs n earlier))
+    grind (arith, follows, (by_made (source_at earlier) sink (calls_made n earlier) (calls_made n (Step.Announce sink ∷ earlier))
+    (made_of n earlier) (sink_calls airs n earlier) (source_of n earlier) (nowhere airs n earlier)))

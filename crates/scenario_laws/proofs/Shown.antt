@@ -98,13 +98,9 @@ event_zip below setup bis event calls (Some tuning) is on plain least within = e
 
 -- ---- step by step
 
-open_zip : Below → (setup : Setup) (bis : ℕ) (calls : List Call) (last_open : Option ℕ) → ((tuning : BigSync) → place calls ≡ Some tuning → TunedTo setup tuning)
-    → setup.info.framing ≡ 0 → 1 ≤ bis → bis ≤ 31 → AllZip (IsOfSlot setup bis) (slots_closed setup bis (closed_at calls last_open)) (of_stream bis (handed_open calls last_open))
-open_zip below setup bis calls last_open on plain least within = grind (arith, event_zip)
-
 with_zip : Below → (setup : Setup) (bis : ℕ) (calls : List Call) (last_open : Option ℕ) (mine : Bool) → (mine ≡ true → (tuning : BigSync) → place calls ≡ Some tuning → TunedTo setup tuning)
     → setup.info.framing ≡ 0 → 1 ≤ bis → bis ≤ 31 → AllZip (IsOfSlot setup bis) (slots_closed setup bis (closed_if mine calls last_open)) (of_stream bis (shown_if mine calls last_open))
-with_zip below setup bis calls last_open true on plain least within = open_zip below setup bis calls last_open (on refl) plain least within
+with_zip below setup bis calls last_open true on plain least within = grind (arith, event_zip, (on refl))
 with_zip below setup bis calls last_open false on plain least within = tt
 
 zip_if : (setup : Setup) (bis : ℕ) (its : Bool) (closed : List Closed) (units : List Handed) → AllZip (IsOfSlot setup bis) (slots_closed setup bis closed) (of_stream bis units)

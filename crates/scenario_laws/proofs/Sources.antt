@@ -48,9 +48,6 @@ abbrev pub Lawful : Airs → List Step → Type 0
 Lawful airs [] = Unit {0}
 Lawful airs (step ∷ own) = Lawful airs own × Allowed airs own step
 
-common_allowed : (airs : Airs) (own : List Step) (step : Step) → is_common step ≡ true → is_misplaced (stage_of own) step ≡ false → IsInRange step → Allowed airs own step
-common_allowed airs own step common placed ranged = grind (arith, false≢true)
-
 of_source_parts : (a b c : Bool) → (a || (b && c)) ≡ true → (a ≡ true) ⊎ (c ≡ true)
 of_source_parts a b c is = grind (arith, false≢true)
 
@@ -59,18 +56,15 @@ pub its_step : (airs : Airs) (boxes s : ℕ) (earlier : List Step) (step : Step)
 its_step airs boxes s earlier step permits ranged is =
     let placed : (t : ℕ) → is_misplaced (stage_of (steps_of_source t earlier)) step ≡ false = λ t. ap (λ stage. is_misplaced stage step) (stage_same t earlier) ∙ permits.in_place in
     elim (of_source_parts (is_common step) (is_source_line step) (chosen_of earlier == s) is) [
-      | inl common ↦ common_allowed airs (steps_of_source s earlier) step common (placed s) ranged
+      | inl common ↦ grind (arith, false≢true, (placed s))
       | inr chosen ↦ grind (arith, steps_of_source, eqb-true, chosen_of, version_of)
     ]
-
-lawful_if : (airs : Airs) (own : List Step) (step : Step) (is_its : Bool) → Lawful airs own → (is_its ≡ true → Allowed airs own step) → Lawful airs (cond is_its (step ∷ own) own)
-lawful_if airs own this is_its before allows = grind arith
 
 pub lawful : (airs : Airs) (boxes s : ℕ) (made : List Step) → Legal airs boxes made → Lawful airs (steps_of_source s made)
 lawful airs boxes s [] legal = tt
 lawful airs boxes s (step ∷ earlier) legal =
-    lawful_if airs (steps_of_source s earlier) step (is_of_source s earlier step) (lawful airs boxes s earlier legal.0)
-    (its_step airs boxes s earlier step (permitted airs boxes earlier step legal.1) legal.2)
+    grind (arith, (lawful airs boxes s earlier legal.0), (its_step airs boxes s earlier step
+    (permitted airs boxes earlier step legal.1) legal.2))
 
 pub horizon_greatest : (second : Bool) → cond second 31 15 ≤ 31
 horizon_greatest second = grind arith
@@ -146,10 +140,7 @@ bounds_in own is started = bounds_of (setup_of own).info (is.no_fault started)
 pub no_end : (fault : Option EventFault) → counter_ends fault ≡ None → fault ≡ None
 no_end fault none = grind (arith, none-some)
 
-accepted_after : (airs : Airs) (own : List Step) (step : Step) → Settled own → Allowed airs own step → AreAccepted airs (setup_of own) (source_calls own)
-    → AreAccepted airs (setup_of (step ∷ own)) (source_calls (step ∷ own))
-accepted_after airs own step is allows before = grind (arith, no_group_yet, not_yet, maps_none, no_end, begins)
-
 pub are_accepted : (airs : Airs) (own : List Step) → Lawful airs own → AreAccepted airs (setup_of own) (source_calls own)
 are_accepted airs [] legal = tt
-are_accepted airs (step ∷ own) legal = accepted_after airs own step (settled airs own legal.0) legal.1 (are_accepted airs own legal.0)
+are_accepted airs (step ∷ own) legal =
+    grind (arith, no_group_yet, not_yet, maps_none, no_end, begins, (settled airs own legal.0), (are_accepted airs own legal.0))

@@ -39,9 +39,6 @@ found_last test (fault ∷ all) last is others =
     let more = found_last test all last here.1 others.1 in
     ((here.0, more.0), more.1)
 
-it_holds : (holds : Bool) (last : GroupFault) → cond holds (Some last) None ≡ Some last → holds ≡ true
-it_holds holds last is = grind (arith, none-some)
-
 before_last : (test : GroupFault → Bool) → AllByRecursion (λ fault. test fault ≡ false) but_last → (other : GroupFault) → number_of other < number_of GroupFault.Encrypted → test other ≡ false
 before_last test all other below = grind arith
 
@@ -53,7 +50,7 @@ first_encrypted greatest info is =
       differs GroupFault.RangeIso (omega arith),
       grind (arith, differs),
     ) in
-    record { holds = it_holds (test GroupFault.Encrypted) GroupFault.Encrypted found.1; none_before = before_last test found.0 }
+    record { holds = grind (arith, none-some); none_before = before_last test found.0 }
 
 pub may_be_sent : (greatest : ℕ) (info : BigInfo) (cipher : Option Cipher) (found : Option GroupFault) → first_fault greatest (with_cipher info cipher) ≡ found
     → group_refusal found ≡ None → NoFault greatest (without_cipher info)

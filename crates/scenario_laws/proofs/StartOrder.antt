@@ -1,5 +1,5 @@
 -- The entries that a stay on a framed stream decides, each of a start that was heard in it, in the order of these starts.
-use Rattle.scenario_laws.proofs.Known.{ℕ, zero, suc, ◌≡◌, ◌<◌, ◌≤◌, ◌+◌, ◌-◌, ◌*◌, ◌/◌, Bool, List, [], ◌∷◌, ◌++◌, map, Option, Some, None, refl, sym, ◌∙◌, ap, subst, arith, inl, inr, append_assoc, slice_get, AllZip, flat_map, range_with_len, add-mul, zero-add, div-mul-add, Part, start, Handed, Stay, opened, decided, event_tokens, heard_in, closed_end, Token, time_of, token_of, tokens_of, Fate, whole, broken, undecided, fate_at, units, opened_least, bis_of, AreInOrder, IsBefore, SegmentPlace, all_zip_append, time_in, ◌||◌, is_some, false, Contains, list_any, div-mul-le_self, mul-le-mul, cases_Bool, append-nil, list_any-append, BigInfo, Setup, next_of, BigSync, of_stream, is_in, stay_on, streams_of, is_member, member_is, Step, steps_of_source, setup_of, source_calls, Airs, sink_calls, Closed, InStartOrder, IsOfStart, calls_on, given_since_made, is_given, is_made, is_tuned, shown_since, more as further, framed_handed_of as handed_of, SourceCall, ticked_since, Below, Legal, true_not_false, Within, next_in, within_before, within_itself, IsOn, OnSource, TunedTo, on_source, rest_not, StayCall, made_alike}
+use Rattle.scenario_laws.proofs.Known.{ℕ, zero, suc, ◌≡◌, ◌<◌, ◌≤◌, ◌+◌, ◌-◌, ◌*◌, ◌/◌, Bool, List, [], ◌∷◌, ◌++◌, map, Option, Some, None, refl, sym, ◌∙◌, ap, subst, arith, inl, inr, append_assoc, slice_get, AllZip, flat_map, range_with_len, add-mul, zero-add, div-mul-add, Part, start, Handed, Stay, opened, decided, event_tokens, heard_in, closed_end, Token, time_of, token_of, tokens_of, Fate, undecided, fate_at, units, opened_least, bis_of, AreInOrder, IsBefore, SegmentPlace, all_zip_append, time_in, ◌||◌, is_some, false, Contains, list_any, div-mul-le_self, mul-le-mul, cases_Bool, append-nil, list_any-append, BigInfo, Setup, next_of, BigSync, of_stream, is_in, stay_on, streams_of, is_member, member_is, Step, steps_of_source, setup_of, source_calls, Airs, sink_calls, Closed, InStartOrder, IsOfStart, calls_on, given_since_made, is_given, is_made, is_tuned, shown_since, more as further, framed_handed_of as handed_of, SourceCall, ticked_since, Below, Legal, true_not_false, Within, next_in, within_before, within_itself, IsOn, OnSource, TunedTo, on_source, rest_not, StayCall, made_alike}
 use Rattle.scenario_laws.proofs.UnitsLaw.{since}
 use Rattle.scenario_laws.proofs.FramedStays.{heard_least, next_of_whole, opened_within, stay_on_whole}
 use Rattle.scenario_laws.proofs.UnitOrder.{event_below, start_time_is}
@@ -45,9 +45,6 @@ rise_on low xs middle ys high first rest = grind (arith, rise_from, behind_on)
 behind_order : (at : SegmentPlace) (places : List SegmentPlace) (high : ℕ) → Behind at places high → AreInOrder (at ∷ places)
 behind_order at [] high behind = tt
 behind_order at (next ∷ places) high behind = (behind.0, behind_order next places high behind.1)
-
-pub are_in_order : (low : ℕ) (places : List SegmentPlace) (high : ℕ) → RiseTo low places high → AreInOrder places
-are_in_order low places high rise = grind (arith, behind_order)
 
 -- ---- the entries of a PDU
 
@@ -158,9 +155,6 @@ told_on stay calls low middle high xs ys first rest = record {
   each = all_zip_append (AtStart stay calls) first.places rest.places xs ys first.each rest.each;
 }
 
-pdu_told : (stay : Stay) (calls : List StayCall) (number : ℕ) (entries : List Handed) → InPdu stay calls number 0 entries → Told stay calls number (number + 1) entries
-pdu_told stay calls number entries pdu = grind (arith, within_behind)
-
 -- what so many PDUs of an event give in front of other tokens
 abbrev NumbersGive : Stay → List StayCall → ℕ → ℕ → ℕ → ℕ → List Token → Type 0
 NumbersGive stay calls max_sdu event number count rest =
@@ -178,7 +172,7 @@ numbers_give stay calls max_sdu event number (suc count) of_event rest =
     let end : number + 1 + count ≡ number + suc count = omega arith in (
       first.0 ++ later.0,
       grind (arith, units, append_assoc),
-      told_on stay calls number (number + 1) (number + suc count) first.0 later.0 (pdu_told stay calls number first.0 first.2)
+      told_on stay calls number (number + 1) (number + suc count) first.0 later.0 (grind (arith, within_behind))
           (subst (λ high. Told stay calls (number + 1) high later.0) end later.2),
     )
 
@@ -374,4 +368,4 @@ starts_in_order below airs boxes s n bis made legal is_framed source_within sink
     } in
     let all = over_stays (Claim airs made s n bis) (Fine airs boxes s n made) airs boxes s n bis turns made
     (record { legal_is = legal; within = within_itself (steps_of_source s made); ungiven = ungiven; goes = record { later = []; split = refl; same_sink = refl } }) in
-    record { places = all.places; order = are_in_order 0 all.places _ all.rise; each = all.each }
+    record { places = all.places; order = grind (arith, behind_order); each = all.each }

@@ -1,5 +1,5 @@
 -- The units law of a stay.
-use Rattle.scenario_laws.proofs.Known.{ℕ, zero, suc, ◌≡◌, ◌≤◌, ◌+◌, ◌-◌, ◌==◌, cond, ltb, Bool, false, List, [], ◌∷◌, ◌++◌, length, Option, Some, refl, sym, ◌∙◌, ap, subst, inl, inr, arith, slice_get, AllByRecursion, Contains, eq-eqb, eqb-true, ltb-false, append-nil, none-some, same_Some, BigInfo, Bounds, Account, Handed, before_event, lay, lays, begun, handed, Struck, air_at, slots_of, Airs, give_fault, Call, tune, hear, BigSync, of_stream, stay_on, streams_of, member_is, Step, IsInRange, chosen_of, chosen_steps, steps_of_source, open_event, setup_of, source_calls, MeetAirs, heard_on_air, is_of, reaches, sink_calls, source_of, positions_of, ticked, ticked_if, unless_lost, big_sync_on, SinkUnit, handed_by, give_refusal, steps_of, IsStayStruck, UnitsLaw, any_since, calls_on, handed_since, injected_since, is_given, is_tuned, of_sink, StreamCall, unframed_accept as accept, unframed_accepted as accepted, SourceCall, source_stream, place, ticked_since, Below, Legal, legal, maps_none, Allowed, Lawful, Settled, bounds_in, lawful, no_group_yet, settled, within_itself, StaysBy, announced, given_stays, plain_stays, BeginsBy, IsOn, IsThere, OnSource, first_next, last_not, none_given, on_before, on_source, rest_not, all_own, stay_within, handed_open, of_sink_on, shown_by, shown_with, step_shown, second_false, chosen_within, end_ticks, event_ticks, all_push, PutsBy}
+use Rattle.scenario_laws.proofs.Known.{ℕ, zero, suc, ◌≡◌, ◌≤◌, ◌+◌, ◌-◌, ◌==◌, cond, ltb, Bool, false, List, [], ◌∷◌, ◌++◌, length, Option, Some, refl, sym, ◌∙◌, ap, subst, inl, inr, arith, slice_get, AllByRecursion, Contains, eq-eqb, eqb-true, ltb-false, append-nil, none-some, same_Some, BigInfo, Bounds, Account, Handed, before_event, lay, lays, begun, handed, Struck, air_at, slots_of, Airs, Call, tune, hear, BigSync, of_stream, stay_on, streams_of, member_is, Step, IsInRange, chosen_of, chosen_steps, steps_of_source, open_event, setup_of, source_calls, MeetAirs, heard_on_air, is_of, reaches, sink_calls, source_of, positions_of, ticked, ticked_if, unless_lost, big_sync_on, SinkUnit, handed_by, steps_of, IsStayStruck, UnitsLaw, any_since, calls_on, handed_since, injected_since, is_given, is_tuned, of_sink, StreamCall, unframed_accept as accept, unframed_accepted as accepted, SourceCall, source_stream, place, ticked_since, Below, Legal, legal, maps_none, Allowed, Lawful, Settled, bounds_in, lawful, no_group_yet, settled, within_itself, StaysBy, announced, given_stays, plain_stays, BeginsBy, IsOn, IsThere, OnSource, first_next, last_not, none_given, on_before, on_source, rest_not, all_own, stay_within, handed_open, of_sink_on, shown_by, shown_with, step_shown, second_false, chosen_within, end_ticks, event_ticks, all_push, PutsBy}
 use Rattle.scenario_laws.proofs.FromSources.{sends_own, from_source}
 use Rattle.scenario_laws.proofs.FramedStays.{framed_law, taken_within}
 
@@ -38,13 +38,11 @@ short_none most info bis calls none = subst (λ all. Short most (source_stream i
 abbrev ShortIn : ℕ → List Step → Type 0
 ShortIn bis own = Short (setup_of own).info.max_sdu (source_stream (setup_of own).info bis (source_calls own))
 
-short_after : (airs : Airs) (bis : ℕ) (own : List Step) (step : Step) → Settled own → Allowed airs own step → ShortIn bis own → ShortIn bis (step ∷ own)
-short_after airs bis own _ is allows before =
-    grind (arith, short_none, no_group_yet, maps_none, length, ltb-false, second_false, ltb, short_if, short_lays)
-
 short_of : (airs : Airs) (bis : ℕ) (own : List Step) → Lawful airs own → ShortIn bis own
 short_of airs bis [] legal = tt
-short_of airs bis (step ∷ own) legal = short_after airs bis own step (settled airs own legal.0) legal.1 (short_of airs bis own legal.0)
+short_of airs bis (step ∷ own) legal =
+    grind (arith, short_none, no_group_yet, maps_none, length, ltb-false, second_false, ltb, short_if, short_lays,
+    (settled airs own legal.0), (short_of airs bis own legal.0))
 
 pub slot_short : (airs : Airs) (bis : ℕ) (own : List Step) → Lawful airs own → (event slot : ℕ) (unit : List ℕ)
     → slots_of (setup_of own) (source_calls own) bis event slot ≡ Some unit → length unit ≤ (setup_of own).info.max_sdu
@@ -162,14 +160,11 @@ pub record Numbers (s n : ℕ) : Type 0 where
   pub source_within : s ≤ 1
   pub sink_within : n ≤ 7
 
-begins_numbers : (airs : Airs) (boxes s n : ℕ) (step : Step) (earlier : List Step) (tuning : BigSync) → Legal airs boxes earlier → IsInRange step → BeginsBy airs s n step earlier tuning → Numbers s n
-begins_numbers airs boxes s n _ earlier tuning legal ranged begins = grind (arith, chosen_within, legal, eqb-true)
-
 pub numbers : (airs : Airs) (boxes s n : ℕ) (made : List Step) (tuning : BigSync) → Legal airs boxes made → IsOn airs s n made tuning → Numbers s n
 numbers airs boxes s n [] tuning legal is = absurd (none-some tuning is.place_is)
 numbers airs boxes s n (step ∷ earlier) tuning legal is = elim (on_before airs s n step earlier tuning is) [
   | inl before ↦ numbers airs boxes s n earlier tuning legal.0 before
-  | inr begins ↦ begins_numbers airs boxes s n step earlier tuning legal.0 legal.2 begins
+  | inr begins ↦ grind (arith, chosen_within, legal, eqb-true)
 ]
 
 -- ---- the law

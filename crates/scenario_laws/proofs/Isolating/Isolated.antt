@@ -37,9 +37,6 @@ names s n step made is = grind (arith, not, not-true, and_parts, false≢true)
 
 -- ---- the induction
 
-none_same : (airs : Airs) (s n : ℕ) → Same airs s n [] []
-none_same airs s n = search arith
-
 same_if : (airs : Airs) (s n : ℕ) (step : Step) (made : List Step) (hit : Bool) → is_kept s n made step ≡ hit
     → (chosen_of made ≢ s → puts n made step ≡ false)
     → Same airs s n made (only s n made) → Same airs s n (step ∷ made) (cond hit (step ∷ only s n made) (only s n made))
@@ -52,7 +49,7 @@ same_if airs s n step made false is puts_not same = elim (fate s n step made is)
 ]
 
 same_of : (airs : Airs) (s n : ℕ) (made : List Step) → NoOtherPuts s n made → Same airs s n made (only s n made)
-same_of airs s n [] puts_not = none_same airs s n
+same_of airs s n [] puts_not = search arith
 same_of airs s n (step ∷ made) puts_not = search (same_if, same_of airs s n made puts_not.0)
 
 -- ---- what the kept steps print

@@ -1,6 +1,6 @@
 -- What a line makes of two histories of the sink that it names which come to the same: of the histories, of the receivers, and of the
 -- source that the sink is of.
-use Rattle.scenario_laws.proofs.Known.Sources.Steps.Prelude.{ℕ, ◌≡◌, cond, Bool, true, List, [], ◌∷◌, Option, None, Some, subst, arith, encoding, control_heard, locations_set, train_heard, train_lost, Settings, Train, outcome_by, born, Step, is_source_line, calls_made, source_at, the_world, Source, calls_at, calls_by, made_of, named_by, own_train, follows, follows_by, received_by, source_by, train_by, LinkCall as Call, moved}
+use Rattle.scenario_laws.proofs.Known.Sources.Steps.Prelude.{ℕ, ◌≡◌, cond, Bool, true, List, [], ◌∷◌, Option, None, Some, subst, arith, Settings, Train, outcome_by, born, Step, is_source_line, calls_made, source_at, the_world, Source, calls_at, calls_by, made_of, named_by, follows, follows_by, received_by, source_by, train_by, LinkCall as Call, moved}
 use Rattle.scenario_laws.proofs.Isolating.Histories.{Alike, alike_itself, drains, grows}
 use Rattle.scenario_laws.proofs.Isolating.Same.{HistoriesAlike}
 use Rattle.bass_operations.specs.declared.operation.Operation.TheVariants as operations

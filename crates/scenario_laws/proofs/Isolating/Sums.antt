@@ -1,6 +1,6 @@
 -- What the box of a sink took since the sink was made: the valid units that the sink handed up since then, and nothing else, since no
 -- two sinks have one box and a new sink has a new one.
-use Rattle.scenario_laws.proofs.Known.Sources.Steps.Prelude.{ℕ, ◌≡◌, ◌<◌, ◌≤◌, ◌==◌, ◌∙◌, cond, Bool, true, false, List, [], ◌∷◌, ◌++◌, map, Option, None, Some, arith, refl, sym, ap, AllByRecursion, filter, flat_map, cases_eq, eq-eqb, eqb-true, ne_eqb, append-nil, none-some, Handed, valid, lost, Call, handed_at, Step, box_was_made, valid_append, SinkUnit, box_of, closing_at, closing_in, handed_by, handed_up, onto_valid, valid_for, open_event, Airs, chosen_of, sinks_made, sinks_made_by, steps_of_source, units_by, closing}
+use Rattle.scenario_laws.proofs.Known.Sources.Steps.Prelude.{ℕ, ◌≡◌, ◌<◌, ◌≤◌, ◌==◌, ◌∙◌, cond, Bool, true, false, List, [], ◌∷◌, ◌++◌, map, Option, None, Some, arith, refl, sym, ap, AllByRecursion, filter, flat_map, cases_eq, eq-eqb, eqb-true, ne_eqb, append-nil, none-some, Handed, valid, lost, Call, handed_at, Step, box_was_made, valid_append, SinkUnit, box_of, closing_at, closing_in, handed_by, handed_up, onto_valid, valid_for, open_event, Airs, sinks_made, sinks_made_by, steps_of_source, units_by, closing}
 
 -- the octets of the valid ones
 abbrev pub octets_in : List Handed → List (List ℕ)

@@ -103,15 +103,10 @@ offers_horizon airs (offer ∷ offers) made = search (unless_horizon, offers_hor
 
 -- ---- the source that a line means
 
-chosen_next : (chosen before others : Option ℕ) → unwrap_or before 0 ≡ unwrap_or others 0
-    → unwrap_or (option_or chosen before) 0 ≡ unwrap_or (option_or chosen others) 0
-chosen_next chosen before others same = grind arith
-
 pub chosen_happened : (airs : Airs) (said : List Step) → chosen_of (happened airs said) ≡ chosen_of said
 chosen_happened airs [] = refl
 chosen_happened airs (step ∷ earlier) =
-    chosen_next (chosen_given step) (last_given chosen_given (with_relayed_units airs (happened airs earlier) step)) (last_given chosen_given earlier)
-    ((left_by_relayed_units airs (happened airs earlier) step).chosen ∙ chosen_happened airs earlier)
+    grind (arith, ((left_by_relayed_units airs (happened airs earlier) step).chosen ∙ chosen_happened airs earlier))
 
 told_if : (mine : Bool) (step : Step) (own others : List Step) → told_of own ≡ told_of others
     → told_of (cond mine (step ∷ own) own) ≡ told_of (cond mine (step ∷ others) others)

@@ -24,12 +24,9 @@ left_then airs after_relays between before later first = record {
   handed = later.handed ∙ first.handed;
 }
 
-left_by_relayed_unit : (airs : Airs) (offer : Offer) (steps : List Step) → IsLeft airs (with_relayed_unit offer steps) steps
-left_by_relayed_unit airs offer steps = search (append-nil)
-
 left_unless : (airs : Airs) (reason : Option Refusal) (offer : Offer) (steps : List Step)
     → IsLeft airs (with_relayed_unit_unless reason offer steps) steps
-left_unless airs None offer steps = left_by_relayed_unit airs offer steps
+left_unless airs None offer steps = search append-nil
 left_unless airs (Some reason) offer steps = left_same airs steps
 
 pub left_by_offers : (airs : Airs) (offers : List Offer) (steps : List Step) → IsLeft airs (after_offers airs offers steps) steps
@@ -89,10 +86,6 @@ pub passed_append : (to : ℕ) (one other : List Answered)
     → passed (offered_to to (one ++ other)) ≡ passed (offered_to to one) ++ passed (offered_to to other)
 passed_append to one other = search (filter-append, map-append)
 
-one_passes : (to : ℕ) (reason : Option Refusal) (offer : Offer) (made : List Step) → accepted_on to (with_relayed_unit_unless reason offer made)
-    ≡ accepted_on to made ++ passed (offered_to to (record { offer = offer; reason = reason } ∷ []))
-one_passes to reason offer made = grind (arith, append-nil)
-
 pub all_pass : (airs : Airs) (to : ℕ) (offers : List Offer) (made : List Step)
     → accepted_on to (after_offers airs offers made) ≡ accepted_on to made ++ passed (offered_to to (answered airs offers made))
 all_pass airs to [] made = sym (append-nil (accepted_on to made))
@@ -101,7 +94,7 @@ all_pass airs to (offer ∷ offers) made =
     let next = after_offer airs offer made in
     let one : List Answered = record { offer = offer; reason = reason } ∷ [] in
     let others = answered airs offers next in
-    all_pass airs to offers next ∙ ap (λ units. units ++ passed (offered_to to others)) (one_passes to reason offer made)
+    all_pass airs to offers next ∙ ap (λ units. units ++ passed (offered_to to others)) (grind (arith, append-nil))
     ∙ append_assoc (accepted_on to made) (passed (offered_to to one)) (passed (offered_to to others))
     ∙ ap (λ units. accepted_on to made ++ units) (sym (passed_append to one others))
 

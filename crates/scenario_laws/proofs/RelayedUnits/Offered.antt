@@ -1,5 +1,5 @@
 -- What is offered to a stream of source 1 is what one sink handed up of one of its streams.
-use Rattle.scenario_laws.proofs.Known.Sources.Steps.{ℕ, zero, suc, ◌≡◌, ◌≢◌, ◌<◌, ◌≤◌, ◌+◌, ◌==◌, ◌&&◌, ◌∙◌, Bool, true, false, cond, List, [], ◌∷◌, ◌++◌, map, Option, None, Some, refl, sym, ap, subst, arith, inl, inr, Contains, filter, flat_map, range_with_len, cases_Bool, cases_eq, and_right, eq-eqb, eqb-true, false_from_ne_true, false≢true, or_parts, append-nil, map-append, filter-append, IsInRange, Step, Handed, SinkUnit, handed_by, open_event, Airs, chosen_of, steps_of_source, Answered, Offer, after_offer, all_answered, answered_by, closes_first, dropped_for, handed_of, happened, offered_of, offered_to, offers_at, units_on, with_relayed_units, handed_on, is_route, offered, AreSaidLegally, Route, had_relay, relay_of, relays_to, Unit as AudioUnit, closing, sink_numbers, answered, left_by_relayed_units, OneStands, contains_cases, first_free, one_stands, had_happened, none_now, none_offered, route_had}
+use Rattle.scenario_laws.proofs.Known.Sources.Steps.{ℕ, zero, suc, ◌≡◌, ◌≢◌, ◌<◌, ◌≤◌, ◌+◌, ◌==◌, ◌∙◌, Bool, true, false, cond, List, [], ◌∷◌, ◌++◌, map, Option, None, Some, refl, sym, ap, subst, arith, inl, inr, Contains, filter, flat_map, range_with_len, cases_Bool, cases_eq, and_right, eq-eqb, eqb-true, false_from_ne_true, false≢true, or_parts, append-nil, map-append, filter-append, IsInRange, Step, Handed, SinkUnit, handed_by, open_event, Airs, chosen_of, steps_of_source, Answered, Offer, after_offer, all_answered, answered_by, closes_first, dropped_for, handed_of, happened, offered_of, offered_to, offers_at, units_on, with_relayed_units, handed_on, is_route, offered, AreSaidLegally, Route, had_relay, relay_of, relays_to, Unit as AudioUnit, closing, sink_numbers, answered, left_by_relayed_units, OneStands, contains_cases, first_free, one_stands, had_happened, none_now, none_offered, route_had}
 
 -- ---- lists
 
@@ -32,19 +32,13 @@ units_to_flat : (to : ℕ) (f : ℕ → List Offer) (ms : List ℕ) → units_to
 units_to_flat to f [] = refl
 units_to_flat to f (m ∷ ms) = units_to_append to (f m) (flat_map f ms) ∙ ap (λ l. units_to to (f m) ++ l) (units_to_flat to f ms)
 
-answer_if : (hit : Bool) (answer : Answered) (answers : List Answered) (offers : List Offer)
-    → map (λ (a : Answered). a.offer.unit) answers ≡ map (λ (offer : Offer). offer.unit) offers
-    → map (λ (a : Answered). a.offer.unit) (cond hit (answer ∷ answers) answers) ≡ map (λ (offer : Offer). offer.unit) (cond hit (answer.offer ∷ offers) offers)
-answer_if hit answer answers offers same = grind arith
-
 -- each unit that is offered is answered
 answered_units : (airs : Airs) (to : ℕ) (offers : List Offer) (made : List Step)
     → map (λ (a : Answered). a.offer.unit) (offered_to to (answered airs offers made)) ≡ units_to to offers
 answered_units airs to [] made = refl
 answered_units airs to (offer ∷ offers) made =
     let next = after_offer airs offer made in
-    answer_if (offer.route.to == to) (record { offer = offer; reason = dropped_for airs offer made })
-    (offered_to to (answered airs offers next)) (filter (λ (o : Offer). o.route.to == to) offers) (answered_units airs to offers next)
+    grind (arith, (answered_units airs to offers next))
 
 same_nil : (hit : Bool) → (let none : List AudioUnit = [] in none ≡ cond hit none none)
 same_nil hit = grind arith

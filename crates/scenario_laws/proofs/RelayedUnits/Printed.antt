@@ -102,11 +102,6 @@ plain_end airs starts made none = search (prints_units, append_assoc, flat_map-a
 
 -- ---- what passes
 
--- a `unit` line closes no event
-gives_none_then : (airs : Airs) (bis : ℕ) (made : List Step) (step : Step) → gives_to bis made step ≡ false
-    → gives_to bis (with_relayed_units airs made step) step ≡ false
-gives_none_then airs bis made step none = grind (arith, and_right)
-
 -- the stream had a relay before this step
 goes_on : (airs : Airs) (boxes to : ℕ) (step : Step) (earlier : List Step) → line_refusal airs boxes (happened airs earlier) step ≡ None
     → had_relay to earlier ≡ true → accepted_on to (happened airs earlier) ≡ passed (offered_to to (all_answered airs earlier))
@@ -115,7 +110,7 @@ goes_on airs boxes to step earlier none had before =
     let made = happened airs earlier in
     let now = answered_by airs made step in
     let unnamed = gives_none airs boxes to made step none (had_happened airs to earlier ∙ had) in
-    step_takes to step (with_relayed_units airs made step) (gives_none_then airs to made step unnamed)
+    step_takes to step (with_relayed_units airs made step) (grind (arith, and_right))
     ∙ all_pass airs to (offers_before airs made step) made ∙ ap (λ units. units ++ passed (offered_to to now)) before
     ∙ sym (passed_append to (all_answered airs earlier) now)
 
@@ -131,15 +126,12 @@ begins airs boxes to (Step.Relay sink bis into) earlier none before its =
     ∙ sym (ap passed (ap (offered_to to) (append-nil (all_answered airs earlier)) ∙ none_offered airs to earlier before))
 begins airs boxes to this earlier none before its = absurd (false≢true its)
 
-had_now : (now before : Bool) → (now || before) ≡ true → before ≡ false → now ≡ true
-had_now now before had not = grind (arith, false≢true)
-
 pub passes : (airs : Airs) (boxes to : ℕ) (said : List Step) → AreSaidLegally airs boxes said → had_relay to said ≡ true
     → accepted_on to (happened airs said) ≡ passed (offered_to to (all_answered airs said))
 passes airs boxes to [] legal had = absurd (false≢true had)
 passes airs boxes to (step ∷ earlier) legal had = elim (cases_Bool (had_relay to earlier)) [
   | inl before ↦ goes_on airs boxes to step earlier legal.1 before (passes airs boxes to earlier legal.0 before)
-  | inr before ↦ begins airs boxes to step earlier legal.1 before (had_now (relays_to to step) (had_relay to earlier) had before)
+  | inr before ↦ begins airs boxes to step earlier legal.1 before (grind (arith, false≢true))
 ]
 
 pub relay_law_holds : (boxes : ℕ) → RelayLaw boxes

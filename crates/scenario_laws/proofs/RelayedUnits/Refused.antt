@@ -1,6 +1,6 @@
 -- What the lines say of which none was refused: a `relay` line is of a stream that had neither a relay nor a unit, and no `unit`
 -- line of source 1 names a stream that has had a relay.
-use Rattle.scenario_laws.proofs.Known.Sources.Steps.Prelude.{ℕ, ◌≡◌, not, Bool, true, false, List, Option, None, Some, is_some, arith, list_any, and_cases, and_left, and_right, eqb-true, false_from_ne_true, false≢true, or_parts, not-false, none-some, Step, Refusal, fails_not, permitted, box_of, gives_on, is_relay_beyond, is_relay_taken, is_relayed, line_refusal, may_relay, no_sink, refusal_of, relayed_or, refuse_if, had_relay, relay_of, Airs, steps_of_source, neither}
+use Rattle.scenario_laws.proofs.Known.Sources.Steps.Prelude.{ℕ, ◌≡◌, not, Bool, true, false, List, Option, None, Some, is_some, arith, list_any, and_cases, and_left, and_right, eqb-true, false_from_ne_true, false≢true, or_parts, not-false, none-some, Step, Refusal, fails_not, permitted, box_of, gives_on, is_relay_beyond, is_relayed, line_refusal, may_relay, refusal_of, relayed_or, had_relay, relay_of, Airs, steps_of_source, neither}
 use Rattle.scenario_laws.proofs.RelayedUnits.Left.{gives_to}
 
 -- ---- the step of a line

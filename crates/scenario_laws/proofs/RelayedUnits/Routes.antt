@@ -131,9 +131,6 @@ of_relay made n (Some route) units is = of_route made n route (units_on route.bi
 pub offers_stand : (airs : Airs) (made : List Step) → All (Stands made) (offers_at airs made)
 offers_stand airs made = search (flat_all, of_relay)
 
-before_stand : (airs : Airs) (made : List Step) (step : Step) → All (Stands made) (offers_before airs made step)
-before_stand airs made step = grind (arith, closes_first, offers_at, offers_stand)
-
 answers_of : (airs : Airs) (P : Offer → Type 0) (offers : List Offer) (made : List Step) → All P offers
     → All (λ (answer : Answered). P answer.offer) (answered airs offers made)
 answers_of airs P [] made all = All-nil (λ (answer : Answered). P answer.offer)
@@ -144,7 +141,8 @@ answers_of airs P (offer ∷ offers) made all =
 
 pub answers_stand : (airs : Airs) (made : List Step) (step : Step)
     → All (λ (answer : Answered). Stands made answer.offer) (answered_by airs made step)
-answers_stand airs made step = answers_of airs (Stands made) (offers_before airs made step) made (before_stand airs made step)
+answers_stand airs made step = answers_of airs (Stands made) (offers_before airs made step) made (grind (arith, closes_first, offers_at,
+    offers_stand))
 
 -- ---- a stream that has had no relay
 
@@ -182,29 +180,21 @@ flat_none : {A B : Type 0} (f : A → List B) (xs : List A) → ((x : A) → f x
 flat_none f [] each = refl
 flat_none f (x ∷ xs) each = ap (λ l. l ++ flat_map f xs) (each x) ∙ flat_none f xs each
 
-dropped_none : (hit : Bool) (later : Option (Option Route)) → unwrap_or later None ≡ None
-    → unwrap_or (option_or (cond hit (Some None) None) later) None ≡ None
-dropped_none hit later none = grind arith
-
 no_route : (n : ℕ) (made : List Step) → has_relay made ≡ false → relay_of n made ≡ None
 no_route n [] none = refl
 no_route n (Step.Relay sink bis to ∷ earlier) none = absurd (false≢true (sym none))
-no_route n (Step.Drop sink ∷ earlier) none = dropped_none (sink == n) (last_given (relay_given n) earlier) (no_route n earlier none)
+no_route n (Step.Drop sink ∷ earlier) none = grind (arith, (no_route n earlier none))
 no_route n (this ∷ earlier) none = no_route n earlier none
 
 pub no_offers : (airs : Airs) (made : List Step) → has_relay made ≡ false → offers_at airs made ≡ []
 no_offers airs made none = search (flat_none, no_route)
-
-no_relayed_units : (closes : Bool) (airs : Airs) (made : List Step) → has_relay made ≡ false
-    → after_offers airs (cond closes (offers_at airs made) []) made ≡ made
-no_relayed_units closes airs made none = grind (arith, no_offers)
 
 pub nothing_else : (airs : Airs) (said : List Step) → has_relay said ≡ false → happened airs said ≡ said
 nothing_else airs [] none = refl
 nothing_else airs (step ∷ earlier) none =
     let before = (or_parts (makes_relay step) (has_relay earlier) none).1 in
     ap (λ made. step ∷ with_relayed_units airs made step) (nothing_else airs earlier before)
-    ∙ ap (λ made. step ∷ made) (no_relayed_units (closes_first earlier step) airs earlier before)
+    ∙ ap (λ made. step ∷ made) (grind (arith, no_offers))
 
 none_had : (bis : ℕ) (made : List Step) → has_relay made ≡ false → had_relay bis made ≡ false
 none_had bis [] none = refl

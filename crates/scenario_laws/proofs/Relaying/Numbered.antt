@@ -15,23 +15,14 @@ abbrev pub place : {A : Type 0} → (A → Bool) → List A → ℕ → ℕ
 place test [] k = k
 place test (x ∷ xs) k = place_by (test x) (place test xs) k
 
-gets_by : {A B : Type 0} (hit : Bool) (f : A → B) (x : A) (xs kept : List A) (later : ℕ → ℕ) (y : B)
-    → ((k : ℕ) → slice_get (map f kept) k ≡ Some y → slice_get (map f xs) (later k) ≡ Some y)
-    → (k : ℕ) → slice_get (map f (cond hit (x ∷ kept) kept)) k ≡ Some y → slice_get (map f (x ∷ xs)) (place_by hit later k) ≡ Some y
-gets_by hit f x xs kept later y goes_on k is = grind arith
-
 pub place_gets : {A B : Type 0} (test : A → Bool) (f : A → B) (xs : List A) (y : B) (k : ℕ) → slice_get (map f (filter test xs)) k ≡ Some y
     → slice_get (map f xs) (place test xs k) ≡ Some y
 place_gets test f [] y k is = is
-place_gets test f (x ∷ xs) y k is = gets_by (test x) f x xs (filter test xs) (place test xs) y (place_gets test f xs y) k is
-
-rises_by : (hit : Bool) (later : ℕ → ℕ) → ((j k : ℕ) → j < k → later j < later k) → (j k : ℕ) → j < k
-    → place_by hit later j < place_by hit later k
-rises_by hit later rises j k below = grind arith
+place_gets test f (x ∷ xs) y k is = grind (arith, (place_gets test f xs y))
 
 pub place_rises : {A : Type 0} (test : A → Bool) (xs : List A) (j k : ℕ) → j < k → place test xs j < place test xs k
 place_rises test [] j k below = below
-place_rises test (x ∷ xs) j k below = rises_by (test x) (place test xs) (place_rises test xs) j k below
+place_rises test (x ∷ xs) j k below = grind (arith, (place_rises test xs))
 
 -- ---- numbers that are mapped
 
@@ -39,9 +30,6 @@ pub at_map : (f : ℕ → ℕ) (xs : List ℕ) (k : ℕ) → k < length xs → s
 at_map f [] k below = absurd (omega (arith, below))
 at_map f (x ∷ xs) zero below = refl
 at_map f (x ∷ xs) (suc k) below = at_map f xs k (omega (arith, below))
-
-rising_map : (f : ℕ → ℕ) → ((j k : ℕ) → j < k → f j < f k) → (xs : List ℕ) → IsStrictlyIncreasing xs → IsStrictlyIncreasing (map f xs)
-rising_map f rises xs increasing k within = grind (arith, length, length-map, at_map, slice_index)
 
 pub zip_map : {A B C : Type 0} (f : A → C) (R : A → B → Type 0) (S : C → B → Type 0) → ((a : A) → (b : B) → R a b → S (f a) b)
     → (xs : List A) (ys : List B) → AllZip R xs ys → AllZip S (map f xs) ys
@@ -72,7 +60,7 @@ in_relay_order law airs boxes said legal n bis to within air entries order =
     let relayed = law boxes airs said legal n bis to within in
     record {
       numbers = map (place taken answers) order.numbers;
-      rising = rising_map (place taken answers) (place_rises taken answers) order.numbers order.rising;
+      rising = grind (arith, length, length-map, at_map, slice_index, (place_rises taken answers));
       each = search (zip_map, setup_of, source_calls, offered, of_offered);
     }
 
@@ -174,13 +162,9 @@ of_unit : (setup : Setup) (calls : List Call) (bis : ℕ) (air : Air) (number : 
 of_unit setup calls bis air number (valid stream time octets) unit its is = grind (arith, given_units setup bis calls, slice_get-map (λ (u : AudioUnit). u.octets) (accepted (framed_calls setup bis calls)) number, its.accepted, its.valid_is stream time octets refl, same_Some (record { time = time; octets = octets }) unit is)
 of_unit setup calls bis air number (lost stream time) unit its is = absurd (none-some unit is)
 
-within_by : {A : Type 0} (hit : Bool) (x : A) (xs kept : List A) (later : ℕ → ℕ) → ((k : ℕ) → k < length kept → later k < length xs)
-    → (k : ℕ) → k < length (cond hit (x ∷ kept) kept) → place_by hit later k < length (x ∷ xs)
-within_by hit x xs kept later goes_on k below = grind (arith, length)
-
 place_within : {A : Type 0} (test : A → Bool) (xs : List A) (k : ℕ) → k < length (filter test xs) → place test xs k < length xs
 place_within test [] k below = below
-place_within test (x ∷ xs) k below = within_by (test x) x xs (filter test xs) (place test xs) (place_within test xs) k below
+place_within test (x ∷ xs) k below = grind (arith, length, (place_within test xs))
 
 pub numbered_units : (setup : Setup) (calls : List Call) (bis : ℕ) (air : Air) (entries : List Handed)
     → InUnitOrder setup calls bis air (of_stream bis entries) → Numbered (given bis calls) (units_on bis entries)

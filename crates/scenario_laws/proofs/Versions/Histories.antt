@@ -38,9 +38,6 @@ snapshot_same wider setup steps within quiet = ap (snapshot_in setup.slots) (ans
 abbrev pub AreQuietCalls : Setup → List Call → Type 0
 AreQuietCalls setup calls = AreQuiet setup (steps_of calls)
 
-quiet_before : (setup : Setup) (step : Option Step) (steps : List Step) → AreQuiet setup (with_step step steps) → AreQuiet setup steps
-quiet_before setup step steps quiet = grind arith
-
 by_same : (wider : ℕ) (setup : Setup) (mtu : Option ℕ) (link : ℕ) (call : Call) (before now : List Step) (acts : Acts)
     → snapshot_of (with_horizon wider setup) before ≡ snapshot_of setup before → snapshot_of (with_horizon wider setup) now ≡ snapshot_of setup now
     → acts_by (with_horizon wider setup) mtu link call before now acts ≡ acts_by setup mtu link call before now acts
@@ -50,7 +47,7 @@ pub acts_same : (wider : ℕ) (setup : Setup) (mtu : Option ℕ) (link : ℕ) (c
     → acts_of (with_horizon wider setup) mtu link calls ≡ acts_of setup mtu link calls
 acts_same wider setup mtu link [] within quiet = refl
 acts_same wider setup mtu link (call ∷ earlier) within quiet =
-    let quiet_earlier : AreQuietCalls setup earlier = quiet_before setup (step_by call earlier) (steps_of earlier) quiet in
+    let quiet_earlier : AreQuietCalls setup earlier = grind arith in
     ap (acts_by (with_horizon wider setup) mtu link call (steps_of earlier) (steps_of (call ∷ earlier)))
     (acts_same wider setup mtu link earlier within quiet_earlier)
     ∙ by_same wider setup mtu link call (steps_of earlier) (steps_of (call ∷ earlier)) (acts_of setup mtu link earlier)

@@ -1,7 +1,7 @@
 -- A train that a source announces isn't answered `BadGroup 11`: its group passed the group check of the version that its sinks
 -- are of too (Basic Audio Profile 1.0, section 6.5; Core 5.2, volume 6 part B, section 4.4.6). Lists of steps have the newest
 -- first; where a list is called `own` its steps are those of one source.
-use Rattle.scenario_laws.proofs.Known.Sources.{arith, ℕ, ◌≡◌, ◌≤◌, ◌-◌, ◌*◌, ◌/◌, ◌==◌, not, cond, Bool, true, false, List, [], ◌∷◌, Option, None, Some, Ok, refl, sym, subst, unwrap_or, eqb-true, false≢true, ltb-false, not-false, same_Some, MayAnnounce, train_of, IsTrain, Tells, TellsInfo, Endpoint, Horizon, BigInfo, info_of, NoFault, Settings, without_cipher, next_anchor_of, next_of, Step, made_of, own_train, horizon_in, base_of, is_base_too_long, group_refusal, refusal_of, source_refusal, refuse_if, checked_info, cipher_of, group_of, identity_of, is_sending, is_started, no_group, setup_of, Airs, source_calls, chosen_of, chosen_steps, is_of_source, is_unbegun_at, stage_of, steps_of_source, version_of, announced_of, calls_made, source_at, snapshot_in, TrainOctets as Train, told_numbers_of as numbers_of, horizon_of as group_horizon, SinkSetup as Setup, Train as Heard, Lawful, Legal, Permitted, bounds_in, lawful, may_announce, may_be_sent, neither, permitted, sends, settled, within_near, ReadsNear, outcome_near, sink_horizon}
+use Rattle.scenario_laws.proofs.Known.Sources.{arith, ℕ, ◌≡◌, ◌≤◌, ◌-◌, ◌*◌, ◌/◌, ◌==◌, not, cond, Bool, true, false, List, [], ◌∷◌, Option, None, Some, refl, sym, subst, unwrap_or, eqb-true, false≢true, ltb-false, not-false, MayAnnounce, train_of, IsTrain, Tells, TellsInfo, Endpoint, Horizon, BigInfo, NoFault, Settings, without_cipher, next_anchor_of, next_of, Step, made_of, own_train, horizon_in, base_of, is_base_too_long, group_refusal, refusal_of, source_refusal, refuse_if, checked_info, cipher_of, group_of, identity_of, is_sending, is_started, no_group, setup_of, Airs, source_calls, chosen_of, chosen_steps, is_of_source, is_unbegun_at, stage_of, steps_of_source, version_of, announced_of, calls_made, source_at, snapshot_in, TrainOctets as Train, told_numbers_of as numbers_of, horizon_of as group_horizon, SinkSetup as Setup, Train as Heard, Lawful, Legal, Permitted, bounds_in, lawful, may_announce, may_be_sent, neither, permitted, sends, settled, within_near, ReadsNear, outcome_near, sink_horizon}
 use Rattle.scenario_laws.proofs.Versions.Lived.{IsCalm}
 
 -- ---- `scenario` comes first

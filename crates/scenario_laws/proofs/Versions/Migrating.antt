@@ -1,5 +1,5 @@
 -- The migration law, over the airs of each stream by its framing: a text and the text in version 2.
-use Rattle.scenario_laws.proofs.Known.Sources.{ℕ, ◌≡◌, ◌⊎◌, ◌+◌, nat_eq, cond, leb, Bool, true, List, [], ◌∷◌, ◌++◌, length, reverse, Option, None, arith, Some, refl, sym, ◌∙◌, ap, subst, inl, inr, append-nil, TextLine, plain, too_long, line_limit, line_of, Account, Accepted, End, Rules, accepted_of, accepted_unless, end_unless, out, out_unless, refused, through, reverse_onto, is_blank, airs_of, Step, Refusal, LineTooLong, a_step, nothing, unsaid, output_said, refusal_said, said_in, steps_of, with_said, has_relay, is_over, is_unbegun_at, stage_of, version_of, end_after, has_end, last_end_after, last_line_after, out_of, transcript_end, transcript_of, units_of, EndsLasting, IsLastingText, NonePrintsHorizon, Airs, MeetAirs, rules_of, MigrationLaw, PrintsHorizon, text_lines, text_lines as lines_of, end_of, migrated, decimal_in, read_of, step_of, first_row_of, row_of, said_after, said_of, seconds}
+use Rattle.scenario_laws.proofs.Known.Sources.{ℕ, ◌≡◌, ◌⊎◌, ◌+◌, nat_eq, cond, leb, Bool, true, List, [], ◌∷◌, ◌++◌, length, reverse, Option, None, arith, Some, refl, sym, ◌∙◌, ap, subst, inl, inr, append-nil, TextLine, plain, too_long, line_limit, line_of, Account, Accepted, End, Rules, accepted_of, accepted_unless, end_unless, out, out_unless, refused, through, reverse_onto, is_blank, airs_of, Step, Refusal, LineTooLong, a_step, nothing, unsaid, output_said, refusal_said, said_in, steps_of, with_said, version_of, end_after, has_end, last_end_after, transcript_end, transcript_of, units_of, EndsLasting, IsLastingText, NonePrintsHorizon, Airs, MeetAirs, rules_of, MigrationLaw, PrintsHorizon, text_lines, text_lines as lines_of, end_of, migrated, decimal_in, read_of, step_of, first_row_of, row_of, said_after, said_of, seconds}
 use Rattle.std.specs.Fmt.{digits as numerals}
 use Rattle.scenario_laws.proofs.Versions.Runs.{Begins, Its, Laws, RunAlike, RunsAlike, Stands, run_alike}
 use Rattle.scenario_laws.proofs.Versions.Texts.{Turned, here, later, first_version, second_version, same_count, text_turn}
@@ -111,18 +111,11 @@ turned_alike laws starts all history _ _ never begins none accepted lasting (her
 
 -- ---- the transcripts
 
-through_if : {L R : Type 0} (rules : Rules L R) (history lines : List L) (line : L) (reason : Option R)
-    → (end_of rules (line ∷ history) lines ≡ through → accepted_of rules (line ∷ history) lines ≡ reverse lines ++ line ∷ history)
-    → end_unless history reason (end_of rules (line ∷ history) lines) ≡ through
-    → accepted_unless history reason (accepted_of rules (line ∷ history) lines) ≡ reverse (line ∷ lines) ++ history
-through_if rules history lines line reason more is = grind (arith, reverse_onto)
-
 -- where a run goes through all its lines, it accepts them all
 through_all : {L R : Type 0} (rules : Rules L R) (history lines : List L) → end_of rules history lines ≡ through
     → accepted_of rules history lines ≡ reverse lines ++ history
 through_all rules history [] is = refl
-through_all rules history (line ∷ lines) is = through_if rules history lines line (rules.refusal history line)
-    (through_all rules (line ∷ history) lines) is
+through_all rules history (line ∷ lines) is = grind (arith, reverse_onto, (through_all rules (line ∷ history) lines))
 
 lasting_before : (end : End Refusal) (over : Bool) (number : ℕ) → EndsLasting (last_end_after end over number) → EndsLasting end
 lasting_before (refused line reason) over number lasting = lasting
@@ -138,13 +131,10 @@ lines_alike : (starts : List Account) (lines others : List TextLine) → length 
     → LinesAlike starts lines others
 lines_alike starts lines others count alike = grind (arith, through, through_all, append-nil, reverse, length, refused)
 
-same_lines : (starts : List Account) (lines others : List TextLine) → others ≡ lines → LinesAlike starts lines others
-same_lines starts lines others same = search arith
-
 pub text_alike : Laws → (starts : List Account) (text : List ℕ) → IsLastingText airs_of starts text
     → LinesAlike starts (text_lines true text) (text_lines true (migrated text))
 text_alike laws starts text lasting = elim (text_turn text) [
-  | inl same ↦ same_lines starts (text_lines true text) (text_lines true (migrated text)) same
+  | inl same ↦ search arith
   | inr turned ↦ search (lines_alike, same_count, turned_alike, lasting_before, end_after, airs_of, has_end, length)
 ]
 

@@ -57,18 +57,13 @@ same_rows (row ∷ rows) = (refl, λ left. inl refl, same_rows rows)
 abbrev KnownOn : Option Row → Option Row → Type 0
 KnownOn here there = (left : Left) → ReadsOn (at_known here left) (at_known there left)
 
-known_if : (b : Bool) (row other : Row) (here there : Option Row) → ((left : Left) → ReadsOn (at_row row left) (at_row other left))
-    → KnownOn here there → KnownOn (cond b (Some row) here) (cond b (Some other) there)
-known_if b row other here there on rest = grind arith
-
 in_rows_on : (first : List ℕ) (rows others : List Row) (here there : Option Row) → RowsOn rows others → KnownOn here there
     → KnownOn (row_in first rows here) (row_in first others there)
 in_rows_on first [] [] here there on rest = rest
 in_rows_on first (row ∷ rows) (other ∷ others) here there on rest =
     subst (λ word. KnownOn (cond (bytes_eq first row.first) (Some row) (row_in first rows here))
     (cond (bytes_eq first word) (Some other) (row_in first others there))) (sym on.0)
-    (known_if (bytes_eq first row.first) row other (row_in first rows here) (row_in first others there) on.1
-    (in_rows_on first rows others here there on.2 rest))
+    (grind (arith, (in_rows_on first rows others here there on.2 rest)))
 in_rows_on first rows others here there on rest = search
 
 first_rows_on : (version : ℕ) → RowsOn (first_rows version) (first_rows 2)

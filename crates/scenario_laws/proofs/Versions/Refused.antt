@@ -29,11 +29,6 @@ group_lasts near wider info within = elim (near_or_horizon (first_fault near inf
 
 -- ---- a unit
 
-give_lasts : (ahead : Bool) (setup : Setup) (calls : List Call) (airs : List Air) (bis : ℕ) (time : Option ℕ) (octets : List ℕ)
-    → (setup.ahead ≡ true → ahead ≡ true) → Lasts (option_map give_refusal (give_fault setup calls airs bis time octets))
-    (option_map give_refusal (give_fault (with_ahead ahead setup) calls airs bis time octets))
-give_lasts ahead setup calls airs bis time octets stays = grind (arith, option_map, give_refusal, ltb, with_ahead, framed_same)
-
 unit_lasts : (own : List Step) (bis : ℕ) (time : Option ℕ) (octets : List ℕ)
     → Lasts (option_map give_refusal (give_fault (setup_of own) (source_calls own) (airs_of (setup_of own) (source_calls own)) bis time
     octets)) (option_map give_refusal (give_fault (setup_of (seconds own)) (source_calls (seconds own))
@@ -47,8 +42,8 @@ unit_lasts own bis time octets =
     (calls_same own)
     ∙ ap (λ airs. option_map give_refusal (give_fault (with_ahead ahead (setup_of own)) (source_calls own) airs bis time octets))
     (airs_same ahead (setup_of own) (source_calls own))))
-    (give_lasts ahead (setup_of own) (source_calls own) (airs_of (setup_of own) (source_calls own)) bis time octets
-    (ahead_stays (version_of own) (version_of (seconds own)) (is_later own)))
+    (grind (arith, option_map, give_refusal, ltb, with_ahead, framed_same, (ahead_stays (version_of own) (version_of (seconds own))
+    (is_later own))))
 
 -- ---- a step of a source
 

@@ -134,12 +134,8 @@ near_slot : (setup : Setup) (snapshot : Snapshot) (train : Train) (found : Optio
     → BringsNear (by_slot setup snapshot train found)
 near_slot setup snapshot train found near = grind (arith, near_if, near_info)
 
-near_id : (setup : Setup) (snapshot : Snapshot) (train : Train) (id : Option (List ℕ)) → ReadsNear setup train
-    → BringsNear (by_broadcast_id setup snapshot train id)
-near_id setup snapshot train id near = grind (arith, near_slot)
-
 pub outcome_near : (setup : Setup) (snapshot : Snapshot) (train : Train) → ReadsNear setup train → BringsNear (outcome_by setup snapshot train)
-outcome_near setup snapshot train near = near_id setup snapshot train (broadcast_id_of train.ext) near
+outcome_near setup snapshot train near = grind (arith, near_slot)
 
 -- ---- either way
 

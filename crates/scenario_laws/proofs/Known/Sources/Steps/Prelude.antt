@@ -41,7 +41,7 @@ pub use Rattle.delegator_history.proofs.Citable.{snapshot_goes_on, none_change}
 pub use Rattle.delegator_history.specs.Announced.{numbers_alone, IsOnGroup, heard_as}
 pub use Rattle.delegator_history.specs.Octets.{MayAnnounce, train_of, cipher_octets}
 pub use Rattle.delegator_history.specs.Snapshots.{Snapshot}
-pub use Rattle.delegator_history.specs.States.{train_heard, snapshot_of, written, sync_to_group, control_heard, locations_set, train_lost, done_by, Step as DelegatorStep, Answered as DelegatorAnswered, snapshot_in as delegator_snapshot_in}
+pub use Rattle.delegator_history.specs.States.{train_heard, snapshot_of, written, sync_to_group, done_by, Step as DelegatorStep, Answered as DelegatorAnswered, snapshot_in as delegator_snapshot_in}
 unfoldable pub use Rattle.delegator_history.specs.States.{answered as delegator_answered}
 pub use Rattle.delegator_history.specs.Trains.{TrainOutcome, Settings, Train, heard, ignored, outcome_by, by_broadcast_id, by_slot, big_sync_in, answer_of, big_info_in, done_by_outcome, by_base, by_big_info, by_group, by_info, Setup as SinkSetup, taken}
 pub use Rattle.delegator_history.specs.Values.{state_at, value, value_at}
@@ -62,7 +62,7 @@ pub use Rattle.isoal_framed.specs.Histories.{decided, heard_in, event_tokens}
 pub use Rattle.isoal_framed.specs.Sends.{Sends, IsOf, EventsAre, AreOf}
 pub use Rattle.isoal_framed.specs.Struck.{InOrder, Sent, entry_by, entry_of, first_missing, struck, Fit, closed_end, is_heard, carried, parts_at, is_last, part_with, FromSource as FramedFromSource, behind, octets_in}
 pub use Rattle.isoal_framed.specs.Tokens.{segmented, time_of, Token, token_of, tokens_of}
-pub use Rattle.isoal_framed.specs.Units.{whole, Fate, broken, undecided, fate_at, units, handed_of as framed_handed_of}
+pub use Rattle.isoal_framed.specs.Units.{Fate, undecided, fate_at, units, handed_of as framed_handed_of}
 pub use Rattle.isoal_unframed.proofs.Citable.{all_zip_append, get-range, begun_within, lays_accepted}
 pub use Rattle.isoal_unframed.specs.Air.{before_event}
 pub use Rattle.isoal_unframed.specs.Calls.{lay, lays, begun, events as laid_events, Call as StreamCall, accept as unframed_accept, accepted as unframed_accepted}
@@ -78,15 +78,15 @@ pub use Rattle.scenario_history.specs.Boxes.{closing_both, handed_up, SinkUnit, 
 unfoldable pub use Rattle.scenario_history.specs.Boxes.{sink_numbers}
 pub use Rattle.scenario_history.specs.Lines.{a_step, nothing, unsaid, said_by, said_in, steps_of, with_said, refusal_said, rules_of, output_said, handed_said, said_of, Said, handed_on as line_handed_on, said_after}
 pub use Rattle.scenario_history.specs.Output.{close_lines, first_lines, output_of, sums_of, unit_lines, stale_lines, injected_hearing, sink_lines}
-pub use Rattle.scenario_history.specs.Refusals.{line_refusal, refusal_of, group_refusal, give_refusal, no_sink, is_misplaced, is_out_of_phase, source_refusal, gives_on, is_relayed, train_ends, counter_ends, air_refusal, no_place, is_out_of_order, own_refusal, sink_refusal, twin_refusal, is_relay_beyond, is_relay_taken, may_relay, relayed_or}
+pub use Rattle.scenario_history.specs.Refusals.{line_refusal, refusal_of, group_refusal, give_refusal, no_sink, is_misplaced, is_out_of_phase, source_refusal, gives_on, is_relayed, train_ends, counter_ends, air_refusal, no_place, is_out_of_order, own_refusal, sink_refusal, twin_refusal, is_relay_beyond, may_relay, relayed_or}
 unfoldable pub use Rattle.scenario_history.specs.Refusals.{has_beyond}
 pub use Rattle.scenario_history.specs.RelayedUnits.{happened, answered_by, handed_of, Answered, Offer, after_offer, after_offers, closes_first, dropped_for, offered_of, offers_at, with_relayed_unit_unless, with_relayed_units, offers_before, units_on, all_answered, offered_to, with_relayed_unit, answered, passed, handed_of as of_sink}
 pub use Rattle.scenario_history.specs.Relays.{has_relay, makes_relay, relay_of, had_relay, relay_given, relays_to, Route}
 pub use Rattle.scenario_history.specs.Runs.{Accepted, End, accepted_of, accepted_unless, end_unless, out, out_unless, Rules, refused, number_after, through, end_of}
 pub use Rattle.scenario_history.specs.Sinks.{sink_calls, source_after, source_of, with_sink_call, is_of, ticked, ticked_if, heard_on_air, reaches, positions_of, unless_lost, Position, hear_at, ticked_by, position_at, is_lost, moved, sourced, is_of as is_sink}
-pub use Rattle.scenario_history.specs.Source.{is_started, setup_of, source_calls, is_ahead_in, no_group, setup_from, stale_in, open_event, event_back, is_ciphered, is_sending, performed, takes_units, Phase, checked_info, cipher_of, group_of, identity_of, is_absent_at, is_described_at, is_sending_at, GroupLine, phase_of, start_of, was_started_at, pdu_in, absent, cipher_given, end_pdu, group_given, ident_of, identity_given, no_identity, phase_given, start_given, with_source_call, info_with, described, sending, stopped, is_heard as source_is_heard}
+pub use Rattle.scenario_history.specs.Source.{is_started, setup_of, source_calls, is_ahead_in, no_group, setup_from, stale_in, open_event, event_back, is_ciphered, is_sending, performed, takes_units, Phase, checked_info, cipher_of, group_of, identity_of, is_absent_at, is_described_at, is_sending_at, GroupLine, phase_of, start_of, was_started_at, pdu_in, absent, cipher_given, end_pdu, group_given, ident_of, identity_given, no_identity, phase_given, start_given, with_source_call, info_with, sending, is_heard as source_is_heard}
 pub use Rattle.scenario_history.specs.Steps.{chosen_of, chosen_steps, steps_of_source, version_at, is_of_source, is_over, is_over_at, sinks_made, is_common, is_source_line, is_unbegun_at, stage_of, version_of, chosen_given, last_given, sinks_made_by, Stage, stage_after, unbegun, running, is_unbegun, over}
-pub use Rattle.scenario_history.specs.Transcript.{end_after, out_of, transcript_end, transcript_of, units_of, has_end, last_end_after, last_line_after}
+pub use Rattle.scenario_history.specs.Transcript.{end_after, out_of, transcript_end, transcript_of, units_of, has_end, last_end_after}
 pub use Rattle.scenario_history.specs.Worlds.{calls_made, source_at, big_sync_on, the_world, announced_of}
 pub use Rattle.scenario_laws.specs.HearingLaw.{IsHeardMore, LosesNothing, no_steps, both_made, hear_more, air_more, none_lost, HearingLaw, HearingLinesLaw, AllHearingLaw, AllHearingLinesLaw, AllPlacesLaw, shown}
 pub use Rattle.scenario_laws.specs.HearingMore.{HearsMore, StandIn, no_calls, both_take, more_hears, no_units, both_have, other_has, DecidedHearing, FramedHearing, HandedHearing, UnframedHearing, entry_in, Keeps}
@@ -128,7 +128,7 @@ pub use Rattle.source_machine.specs.declared.setup.Identity.{Identity}
 pub use Rattle.sync_reference.specs.BigSync.{BigSync}
 pub use Rattle.sync_reference.specs.Reference.{anchor_of, render_of, framed_reference_of, unframed_reference_of}
 pub use Rattle.transcript_text.specs.Lines.{control_line, handed_line, refusal_line}
-pub use Rattle.transcript_text.specs.SinkLines.{Label, reply_line, sink_line, train_words, value_line, control_words, on_link, plain as plain_word}
+pub use Rattle.transcript_text.specs.SinkLines.{Label, reply_line, sink_line, train_words, value_line, control_words}
 pub use Rattle.transcript_text.specs.declared.refusal.Refusal.{Refusal}
 pub use Rattle.transcript_text.specs.declared.refusal.Refusal.TheVariants.{NoSuchBis, BaseTooLong, Order, BadLine, NoSuchSink, NotOnAir, AfterEnd, LineTooLong, NothingWaiting, RecordsTooLong}
 pub use Rattle.unit_outlets.specs.Account.{Account}
