@@ -1,5 +1,5 @@
 -- One source after a step that means it.
-use Rattle.scenario_sources.proofs.Prelude.{◌≡◌, ◌≢◌, ◌<◌, ◌-◌, ℕ, Air, airs_exist, Bool, true, false, not, nat_le, nat_lt, List, [], ◌∷◌, length, refl, sym, subst, option_or, ◌∙◌, ap, is_some, unwrap_or, option_map, if◌then◌else◌, arith, Option, None, Some, Result, Ok, Err, endpoint, BigInfo, Cipher, subgroups_in, with_cipher, without_cipher, airs_of, pdu_of, stale_of, waiting_of, Call, Setup, next_of, Source, StandsFor, Refusal, Order, Stop, Refused, OutletFault, Memory, Step, Ident, subgroups_of, GroupLine, cipher_of, event_back, pdu_in, absent, described, sending, phase_of, ident_of, is_ciphered, open_event, performed, setup_of, source_calls, stale_in, takes_units, is_over, Identity, Described, IsPlain, group_step, fault_in, misfit_refusal_of, AbsentIs, Becomes, DescribedIs, StartedIs}
+use Rattle.scenario_sources.proofs.Prelude.{◌≡◌, ◌≢◌, ◌<◌, ◌-◌, ℕ, Air, airs_exist, Bool, true, false, List, [], ◌∷◌, refl, sym, subst, option_or, ◌∙◌, ap, is_some, unwrap_or, option_map, if◌then◌else◌, arith, Option, None, Some, Result, Ok, Err, endpoint, BigInfo, Cipher, subgroups_in, with_cipher, without_cipher, airs_of, pdu_of, stale_of, waiting_of, Call, Setup, next_of, Source, StandsFor, Refusal, Order, Stop, Refused, Step, Ident, subgroups_of, GroupLine, cipher_of, event_back, pdu_in, absent, described, sending, phase_of, ident_of, is_ciphered, open_event, performed, setup_of, source_calls, stale_in, takes_units, is_over, Identity, Described, IsPlain, group_step, fault_in, misfit_refusal_of, AbsentIs, Becomes, DescribedIs, StartedIs}
 use Rattle.std.specs.List.{range_with_len}
 use Rattle.std.specs.Prelude.{map, IfNone, IfSome, OnSome}
 use Rattle.iso_pdu.specs.Encoding.{pdu}
@@ -120,8 +120,7 @@ gives version own old new bis time octets (Err (Refused reason)) is plain identi
   grind (arith, uncoded, option_map, source_calls, airs_of),
   grind (arith, source_calls),
 )
-gives version own old new bis time octets (Err OutletFault) is plain identity said g = g
-gives version own old new bis time octets (Err Memory) is plain identity said g = tt
+gives version own old new bis time octets (Err _) is plain identity said g = g
 
 -- a unit that doesn't fit is refused for that, also where its stream has had a relay, and any other is Relayed
 relayed_by : (a b c d : Bool)
@@ -142,21 +141,7 @@ pub relays_not : (version : ℕ) (own : List Step) (started : Source) (bis : ℕ
     → fault ≡ option_map answer_of (misfit_of started.setup (source_calls own) bis time octets) → reason ≡ misfit_refusal_of fault
     → relayed_or true (fault_in version own (UnitStep bis time octets)) ≡ Some reason
 relays_not version own started bis time octets fault reason is plain fits named =
-    grind (
-      arith,
-      uncoded,
-      relayed_by,
-      nat_lt,
-      length,
-      not,
-      nat_le,
-      waiting_of,
-      setup_of,
-      source_calls,
-      airs_of,
-      misfit_refusal_of,
-      option_map,
-    )
+    grind (arith, uncoded, relayed_by, waiting_of, airs_of)
 
 -- both sources refuse nothing of a unit
 pub lone_relayed : (refusal : Option Refusal) (reason : Refusal) → relayed_or true refusal ≡ Some reason → relayed_or true (option_or refusal None) ≡ Some reason
