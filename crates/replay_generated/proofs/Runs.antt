@@ -219,8 +219,10 @@ module _ {A : Type 0} {olds news : List A} {starts accounts : List Account} {lin
 
 -- ---- a line
 
-module _ (starts : List Account) (history : List TextLine) (line : TextLine) (machine new : Machine) (before after : List Account) (counts : Counts) (text told : List ℕ)
-    (result : Result (Unit {0}) Stop) (run : RunTo starts history counts machine before) (cleared : text ≡ [])
+module _ {starts : List Account} {history : List TextLine} {machine : Machine} {before : List Account} {counts : Counts} (line : TextLine)
+    (new : Machine)
+    (after : List Account) (text told : List ℕ) (result : Result (Unit {0}) Stop) (run : RunTo starts history counts machine before)
+        (cleared : text ≡ [])
     (meets : LinesStand starts history machine before → LineMeets starts history line new text told before after result) where
   met : (r : Result (Unit {0}) Stop) → result ≡ r → LineMeets starts history line new [] told before after r
   met r is = meets_at starts history line new text told before after result r cleared is (meets run.stands)
