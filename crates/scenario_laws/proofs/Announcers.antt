@@ -75,9 +75,6 @@ pub record Tellable (own : List Step) : Type 0 where
   pub full : is_started own ≡ true → is_last_bare own ≡ false
   pub short : is_started own ≡ true → is_base_too_long own ≡ false
 
-there_then : (p : Phase) → not (is_described_at p) ≡ false → is_absent_at p ≡ false
-there_then p is = grind (arith, false≢true)
-
 sends_then : (p : Phase) → not (is_sending_at p) ≡ false → is_absent_at p ≡ false
 sends_then p is = grind (arith, false≢true)
 
@@ -125,7 +122,9 @@ tellable_after airs own (Step.Bis bis config) before allows =
     let new = or_parts (ltb (group_line own).info.num_bis bis) (has_bis own bis) (fails_not (ltb (group_line own).info.num_bis bis || has_bis own bis) NoSuchBis allows.by_source) in
     let idle : is_started own ≡ false = not_yet own (not (has_subgroup own)) allows.in_phase in
     search (not_started, adds_next own bis config before allows.ranged parts.1 new.1)
-tellable_after airs own (Step.Start first) before allows = grind (arith, or_parts, not, is_described_at, phase_of, is_last_bare, there_then, fails_not, is_base_too_long, neither, group_refusal, horizon_in, checked_info, refuse_if)
+tellable_after airs own (Step.Start first) before allows =
+    grind (arith, or_parts, not, is_described_at, phase_of, is_last_bare, fails_not, is_base_too_long, neither, group_refusal, horizon_in,
+    checked_info, refuse_if, false≢true)
 tellable_after airs own Step.Stop before allows = grind (arith, sends_then, phase_of, sends)
 tellable_after airs own (Step.Terminate reason) before allows = grind (arith, sends_then, phase_of, sends)
 tellable_after airs own _ before allows = assumption
@@ -135,9 +134,6 @@ tellable airs [] lawful = grind (arith, false≢true)
 tellable airs (step ∷ own) lawful = tellable_after airs own step (tellable airs own lawful.0) lawful.1
 
 -- ---- what it announces
-
-no_train_end : (fault : Option AnnounceFault) → train_ends fault ≡ None → fault ≡ None
-no_train_end fault none = grind (arith, none-some)
 
 counts : (b : Bool) (fault : AnnounceFault) → cond b (Some fault) None ≡ None → b ≡ false
 counts b fault none = grind (arith, none-some)
@@ -155,6 +151,6 @@ may_announce airs own lawful is_its none =
           (tells.draft (group_line own).delay tells.delay) (tells.full started) (tells.short started);
       widths = assumption;
       cipher = tells.cipher;
-      count = grind (arith, leb-false, next_of, setup_of, source_calls, counts, leb, no_train_end, announce_fault);
+      count = grind (arith, leb-false, next_of, setup_of, source_calls, counts, leb, announce_fault, none-some);
       late = omega (arith, origin);
     }

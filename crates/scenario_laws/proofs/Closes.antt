@@ -64,22 +64,14 @@ gone_moves : (s : ℕ) (gone : Bool) (calls : List Call) (source : Option ℕ) (
     → Moves (is_of s source) calls next [] (is_of s (cond gone None source)) (cond gone [] calls) next'
 gone_moves s gone calls source next next' more within = grind (arith, stay_moves)
 
-on_moves : (mine its : Bool) (on : BigSync) (calls : List Call) (next next' : ℕ) → next ≤ next' → (its ≡ true → on.first ≡ next) → prefix mine calls next ≤ next
-    → Moves mine calls next [] its (tune on ∷ calls) next'
-on_moves mine its on calls next next' more is within = grind arith
-
 put_moves : (s : ℕ) (put : Bool) (on : BigSync) (chosen : ℕ) (calls : List Call) (source : Option ℕ) (next next' : ℕ) → next ≤ next' → ((chosen == s) ≡ true → on.first ≡ next)
     → prefix (is_of s source) calls next ≤ next
     → Moves (is_of s source) calls next [] (is_of s (cond put (Some chosen) source)) (cond put (tune on ∷ calls) calls) next'
-put_moves s put on chosen calls source next next' more is within = grind (arith, on_moves, stay_moves)
-
-same_prefix : (mine : Bool) (calls more : List Call) (next : ℕ) → place more ≡ place calls → ((tuning : BigSync) → closes tuning more ≡ closes tuning calls)
-    → prefix mine more next ≡ prefix mine calls next
-same_prefix mine calls more next there same = grind arith
+put_moves s put on chosen calls source next next' more is within = grind (arith, stay_moves)
 
 more_moves : (mine hit : Bool) (more calls : List Call) (next next' : ℕ) → next ≤ next' → place more ≡ place calls → ((tuning : BigSync) → closes tuning more ≡ closes tuning calls)
     → prefix mine calls next ≤ next → Moves mine calls next [] mine (cond hit more calls) next'
-more_moves mine hit more calls next next' later there same within = grind (arith, same_prefix, stay_moves)
+more_moves mine hit more calls next next' later there same within = grind (arith, stay_moves)
 
 lost_closes : (gone : Bool) (event bis subevent : ℕ) (octets : List ℕ) (calls : List Call) (tuning : BigSync)
     → closes tuning (unless_lost gone (hear event bis subevent octets) calls) ≡ closes tuning calls
@@ -89,12 +81,8 @@ air_closes : (airs : Airs) (own : List Step) (lose count : ℕ) (calls : List Ca
 air_closes airs own lose zero calls tuning = refl
 air_closes airs own lose (suc i) calls tuning = search (lost_closes, air_closes airs own lose i calls tuning)
 
--- a group that is left, and none that is entered
-none_prefix : (mine : Bool) (calls : List Call) (next : ℕ) → place calls ≡ None → prefix mine calls next ≡ next
-none_prefix mine calls next nowhere = grind arith
-
 off_moves : (mine mine' : Bool) (calls later : List Call) (next next' : ℕ) → next ≤ next' → place later ≡ None → prefix mine calls next ≤ next → Moves mine calls next [] mine' later next'
-off_moves mine mine' calls later next next' more nowhere within = grind (arith, none_prefix)
+off_moves mine mine' calls later next next' more nowhere within = grind arith
 
 -- a close of an event of the source, or of another
 close_moves : (mine its : Bool) (last_open : Option ℕ) (calls calls' : List Call) (next next' : ℕ) → ((event : ℕ) → last_open ≡ Some event → event < next) → next ≤ next'
@@ -137,7 +125,7 @@ announced_moves laws airs boxes s n sink earlier next' legal permits more within
         subst (λ calls. Moves (mine_in s n earlier) (sink_calls airs n earlier) (next_in (steps_of_source s earlier)) [] (mine_in s n (Step.Announce sink ∷ earlier)) calls next') (sym put.calls_is)
         (subst (λ source. Moves (mine_in s n earlier) (sink_calls airs n earlier) (next_in (steps_of_source s earlier)) [] (is_of s source) (tune on ∷ sink_calls airs n earlier) next')
         (sym put.source_is)
-        (grind (arith, on_moves, chosen_of, sink_calls, next_in, steps_of_source, eqb-true)))
+        (grind (arith, chosen_of, sink_calls, next_in, steps_of_source, eqb-true)))
   ]
 ]
 
@@ -185,23 +173,19 @@ moved laws airs boxes s n step earlier legal ungiven least within = search (move
 pub made_nothing : (airs : Airs) (n : ℕ) (step : Step) (earlier : List Step) → is_made n earlier step ≡ true → sink_calls airs n (step ∷ earlier) ≡ []
 made_nothing airs n step earlier made = grind (arith, false≢true)
 
-climbs_further : (again : Bool) (before now : List Closed) (low high : ℕ) → again ≡ false → Climb 0 (map event_of before) low → Climb low (map event_of now) high
-    → Climb 0 (map event_of (cond again [] (before ++ now))) high
-climbs_further again before now low high on first rest = grind (arith, false≢true, map_on, climb_on)
-
 closing_on : Announcing → (airs : Airs) (boxes s n : ℕ) (step : Step) (earlier : List Step) → Legal airs boxes (step ∷ earlier) → is_given n step ≡ false → s ≤ 1 → is_made n earlier step ≡ false
     → Closing airs s n earlier → Closing airs s n (step ∷ earlier)
 closing_on laws airs boxes s n step earlier legal ungiven least on before =
     let now = moved laws airs boxes s n step earlier legal ungiven least before.within in
     record {
-      rise = grind (arith, climbs_further, is_made, closed_since, closed_by);
+      rise = grind (arith, is_made, closed_since, closed_by, false≢true, map_on, climb_on);
       within = now.within;
     }
 
 pub closing : Announcing → (airs : Airs) (boxes s n : ℕ) (made : List Step) → Legal airs boxes made → given_since_made n made ≡ false → s ≤ 1 → Closing airs s n made
 closing laws airs boxes s n [] legal ungiven least = record { rise = omega arith; within = omega arith }
 closing laws airs boxes s n (step ∷ earlier) legal ungiven least = elim (cases_Bool (is_made n earlier step)) [
-  | inl again ↦ grind (arith, next_in, steps_of_source, none_prefix, sink_calls, made_nothing, map, cond, closed_since, closed_by)
+  | inl again ↦ grind (arith, next_in, steps_of_source, sink_calls, made_nothing, map, cond, closed_since, closed_by)
   | inr on ↦
       closing_on laws airs boxes s n step earlier legal (last_not (is_made n earlier step) (is_given n step) (given_since_made n earlier) ungiven) least on
       (closing laws airs boxes s n earlier legal.0 (rest_not (is_made n earlier step) (is_given n step) (given_since_made n earlier) ungiven on) least)

@@ -5,9 +5,6 @@ use Rattle.scenario_laws.proofs.RelayedUnits.Offered.{flat_one}
 
 -- ---- a sink that is on a group has a box
 
-gone_housed : (gone : Bool) (box : Option ℕ) (calls : List Call) → (box ≡ None → place calls ≡ None) → cond gone None box ≡ None → place (cond gone [] calls) ≡ None
-gone_housed gone box calls before none = grind arith
-
 is_none : (box : Option ℕ) → is_some box ≡ true → box ≡ None → ⊥
 is_none box has none = grind (arith, false≢true, none-some)
 
@@ -24,7 +21,7 @@ has_box sink earlier none = not-false (is_some (box_of sink earlier)) (fails_not
 housed_after : (airs : Airs) (boxes n : ℕ) (step : Step) (earlier : List Step) (calls : List Call) → Permitted airs boxes earlier step → (box_of n earlier ≡ None → place calls ≡ None)
     → box_after n step earlier (box_of n earlier) ≡ None → place (with_sink_call airs n step earlier calls) ≡ None
 housed_after airs boxes n step earlier calls permits before none =
-    grind (arith, gone_housed, has_box, same_place, air_place, tick_if_place, end_place, unmoved, unmade, none-some, is_none, eqb-true)
+    grind (arith, has_box, same_place, air_place, tick_if_place, end_place, unmoved, unmade, none-some, is_none, eqb-true)
 
 housed : (airs : Airs) (boxes n : ℕ) (made : List Step) → Legal airs boxes made → box_of n made ≡ None → place (sink_calls airs n made) ≡ None
 housed airs boxes n [] legal none = refl
@@ -98,14 +95,10 @@ shown_by airs s n earlier _ = []
 cond_same : (units : List Handed) (b : Bool) → cond b units units ≡ units
 cond_same units b = grind arith
 
-closing_open : (airs : Airs) (boxes s n : ℕ) (made : List Step) (last_open : Option ℕ) → Legal airs boxes made → n ≤ 7
-    → of_sink s n (closing_at airs s made last_open) ≡ shown_if (is_of s (source_of n made)) (sink_calls airs n made) last_open
-closing_open airs boxes s n made last_open legal within = grind (arith, cond_same, sink_closing)
-
 pub closing_shown : (airs : Airs) (boxes s c n : ℕ) (made : List Step) → Legal airs boxes made → n ≤ 7
     → of_sink s n (closing airs c made) ≡ cond (c == s) (shown_with airs s n made) []
 closing_shown airs boxes s c n made legal within = elim (cases_eq c s) [
-  | inl same ↦ grind (arith, of_sink, closing_open, open_event, steps_of_source, cond-true, eq-eqb)
+  | inl same ↦ grind (arith, of_sink, open_event, steps_of_source, cond-true, eq-eqb, cond_same, sink_closing)
   | inr apart ↦ grind (arith, other_source, open_event, steps_of_source, cond-false, ne_eqb)
 ]
 

@@ -68,10 +68,6 @@ tick_if_own : (laid : ℕ → Content) (tuning : BigSync) (bis : ℕ) (mine : Bo
     → AllOwn laid tuning bis calls → AllOwn laid tuning bis (ticked_if mine last_open calls)
 tick_if_own laid tuning bis mine last_open calls all = grind (arith, laid)
 
-inject_own : (laid : ℕ → Content) (tuning : BigSync) (bis : ℕ) (mine its injected : Bool) (call : Call) (calls : List Call)
-    → (mine || injected) ≡ false → (injected ≡ false → AllOwn laid tuning bis calls) → AllOwn laid tuning bis (cond (mine && its) (call ∷ calls) calls)
-inject_own laid tuning bis mine its injected call calls clean before = grind (arith, false≢true)
-
 -- ---- a place on the air that isn't refused
 
 pub record OnAir (own : List Step) (back bis subevent : ℕ) : Type 0 where
@@ -120,7 +116,8 @@ own_after airs laid tuning boxes s n bis (Step.Air sink lose) earlier injected p
     (ready clean).all
     (λ mine. let now = sent_by airs laid tuning bis s n sink earlier (sink_calls airs n earlier) there mine (ready clean) in
     air_own airs laid tuning (chosen_steps earlier) bis lose (positions_of (chosen_steps earlier)) (sink_calls airs n earlier) now.sent least now.bounds.nse (omega (arith, near)) (omega arith) now.all)
-own_after airs laid tuning boxes s n bis (Step.Inject sink back stream subevent octets) earlier injected permits least there clean ready = grind (arith, inject_own, laid, is_of, chosen_of, source_of, hear, event_back, chosen_steps, sink_calls)
+own_after airs laid tuning boxes s n bis (Step.Inject sink back stream subevent octets) earlier injected permits least there clean ready =
+    grind (arith, laid, is_of, chosen_of, source_of, hear, event_back, chosen_steps, sink_calls, false≢true)
 own_after airs laid tuning boxes s n bis Step.End earlier injected permits least there clean ready =
     tick_if_own laid tuning bis (is_of 1 (source_of n earlier)) (open_event (steps_of_source 1 earlier))
     (ticked_if (is_of 0 (source_of n earlier)) (open_event (steps_of_source 0 earlier)) (sink_calls airs n earlier))

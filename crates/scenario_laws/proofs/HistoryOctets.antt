@@ -40,14 +40,11 @@ repeats (suc count) call calls is before = (is, repeats count call calls is befo
 remove_octets : (source_id : ℕ) → source_id < 256 → IsOctets (encoding (operations.Remove source_id))
 remove_octets source_id small = cons_octets 5 (source_id ∷ []) (omega arith) (cons_octets source_id [] small nil_octets)
 
-code_octets : (source_id : ℕ) (code : List ℕ) → source_id < 256 → IsOctets code → IsOctets (encoding (operations.Code source_id code))
-code_octets source_id code small octets = grind (arith, cons_octets, append-nil)
-
 octets_called : (world : World) (n : ℕ) (step : Step) (earlier : List Step) (made : Option Settings) (calls : List Call) → IsInRange step
     → AreOctets calls → AreOctets (calls_after world n step earlier made calls)
 octets_called world n (Step.Sink sink streams slots mtu) earlier made calls ranged before = octets_if (sink == n) (born mtu) calls
     (grind arith) before
-octets_called world n step earlier made calls ranged before = grind (arith, octets_if, remove_octets, code_octets, repeats)
+octets_called world n step earlier made calls ranged before = grind (arith, octets_if, remove_octets, repeats, cons_octets, append-nil)
 
 pub history_octets : (world : World) (n : ℕ) (steps : List Step) → Ranged steps → AreOctets (history_of world n steps)
 history_octets world n [] ranged = tt

@@ -15,11 +15,8 @@ InRange (a_step step) = IsInRange step
 InRange nothing = Unit {0}
 InRange (unsaid reason) = Unit {0}
 
-by_reading : (r : Result (Option Step) LineFault) → ((step : Step) → r ≡ Ok (Some step) → IsInRange step) → InRange (said_by r)
-by_reading r ranged = grind arith
-
 pub in_range : LinesInRange → (version : ℕ) (line : TextLine) → InRange (said_in version line)
-in_range ranged version line = grind (arith, by_reading)
+in_range ranged version line = grind arith
 
 legal_said : (airs : Airs) (boxes : ℕ) (earlier : List Step) (said : Said) → AreSaidLegally airs boxes earlier → InRange said
     → refusal_said airs boxes (happened airs earlier) said ≡ None → AreSaidLegally airs boxes (with_said said earlier)

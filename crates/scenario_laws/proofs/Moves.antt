@@ -44,13 +44,10 @@ StaysBy airs n step earlier =
 left_or_not : (was is : Bool) (calls : List Call) → Left (with_leave was is calls) calls
 left_or_not was is calls = grind arith
 
-moved_left : (n : ℕ) (named : Option ℕ) (step : Step) (earlier : List Step) (calls : List Call) → train_by (source_at earlier) step ≡ None → Left (moved n named step earlier calls) calls
-moved_left n named step earlier calls none = grind (arith, left_or_not)
-
 pub plain_stays : (airs : Airs) (n : ℕ) (step : Step) (earlier : List Step) → train_by (source_at earlier) step ≡ None
     → moved n (named_by step) step earlier (sink_calls airs n earlier) ≡ with_sink_call airs n step earlier (sink_calls airs n earlier)
     → source_after n step earlier (source_of n earlier) ≡ source_of n earlier → is_tuned n earlier step ≡ false → StaysBy airs n step earlier
-plain_stays airs n step earlier none is same begins_not = grind (arith, sink_calls, moved_left, named_by)
+plain_stays airs n step earlier none is same begins_not = grind (arith, sink_calls, named_by, left_or_not)
 
 pub same_if : {A : Type 0} (hit : Bool) (x : A) → cond hit x x ≡ x
 same_if hit x = grind arith
@@ -72,10 +69,6 @@ given_stays airs n sink time ext adv acad earlier other = search arith
 
 -- ---- a train that is announced
 
-heard_at : (setup : Setup) (snapshot : Snapshot) (train : Train) (slot : Option ℕ) (other : ℕ) (answer : TrainHeard) (encrypted : Option Bool)
-    → by_slot setup snapshot train slot ≡ heard other answer encrypted → has_group snapshot.place ≡ false
-heard_at setup snapshot train slot other answer encrypted is = grind arith
-
 -- what the source of a line announces synchronizes a sink, of this history, to this BIG
 pub record BroughtTo (source : Source) (lives : List LinkCall) (big_sync : BigSync) : Type 0 where
   pub made : Settings
@@ -87,7 +80,7 @@ by_train : (source : Source) (lives : List LinkCall) (made : Settings) (later : 
     its_source (cond (follows brought) (Some source.number) its_source)
 by_train source lives made later calls its_source nowhere (ignored answer) is = grind (arith, left_or_not, has_group, snapshot_in)
 by_train source lives made later calls its_source nowhere (heard slot answer encrypted) is =
-    let off : has_group (snapshot_in made lives).place ≡ false = grind (arith, heard_at) in
+    let off : has_group (snapshot_in made lives).place ≡ false = grind arith in
     inr (inl (assumption (ap (λ was. with_leave was (has_group later.place) calls) off, nowhere off)))
 by_train source lives made later calls its_source nowhere (taken slot bits encrypted big_sync) is =
     inr (inr (record { big_sync = big_sync; brings = record { made = made; is = ap big_sync_in is }; calls_is = refl; source_is = refl; begins_is = refl }))

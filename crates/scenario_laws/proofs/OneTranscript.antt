@@ -126,9 +126,6 @@ ends_same airs others both starts made legal none =
 
 -- ---- lines
 
-said_refused : (airs others : Airs) → Both airs others → (boxes : ℕ) (made : List Step) (said : Said) → Legal airs boxes made → refusal_said airs boxes made said ≡ refusal_said others boxes made said
-said_refused airs others both boxes made said legal = grind (arith, refusal_same, legal, legal_too)
-
 said_brought : (airs others : Airs) → Both airs others → (starts : List Account) (made : List Step) (said : Said) → Legal airs (length starts) made
     → refusal_said airs (length starts) made said ≡ None → output_said airs starts made said ≡ output_said others starts made said
 said_brought airs others both starts made said legal none =
@@ -160,7 +157,8 @@ steps_same airs others told starts history accepted = grind (arith, happened_sam
 refused_same : (airs others : Airs) → Told airs others → (starts : List Account) (history : List TextLine) (line : TextLine) → Accepted (rules_of airs starts) history
     → refusal_said airs (length starts) (steps_of airs history) (said_after history line)
     ≡ refusal_said others (length starts) (steps_of others history) (said_after history line)
-refused_same airs others told starts history line accepted = grind (arith, said_refused, length, steps_of, legal, refusal_said, steps_same)
+refused_same airs others told starts history line accepted =
+    grind (arith, length, steps_of, legal, refusal_said, steps_same, refusal_same, legal_too)
 
 pub brought_same : (airs others : Airs) → Told airs others → (starts : List Account) (history : List TextLine) (line : TextLine)
     → Accepted (rules_of airs starts) history → refusal_said airs (length starts) (steps_of airs history) (said_after history line) ≡ None

@@ -3,17 +3,12 @@ use Rattle.scenario_laws.proofs.Known.Sources.Steps.Prelude.{ℕ, ◌≡◌, ◌
 
 -- ---- the PDU of a number
 
-in_event : (info : BigInfo) (entry : Laid) (earlier : Air) (units : List Sent) (number : ℕ) → 1 ≤ info.bn → length earlier ≡ number / info.bn
-    → entry.pdus ≡ map (λ n. pdu (framed (parts_at units n))) (range_with_len (length earlier * info.bn) info.bn)
-    → slice_get entry.pdus (number % info.bn) ≡ Some (pdu (framed (parts_at units number)))
-in_event info entry earlier units number some here are =
-    grind (arith, div-add-mod', slice_get, get-range, pdu, framed, parts_at, length, mod_below)
-
 pub each_sent : (info : BigInfo) (air : Air) (units : List Sent) (number : ℕ) → 1 ≤ info.bn → EventsAre info air units → number / info.bn < length air
     → pdu_at info.bn air number ≡ Some (pdu (framed (parts_at units number)))
 each_sent info [] units number some are below = absurd (omega (arith, below))
 each_sent info (entry ∷ earlier) units number some are below = elim (cases_eq (length earlier) (number / info.bn)) [
-  | inl here ↦ grind (arith, option_and_then, slice_get, cond, event_at, eq-eqb, length, in_event)
+  | inl here ↦ grind (arith, option_and_then, slice_get, cond, event_at, eq-eqb, length, div-add-mod', get-range, pdu, framed, parts_at,
+  mod_below)
   | inr apart ↦
       ap (λ b. option_and_then (λ (event : Laid). slice_get event.pdus (number % info.bn)) (cond b (Some entry.event) (event_at earlier (number / info.bn)))) (ne_eqb (length earlier)
       (number / info.bn) apart) ∙ each_sent info earlier units number some are.0 (omega (arith, below, apart))

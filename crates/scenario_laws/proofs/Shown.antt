@@ -65,9 +65,6 @@ units_in_slots setup tuning bis calls event on least =
     let is = handed_is bis (time_of (stay_on tuning bis) event slot) (unit_of tuning.info.max_sdu (map (heard_in (stay_on tuning bis) calls) (numbers_of (stay_on tuning bis) event slot))) in
     (is.0, is.1 ∙ slot_time_is setup tuning bis event slot on least))
 
-not_in_slots : (setup : Setup) (bis : ℕ) (over : Bool) (closed : Closed) → is_in closed.which bis ≡ false → slots_closed setup bis (cond over (closed ∷ []) []) ≡ []
-not_in_slots setup bis over closed out = grind arith
-
 one_slots : (setup : Setup) (bis : ℕ) (closed : Closed) → is_in closed.which bis ≡ true
     → slots_closed setup bis (closed ∷ []) ≡ map (λ slot. record { event = closed.event; slot = slot }) (range_with_len 0 (per_event_of setup.info))
 one_slots setup bis closed taken = search (append-nil, cond-true)
@@ -93,7 +90,7 @@ event_zip below setup bis event calls (Some tuning) is on plain least within = e
       let none : of_stream bis (handed_at calls event) ≡ [] =
       tick_others below event calls tuning bis is (λ at. true_not_false (is_in tuning.which bis) (member_is tuning.which bis at).0 free) in
       subst (λ shown. AllZip (IsOfSlot setup bis) (slots_closed setup bis (closed_in (Some tuning) calls event)) shown) (sym none)
-      (grind (arith, not_in_slots, leb))
+      (grind (arith, leb))
 ]
 
 -- ---- step by step

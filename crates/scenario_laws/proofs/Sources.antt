@@ -12,9 +12,6 @@ true_not_false b holds fails = false≢true (sym fails ∙ holds)
 
 -- ---- the phases
 
-described_then : (p : Phase) → not (is_described_at p) ≡ false → was_started_at p ≡ false
-described_then p is = grind (arith, false≢true)
-
 pub sends : (own : List Step) → not (is_sending own) ≡ false → is_started own ≡ true
 sends own is = grind (arith, false≢true, phase_of)
 
@@ -32,7 +29,7 @@ hears own is = not-false (is_started own) (left_fails (is_started own) (not (is_
 
 -- a step that stands before `start`, and not where something else holds
 pub not_yet : (own : List Step) (other : Bool) → (not (is_described_at (phase_of own)) || other) ≡ false → is_started own ≡ false
-not_yet own other is = grind (arith, described_then, phase_of, or_parts, not, is_described_at)
+not_yet own other is = grind (arith, phase_of, or_parts, not, is_described_at, false≢true)
 
 -- ---- the steps of a source
 
@@ -79,19 +76,12 @@ pub record Settled (own : List Step) : Type 0 where
   pub unbegun : is_started own ≡ false → unwrap_or (start_of own) 0 ≡ 0
   pub under_way : is_started own ≡ true → is_unbegun_at (stage_of own) ≡ false
 
-widths_in : (framing origin delay iso sdu max_sdu max_pdu num_bis bn nse irc pto sub spacing phy : ℕ)
-    → GroupRanges framing origin delay iso sdu max_sdu max_pdu num_bis bn nse irc pto sub spacing phy
-    → FitsWidths (info_with framing iso sdu max_sdu max_pdu num_bis bn nse irc pto sub spacing phy)
-widths_in framing origin delay iso sdu max_sdu max_pdu num_bis bn nse irc pto sub spacing phy ranged = search arith
-
-no_widths : FitsWidths no_group.info
-no_widths = search arith
-
 begins : (own : List Step) → (is_started own ≡ true → is_unbegun_at (stage_of own) ≡ false) → not (is_unbegun_at (stage_of own)) ≡ false → is_started own ≡ false
 begins own before is = grind (arith, cases_Bool, is_started, true_not_false, is_unbegun_at, stage_of, not-false)
 
 settled_after : (airs : Airs) (own : List Step) (step : Step) → Settled own → Allowed airs own step → Settled (step ∷ own)
-settled_after airs own (Step.Group framing origin delay iso sdu max_sdu max_pdu num_bis bn nse irc pto sub spacing phy) before allows = grind (arith, widths_in, false≢true, no_group_yet)
+settled_after airs own (Step.Group framing origin delay iso sdu max_sdu max_pdu num_bis bn nse irc pto sub spacing phy) before allows =
+    grind (arith, false≢true, no_group_yet)
 settled_after airs own (Step.Start first) before allows = record {
   widths = before.widths;
   uncoded = before.uncoded;
@@ -110,7 +100,7 @@ settled_after airs own Step.Event before allows = grind (arith, true_not_false, 
 settled_after airs own _ before allows = assumption
 
 pub settled : (airs : Airs) (own : List Step) → Lawful airs own → Settled own
-settled airs [] legal = grind (arith, no_widths, false≢true)
+settled airs [] legal = grind (arith, false≢true)
 settled airs (step ∷ own) legal = settled_after airs own step (settled airs own legal.0) legal.1
 
 -- a start stays, and with it what fixes the source

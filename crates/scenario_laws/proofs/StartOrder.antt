@@ -31,16 +31,13 @@ behind_more at (next ∷ places) high more most behind = (behind.0, behind_more 
 pub rise_more : (low : ℕ) (places : List SegmentPlace) (high more : ℕ) → high ≤ more → RiseTo low places high → RiseTo low places more
 rise_more low places high more most rise = grind (arith, behind_more)
 
-rise_from : (low from : ℕ) (places : List SegmentPlace) (high : ℕ) → low ≤ from → RiseTo from places high → RiseTo low places high
-rise_from low from places high least rise = grind arith
-
 behind_on : (at : SegmentPlace) (xs : List SegmentPlace) (middle : ℕ) (ys : List SegmentPlace) (high : ℕ) → Behind at xs middle → RiseTo middle ys high → Behind at (xs ++ ys) high
 behind_on at [] middle [] high first rest = omega (arith, first, rest)
 behind_on at [] middle (y ∷ ys) high first rest = (inl (omega (arith, first, rest.0)), rest.1)
 behind_on at (x ∷ xs) middle ys high first rest = (first.0, behind_on x xs middle ys high first.1 rest)
 
 pub rise_on : (low : ℕ) (xs : List SegmentPlace) (middle : ℕ) (ys : List SegmentPlace) (high : ℕ) → RiseTo low xs middle → RiseTo middle ys high → RiseTo low (xs ++ ys) high
-rise_on low xs middle ys high first rest = grind (arith, rise_from, behind_on)
+rise_on low xs middle ys high first rest = grind (arith, behind_on)
 
 behind_order : (at : SegmentPlace) (places : List SegmentPlace) (high : ℕ) → Behind at places high → AreInOrder (at ∷ places)
 behind_order at [] high behind = tt
@@ -208,10 +205,6 @@ record GoesOn (n : ℕ) (all made : List Step) : Type 0 where
   pub split : all ≡ later ++ made
   pub same_sink : list_any (is_made n made) later ≡ false
 
--- it doesn't matter what came before
-any_alike : (n : ℕ) (before before' later : List Step) → list_any (is_made n before) later ≡ list_any (is_made n before') later
-any_alike n before before' later = search made_alike
-
 neither : (a b : Bool) → a ≡ false → b ≡ false → (a || (b || false)) ≡ false
 neither a b first second = grind (arith, true_not_false)
 
@@ -219,7 +212,7 @@ went_on : (n : ℕ) (all : List Step) (step : Step) (earlier : List Step) → is
 went_on n all step earlier still goes = record {
   later = goes.later ++ step ∷ [];
   split = goes.split ∙ sym (append_assoc goes.later (step ∷ []) earlier);
-  same_sink = grind (arith, list_any-append, is_made, neither, list_any, any_alike);
+  same_sink = grind (arith, list_any-append, is_made, neither, list_any, made_alike);
 }
 
 -- ---- the starts of one stay, by all steps

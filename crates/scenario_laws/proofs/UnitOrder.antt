@@ -60,10 +60,6 @@ entry_stream : (bis time : ℕ) (octets : List ℕ) (whole : Type 0) (entry : Ha
     → (bis_of entry ≡ bis) × (time_in entry ≡ time)
 entry_stream bis time octets whole entry is = grind (arith, bis_of, time_in)
 
-entry_octets : (bis time : ℕ) (octets all : List ℕ) (whole : Type 0) (entry : Handed) → (whole → octets ≡ all) → ((entry ≡ lost bis time) ⊎ (whole × (entry ≡ valid bis time octets)))
-    → (bis' time' : ℕ) (octets' : List ℕ) → entry ≡ valid bis' time' octets' → octets' ≡ all
-entry_octets bis time octets all whole entry of_unit is bis' time' octets' same = grind arith
-
 pub one_entry : (setup : Setup) (whole : List SourceCall) (tuning : BigSync) (bis : ℕ) (air : Air) (n : ℕ) (sent : Sent) (entry : Handed) (calls : List StayCall) → 1 ≤ setup.info.bn
     → TunedTo setup tuning → opened (stay_on tuning bis) calls ≤ next_of setup whole → IsInAir setup whole bis air n sent
     → IsEntry (stay_on tuning bis) (is_heard (stay_on tuning bis) calls) (closed_end (stay_on tuning bis) calls) sent entry
@@ -107,7 +103,7 @@ one_entry setup whole tuning bis air n sent entry calls some on opens numbered i
       ready = omega (arith, is_of.timed.ready, anchor_is);
       stream = parts.0;
       time_is = grind (arith, parts.1, start_time_is setup tuning bis event one.offset on first_event, is_of.timed.offset);
-      valid_is = grind (arith, entry_octets, time_of, stay_on);
+      valid_is = grind (arith, time_of, stay_on);
     }
 
 stay_gives : (setup : Setup) (whole : List SourceCall) (tuning : BigSync) (bis : ℕ) (air : Air) (calls : List StayCall) → 1 ≤ setup.info.bn → TunedTo setup tuning

@@ -81,12 +81,9 @@ air_since airs own lose (suc i) calls = search (lost_since, air_since airs own l
 more_since : (mine : Bool) (more calls : List Call) → ticked_since more ≡ ticked_since calls → ticked_since (cond mine more calls) ≡ ticked_since calls ++ []
 more_since mine more calls same = grind (arith, append-nil)
 
-tick_since : (last_open : Option ℕ) (calls : List Call) → ticked_since (ticked last_open calls) ≡ ticked_since calls ++ handed_open calls last_open
-tick_since last_open calls = grind (arith, append-nil)
-
 if_since : (its : Bool) (last_open : Option ℕ) (calls : List Call)
     → ticked_since (cond its (ticked last_open calls) calls) ≡ ticked_since calls ++ cond its (handed_open calls last_open) []
-if_since its last_open calls = grind (arith, tick_since, append-nil)
+if_since its last_open calls = grind (arith, append-nil)
 
 own_if : (s : ℕ) (source : Option ℕ) (units : List Handed) → source ≡ Some s → cond (is_of s source) units [] ≡ units
 own_if s source units is = ap (λ o. cond (is_of s o) units []) is ∙ ap (λ b. cond b units []) (eq-eqb s s refl)
@@ -138,7 +135,7 @@ since_after airs boxes s n (Step.Air sink lose) earlier tuning legal least withi
     (λ its. more_since (reaches sink n earlier) _ (sink_calls airs n earlier) (air_since airs (chosen_steps earlier) lose (positions_of (chosen_steps earlier)) (sink_calls airs n earlier)))
 since_after airs boxes s n Step.End earlier tuning legal least within is since =
     still_since airs boxes s n Step.End earlier tuning legal least within (λ on by. by) is since
-    (grind (arith, end_ticks, open_event, steps_of_source, sink_calls, source_of, tick_since, own_if, handed_open))
+    (grind (arith, end_ticks, open_event, steps_of_source, sink_calls, source_of, own_if, handed_open, append-nil))
 since_after airs boxes s n (Step.Announce sink) earlier tuning legal least within is since = elim (announced airs n sink earlier) [
   | inl stays ↦ stays_since airs boxes s n (Step.Announce sink) earlier tuning stays refl is since
   | inr goes ↦ grind (arith, none-some, of_sink, cond, handed_since, is_tuned)

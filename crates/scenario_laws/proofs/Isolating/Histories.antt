@@ -22,10 +22,6 @@ waiting_same setup mtu link a b same = cc (same.served link, same.written link)
 
 -- ---- a call more
 
-or_same : {A : Type 0} (given : Option A) (x y : Option A) (none : A) → unwrap_or x none ≡ unwrap_or y none
-    → unwrap_or (option_or given x) none ≡ unwrap_or (option_or given y) none
-or_same given x y none same = grind arith
-
 snapshot_with : (setup : Setup) (more : Option Step) (xs ys : List Step) → snapshot_of setup xs ≡ snapshot_of setup ys
     → snapshot_of setup (with_step more xs) ≡ snapshot_of setup (with_step more ys)
 snapshot_with setup more xs ys same = grind (arith, snapshot_goes_on)
@@ -52,7 +48,7 @@ acts_grow setup mtu link call a b same now = grind arith
 pub grows : (setup : Setup) (mtu : Option ℕ) (call : Call) (a b : List Call) → Alike setup mtu a b → Alike setup mtu (call ∷ a) (call ∷ b)
 grows setup mtu call a b same = record {
   snapshot = snapshot_grows setup mtu call a b same;
-  joined = grind (arith, or_same, joining_by);
+  joined = grind (arith, joining_by);
   written = λ link. written_grows link call a b (same.written link);
   served = λ link. served_grows link call a b (same.served link) (same.written link);
   acts = λ link. acts_grow setup mtu link call a b same (snapshot_grows setup mtu call a b same);
@@ -101,15 +97,13 @@ drains setup mtu link a b same = search (read_grow, told_grow, served_grow)
 
 -- ---- a train that is ignored
 
-pub done_nothing : (brought : TrainOutcome) → follows brought ≡ false → done_by_outcome brought ≡ nothing
-done_nothing brought not = grind (arith, false≢true)
-
 pub ignores : (setup : Setup) (mtu : Option ℕ) (train : Train) (a : List Call)
     → follows (outcome_by setup (snapshot_of setup (steps_of a)) train) ≡ false → Alike setup mtu (Call.stepped (train_heard train) ∷ a) a
 ignores setup mtu train a not =
     let snapshot : Snapshot = snapshot_of setup (steps_of a) in
     let more : List Call = Call.stepped (train_heard train) ∷ a in
-    let now : snapshot_of setup (steps_of more) ≡ snapshot = grind (arith, snapshot_goes_on, train_heard, done_nothing, outcome_by) in record {
+    let now : snapshot_of setup (steps_of more) ≡ snapshot = grind (arith, snapshot_goes_on, train_heard, outcome_by,
+    false≢true) in record {
       snapshot = now;
       joined = λ link. refl;
       written = λ link. refl;

@@ -66,9 +66,6 @@ lines_kept airs s n (step ∷ made) puts_not =
 
 -- ---- the law
 
-same_history : (made : Settings) (a b : List Call) → Alike made.setup made.mtu a b → IsSameHistory made a b
-same_history made a b same = grind (arith, state_at, waiting_same, replied_same, notices_same, waits_of, language, view_of)
-
 pub isolated : (airs : Airs) (s n : ℕ) (made : List Step) → NoOtherPuts s n made → IsIsolated airs s n made
 isolated airs s n made puts_not =
     let same : Same airs s n made (only s n made) = same_of airs s n made puts_not in record {
@@ -77,7 +74,7 @@ isolated airs s n made puts_not =
       calls = same.calls;
       units = same.units;
       sums = same.took;
-      lives = grind (arith, same_history, calls_made, only);
+      lives = grind (arith, calls_made, only, state_at, waiting_same, replied_same, notices_same, waits_of, language, view_of);
       lines = lines_kept airs s n made puts_not;
     }
 

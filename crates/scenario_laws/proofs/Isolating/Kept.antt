@@ -28,15 +28,12 @@ source_grows : (airs : Airs) (s n : ℕ) (step : Step) (made others : List Step)
     → source_of n (step ∷ made) ≡ source_of n (step ∷ others)
 source_grows airs s n step made others means same = grind (arith, cond_same, chosen_alike, sourced_same, source_alike)
 
-none_apart : (hit : Bool) (t : ℕ) (source : Option ℕ) → is_of t source ≡ false → is_of t (cond hit None source) ≡ false
-none_apart hit t source apart = grind arith
-
 one_apart : (hit : Bool) (t one : ℕ) (source : Option ℕ) → one ≢ t → is_of t source ≡ false → is_of t (cond hit (Some one) source) ≡ false
 one_apart hit t one source other apart = grind (arith, ne_eqb)
 
 apart_grows : (airs : Airs) (s n : ℕ) (step : Step) (made others : List Step) → Means s made step → Same airs s n made others
     → (t : ℕ) → t ≢ s → is_of t (source_of n (step ∷ made)) ≡ false
-apart_grows airs s n step made others means same t other = grind (arith, none_apart, one_apart)
+apart_grows airs s n step made others means same t other = grind (arith, one_apart)
 
 -- ---- what its receivers took
 

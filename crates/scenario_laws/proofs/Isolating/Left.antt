@@ -49,23 +49,16 @@ history_other n step made other = grind (arith, pass)
 source_other : (n : ℕ) (step : Step) (made : List Step) → is_other n (sink_in step) ≡ true → source_of n (step ∷ made) ≡ source_of n made
 source_other n step made other = grind (arith, pass)
 
-calls_other : (airs : Airs) (n : ℕ) (step : Step) (made : List Step) → is_other n (sink_in step) ≡ true
-    → sink_calls airs n (step ∷ made) ≡ sink_calls airs n made
-calls_other airs n step made other = grind (arith, pass, false≢true)
-
 box_other : (n : ℕ) (step : Step) (made : List Step) → is_other n (sink_in step) ≡ true → box_of n (step ∷ made) ≡ box_of n made
 box_other n step made other = grind (arith, pass)
 
 pub another_sink : (airs : Airs) (s n : ℕ) (step : Step) (made : List Step) → is_other n (sink_in step) ≡ true → Leaves airs s n step made
 another_sink airs s n step made other =
-    grind (arith, quiet, said_stays, made_other, lives_equal, history_other, source_other, calls_other, box_other)
+    grind (arith, quiet, said_stays, made_other, lives_equal, history_other, source_other, box_other, pass, false≢true)
 
 -- ---- a line that means another source, and puts the sink on no train and no group, changes nothing of the sink and of the source
 
 -- ---- a source line is no common step, and neither makes nor drops a sink
-
-not_common : (step : Step) → is_source_line step ≡ true → is_common step ≡ false
-not_common step is = grind (arith, false≢true)
 
 -- ---- a train that isn't followed
 
@@ -78,13 +71,10 @@ train_lives false source train made a not = lives_itself made a
 not_joined : (brought : TrainOutcome) → follows brought ≡ false → big_sync_in brought ≡ None
 not_joined brought not = grind (arith, false≢true)
 
-not_left : (on : Bool) (calls : List Call) → with_leave on on calls ≡ calls
-not_left on calls = grind arith
-
 train_received : (hit : Bool) (source : Source) (line : Step) (train : Train) (made : Option Settings) (a a' : List LinkCall) (calls : List Call)
     → train_by source line ≡ Some train → (hit && follows_by source (Some train) made a) ≡ false → HistoriesAlike made (cond hit a' a) a
     → cond hit (received_by source line made a (cond hit a' a) calls) calls ≡ calls
-train_received hit source line train made a a' calls is not same = grind (arith, not_joined, not_left)
+train_received hit source line train made a a' calls is not same = grind (arith, not_joined)
 
 -- ---- the history
 
@@ -120,4 +110,4 @@ calls_stay airs n _ made is not apart = search (cond-false, and_right, false≢t
 pub elsewhere : (airs : Airs) (s n : ℕ) (step : Step) (made : List Step) → is_source_line step ≡ true → chosen_of made ≢ s
     → puts n made step ≡ false → is_of (chosen_of made) (source_of n made) ≡ false → Leaves airs s n step made
 elsewhere airs s n step made is other not apart =
-    grind (arith, said_elsewhere, not_common, and_right, ne_eqb, history_stays, not, cond-false, calls_stay, false≢true, closing_none)
+    grind (arith, said_elsewhere, and_right, ne_eqb, history_stays, not, cond-false, calls_stay, false≢true, closing_none)

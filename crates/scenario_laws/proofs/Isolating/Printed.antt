@@ -82,14 +82,10 @@ train_same sink made a b train same = ap (λ snapshot. sink_line sink (train_wor
 
 -- ---- what a line prints that names the sink
 
-printed_sourced : (line : Step) (source source' : Source) → Sourced line source source' → (made : Settings) (calls : List Call)
-    → printed_of source line made calls ≡ printed_of source' line made calls
-printed_sourced _ source source' sourced made calls = grind arith
-
 pub printed_same : (line : Step) (source source' : Source) (made made' : Option Settings) (a b : List Call) → Sourced line source source'
     → made ≡ made' → HistoriesAlike made a b → printed_where source line made a ≡ printed_where source' line made' b
 printed_same line source source' made made' a b sourced sinks_same same =
-    grind (arith, printed_sourced, serve_same, tell_same, read_line_same, drain_same, shown_same, train_same, views_same)
+    grind (arith, serve_same, tell_same, read_line_same, drain_same, shown_same, train_same, views_same)
 
 -- ---- what a step prints that is kept: the same over both lists of steps
 

@@ -54,17 +54,11 @@ settled airs boxes to (step ∷ earlier) legal had =
 
 -- ---- the reasons
 
-same_reason : (long above full : Bool) → option_map give_refusal (cond long (Some give_faults.UnitTooLong)
-    (cond (not (above && true)) (Some give_faults.TimeOrder) (cond full (Some give_faults.Backlog) None)))
-    ≡ option_map refusal_named (cond long (Some drops.UnitTooLong)
-    (cond (not above) (Some drops.TimeOrder) (cond full (Some drops.Backlog) None)))
-same_reason long above full = grind arith
-
 by_takes : (takes : Bool) (airs : Airs) (version : ℕ) (own : List Step) (offer : Offer) → Settled own offer.route.to → version_of own ≡ 2
     → option_or (refuse_if (not takes) Refusal.Order)
     (source_refusal airs version own (Step.Unit offer.route.to (Some offer.unit.time) offer.unit.octets))
     ≡ option_map refusal_named (drop_name airs offer.route.to offer.unit (second_at takes own))
-by_takes takes airs version own offer set second = grind (arith, same_reason, ltb, eqb-true)
+by_takes takes airs version own offer set second = grind (arith, ltb, eqb-true)
 
 one_named : (airs : Airs) (boxes : ℕ) (offer : Offer) (made : List Step) → AreLegal airs boxes made → version_of made ≡ 2
     → relay_of offer.sink made ≡ Some offer.route

@@ -47,10 +47,6 @@ none_of_four over misplaced out source p q r s = rw (p, q, r, s) refl
 choosing : (airs : Airs) (boxes source : ℕ) (made : List Step) → Runs made → refusal_of airs boxes made (Step.Source source) ≡ None
 choosing airs boxes source made runs = none_of_four (is_over made) (is_unbegun made) false None runs.goes_on runs.begun refl refl
 
-giving : (airs : Airs) (boxes : ℕ) (offer : Offer) (made : List Step) → Runs made → dropped_for airs offer made ≡ None
-    → refusal_of airs boxes (Step.Source 1 ∷ made) (Step.Unit offer.route.to (Some offer.unit.time) offer.unit.octets) ≡ None
-giving airs boxes offer made runs none = grind (arith, neither, not, none_of_four, fails_not)
-
 pub second_false : (a b : Bool) (x y : UnitFault) (z : Option UnitFault) → cond a (Some x) (cond b (Some y) z) ≡ None → b ≡ false
 second_false a b x y z none = grind (arith, none-some)
 
@@ -63,7 +59,8 @@ short airs boxes offer made legal none = grind (arith, neither, not, length, ltb
 
 pub unless_legal : (airs : Airs) (boxes : ℕ) (reason : Option Refusal) (offer : Offer) (made : List Step) → AreLegal airs boxes made
     → Runs made → dropped_for airs offer made ≡ reason → AreLegal airs boxes (with_relayed_unit_unless reason offer made)
-unless_legal airs boxes reason offer made legal runs is = grind (arith, choosing, giving, short, chosen_of, chosen_below)
+unless_legal airs boxes reason offer made legal runs is =
+    grind (arith, choosing, short, chosen_of, chosen_below, neither, not, none_of_four, fails_not)
 
 all_legal : (airs : Airs) (boxes : ℕ) (offers : List Offer) (made : List Step) → AreLegal airs boxes made → Runs made
     → AreLegal airs boxes (after_offers airs offers made)
@@ -90,14 +87,9 @@ chosen_alike : (made others : List Step) → chosen_of others ≡ chosen_of made
     → chosen_of made ≡ 0 → chosen_steps others ≡ chosen_steps made
 chosen_alike made others chosen first is = cc (chosen, is, first, is)
 
-close_if : (closes : Bool) (airs : Airs) (step : Step) (made : List Step) → (closes ≡ true → chosen_of made ≡ 0)
-    → (let after = after_offers airs (cond closes (offers_at airs made) []) made in
-    close_refusal airs step (stage_of after) (chosen_steps after) ≡ close_refusal airs step (stage_of made) (chosen_steps made))
-close_if closes airs this made is = grind (arith, left_by_offers, chosen_alike)
-
 step_legal : (airs : Airs) (boxes : ℕ) (made : List Step) (step : Step) → refusal_of airs boxes made step ≡ None
     → refusal_of airs boxes (with_relayed_units airs made step) step ≡ None
-step_legal airs boxes made this none = grind (arith, close_if, eqb-true, left_by_offers)
+step_legal airs boxes made this none = grind (arith, eqb-true, left_by_offers, chosen_alike)
 
 pub happens_legally : (airs : Airs) (boxes : ℕ) (said : List Step) → AreSaidLegally airs boxes said
     → AreLegal airs boxes (happened airs said)

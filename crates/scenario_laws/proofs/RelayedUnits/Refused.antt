@@ -8,11 +8,8 @@ use Rattle.scenario_laws.proofs.RelayedUnits.Left.{gives_to}
 pub relayed_of : (reason : Refusal) → relayed_or true (Some reason) ≡ None → ⊥
 relayed_of reason none = grind (arith, none-some)
 
-unrelayed : (test : Bool) (refusal : Option Refusal) → relayed_or test refusal ≡ None → test ≡ false
-unrelayed test refusal none = grind (arith, none-some, relayed_of)
-
 pub passes_both : (test : Bool) (refusal : Option Refusal) → relayed_or test refusal ≡ None → refusal ≡ None
-passes_both test refusal none = grind (arith, false≢true, unrelayed)
+passes_both test refusal none = grind (arith, false≢true, none-some, relayed_of)
 
 -- a line that isn't refused is a step that isn't
 pub line_passes : (airs : Airs) (boxes : ℕ) (made : List Step) (step : Step) → line_refusal airs boxes made step ≡ None
@@ -40,4 +37,4 @@ is_free airs boxes made sink bis to none = grind (arith, neither, not, or_parts,
 pub gives_none : (airs : Airs) (boxes bis : ℕ) (made : List Step) (step : Step) → line_refusal airs boxes made step ≡ None
     → had_relay bis made ≡ true → gives_to bis made step ≡ false
 gives_none airs boxes bis made this none had =
-    grind (arith, not, and_cases, had_relay, and_left, and_right, false_from_ne_true, false≢true, eqb-true, unrelayed)
+    grind (arith, not, and_cases, had_relay, and_left, and_right, false_from_ne_true, false≢true, eqb-true, none-some, relayed_of)

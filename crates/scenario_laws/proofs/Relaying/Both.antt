@@ -31,17 +31,13 @@ places_are : (number : ℕ → ℕ) (ks : List ℕ) → map (λ (at : UnitPlace)
 places_are number [] = refl
 places_are number (k ∷ ks) = ap (λ l. k ∷ l) (places_are number ks)
 
-of_first : (octets : List (List ℕ)) (units : List AudioUnit) (numbered : Numbered octets units) (setup : Setup) (to k : ℕ) (entry : Handed)
-    → IsOfOffered setup to units k entry → IsOfFirst octets units setup to (unit_place numbered.number k) entry
-of_first octets units numbered setup to k entry of_offered = search arith
-
 in_first_order : (octets : List (List ℕ)) (units : List AudioUnit) → Numbered octets units → (setup : Setup) (to : ℕ) (entries : List Handed)
     → InRelayOrder setup to units entries → InFirstOrder octets units setup to entries
 in_first_order octets units numbered setup to entries order = record {
   units = map (unit_place numbered.number) order.numbers;
   numbers_rise = grind (arith, numbers_are numbered.number order.numbers, rising_units octets units numbered setup to entries order);
   places_rise = subst IsStrictlyIncreasing (sym (places_are numbered.number order.numbers)) order.rising;
-  each = grind (arith, zip_map, of_first);
+  each = grind (arith, zip_map);
 }
 
 -- ---- the law

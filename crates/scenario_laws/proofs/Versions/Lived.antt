@@ -54,28 +54,20 @@ quiet_if : (b : Bool) (one made : Option Settings) (first calls : List Call) →
     → QuietHistory (cond b one made) (cond b first calls)
 quiet_if b one made first calls is quiet = grind arith
 
-quiet_born : (made : Settings) (mtu : Option ℕ) → AreQuietCalls made.setup (born mtu)
-quiet_born made mtu = grind arith
-
 quiet_chosen : (is_its : Bool) (made : Option Settings) (first calls : List Call) → (is_its ≡ true → QuietHistory made first)
     → QuietHistory made calls → QuietHistory made (cond is_its first calls)
 quiet_chosen is_its made first calls is quiet = grind arith
-
-quiet_of_made : (source : Source) (step : Step) (made : Option Settings) (calls : List Call) → QuietHistory made calls
-    → ((sink : Settings) → made ≡ Some sink → HearsNear sink calls (train_by source step))
-    → QuietHistory made (calls_by source step made calls)
-quiet_of_made source this made calls quiet near = grind (arith, quiet_served, quiet_drained)
 
 quiet_at : (n : ℕ) (named : Option ℕ) (step : Step) (earlier : List Step) (made : Option Settings) (calls : List Call)
     → QuietHistory made calls
     → ((sink : Settings) → named ≡ Some n → made ≡ Some sink → HearsNear sink calls (train_by (source_at earlier) step))
     → QuietHistory made (calls_at the_world n named step earlier made calls)
-quiet_at n named this earlier made calls quiet near = grind (arith, quiet_chosen, quiet_of_made, eqb-true)
+quiet_at n named this earlier made calls quiet near = grind (arith, quiet_chosen, eqb-true, quiet_served, quiet_drained)
 
 quiet_after : (n : ℕ) (step : Step) (earlier : List Step) (made : Option Settings) (calls : List Call) → QuietHistory made calls
     → ((sink : Settings) → named_by step ≡ Some n → made ≡ Some sink → HearsNear sink calls (train_by (source_at earlier) step))
     → QuietHistory (made_by n step earlier made) (calls_after the_world n step earlier made calls)
-quiet_after n (Step.Sink sink streams slots mtu) earlier made calls quiet near = grind (arith, quiet_if, born, quiet_born)
+quiet_after n (Step.Sink sink streams slots mtu) earlier made calls quiet near = grind (arith, quiet_if, born)
 quiet_after n (Step.Drop sink) earlier made calls quiet near = quiet_if (sink == n) None made [] calls tt quiet
 quiet_after n this earlier made calls quiet near = quiet_at n (named_by this) this earlier made calls quiet near
 
@@ -91,14 +83,10 @@ is_quiet made other calls wider quiet = record { within = wider.within; quiet = 
 
 -- ---- its history
 
-called_same : (source : Source) (step : Step) (made other : Option Settings) (calls : List Call) → AreWider made other → QuietHistory made calls
-    → calls_by source step other calls ≡ calls_by source step made calls
-called_same source step made other calls wider quiet = grind (arith, drained_same)
-
 at_same : (n : ℕ) (named : Option ℕ) (step : Step) (earlier : List Step) (made other : Option Settings) (calls others : List Call)
     → AreWider made other → QuietHistory made calls
     → others ≡ calls → calls_at the_world n named step (seconds earlier) other others ≡ calls_at the_world n named step earlier made calls
-at_same n named this earlier made other calls others wider quiet same = grind (arith, same, ap₂, source_same, called_same)
+at_same n named this earlier made other calls others wider quiet same = grind (arith, same, ap₂, source_same, drained_same)
 
 pub after_same : (n : ℕ) (step : Step) (earlier : List Step) (made other : Option Settings) (calls others : List Call) → AreWider made other
     → QuietHistory made calls → others ≡ calls

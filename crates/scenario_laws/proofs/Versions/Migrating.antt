@@ -25,14 +25,6 @@ skips : (starts : List Account) (history others : List TextLine) (reason reason'
 skips starts history others reason reason' brought brought' octets octets' end end' all all' none none' empty empty' alike =
     grind (arith, out_unless, end_unless, accepted_unless)
 
--- a line that both histories refuse
-stops : (starts : List Account) (history : List TextLine) (reason : Option Refusal) (why : Refusal) (octets octets' : List ℕ)
-    (end end' : End Refusal) (all all' : List TextLine)
-    → reason ≡ Some why → RunsAlike (out_unless (Its starts) history reason octets) (out_unless (Its starts) history reason octets')
-    (end_unless history reason end) (end_unless history reason end') (accepted_unless history reason all)
-    (accepted_unless history reason all')
-stops starts history reason why octets octets' end end' all all' is = search arith
-
 lasting_next : (history : List TextLine) (reason : Option Refusal) (end : End Refusal) → reason ≡ None
     → EndsLasting (end_unless history reason end) → EndsLasting end
 lasting_next history reason end none lasting = subst (λ r. EndsLasting (end_unless history r end)) none lasting
@@ -105,7 +97,7 @@ turned_alike laws starts all history _ _ never begins none accepted lasting (lat
           (turned_alike laws starts all (it ∷ history) lines others never (begins ∙ sym (reverse_onto it history lines))
           (ap (λ said. with_said said (said_of history)) says ∙ none) (accepted, passes)
           (lasting_next history ((Its starts).refusal history it) (end_of (Its starts) (it ∷ history) lines) passes lasting) turned)
-      | inr says ↦ grind (arith, stops, out, accepted_of, refusal_said, airs_of, length, steps_of)
+      | inr says ↦ grind (arith, out, accepted_of, refusal_said, airs_of, length, steps_of)
     ]
 turned_alike laws starts all history _ _ never begins none accepted lasting (here rest) = search (first_alike)
 
@@ -153,16 +145,11 @@ pub record OneTranscript : Type 0 where
   pub steps : (airs others : Airs) (starts : List Account) (lines : List TextLine) → MeetAirs airs → MeetAirs others
       → Accepted (rules_of airs starts) lines → steps_of airs lines ≡ steps_of others lines
 
--- a `train` step prints the same over all airs
-prints_over : (airs others : Airs) (starts : List Account) (earlier : List TextLine) (line : TextLine)
-    → steps_of airs earlier ≡ steps_of others earlier → PrintsHorizon airs starts earlier line → PrintsHorizon others starts earlier line
-prints_over airs others starts earlier line same prints = search arith
-
 lasting_over : OneTranscript → MeetAirs airs_of → (airs : Airs) (starts : List Account) (text : List ℕ) → MeetAirs airs
     → IsLastingText airs starts text → IsLastingText airs_of starts text
 lasting_over one meet airs starts text meets lasting = record {
   trains = λ earlier line later is accepted prints. lasting.trains earlier line later is
-      (one.accepted airs_of airs starts (line ∷ earlier) meet meets accepted) (grind (arith, prints_over, airs_of));
+      (one.accepted airs_of airs starts (line ∷ earlier) meet meets accepted) (grind (arith, airs_of));
   end = subst EndsLasting (one.end airs airs_of starts (lines_of true text) meets meet) lasting.end;
 }
 

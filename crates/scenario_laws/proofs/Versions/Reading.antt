@@ -25,14 +25,10 @@ then_on read f g on = grind arith
 
 -- ---- a number
 
-taken_on : (b c : Bool) (n read : ℕ) (words : List (List ℕ)) → (b ≡ true → c ≡ true)
-    → ReadsOn (taken read words (cond b (Some n) None)) (taken read words (cond c (Some n) None))
-taken_on b c n read words more = grind (arith, cond)
-
 number_on : (near wider : ℕ) (read : ℕ) (words : List (List ℕ)) → near ≤ wider
     → ReadsOn (next_of (decimal_in 1 near) read words) (next_of (decimal_in 1 wider) read words)
 unfolding decimal_in
-number_on near wider read words within = grind (arith, taken_on, leb-true, le-leb)
+number_on near wider read words within = grind (arith, leb-true, le-leb, cond)
 
 -- ---- a row
 
@@ -86,22 +82,16 @@ step_on : (version : ℕ) (line : List ℕ) → ReadsOn (step_of version line) (
 unfolding step_of
 step_on version line = search (then_on, first_on, rows_on)
 
-if_on : {A : Type 0} (b : Bool) (none here there : Result A LineFault) → ReadsOn here there → ReadsOn (cond b none here) (cond b none there)
-if_on b none here there on = grind arith
-
 reads_on : (version : ℕ) (line : List ℕ) → ReadsOn (read_of version line) (read_of 2 line)
 unfolding read_of
-reads_on version line = grind (arith, if_on, first_on, step_on)
+reads_on version line = grind (arith, first_on, step_on)
 
 -- the line isn't of the grammar
 abbrev pub IsUnsaid : Said → Type 0
 IsUnsaid (unsaid (BadLine word)) = Unit {0}
 IsUnsaid _ = ⊥
 
-said_misfit : (read : Result (Option Step) LineFault) → IsMisfit read → IsUnsaid (said_by read)
-said_misfit read is = grind arith
-
 -- a line that is of the grammar of a version says the same in a later one
 pub said_later : (version later : ℕ) (line : TextLine) → IsLater version later
     → (said_in later line ≡ said_in version line) ⊎ IsUnsaid (said_in version line)
-said_later version later line h3 = grind (arith, reads_on, said_misfit)
+said_later version later line h3 = grind (arith, reads_on)

@@ -79,9 +79,6 @@ sink_same boxes made step calm = search (box_same, named_same step (named_by ste
 
 -- ---- the order of steps, and both sources
 
-order_same : (made : List Step) (step : Step) → is_out_of_order (seconds made) step ≡ is_out_of_order made step
-order_same made step = grind (arith, unbegun_same, same)
-
 twin_same : (made : List Step) (step : Step) → twin_refusal (seconds made) step ≡ twin_refusal made step
 twin_same made Step.End = refl
 twin_same made _ = search (same, relays_same, box_same)
@@ -97,6 +94,7 @@ step_lasts boxes made step calm =
     let order : Option Refusal = refuse_if (is_out_of_order made step) Order in
     let ended : Option Refusal = refuse_if (is_over made) AfterEnd in
     let twin : Option Refusal = twin_refusal made step in
-    subst (Lasts (refusal_of airs_of boxes made step)) (grind (arith, option_or, refuse_if, own_refusal, airs_of, seconds, over_same, order_same, twin_refusal, sink_same, same, twin_same))
+    subst (Lasts (refusal_of airs_of boxes made step)) (grind (arith, option_or, refuse_if, own_refusal, airs_of, seconds, over_same,
+    twin_refusal, sink_same, same, twin_same, unbegun_same))
     (or_lasts ended _ _ (or_lasts order _ _ (or_lasts sink _ _
     (lasts_or here later twin (source_lasts (version_of made) (version_of (seconds made)) (chosen_steps made) step (is_later made))))))
