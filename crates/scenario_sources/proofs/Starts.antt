@@ -71,13 +71,8 @@ pub start_long : (version first horizon : ℕ) (own : List Step) (said : Describ
     → bare ≡ is_empty_last (last_of said.base.subgroups) → bare ≡ false → None ≡ group_refusal (first_fault horizon said.info)
     → long ≡ is_long (finish_fault said.base) → long ≡ true → fault_in version own (Start first) ≡ Some BaseTooLong
 start_long version first horizon own said bare long h is e f g l t =
-    grind (
-      arith,
-      bare_own own said bare is.1 e,
-      base_is own said is.1,
-      too_long (line_of said) (subgroups_of own) (sym (bare_own own said bare is.1 e) ∙ f) (sym (ap is_long (draft_is own said is.1)) ∙ sym l ∙ t),
-      start_fault version first horizon own said None h is (sym (bare_own own said bare is.1 e) ∙ f) g,
-    )
+    grind (arith, bare_own own said bare is.1 e, base_is own said is.1, too_long (line_of said) (subgroups_of own), draft_is own said is.1,
+    start_fault version first horizon own said None h is)
 
 -- ---- it may be started
 
@@ -90,8 +85,8 @@ pub may_start_said : (version first horizon : ℕ) (own : List Step) (said : Des
 may_start_said version first horizon own said bare long has h is e f g l n k t =
     let closed : is_last_bare own ≡ false = sym (bare_own own said bare is.1 e) ∙ f in
     let some : has_subgroup own ≡ true = sym (has_own own said has is.1 k) ∙ t in
-    let little : is_base_too_long own ≡ false = grind (arith, nat_lt, length, encoding, base_is, long_said, line_of, subgroups_of, draft_is) in
-    (start_fault version first horizon own said None h is closed g ∙ ap (λ b. refuse_if b BaseTooLong) little, some)
+    grind (arith, base_is own said is.1, long_said (line_of said) (subgroups_of own), draft_is own said is.1,
+    start_fault version first horizon own said None h is closed g)
 
 no_subgroups : (group : GroupLine) (ss : List Subgroup) → is_some (last_of ss) ≡ false → base_from group ss ≡ plain_base_of group.delay group.info.num_bis
 no_subgroups group ss none = grind (arith, false≢true, has_last)
@@ -102,11 +97,8 @@ pub may_start_plain : (version first horizon : ℕ) (own : List Step) (said : De
 may_start_plain version first horizon own said bare has base few h is e f g k n b =
     let closed : is_last_bare own ≡ false = sym (bare_own own said bare is.1 e) ∙ f in
     let none : has_subgroup own ≡ false = sym (has_own own said has is.1 k) ∙ n in
-    let little : is_base_too_long own ≡ false =
-    ap (λ v. nat_lt 252 (length (encoding v))) (base_is own said is.1) ∙ none_said (line_of said) (subgroups_of own) few none in (
-      start_fault version first horizon own said None h is closed g ∙ ap (λ b. refuse_if b BaseTooLong) little,
-      b ∙ sym (no_subgroups (line_of said) (subgroups_of own) none) ∙ sym (base_is own said is.1),
-    )
+    grind (arith, base_is own said is.1, none_said (line_of said) (subgroups_of own) few none,
+    no_subgroups (line_of said) (subgroups_of own) none, start_fault version first horizon own said None h is closed g)
 
 -- ---- it begins
 
