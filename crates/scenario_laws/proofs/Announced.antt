@@ -1,6 +1,6 @@
 -- Where a sink is that `announce` puts on a group: where the group's source is for its next event (Basic Audio Profile 1.0,
 -- sections 3.7.2 and 6.5).
-use Rattle.scenario_laws.proofs.Known.Sources.{ℕ, ◌≡◌, ◌<◌, ◌≤◌, ◌^◌, Bool, List, Some, arith, unwrap_or, none-some, Endpoint, BigInfo, IsTrain, Tells, IsOnGroup, heard_as, MayAnnounce, train_of, Snapshot, TrainOutcome, Settings, outcome_by, big_sync_in, BigSync, by_numbers, next_anchor_of, next_of, Step, own_train, big_sync_of, snapshot_in, base_of, subgroups_of, checked_info, group_of, identity_of, no_group, setup_of, source_calls, Airs, chosen_of, chosen_steps, announced_of, big_sync_on, calls_made, source_at, ◌-◌, cond, ltb, true, false, [], ◌∷◌, refl, subst, inl, inr, filter, list_any, range_with_len, div-eq_of_lt, pow-le-pow_right, cases_Bool, eqb-true, false≢true, ltb-true, is_in, TrainOctets as Train, SinkSetup, taken, Tellable, may_announce, tellable, Legal, Permitted, Lawful, Settled, bounds_in, lawful, sends, settled, has_beyond, Brings}
+use Rattle.scenario_laws.proofs.Known.Sources.{ℕ, ◌≡◌, ◌<◌, ◌≤◌, ◌^◌, Bool, List, Some, arith, unwrap_or, none-some, Endpoint, BigInfo, IsTrain, Tells, IsOnGroup, heard_as, MayAnnounce, train_of, Snapshot, TrainOutcome, Settings, outcome_by, big_sync_in, BigSync, by_numbers, next_anchor_of, next_of, Step, own_train, big_sync_of, snapshot_in, base_of, subgroups_of, checked_info, group_of, identity_of, no_group, setup_of, source_calls, Airs, chosen_of, chosen_steps, announced_of, big_sync_on, calls_made, source_at, ◌-◌, cond, ltb, true, false, [], ◌∷◌, refl, subst, inl, inr, filter, list_any, range_with_len, div-eq_of_lt, pow-le-pow_right, cases_Bool, eqb-true, false≢true, ltb-true, is_in, TrainOctets as Train, SinkSetup, taken, may_announce, tellable, Legal, Permitted, Lawful, bounds_in, lawful, sends, settled, has_beyond, Brings}
 
 -- the laws of announcements
 pub record Announcing : Type 0 where

@@ -1,10 +1,10 @@
 -- The BASE of a source that was started can be announced: each field of it meets its row (Basic Audio Profile 1.0, section
 -- 3.7.2.2).
-use Rattle.scenario_laws.proofs.Known.Sources.Steps.Prelude.{ℕ, zero, suc, ◌≡◌, ◌<◌, ◌≤◌, ◌+◌, ◌^◌, cond, eqb, ltb, Bool, false, List, [], ◌∷◌, ◌++◌, length, map, Some, None, refl, sym, ◌∙◌, arith, AllByRecursion, range_with_len, ltb-false, ne_eqb, append-nil, list_any-append, IsDraft, is_empty_last, last_of, size_fault, Subgroup, AreNew, EntryFits, IsBase, SubgroupFits, endpoint, is_lc3, lc3, stands_in, GroupLine, base_from, ◌||◌, not, leb, is_some, true, Option, Ok, subst, unwrap_or, false≢true, leb-false, or_parts, none-some, BigInfo, Cipher, FitsWidths, Refuses, entry_fault, metadata_fault, indices, numbers_alone, MayAnnounce, cipher_octets, next_anchor_of, next_of, with_cipher, announce_fault, Step, IsInRange, NoSuchBis, base_lines, base_of, has_bis, has_subgroup, is_base_too_long, is_last_bare, subgroups_of, group_refusal, train_ends, refuse_if, horizon_in, Phase, checked_info, cipher_of, group_of, identity_of, is_absent_at, is_described_at, is_sending, is_sending_at, is_started, Airs, no_group, phase_of, setup_of, source_calls, entry_bis_of as bis_of, base_encoding as encoding, draft_opened as opened, fails_not, neither}
+use Rattle.scenario_laws.proofs.Known.Sources.Steps.Prelude.{ℕ, zero, suc, ◌≡◌, ◌<◌, ◌≤◌, ◌+◌, ◌^◌, cond, eqb, ltb, Bool, false, List, [], ◌∷◌, ◌++◌, length, map, Some, None, refl, sym, ◌∙◌, arith, AllByRecursion, range_with_len, ltb-false, ne_eqb, append-nil, list_any-append, IsDraft, is_empty_last, last_of, size_fault, Subgroup, AreNew, EntryFits, IsBase, SubgroupFits, endpoint, is_lc3, lc3, stands_in, GroupLine, base_from, ◌||◌, not, leb, true, Ok, subst, unwrap_or, false≢true, leb-false, or_parts, none-some, Refuses, numbers_alone, MayAnnounce, cipher_octets, next_anchor_of, next_of, announce_fault, Step, IsInRange, NoSuchBis, base_lines, base_of, has_bis, has_subgroup, is_base_too_long, is_last_bare, subgroups_of, group_refusal, train_ends, refuse_if, horizon_in, Phase, checked_info, cipher_of, group_of, identity_of, is_absent_at, is_described_at, is_sending, is_sending_at, is_started, Airs, no_group, phase_of, setup_of, source_calls, entry_bis_of as bis_of, base_encoding as encoding, draft_opened as opened, fails_not, neither}
 use Rattle.std.proofs.lemmas.List.FromFn.{length-map-range_with_len}
 use Rattle.ltv_codec.specs.Layout.{AreLtvs}
 use Rattle.base_grammar.proofs.Drafts.{draft_done, finish_is, with_entry_keeps, with_metadata_keeps, with_subgroup_keeps}
-use Rattle.announcement_train.specs.PlainBase.{plain_base_of, plain_entry, plain_subgroup}
+use Rattle.announcement_train.specs.PlainBase.{plain_entry, plain_subgroup}
 use Rattle.announcement_train.proofs.Citable.{plain_is_small, adds_to_last, describes_last}
 use Rattle.big_info.specs.Layout.{CipherIs}
 use Rattle.ltv_codec.proofs.Citable.{are_read}
@@ -75,9 +75,6 @@ pub record Tellable (own : List Step) : Type 0 where
   pub full : is_started own ≡ true → is_last_bare own ≡ false
   pub short : is_started own ≡ true → is_base_too_long own ≡ false
 
-sends_then : (p : Phase) → not (is_sending_at p) ≡ false → is_absent_at p ≡ false
-sends_then p is = grind (arith, false≢true)
-
 -- ---- a line of its BASE
 
 full_then : (last : Bool) → last ≡ false → Refuses (cond last (Some DraftFault.NoBis) None) (Ok tt)
@@ -125,8 +122,8 @@ tellable_after airs own (Step.Bis bis config) before allows =
 tellable_after airs own (Step.Start first) before allows =
     grind (arith, or_parts, not, is_described_at, phase_of, is_last_bare, fails_not, is_base_too_long, neither, group_refusal, horizon_in,
     checked_info, refuse_if, false≢true)
-tellable_after airs own Step.Stop before allows = grind (arith, sends_then, phase_of, sends)
-tellable_after airs own (Step.Terminate reason) before allows = grind (arith, sends_then, phase_of, sends)
+tellable_after airs own Step.Stop before allows = grind (arith, phase_of, sends, false≢true)
+tellable_after airs own (Step.Terminate reason) before allows = grind (arith, phase_of, sends, false≢true)
 tellable_after airs own _ before allows = assumption
 
 pub tellable : (airs : Airs) (own : List Step) → Lawful airs own → Tellable own
@@ -144,7 +141,7 @@ may_announce airs own lawful is_its none =
     let is : Settled own = settled airs own lawful in
     let tells : Tellable own = tellable airs own lawful in
     let started : is_started own ≡ true = sends own is_its in
-    let origin : 3000 ≤ (group_line own).origin = tells.late (sends_then (phase_of own) is_its) in
+    let origin : 3000 ≤ (group_line own).origin = tells.late (grind (arith, false≢true)) in
     record {
       three = tells.three;
       base_is = is_base (group_line own) (subgroups_of own) tells.delay (bounds_in own is started).num_bis (omega (arith, is.widths.num_bis))

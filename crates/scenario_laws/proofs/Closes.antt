@@ -81,9 +81,6 @@ air_closes : (airs : Airs) (own : List Step) (lose count : ℕ) (calls : List Ca
 air_closes airs own lose zero calls tuning = refl
 air_closes airs own lose (suc i) calls tuning = search (lost_closes, air_closes airs own lose i calls tuning)
 
-off_moves : (mine mine' : Bool) (calls later : List Call) (next next' : ℕ) → next ≤ next' → place later ≡ None → prefix mine calls next ≤ next → Moves mine calls next [] mine' later next'
-off_moves mine mine' calls later next next' more nowhere within = grind arith
-
 -- a close of an event of the source, or of another
 close_moves : (mine its : Bool) (last_open : Option ℕ) (calls calls' : List Call) (next next' : ℕ) → ((event : ℕ) → last_open ≡ Some event → event < next) → next ≤ next'
     → prefix mine calls next ≤ next → (mine ≡ true → calls' ≡ cond its (ticked last_open calls) calls)
@@ -109,7 +106,7 @@ its_prefix airs s n made = prefix (mine_in s n made) (sink_calls airs n made) (n
 stays_move : (airs : Airs) (s n : ℕ) (step : Step) (earlier : List Step) (next' : ℕ) → StaysBy airs n step earlier → next_in (steps_of_source s earlier) ≤ next'
     → its_prefix airs s n earlier ≤ next_in (steps_of_source s earlier)
     → Moves (mine_in s n earlier) (sink_calls airs n earlier) (next_in (steps_of_source s earlier)) [] (mine_in s n (step ∷ earlier)) (sink_calls airs n (step ∷ earlier)) next'
-stays_move airs s n step earlier next' stays more within = grind (arith, stay_moves, off_moves, sink_calls, next_in, steps_of_source, is_of)
+stays_move airs s n step earlier next' stays more within = grind (arith, stay_moves, sink_calls, next_in, steps_of_source, is_of)
 
 announced_moves : Announcing → (airs : Airs) (boxes s n sink : ℕ) (earlier : List Step) (next' : ℕ) → Legal airs boxes earlier → Permitted airs boxes earlier (Step.Announce sink)
     → next_in (steps_of_source s earlier) ≤ next' → its_prefix airs s n earlier ≤ next_in (steps_of_source s earlier)
@@ -118,7 +115,7 @@ announced_moves : Announcing → (airs : Airs) (boxes s n sink : ℕ) (earlier :
 announced_moves laws airs boxes s n sink earlier next' legal permits more within = elim (announced airs n sink earlier) [
   | inl stays ↦ stays_move airs s n (Step.Announce sink) earlier next' stays more within
   | inr goes ↦ elim goes [
-    | inl follows ↦ grind (arith, off_moves, sink_calls, next_in, steps_of_source)
+    | inl follows ↦ grind (arith, sink_calls, next_in, steps_of_source)
     | inr put ↦
         let on : BigSync = machine.by_numbers put.big_sync in
         let first_is : on.first ≡ next_in (chosen_steps earlier) = ap (λ (t : BigSync). t.first) (as_by_hand laws airs boxes n sink earlier put.big_sync legal permits put.brings).0 in

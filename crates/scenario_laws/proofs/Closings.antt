@@ -1,5 +1,5 @@
 -- Of all that is handed up by a step, what is of one sink and one source.
-use Rattle.scenario_laws.proofs.Known.Sources.Steps.{ℕ, zero, suc, ◌≡◌, ◌≢◌, ◌≤◌, ◌+◌, ◌==◌, ◌&&◌, cond, eqb, not, Bool, true, false, List, [], ◌∷◌, ◌++◌, map, Option, None, Some, refl, ◌∙◌, ap, arith, inl, inr, is_some, flat_map, range_with_len, cases_eq, cond-false, cond-true, eq-eqb, ne_eqb, eqb-true, false≢true, and_right, and_left, not-false, append-nil, map-append, filter-append, none-some, Handed, Call, handed_at, Step, NoSuchSink, Settings, made_of, chosen_of, sinks_made, steps_of_source, open_event, Airs, is_of, sink_calls, source_of, with_sink_call, SinkUnit, box_after, box_of, closing_at, closing_by, closing_in, handed_by, no_sink, of_sink, place, closing, sink_numbers, Permitted, fails_not, permitted, unmoved, air_place, end_place, same_place, tick_if_place}
+use Rattle.scenario_laws.proofs.Known.Sources.Steps.{ℕ, zero, suc, ◌≡◌, ◌≢◌, ◌≤◌, ◌+◌, ◌==◌, ◌&&◌, cond, eqb, not, Bool, true, false, List, [], ◌∷◌, ◌++◌, map, Option, None, Some, refl, ◌∙◌, ap, arith, inl, inr, is_some, flat_map, range_with_len, cases_eq, cond-false, cond-true, eq-eqb, ne_eqb, eqb-true, false≢true, and_right, and_left, not-false, append-nil, map-append, filter-append, none-some, Handed, Call, handed_at, Step, NoSuchSink, made_of, chosen_of, steps_of_source, open_event, Airs, is_of, sink_calls, source_of, with_sink_call, SinkUnit, box_after, box_of, closing_at, closing_by, closing_in, handed_by, no_sink, of_sink, place, closing, sink_numbers, Permitted, fails_not, permitted, unmoved, air_place, end_place, same_place, tick_if_place}
 use Rattle.scenario_laws.proofs.Legals.{Legal}
 use Rattle.scenario_laws.proofs.RelayedUnits.Offered.{flat_one}
 
@@ -74,9 +74,6 @@ unfold_other : (airs : Airs) (s c n : ℕ) (made : List Step) (event : ℕ) → 
 unfolding sink_numbers
 unfold_other airs s c n made event apart = search (of_sinks, none_of, other_closing, and_left, ne_eqb)
 
-other_source : (airs : Airs) (s c n : ℕ) (made : List Step) (last_open : Option ℕ) → c ≢ s → of_sink s n (closing_at airs c made last_open) ≡ []
-other_source airs s c n made last_open apart = grind (arith, unfold_other)
-
 -- ---- what a step hands up of a sink and a source
 
 abbrev pub shown_if : Bool → List Call → Option ℕ → List Handed
@@ -99,7 +96,7 @@ pub closing_shown : (airs : Airs) (boxes s c n : ℕ) (made : List Step) → Leg
     → of_sink s n (closing airs c made) ≡ cond (c == s) (shown_with airs s n made) []
 closing_shown airs boxes s c n made legal within = elim (cases_eq c s) [
   | inl same ↦ grind (arith, of_sink, open_event, steps_of_source, cond-true, eq-eqb, cond_same, sink_closing)
-  | inr apart ↦ grind (arith, other_source, open_event, steps_of_source, cond-false, ne_eqb)
+  | inr apart ↦ grind (arith, open_event, steps_of_source, cond-false, ne_eqb, unfold_other)
 ]
 
 -- one of the two sources is this one

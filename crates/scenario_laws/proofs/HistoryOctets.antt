@@ -1,5 +1,5 @@
 -- The history of a sink of any lines: what its links write is octets, and it has at most eight slots.
-use Rattle.scenario_laws.proofs.Known.Sources.Steps.Prelude.{ℕ, zero, suc, ◌≡◌, ◌<◌, ◌==◌, cond, Bool, List, [], ◌∷◌, Option, Some, arith, AllByRecursion, append-nil, none-some, TextLine, encoding, born, repeated, AreOctets, IsAsked, Step, IsInRange, Settings, World, history_of, calls_after, calls_at, made_by, made_of, named_by, a_step, with_said, LinkCall as Call, nil_octets, cons_octets, Said, said_of}
+use Rattle.scenario_laws.proofs.Known.Sources.Steps.Prelude.{ℕ, zero, suc, ◌≡◌, ◌<◌, ◌==◌, cond, Bool, List, [], ◌∷◌, Option, Some, arith, AllByRecursion, append-nil, none-some, TextLine, encoding, born, repeated, AreOctets, IsAsked, Step, IsInRange, Settings, World, history_of, calls_after, made_by, made_of, a_step, with_said, LinkCall as Call, nil_octets, cons_octets, Said, said_of}
 use Rattle.bcast_base.specs.Encoding.{IsOctets}
 use Rattle.scenario_laws.proofs.Legals.{InRange, LinesInRange, in_range}
 use Rattle.bass_operations.specs.declared.operation.Operation.TheVariants as operations

@@ -1,7 +1,7 @@
 -- The steps of lines of which none was refused, and what happens by them: each is in range, and no refusal holds of it after those
 -- before it.
 pub use Rattle.scenario_history.proofs.Citable.{Permitted, fails_not, maps_none, neither, permitted}
-use Rattle.scenario_laws.proofs.Known.Sources.Steps.{ℕ, ◌≡◌, List, [], ◌∷◌, length, Option, None, Some, Result, Ok, arith, TextLine, Account, Accepted, LineFault, Step, IsInRange, happened, Airs, a_step, nothing, unsaid, said_by, said_in, steps_of, with_said, refusal_said, rules_of, AreLegal, AreSaidLegally, read_of, Said, said_of, happens_legally}
+use Rattle.scenario_laws.proofs.Known.Sources.Steps.{ℕ, ◌≡◌, List, [], ◌∷◌, length, None, Some, Ok, arith, TextLine, Account, Accepted, Step, IsInRange, happened, Airs, a_step, nothing, unsaid, said_in, steps_of, with_said, refusal_said, rules_of, AreLegal, AreSaidLegally, read_of, Said, said_of, happens_legally}
 
 abbrev pub Legal : Airs → ℕ → List Step → Type 0
 Legal airs boxes steps = AreLegal airs boxes steps

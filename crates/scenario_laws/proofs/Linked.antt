@@ -1,5 +1,5 @@
 -- No notice is forged over a link other than 0, and every sink of any lines agrees with its assistants.
-use Rattle.scenario_laws.proofs.Known.Sources.Steps.{arith, ℕ, ◌≡◌, ◌≢◌, ◌<◌, ◌==◌, cond, Bool, false, List, [], ◌∷◌, Option, None, Some, refl, unwrap_or, option_or, ne_eqb, TextLine, Settings, NoneNotifies, notified_and_read, forging_by, is_forged, read_waits, state, view, AreOctets, made_of, steps_of, Airs, calls_made, the_world, last_given_in as last_given, SinkSetup as Setup, LinkCall as Call, history_happened, made_happened}
+use Rattle.scenario_laws.proofs.Known.Sources.Steps.{arith, ℕ, ◌≡◌, ◌≢◌, ◌<◌, false, List, [], ◌∷◌, Option, Some, refl, ne_eqb, TextLine, Settings, NoneNotifies, notified_and_read, is_forged, read_waits, state, view, AreOctets, made_of, steps_of, Airs, calls_made, the_world, SinkSetup as Setup, LinkCall as Call, history_happened, made_happened}
 use Rattle.scenario_laws.specs.Links.{AgreementLaw, Agrees}
 use Rattle.scenario_laws.proofs.Legals.{LinesInRange}
 use Rattle.scenario_laws.proofs.HistoryOctets.{few_slots, history_octets, ranged_lines}

@@ -1,6 +1,6 @@
 -- What a line makes of a sink that it names by its control or by its links: its receivers stay or leave, or a train puts them on
 -- a group; and a sink that follows a train on no group may be of another source then.
-use Rattle.scenario_laws.proofs.Known.Sources.Steps.Prelude.{ℕ, ◌≡◌, ◌⊎◌, ◌==◌, ◌&&◌, cond, Bool, true, false, List, ◌∷◌, Option, None, Some, is_some, refl, ap, inl, inr, arith, by_numbers, with_leave, with_step, TrainHeard, Snapshot, TrainOutcome, Settings, Train, heard, ignored, outcome_by, by_broadcast_id, by_slot, big_sync_in, BigSync, Call, leave, tune, has_group, Step, Source, made_of, named_by, own_train, brings_by, follows, big_sync_of, received_by, source_by, train_by, snapshot_in, Airs, sink_calls, source_after, source_of, with_sink_call, chosen_of, calls_made, source_at, is_tuned, SinkSetup as Setup, taken, place, moved, LinkCall, is_made, is_injected, is_given}
+use Rattle.scenario_laws.proofs.Known.Sources.Steps.Prelude.{ℕ, ◌≡◌, ◌⊎◌, ◌==◌, cond, Bool, true, false, List, ◌∷◌, Option, None, Some, is_some, refl, ap, inl, inr, arith, by_numbers, with_leave, with_step, Snapshot, TrainOutcome, Settings, Train, heard, ignored, outcome_by, big_sync_in, BigSync, Call, leave, tune, has_group, Step, Source, made_of, named_by, own_train, brings_by, follows, big_sync_of, received_by, source_by, train_by, snapshot_in, Airs, sink_calls, source_after, source_of, with_sink_call, chosen_of, calls_made, source_at, is_tuned, taken, place, moved, LinkCall, is_made, is_injected, is_given}
 use Rattle.scenario_laws.proofs.Places.{Nowhere, nowhere}
 
 -- ---- what becomes of the receivers
@@ -41,13 +41,10 @@ StaysBy airs n step earlier =
 
 -- ---- a line that hands the sink no train
 
-left_or_not : (was is : Bool) (calls : List Call) → Left (with_leave was is calls) calls
-left_or_not was is calls = grind arith
-
 pub plain_stays : (airs : Airs) (n : ℕ) (step : Step) (earlier : List Step) → train_by (source_at earlier) step ≡ None
     → moved n (named_by step) step earlier (sink_calls airs n earlier) ≡ with_sink_call airs n step earlier (sink_calls airs n earlier)
     → source_after n step earlier (source_of n earlier) ≡ source_of n earlier → is_tuned n earlier step ≡ false → StaysBy airs n step earlier
-plain_stays airs n step earlier none is same begins_not = grind (arith, sink_calls, named_by, left_or_not)
+plain_stays airs n step earlier none is same begins_not = grind (arith, sink_calls, named_by)
 
 pub same_if : {A : Type 0} (hit : Bool) (x : A) → cond hit x x ≡ x
 same_if hit x = grind arith
@@ -78,7 +75,7 @@ by_train : (source : Source) (lives : List LinkCall) (made : Settings) (later : 
     → (has_group (snapshot_in made lives).place ≡ false → place calls ≡ None) → (brought : TrainOutcome) → outcome_by made.setup (snapshot_in made lives) (own_train source) ≡ brought
     → Went (BroughtTo source lives) source.number (is_some (big_sync_in brought)) calls (with_step (big_sync_in brought) (snapshot_in made lives) later calls)
     its_source (cond (follows brought) (Some source.number) its_source)
-by_train source lives made later calls its_source nowhere (ignored answer) is = grind (arith, left_or_not, has_group, snapshot_in)
+by_train source lives made later calls its_source nowhere (ignored answer) is = grind (arith, has_group, snapshot_in)
 by_train source lives made later calls its_source nowhere (heard slot answer encrypted) is =
     let off : has_group (snapshot_in made lives).place ≡ false = grind arith in
     inr (inl (assumption (ap (λ was. with_leave was (has_group later.place) calls) off, nowhere off)))

@@ -1,5 +1,5 @@
 -- The units that a framed air sends, by payload numbers: the PDU of each number is theirs.
-use Rattle.scenario_laws.proofs.Known.Sources.Steps.Prelude.{ℕ, ◌≡◌, ◌<◌, ◌≤◌, ◌+◌, ◌-◌, ◌*◌, ◌/◌, ◌%◌, ◌&&◌, cond, eqb, Bool, List, [], ◌∷◌, length, map, Option, None, Some, refl, ◌∙◌, ap, subst, arith, inl, inr, slice_get, range_with_len, option_and_then, cases_eq, eq-eqb, ne_eqb, div-add-mod', mod_below, BigInfo, framed, pdu, Air, Laid, event_at, pdu_at, EventsAre, get-range, Fit, InOrder, Sent, carried, is_last, part_with, parts_at, behind}
+use Rattle.scenario_laws.proofs.Known.Sources.Steps.Prelude.{ℕ, ◌≡◌, ◌<◌, ◌≤◌, ◌+◌, ◌-◌, ◌/◌, ◌%◌, ◌&&◌, cond, eqb, Bool, List, [], ◌∷◌, length, map, Option, None, Some, refl, ◌∙◌, ap, subst, arith, inl, inr, slice_get, option_and_then, cases_eq, eq-eqb, ne_eqb, div-add-mod', mod_below, BigInfo, framed, pdu, Air, Laid, event_at, pdu_at, EventsAre, get-range, Fit, InOrder, Sent, carried, is_last, part_with, parts_at, behind}
 
 -- ---- the PDU of a number
 

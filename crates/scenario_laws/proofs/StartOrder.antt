@@ -92,14 +92,10 @@ record StartsAt (stay : Stay) (calls : List StayCall) (number segment offset tim
   is_start : slice_get parts segment ≡ Some (start offset complete octets)
   time_is : time ≡ time_of stay (number / stay.info.bn) offset
 
-at_start : (stay : Stay) (calls : List StayCall) (number segment offset time : ℕ) (entry : Handed) → StartsAt stay calls number segment offset time → bis_of entry ≡ stay.bis
-    → time_in entry ≡ time → AtStart stay calls (record { number = number; segment = segment }) entry
-at_start stay calls number segment offset time entry starts stream same = search arith
-
 by_fate : (stay : Stay) (calls : List StayCall) (number segment offset time : ℕ) (fate : Fate) (entries : List Handed) → StartsAt stay calls number segment offset time
     → InPdu stay calls number (segment + 1) entries → InPdu stay calls number segment (handed_of stay.bis time fate ++ entries)
 by_fate stay calls number segment offset time (undecided octets) entries starts rest = none_in stay calls number segment entries rest
-by_fate stay calls number segment offset time fate entries starts rest = search (one_in, at_start)
+by_fate stay calls number segment offset time fate entries starts rest = search one_in
 
 -- what these segments of a PDU, from one on, give in front of other tokens
 abbrev PduGives : Stay → List StayCall → ℕ → ℕ → ℕ → List Token → List Token → Type 0

@@ -102,17 +102,13 @@ pub record OnSource (own : List Step) (tuning : BigSync) : Type 0 where
   pub tuned : TunedTo (setup_of own) tuning
   pub streams : has_beyond (setup_of own).info.num_bis tuning.which ≡ false
 
-tuned_to : (airs : Airs) (boxes s : ℕ) (earlier : List Step) (tuning : BigSync) (which : ℕ) → is_started (chosen_steps earlier) ≡ true → big_sync_on (chosen_steps earlier) which ≡ tuning
-    → has_beyond (setup_of (chosen_steps earlier)).info.num_bis which ≡ false → chosen_of earlier ≡ s → OnSource (steps_of_source s earlier) tuning
-tuned_to airs boxes s earlier tuning which started same within chosen = search arith
-
 pub begins_to : Announcing → (airs : Airs) (boxes s n : ℕ) (step : Step) (earlier : List Step) (tuning : BigSync) → Legal airs boxes earlier → Permitted airs boxes earlier step
     → BeginsBy airs s n step earlier tuning → OnSource (steps_of_source s earlier) tuning
-begins_to laws airs boxes s n (Step.Tuned sink which) earlier tuning legal permits begins = grind (arith, tuned_to, takes, chosen_steps, fails_not, setup_of)
+begins_to laws airs boxes s n (Step.Tuned sink which) earlier tuning legal permits begins =
+    grind (arith, takes, chosen_steps, fails_not, setup_of)
 begins_to laws airs boxes s n (Step.Announce sink) earlier tuning legal permits begins =
     let by_hand = as_by_hand laws airs boxes n sink earlier begins.puts.by.0.big_sync legal permits begins.puts.by.0.brings in
-    tuned_to airs boxes s earlier tuning begins.puts.by.0.big_sync.which (sends (chosen_steps earlier) permits.in_phase)
-    (sym by_hand.0 ∙ begins.puts.by.1 ∙ begins.on_is) by_hand.1 begins.chosen_is
+    search (arith, (sends (chosen_steps earlier) permits.in_phase), (sym by_hand.0 ∙ begins.puts.by.1 ∙ begins.on_is))
 begins_to laws airs boxes s n _ earlier tuning legal permits begins = absurd begins.puts.by
 
 -- such a stay begins with the source's next event

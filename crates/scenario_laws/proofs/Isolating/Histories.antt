@@ -1,5 +1,5 @@
 -- Two histories of one sink of which one has trains more that it ignored: they come to the same, and each call keeps that.
-use Rattle.scenario_laws.proofs.Known.Sources.Steps.Prelude.{ℕ, zero, suc, ◌≡◌, min, cond, false, List, ◌∷◌, length, Option, arith, refl, ap, unwrap_or, option_or, false≢true, none_change, snapshot_goes_on, Snapshot, snapshot_of, train_heard, written, TrainOutcome, Train, outcome_by, done_by_outcome, value_at, is_joined, joining_by, served_of, step_by, writes, writes_waiting, drained, read_out, repeated, served_out, notified_out, acts_of, made_all, notices_waiting, reads_waiting, waiting_of, follows, DelegatorStep as Step, delegator_nothing as nothing, SinkSetup as Setup, LinkCall as Call, link_steps_of as steps_of, link_with_step as with_step}
+use Rattle.scenario_laws.proofs.Known.Sources.Steps.Prelude.{ℕ, zero, suc, ◌≡◌, min, cond, false, List, ◌∷◌, length, Option, arith, refl, ap, false≢true, none_change, snapshot_goes_on, Snapshot, snapshot_of, train_heard, written, Train, outcome_by, value_at, is_joined, joining_by, served_of, step_by, writes, writes_waiting, drained, read_out, repeated, served_out, notified_out, acts_of, made_all, notices_waiting, reads_waiting, waiting_of, follows, DelegatorStep as Step, SinkSetup as Setup, LinkCall as Call, link_steps_of as steps_of, link_with_step as with_step}
 
 -- ---- what two histories have alike
 

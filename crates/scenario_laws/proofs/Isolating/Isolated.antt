@@ -1,5 +1,5 @@
 -- The isolation law: by one induction over the steps, each of which is kept in both lists or left out of one.
-use Rattle.scenario_laws.proofs.Known.Sources.Steps.{ℕ, ◌≡◌, ◌≢◌, ◌⊎◌, ◌==◌, ◌&&◌, ◌||◌, ◌∙◌, cond, not, Bool, true, false, List, [], ◌∷◌, ◌++◌, arith, refl, sym, inl, inr, and_parts, eq-eqb, eqb-true, false≢true, not-true, state_at, Settings, language, view_of, waits_of, Step, Account, steps_of, Airs, chosen_of, is_common, is_source_line, calls_made, IsIsolated, IsSameHistory, IsolationLaw, NoOtherPuts, kept_lines, lines_by, lines_of, puts, chooses, is_kept, is_other, is_sink, only, sink_in, LinkCall as Call, Alike, notices_same, waiting_same, Same}
+use Rattle.scenario_laws.proofs.Known.Sources.Steps.{ℕ, ◌≡◌, ◌≢◌, ◌⊎◌, ◌==◌, ◌&&◌, ◌||◌, ◌∙◌, cond, not, Bool, true, false, List, [], ◌∷◌, ◌++◌, arith, refl, sym, inl, inr, and_parts, eq-eqb, eqb-true, false≢true, not-true, state_at, language, view_of, waits_of, Step, Account, steps_of, Airs, chosen_of, is_common, is_source_line, calls_made, IsIsolated, IsolationLaw, NoOtherPuts, kept_lines, lines_by, lines_of, puts, chooses, is_kept, is_other, is_sink, only, sink_in, notices_same, waiting_same, Same}
 use Rattle.scenario_laws.proofs.Isolating.Left.{elsewhere, another_sink, left_out}
 use Rattle.scenario_laws.proofs.Isolating.Kept.{Means, kept}
 use Rattle.scenario_laws.proofs.Isolating.Printed.{replied_same, lines_same, octets_on as append_same}

@@ -1,6 +1,6 @@
 -- A step that is left out changes nothing of the sink and of the source: it names another sink, or it means another source and puts
 -- the sink on no train and no group.
-use Rattle.scenario_laws.proofs.Known.Sources.{ℕ, ◌≡◌, cond, not, Bool, true, List, [], ◌∷◌, Option, None, arith, subst, false≢true, append-nil, Settings, Call, Step, box_of, handed_by, is_of, sink_calls, source_of, Airs, chosen_given, steps_of_source, calls_made, made_of, version_given, units_by, is_other, sink_in, ◌≢◌, ◌==◌, ◌&&◌, false, Some, refl, ap, and_right, ne_eqb, cond-false, with_leave, train_heard, TrainOutcome, Train, big_sync_in, ticked_if, open_event, chosen_of, chosen_steps, is_common, is_source_line, source_at, Source, given_train, calls_by, own_train, follows, follows_by, received_by, train_by, puts, alike_itself, alike_then, ignores, SourceSaid as Said, source_said_after as said_after, source_said_of as said_of, said_stays, said_elsewhere, HistoriesAlike, Same, left_took, units_append, closing_none, same_if, LinkCall}
+use Rattle.scenario_laws.proofs.Known.Sources.{ℕ, ◌≡◌, cond, not, Bool, true, List, [], ◌∷◌, Option, None, arith, subst, false≢true, append-nil, Settings, Call, Step, box_of, handed_by, is_of, sink_calls, source_of, Airs, chosen_given, steps_of_source, calls_made, made_of, version_given, units_by, is_other, sink_in, ◌≢◌, ◌==◌, ◌&&◌, false, Some, refl, ap, and_right, ne_eqb, cond-false, train_heard, TrainOutcome, Train, big_sync_in, ticked_if, open_event, chosen_of, chosen_steps, is_source_line, source_at, Source, given_train, calls_by, own_train, follows, follows_by, received_by, train_by, puts, alike_itself, alike_then, ignores, SourceSaid as Said, source_said_after as said_after, source_said_of as said_of, said_stays, said_elsewhere, HistoriesAlike, Same, left_took, units_append, closing_none, same_if, LinkCall}
 
 -- ---- what a step leaves
 
@@ -40,9 +40,6 @@ pub record Quiet (step : Step) : Type 0 where
 quiet : (n : ℕ) (step : Step) → is_other n (sink_in step) ≡ true → Quiet step
 quiet n step other = grind (arith, false≢true)
 
-made_other : (n : ℕ) (step : Step) (made : List Step) → is_other n (sink_in step) ≡ true → made_of n (step ∷ made) ≡ made_of n made
-made_other n step made other = grind (arith, pass)
-
 history_other : (n : ℕ) (step : Step) (made : List Step) → is_other n (sink_in step) ≡ true → calls_made n (step ∷ made) ≡ calls_made n made
 history_other n step made other = grind (arith, pass)
 
@@ -54,7 +51,7 @@ box_other n step made other = grind (arith, pass)
 
 pub another_sink : (airs : Airs) (s n : ℕ) (step : Step) (made : List Step) → is_other n (sink_in step) ≡ true → Leaves airs s n step made
 another_sink airs s n step made other =
-    grind (arith, quiet, said_stays, made_other, lives_equal, history_other, source_other, box_other, pass, false≢true)
+    grind (arith, quiet, said_stays, lives_equal, history_other, source_other, box_other, pass, false≢true)
 
 -- ---- a line that means another source, and puts the sink on no train and no group, changes nothing of the sink and of the source
 

@@ -1,6 +1,6 @@
 -- What a line makes of two histories of the sink that it names which come to the same: of the histories, of the receivers, and of the
 -- source that the sink is of.
-use Rattle.scenario_laws.proofs.Known.Sources.Steps.Prelude.{ℕ, ◌≡◌, cond, Bool, true, List, [], ◌∷◌, Option, None, Some, subst, arith, Settings, Train, outcome_by, born, Step, is_source_line, calls_made, source_at, the_world, Source, calls_at, calls_by, made_of, named_by, follows, follows_by, received_by, source_by, train_by, LinkCall as Call, moved}
+use Rattle.scenario_laws.proofs.Known.Sources.Steps.Prelude.{ℕ, ◌≡◌, cond, Bool, true, List, [], ◌∷◌, Option, None, Some, subst, arith, Settings, Train, outcome_by, born, Step, is_source_line, calls_made, source_at, the_world, Source, calls_at, calls_by, made_of, named_by, follows, follows_by, source_by, train_by, LinkCall as Call, moved}
 use Rattle.scenario_laws.proofs.Isolating.Histories.{Alike, alike_itself, drains, grows}
 use Rattle.scenario_laws.proofs.Isolating.Same.{HistoriesAlike}
 use Rattle.bass_operations.specs.declared.operation.Operation.TheVariants as operations
@@ -19,14 +19,10 @@ called_some : (source : Source) (line : Step) (made : Settings) (a b : List Call
 called_some source (Step.Drop sink) made a b same = alike_itself made.setup made.mtu []
 called_some source _ made a b same = search (grows, drains)
 
-lives_if : (hit : Bool) (made : Option Settings) (a b a' b' : List Call) → HistoriesAlike made a b → HistoriesAlike made a' b'
-    → HistoriesAlike made (cond hit a' a) (cond hit b' b)
-lives_if hit made a b a' b' before later = grind arith
-
 named_lives : (n : ℕ) (named : Option ℕ) (line : Step) (earlier others : List Step) (made : Option Settings) (a b : List Call)
     → Sourced line (source_at earlier) (source_at others) → HistoriesAlike made a b
     → HistoriesAlike made (calls_at the_world n named line earlier made a) (calls_at the_world n named line others made b)
-named_lives n named line earlier others made a b sourced same = grind (arith, lives_if, called_some, calls_by)
+named_lives n named line earlier others made a b sourced same = grind (arith, called_some, calls_by)
 
 born_lives : (hit : Bool) (new : Settings) (mtu : Option ℕ) (made : Option Settings) (a b : List Call) → HistoriesAlike made a b
     → HistoriesAlike (cond hit (Some new) made) (cond hit (born mtu) a) (cond hit (born mtu) b)

@@ -1,5 +1,5 @@
 -- What a step that both lists of steps have prints of the sink, of its assistants and of the source.
-use Rattle.scenario_laws.proofs.Known.Sources.{ℕ, zero, suc, ◌≡◌, ◌∙◌, List, ◌++◌, length, map, Option, refl, ap, arith, codes, decimal, option_map, slice_get, range_with_len, Settings, Train, answer_of, outcome_by, state_at, value, writes_waiting, served_out, notified_out, language, notices_waiting, reads_waiting, view_of, Step, Label, reply_line, sink_line, train_words, value_line, Source, Lines, drain_lines, heard_line, if_there, printed_of, printed_where, read_line, read_lines, replied, serve_line, serve_lines, show_lines, stated, tell_line, tell_lines, view_lines, was_read, ◌==◌, not, false, concat, flat_map, eqb-true, not-false, control_line, handed_line, injected_hearing, stale_lines, is_of, sink_calls, source_of, end_pdu, event_back, stale_in, Airs, chosen_of, chosen_steps, calls_made, source_at, made_of, lines_by, unit_lines_by, is_other, sink_in, LinkCall as Call, Alike, notices_same, reads_same, repeats, served_grow, told_grow, waiting_same, Sourced, HistoriesAlike, Same, chosen_alike, own_alike, back_same, end_same, pdu_back_same, both_alike}
+use Rattle.scenario_laws.proofs.Known.Sources.{ℕ, zero, suc, ◌≡◌, ◌∙◌, List, ◌++◌, length, map, Option, refl, ap, arith, codes, decimal, option_map, slice_get, range_with_len, Settings, Train, answer_of, outcome_by, state_at, value, writes_waiting, served_out, notified_out, language, notices_waiting, reads_waiting, view_of, Step, Label, reply_line, sink_line, train_words, value_line, Source, Lines, drain_lines, heard_line, if_there, printed_where, read_line, read_lines, replied, serve_line, serve_lines, show_lines, stated, tell_line, tell_lines, view_lines, was_read, ◌==◌, not, false, concat, flat_map, eqb-true, not-false, control_line, handed_line, injected_hearing, stale_lines, is_of, sink_calls, source_of, end_pdu, event_back, stale_in, Airs, chosen_of, chosen_steps, calls_made, source_at, made_of, lines_by, unit_lines_by, is_other, sink_in, LinkCall as Call, Alike, notices_same, reads_same, repeats, served_grow, told_grow, waiting_same, Sourced, HistoriesAlike, Same, chosen_alike, own_alike, back_same, end_same, pdu_back_same, both_alike}
 use Rattle.scenario_laws.proofs.Isolating.Kept.{Means, chosen_closing, cond_both, sourced}
 use Rattle.scenario_laws.proofs.Isolating.Said.{stale_same}
 

@@ -1,6 +1,6 @@
 -- A unit that a relay offers is dropped for one of four reasons: the stream that it goes to is one of source 1, which is framed and
 -- takes times ahead.
-use Rattle.scenario_laws.proofs.Known.Sources.Steps.{ℕ, ◌≡◌, ◌==◌, ◌&&◌, ◌∙◌, not, cond, Bool, true, false, List, [], ◌∷◌, ltb, arith, None, Some, refl, ap, subst, inl, inr, slice_index_or, All, option_map, option_or, and_parts, eqb-true, false≢true, or_parts, All-head, All-tail, Step, Airs, permitted, stage_same, give_refusal, is_out_of_phase, refusal_of, source_refusal, refuse_if, Phase, is_ciphered, is_sending, is_sending_at, is_started, phase_of, sending, setup_of, takes_units, was_started_at, chosen_of, is_of_source, is_source_line, steps_of_source, version_at, version_of, DroppedLaw, Offer, after_offer, closes_first, dropped_for, happened, offers_at, AreLegal, had_relay, relay_of, or_cases, stage_happened, left_by_offers, Runs, happens_legally, runs_at, runs_still, unless_legal, is_free, line_passes, Stands, offers_stand, route_had, Refusal}
+use Rattle.scenario_laws.proofs.Known.Sources.Steps.{ℕ, ◌≡◌, ◌==◌, ◌&&◌, ◌∙◌, not, cond, Bool, true, false, List, [], ◌∷◌, ltb, arith, None, Some, refl, ap, subst, inl, inr, slice_index_or, All, option_map, option_or, and_parts, eqb-true, false≢true, or_parts, All-head, All-tail, Step, Airs, permitted, stage_same, is_out_of_phase, refusal_of, source_refusal, refuse_if, Phase, is_ciphered, is_sending, is_sending_at, is_started, phase_of, sending, setup_of, takes_units, was_started_at, chosen_of, is_of_source, is_source_line, steps_of_source, version_at, version_of, DroppedLaw, Offer, after_offer, closes_first, dropped_for, happened, offers_at, AreLegal, had_relay, relay_of, or_cases, stage_happened, left_by_offers, Runs, happens_legally, runs_at, runs_still, unless_legal, is_free, line_passes, Stands, offers_stand, route_had, Refusal}
 use Rattle.relay_role.specs.Relayed.{drop_name}
 use Rattle.scenario_laws.specs.RelayedUnits.Dropped.{AreDroppedByName, refusal_named, second_at, second_of}
 use Rattle.source_machine.specs.UnitFaults as give_faults

@@ -1,5 +1,5 @@
 -- What happens by steps of lines, of what they say: relayed units are no part of the stage, of the sinks and of what is handed up.
-use Rattle.scenario_laws.proofs.Known.Sources.Steps.Prelude.{◌≡◌, ◌==◌, ◌∙◌, cond, Bool, true, false, List, [], ◌∷◌, ◌++◌, refl, sym, ap, ap₂, eqb-true, Step, handed_by, handed_up, after_offers, happened, offers_at, with_relayed_units, Airs, chosen_of, sinks_made, stage_of, ℕ, ◌+◌, ◌||◌, ◌&&◌, Option, arith, unwrap_or, option_or, train_of, Settings, iso_us_of, Cipher, BaseLine, subgroups_in, Source, calls_after, calls_at, calls_by, made_by, made_of, named_by, events, anchor_of, with_cipher, Identity, Refusal, base_from, base_lines, Offer, after_offer, offers_before, with_relayed_unit_unless, GroupLine, cipher_of, group_of, ident_of, no_group, no_identity, source_calls, start_of, chosen_given, is_common, is_of_source, is_source_line, last_given, steps_of_source, calls_made, source_at, the_world, closing, LinkCall as Call, sink_horizon_of as horizon_of}
+use Rattle.scenario_laws.proofs.Known.Sources.Steps.Prelude.{◌≡◌, ◌==◌, ◌∙◌, cond, Bool, true, false, List, [], ◌∷◌, ◌++◌, refl, sym, ap, ap₂, eqb-true, Step, handed_by, handed_up, after_offers, happened, offers_at, with_relayed_units, Airs, chosen_of, sinks_made, stage_of, ℕ, ◌+◌, ◌||◌, ◌&&◌, Option, arith, unwrap_or, train_of, Settings, iso_us_of, Cipher, BaseLine, subgroups_in, Source, calls_after, calls_at, calls_by, made_by, made_of, named_by, events, anchor_of, with_cipher, Identity, Refusal, base_from, base_lines, Offer, after_offer, offers_before, with_relayed_unit_unless, GroupLine, cipher_of, group_of, ident_of, no_group, no_identity, source_calls, start_of, is_common, is_of_source, is_source_line, steps_of_source, calls_made, source_at, the_world, closing, LinkCall as Call, sink_horizon_of as horizon_of}
 use Rattle.scenario_laws.proofs.RelayedUnits.Left.{left_by_relayed_units, left_by_offers}
 
 pub stage_happened : (airs : Airs) (said : List Step) → stage_of (happened airs said) ≡ stage_of said

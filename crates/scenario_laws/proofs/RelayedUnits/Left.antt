@@ -1,8 +1,5 @@
 -- What relayed units leave: a step that chooses a source and one that gives source 1 a unit change nothing else.
-use Rattle.scenario_laws.proofs.Known.Sources.Steps.Prelude.{◌∙◌, List, [], ◌∷◌, Option, None, Some, append-nil, Step, Refusal, Airs, Offer, after_offer, after_offers, offers_before, with_relayed_unit, with_relayed_unit_unless, with_relayed_units, IsLeft, ℕ, ◌≡◌, ◌==◌, ◌&&◌, cond, Bool, false, ◌++◌, arith, refl, sym, ap, append_assoc, list_any, false≢true, or_parts, map-append, filter-append, accept, accepted, Setup, event, framed_calls, give, timed_accepted, setup_of, source_calls, chosen_of, Answered, dropped_for, offered_to, PassesAtOnce, accepted_on, gives_on, Unit as AudioUnit, FramedCall, SourceCall as Call, answered, passed}
-
-left_same : (airs : Airs) (steps : List Step) → IsLeft airs steps steps
-left_same airs steps = assumption
+use Rattle.scenario_laws.proofs.Known.Sources.Steps.Prelude.{◌∙◌, List, [], ◌∷◌, Option, None, Some, append-nil, Step, Refusal, Airs, Offer, after_offer, after_offers, offers_before, with_relayed_unit_unless, with_relayed_units, IsLeft, ℕ, ◌≡◌, ◌==◌, ◌&&◌, cond, Bool, false, ◌++◌, arith, refl, sym, ap, append_assoc, list_any, false≢true, or_parts, map-append, filter-append, accept, accepted, Setup, event, framed_calls, give, timed_accepted, setup_of, source_calls, chosen_of, Answered, dropped_for, offered_to, PassesAtOnce, accepted_on, gives_on, Unit as AudioUnit, FramedCall, SourceCall as Call, answered, passed}
 
 left_then : (airs : Airs) (after_relays between before : List Step) → IsLeft airs after_relays between → IsLeft airs between before
     → IsLeft airs after_relays before
@@ -27,10 +24,10 @@ left_then airs after_relays between before later first = record {
 left_unless : (airs : Airs) (reason : Option Refusal) (offer : Offer) (steps : List Step)
     → IsLeft airs (with_relayed_unit_unless reason offer steps) steps
 left_unless airs None offer steps = search append-nil
-left_unless airs (Some reason) offer steps = left_same airs steps
+left_unless airs (Some reason) offer steps = assumption
 
 pub left_by_offers : (airs : Airs) (offers : List Offer) (steps : List Step) → IsLeft airs (after_offers airs offers steps) steps
-left_by_offers airs [] steps = left_same airs steps
+left_by_offers airs [] steps = assumption
 left_by_offers airs (offer ∷ offers) steps = search (left_then, left_unless, left_by_offers airs offers (after_offer airs offer steps))
 
 pub left_by_relayed_units : (airs : Airs) (steps : List Step) (step : Step) → IsLeft airs (with_relayed_units airs steps step) steps

@@ -1,5 +1,5 @@
 -- What is offered to a stream of source 1 is what one sink handed up of one of its streams.
-use Rattle.scenario_laws.proofs.Known.Sources.Steps.{ℕ, zero, suc, ◌≡◌, ◌≢◌, ◌<◌, ◌≤◌, ◌+◌, ◌==◌, ◌∙◌, Bool, true, false, cond, List, [], ◌∷◌, ◌++◌, map, Option, None, Some, refl, sym, ap, subst, arith, inl, inr, Contains, filter, flat_map, range_with_len, cases_Bool, cases_eq, and_right, eq-eqb, eqb-true, false_from_ne_true, false≢true, or_parts, append-nil, map-append, filter-append, IsInRange, Step, Handed, SinkUnit, handed_by, open_event, Airs, chosen_of, steps_of_source, Answered, Offer, after_offer, all_answered, answered_by, closes_first, dropped_for, handed_of, happened, offered_of, offered_to, offers_at, units_on, with_relayed_units, handed_on, is_route, offered, AreSaidLegally, Route, had_relay, relay_of, relays_to, Unit as AudioUnit, closing, sink_numbers, answered, left_by_relayed_units, OneStands, contains_cases, first_free, one_stands, had_happened, none_now, none_offered, route_had}
+use Rattle.scenario_laws.proofs.Known.Sources.Steps.{ℕ, zero, suc, ◌≡◌, ◌≢◌, ◌<◌, ◌≤◌, ◌+◌, ◌==◌, ◌∙◌, Bool, true, false, cond, List, [], ◌∷◌, ◌++◌, map, Option, None, Some, refl, sym, ap, subst, arith, inl, inr, Contains, filter, flat_map, range_with_len, cases_Bool, cases_eq, and_right, eq-eqb, eqb-true, false_from_ne_true, false≢true, or_parts, append-nil, map-append, filter-append, IsInRange, Step, Handed, SinkUnit, handed_by, open_event, Airs, chosen_of, steps_of_source, Answered, Offer, after_offer, all_answered, answered_by, closes_first, handed_of, happened, offered_of, offered_to, offers_at, units_on, with_relayed_units, handed_on, is_route, offered, AreSaidLegally, Route, had_relay, relay_of, relays_to, Unit as AudioUnit, closing, sink_numbers, answered, left_by_relayed_units, OneStands, contains_cases, first_free, one_stands, had_happened, none_now, none_offered, route_had}
 
 -- ---- lists
 
@@ -40,9 +40,6 @@ answered_units airs to (offer ∷ offers) made =
     let next = after_offer airs offer made in
     grind (arith, (answered_units airs to offers next))
 
-same_nil : (hit : Bool) → (let none : List AudioUnit = [] in none ≡ cond hit none none)
-same_nil hit = grind arith
-
 one_more : (hit : Bool) (n : ℕ) (route : Route) (unit : AudioUnit) (units : List AudioUnit) (offers : List Offer)
     → map (λ (offer : Offer). offer.unit) offers ≡ cond hit units []
     → map (λ (offer : Offer). offer.unit) (cond hit (record { sink = n; route = route; unit = unit } ∷ offers) offers) ≡ cond hit (unit ∷ units) []
@@ -50,7 +47,7 @@ one_more hit n route unit units offers same = grind arith
 
 route_units : (to n : ℕ) (route : Route) (units : List AudioUnit)
     → units_to to (map (λ unit. record { sink = n; route = route; unit = unit }) units) ≡ cond (route.to == to) units []
-route_units to n route [] = same_nil (route.to == to)
+route_units to n route [] = grind arith
 route_units to n route (unit ∷ units) = search (one_more, route_units to n route units)
 
 -- what one sink offers to the stream
@@ -118,7 +115,7 @@ first_handed airs n made step =
 offers_if : (closes : Bool) (airs : Airs) (n bis to : ℕ) (made : List Step) → n ≤ 7 → OneStands n bis to made
     → units_to to (cond closes (offers_at airs made) []) ≡ cond (is_route bis to (relay_of n made)) (units_on bis (cond closes (handed_of 0 n (closing airs 0 made)) [])) []
 offers_if true airs n bis to made below stands = offers_units airs n bis to made below stands
-offers_if false airs n bis to made below stands = same_nil (is_route bis to (relay_of n made))
+offers_if false airs n bis to made below stands = grind arith
 
 offered_now : (airs : Airs) (n bis to : ℕ) (made : List Step) (step : Step) → n ≤ 7 → OneStands n bis to made
     → map (λ (a : Answered). a.offer.unit) (offered_to to (answered_by airs made step)) ≡ cond (is_route bis to (relay_of n made)) (handed_on airs n bis made step) []

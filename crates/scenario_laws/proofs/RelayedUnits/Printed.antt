@@ -1,5 +1,5 @@
 -- Without relays a close prints the units of its sinks in order, and nothing else.
-use Rattle.scenario_laws.proofs.Known.Sources.Steps.{ℕ, zero, suc, ◌≡◌, ◌<◌, ◌≤◌, ◌+◌, ◌==◌, ◌∙◌, Bool, true, false, cond, List, [], ◌∷◌, ◌++◌, map, Option, None, Some, refl, ap, arith, append_assoc, flat_map, range_with_len, eq-eqb, eqb-true, ne_eqb, append-nil, flat_map-append, Call, handed_at, Step, handed_line, Handed, Account, SinkUnit, box_of, closing_at, closing_both, closing_by, closing_in, handed_up, answered_by, closes_first, handed_of, offers_at, close_lines, first_lines, output_of, sums_of, unit_lines, is_of, sink_calls, source_of, open_event, Airs, chosen_of, steps_of_source, PrintsUnits, has_relay, ◌||◌, sym, subst, inl, inr, list_any, and_right, cases_Bool, false≢true, all_answered, happened, offered_to, offers_before, with_relayed_units, RelayLaw, accepted_on, AreSaidLegally, gives_on, line_refusal, had_relay, relays_to, closing, sink_numbers, answered, passed, no_offers, had_happened, none_offered, all_pass, gives_to, none_taken, passed_append, step_takes, gives_none, is_free, line_passes, has_had}
+use Rattle.scenario_laws.proofs.Known.Sources.Steps.{ℕ, zero, suc, ◌≡◌, ◌<◌, ◌≤◌, ◌+◌, ◌==◌, ◌∙◌, Bool, true, false, cond, List, [], ◌∷◌, ◌++◌, map, Option, None, Some, refl, ap, arith, append_assoc, flat_map, range_with_len, eq-eqb, eqb-true, ne_eqb, append-nil, flat_map-append, Call, handed_at, Step, handed_line, Handed, Account, SinkUnit, box_of, closing_at, closing_both, closing_by, closing_in, handed_up, answered_by, closes_first, handed_of, offers_at, close_lines, first_lines, output_of, sums_of, unit_lines, is_of, sink_calls, source_of, open_event, Airs, chosen_of, steps_of_source, PrintsUnits, has_relay, sym, subst, inl, inr, list_any, and_right, cases_Bool, false≢true, all_answered, happened, offered_to, offers_before, with_relayed_units, RelayLaw, accepted_on, AreSaidLegally, gives_on, line_refusal, had_relay, relays_to, closing, sink_numbers, answered, passed, no_offers, had_happened, none_offered, all_pass, none_taken, passed_append, step_takes, gives_none, is_free, line_passes, has_had}
 use Rattle.scenario_laws.proofs.RelayedUnits.Offered.{flat_one, handed_append, all_offered}
 
 -- ---- lists

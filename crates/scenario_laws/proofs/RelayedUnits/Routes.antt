@@ -1,5 +1,5 @@
 -- A line of version 1 is no `relay` line: no row of the table that version 1 knows makes one.
-use Rattle.scenario_laws.proofs.Known.Sources.Steps.Prelude.{ℕ, ◌≡◌, Bool, false, cond, nat_eq, List, [], ◌∷◌, Option, None, Some, Result, Ok, Err, refl, arith, TextLine, ◌>>=◌, LineFault, at_known, built_at, Build, Row, event_rows, first_rows, link_rows, row_in, sink_rows, source_rows, Step, a_step, nothing, said_by, said_in, unsaid, has_relay, makes_relay, ◌==◌, ◌||◌, ◌∙◌, true, ◌++◌, map, sym, ap, unwrap_or, All, filter, flat_map, option_or, and_right, eq-eqb, eqb-true, false_from_ne_true, false≢true, or_parts, or_right, All-append, All-cons, All-head, All-nil, All-tail, filter-append, none-some, same_Some, Handed, Airs, chosen_of, last_given, Answered, Offer, after_offer, after_offers, all_answered, answered_by, closes_first, dropped_for, happened, offered_of, offered_to, offers_at, offers_before, units_on, with_relayed_units, NoneRelayed, is_relayed, Route, had_relay, relay_given, relay_of, relays_to, Left, at_place, read_of, step_of, first_row_of, link_row_of, row_of, row_of_2, sink_row_of, source_row_of, Said, or_left, Unit as AudioUnit, answered}
+use Rattle.scenario_laws.proofs.Known.Sources.Steps.Prelude.{ℕ, ◌≡◌, Bool, false, cond, nat_eq, List, [], ◌∷◌, Option, None, Some, Result, Ok, Err, refl, arith, TextLine, ◌>>=◌, LineFault, at_known, built_at, Build, Row, event_rows, first_rows, link_rows, row_in, sink_rows, source_rows, Step, a_step, nothing, said_by, said_in, unsaid, has_relay, makes_relay, ◌==◌, ◌||◌, ◌∙◌, true, ◌++◌, map, sym, ap, unwrap_or, All, filter, flat_map, option_or, and_right, eq-eqb, eqb-true, false_from_ne_true, false≢true, or_parts, or_right, All-append, All-cons, All-head, All-nil, All-tail, filter-append, none-some, same_Some, Handed, Airs, chosen_of, last_given, Answered, Offer, after_offer, all_answered, answered_by, closes_first, dropped_for, happened, offered_of, offered_to, offers_at, offers_before, units_on, with_relayed_units, NoneRelayed, is_relayed, Route, had_relay, relay_given, relay_of, relays_to, Left, at_place, read_of, step_of, first_row_of, link_row_of, row_of, row_of_2, sink_row_of, source_row_of, Said, or_left, Unit as AudioUnit, answered}
 use Rattle.scenario_words.specs.Places.{Place, PlaceValue}
 use Rattle.scenario_laws.proofs.RelayedUnits.Left.{left_by_relayed_units}
 

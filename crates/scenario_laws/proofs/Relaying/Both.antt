@@ -1,6 +1,6 @@
 -- The relayed units law: what is in the order of source 1 is in the order of what the relaying sink handed up, and that is in the
 -- order of source 0.
-use Rattle.scenario_laws.proofs.Known.Sources.Steps.{ℕ, suc, ◌≡◌, ◌<◌, ◌∙◌, List, [], ◌∷◌, length, map, refl, sym, ap, subst, arith, slice_index, AllZip, IsStrictlyIncreasing, eqb-true, length-map, slice_get_within, Step, Setup, given, Handed, happened, setup_of, source_calls, steps_of_source, RelayLaw, offered, StepsInOrder, air_in, is_made, shown_since, InFirstOrder, InRelayOrder, IsOfFirst, IsOfOffered, RelayedUnits, UnitPlace, Unit as AudioUnit, had_happened, happens_legally, has_had, Numbered, at_map, in_relay_order, zip_map}
+use Rattle.scenario_laws.proofs.Known.Sources.Steps.{ℕ, suc, ◌≡◌, ◌<◌, ◌∙◌, List, [], ◌∷◌, length, map, refl, sym, ap, subst, arith, slice_index, AllZip, IsStrictlyIncreasing, eqb-true, length-map, slice_get_within, Step, Setup, given, Handed, happened, setup_of, source_calls, steps_of_source, RelayLaw, offered, StepsInOrder, air_in, is_made, shown_since, InFirstOrder, InRelayOrder, IsOfOffered, RelayedUnits, UnitPlace, Unit as AudioUnit, had_happened, happens_legally, has_had, Numbered, at_map, in_relay_order, zip_map}
 use Rattle.scenario_laws.proofs.RelayedUnits.Dropped.{settled}
 use Rattle.scenario_laws.proofs.Relaying.Offering.{offered_numbered, ungiven}
 

@@ -1,5 +1,5 @@
 -- Of what was offered those units pass that weren't dropped, in order: so what is in the order of the one is in the order of the other.
-use Rattle.scenario_laws.proofs.Known.Sources.Steps.Prelude.{ℕ, zero, suc, ◌≡◌, ◌<◌, ◌≤◌, ◌+◌, ◌-◌, Bool, true, false, cond, List, [], ◌∷◌, length, map, slice_get, Some, refl, arith, slice_index, AllZip, Contains, filter, IsStrictlyIncreasing, length-map, iso_us_of, sync_delay_of, Air, accepted, Setup, framed_calls, Handed, Step, setup_of, source_calls, Airs, steps_of_source, AreSaidLegally, InUnitOrder, IsOfUnit, Answered, all_answered, happened, offered_to, RelayLaw, offered, InRelayOrder, IsOfOffered, ◌∙◌, ◌++◌, Option, None, sym, ap, map-append, none-some, same_Some, slice_get-map, of_stream, accept, event, given, give, lost, valid, InSourceOrder, IsGiven, is_valid, valid_in, units_on, is_none, Unit as AudioUnit, SourceCall as Call, passed, FramedCall}
+use Rattle.scenario_laws.proofs.Known.Sources.Steps.Prelude.{ℕ, zero, suc, ◌≡◌, ◌<◌, ◌≤◌, ◌+◌, ◌-◌, Bool, true, false, cond, List, [], ◌∷◌, length, map, slice_get, Some, refl, arith, slice_index, AllZip, Contains, filter, length-map, iso_us_of, sync_delay_of, Air, accepted, Setup, framed_calls, Handed, Step, setup_of, source_calls, Airs, steps_of_source, AreSaidLegally, InUnitOrder, IsOfUnit, Answered, all_answered, happened, offered_to, RelayLaw, offered, InRelayOrder, IsOfOffered, ◌∙◌, ◌++◌, Option, None, sym, ap, map-append, none-some, same_Some, slice_get-map, of_stream, accept, event, given, give, lost, valid, InSourceOrder, IsGiven, is_valid, valid_in, units_on, is_none, Unit as AudioUnit, SourceCall as Call, passed, FramedCall}
 use Rattle.std.proofs.lemmas.List.Kept.{AllPairs-from_increasing}
 use Rattle.scenario_laws.proofs.RelayedUnits.Left.{event_accepts_none}
 
@@ -97,11 +97,6 @@ units_are bis [] = refl
 units_are bis (valid stream time octets ∷ entries) = search (valid_if, units_are bis entries)
 units_are bis (lost stream time ∷ entries) = search (lost_if, units_are bis entries)
 
--- the unit at a place is that of the valid entry there
-shown_at : (bis : ℕ) (entries : List Handed) (k : ℕ) (unit : AudioUnit) → slice_get (units_on bis entries) k ≡ Some unit
-    → slice_get (map shown (valid_in (of_stream bis entries))) k ≡ Some (shown (valid 0 unit.time unit.octets))
-shown_at bis entries k unit is = grind (arith, units_are, slice_get-map, valid, units_on)
-
 same_long : (bis : ℕ) (entries : List Handed) → length (units_on bis entries) ≡ length (valid_in (of_stream bis entries))
 same_long bis entries = grind (arith, length-map, units_on, valid, length, units_are, valid_in, of_stream)
 
@@ -140,7 +135,7 @@ numbered_slots setup calls bis entries order =
       rises = λ j k below within. AllPairs-from_increasing order.numbers order.rising j k 0 below (omega (arith, within, long));
       gives = λ k unit is.
           let found = zip_get (IsGiven setup calls bis) shown order.numbers (valid_in (of_stream bis entries)) k
-          (shown (valid 0 unit.time unit.octets)) order.given (shown_at bis entries k unit is) in
+          (shown (valid 0 unit.time unit.octets)) order.given (grind (arith, units_are, slice_get-map, valid, units_on)) in
           of_given setup calls bis (slice_index order.numbers k) found.one unit found.holds found.is;
     }
 
@@ -181,6 +176,7 @@ numbered_units setup calls bis air entries order =
           (omega (arith, last, long));
       gives = λ k unit is.
           let found = zip_get (IsOfUnit setup calls bis air) shown order.numbers all (index k) (shown (valid 0 unit.time unit.octets))
-          order.each (place_gets is_valid shown all (shown (valid 0 unit.time unit.octets)) k (shown_at bis entries k unit is)) in
+          order.each (place_gets is_valid shown all (shown (valid 0 unit.time unit.octets)) k (grind (arith, units_are, slice_get-map,
+          valid, units_on))) in
           of_unit setup calls bis air (slice_index order.numbers (index k)) found.one unit found.holds found.is;
     }

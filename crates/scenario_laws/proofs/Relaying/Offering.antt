@@ -1,5 +1,5 @@
 -- What the relay of a sink offered is the end of what the sink handed up since it was made: while the relay stands, the sink lives.
-use Rattle.scenario_laws.proofs.Known.Sources.Steps.{ℕ, ◌≡◌, ◌==◌, ◌∙◌, cond, Bool, true, false, List, [], ◌∷◌, ◌++◌, Option, None, Some, arith, is_some, refl, sym, ap, append_assoc, inl, inr, unwrap_or, Contains, option_or, eq-eqb, eqb-true, false_from_ne_true, false≢true, append-nil, map-append, flat_map-append, filter-append, none-some, same_Some, Step, Refusal, SinkUnit, box_of, handed_by, fails_not, permitted, line_refusal, refuse_if, Airs, last_given, sinks_made, handed_since, is_made, of_sink, Offer, after_offer, after_offers, happened, offers_before, units_on, with_relayed_unit_unless, with_relayed_units, handed_on, is_route, offered, AreLegal, AreSaidLegally, Route, had_relay, relay_given, relay_of, EndsWith, suc, ◌⊎◌, ◌<◌, ◌≤◌, ◌&&◌, ◌||◌, length, slice_get, subst, and_parts, cases_Bool, or_parts, IsInRange, given, Handed, MeetAirs, closes_first, handed_of, setup_of, source_calls, chosen_of, is_of_source, steps_of_source, StepsInOrder, given_since_made, injected_since, is_injected, air_in, injected_till_last_offer, Unit as AudioUnit, neither, OneStands, contains_cases, first_free, had_happened, happens_legally, has_had, is_free, left_by_relayed_units, line_passes, one_stands, chosen_happened, closing, Numbered, numbered_slots, numbered_units, made_alike, given_is_injected}
+use Rattle.scenario_laws.proofs.Known.Sources.Steps.{ℕ, ◌≡◌, ◌==◌, ◌∙◌, cond, Bool, true, false, List, [], ◌∷◌, ◌++◌, Option, None, Some, arith, is_some, refl, sym, ap, append_assoc, inl, inr, unwrap_or, Contains, option_or, eq-eqb, eqb-true, false_from_ne_true, false≢true, append-nil, map-append, flat_map-append, filter-append, none-some, same_Some, Step, Refusal, SinkUnit, box_of, handed_by, fails_not, permitted, line_refusal, refuse_if, Airs, last_given, handed_since, is_made, of_sink, Offer, after_offer, after_offers, happened, offers_before, units_on, with_relayed_unit_unless, with_relayed_units, handed_on, is_route, offered, AreLegal, AreSaidLegally, Route, had_relay, relay_given, relay_of, EndsWith, suc, ◌⊎◌, ◌<◌, ◌≤◌, ◌&&◌, ◌||◌, length, slice_get, subst, and_parts, cases_Bool, or_parts, IsInRange, given, MeetAirs, closes_first, setup_of, source_calls, chosen_of, is_of_source, steps_of_source, StepsInOrder, given_since_made, injected_since, is_injected, air_in, injected_till_last_offer, Unit as AudioUnit, neither, OneStands, contains_cases, first_free, had_happened, happens_legally, has_had, is_free, left_by_relayed_units, line_passes, one_stands, chosen_happened, Numbered, numbered_slots, numbered_units, made_alike, given_is_injected}
 use Rattle.scenario_laws.proofs.RelayedUnits.Offered.{not_yet, first_handed, in_range}
 
 -- ---- a sink with a relay lives

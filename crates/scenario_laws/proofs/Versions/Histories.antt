@@ -1,7 +1,7 @@
 -- The history of a sink whose groups may have a greater horizon: what it has, what its links bring and what it prints are the
 -- same, where no train was answered `BadGroup 11` (Basic Audio Profile 1.0, section 6.5; Broadcast Audio Scan Service 1.0,
 -- section 3). Lists of steps and of calls have the newest first.
-use Rattle.scenario_laws.proofs.Known.Sources.Steps.Prelude.{ℕ, zero, suc, ◌≡◌, ◌≤◌, List, [], ◌∷◌, length, Option, refl, ◌∙◌, ap, arith, slice_get, Snapshot, done_by, snapshot_of, train_heard, outcome_by, step_by, writes_waiting, drained, repeated, notified_and_read, notified_out, Acts, acts_by, acts_of, notices_waiting, reads_waiting, waiting_of, DelegatorAnswered as Answered, DelegatorStep as Step, delegator_answered as answered, delegator_snapshot_in as snapshot_in, Done, SinkSetup as Setup, LinkCall as Call, link_steps_of as steps_of, link_with_step as with_step}
+use Rattle.scenario_laws.proofs.Known.Sources.Steps.Prelude.{ℕ, zero, suc, ◌≡◌, ◌≤◌, List, [], ◌∷◌, length, Option, refl, ◌∙◌, ap, arith, slice_get, Snapshot, done_by, snapshot_of, train_heard, outcome_by, writes_waiting, drained, repeated, notified_and_read, notified_out, Acts, acts_by, acts_of, notices_waiting, reads_waiting, waiting_of, DelegatorAnswered as Answered, DelegatorStep as Step, delegator_answered as answered, delegator_snapshot_in as snapshot_in, Done, SinkSetup as Setup, LinkCall as Call, link_steps_of as steps_of}
 use Rattle.scenario_laws.proofs.Versions.Trains.{BringsNear, brought_same, with_horizon}
 
 -- ---- what it has

@@ -1,6 +1,6 @@
 -- The sinks of a scenario in version 2: their history is the same, where no train was answered `BadGroup 11` (Basic Audio Profile
 -- 1.0, section 6.5). Lists of steps and of calls have the newest first.
-use Rattle.scenario_laws.proofs.Known.Sources.{ℕ, ◌≡◌, ◌≤◌, ◌==◌, cond, Bool, true, List, [], ◌∷◌, Option, None, Some, refl, ◌∙◌, ap₂, arith, eqb-true, Settings, born, Step, Source, calls_after, calls_at, calls_by, made_by, made_of, named_by, train_by, calls_made, source_at, the_world, LinkCall as Call, AreQuietCalls, drained_same, quiet_drained, quiet_served, HearsNear, IsQuietHistory, made_with_horizon, at_second, same, second, seconds, sink_grows}
+use Rattle.scenario_laws.proofs.Known.Sources.{ℕ, ◌≡◌, ◌≤◌, ◌==◌, cond, Bool, true, List, [], ◌∷◌, Option, None, Some, refl, ◌∙◌, ap₂, arith, eqb-true, Settings, born, Step, calls_after, calls_at, made_by, made_of, named_by, train_by, calls_made, source_at, the_world, LinkCall as Call, AreQuietCalls, drained_same, quiet_drained, quiet_served, HearsNear, IsQuietHistory, made_with_horizon, at_second, same, second, seconds, sink_grows}
 
 -- ---- the source that a line means
 
@@ -54,15 +54,11 @@ quiet_if : (b : Bool) (one made : Option Settings) (first calls : List Call) →
     → QuietHistory (cond b one made) (cond b first calls)
 quiet_if b one made first calls is quiet = grind arith
 
-quiet_chosen : (is_its : Bool) (made : Option Settings) (first calls : List Call) → (is_its ≡ true → QuietHistory made first)
-    → QuietHistory made calls → QuietHistory made (cond is_its first calls)
-quiet_chosen is_its made first calls is quiet = grind arith
-
 quiet_at : (n : ℕ) (named : Option ℕ) (step : Step) (earlier : List Step) (made : Option Settings) (calls : List Call)
     → QuietHistory made calls
     → ((sink : Settings) → named ≡ Some n → made ≡ Some sink → HearsNear sink calls (train_by (source_at earlier) step))
     → QuietHistory made (calls_at the_world n named step earlier made calls)
-quiet_at n named this earlier made calls quiet near = grind (arith, quiet_chosen, eqb-true, quiet_served, quiet_drained)
+quiet_at n named this earlier made calls quiet near = grind (arith, eqb-true, quiet_served, quiet_drained)
 
 quiet_after : (n : ℕ) (step : Step) (earlier : List Step) (made : Option Settings) (calls : List Call) → QuietHistory made calls
     → ((sink : Settings) → named_by step ≡ Some n → made ≡ Some sink → HearsNear sink calls (train_by (source_at earlier) step))

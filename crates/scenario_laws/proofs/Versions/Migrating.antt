@@ -1,5 +1,5 @@
 -- The migration law, over the airs of each stream by its framing: a text and the text in version 2.
-use Rattle.scenario_laws.proofs.Known.Sources.{ℕ, ◌≡◌, ◌⊎◌, ◌+◌, nat_eq, cond, leb, Bool, true, List, [], ◌∷◌, ◌++◌, length, reverse, Option, None, arith, Some, refl, sym, ◌∙◌, ap, subst, inl, inr, append-nil, TextLine, plain, too_long, line_limit, line_of, Account, Accepted, End, Rules, accepted_of, accepted_unless, end_unless, out, out_unless, refused, through, reverse_onto, is_blank, airs_of, Step, Refusal, LineTooLong, a_step, nothing, unsaid, output_said, refusal_said, said_in, steps_of, with_said, version_of, end_after, has_end, last_end_after, transcript_end, transcript_of, units_of, EndsLasting, IsLastingText, NonePrintsHorizon, Airs, MeetAirs, rules_of, MigrationLaw, PrintsHorizon, text_lines, text_lines as lines_of, end_of, migrated, decimal_in, read_of, step_of, first_row_of, row_of, said_after, said_of, seconds}
+use Rattle.scenario_laws.proofs.Known.Sources.{ℕ, ◌≡◌, ◌⊎◌, ◌+◌, nat_eq, cond, leb, Bool, true, List, [], ◌∷◌, ◌++◌, length, reverse, Option, None, arith, refl, sym, ◌∙◌, ap, subst, inl, inr, append-nil, TextLine, plain, too_long, line_limit, line_of, Account, Accepted, End, Rules, accepted_of, accepted_unless, end_unless, out, out_unless, refused, through, reverse_onto, is_blank, airs_of, Step, Refusal, LineTooLong, a_step, nothing, unsaid, output_said, refusal_said, said_in, steps_of, with_said, version_of, end_after, has_end, last_end_after, transcript_end, transcript_of, units_of, EndsLasting, IsLastingText, NonePrintsHorizon, Airs, MeetAirs, rules_of, MigrationLaw, text_lines, text_lines as lines_of, end_of, migrated, decimal_in, read_of, step_of, first_row_of, row_of, said_after, said_of, seconds}
 use Rattle.std.specs.Fmt.{digits as numerals}
 use Rattle.scenario_laws.proofs.Versions.Runs.{Begins, Its, Laws, RunAlike, RunsAlike, Stands, run_alike}
 use Rattle.scenario_laws.proofs.Versions.Texts.{Turned, here, later, first_version, second_version, same_count, text_turn}

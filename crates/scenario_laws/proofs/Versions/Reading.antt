@@ -1,8 +1,8 @@
 -- A line that version 1 of the scenario language reads, version 2 reads as the same step: each row of version 1 stands in
 -- version 2, where a sink has up to eight slots.
-use Rattle.scenario_laws.proofs.Known.Sources.{ℕ, ◌≡◌, ◌⊎◌, ◌≤◌, cond, Bool, true, List, [], ◌∷◌, Option, None, Some, Result, Err, refl, sym, subst, inl, arith, bytes_eq, nat_eq, le-leb, leb-true, TextLine, ◌>>=◌, LineFault, at_known, at_row, Row, event_rows, first_rows, link_row_of_2, link_rows, row_in, rows_of_2, sink_row, sink_rows, source_rows, tuned_row, drop_row, stop_row, end_row, Step, BadLine, unsaid, said_by, said_in, Left, decimal_in, read_of, step_of, first_row_of, link_row_of, row_of, row_of_2, sink_row_of, source_row_of, Said, IsLater}
+use Rattle.scenario_laws.proofs.Known.Sources.{ℕ, ◌≡◌, ◌⊎◌, ◌≤◌, cond, Bool, List, [], ◌∷◌, Option, None, Some, Result, Err, refl, sym, subst, inl, arith, bytes_eq, nat_eq, le-leb, leb-true, TextLine, ◌>>=◌, LineFault, at_known, at_row, Row, event_rows, first_rows, link_row_of_2, link_rows, row_in, rows_of_2, sink_row, sink_rows, source_rows, tuned_row, drop_row, stop_row, end_row, BadLine, unsaid, said_in, Left, decimal_in, read_of, step_of, first_row_of, link_row_of, row_of, row_of_2, sink_row_of, source_row_of, Said, IsLater}
 use Rattle.scenario_words.specs.declared.fault.LineFault.TheVariants.{BadLine as Misfit}
-use Rattle.scenario_words.specs.Reading.{next_of, taken}
+use Rattle.scenario_words.specs.Reading.{next_of}
 
 -- ---- what is read twice
 

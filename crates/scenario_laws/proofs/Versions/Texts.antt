@@ -84,10 +84,6 @@ from taken text = lines_from true taken [] text
 abbrev TurnOn : List TextLine → List TextLine → Type 0
 TurnOn lines others = (others ≡ lines) ⊎ Turned lines others
 
-behind_migrated : (line : List ℕ) (lines : List (List ℕ)) → behind (migrated_lines (line ∷ lines))
-    ≡ newline ∷ text_of (migrated_lines (line ∷ lines))
-behind_migrated line lines = grind (arith, is_blank, migrated_line, migrated_lines)
-
 -- behind a blank line, whose end is an octet of the text
 blank_turn : (taken : ℕ) (line : List ℕ) (one other : List ℕ) → is_blank line ≡ true → taken ≤ text_limit
     → (taken < text_limit → TurnOn (from (taken + 1) one) (from (taken + 1) other))
@@ -124,8 +120,8 @@ blank_or : (blank : Bool) (taken : ℕ) (line : List ℕ) (lines : List (List �
     → ((taken' : ℕ) → taken' ≤ text_limit → TurnOn (from taken' (text_of lines)) (from taken' (text_of (migrated_lines lines))))
     → TurnOn (from taken (line ++ behind lines)) (from taken (text_of (cond blank (line ∷ migrated_lines lines) (migrated_line line ∷ lines))))
 blank_or blank taken line lines clean within is turns =
-    grind (arith, behind_migrated, blank_turn, bytes_eq-Decides, first_clean, second_clean, version_turn, cases_lt, text_limit, length,
-    line_past, line_in)
+    grind (arith, blank_turn, bytes_eq-Decides, first_clean, second_clean, version_turn, cases_lt, text_limit, length, line_past, line_in,
+    is_blank, migrated_line, migrated_lines)
 
 lines_turn : (lines : List (List ℕ)) (taken : ℕ) → AreClean lines → taken ≤ text_limit
     → TurnOn (from taken (text_of lines)) (from taken (text_of (migrated_lines lines)))

@@ -1,6 +1,5 @@
 -- The group check where a group may have a greater horizon: but for the row of the horizon it finds the same.
-use Rattle.scenario_laws.proofs.Known.Sources.Steps.Prelude.{ℕ, ◌≡◌, ◌⊎◌, ◌≤◌, ltb, cond, Bool, true, false, List, [], ◌∷◌, Option, None, Some, refl, arith, find, false≢true, le-ltb, ltb-true, lt-ltb, GroupFault, BigInfo, faults, has_fault, horizon_of, Result, Ok, Err, Endpoint, Horizon, info_of, TrainHeard, Snapshot, TrainOutcome, Train, answer_of, big_info_in, outcome_by, by_base, by_big_info, by_broadcast_id, by_group, by_info, by_slot, first_fault, SinkSetup as Setup}
-use Rattle.base_grammar.specs.AdReading.{broadcast_id_of}
+use Rattle.scenario_laws.proofs.Known.Sources.Steps.Prelude.{ℕ, ◌≡◌, ◌⊎◌, ◌≤◌, ltb, cond, Bool, true, List, [], ◌∷◌, Option, None, Some, refl, arith, find, false≢true, le-ltb, ltb-true, lt-ltb, GroupFault, BigInfo, faults, has_fault, horizon_of, Result, Ok, Err, Endpoint, Horizon, info_of, TrainHeard, Snapshot, TrainOutcome, Train, answer_of, big_info_in, outcome_by, by_base, by_big_info, by_group, by_info, by_slot, first_fault, SinkSetup as Setup}
 use Rattle.bass_operations.specs.declared.wishes.Wish.{Wish}
 use Rattle.big_info.specs.declared.big_fault.BigFault.{BigFault}
 use Rattle.pacs_records.specs.declared.capability.Capability.{Capability}
@@ -118,12 +117,8 @@ ReadsNear setup train = (octets : List ℕ) → (info : BigInfo) → big_info_in
 near_if : (b : Bool) (one other : TrainOutcome) → BringsNear one → BringsNear other → BringsNear (cond b one other)
 near_if b one other is also = grind arith
 
-near_slot : (setup : Setup) (snapshot : Snapshot) (train : Train) (found : Option ℕ) → ReadsNear setup train
-    → BringsNear (by_slot setup snapshot train found)
-near_slot setup snapshot train found near = grind (arith, near_if)
-
 pub outcome_near : (setup : Setup) (snapshot : Snapshot) (train : Train) → ReadsNear setup train → BringsNear (outcome_by setup snapshot train)
-outcome_near setup snapshot train near = grind (arith, near_slot)
+outcome_near setup snapshot train near = grind (arith, near_if)
 
 -- ---- either way
 

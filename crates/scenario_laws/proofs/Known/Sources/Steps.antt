@@ -5,7 +5,7 @@ pub use Rattle.scenario_laws.proofs.Isolating.Said.{back_same, hear_same, heard_
 pub use Rattle.scenario_laws.proofs.RelayedUnits.Routes.{nothing_else, Stands, offers_stand, route_had, had_happened, none_now, none_offered, no_offers, SaidNever, none_relayed, plain_after, says_no_relay}
 pub use Rattle.scenario_laws.proofs.Moves.{Brings, PutBy, StaysBy, announced, given_stays, plain_stays, unmoved, same_if, made_alike, given_is_injected}
 pub use Rattle.scenario_laws.proofs.Isolating.Histories.{Alike, notices_same, waiting_same, alike_itself, alike_then, ignores, reads_same, repeats, served_grow, told_grow}
-pub use Rattle.scenario_laws.proofs.RelayedUnits.Left.{left_by_offers, left_by_relayed_units, all_pass, gives_to, none_taken, passed_append, step_takes}
+pub use Rattle.scenario_laws.proofs.RelayedUnits.Left.{left_by_offers, left_by_relayed_units, all_pass, none_taken, passed_append, step_takes}
 pub use Rattle.scenario_laws.proofs.RelayedUnits.Legal.{second_false, happens_legally, Runs, runs_at, runs_still, unless_legal}
 pub use Rattle.scenario_laws.proofs.Isolating.Same.{Same, HistoriesAlike, chosen_alike, horizon_alike, own_alike, source_alike}
 pub use Rattle.scenario_laws.proofs.Places.{air_place, end_place, same_place, tick_if_place}
