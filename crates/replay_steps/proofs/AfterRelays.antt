@@ -1,6 +1,6 @@
 -- A step of source 0 that is made before the relayed units that stand before it: relayed units touch source 1 alone, so both orders leave
 -- the same.
-use Rattle.replay_steps.proofs.Prelude.{ℕ, ◌≡◌, ◌==◌, Bool, true, false, cond, List, [], ◌∷◌, refl, sym, ◌∙◌, ap, ap₂, not, option_map, Option, None, list_any, option_or, airs_of, Refusal, Step, Offer, after_offer, after_offers, answered, dropped_for, with_relayed_unit, with_relayed_unit_unless, Answered, gives_on, source_refusal, refuse_if, relay_given, relays_to, takes_units, chosen_given, chosen_of, is_of_source, stage_of, steps_of_source, version_at, version_of, left_by_offers, Relays, RelaysStand, Sources, SourcesStand, lent, relay_histories, arith}
+use Rattle.replay_steps.proofs.Prelude.{ℕ, ◌≡◌, ◌==◌, Bool, true, false, cond, List, [], ◌∷◌, refl, sym, ◌∙◌, ap, not, option_map, Option, None, list_any, option_or, airs_of, Refusal, Step, Offer, after_offer, after_offers, answered, dropped_for, with_relayed_unit, with_relayed_unit_unless, gives_on, source_refusal, refuse_if, relay_given, relays_to, takes_units, chosen_given, chosen_of, is_of_source, stage_of, steps_of_source, version_at, version_of, left_by_offers, Relays, RelaysStand, Sources, SourcesStand, lent, relay_histories, arith}
 use Rattle.replay_steps.proofs.Offering.{SaySame, sources_as}
 use Rattle.replay_steps.proofs.RelaysStay.{relays_as}
 
@@ -57,8 +57,7 @@ answers_apart : (made : Step) (late early : List Step) (offers : List Offer) →
     → answered airs_of offers early ≡ answered airs_of offers late
 answers_apart made late early [] means apart = refl
 answers_apart made late early (offer ∷ offers) means apart =
-    ap₂ (λ reason (rest : List Answered). record { offer = offer; reason = reason } ∷ rest) (dropped_same made late early offer apart)
-    (answers_apart made (after_offer airs_of offer late) (after_offer airs_of offer early) offers means (apart_offer made late early offer means apart))
+    grind (arith, answers_apart made (after_offer airs_of offer late) (after_offer airs_of offer early) offers means (apart_offer made late early offer means apart))
 
 -- ---- what is answered, and what the components stand for
 

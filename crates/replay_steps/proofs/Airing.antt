@@ -1,11 +1,11 @@
 -- The PDUs of the air that a sink hears.
-use Rattle.replay_steps.proofs.Prelude.{◌≡◌, ℕ, ◌+◌, ◌*◌, ◌<◌, ◌≤◌, ◌++◌, ◌∷◌, Bool, true, false, not, is_some, if◌then◌else◌, List, length, Option, None, Some, option_map, Ok, Err, refl, sym, ◌∙◌, ap, subst, arith, le-ltb, option_or, Account, airs_of, Call, heard_line, pdu_line, Refusal, NotOnAir, Order, Stop, Refused, OutletFault, Memory, Step, Air, Hear, Inject, Sniff, chosen_of, chosen_steps, running, stage_of, event_back, is_heard, pdu_in, performed, setup_of, source_calls, reaches, sink_calls, positions_of, box_of, calls_made, air_refusal, no_place, no_sink, phase_refusal, source_refusal, refuse_if, NoPlace, Sinks, SinksStand, stands_same, Machine, OnAir, Reaches, histories_on_air, Stands, histories_of, Quiet, Tells, inl, inr, cases_lt, air_fault, with_heard, SentIs}
+use Rattle.replay_steps.proofs.Prelude.{◌≡◌, ℕ, ◌+◌, ◌*◌, ◌<◌, ◌≤◌, ◌++◌, ◌∷◌, Bool, true, false, not, if◌then◌else◌, List, length, Option, None, Some, option_map, Ok, Err, refl, sym, ◌∙◌, ap, subst, arith, le-ltb, option_or, Account, airs_of, Call, heard_line, pdu_line, Refusal, Order, Stop, Refused, OutletFault, Memory, Step, Air, Hear, Inject, Sniff, chosen_of, chosen_steps, running, stage_of, event_back, is_heard, pdu_in, performed, setup_of, source_calls, air_refusal, no_place, no_sink, phase_refusal, source_refusal, refuse_if, NoPlace, Sinks, SinksStand, stands_same, Machine, OnAir, Reaches, histories_on_air, Stands, histories_of, Quiet, Tells, inl, inr, cases_lt, air_fault, with_heard, SentIs}
 use Rattle.isoal_base.specs.declared.hearing.Hearing.{Hearing}
 use Rattle.scenario_sinks.specs.Hearing.{Hears}
 use Rattle.replay_steps.specs.declared.grid.Grid.{Grid}
 use Rattle.replay_steps.proofs.HeardStreams.{AreHeard, event_heard}
 use Rattle.replay_steps.proofs.RelaysStay.{minds_relays}
-use Rattle.replay_steps.proofs.Stepping.{as_step, or_none}
+use Rattle.replay_steps.proofs.Stepping.{as_step}
 
 -- ---- whether a PDU may be handed to a sink
 
@@ -38,11 +38,6 @@ reach_fails boxes version n steps made new (Refused reason) stands brings e r = 
 reach_fails boxes version n steps made new OutletFault stands brings e r = r
 reach_fails boxes version n steps made new Memory stands brings e r = absurd r
 
-pub own_fault : (boxes version n : ℕ) (steps : List Step) (made : Step) → Brings n made → stage_of steps ≡ running version → is_heard (chosen_steps steps) ≡ true
-    → is_some (box_of n steps) ≡ true → phase_refusal airs_of boxes steps made ≡ source_refusal airs_of version (chosen_steps steps) made
-own_fault boxes version n steps made brings e started lives =
-    brings.refusal boxes version steps e ∙ rw (started, lives) (or_none (source_refusal airs_of version (chosen_steps steps) made))
-
 -- ---- the sinks after a hearing
 
 -- the same past, where the sinks have their histories by a line that leaves them
@@ -57,11 +52,6 @@ pub hear_meets : (boxes version n source event back bis subevent : ℕ) (pdu : L
     → Quiet boxes steps (Hear n back bis subevent) new (Ok tt)
 hear_meets boxes version n source event back bis subevent pdu steps old new o grid stands e r place chosen is stage same held h =
     grind arith
-
-pub place_fails : (boxes version n back bis subevent : ℕ) (steps : List Step) (made : Step) (new : Machine) (grid : Grid) (stop : Stop) → Stands steps new → Brings n made
-    → source_refusal airs_of version (chosen_steps steps) made ≡ no_place (chosen_steps steps) back bis subevent → stage_of steps ≡ running version
-    → Reaches steps n (Ok grid) → NoPlace (chosen_steps steps) back bis subevent stop → Quiet boxes steps made new (Err stop)
-place_fails boxes version n back bis subevent steps made new grid v10 stands brings own e r p = grind (arith, as_step, own_fault)
 
 -- ---- inject
 
@@ -89,19 +79,6 @@ pub air_meets : (boxes version n lose event streams subevents : ℕ) (steps : Li
     → OnAir steps n event streams subevents → new.stage ≡ old.stage → new.sources ≡ old.sources → new.relays ≡ old.relays → SinksStand (histories_of (Air n lose ∷ steps)) new.sinks
     → Quiet boxes steps (Air n lose) new (Ok tt)
 air_meets boxes version n lose event streams subevents steps old new stands e on stage same held heard = grind arith
-
-pub air_fails : (boxes version n lose : ℕ) (steps : List Step) (grid : Grid) → stage_of steps ≡ running version → Reaches steps n (Ok grid)
-    → performed (chosen_steps steps) ≡ 0 → phase_refusal airs_of boxes steps (Air n lose) ≡ Some NotOnAir
-air_fails boxes version n lose steps grid e r none = grind (arith, own_fault, air_brings, refuse_if)
-
-pub air_begins : (steps : List Step) (n lose : ℕ) (sinks : Sinks) → SinksStand (histories_of steps) sinks → SinksStand (histories_on_air steps n lose 0) sinks
-air_begins steps n lose sinks stands = grind (arith, stands_same, histories_of, histories_on_air, if_same, reaches, sink_calls, airs_of)
-
--- all positions of the event were heard
-pub air_ends : (steps : List Step) (n lose : ℕ) (sinks : Sinks) → SinksStand (histories_on_air steps n lose (positions_of (chosen_steps steps))) sinks
-    → SinksStand (histories_of (Air n lose ∷ steps)) sinks
-air_ends steps n lose sinks stands =
-    grind (arith, stands_same, histories_on_air, positions_of, chosen_steps, histories_of, if_same, calls_made)
 
 -- what was heard of a stream reaches the sink, or doesn't
 both_heard : (b : Bool) (f : List Call → List Call) (heard more calls : List Call) → f heard ≡ more
@@ -134,7 +111,7 @@ none_sent steps n lose k bis event streams subevents sinks on within b none stan
 
 pub sniff_fails : (starts : List Account) (version back bis subevent : ℕ) (steps : List Step) (new : Machine) (text : List ℕ) (stop : Stop) → Stands steps new → stage_of steps ≡ running version
     → is_heard (chosen_steps steps) ≡ true → NoPlace (chosen_steps steps) back bis subevent stop → Tells starts steps (Sniff back bis subevent) new text text (Err stop)
-sniff_fails starts version back bis subevent steps new text v8 stands e started p = grind arith
+sniff_fails starts version back bis subevent steps new text stop stands e started p = grind arith
 
 pub sniff_meets : (starts : List Account) (version event back bis subevent : ℕ) (pdu : List ℕ) (steps : List Step) (machine : Machine) (text told : List ℕ) → Stands steps machine
     → stage_of steps ≡ running version → is_heard (chosen_steps steps) ≡ true

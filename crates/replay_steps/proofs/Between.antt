@@ -94,11 +94,7 @@ pub between_stops : (steps : List Step) (past : Histories) (event n : ℕ) (mid 
     → SinkMeets (after_offers airs_of (offers_below steps past event n) steps) (with_closes_below event n past) n event new told told2 between after (Err stop)
     → FirstMeets steps past event there text told2 before after (Err stop)
 between_stops steps past event n mid new there text told told2 before between after (Refused reason) below b m = m
-between_stops steps past event n mid new there text told told2 before between after OutletFault below b m = record {
-  number = n;
-  within = below;
-  fails = grind (arith, not_yet past event n, b.lines, b.boxes);
-}
+between_stops steps past event n mid new there text told told2 before between after OutletFault below b m = grind (arith, not_yet)
 between_stops steps past event n mid new there text told told2 before between after Memory below b m =
     let prefix : List SinkUnit = units_below past event n in
     let here : List SinkUnit = closing_of n 0 event past in

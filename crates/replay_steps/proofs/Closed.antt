@@ -23,18 +23,14 @@ pub first_did : (steps : List Step) (past : Histories) (closed : Option ℕ) (ne
     → Closes steps past 0 closed new text told before after r
     → Did (units_closed past closed) (answered airs_of (offers_closed steps past closed) steps) (lines_closed steps past closed)
     (ComponentsStand (after_offers airs_of (offers_closed steps past closed) steps) (with_close 0 closed past) new) text told before after r
-first_did steps past v2 new text told before after v8 m = grind (arith, components_left, append-nil, first_fails)
+first_did steps past closed new text told before after r m = grind (arith, components_left, append-nil, first_fails)
 
 -- units of source 1 were handed behind those of source 0
 hands_did : (first us : List SinkUnit) (answers : List Answered) (stands : Type 0) (text mid told : List ℕ) (before between after : List Account) (r : Result (Unit {0}) Stop)
     → AreFrom 0 first → AreFrom 1 us → mid ≡ text ++ first_lines first answers → between ≡ accounts_after before first → OnOk r stands → Hands us mid told between after r
     → Did (first ++ us) answers (first_lines first answers ++ unit_lines us) stands text told before after r
-hands_did first us answers stands text mid told before between after (Ok x) are own prefix accounts s h = (
-  refl,
-  s,
-  h.0 ∙ ap (λ l. l ++ unit_lines us) prefix ∙ append_assoc text (first_lines first answers) (unit_lines us),
-  h.1 ∙ ap (λ a. accounts_after a us) accounts ∙ sym (accounts_append first us before),
-)
+hands_did first us answers stands text mid told before between after (Ok x) are own prefix accounts s h =
+    grind (arith, append_assoc, accounts_append)
 hands_did first us answers stands text mid told before between after (Err (Refused reason)) are own prefix accounts s h = absurd h
 hands_did first us answers stands text mid told before between after (Err OutletFault) are own prefix accounts s h =
     (refl, second_fails first us answers text mid told before between after are own prefix accounts h)
@@ -101,7 +97,7 @@ first_closes steps past source closed event new text told before after r zeroth 
 second_meets : (steps : List Step) (past : Histories) (other event : ℕ) (old new : Machine) (text told : List ℕ) (before after : List Account) (r : Result (Unit {0}) Stop)
     → ComponentsStand steps past old → new.sources ≡ old.sources → new.relays ≡ old.relays
     → sinks.Closes past (suc other) (Some event) new.sinks text told before after r → SecondMeets steps past (suc other) event new text told before after r
-second_meets steps past other event old new text told before after v10 components sources held m = grind arith
+second_meets steps past other event old new text told before after r components sources held m = grind arith
 
 pub second_closes : (steps : List Step) (past : Histories) (source : ℕ) (closed : Option ℕ) (event : ℕ) (old new : Machine) (text told : List ℕ) (before after : List Account)
     (r : Result (Unit {0}) Stop) → source ≢ 0 → closed ≡ Some event → ComponentsStand steps past old → new.sources ≡ old.sources → new.relays ≡ old.relays

@@ -41,7 +41,7 @@ second_stands made tail steps closed old new closes stands is open_is stage comp
 did_as : (steps : List Step) (made : Step) (units : List SinkUnit) (answers : List Answered) (lines : List ℕ) (one other : Type 0) (text told : List ℕ) (before after : List Account)
     (r : Result (Unit {0}) Stop) → CloseSays steps made units answers lines → (one → other) → Did units answers lines one text told before after r
     → Did (handed_by airs_of steps made) (answered_by airs_of steps made) (close_lines airs_of steps made) other text told before after r
-did_as steps made units answers lines one other text told before after v11 says then d = grind arith
+did_as steps made units answers lines one other text told before after r says then d = grind arith
 
 -- nothing is printed of no units
 pub nothing_printed : (let none : List SinkUnit = [] in let unasked : List Answered = [] in first_lines none unasked ≡ [])
@@ -133,7 +133,7 @@ module _ {made : Step} {tail : List Step → List ℕ} (closes : ClosesOpen made
 pub step_refused : {made : Step} {tail : List Step → List ℕ} {steps : List Step} {old : Machine} (starts : List Account) (version : ℕ) (taken : Sources) (text : List ℕ)
     (accounts : List Account) (stop : Stop) → ClosesOpen made tail → Stands steps old → stage_of steps ≡ running version → sources.Answers version steps made taken (Err stop)
     → Meets starts steps made (record old { sources = taken }) text text accounts accounts (Err stop)
-step_refused {made} {tail} {steps} {old} starts version taken text accounts v9 closes stands e c = grind arith
+step_refused {made} {tail} {steps} {old} starts version taken text accounts stop closes stands e c = grind arith
 
 -- ---- event, stop, terminate
 

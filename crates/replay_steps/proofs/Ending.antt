@@ -35,12 +35,6 @@ pub drop_ends : (starts accounts : List Account) (version n : ℕ) (steps : List
 drop_ends starts accounts version n steps old new text told stands e boxes stage same held a p =
     grind (arith, drop_fault, sources_stay, drop_says, sum_same)
 
-pub drop_fails : (starts accounts : List Account) (version n : ℕ) (steps : List Step) (old new : Machine) (text told : List ℕ) (stop : Stop) → Stands steps old
-    → stage_of steps ≡ running version → new.stage ≡ old.stage → new.sources ≡ old.sources → new.relays ≡ old.relays
-    → sinks.Answers (not_living (box_of n steps)) (histories_of steps) (without n (histories_of steps)) new.sinks (Err stop) → Puts (sum_where accounts n (box_of n steps)) text told (Err stop)
-    → Tells starts steps (Drop n) new text told (Err stop)
-drop_fails starts accounts version n steps old new text told v9 stands e stage same held a p = grind arith
-
 -- ---- end: a close of source 0 leaves the sinks of source 1
 
 no_other : (own : Option ℕ) (event n : ℕ) (first : Option ℕ) (calls : List Call) (box : Option ℕ)

@@ -3,7 +3,7 @@ use Rattle.replay_steps.proofs.Prelude.{◌≡◌, List, ◌∷◌, ◌++◌, su
 
 handed_with : (airs : Airs) (earlier : List Step) (said : Said)
     → handed_up airs (happened airs (with_said said earlier)) ≡ handed_up airs (happened airs earlier) ++ handed_said airs (happened airs earlier) said
-handed_with airs earlier v2 = grind (arith, handed_happened, append-nil)
+handed_with airs earlier said = grind (arith, handed_happened, append-nil)
 
 -- the units of a line come behind those of the lines before it
 pub handed_line : (airs : Airs) (history : List TextLine) (line : TextLine) → handed_up airs (steps_of airs (line ∷ history)) ≡ handed_up airs (steps_of airs history) ++ handed_on airs history line

@@ -139,7 +139,7 @@ pub closes_at_once : (steps : List Step) (past : Histories) (source : ℕ) (clos
     (r : Result (Unit {0}) Stop) → ((source == 0) && not (is_idle (relay_histories steps))) ≡ false → closed ≡ Some event → ComponentsStand steps past old
     → new.sources ≡ old.sources → new.relays ≡ old.relays → sinks.Closes past source (Some event) new.sinks text told before after r
     → Closes steps past source closed new text told before after r
-closes_at_once steps past v2 closed event old new text told before after r idle is components sources held m =
+closes_at_once steps past source closed event old new text told before after r idle is components sources held m =
     grind (arith, second_closes, first_closes, idle_meets, not-false)
 
 -- relays offer as an event of source 0 alone is closed

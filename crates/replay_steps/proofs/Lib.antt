@@ -1,4 +1,3 @@
-pub mod Asked
 pub mod Citable
 pub mod Stepping
 pub mod SinkLines

@@ -1,6 +1,5 @@
 -- A line by its step.
-use Rattle.replay_steps.proofs.Prelude.{◌≡◌, ℕ, ◌≤◌, List, [], ◌∷◌, ◌++◌, length, inl, inr, Option, None, Some, Result, Ok, Err, refl, sym, ◌∙◌, ap, subst, arith, option_or, leb-false, TextLine, plain, Account, airs_of, BadLine, happened, with_relayed_units, append-nil, read_of, Step, sinks_made, sinks_made_by, version_at, version_of, hands_alike, left_by_relayed_units, stage_happened, passes_both, accounts_after, handed_by, handed_up, is_relayed, a_step, unsaid, said_of, steps_of, said_by, said_after, with_said, refusal_said, output_said, handed_said, fails_not, Machine, Stop, Refused, OutletFault, Memory, Stands, BoxesStand, StepMeets, accounts_append}
-use Rattle.scenario_words.specs.declared.fault.LineFault.TheVariants.{BadLine as Misfit}
+use Rattle.replay_steps.proofs.Prelude.{◌≡◌, ℕ, ◌≤◌, List, [], ◌∷◌, ◌++◌, length, inl, inr, Option, None, Some, Result, Ok, Err, refl, sym, ◌∙◌, ap, subst, arith, option_or, leb-false, TextLine, plain, Account, airs_of, happened, with_relayed_units, append-nil, read_of, Step, sinks_made, sinks_made_by, version_at, version_of, hands_alike, left_by_relayed_units, stage_happened, passes_both, accounts_after, handed_by, handed_up, is_relayed, a_step, said_of, steps_of, said_by, said_after, with_said, refusal_said, output_said, handed_said, fails_not, Machine, Stop, OutletFault, Memory, Stands, BoxesStand, StepMeets, accounts_append}
 use Rattle.scenario_history.specs.Refusals.{refusal_of}
 use Rattle.replay_steps.specs.LineMeets.{LineMeets, LinesStand}
 
@@ -49,20 +48,7 @@ said_meets starts lines line made new text told before after (Ok x) boxes is m =
 said_meets starts lines line made new text told before after (Err OutletFault) boxes is m = grind (arith, refusal_said, airs_of, length, steps_of, handed_said, output_said)
 said_meets starts lines line made new text told before after (Err Memory) boxes is (inl same) = inl same
 said_meets starts lines line made new text told before after (Err Memory) boxes is (inr m) = grind (arith, refusal_said, airs_of, length, steps_of, handed_said)
-said_meets starts lines line made new text told before after r boxes is m =
-    search (
-      steps_of,
-      airs_of,
-      one_more,
-      passes_both,
-      is_relayed,
-      length,
-      refusal_said,
-      boxes_go_on,
-      output_said,
-      accounts_after,
-      handed_said,
-    )
+said_meets starts lines line made new text told before after r boxes is m = grind arith
 
 -- the version of what happens is that of what the lines say
 pub version_said : (lines : List TextLine) → version_of (steps_of airs_of lines) ≡ version_of (said_of lines)
@@ -82,13 +68,6 @@ pub none_meets : (starts : List Account) (lines : List TextLine) (line : List �
     → LinesStand starts lines machine accounts → version ≡ version_of (said_of lines) → read_of version line ≡ Ok None
     → LineMeets starts lines (plain line) machine text text accounts accounts (Ok tt)
 none_meets starts lines line version machine text accounts st is reads = grind (arith, append-nil)
-
--- a line that isn't of the grammar
-pub misfit_meets : (starts : List Account) (lines : List TextLine) (line : List ℕ) (version word : ℕ) (machine : Machine) (text : List ℕ) (accounts : List Account)
-    → LinesStand starts lines machine accounts → version ≡ version_of (said_of lines) → read_of version line ≡ Err (Misfit word)
-    → LineMeets starts lines (plain line) machine text text accounts accounts (Err (Refused (BadLine word)))
-misfit_meets starts lines line version word machine text accounts st is reads =
-    grind (arith, said_after, plain, unsaid, said_by, read_of, refusal_said, airs_of, length, steps_of)
 
 pub nothing_handed : (starts : List Account) → BoxesStand starts [] starts
 nothing_handed starts = record { accounts_are = refl; room = omega arith }

@@ -95,7 +95,7 @@ pub offers_dropped : (steps : List Step) (n bis : ℕ) (own : Route) (unit : Han
     → GivesSecond steps (offer_of n own unit.time octets) sources (Err (Refused reason))
     → RelaysStand (relay_histories steps) relays → Drops n bis reason text told r
     → OffersMeet steps (offered_of n (Some own) (handed_of unit ∷ [])) sources relays text told r
-offers_dropped steps n bis own unit octets reason sources relays text told v11 is same stream g r line =
+offers_dropped steps n bis own unit octets reason sources relays text told result is same stream g r line =
     grind (arith, valid_as, own_unit, append-nil)
 
 -- ---- units one behind the other
@@ -119,7 +119,7 @@ offered_append n own us vs = grind (arith, map, flat_map-append, valid_on, map-a
 pub offers_then : (steps : List Step) (xs ys : List Offer) (mid new : Sources) (between relays : Relays) (text told told2 : List ℕ) (r : Result (Unit {0}) Stop)
     → OffersMeet steps xs mid between text told (Ok tt) → OffersMeet (after_offers airs_of xs steps) ys new relays told told2 r
     → OffersMeet steps (xs ++ ys) new relays text told2 r
-offers_then steps xs ys mid new between relays text told told2 v10 one two =
+offers_then steps xs ys mid new between relays text told told2 r one two =
     grind (arith, after_append, append_assoc, lines_append, answered_append)
 
 -- one unit more of a sink

@@ -9,7 +9,7 @@ pub use Rattle.std.proofs.lemmas.List.Elements.{filter-append}
 pub use Rattle.std.proofs.lemmas.Nat.{div-mul-add, mod-mul-add, div-add-mod'}
 pub use Rattle.std.specs.List.{flat_map, range_with_len, list_all, list_any, filter, concat}
 pub use Rattle.std.specs.Option.{option_or}
-pub use Rattle.std.specs.Prelude.{slice_index_or, sum, IsSome}
+pub use Rattle.std.specs.Prelude.{slice_index_or, sum}
 pub use Rattle.bcast_base.specs.declared.unit.Unit.{Unit as AudioUnit}
 pub use Rattle.bcast_io.specs.TextLines.{TextLine, plain}
 pub use Rattle.big_info.specs.declared.info.BigInfo.{BigInfo}
@@ -35,7 +35,7 @@ pub use Rattle.scenario_history.specs.Output.{unit_lines, close_lines, first_lin
 pub use Rattle.scenario_history.specs.Refusals.{no_sink, phase_refusal, relayed_or, sink_refusal, source_refusal, no_place, is_relayed, gives_on, has_beyond, is_misplaced, is_out_of_phase, twin_refusal, air_refusal, train_ends, line_refusal, relay_refusal}
 pub use Rattle.scenario_history.specs.RelayedUnits.{Offer, after_offers, answered, offered_of, Answered, happened, answered_by, closes_first, offers_at, with_relayed_units, after_offer, dropped_for, with_relayed_unit, units_on, with_relayed_unit_unless, valid_on}
 pub use Rattle.scenario_history.specs.Relays.{relay_of, Route, relay_given, relays_to, had_relay}
-pub use Rattle.scenario_history.specs.Sinks.{is_of, ticked_if, sink_calls, source_of, hear_at, heard_on_air, is_lost, reaches, position_at, positions_of, unless_lost, Position}
+pub use Rattle.scenario_history.specs.Sinks.{is_of, ticked_if, sink_calls, source_of, hear_at, heard_on_air, is_lost, position_at, unless_lost, Position}
 pub use Rattle.scenario_history.specs.Source.{setup_of, takes_units, source_calls, open_event, group_of, no_group, event_back, is_heard, pdu_in, performed, end_pdu, stale_in, is_sending}
 pub use Rattle.scenario_history.specs.Steps.{last_given, Stage, chosen_of, chosen_steps, running, stage_after, stage_of, version_at, sinks_made, is_over, steps_of_source, is_of_source, version_of, over, is_over_at, chosen_given, unbegun, sinks_made_by}
 pub use Rattle.scenario_history.specs.Worlds.{calls_made, source_at, big_sync_on, the_world}
@@ -68,7 +68,7 @@ pub use Rattle.source_machine.specs.Airs.{airs_of, Airs}
 pub use Rattle.source_machine.specs.Faults.{air_fault, announce_fault}
 pub use Rattle.transcript_text.specs.Lines.{pdu_line, control_line, dropped_line, heard_line, sum_line, handed_line}
 pub use Rattle.transcript_text.specs.declared.refusal.Refusal.{Refusal}
-pub use Rattle.transcript_text.specs.declared.refusal.Refusal.TheVariants.{NoSuchBis, Order, NoSuchSink, RelayTaken, NotOnAir, BadLine}
+pub use Rattle.transcript_text.specs.declared.refusal.Refusal.TheVariants.{NoSuchBis, Order, NoSuchSink, RelayTaken}
 pub use Rattle.transcript_text.specs.declared.stop.Stop.{Stop}
 pub use Rattle.transcript_text.specs.declared.stop.Stop.TheVariants.{Refused, OutletFault, Memory}
 pub use Rattle.unit_outlets.specs.Account.{Account}

@@ -35,14 +35,6 @@ unit_relays bis time octets steps held second is stands =
 on_unit : (bis : ℕ) (time : Option ℕ) (octets : List ℕ) → GoesOn (UnitLine bis time octets)
 on_unit bis time octets = record { stage = λ stage. refl; placed = λ v. refl; refusal = λ boxes steps. refl }
 
--- a stream of source 1 that has had a relay
-pub unit_relayed : (boxes version bis : ℕ) (time : Option ℕ) (octets : List ℕ) (reason : Refusal) (steps : List Step) (machine : Machine) → Stands steps machine
-    → stage_of steps ≡ running version → ((chosen_of steps == 1) && had_relay bis steps) ≡ true
-    → relayed_or true (fault_of version steps (UnitLine bis time octets)) ≡ Some reason
-    → Quiet boxes steps (UnitLine bis time octets) machine (Err (Refused reason))
-unit_relayed boxes version bis time octets reason steps machine stands e relayed is =
-    grind (arith, relayed_or, phase_refusal, airs_of, source_fault, on_unit)
-
 -- any other: why the line is refused
 pub unit_fault : (boxes version bis : ℕ) (time : Option ℕ) (octets : List ℕ) (steps : List Step) → stage_of steps ≡ running version
     → ((chosen_of steps == 1) && had_relay bis steps) ≡ false

@@ -1,5 +1,5 @@
 -- The lines of a sink's control and of its links.
-use Rattle.replay_steps.proofs.Prelude.{◌≡◌, ℕ, List, [], ◌∷◌, Bool, true, false, is_some, cond, refl, ◌∙◌, ap, Option, None, Some, Result, Ok, Err, length, concat, option_or, Account, airs_of, NoSuchSink, Order, Stop, Step, Announce, End, Stage, chosen_steps, running, stage_after, stage_of, is_sending, setup_of, source_calls, box_of, handed_by, output_of, sink_lines, phase_refusal, train_ends, calls_made, source_at, the_world, Settings, made_of, named_by, refused_at, refused_where, refusal_of, IsSinkLine, AnnouncesAs, SaysNothing, Histories, with_line, Machine, Stands, histories_of, Tells, closes_first, is_relayed, arith, announce_fault}
+use Rattle.replay_steps.proofs.Prelude.{◌≡◌, ℕ, List, [], ◌∷◌, Bool, true, false, is_some, cond, refl, ◌∙◌, ap, Option, None, Some, Result, Ok, Err, length, concat, option_or, Account, airs_of, Order, Stop, Step, Announce, End, Stage, chosen_steps, running, stage_after, stage_of, is_sending, setup_of, source_calls, box_of, handed_by, output_of, sink_lines, phase_refusal, train_ends, calls_made, source_at, the_world, Settings, made_of, named_by, refused_at, refused_where, refusal_of, IsSinkLine, AnnouncesAs, SaysNothing, Histories, with_line, Machine, Stands, histories_of, Tells, closes_first, is_relayed, arith, announce_fault}
 use Rattle.announcement_train.specs.declared.train.Train.{Train as Announced}
 use Rattle.sink_history.specs.Calls.{Call}
 use Rattle.sink_history.specs.History.{Source}
@@ -28,12 +28,7 @@ record Runs (made : Step) : Type 0 where
 
 line_runs : (made : Step) → IsSinkLine made → Runs made
 line_runs End line = absurd line
-line_runs made line = record {
-  stage = λ stage. search;
-  refusal = λ boxes version steps e. search (line, e, or_none (refusal_of the_world steps made)) depth 2 fits 20 parts 0 steps 300000;
-  past = λ steps. search;
-  handed = λ steps. search;
-}
+line_runs made line = grind arith
 
 line_minds : (made : Step) → IsSinkLine made → minds_relays made ≡ false
 line_minds made line = grind arith
@@ -66,7 +61,7 @@ named_meets : (starts : List Account) (n : ℕ) (steps : List Step) (made : Step
     → output_of airs_of starts steps made ≡ concat (printed_where (source_at steps) made (made_of n steps) (calls_made n steps))
     → new.stage ≡ old.stage → new.sources ≡ old.sources → minds_relays made ≡ false → new.relays ≡ old.relays
     → SinkLineMakes (histories_of steps) n (source_at steps) made new.sinks text told r → Tells starts steps made new text told r
-named_meets starts n steps made old new text told v8 stands is nothing on past output stage same minds held m =
+named_meets starts n steps made old new text told r stands is nothing on past output stage same minds held m =
     grind (arith, brought, sinks_stand)
 
 pub line_meets : (starts : List Account) (version n : ℕ) (steps : List Step) (made : Step) (old new : Machine) (text told : List ℕ) (r : Result (Unit {0}) Stop)
@@ -100,23 +95,16 @@ made_with_box n (step ∷ earlier) = made_by_box n step earlier (made_with_box n
 hears_train : (n : ℕ) (calls : List Call) (o : Option Settings) → is_some o ≡ true → refused_where (Announce n) o calls ≡ None
 hears_train n calls o e = grind arith
 
-not_there : (n : ℕ) (calls : List Call) (o : Option Settings) → is_some o ≡ false → refused_where (Announce n) o calls ≡ Some NoSuchSink
-not_there n calls o e = grind arith
-
 announce_fault_is : (boxes version n : ℕ) (steps : List Step) → stage_of steps ≡ running version → is_sending (chosen_steps steps) ≡ true
     → phase_refusal airs_of boxes steps (Announce n)
     ≡ option_or (refused_where (Announce n) (made_of n steps) (calls_made n steps)) (train_ends (announce_fault (setup_of (chosen_steps steps)) (source_calls (chosen_steps steps))))
 announce_fault_is boxes version n steps e going =
     grind (arith, option_or, refused_where, made_of, calls_made, or_none, train_ends, setup_of, chosen_steps, source_calls)
 
-pub announce_nowhere : (boxes version n : ℕ) (steps : List Step) → stage_of steps ≡ running version → is_sending (chosen_steps steps) ≡ true
-    → is_some (box_of n steps) ≡ false → phase_refusal airs_of boxes steps (Announce n) ≡ Some NoSuchSink
-announce_nowhere boxes version n steps e going lives = grind (arith, announce_fault_is, not_there, made_with_box)
-
 pub announce_fails : (starts : List Account) (version n : ℕ) (steps : List Step) (new : Machine) (text : List ℕ) (stop : Stop) → Stands steps new → stage_of steps ≡ running version
     → is_sending (chosen_steps steps) ≡ true → is_some (box_of n steps) ≡ true → AnnouncesAs (chosen_steps steps) (Err stop)
     → Tells starts steps (Announce n) new text text (Err stop)
-announce_fails starts version n steps new text v6 stands e going lives a = grind (arith, announce_fault_is, hears_train, made_with_box)
+announce_fails starts version n steps new text stop stands e going lives a = grind (arith, announce_fault_is, hears_train, made_with_box)
 
 pub announce_meets : (starts : List Account) (version n : ℕ) (steps : List Step) (train : Announced) (old new : Machine) (text told : List ℕ) (r : Result (Unit {0}) Stop)
     → Stands steps old → stage_of steps ≡ running version → AnnouncesAs (chosen_steps steps) (Ok train) → new.stage ≡ old.stage → new.sources ≡ old.sources

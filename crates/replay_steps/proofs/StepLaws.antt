@@ -25,7 +25,7 @@ quiet_beside boxes steps made machine new r stage sources sinks relays q = grind
 pub quiet_meets : (starts : List Account) (boxes : ℕ) (steps : List Step) (made : Step) (new : Machine) (text : List ℕ) (accounts : List Account) (r : Result (Unit {0}) Stop)
     → boxes ≡ length starts → output_of airs_of starts steps made ≡ [] → handed_by airs_of steps made ≡ [] → closes_first steps made ≡ false
     → Quiet boxes steps made new r → Meets starts steps made new text text accounts accounts r
-quiet_meets starts boxes steps made new text accounts v7 count output handed alone q = grind (arith, no_relayed_units, append-nil)
+quiet_meets starts boxes steps made new text accounts r count output handed alone q = grind (arith, no_relayed_units, append-nil)
 
 pub tells_meets : (starts : List Account) (steps : List Step) (made : Step) (new : Machine) (text told : List ℕ) (accounts : List Account) (r : Result (Unit {0}) Stop)
     → handed_by airs_of steps made ≡ [] → closes_first steps made ≡ false → is_relayed steps made ≡ false

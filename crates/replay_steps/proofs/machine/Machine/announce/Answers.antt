@@ -1,5 +1,5 @@
-use Rattle.replay_steps.proofs.Prelude.{length, refl, sym, ◌∙◌, source_at, histories_of}
-use Rattle.replay_steps.proofs.SinkLines.{announce_early, announce_fails, announce_meets, announce_nowhere}
+use Rattle.replay_steps.proofs.Prelude.{arith, length, refl, sym, ◌∙◌, source_at, histories_of}
+use Rattle.replay_steps.proofs.SinkLines.{announce_early, announce_fails, announce_meets}
 use Rattle.replay_steps.proofs.machine.Machine.announce.Goals as goal
 
 pub returns-then-not-is_sending : goal.returns-then-not-is_sending
@@ -7,12 +7,8 @@ returns-then-not-is_sending c starts version steps stands e =
     (announce_early (length starts) version c.args.sink steps e (sym (c.is_sending.ensures steps stands.sources) ∙ c.if-not-is_sending.true), stands, refl)
 
 pub returns-then-not-lives : goal.returns-then-not-lives
-returns-then-not-lives c starts version steps stands e = (
-  announce_nowhere (length starts) version c.args.sink steps e (sym (c.is_sending.ensures steps stands.sources) ∙ c.if-not-is_sending.false)
-      (sym (c.lives.ensures (histories_of steps) stands.sinks) ∙ c.if-not-lives.true),
-  stands,
-  refl,
-)
+returns-then-not-lives c starts version steps stands e =
+    grind (arith, c.is_sending.ensures steps stands.sources, c.lives.ensures (histories_of steps) stands.sinks)
 
 pub returns-in-Err : goal.returns-in-Err
 returns-in-Err c starts version steps stands e =

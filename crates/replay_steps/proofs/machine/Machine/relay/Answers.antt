@@ -1,4 +1,4 @@
-use Rattle.replay_steps.proofs.Prelude.{refl, sym, ◌∙◌, true, false, eq-eqb, ne_eqb, histories_of, relay_histories, NoSuchBis, NoSuchSink, Order, RelayTaken}
+use Rattle.replay_steps.proofs.Prelude.{arith, refl, sym, ◌∙◌, true, false, eq-eqb, histories_of, relay_histories, NoSuchBis, NoSuchSink, Order, RelayTaken}
 use Rattle.replay_steps.proofs.RelayLaws.{relay_fails, relay_meets, relay_rows}
 use Rattle.replay_steps.proofs.machine.Machine.relay.Goals as goal
 
@@ -7,15 +7,11 @@ returns-in_default c boxes version steps stands e =
     relay_fails boxes version c.args.sink c.args.bis c.args.to steps c.args.self.now Order stands e (rw (c.in_default.ensures steps stands.sources) refl)
 
 pub returns-in_default-taking : goal.returns-in_default-taking
-returns-in_default-taking c boxes version steps stands e =
-    relay_fails boxes version c.args.sink c.args.bis c.args.to steps c.args.self.now Order stands e
-    (rw ((c.in-Some.ensures steps stands.sources).0, c.in_default-taking.ensures steps stands.sources) refl)
+returns-in_default-taking c boxes version steps stands e = grind (arith, c.in-Some.ensures steps stands.sources)
 
 pub returns-then-second-ne1 : goal.returns-then-second-ne1
 returns-then-second-ne1 c boxes version steps stands e =
-    relay_fails boxes version c.args.sink c.args.bis c.args.to steps c.args.self.now Order stands e
-    (relay_rows steps _ _ _ _ _ false _ _ _ (c.in-Some.ensures steps stands.sources) (c.in-Some-taking.ensures steps stands.sources)
-    (ne_eqb _ 1 c.if-second-ne1.true) refl refl refl)
+    grind (arith, c.in-Some.ensures steps stands.sources, c.in-Some-taking.ensures steps stands.sources)
 
 pub returns-then-not-lives : goal.returns-then-not-lives
 returns-then-not-lives c boxes version steps stands e =

@@ -1,12 +1,11 @@
-use Rattle.replay_steps.proofs.Prelude.{refl, sym, ◌∙◌, true, false, eq-eqb, ne_eqb, relay_histories, UnitLine}
-use Rattle.replay_steps.proofs.RelayLaws.{is_second, unit_fault, unit_given, unit_relayed, unit_relays}
+use Rattle.replay_steps.proofs.Prelude.{arith, refl, sym, ◌∙◌, true, false, eq-eqb, ne_eqb, relay_histories, UnitLine}
+use Rattle.replay_steps.proofs.RelayLaws.{is_second, unit_fault, unit_given, unit_relays}
 use Rattle.replay_steps.proofs.Stepping.{sources_refuse}
 use Rattle.replay_steps.proofs.machine.Machine.unit.Goals as goal
 
 pub returns-then-is_relayed : goal.returns-then-is_relayed
 returns-then-is_relayed c boxes version steps stands e =
-    unit_relayed boxes version c.args.bis c.args.time c.args.octets.now c.relayed.result steps c.args.self.now stands e
-    (sym (c.is_relayed.ensures steps stands) ∙ c.if-is_relayed.true) (c.relayed.ensures version steps stands.sources)
+    grind (arith, c.is_relayed.ensures steps stands, c.relayed.ensures version steps stands.sources)
 
 pub returns-in-Err : goal.returns-in-Err
 returns-in-Err c boxes version steps stands e =
