@@ -66,12 +66,6 @@ announced_tuning laws airs boxes n earlier made big_sync legal permits is =
     grind (arith, unwrap_or, group_of, no_group, subgroups_of, (settled airs (chosen_steps earlier) legal_own), (tellable airs
     (chosen_steps earlier) legal_own), (announced_on laws airs boxes n earlier made big_sync legal permits is))
 
-pub announced_within : Announcing → (airs : Airs) (boxes n : ℕ) (earlier : List Step) (made : Settings) (big_sync : BigSync)
-    → Legal airs boxes earlier → Permitted airs boxes earlier (Step.Announce n)
-    → big_sync_of made (snapshot_in made (calls_made n earlier)) (Some (own_train (source_at earlier))) ≡ Some big_sync
-    → big_sync.which < 2 ^ (setup_of (chosen_steps earlier)).info.num_bis
-announced_within laws airs boxes n earlier made big_sync legal permits is = (announced_on laws airs boxes n earlier made big_sync legal permits is).within
-
 -- ---- a stay that an announced train begins is the one that `tuned` would begin with the same streams, which are the group's
 
 -- ---- the streams are those of the group
@@ -98,5 +92,6 @@ pub as_by_hand : Announcing → (airs : Airs) (boxes n sink : ℕ) (earlier : Li
 as_by_hand laws airs boxes n sink earlier big_sync legal permits brings =
     let permits_it : Permitted airs boxes earlier (Step.Announce n) = subst (λ m. Permitted airs boxes earlier (Step.Announce m)) (eqb-true sink n brings.0) permits in (
       announced_tuning laws airs boxes n earlier brings.1.made big_sync legal permits_it brings.1.is,
-      none_beyond (setup_of (chosen_steps earlier)).info.num_bis big_sync.which (announced_within laws airs boxes n earlier brings.1.made big_sync legal permits_it brings.1.is),
+      none_beyond (setup_of (chosen_steps earlier)).info.num_bis big_sync.which
+      ((announced_on laws airs boxes n earlier brings.1.made big_sync legal permits_it brings.1.is).within),
     )

@@ -1,6 +1,6 @@
 -- The BASE of a source that was started can be announced: each field of it meets its row (Basic Audio Profile 1.0, section
 -- 3.7.2.2).
-use Rattle.scenario_laws.proofs.Known.Sources.Steps.Prelude.{ℕ, zero, suc, ◌≡◌, ◌<◌, ◌≤◌, ◌+◌, ◌^◌, cond, eqb, ltb, Bool, false, List, [], ◌∷◌, ◌++◌, length, map, Some, None, refl, sym, ◌∙◌, arith, AllByRecursion, range_with_len, ltb-false, ne_eqb, append-nil, list_any-append, IsDraft, is_empty_last, last_of, size_fault, Subgroup, AreNew, EntryFits, IsBase, SubgroupFits, endpoint, is_lc3, lc3, stands_in, GroupLine, base_from, ◌||◌, not, leb, true, Ok, subst, unwrap_or, false≢true, leb-false, or_parts, none-some, Refuses, numbers_alone, MayAnnounce, cipher_octets, next_anchor_of, next_of, announce_fault, Step, IsInRange, NoSuchBis, base_lines, base_of, has_bis, has_subgroup, is_base_too_long, is_last_bare, subgroups_of, group_refusal, train_ends, refuse_if, horizon_in, Phase, checked_info, cipher_of, group_of, identity_of, is_absent_at, is_described_at, is_sending, is_sending_at, is_started, Airs, no_group, phase_of, setup_of, source_calls, entry_bis_of as bis_of, base_encoding as encoding, draft_opened as opened, fails_not, neither}
+use Rattle.scenario_laws.proofs.Known.Sources.Steps.Prelude.{ℕ, zero, suc, ◌≡◌, ◌<◌, ◌≤◌, ◌+◌, ◌^◌, cond, eqb, ltb, Bool, false, List, [], ◌∷◌, ◌++◌, length, map, Some, None, refl, sym, ◌∙◌, arith, AllByRecursion, range_with_len, ltb-false, ne_eqb, append-nil, list_any-append, IsDraft, is_empty_last, last_of, size_fault, Subgroup, AreNew, EntryFits, IsBase, SubgroupFits, endpoint, is_lc3, lc3, stands_in, GroupLine, base_from, ◌||◌, not, leb, true, Ok, subst, unwrap_or, false≢true, leb-false, or_parts, none-some, Refuses, numbers_alone, MayAnnounce, cipher_octets, next_anchor_of, next_of, announce_fault, Step, IsInRange, NoSuchBis, base_lines, base_of, has_bis, has_subgroup, is_base_too_long, is_last_bare, subgroups_of, group_refusal, train_ends, refuse_if, horizon_in, checked_info, cipher_of, group_of, identity_of, is_absent_at, is_described_at, is_sending, is_started, Airs, no_group, phase_of, setup_of, source_calls, entry_bis_of as bis_of, base_encoding as encoding, draft_opened as opened, fails_not, neither}
 use Rattle.std.proofs.lemmas.List.FromFn.{length-map-range_with_len}
 use Rattle.ltv_codec.specs.Layout.{AreLtvs}
 use Rattle.base_grammar.proofs.Drafts.{draft_done, finish_is, with_entry_keeps, with_metadata_keeps, with_subgroup_keeps}
@@ -77,14 +77,11 @@ pub record Tellable (own : List Step) : Type 0 where
 
 -- ---- a line of its BASE
 
-full_then : (last : Bool) → last ≡ false → Refuses (cond last (Some DraftFault.NoBis) None) (Ok tt)
-full_then last is = subst (λ b. Refuses (cond b (Some DraftFault.NoBis) None) (Ok tt)) (sym is) tt
-
 opens_next : (own : List Step) (codec config : List ℕ) → Tellable own → IsInRange (Step.Subgroup codec config) → is_last_bare own ≡ false
     → (delay : ℕ) → delay < 2 ^ 24 → IsDraft (endpoint delay (subgroups_of (Step.Subgroup codec config ∷ own)))
 opens_next own codec config before ranged full delay width =
     with_subgroup_keeps delay codec config (subgroups_of own) (subgroups_of own ++ opened codec config ∷ []) (Ok tt) (before.draft delay width) ranged.0
-    (λ reads. are_read config ranged.4 ranged.2) refl tt (full_then (is_last_bare own) full)
+    (λ reads. are_read config ranged.4 ranged.2) refl tt (subst (λ b. Refuses (cond b (Some DraftFault.NoBis) None) (Ok tt)) (sym full) tt)
 
 describes_next : (own : List Step) (metadata : List ℕ) → Tellable own → IsInRange (Step.Meta metadata) → not (has_subgroup own) ≡ false
     → (delay : ℕ) → delay < 2 ^ 24 → IsDraft (endpoint delay (subgroups_of (Step.Meta metadata ∷ own)))

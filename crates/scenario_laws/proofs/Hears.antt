@@ -127,10 +127,6 @@ own_after airs laid tuning boxes s n bis (Step.Train sink time ext adv acad) ear
 own_after airs laid tuning boxes s n bis step earlier injected permits least there clean ready =
     search (gone_own, tick_if_own, (ready clean).all, stays_own, plain_stays)
 
-begins_own : (airs : Airs) (laid : ℕ → Content) (s n bis : ℕ) (step : Step) (earlier : List Step) (tuning : BigSync) → BeginsBy airs s n step earlier tuning
-    → AllOwn laid tuning bis (sink_calls airs n (step ∷ earlier))
-begins_own airs laid s n bis step earlier tuning begins = subst (AllOwn laid tuning bis) (sym (begins_calls airs s n step earlier tuning begins)) tt
-
 -- what the source sends, so far and later, is its own, by what it lays at each number in all
 abbrev pub WholeSends : Airs → Setup → List SourceCall → (ℕ → Content) → BigSync → ℕ → Type 0
 WholeSends airs setup whole laid tuning bis = (own : List Step) → Lawful airs own → is_started own ≡ true → Within setup whole own → SendsOwn airs laid tuning bis own
@@ -153,5 +149,5 @@ all_own laws airs setup whole laid tuning boxes s n bis (step ∷ earlier) sends
         sends (steps_of_source s earlier) own_legal on.started shorter,
         bounds_in (steps_of_source s earlier) (settled airs (steps_of_source s earlier) own_legal) on.started,
       )))
-  | inr begins ↦ begins_own airs laid s n bis step earlier tuning begins
+  | inr begins ↦ subst (AllOwn laid tuning bis) (sym (begins_calls airs s n step earlier tuning begins)) tt
 ]

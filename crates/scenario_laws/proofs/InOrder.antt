@@ -61,12 +61,6 @@ closed_orders below airs meets boxes s n bis setup whole made ready event before
     (valid_in (units_of (stay_on tuning bis) (stream_calls (stay_on tuning bis) (sink_calls airs n made)) (tuning.first + closes tuning (sink_calls airs n made))))
     (omega (arith, on.first)) past (omega (arith, over, before, same, more, laid, on.first)) order last)
 
-tuned_plain : Announcing → (airs : Airs) (boxes s n bis : ℕ) (setup : Setup) (whole : List SourceCall) (made : List Step) → Ready airs boxes s n bis setup whole made
-    → (tuning : BigSync) → place (sink_calls airs n made) ≡ Some tuning → source_of n made ≡ Some s → tuning.info.framing ≡ 0
-tuned_plain laws airs boxes s n bis setup whole made ready tuning is its =
-    ap (λ (i : BigInfo). i.framing)
-    (on_whole laws airs boxes s n setup whole made ready.legal_is ready.ungiven ready.within (ap (is_of s) its ∙ eq-eqb s s refl) tuning is).info ∙ ready.plain
-
 event_orders : Below → (airs : Airs) → MeetAirs airs → (boxes s n bis : ℕ) (setup : Setup) (whole : List SourceCall) (made : List Step) → Ready airs boxes s n bis setup whole made
     → (event : ℕ) → event < next_in (steps_of_source s made) → source_of n made ≡ Some s → (p : Option BigSync) → place (sink_calls airs n made) ≡ p → (next later : ℕ)
     → next_in (steps_of_source s made) ≤ next → prefix_of p (tick event ∷ sink_calls airs n made) next ≤ later → (units : List Handed)
@@ -84,7 +78,9 @@ event_orders below airs meets boxes s n bis setup whole made ready event before 
           let shown : of_stream bis (handed_at (sink_calls airs n made) event)
           ≡ cond (leb (tuning.first + closes tuning (sink_calls airs n made)) event)
           (units_of (stay_on tuning bis) (stream_calls (stay_on tuning bis) (sink_calls airs n made)) (tuning.first + closes tuning (sink_calls airs n made))) [] =
-          tick_hands below event (sink_calls airs n made) tuning bis (tuned_plain below.announcing airs boxes s n bis setup whole made ready tuning is its) is
+          tick_hands below event (sink_calls airs n made) tuning bis (ap (λ (i : BigInfo). i.framing)
+          (on_whole below.announcing airs boxes s n setup whole made ready.legal_is ready.ungiven ready.within (ap
+          (is_of s) its ∙ eq-eqb s s refl) tuning is).info ∙ ready.plain) is
           (is_member tuning.which bis ready.least ready.greatest taken)
           ∙ ap (λ o. cond (leb o event) (units_of (stay_on tuning bis) (stream_calls (stay_on tuning bis) (sink_calls airs n made)) o) []) (below.one_open tuning (sink_calls airs n made) bis) in
           elim (cases_Bool (leb (tuning.first + closes tuning (sink_calls airs n made)) event)) [

@@ -147,20 +147,14 @@ abbrev octets_inside : Handed → List ℕ
 octets_inside (valid b t o) = o
 octets_inside (lost b t) = []
 
-valid_not_lost : (b t stream time : ℕ) (octets : List ℕ) → lost b t ≡ valid stream time octets → ⊥
-valid_not_lost b t stream time octets same = false≢true (ap is_valid same)
-
-opened_octets : (b t : ℕ) (o : List ℕ) (stream time : ℕ) (octets : List ℕ) → valid b t o ≡ valid stream time octets → o ≡ octets
-opened_octets b t o stream time octets is = ap octets_inside is
-
 struck_slots : (setup : Setup) (whole : List SourceCall) (tuning : BigSync) (bis event slot : ℕ) (calls : List StayCall) (unit : Handed) → TunedTo setup tuning → tuning.first ≤ event
     → IsStruck (stay_on tuning bis) (slots_of setup whole bis) calls event slot unit → IsSlots setup whole bis event slot unit
 struck_slots setup whole tuning bis event slot calls (valid b t o) on least struck stream time octets is = (
   sym (ap bis_of is) ∙ struck.0,
   sym (ap time_in is) ∙ struck.1 ∙ slot_time_is setup tuning bis event slot on least,
-  struck.2.has ∙ ap (λ u. Some u) (opened_octets b t o stream time octets is),
+  struck.2.has ∙ ap (λ u. Some u) (ap octets_inside is),
 )
-struck_slots setup whole tuning bis event slot calls (lost b t) on least struck stream time octets is = absurd (valid_not_lost b t stream time octets is)
+struck_slots setup whole tuning bis event slot calls (lost b t) on least struck stream time octets is = absurd (false≢true (ap is_valid is))
 
 last_batch : (setup : Setup) (whole : List SourceCall) (tuning : BigSync) (bis event : ℕ) (sc : List StayCall) → TunedTo setup tuning
     → opened (stay_on tuning bis) sc ≡ event → tuning.first ≤ event → setup.first ≤ event → event < next_of setup whole

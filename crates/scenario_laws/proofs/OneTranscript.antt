@@ -9,12 +9,6 @@ dropped_same : (airs others : Airs) → Both airs others → (boxes : ℕ) (offe
     → dropped_for airs offer made ≡ dropped_for others offer made
 dropped_same airs others both boxes offer made twice = grind (arith, in_order, not, its_same, lawful, takes)
 
-offers_same : (airs others : Airs) → Both airs others → (boxes : ℕ) (made : List Step) → Legal airs boxes made
-    → offers_at airs made ≡ offers_at others made
-offers_same airs others both boxes made legal =
-    ap (λ units. flat_map (λ n. offered_of n (relay_of n made) (handed_of 0 n units)) sink_numbers)
-    (closing_same airs others both boxes 0 made legal)
-
 -- the same becomes of these units
 record Alike (airs others : Airs) (offers : List Offer) (made : List Step) : Type 0 where
   steps : after_offers airs offers made ≡ after_offers others offers made
@@ -45,7 +39,8 @@ record RelayedUnitsAlike (airs others : Airs) (closes : Bool) (made : List Step)
 relayed_units_alike : (closes : Bool) (airs others : Airs) → Both airs others → (boxes : ℕ) (made : List Step) → Legal airs boxes made
     → (closes ≡ true → Runs made) → RelayedUnitsAlike airs others closes made
 relayed_units_alike true airs others both boxes made legal runs =
-    let offers = offers_same airs others both boxes made legal in
+    let offers = ap (λ units. flat_map (λ n. offered_of n (relay_of n made) (handed_of 0 n units)) sink_numbers)
+    (closing_same airs others both boxes 0 made legal) in
     let both_ways : Alike airs others (offers_at airs made) made =
     alike airs others both boxes (offers_at airs made) made legal (runs refl) in
     assumption (

@@ -47,9 +47,6 @@ pub slot_time_is : (setup : Setup) (tuning : BigSync) (bis event slot : ℕ) →
     → time_of (stay_on tuning bis) event slot ≡ time_of (whole_stay setup bis) event slot
 slot_time_is setup tuning bis event slot on least = render_same (λ info anchor. unframed_reference_of info anchor slot) setup tuning event on least
 
-handed_is : (bis time : ℕ) (unit : Option (List ℕ)) → (bis_of (handed_of bis time unit) ≡ bis) × (time_in (handed_of bis time unit) ≡ time)
-handed_is bis time unit = grind arith
-
 pub zip_maps : {A B : Type 0} (R : A → B → Type 0) (f : ℕ → A) (g : ℕ → B) (start count : ℕ) → ((i : ℕ) → i < start + count → R (f i) (g i))
     → AllZip R (map f (range_with_len start count)) (map g (range_with_len start count))
 zip_maps R f g start zero each = tt
@@ -62,7 +59,11 @@ units_in_slots : (setup : Setup) (tuning : BigSync) (bis : ℕ) (calls : List St
 units_in_slots setup tuning bis calls event on least =
     zip_maps (IsOfSlot setup bis) (λ slot. record { event = event; slot = slot }) (unit_at (stay_on tuning bis) calls event) 0 (per_event_of setup.info)
     (λ slot below.
-    let is = handed_is bis (time_of (stay_on tuning bis) event slot) (unit_of tuning.info.max_sdu (map (heard_in (stay_on tuning bis) calls) (numbers_of (stay_on tuning bis) event slot))) in
+    let is : (bis_of (handed_of bis (time_of (stay_on tuning bis) event slot) (unit_of tuning.info.max_sdu (map (heard_in
+    (stay_on tuning bis) calls) (numbers_of (stay_on tuning bis) event slot)))) ≡ bis) × (time_in (handed_of bis (time_of
+    (stay_on tuning bis) event slot) (unit_of tuning.info.max_sdu (map (heard_in (stay_on tuning bis) calls) (numbers_of
+    (stay_on tuning bis) event slot)))) ≡ (time_of (stay_on tuning bis) event slot)) =
+    grind arith in
     (is.0, is.1 ∙ slot_time_is setup tuning bis event slot on least))
 
 one_slots : (setup : Setup) (bis : ℕ) (closed : Closed) → is_in closed.which bis ≡ true

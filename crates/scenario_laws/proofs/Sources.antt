@@ -1,6 +1,6 @@
 -- The steps of one source of a scenario of which no line was refused: its group stands before its start, it takes calls only
 -- behind it, and what fixes it stays.
-use Rattle.scenario_laws.proofs.Known.Sources.Steps.{ℕ, ◌≡◌, ◌⊎◌, ◌≤◌, ◌||◌, ◌&&◌, ◌==◌, not, cond, Bool, true, false, List, [], ◌∷◌, Option, None, refl, sym, ◌∙◌, ap, subst, arith, inl, inr, unwrap_or, cases_Bool, eqb-true, false≢true, or_parts, not-false, none-some, Group, Bounds, NoFault, FitsWidths, without_cipher, IsChecked, Step, IsInRange, BaseTooLong, stage_same, chosen_of, is_common, is_of_source, is_source_line, is_unbegun_at, stage_of, steps_of_source, version_of, checked_info, cipher_of, group_of, is_absent_at, is_ciphered, Airs, is_described_at, is_sending, is_started, no_group, takes_units, phase_of, setup_of, source_calls, start_of, AreAccepted, is_base_too_long, counter_ends, group_refusal, is_misplaced, is_out_of_phase, source_refusal, refuse_if, horizon_in, first_fault, source_is_heard as is_heard, Permitted, maps_none, neither, permitted, may_be_sent}
+use Rattle.scenario_laws.proofs.Known.Sources.Steps.{ℕ, ◌≡◌, ◌⊎◌, ◌≤◌, ◌||◌, ◌&&◌, ◌==◌, not, cond, Bool, true, false, List, [], ◌∷◌, Option, None, refl, sym, ◌∙◌, ap, subst, arith, inl, inr, unwrap_or, cases_Bool, eqb-true, false≢true, or_parts, not-false, none-some, Group, Bounds, NoFault, FitsWidths, without_cipher, IsChecked, Step, IsInRange, BaseTooLong, stage_same, chosen_of, is_common, is_of_source, is_source_line, is_unbegun_at, stage_of, steps_of_source, version_of, checked_info, cipher_of, group_of, is_absent_at, Airs, is_described_at, is_sending, is_started, no_group, takes_units, phase_of, setup_of, source_calls, start_of, AreAccepted, is_base_too_long, counter_ends, group_refusal, is_misplaced, is_out_of_phase, source_refusal, refuse_if, horizon_in, first_fault, source_is_heard as is_heard, Permitted, maps_none, neither, permitted, may_be_sent}
 use Rattle.big_info.proofs.Citable.{bounds_of, no_fault_within}
 use Rattle.source_machine.specs.declared.fault.EventFault.{EventFault}
 use Rattle.scenario_laws.proofs.Legals.{Legal}

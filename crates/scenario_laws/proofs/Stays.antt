@@ -1,5 +1,5 @@
 -- The stays of a sink: it is on the group of the source that it is of, by what fixes the source.
-use Rattle.scenario_laws.proofs.Known.Sources.{ℕ, ◌≡◌, ◌⊎◌, ◌≤◌, ◌||◌, cond, Bool, true, false, List, [], ◌∷◌, Option, Some, refl, sym, ◌∙◌, ap, subst, arith, inl, inr, false≢true, or_parts, none-some, same_Some, iso_us_of, anchor_of, Setup, next_of, Call, tune, BigSync, Step, chosen_of, chosen_steps, steps_of_source, is_started, setup_of, source_calls, Airs, sink_calls, source_of, big_sync_on, any_since, given_since_made, injected_since, is_given, is_injected, is_made, is_tuned, steps_before, place, has_beyond, Legal, Permitted, fails_not, permitted, sends, takes, true_not_false, goes, next_in, given_is_injected}
+use Rattle.scenario_laws.proofs.Known.Sources.{ℕ, ◌≡◌, ◌⊎◌, ◌≤◌, ◌||◌, cond, Bool, true, false, List, [], ◌∷◌, Option, Some, refl, sym, ◌∙◌, ap, subst, arith, inl, inr, false≢true, or_parts, none-some, same_Some, iso_us_of, anchor_of, Setup, next_of, Call, tune, BigSync, Step, chosen_of, chosen_steps, steps_of_source, is_started, setup_of, source_calls, Airs, sink_calls, source_of, any_since, given_since_made, injected_since, is_given, is_injected, is_made, is_tuned, steps_before, place, has_beyond, Legal, Permitted, fails_not, permitted, sends, takes, true_not_false, goes, next_in, given_is_injected}
 use Rattle.scenario_laws.proofs.Announced.{Announcing, as_by_hand}
 use Rattle.scenario_laws.proofs.Becoming.{Puts, becomes, puts_first}
 

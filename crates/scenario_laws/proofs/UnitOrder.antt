@@ -56,10 +56,6 @@ event_is first bn event number least below =
 pub event_below : (event number opens bn : ℕ) → event * bn ≤ number → number < opens * bn → event < opens
 event_below event number opens bn least below = grind (arith, cases_low, mul-le-mul)
 
-entry_stream : (bis time : ℕ) (octets : List ℕ) (whole : Type 0) (entry : Handed) → ((entry ≡ lost bis time) ⊎ (whole × (entry ≡ valid bis time octets)))
-    → (bis_of entry ≡ bis) × (time_in entry ≡ time)
-entry_stream bis time octets whole entry is = grind (arith, bis_of, time_in)
-
 pub one_entry : (setup : Setup) (whole : List SourceCall) (tuning : BigSync) (bis : ℕ) (air : Air) (n : ℕ) (sent : Sent) (entry : Handed) (calls : List StayCall) → 1 ≤ setup.info.bn
     → TunedTo setup tuning → opened (stay_on tuning bis) calls ≤ next_of setup whole → IsInAir setup whole bis air n sent
     → IsEntry (stay_on tuning bis) (is_heard (stay_on tuning bis) calls) (closed_end (stay_on tuning bis) calls) sent entry
@@ -87,7 +83,9 @@ one_entry setup whole tuning bis air n sent entry calls some on opens numbered i
     subst (λ (b : ℕ). setup.first * setup.info.bn + one.first < opened (stay_on tuning bis) calls * b) bn_is is.start_closed in
     let below : event < opened (stay_on tuning bis) calls =
     event_below event (setup.first * setup.info.bn + one.first) (opened (stay_on tuning bis) calls) setup.info.bn (omega (arith, product, is_of.timed.least)) closed in
-    let parts = entry_stream bis (time_of (stay_on tuning bis) ((setup.first * setup.info.bn + one.first) / tuning.info.bn) one.offset) (octets_in one.segments) (one.whole ≡ true) entry is.is in
+    let parts : (bis_of entry ≡ bis) × (time_in entry ≡ (time_of (stay_on tuning bis)
+    ((setup.first * setup.info.bn + one.first) / tuning.info.bn) one.offset)) =
+    grind (arith, bis_of, time_in) in
     record {
       unit = unit;
       sent = sent;

@@ -1,6 +1,6 @@
 -- A step that both lists of steps have keeps what they have alike of a sink and a source, where it means this source if it is a
 -- source line.
-use Rattle.scenario_laws.proofs.Known.Sources.{ℕ, ◌≡◌, ◌≢◌, ◌∙◌, cond, Bool, true, false, List, ◌∷◌, Option, Some, is_some, arith, ap, option_or, cases_eq, ne_eqb, Call, Step, box_of, handed_by, handed_up, is_of, reaches, sink_calls, source_of, ticked_by, ticked_if, open_event, Airs, chosen_given, chosen_of, is_source_line, steps_of_source, calls_made, source_at, made_of, version_given, units_by, closing, Sourced, cond_same, history_grows, moved_same, sourced_same, back_same, hear_same, heard_same, said_grows, tuning_same, HistoriesAlike, Same, chosen_alike, horizon_alike, own_alike, source_alike, kept_took, both_alike, closing_alike, opens_alike, units_append}
+use Rattle.scenario_laws.proofs.Known.Sources.{ℕ, ◌≡◌, ◌≢◌, ◌∙◌, cond, Bool, true, false, List, ◌∷◌, is_some, arith, ap, option_or, cases_eq, ne_eqb, Call, Step, box_of, handed_by, handed_up, is_of, reaches, sink_calls, source_of, ticked_by, ticked_if, open_event, Airs, chosen_given, chosen_of, is_source_line, steps_of_source, calls_made, source_at, made_of, version_given, units_by, closing, Sourced, cond_same, history_grows, moved_same, sourced_same, back_same, hear_same, heard_same, said_grows, tuning_same, HistoriesAlike, Same, chosen_alike, horizon_alike, own_alike, source_alike, kept_took, both_alike, closing_alike, opens_alike, units_append}
 
 -- the step means this source, where it is a source line
 abbrev pub Means : ℕ → List Step → Step → Type 0

@@ -40,9 +40,6 @@ pub record Quiet (step : Step) : Type 0 where
 quiet : (n : ℕ) (step : Step) → is_other n (sink_in step) ≡ true → Quiet step
 quiet n step other = grind (arith, false≢true)
 
-history_other : (n : ℕ) (step : Step) (made : List Step) → is_other n (sink_in step) ≡ true → calls_made n (step ∷ made) ≡ calls_made n made
-history_other n step made other = grind (arith, pass)
-
 source_other : (n : ℕ) (step : Step) (made : List Step) → is_other n (sink_in step) ≡ true → source_of n (step ∷ made) ≡ source_of n made
 source_other n step made other = grind (arith, pass)
 
@@ -51,7 +48,7 @@ box_other n step made other = grind (arith, pass)
 
 pub another_sink : (airs : Airs) (s n : ℕ) (step : Step) (made : List Step) → is_other n (sink_in step) ≡ true → Leaves airs s n step made
 another_sink airs s n step made other =
-    grind (arith, quiet, said_stays, lives_equal, history_other, source_other, box_other, pass, false≢true)
+    grind (arith, quiet, said_stays, lives_equal, source_other, box_other, pass, false≢true)
 
 -- ---- a line that means another source, and puts the sink on no train and no group, changes nothing of the sink and of the source
 
@@ -85,10 +82,6 @@ history_stays n _ made is not = search (lives_equal, cond-false, same_if, false�
 
 -- ---- its receivers, where it isn't of the source that the line means
 
-close_stays : (airs : Airs) (n : ℕ) (made : List Step) → is_of (chosen_of made) (source_of n made) ≡ false
-    → ticked_if (is_of (chosen_of made) (source_of n made)) (open_event (chosen_steps made)) (sink_calls airs n made) ≡ sink_calls airs n made
-close_stays airs n made apart = ap (λ its. ticked_if its (open_event (chosen_steps made)) (sink_calls airs n made)) apart
-
 calls_stay : (airs : Airs) (n : ℕ) (step : Step) (made : List Step) → is_source_line step ≡ true → puts n made step ≡ false
     → is_of (chosen_of made) (source_of n made) ≡ false → sink_calls airs n (step ∷ made) ≡ sink_calls airs n made
 calls_stay airs n (Step.Announce sink) made is not apart =
@@ -100,7 +93,8 @@ calls_stay airs n (Step.Train sink time ext adv acad) made is not apart =
     (made_of n made) (calls_made n made)
     (calls_by (source_at made) (Step.Train sink time ext adv acad) (made_of n made) (calls_made n made)) (sink_calls airs n made) refl not
     (history_stays n (Step.Train sink time ext adv acad) made is not)
-calls_stay airs n _ made is not apart = search (cond-false, and_right, false≢true, close_stays airs n made apart)
+calls_stay airs n _ made is not apart =
+    search (cond-false, and_right, false≢true, (ap (λ its. ticked_if its (open_event (chosen_steps made)) (sink_calls airs n made)) apart))
 
 -- ---- what it hands up
 

@@ -72,16 +72,14 @@ unfolding sink_numbers
 at_event airs made None = refl
 at_event airs made (Some event) = search (flat_within, one_printed, flat_flat)
 
-first_printed : (airs : Airs) (made : List Step) → first_lines (closing airs 0 made) [] ≡ unit_lines (closing airs 0 made)
-first_printed airs made = at_event airs made (open_event (steps_of_source 0 made))
-
 -- no relay offers anything
 none_answered : (closes : Bool) (airs : Airs) (made : List Step) → has_relay made ≡ false
     → answered airs (cond closes (offers_at airs made) []) made ≡ []
 none_answered closes airs made none = grind (arith, no_offers)
 
 pub prints_units : PrintsUnits
-prints_units airs made step none = cc (none_answered (closes_first made step) airs made none, first_printed airs made)
+prints_units airs made step none =
+    cc (none_answered (closes_first made step) airs made none, (at_event airs made (open_event (steps_of_source 0 made))))
 
 closed_if : (hit : Bool) (airs : Airs) (made : List Step) (step : Step) → (chosen_of made == 0) ≡ hit → has_relay made ≡ false
     → cond hit (first_lines (closing airs 0 made) (answered_by airs made step)) (unit_lines (closing airs (chosen_of made) made)) ≡ unit_lines (closing airs (chosen_of made) made)

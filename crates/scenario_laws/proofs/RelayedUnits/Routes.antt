@@ -139,11 +139,6 @@ answers_of airs P (offer ∷ offers) made all =
     (answered airs offers (after_offer airs offer made)) (All-head P offer offers all)
     (answers_of airs P offers (after_offer airs offer made) (All-tail P offer offers all))
 
-pub answers_stand : (airs : Airs) (made : List Step) (step : Step)
-    → All (λ (answer : Answered). Stands made answer.offer) (answered_by airs made step)
-answers_stand airs made step = answers_of airs (Stands made) (offers_before airs made step) made (grind (arith, closes_first, offers_at,
-    offers_stand))
-
 -- ---- a stream that has had no relay
 
 filter_none : {A : Type 0} (test : A → Bool) (xs : List A) → All (λ x. test x ≡ false) xs → filter test xs ≡ []
@@ -157,7 +152,8 @@ pub none_now : (airs : Airs) (to : ℕ) (made : List Step) (step : Step) → had
 none_now airs to made step none =
     filter_none (λ (answer : Answered). answer.offer.route.to == to) (answered_by airs made step)
     (λ k d within. false_from_ne_true _ (λ its.
-    let had = route_had _ made _ (answers_stand airs made step k d within) in
+    let had = route_had _ made _ ((answers_of airs (Stands made) (offers_before airs made step) made (grind (arith, closes_first,
+    offers_at, offers_stand))) k d within) in
     false≢true (sym none ∙ ap (λ bis. had_relay bis made) (sym (eqb-true _ to its)) ∙ had)))
 
 -- relayed units make no relay

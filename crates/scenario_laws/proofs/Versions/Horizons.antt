@@ -115,10 +115,6 @@ reads_near setup train heard broadcast_id base info event anchor same tells with
 
 -- ---- an announced train
 
-its_horizon : (made : Option Settings) (sink : Settings) (horizon : ℕ) → HasHorizon made horizon → made ≡ Some sink
-    → sink.setup.horizon ≡ horizon
-its_horizon made sink horizon has is = subst (λ one. HasHorizon one horizon) is has
-
 pub announced_calm : Announcing → (airs : Airs) (boxes n : ℕ) (earlier : List Step) → Legal airs boxes earlier
     → refusal_of airs boxes earlier (Step.Announce n) ≡ None → IsCalm earlier (Step.Announce n)
 announced_calm laws airs boxes n earlier legal none m made names is =
@@ -136,7 +132,8 @@ announced_calm laws airs boxes n earlier legal none m made names is =
     (laws.is_train (identity_of own).broadcast_id (base_of own) (checked_info own) event anchor may) in
     let reach : group_horizon (checked_info own) ≤ horizon_in (version_of earlier) =
     group_within airs boxes (chosen_of earlier) earlier legal started in
-    let horizon : made.setup.horizon ≡ horizon_in (version_of earlier) = grind (arith, its_horizon (made_of m earlier) made (horizon_in (version_of earlier)) (horizon_made airs boxes m earlier legal) is) in
+    let horizon : made.setup.horizon ≡ horizon_in (version_of earlier) = grind (arith, (subst (λ one. HasHorizon one (horizon_in
+    (version_of earlier))) is (horizon_made airs boxes m earlier legal))) in
     outcome_near made.setup (snapshot_in made (calls_made m earlier)) (own_train (source_at earlier))
     (reads_near made.setup (announced_of own) (own_train (source_at earlier)) (identity_of own).broadcast_id (base_of own)
     (checked_info own) event anchor refl tells (subst (λ most. group_horizon (checked_info own) ≤ most) (sym horizon) reach))

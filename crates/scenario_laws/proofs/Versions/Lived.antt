@@ -1,6 +1,6 @@
 -- The sinks of a scenario in version 2: their history is the same, where no train was answered `BadGroup 11` (Basic Audio Profile
 -- 1.0, section 6.5). Lists of steps and of calls have the newest first.
-use Rattle.scenario_laws.proofs.Known.Sources.{ℕ, ◌≡◌, ◌≤◌, ◌==◌, cond, Bool, true, List, [], ◌∷◌, Option, None, Some, refl, ◌∙◌, ap₂, arith, eqb-true, Settings, born, Step, calls_after, calls_at, made_by, made_of, named_by, train_by, calls_made, source_at, the_world, LinkCall as Call, AreQuietCalls, drained_same, quiet_drained, quiet_served, HearsNear, IsQuietHistory, made_with_horizon, at_second, same, second, seconds, sink_grows}
+use Rattle.scenario_laws.proofs.Known.Sources.{ℕ, ◌≡◌, ◌≤◌, ◌==◌, cond, Bool, List, [], ◌∷◌, Option, None, Some, refl, ◌∙◌, ap₂, arith, eqb-true, Settings, born, Step, calls_after, calls_at, made_by, made_of, named_by, train_by, calls_made, source_at, the_world, LinkCall as Call, AreQuietCalls, drained_same, quiet_drained, quiet_served, HearsNear, IsQuietHistory, made_with_horizon, at_second, same, second, seconds, sink_grows}
 
 -- ---- the source that a line means
 

@@ -11,10 +11,6 @@ blank_if : (long : Bool) (version : ℕ) (line : List ℕ) → is_blank line ≡
 unfolding read_of
 blank_if long version line blank = grind arith
 
-blank_says : (version : ℕ) (line : List ℕ) → is_blank line ≡ true
-    → (said_in version (line_of line) ≡ nothing) ⊎ (said_in version (line_of line) ≡ unsaid LineTooLong)
-blank_says version line blank = blank_if (leb (length line) line_limit) version line blank
-
 -- a line that both histories accept, and that brings nothing
 skips : (starts : List Account) (history others : List TextLine) (reason reason' : Option Refusal)
     (brought brought' octets octets' : List ℕ) (end end' : End Refusal)
@@ -85,7 +81,7 @@ turned_alike : Laws → (starts : List Account) (all history lines others : List
     → Turned lines others → RunAlike starts history history lines others
 turned_alike laws starts all history _ _ never begins none accepted lasting (later line lines others blank turned) =
     let it : TextLine = line_of line in
-    elim (blank_says (version_of (said_of history)) line blank) [
+    elim (blank_if (leb (length line) line_limit) (version_of (said_of history)) line blank) [
       | inl says ↦
           let passes : (Its starts).refusal history it ≡ None = ap (refusal_said airs_of (length starts) (steps_of airs_of history)) says in
           let empty : (Its starts).output history it ≡ [] = ap (output_said airs_of starts (steps_of airs_of history)) says in
