@@ -1,5 +1,5 @@
 -- How a run of a text ends at a line, by what was run and written before it.
-use Rattle.replay_lines.proofs.Prelude.{◌≡◌, ℕ, ◌+◌, Bool, true, false, List, [], ◌∷◌, ◌++◌, length, reverse, refl, sym, ap, subst, ◌∙◌, append_assoc, arith, Option, None, Some, length-append, inl, inr, append-nil, length-reverse, reverse-reverse, false≢true, Appends, Keeps, TextLine, lines_of, MayFollow, AppendsPrefix, AppendsShort, Appends-then, AppendsPrefix-then, AppendsPrefix-nothing, Consumes-nothing, Account, airs_of, Airs, Refusal, NoEnd, refusal_line, through, refused, out, end_of, accepted_of, accepted_unless, brought, Accepted, out_accepted, end_accepted, accepted_accepted, is_over, is_over_at, SinkUnit, handed_up, handed_line, took_as, took_history, rules_of, said_of, steps_of, handed_on, out_of, end_after, last_line_after, last_end_after, has_end, transcript_of, transcript_end, units_of, took_all, Ending, Machine, refusal_at, Done, ReadFaulted, brought_by, Broken, Ended, TextIs, RunTo, Refuses}
+use Rattle.replay_lines.proofs.Prelude.{◌≡◌, ℕ, ◌+◌, Bool, true, false, List, [], ◌∷◌, ◌++◌, length, reverse, refl, sym, ap, ◌∙◌, append_assoc, arith, Option, None, Some, length-append, inl, inr, append-nil, length-reverse, reverse-reverse, false≢true, Keeps, TextLine, lines_of, MayFollow, AppendsPrefix, AppendsShort, Appends-then, AppendsPrefix-then, AppendsPrefix-nothing, Consumes-nothing, Account, airs_of, Airs, Refusal, NoEnd, refusal_line, through, refused, out, end_of, accepted_of, accepted_unless, brought, Accepted, out_accepted, end_accepted, accepted_accepted, is_over, is_over_at, SinkUnit, handed_up, handed_line, took_as, took_history, rules_of, said_of, steps_of, handed_on, out_of, end_after, last_line_after, last_end_after, has_end, transcript_of, transcript_end, units_of, took_all, Ending, Machine, refusal_at, Done, ReadFaulted, brought_by, Broken, Ended, TextIs, RunTo, Refuses}
 use Rattle.scenario_laws.proofs.RelayedUnits.Citable.{stage_happened}
 use Rattle.replay_lines.specs.declared.ending.Ending.TheVariants as endings
 
@@ -79,12 +79,6 @@ units_rest airs starts history (line ∷ lines) = by ((rules_of airs starts).ref
 
 -- ---- what was run before the line
 
-appends_same : (kept kept' : Option (List ℕ)) (xs ys : List ℕ) → xs ≡ ys → Appends kept kept' xs → Appends kept kept' ys
-appends_same kept kept' xs ys e a = let P : List ℕ → Type 0 = λ x. Appends kept kept' x in subst P e a
-
-prefix_same : (kept kept' : Option (List ℕ)) (xs ys : List ℕ) → xs ≡ ys → AppendsPrefix kept kept' xs → AppendsPrefix kept kept' ys
-prefix_same kept kept' xs ys e a = let P : List ℕ → Type 0 = λ x. AppendsPrefix kept kept' x in subst P e a
-
 pub prefix_of_short : (kept kept' : Option (List ℕ)) (xs : List ℕ) → AppendsShort kept kept' xs → AppendsPrefix kept kept' xs
 prefix_of_short kept kept' xs s = record { prefix = s.prefix; rest = s.rest; whole = s.whole; appended = s.appended }
 
@@ -96,26 +90,18 @@ prefix_none kept xs = AppendsPrefix-nothing kept kept xs (keeps_same kept)
 
 -- ---- the end of the text, and a fault of the source
 
-pub ends_done : (starts : List Account) (history : List TextLine) (left left' kept kept' : Option (List ℕ)) (machine : Machine) (accounts : List Account)
-    → TextIs left left' history true → RunTo starts history kept kept' machine accounts → is_over (steps_of airs_of history) ≡ true → Done airs_of starts accounts left left' kept kept'
-ends_done starts history left left' kept kept' machine accounts t r over = record {
-  text = t.text;
-  read = t.read;
-  through_all = ap (transcript_end airs_of starts) t.whole ∙ ends_through starts history r.accepted true over;
-  written = appends_same kept kept' _ _
-      (sym (ap (transcript_of airs_of starts) t.whole ∙ writes_through starts history r.accepted true over ∙ append-nil (brought (rules_of airs_of starts) history))) r.written;
-  boxes = took_as starts accounts _ _ (sym (ap (units_of airs_of starts) t.whole ∙ units_all starts history r.accepted)) (took_history starts accounts history r.stands.boxes);
-}
+pub ends_done : {starts : List Account} {history : List TextLine} {left left' kept kept' : Option (List ℕ)} {machine : Machine}
+    {accounts : List Account}
+    → TextIs left left' history true → RunTo starts history kept kept' machine accounts → is_over (steps_of airs_of history) ≡ true
+    → Done airs_of starts accounts left left' kept kept'
+ends_done {starts = starts} {history = history} {accounts = accounts} t r over =
+    grind (arith, ends_through starts history r.accepted true over, writes_through starts history r.accepted true over, append-nil,
+    units_all starts history r.accepted, took_history starts accounts history r.stands.boxes)
 
-pub ends_faulted : (starts : List Account) (history : List TextLine) (left left' kept kept' : Option (List ℕ)) (machine : Machine) (accounts : List Account)
+pub ends_faulted : {starts : List Account} {history : List TextLine} {left left' kept kept' : Option (List ℕ)} {machine : Machine}
+    {accounts : List Account}
     → TextIs left left' history false → RunTo starts history kept kept' machine accounts → ReadFaulted airs_of starts accounts left left' kept kept'
-ends_faulted starts history left left' kept kept' machine accounts t r = record {
-  text = t.text;
-  read = t.read;
-  through_all = ap (end_after airs_of starts) t.whole ∙ end_all starts history r.accepted;
-  written = appends_same kept kept' _ _ (sym (ap (out_of airs_of starts) t.whole ∙ out_all starts history r.accepted)) r.written;
-  boxes = took_as starts accounts _ _ (sym (ap (units_of airs_of starts) t.whole ∙ units_all starts history r.accepted)) (took_history starts accounts history r.stands.boxes);
-}
+ends_faulted t r = grind (arith, end_all, out_all, units_all, took_history)
 
 -- nothing was read, for want of memory
 pub ends_at_once : (starts : List Account) (left kept : Option (List ℕ)) → Broken airs_of starts starts left left kept kept
@@ -128,32 +114,31 @@ ends_at_once starts left kept = record {
 }
 
 -- NoEnd
-module _ (starts : List Account) (history : List TextLine) (left left' kept mid kept' : Option (List ℕ)) (machine : Machine) (accounts : List Account) (number : ℕ)
-    (is_next : number ≡ length history + 1) (t : TextIs left left' history true) (r : RunTo starts history kept mid machine accounts)
+module _ {starts : List Account} {history : List TextLine} {left left' kept mid : Option (List ℕ)} {machine : Machine}
+    {accounts : List Account}
+    {number : ℕ} (is_next : number ≡ length history + 1) (t : TextIs left left' history true)
+        (r : RunTo starts history kept mid machine accounts)
     (not_over : is_over (steps_of airs_of history) ≡ false) where
   no_end_line : transcript_of airs_of starts (lines_of true t.text) ≡ brought (rules_of airs_of starts) history ++ refusal_line number NoEnd
-  no_end_line =
-      ap (transcript_of airs_of starts) t.whole ∙ writes_through starts history r.accepted false not_over
-      ∙ ap (λ n. brought (rules_of airs_of starts) history ++ refusal_line n NoEnd) (sym is_next)
+  no_end_line = rw (t.whole, is_next) (writes_through starts history r.accepted false not_over)
 
   no_end_end : transcript_end airs_of starts (lines_of true t.text) ≡ refused number NoEnd
-  no_end_end =
-      ap (transcript_end airs_of starts) t.whole ∙ ends_through starts history r.accepted false not_over ∙ ap (λ n. refused n NoEnd) (sym is_next)
+  no_end_end = rw (t.whole, is_next) (ends_through starts history r.accepted false not_over)
 
   no_end_units : units_of airs_of starts (lines_of true t.text) ≡ handed_up airs_of (steps_of airs_of history)
-  no_end_units = ap (units_of airs_of starts) t.whole ∙ units_all starts history r.accepted
+  no_end_units = rw t.whole (units_all starts history r.accepted)
 
   same_lines : (at_end : Bool) (more : List ℕ) → MayFollow true at_end more → lines_of at_end (t.text ++ more) ≡ lines_of true t.text
-  same_lines at_end more follows =
-      let f = follows refl in
-      ap (λ b. lines_of b (t.text ++ more)) f.0 ∙ ap (λ rest. lines_of true (t.text ++ rest)) f.1 ∙ ap (lines_of true) (append-nil t.text)
+  same_lines at_end more follows = grind (arith, append-nil, follows refl)
 
-  broken_no_end : AppendsPrefix mid kept' (refusal_line number NoEnd) → Broken airs_of starts accounts left left' kept kept'
-  broken_no_end f = record {
+  broken_no_end : (kept' : Option (List ℕ)) → AppendsPrefix mid kept' (refusal_line number NoEnd)
+      → Broken airs_of starts accounts left left' kept kept'
+  broken_no_end kept' f = record {
     text = t.text;
     over = true;
     read = t.read;
-    written = prefix_same kept kept' _ _ (sym no_end_line) (AppendsPrefix-then kept mid kept' (brought (rules_of airs_of starts) history) (refusal_line number NoEnd) r.written f);
+    written = rw no_end_line
+        (AppendsPrefix-then kept mid kept' (brought (rules_of airs_of starts) history) (refusal_line number NoEnd) r.written f);
     boxes = inl (record {
       done = handed_up airs_of (steps_of airs_of history);
       rest = [];
@@ -162,10 +147,11 @@ module _ (starts : List Account) (history : List TextLine) (left left' kept mid 
     });
   }
 
-  pub ends_no_end : (ending : Ending) → Refuses number NoEnd mid kept' ending → Ended airs_of ending starts accounts left left' kept kept'
-  ends_no_end endings.Memory f = broken_no_end f
-  ends_no_end endings.WriteFault f = (
-    broken_no_end (prefix_of_short mid kept' (refusal_line number NoEnd) f),
+  pub ends_no_end : (kept' : Option (List ℕ)) (ending : Ending) → Refuses number NoEnd mid kept' ending
+      → Ended airs_of ending starts accounts left left' kept kept'
+  ends_no_end kept' endings.Memory f = broken_no_end kept' f
+  ends_no_end kept' endings.WriteFault f = (
+    broken_no_end kept' (prefix_of_short mid kept' (refusal_line number NoEnd) f),
     inr (record {
       text = t.text;
       read = t.read;
@@ -176,7 +162,7 @@ module _ (starts : List Account) (history : List TextLine) (left left' kept mid 
       boxes = took_as starts accounts _ _ (sym no_end_units) (took_history starts accounts history r.stands.boxes);
     }),
   )
-  ends_no_end (endings.Refused line why) f =
+  ends_no_end kept' (endings.Refused line why) f =
       (
         record {
           text = t.text;
@@ -194,4 +180,4 @@ module _ (starts : List Account) (history : List TextLine) (left left' kept mid 
         },
         (λ other. absurd (other f.1)),
       )
-  ends_no_end _ f = absurd f
+  ends_no_end kept' _ f = absurd f

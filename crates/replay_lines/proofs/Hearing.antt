@@ -1,6 +1,6 @@
 -- What a listener changes at a line: nothing where it goes on, and where it fails the run ends before the line.
 use Rattle.std.proofs.Common.{arith}
-use Rattle.replay_lines.proofs.Prelude.{◌≡◌, ◌≢◌, ◌+◌, length, ReadsAhead, Bool, false, true, List, refl, ap, inl, Option, ℕ, Appends, Keeps, Rose, TextLine, Account, airs_of, rules_of, brought, Airs, Machine, Ending, Ended, Heard, as_told, Broken, Comes, ReadsAtMost, read_limit, RunTo, StepRuns, StepHeard, Laws, World}
+use Rattle.replay_lines.proofs.Prelude.{◌≡◌, ◌≢◌, ◌+◌, length, ReadsAhead, Bool, false, true, List, refl, ap, inl, Option, ℕ, Appends, Keeps, Rose, TextLine, Account, airs_of, Airs, Machine, Ending, Ended, Heard, as_told, Broken, Comes, ReadsAtMost, read_limit, RunTo, StepRuns, StepHeard, Laws, World}
 use Rattle.replay_lines.specs.declared.ending.Ending.TheVariants as endings
 use Rattle.replay_lines.proofs.LineEndings.{step_memory}
 use Rattle.replay_lines.proofs.Promises.{promised_run}
@@ -9,13 +9,10 @@ pub kept_on : (a b c : Option (List ℕ)) (xs : List ℕ) → Appends a b xs →
 kept_on a b c xs p q = grind arith
 
 -- the lines so far were run, and the sink kept what they brought
-pub run_kept : (starts : List Account) (history : List TextLine) (kept mid kept' : Option (List ℕ)) (machine : Machine) (accounts : List Account)
+pub run_kept : {starts : List Account} {history : List TextLine} {kept mid kept' : Option (List ℕ)} {machine : Machine}
+    {accounts : List Account}
     → RunTo starts history kept mid machine accounts → Keeps mid kept' → RunTo starts history kept kept' machine accounts
-run_kept starts history kept mid kept' machine accounts run keeps = record {
-  accepted = run.accepted;
-  written = kept_on kept mid kept' (brought (rules_of airs_of starts) history) run.written keeps;
-  stands = run.stands;
-}
+run_kept run keeps = grind (arith, kept_on)
 
 -- what an ending says, it says beside a listener too
 module _ (airs : Airs) (starts ends : List Account) (left left' kept kept' : Option (List ℕ)) where
@@ -30,13 +27,13 @@ module _ (airs : Airs) (starts ends : List Account) (left left' kept kept' : Opt
       → Ended airs (as_told true ending) starts ends left left' kept kept'
   told_more may_fail ending e = grind arith
 
-  -- it failed
+-- it failed, or wanted memory
+module _ {airs : Airs} {starts ends : List Account} {left left' kept kept' : Option (List ℕ)} where
   pub failed_told : (may_fail : Bool) → may_fail ≡ true → Broken airs starts ends left left' kept kept'
       → Ended airs (as_told may_fail endings.WriteFault) starts ends left left' kept kept'
   failed_told false may broken = absurd cc
   failed_told true may broken = broken
 
-  -- it wanted memory
   pub wanted_told : (may_fail : Bool) → Broken airs starts ends left left' kept kept'
       → Ended airs (as_told may_fail endings.Memory) starts ends left left' kept kept'
   wanted_told false broken = broken
@@ -49,12 +46,11 @@ pub step_told : (may_fail : Bool) (starts : List Account) (lines : List TextLine
 step_told may_fail starts lines left left' kept kept' machine accounts result s = grind (arith, airs_of)
 
 -- the run ends before a line
-pub broken_before : (starts : List Account) (history : List TextLine) (line : TextLine) (left left' kept mid kept' : Option (List ℕ)) (machine : Machine)
-    (accounts : List Account) (number : ℕ) → number ≡ length history + 1 → Comes left left' history line → ReadsAhead left left' number
+pub broken_before : {starts : List Account} {history : List TextLine} {line : TextLine} {left left' kept mid kept' : Option (List ℕ)}
+    {machine : Machine}
+    {accounts : List Account} {number : ℕ} → number ≡ length history + 1 → Comes left left' history line → ReadsAhead left left' number
     → RunTo starts history kept mid machine accounts → Keeps mid kept' → Broken airs_of starts accounts left left' kept kept'
-broken_before starts history line left left' kept mid kept' machine accounts number is_next comes ahead run keeps =
-    step_memory starts history line left left' kept kept' machine accounts number is_next comes ahead
-    (run_kept starts history kept mid kept' machine accounts run keeps) accounts (inl refl)
+broken_before {accounts = accounts} is_next comes ahead run keeps = step_memory is_next comes ahead (run_kept run keeps) accounts (inl refl)
 
 -- ---- what is promised
 

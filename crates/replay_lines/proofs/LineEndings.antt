@@ -41,8 +41,8 @@ brought_prefix : (over : Bool) (starts : List Account) (kept kept' : Option (Lis
 brought_prefix over starts kept kept' text octets rest is f =
     grind (arith, last_line_after, end_after, airs_of, lines_of, has_end, length, append_assoc)
 
-module _ (starts : List Account) (history : List TextLine) (line : TextLine) (left left' kept mid : Option (List ℕ)) (machine : Machine)
-    (before : List Account) (number : ℕ) (is_next : number ≡ length history + 1) (c : Comes left left' history line)
+module _ {starts : List Account} {history : List TextLine} {line : TextLine} {left left' kept mid : Option (List ℕ)} {machine : Machine}
+    {before : List Account} {number : ℕ} (is_next : number ≡ length history + 1) (c : Comes left left' history line)
     (ahead : ReadsAhead left left' number) (run : RunTo starts history kept mid machine before) where
   line_out : out_of airs_of starts (reverse (line ∷ history))
       ≡ brought (rules_of airs_of starts) history ++ out (rules_of airs_of starts) history (line ∷ [])

@@ -1,46 +1,37 @@
 -- What the loop of `replay` does at a line, put together.
-use Rattle.replay_lines.proofs.Prelude.{◌≡◌, ℕ, ◌+◌, ◌≤◌, Bool, false, List, [], ◌∷◌, length, refl, sym, subst, arith, Option, None, Some, Result, Ok, TextLine, plain, too_long, past, text_limit, Reading, lines_left, LineRead, Line, LineTooLong, TextTooLong, Failed, Account, airs_of, Ending, Machine, steps_of, UnassignedSame, unassigned_line, LinesStand, Comes, ReadsAhead, Ended, as_told, ReadTo, NextIs, RunTo, Refuses, StepHeard, LineRuns, Appends-nothing}
+use Rattle.replay_lines.proofs.Prelude.{◌≡◌, ℕ, ◌+◌, ◌≤◌, Bool, false, List, [], ◌∷◌, length, refl, sym, subst, arith, Option, None, Some, Ok, TextLine, plain, too_long, past, text_limit, Reading, lines_left, Line, LineTooLong, TextTooLong, Account, airs_of, Ending, Machine, steps_of, UnassignedSame, unassigned_line, LinesStand, Comes, ReadsAhead, Ended, as_told, ReadTo, NextIs, RunTo, Refuses, StepHeard, LineRuns, Appends-nothing}
 use Rattle.transcript_text.specs.declared.refusal.Refusal.TheVariants as refusals
 use Rattle.replay_lines.proofs.ReadingOn.{read_none, comes_of, ahead_of}
 use Rattle.replay_lines.proofs.LineEndings.{ends_refusal}
 
 -- ---- a line
 
-pub next_at : (left left' : Option (List ℕ)) (lines : List TextLine) (new : Reading) (r s : Result LineRead Failed) → NextIs left left' lines new r → r ≡ s → NextIs left left' lines new s
-next_at left left' lines new r s n e = let P : Result LineRead Failed → Type 0 = λ x. NextIs left left' lines new x in subst P e n
+ahead_at : {left left' : Option (List ℕ)} {m n : ℕ} → m ≡ n → ReadsAhead left left' m → ReadsAhead left left' n
+ahead_at e a = rw e at a
 
-ahead_at : (left left' : Option (List ℕ)) (m n : ℕ) → m ≡ n → ReadsAhead left left' m → ReadsAhead left left' n
-ahead_at left left' m n e a = let P : ℕ → Type 0 = λ x. ReadsAhead left left' x in subst P e a
+pub line_ahead : {left left' : Option (List ℕ)} {history : List TextLine} {reader : Reading} {line : TextLine} {number : ℕ} → number
+    ≡ length history + 1
+    → ReadTo left left' (line ∷ history) reader → ReadsAhead left left' number
+line_ahead is_next r = ahead_at (omega arith) (ahead_of r)
 
-module _ (starts : List Account) (history : List TextLine) (left left' kept mid kept' : Option (List ℕ)) (machine : Machine) (accounts : List Account) (number : ℕ) (reader : Reading)
-    (is_next : number ≡ length history + 1) (run : RunTo starts history kept mid machine accounts) where
-  pub line_past : (ending : Ending) → NextIs left left' history reader (Ok TextTooLong) → Refuses number refusals.TextTooLong mid kept' ending
+module _ {starts : List Account} {history : List TextLine} {left left' kept mid : Option (List ℕ)} {machine : Machine}
+    {accounts : List Account} {number : ℕ}
+    (is_next : number ≡ length history + 1) (run : RunTo starts history kept mid machine accounts) (kept' : Option (List ℕ))
+        (ending : Ending) where
+  pub line_past : Comes left left' history past × ReadsAhead left left' (length history + 1)
+      → Refuses number refusals.TextTooLong mid kept' ending
       → Ended airs_of ending starts accounts left left' kept kept'
-  line_past ending n f =
-      ends_refusal starts history past left left' kept mid machine accounts number is_next n.0
-          (ahead_at left left' (length history + 1) number (sym is_next) n.1)
-      run kept' refusals.TextTooLong refl ending f
+  line_past n f = ends_refusal is_next n.0 (ahead_at (sym is_next) n.1) run kept' refusals.TextTooLong refl ending f
 
-  pub line_long : (ending : Ending) → NextIs left left' history reader (Ok LineTooLong) → Refuses number refusals.LineTooLong mid kept' ending
+  pub line_long : {reader : Reading} → ReadTo left left' (too_long ∷ history) reader → Refuses number refusals.LineTooLong mid kept' ending
       → Ended airs_of ending starts accounts left left' kept kept'
-  line_long ending n f =
-      ends_refusal starts history too_long left left' kept mid machine accounts number is_next
-          (comes_of left left' history too_long reader n)
-      (ahead_at left left' (length (too_long ∷ history)) number (omega arith) (ahead_of left left' (too_long ∷ history) reader n))
-      run kept' refusals.LineTooLong refl ending f
+  line_long n f = ends_refusal is_next (comes_of n) (line_ahead is_next n) run kept' refusals.LineTooLong refl ending f
 
 -- the line that a reader lends
-pub line_read : (left left' : Option (List ℕ)) (history : List TextLine) (reader : Reading) (lent : List ℕ) → NextIs left left' history reader (Ok Line) → reader.line ≡ Some lent
-    → ReadTo left left' (plain lent ∷ history) reader
-line_read left left' history reader lent n is = grind (arith, plain)
-
-pub line_comes : (left left' : Option (List ℕ)) (history : List TextLine) (reader : Reading) (line : TextLine) → ReadTo left left' (line ∷ history) reader → Comes left left' history line
-line_comes left left' history reader line r = comes_of left left' history line reader r
-
-pub line_ahead : (left left' : Option (List ℕ)) (history : List TextLine) (reader : Reading) (line : TextLine) (number : ℕ) → number ≡ length history + 1
-    → ReadTo left left' (line ∷ history) reader → ReadsAhead left left' number
-line_ahead left left' history reader line number is_next r =
-    ahead_at left left' (length (line ∷ history)) number (omega arith) (ahead_of left left' (line ∷ history) reader r)
+pub line_read : {left left' : Option (List ℕ)} {history : List TextLine} {reader : Reading} (lent : List ℕ)
+    → NextIs left left' history reader (Ok Line)
+    → reader.line ≡ Some lent → ReadTo left left' (plain lent ∷ history) reader
+line_read lent n is = grind (arith, plain)
 
 pub step_line : (may_fail : Bool) (starts : List Account) (history : List TextLine) (line : TextLine) (left left' kept kept' : Option (List ℕ)) (reader : Reading) (machine : Machine) (accounts : List Account)
     (result : Option Ending) → ReadTo left left' (line ∷ history) reader → StepHeard may_fail starts (line ∷ history) left left' kept kept' machine accounts result

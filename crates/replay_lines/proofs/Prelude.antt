@@ -42,7 +42,7 @@ pub use Rattle.scenario_sinks.proofs.Citable.{none_counts, took_stay, failed_one
 pub use Rattle.scenario_sinks.specs.Faults.{CountsStay, OneCounts}
 pub use Rattle.scenario_sinks.specs.Handing.{CutShort, BoxFails}
 pub use Rattle.scenario_text.specs.declared.step.Step.{Step}
-pub use Rattle.scenario_toml.specs.Document.{meaning_of, Meaning, no_toml}
+pub use Rattle.scenario_toml.specs.Document.{meaning_of}
 pub use Rattle.source_machine.specs.Airs.{Airs, airs_of}
 pub use Rattle.transcript_text.specs.Lines.{refusal_line}
 pub use Rattle.transcript_text.specs.declared.refusal.Refusal.{Refusal}

@@ -1,4 +1,4 @@
-use Rattle.replay_lines.proofs.Prelude.{◌∙◌, inr, true, Some, ap, map, refl, arith, lines_of, none_run, airs_of, listened}
+use Rattle.replay_lines.proofs.Prelude.{◌∙◌, inr, true, Some, ap, map, refl, arith, lines_of, none_run, listened}
 use Rattle.replay_lines.proofs.Endings.{ends_at_once}
 use Rattle.replay_lines.proofs.Hearing.{wanted_told}
 use Rattle.replay_lines.proofs.ReadingOn.{none_within}
@@ -12,7 +12,7 @@ returns-in_default g c =
     let boxes = map (λ b. (goal.Outlet-dyn g (b.vtable, b.value)).account b.value) c.args.outlets.now.items in
     let left = g.S.ByteSource.left c.args.source.now in
     let kept = g.K.ByteSink.contents c.args.sink.now in record {
-      ended = wanted_told airs_of boxes boxes left left kept kept g.L.Listener.may_fail (ends_at_once boxes left kept);
+      ended = wanted_told g.L.Listener.may_fail (ends_at_once boxes left kept);
       unassigned = λ text is. none_run boxes (lines_of true text) c.args.outlets.now.items;
       told = inr (inr (inr (has_none g.L.Listener.row_of (listened g.L.Listener.told g.L.Listener.rows c.args.listener.now c.args.sink.now))));
       within = none_within left;
@@ -27,7 +27,7 @@ returns-in_default-new g c =
     let boxes = map (λ b. (goal.Outlet-dyn g (b.vtable, b.value)).account b.value) c.args.outlets.now.items in
     let left = g.S.ByteSource.left c.args.source.now in
     let kept = g.K.ByteSink.contents c.args.sink.now in record {
-      ended = wanted_told airs_of boxes boxes left left kept kept g.L.Listener.may_fail (ends_at_once boxes left kept);
+      ended = wanted_told g.L.Listener.may_fail (ends_at_once boxes left kept);
       unassigned = λ text is. none_run boxes (lines_of true text) c.args.outlets.now.items;
       told = inr (inr (inr (has_none g.L.Listener.row_of (listened g.L.Listener.told g.L.Listener.rows c.args.listener.now c.args.sink.now))));
       within = none_within left;
