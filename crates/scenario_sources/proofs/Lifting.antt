@@ -1,5 +1,5 @@
 -- The sources after a step that means one of them.
-use Rattle.scenario_sources.proofs.Prelude.{◌≡◌, ◌≢◌, ℕ, ◌<◌, ◌==◌, Bool, true, false, List, ◌∷◌, length, refl, sym, ◌∙◌, ap, eq-eqb, ne_eqb, slice_get, slice_set, get_or, ◌&&◌, arith, Option, None, Some, ◌⊎◌, Result, Ok, Err, get_or_from_slice_get, slice_get-get_or, cases_eq, Refusal, IdentTwice, Stop, Refused, Step, Event, Start, Terminate, chosen_given, chosen_of, chosen_steps, is_of_source, other_of, steps_of_source, identity_of, is_started, get_set_here, get_set_other, refuse_if, Identity, Phase, Sources, fault_in, fault_of, Becomes, IsReady, PhaseAt, PhaseIs, PhasesAre, SourcesStand}
+use Rattle.scenario_sources.proofs.Prelude.{◌≡◌, ◌≢◌, ℕ, ◌<◌, ◌==◌, Bool, true, false, List, ◌∷◌, length, refl, sym, ◌∙◌, ap, eq-eqb, ne_eqb, slice_get, slice_set, get_or, ◌&&◌, arith, Option, None, Some, ◌⊎◌, Result, Ok, Err, get_or_from_slice_get, slice_get-get_or, cases_eq, Refusal, IdentTwice, Stop, Refused, Step, Event, Start, Terminate, chosen_given, chosen_of, chosen_steps, is_of_source, other_of, steps_of_source, identity_of, is_started, get_set_here, get_set_other, refuse_if, Identity, Phase, Sources, fault_in, fault_of, Becomes, IsReady, PhaseAt, PhaseIs, SourcesStand}
 use Rattle.scenario_history.specs.Refusals.{is_ident_twice, twin_refusal}
 use Rattle.source_machine.specs.Setups.{are_twins}
 use Rattle.scenario_sources.specs.declared.performed.Performed.{Performed}
@@ -38,85 +38,66 @@ other_stays made steps s means other = grind (arith, steps_of_source, ne_eqb, ch
 chosen_stays : (made : Step) (steps : List Step) → chosen_given made ≡ None → chosen_of (made ∷ steps) ≡ chosen_of steps
 chosen_stays made steps none = rw none refl
 
-phase_after : (made : Step) (steps : List Step) (s : ℕ) (phases : List Phase) (phase : Phase) → MeansChosen made → chosen_of steps < length phases
-    → s < 2 → PhasesAre steps phases → PhaseIs (made ∷ chosen_steps steps) phase → (s ≡ chosen_of steps) ⊎ (s ≢ chosen_of steps)
-    → PhaseAt (steps_of_source s (made ∷ steps)) (slice_get (slice_set phases (chosen_of steps) phase) s)
-phase_after made steps s phases phase means inside below are here x11 =
-    grind (arith, chosen_of, steps_of_source, slice_get, slice_set, chosen_steps, own_grows, get_set_here, other_stays, get_set_other)
+-- the phase of each source once that of the chosen one was set, where the steps of the other stay
+set_at : (own : ℕ → List Step) (chosen s : ℕ) (phases : List Phase) (phase : Phase) → chosen < length phases
+    → (s ≢ chosen → PhaseAt (own s) (slice_get phases s)) → PhaseIs (own chosen) phase → (s ≡ chosen) ⊎ (s ≢ chosen)
+    → PhaseAt (own s) (slice_get (slice_set phases chosen phase) s)
+set_at own chosen s phases phase inside others here which = grind (arith, slice_get, slice_set, get_set_here, get_set_other)
 
--- the chosen source has a new phase
-pub lifted : (made : Step) (steps : List Step) (at : ℕ) (old new : Sources) (phase : Phase) → MeansChosen made → at ≡ old.chosen
-    → SourcesStand steps old → PhaseIs (made ∷ chosen_steps steps) phase
-    → new.chosen ≡ old.chosen → new.phases.items ≡ slice_set old.phases.items at phase → SourcesStand (made ∷ steps) new
-lifted made steps at old new phase means same stands here chosen set =
-    let two : length old.phases.items ≡ 2 = sym old.phases.ok.0 ∙ old.two in
-    grind (arith, chosen_of, length, chosen_stays, slice_set, phase_after, cases_eq)
-
--- the phase was read and put back
-again_at : (steps : List Step) (s : ℕ) (phases : List Phase) (phase : Phase) → chosen_of steps < length phases → s < 2 → PhasesAre steps phases
-    → PhaseIs (chosen_steps steps) phase → (s ≡ chosen_of steps) ⊎ (s ≢ chosen_of steps)
-    → PhaseAt (steps_of_source s steps) (slice_get (slice_set phases (chosen_of steps) phase) s)
-again_at steps s phases phase inside below are here x9 =
-    grind (arith, chosen_of, steps_of_source, slice_get, slice_set, chosen_steps, get_set_here, get_set_other)
-
-again : (steps : List Step) (at : ℕ) (old new : Sources) (phase : Phase) → at ≡ old.chosen → SourcesStand steps old
-    → PhaseIs (chosen_steps steps) phase
-    → new.chosen ≡ old.chosen → new.phases.items ≡ slice_set old.phases.items at phase → SourcesStand steps new
-again steps at old new phase same stands here chosen set =
-    let two : length old.phases.items ≡ 2 = sym old.phases.ok.0 ∙ old.two in
-    grind (arith, chosen_of, length, slice_set, again_at, cases_eq)
-
-fault_same : (version : ℕ) (steps : List Step) (made : Step) → twin_refusal steps made ≡ None → (fault : Option Refusal) → fault_in version (chosen_steps steps) made ≡ fault
-    → fault_of version steps made ≡ fault
+fault_same : (version : ℕ) (steps : List Step) (made : Step) → twin_refusal steps made ≡ None → (fault : Option Refusal)
+    → fault_in version (chosen_steps steps) made ≡ fault → fault_of version steps made ≡ fault
 fault_same version steps made twin fault e = grind arith
 
--- what became of the chosen source became of all
-pub answers : (version : ℕ) (made : Step) (steps : List Step) (at : ℕ) (old new : Sources) (phase : Phase) (r : Result (Unit {0}) Stop) → MeansChosen made
-    → twin_refusal steps made ≡ None → at ≡ old.chosen → SourcesStand steps old
-    → Becomes version (chosen_steps steps) made phase r → new.chosen ≡ old.chosen → new.phases.items ≡ slice_set old.phases.items at phase
-    → Answers version steps made new r
-answers version made steps at old new phase (Ok x) means twin same stands b chosen set =
-    (fault_same version steps made twin None b.0, lifted made steps at old new phase means same stands b.1 chosen set)
-answers version made steps at old new phase (Err (Refused reason)) means twin same stands b chosen set =
-    (fault_same version steps made twin (Some reason) b.0, again steps at old new phase same stands b.1 chosen set)
-answers version made steps at old new phase (Err _) means twin same stands b chosen set = b
+-- the phase of the chosen source was read, and one was put in its place
+module _ (steps : List Step) (at : ℕ) (old new : Sources) (was phase : Phase) (same : at ≡ old.chosen)
+    (read : was ≡ get_or old.phases.items at was)
+    (stands : SourcesStand steps old) (chosen : new.chosen ≡ old.chosen) (set : new.phases.items ≡ slice_set old.phases.items at phase)
+        where
+  here : PhaseIs (chosen_steps steps) was
+  here = chosen_read steps at old was same read stands
 
-pub terminates : (version reason : ℕ) (steps : List Step) (at : ℕ) (old new : Sources) (phase : Phase) (r : Result Terminated Stop)
-    → at ≡ old.chosen → SourcesStand steps old
-    → state.Terminates version (chosen_steps steps) reason phase r → new.chosen ≡ old.chosen → new.phases.items ≡ slice_set old.phases.items at phase
-    → Terminates version steps reason new r
-terminates version reason steps at old new phase (Ok x) same stands b chosen set = (
-  fault_same version steps (Terminate reason) refl None b.0,
-  lifted (Terminate reason) steps at old new phase (record { line = λ s steps. refl; chooses = refl }) same stands b.1 chosen set,
-  b.2,
-  b.3,
-)
-terminates version reason steps at old new phase (Err (Refused cause)) same stands b chosen set =
-    (fault_same version steps (Terminate reason) refl (Some cause) b.0, again steps at old new phase same stands b.1 chosen set)
-terminates version reason steps at old new phase (Err _) same stands b chosen set = b
+  -- it is a new one
+  lifted : (made : Step) → MeansChosen made → PhaseIs (made ∷ chosen_steps steps) phase → SourcesStand (made ∷ steps) new
+  lifted made means after =
+      let two : length old.phases.items ≡ 2 = sym old.phases.ok.0 ∙ old.two in
+      grind (arith, chosen_of, length, chosen_stays, slice_set, set_at (λ n. steps_of_source n (made ∷ steps)), own_grows, other_stays,
+          cases_eq)
 
-pub closes : (version : ℕ) (made : Step) (steps : List Step) (at : ℕ) (old new : Sources) (phase : Phase) (r : Result (Option ℕ) Stop) → MeansChosen made
-    → twin_refusal steps made ≡ None → at ≡ old.chosen → SourcesStand steps old
-    → state.Closes version (chosen_steps steps) made phase r → new.chosen ≡ old.chosen → new.phases.items ≡ slice_set old.phases.items at phase
-    → Closes version steps made new r
-closes version made steps at old new phase (Ok x) means twin same stands b chosen set =
-    (fault_same version steps made twin None b.0, lifted made steps at old new phase means same stands b.1 chosen set, b.2)
-closes version made steps at old new phase (Err (Refused reason)) means twin same stands b chosen set =
-    (fault_same version steps made twin (Some reason) b.0, again steps at old new phase same stands b.1 chosen set)
-closes version made steps at old new phase (Err _) means twin same stands b chosen set = b
+  -- it is the same
+  again : PhaseIs (chosen_steps steps) phase → SourcesStand steps new
+  again after =
+      let two : length old.phases.items ≡ 2 = sym old.phases.ok.0 ∙ old.two in
+      grind (arith, chosen_of, length, slice_set, set_at (λ n. steps_of_source n steps), cases_eq)
 
-pub performs : (version : ℕ) (steps : List Step) (at : ℕ) (old new : Sources) (phase : Phase) (r : Result Performed Stop) → at ≡ old.chosen
-    → SourcesStand steps old → state.Performs version (chosen_steps steps) phase r → new.chosen ≡ old.chosen
-    → new.phases.items ≡ slice_set old.phases.items at phase → Performs version steps new r
-performs version steps at old new phase (Ok performed) same stands b chosen set = (
-  fault_same version steps Event refl None b.0,
-  lifted Event steps at old new phase (record { line = λ s steps. refl; chooses = refl }) same stands b.1 chosen set,
-  b.2,
-  b.3,
-)
-performs version steps at old new phase (Err (Refused reason)) same stands b chosen set =
-    (fault_same version steps Event refl (Some reason) b.0, again steps at old new phase same stands b.1 chosen set)
-performs version steps at old new phase (Err _) same stands b chosen set = b
+  -- what became of the chosen source became of all
+  pub answers : (version : ℕ) (made : Step) (r : Result (Unit {0}) Stop) → MeansChosen made → twin_refusal steps made ≡ None
+      → (PhaseIs (chosen_steps steps) was → Becomes version (chosen_steps steps) made phase r) → Answers version steps made new r
+  answers version made (Ok x) means twin b = (fault_same version steps made twin None (b here).0, lifted made means (b here).1)
+  answers version made (Err (Refused reason)) means twin b = (fault_same version steps made twin (Some reason) (b here).0, again (b here).1)
+  answers version made (Err _) means twin b = b here
+
+  pub terminates : (version reason : ℕ) (r : Result Terminated Stop)
+      → (PhaseIs (chosen_steps steps) was → state.Terminates version (chosen_steps steps) reason phase r)
+          → Terminates version steps reason new r
+  terminates version reason (Ok x) b =
+      (fault_same version steps (Terminate reason) refl None (b here).0, lifted (Terminate reason) (grind arith) (b here).1, (b here).2,
+          (b here).3)
+  terminates version reason (Err (Refused cause)) b = (fault_same version steps (Terminate reason) refl (Some cause) (b here).0, again
+      (b here).1)
+  terminates version reason (Err _) b = b here
+
+  pub closes : (version : ℕ) (made : Step) (r : Result (Option ℕ) Stop) → MeansChosen made → twin_refusal steps made ≡ None
+      → (PhaseIs (chosen_steps steps) was → state.Closes version (chosen_steps steps) made phase r) → Closes version steps made new r
+  closes version made (Ok x) means twin b = (fault_same version steps made twin None (b here).0, lifted made means (b here).1, (b here).2)
+  closes version made (Err (Refused reason)) means twin b = (fault_same version steps made twin (Some reason) (b here).0, again (b here).1)
+  closes version made (Err _) means twin b = b here
+
+  pub performs : (version : ℕ) (r : Result Performed Stop)
+      → (PhaseIs (chosen_steps steps) was → state.Performs version (chosen_steps steps) phase r) → Performs version steps new r
+  performs version (Ok performed) b =
+      (fault_same version steps Event refl None (b here).0, lifted Event (grind arith) (b here).1, (b here).2, (b here).3)
+  performs version (Err (Refused reason)) b = (fault_same version steps Event refl (Some reason) (b here).0, again (b here).1)
+  performs version (Err _) b = b here
 
 -- ---- start
 

@@ -18,7 +18,7 @@ pub use Rattle.scenario_history.specs.Steps.{chosen_given, chosen_of, chosen_ste
 pub use Rattle.scenario_sources.specs.Described.{group_step, IsPlain, identity_or_none}
 pub use Rattle.scenario_sources.specs.Faults.{fault_in, misfit_refusal_of, fault_of}
 pub use Rattle.scenario_sources.specs.State.Phases.{Becomes, DescribedIs, StartedIs, PhaseAt, PhaseIs, is_described, AbsentIs, IsReady, Begins, MayStart, line_of}
-pub use Rattle.scenario_sources.specs.State.Standing.{SourcesStand, PhasesAre}
+pub use Rattle.scenario_sources.specs.State.Standing.{SourcesStand}
 pub use Rattle.scenario_sources.specs.declared.phase.Described.{Described}
 pub use Rattle.scenario_sources.specs.declared.phase.Phase.{Phase}
 pub use Rattle.scenario_sources.specs.declared.sources.Sources.{Sources}

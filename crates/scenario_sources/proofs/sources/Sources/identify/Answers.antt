@@ -1,11 +1,12 @@
 use Rattle.scenario_sources.proofs.Prelude.{refl, chosen_steps}
 use Rattle.scenario_text.specs.declared.step.Step.TheVariants.{Ident as IdentStep}
-use Rattle.scenario_sources.proofs.Lifting.{answers, chosen_read}
+use Rattle.scenario_sources.proofs.Lifting.{answers}
 use Rattle.scenario_sources.proofs.sources.Sources.identify.Goals as goal
 
 pub returns : goal.returns
 returns c version steps stands =
-    let here = chosen_read steps c.from.result c.args.self.now c.index_mut.result.now c.from.ensures c.index_mut.ensures.value stands in
-    answers version (IdentStep c.args.identity.address_type c.args.identity.address c.args.identity.sid c.args.identity.broadcast_id) steps c.from.result c.args.self.now _
-    c.identify.new.phase c.identify.result (record { line = λ s steps. refl; chooses = refl }) refl
-    c.from.ensures stands (c.identify.ensures version (chosen_steps steps) here) refl refl
+    answers steps c.from.result c.args.self.now _ c.index_mut.result.now c.identify.new.phase c.from.ensures c.index_mut.ensures.value
+        stands refl refl
+    version (IdentStep c.args.identity.address_type c.args.identity.address c.args.identity.sid c.args.identity.broadcast_id)
+        c.identify.result (record { line = λ s steps. refl; chooses = refl }) refl
+    (c.identify.ensures version (chosen_steps steps))

@@ -31,8 +31,8 @@ returns c version steps h a running stands =
         c.index-2.ensures stands in
     let twice = twice_is steps c.in-Ok.ready.identity (steps_of_source (1 - c.args.self.now.chosen) steps) c.is_twice.result ready.1
     (ap (λ n. steps_of_source (1 - n) steps) stands.chosen) (c.is_twice.ensures (steps_of_source (1 - c.args.self.now.chosen) steps) other) in
-    let before = chosen_read steps c.from-3.result c.args.self.now c.index_mut.result.now c.from-3.ensures c.index_mut.ensures.value
-        stands in
-    answers version (Start c.args.first) steps c.from-3.result c.args.self.now _ c.begin.new.phase c.begin.result (record { line = λ s steps. refl; chooses = refl })
-    (is_single c.args.first steps c.is_twice.result twice c.if-is_twice.false) c.from-3.ensures stands
-    (c.begin.ensures version (chosen_steps steps) h a (stage_same (chosen_of steps) steps ∙ running) ready.0 before) refl refl
+    answers steps c.from-3.result c.args.self.now _ c.index_mut.result.now c.begin.new.phase c.from-3.ensures c.index_mut.ensures.value
+        stands refl refl
+    version (Start c.args.first) c.begin.result (record { line = λ s steps. refl; chooses = refl })
+    (is_single c.args.first steps c.is_twice.result twice c.if-is_twice.false)
+    (c.begin.ensures version (chosen_steps steps) h a (stage_same (chosen_of steps) steps ∙ running) ready.0)
