@@ -9,7 +9,7 @@ use Rattle.announcement_train.proofs.Citable.{plain_is_small, adds_to_last, desc
 use Rattle.big_info.specs.Layout.{CipherIs}
 use Rattle.ltv_codec.proofs.Citable.{are_read}
 use Rattle.source_machine.specs.declared.fault.AnnounceFault.{AnnounceFault}
-use Rattle.scenario_laws.proofs.Sources.{Allowed, Lawful, Settled, bounds_in, not_yet, sends, settled, true_not_false}
+use Rattle.scenario_laws.proofs.Wholes.{Allowed, Lawful, Settled, bounds_in, not_yet, sends, settled, true_not_false}
 use Rattle.base_grammar.specs.declared.fault.DraftFault.{DraftFault}
 
 -- ---- the BASE of which no line says one

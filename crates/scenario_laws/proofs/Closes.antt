@@ -57,21 +57,18 @@ pub record Moves (mine : Bool) (calls : List Call) (next : ℕ) (closed : List C
   pub climbs_on : Climb (prefix mine calls next) (map event_of closed) (prefix mine' calls' next')
   pub within : prefix mine' calls' next' ≤ next'
 
-stay_moves : (mine : Bool) (calls : List Call) (next next' : ℕ) → next ≤ next' → prefix mine calls next ≤ next → Moves mine calls next [] mine calls next'
-stay_moves mine calls next next' more within = grind arith
-
 gone_moves : (s : ℕ) (gone : Bool) (calls : List Call) (source : Option ℕ) (next next' : ℕ) → next ≤ next' → prefix (is_of s source) calls next ≤ next
     → Moves (is_of s source) calls next [] (is_of s (cond gone None source)) (cond gone [] calls) next'
-gone_moves s gone calls source next next' more within = grind (arith, stay_moves)
+gone_moves s gone calls source next next' more within = grind arith
 
 put_moves : (s : ℕ) (put : Bool) (on : BigSync) (chosen : ℕ) (calls : List Call) (source : Option ℕ) (next next' : ℕ) → next ≤ next' → ((chosen == s) ≡ true → on.first ≡ next)
     → prefix (is_of s source) calls next ≤ next
     → Moves (is_of s source) calls next [] (is_of s (cond put (Some chosen) source)) (cond put (tune on ∷ calls) calls) next'
-put_moves s put on chosen calls source next next' more is within = grind (arith, stay_moves)
+put_moves s put on chosen calls source next next' more is within = grind arith
 
 more_moves : (mine hit : Bool) (more calls : List Call) (next next' : ℕ) → next ≤ next' → place more ≡ place calls → ((tuning : BigSync) → closes tuning more ≡ closes tuning calls)
     → prefix mine calls next ≤ next → Moves mine calls next [] mine (cond hit more calls) next'
-more_moves mine hit more calls next next' later there same within = grind (arith, stay_moves)
+more_moves mine hit more calls next next' later there same within = grind arith
 
 lost_closes : (gone : Bool) (event bis subevent : ℕ) (octets : List ℕ) (calls : List Call) (tuning : BigSync)
     → closes tuning (unless_lost gone (hear event bis subevent octets) calls) ≡ closes tuning calls
@@ -85,7 +82,7 @@ air_closes airs own lose (suc i) calls tuning = search (lost_closes, air_closes 
 close_moves : (mine its : Bool) (last_open : Option ℕ) (calls calls' : List Call) (next next' : ℕ) → ((event : ℕ) → last_open ≡ Some event → event < next) → next ≤ next'
     → prefix mine calls next ≤ next → (mine ≡ true → calls' ≡ cond its (ticked last_open calls) calls)
     → Moves mine calls next (cond its (closed_if mine calls last_open) []) mine calls' next'
-close_moves mine its last_open calls calls' next next' past more within is = grind (arith, stay_moves, leb-true)
+close_moves mine its last_open calls calls' next next' past more within is = grind (arith, leb-true)
 
 pub open_if : (shut : Bool) (last event : ℕ) → cond shut None (Some last) ≡ Some event → (shut ≡ false) × (last ≡ event)
 open_if shut last event is = grind (arith, none-some, same_Some)
@@ -106,7 +103,7 @@ its_prefix airs s n made = prefix (mine_in s n made) (sink_calls airs n made) (n
 stays_move : (airs : Airs) (s n : ℕ) (step : Step) (earlier : List Step) (next' : ℕ) → StaysBy airs n step earlier → next_in (steps_of_source s earlier) ≤ next'
     → its_prefix airs s n earlier ≤ next_in (steps_of_source s earlier)
     → Moves (mine_in s n earlier) (sink_calls airs n earlier) (next_in (steps_of_source s earlier)) [] (mine_in s n (step ∷ earlier)) (sink_calls airs n (step ∷ earlier)) next'
-stays_move airs s n step earlier next' stays more within = grind (arith, stay_moves, sink_calls, next_in, steps_of_source, is_of)
+stays_move airs s n step earlier next' stays more within = grind (arith, sink_calls, next_in, steps_of_source, is_of)
 
 announced_moves : Announcing → (airs : Airs) (boxes s n sink : ℕ) (earlier : List Step) (next' : ℕ) → Legal airs boxes earlier → Permitted airs boxes earlier (Step.Announce sink)
     → next_in (steps_of_source s earlier) ≤ next' → its_prefix airs s n earlier ≤ next_in (steps_of_source s earlier)

@@ -1,5 +1,5 @@
 -- What is the source's own is read as what was laid.
-use Rattle.scenario_laws.proofs.Known.{ℕ, ◌≡◌, ◌+◌, ltb, List, [], ◌∷◌, ◌++◌, Option, Some, Result, Ok, sym, ◌∙◌, ap, subst, arith, AllByRecursion, none-some, same_Some, Content, PduIs, framed, pdu, Stay, Sent, parts_at, segmented, laid, Slots, air_at, FromSource, unframed, ◌<◌, ◌≤◌, true, refl, unwrap_or, Group, Air, payload_number, AreAirs, airs_of, content_at, pdu_of, slots_of, Airs, Setup, next_of, IsChecked, BigSync, stay_on, Step, setup_of, source_calls, is_started, MeetAirs, pdu_read_of as read_of, read_as, taken_of, heard_first, FramedFromSource, Own, SendsOwn, its_airs, SourceCall, Below, Lawful, Settled, checked, group_in, settled, Extends, Within, events_more, StayCall}
+use Rattle.scenario_laws.proofs.Known.{ℕ, ◌≡◌, ◌+◌, ltb, List, [], ◌∷◌, ◌++◌, Option, Some, Result, Ok, sym, ◌∙◌, ap, subst, arith, AllByRecursion, none-some, same_Some, Content, PduIs, framed, pdu, Stay, Sent, parts_at, segmented, laid, Slots, air_at, FromSource, unframed, ◌<◌, ◌≤◌, true, refl, unwrap_or, Group, Air, payload_number, AreAirs, airs_of, content_at, pdu_of, slots_of, Airs, Setup, next_of, IsChecked, BigSync, stay_on, Step, setup_of, source_calls, is_started, MeetAirs, pdu_read_of as read_of, read_as, heard_first, FramedFromSource, Own, SendsOwn, its_airs, SourceCall, Below, Lawful, Settled, checked, group_in, settled, Extends, Within, events_more, StayCall}
 use Rattle.iso_pdu.specs.declared.fault.PduFault.{PduFault}
 use Rattle.iso_pdu.proofs.Citable.{pdu-is, read_of-layout, read_of-encoded}
 

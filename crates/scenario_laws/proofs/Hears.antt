@@ -1,7 +1,7 @@
 -- Each PDU that a sink hears on a stream of its group is the source's own at its payload number, where none is injected.
 use Rattle.scenario_laws.proofs.Known.Sources.{ℕ, zero, suc, ◌≡◌, ◌≢◌, ◌<◌, ◌≤◌, ◌+◌, ◌*◌, ◌/◌, ◌%◌, ◌&&◌, ◌||◌, ◌==◌, cond, ltb, leb, Bool, true, false, List, [], ◌∷◌, Option, Some, refl, sym, ◌∙◌, ap, subst, arith, inl, inr, AllByRecursion, div-lt_iff_lt-mul, and_parts, eqb-true, eqb-false, ltb-false, leb-false, false≢true, mod_below, none-some, Bounds, Content, pdu, laid, payload_number, AreAirs, Airs, Setup, events, next_of, air_fault, Call, tune, hear, BigSync, stay_on, stream_calls, Step, NotOnAir, chosen_of, chosen_steps, steps_of_source, setup_of, source_calls, performed, event_back, is_started, pdu_in, open_event, MeetAirs, position_at, is_lost, is_of, hear_at, unless_lost, heard_on_air, reaches, sink_calls, source_of, positions_of, ticked_if, big_sync_on, air_refusal, injected_since, is_injected, is_tuned, SourceCall, Legal, Permitted, fails_not, maps_none, permitted, Lawful, are_accepted, bounds_in, group_in, lawful, settled, Within, within_before, StaysBy, announced, given_stays, plain_stays, StayCall}
 use Rattle.scenario_laws.proofs.Announced.{Announcing}
-use Rattle.scenario_laws.proofs.Stays.{BeginsBy, IsOn, OnSource, begins_calls, last_not, on_before, on_source, rest_not}
+use Rattle.scenario_laws.proofs.Stays.{IsOn, OnSource, begins_calls, last_not, on_before, on_source, rest_not}
 
 -- each PDU of a stream that these steps of a source sent is the source's own, by what it lays at each number
 abbrev pub SendsOwn : Airs → (ℕ → Content) → BigSync → ℕ → List Step → Type 0

@@ -1,5 +1,5 @@
 -- The valid units that a sink hands up of a source are units that the source accepted, in order.
-use Rattle.scenario_laws.proofs.Known.{ℕ, ◌≡◌, ◌<◌, ◌≤◌, ◌+◌, ◌==◌, cond, leb, Bool, true, false, List, [], ◌∷◌, ◌++◌, length, map, Option, None, Some, refl, sym, ◌∙◌, ap, subst, arith, inl, inr, eq-eqb, cases_Bool, leb-true, false≢true, append-nil, filter-append, BigInfo, Handed, slots_of, Airs, Setup, events, Call, tick, BigSync, handed_at, of_stream, is_in, stay_on, stream_calls, is_member, member_is, Step, chosen_of, steps_of_source, setup_of, source_calls, open_event, MeetAirs, is_of, sink_calls, source_of, ticked, SinkUnit, handed_by, closed_by, given_since_made, handed_since, injected_since, is_given, is_injected, is_made, is_tuned, of_sink, shown_since, InSourceOrder, valid_in, laid_events, unframed_units_of as units_of, SourceCall, source_stream, place, closes, Announcing, Below, Legal, legal, lawful, true_not_false, Within, events_more, next_in, next_rises, within_before, within_itself, IsOn, OnSource, TunedTo, last_not, not_in_stay, on_since_made, on_source, rest_not, handed_open, shown_by, shown_if, step_shown, end_ticks, event_ticks, is_its, climbs, event_of, prefix, prefix_of, its_prefix, mine_in, open_before, on_whole, shown_on, tick_hands, tick_others, climb_up}
+use Rattle.scenario_laws.proofs.Known.{ℕ, ◌≡◌, ◌<◌, ◌≤◌, ◌+◌, ◌==◌, cond, leb, Bool, true, false, List, [], ◌∷◌, ◌++◌, length, map, Option, None, Some, refl, sym, ◌∙◌, ap, subst, arith, inl, inr, eq-eqb, cases_Bool, leb-true, false≢true, append-nil, filter-append, BigInfo, Handed, slots_of, Airs, Setup, events, Call, tick, BigSync, handed_at, of_stream, is_in, stay_on, stream_calls, is_member, member_is, Step, chosen_of, steps_of_source, setup_of, source_calls, open_event, MeetAirs, is_of, sink_calls, source_of, ticked, SinkUnit, handed_by, closed_by, given_since_made, handed_since, injected_since, is_given, is_injected, is_made, is_tuned, of_sink, shown_since, InSourceOrder, valid_in, laid_events, unframed_units_of as units_of, SourceCall, source_stream, place, closes, Below, Legal, legal, lawful, true_not_false, Within, events_more, next_in, next_rises, within_before, within_itself, IsOn, OnSource, TunedTo, last_not, not_in_stay, on_since_made, on_source, rest_not, handed_open, shown_by, shown_if, step_shown, end_ticks, event_ticks, is_its, climbs, event_of, prefix, prefix_of, its_prefix, mine_in, open_before, on_whole, shown_on, tick_hands, tick_others, climb_up}
 use Rattle.scenario_laws.proofs.UnitsLaw.{slot_short}
 use Rattle.scenario_laws.proofs.Closes.{closing, moved}
 use Rattle.scenario_laws.proofs.Numbers.{laid_least, Ordered, ordered_none, ordered_later, ordered_more, close_batch}

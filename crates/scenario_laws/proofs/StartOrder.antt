@@ -1,9 +1,10 @@
 -- The entries that a stay on a framed stream decides, each of a start that was heard in it, in the order of these starts.
-use Rattle.scenario_laws.proofs.Known.{ℕ, zero, suc, ◌≡◌, ◌<◌, ◌≤◌, ◌+◌, ◌-◌, ◌*◌, ◌/◌, Bool, List, [], ◌∷◌, ◌++◌, map, Option, Some, None, refl, sym, ◌∙◌, ap, subst, arith, inl, inr, append_assoc, slice_get, AllZip, flat_map, range_with_len, add-mul, zero-add, div-mul-add, Part, start, Handed, Stay, opened, decided, event_tokens, heard_in, closed_end, Token, time_of, token_of, tokens_of, Fate, undecided, fate_at, units, opened_least, bis_of, AreInOrder, IsBefore, SegmentPlace, all_zip_append, time_in, ◌||◌, is_some, false, Contains, list_any, div-mul-le_self, mul-le-mul, cases_Bool, append-nil, list_any-append, BigInfo, Setup, next_of, BigSync, of_stream, is_in, stay_on, streams_of, is_member, member_is, Step, steps_of_source, setup_of, source_calls, Airs, sink_calls, Closed, InStartOrder, IsOfStart, calls_on, given_since_made, is_given, is_made, is_tuned, shown_since, more as further, framed_handed_of as handed_of, SourceCall, ticked_since, Below, Legal, true_not_false, Within, next_in, within_before, within_itself, IsOn, OnSource, TunedTo, on_source, rest_not, StayCall, made_alike}
+use Rattle.scenario_laws.proofs.Known.{ℕ, zero, suc, ◌≡◌, ◌<◌, ◌≤◌, ◌+◌, ◌-◌, ◌*◌, ◌/◌, Bool, List, [], ◌∷◌, ◌++◌, map, Option, Some, None, refl, sym, ◌∙◌, ap, subst, arith, inl, inr, append_assoc, slice_get, AllZip, flat_map, range_with_len, add-mul, zero-add, div-mul-add, Part, start, Handed, Stay, opened, decided, event_tokens, heard_in, closed_end, Token, time_of, token_of, tokens_of, Fate, undecided, fate_at, units, opened_least, bis_of, AreInOrder, IsBefore, SegmentPlace, all_zip_append, time_in, ◌||◌, is_some, false, Contains, list_any, div-mul-le_self, mul-le-mul, cases_Bool, append-nil, list_any-append, BigInfo, Setup, next_of, BigSync, of_stream, is_in, stay_on, streams_of, is_member, member_is, Step, steps_of_source, setup_of, source_calls, Airs, sink_calls, Closed, InStartOrder, IsOfStart, calls_on, given_since_made, is_given, is_made, is_tuned, shown_since, more as further, framed_handed_of as handed_of, SourceCall, ticked_since, Below, Legal, true_not_false, Within, next_in, within_before, within_itself, IsOn, OnSource, TunedTo, on_source, rest_not, StayCall, made_alike, length, Account, steps_of, OrderLaw, StepsInOrder, legal, closes_rise, slots_are_shown}
 use Rattle.scenario_laws.proofs.UnitsLaw.{since}
 use Rattle.scenario_laws.proofs.FramedStays.{heard_least, next_of_whole, opened_within, stay_on_whole}
-use Rattle.scenario_laws.proofs.UnitOrder.{event_below, start_time_is}
+use Rattle.scenario_laws.proofs.UnitOrder.{event_below, start_time_is, entries_in_order}
 use Rattle.scenario_laws.proofs.StaysInTurn.{OverStay, Turns, closed_from, over_stays}
+use Rattle.scenario_laws.proofs.InOrder.{units_in_order}
 
 -- ---- places in order, between two payload numbers
 
@@ -358,3 +359,14 @@ starts_in_order below airs boxes s n bis made legal is_framed source_within sink
     let all = over_stays (Claim airs made s n bis) (Fine airs boxes s n made) airs boxes s n bis turns made
     (record { legal_is = legal; within = within_itself (steps_of_source s made); ungiven = ungiven; goes = record { later = []; split = refl; same_sink = refl } }) in
     record { places = all.places; order = grind (arith, behind_order); each = all.each }
+
+-- ---- the order law, of both framings
+
+pub stays_in_order : Below → StepsInOrder
+stays_in_order below airs meets boxes made lawful_steps s n source_below ungiven =
+    search (closes_rise, slots_are_shown, starts_in_order, units_in_order, entries_in_order)
+
+pub order_law_holds : Below → (starts : List Account) → OrderLaw starts
+order_law_holds below starts airs meets lines accepted s n source_below ungiven =
+    stays_in_order below airs meets (length starts) (steps_of airs lines) (legal below.in_range airs starts lines accepted) s n source_below
+    ungiven

@@ -1,5 +1,5 @@
 -- The entries of a framed stream over all stays of a sink with a source: each is of a unit that the source accepted, in order.
-use Rattle.scenario_laws.proofs.Known.{ℕ, suc, ◌≡◌, ◌⊎◌, ◌<◌, ◌≤◌, ◌+◌, ◌-◌, ◌*◌, ◌/◌, true, false, List, [], ◌∷◌, ◌++◌, map, Some, refl, sym, ◌∙◌, ap, subst, arith, inl, inr, slice_get, Contains, add-mul, mul-le-mul, cases_Bool, append-nil, div-mul-add, BigInfo, iso_us_of, Handed, valid, lost, Air, opened, Timed, accepted, layings_of, IsOf, Sent, closed_end, entry_of, is_heard, struck, time_of, cases_low, opened_least, framed_reference_of, Setup, framed_calls, next_of, BigSync, bis_of, of_stream, is_in, stay_on, streams_of, is_member, member_is, Step, steps_of_source, is_started, setup_of, source_calls, Airs, MeetAirs, sink_calls, AreSent, InUnitOrder, IsOfUnit, IsSentAs, by_payload, time_in, whole_stay, Closed, air_in, calls_on, given_since_made, injected_since, is_given, is_injected, is_made, is_tuned, shown_since, octets_in, SourceCall, ticked_since, anchor_in, Below, Legal, Lawful, lawful, true_not_false, Within, goes, next_in, within_before, within_itself, OnSource, TunedTo, on_source, rest_not, climbs, laid_by, StayCall, render_same}
+use Rattle.scenario_laws.proofs.Known.{ℕ, suc, ◌≡◌, ◌<◌, ◌≤◌, ◌+◌, ◌-◌, ◌*◌, ◌/◌, true, false, List, [], ◌∷◌, ◌++◌, map, Some, refl, sym, ◌∙◌, ap, subst, arith, inl, inr, slice_get, Contains, add-mul, mul-le-mul, cases_Bool, append-nil, div-mul-add, BigInfo, iso_us_of, Handed, Air, opened, Timed, accepted, layings_of, IsOf, Sent, closed_end, entry_of, is_heard, struck, time_of, cases_low, opened_least, framed_reference_of, Setup, framed_calls, next_of, BigSync, bis_of, of_stream, is_in, stay_on, streams_of, is_member, member_is, Step, steps_of_source, is_started, setup_of, source_calls, Airs, MeetAirs, sink_calls, AreSent, InUnitOrder, IsOfUnit, IsSentAs, by_payload, time_in, whole_stay, Closed, air_in, calls_on, given_since_made, injected_since, is_given, is_injected, is_made, is_tuned, shown_since, SourceCall, ticked_since, anchor_in, Below, Legal, Lawful, lawful, true_not_false, Within, goes, next_in, within_before, within_itself, OnSource, TunedTo, on_source, rest_not, climbs, laid_by, StayCall, render_same}
 use Rattle.scenario_laws.proofs.UnitsLaw.{since}
 use Rattle.scenario_laws.proofs.InOrder.{clean_stay}
 use Rattle.scenario_laws.proofs.FramedStays.{FramedWhole, laid_end, sent_in_order, heard_least, mul_least, next_of_whole, opened_within, same_air, stay_decided, stay_on_whole, taken_within, whole_units}

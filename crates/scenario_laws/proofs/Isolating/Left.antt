@@ -40,15 +40,12 @@ pub record Quiet (step : Step) : Type 0 where
 quiet : (n : ℕ) (step : Step) → is_other n (sink_in step) ≡ true → Quiet step
 quiet n step other = grind (arith, false≢true)
 
-source_other : (n : ℕ) (step : Step) (made : List Step) → is_other n (sink_in step) ≡ true → source_of n (step ∷ made) ≡ source_of n made
-source_other n step made other = grind (arith, pass)
-
 box_other : (n : ℕ) (step : Step) (made : List Step) → is_other n (sink_in step) ≡ true → box_of n (step ∷ made) ≡ box_of n made
 box_other n step made other = grind (arith, pass)
 
 pub another_sink : (airs : Airs) (s n : ℕ) (step : Step) (made : List Step) → is_other n (sink_in step) ≡ true → Leaves airs s n step made
 another_sink airs s n step made other =
-    grind (arith, quiet, said_stays, lives_equal, source_other, box_other, pass, false≢true)
+    grind (arith, quiet, said_stays, lives_equal, box_other, pass, false≢true)
 
 -- ---- a line that means another source, and puts the sink on no train and no group, changes nothing of the sink and of the source
 

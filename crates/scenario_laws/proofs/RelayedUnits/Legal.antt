@@ -2,7 +2,7 @@
 -- source 0 is permitted behind them as before.
 use Rattle.scenario_laws.proofs.Known.Sources.Steps.Prelude.{ℕ, ◌≡◌, ◌≤◌, ◌||◌, ◌∙◌, not, cond, Bool, true, false, List, [], ◌∷◌, length, leb, ltb, Option, None, Some, refl, ap, arith, option_or, eqb-true, false≢true, ltb-false, none-some, IsInRange, Step, Airs, UnitFault, Refusal, fails_not, maps_none, permitted, is_misplaced, is_out_of_phase, refusal_of, refuse_if, source_refusal, setup_of, Stage, chosen_of, chosen_steps, is_over, is_over_at, is_unbegun, is_unbegun_at, stage_of, steps_of_source, version_at, Offer, after_offer, after_offers, closes_first, dropped_for, happened, offers_at, with_relayed_unit_unless, with_relayed_units, AreLegal, AreSaidLegally, neither}
 use Rattle.scenario_laws.proofs.RelayedUnits.Left.{left_by_offers}
-use Rattle.scenario_laws.proofs.RelayedUnits.Refused.{line_passes}
+use Rattle.scenario_laws.proofs.RelayedUnits.One.{line_passes}
 
 -- ---- the scenario is under way
 

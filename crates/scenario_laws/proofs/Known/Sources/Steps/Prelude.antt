@@ -139,7 +139,7 @@ pub use Rattle.delegator_history.specs.LastGiven.{last_given as last_given_in}
 pub use Rattle.delegator_history.specs.Steps.{Done}
 unfoldable pub use Rattle.iso_pdu.specs.Reading.{read_of as pdu_read_of, parts_from}
 pub use Rattle.isoal_base.proofs.Citable.{heard_first}
-pub use Rattle.isoal_base.specs.Hearing.{read_as, taken_of}
+pub use Rattle.isoal_base.specs.Hearing.{read_as}
 pub use Rattle.isoal_unframed.specs.State.Windows.{time_of as window_time_of, handed_of as window_handed_of}
 pub use Rattle.scenario_text.proofs.Citable.{nil_octets, cons_octets, text_again}
 pub use Rattle.scenario_words.specs.Reading.{Left, at_place}
