@@ -1,7 +1,6 @@
 -- The steps of lines of which none was refused, and what happens by them: each is in range, and no refusal holds of it after those
 -- before it.
 use Rattle.scenario_laws.proofs.Known.Sources.Steps.{ℕ, ◌≡◌, List, [], ◌∷◌, length, None, Some, Ok, arith, TextLine, Account, Accepted, Step, IsInRange, happened, Airs, a_step, nothing, unsaid, said_in, steps_of, with_said, refusal_said, rules_of, AreLegal, AreSaidLegally, read_of, Said, said_of, happens_legally, ◌≢◌, ◌≤◌, ◌==◌, cond, true, Option, cases_eq, cond-false, cond-true, eq-eqb, ne_eqb, eqb-true, false≢true, Call, chosen_of, is_of, ticked, ticked_if}
-use Rattle.scenario_history.proofs.Citable.{Permitted, fails_not, maps_none, neither, permitted}
 
 abbrev pub Legal : Airs → ℕ → List Step → Type 0
 Legal airs boxes steps = AreLegal airs boxes steps

@@ -1,5 +1,5 @@
 -- What is said of a source, looked back for: eight facts, of which all else that sinks and lines take of it are functions.
-use Rattle.scenario_laws.proofs.Known.Sources.Steps.Prelude.{arith, ℕ, zero, suc, ◌≡◌, ◌-◌, ◌%◌, ◌^◌, ◌==◌, ◌||◌, ◌∙◌, not, cond, Bool, false, List, [], ◌∷◌, Option, None, Some, ap, unwrap_or, option_or, train_of, Endpoint, Cipher, Call, hear, BigSync, control, pdu, BaseLine, subgroups_in, Step, base_from, base_lines, with_base_line, Position, hear_at, heard_on_air, is_lost, position_at, positions_of, unless_lost, GroupLine, Phase, absent, cipher_given, cipher_of, end_pdu, event_back, group_given, Airs, pdu_of, stale_of, group_of, ident_of, identity_given, is_ahead_in, is_sending_at, no_group, no_identity, open_event, pdu_in, phase_given, setup_from, setup_of, source_calls, stale_in, start_given, start_of, with_source_call, Stage, chosen_of, chosen_steps, is_of_source, is_over_at, last_given, stage_after, stage_of, steps_of_source, version_at, big_sync_on, source_at, Source, Setup, events, next_anchor_of, next_of, with_cipher, Identity, SourceCall, event as perform}
+use Rattle.scenario_laws.proofs.Known.Sources.Steps.Prelude.{arith, ℕ, zero, suc, ◌≡◌, ◌-◌, ◌%◌, ◌^◌, ◌==◌, ◌||◌, ◌∙◌, not, cond, Bool, false, List, [], ◌∷◌, Option, None, Some, ap, unwrap_or, option_or, train_of, Endpoint, Cipher, Call, hear, control, pdu, BaseLine, subgroups_in, Step, base_from, base_lines, with_base_line, Position, hear_at, heard_on_air, is_lost, position_at, positions_of, unless_lost, GroupLine, Phase, absent, cipher_given, cipher_of, end_pdu, event_back, group_given, Airs, pdu_of, stale_of, group_of, ident_of, identity_given, is_ahead_in, is_sending_at, no_group, no_identity, open_event, pdu_in, phase_given, setup_from, setup_of, source_calls, stale_in, start_given, start_of, with_source_call, Stage, chosen_of, chosen_steps, is_of_source, is_over_at, last_given, stage_after, stage_of, steps_of_source, version_at, big_sync_on, source_at, Source, Setup, events, next_anchor_of, next_of, with_cipher, Identity, SourceCall, event as perform}
 use Rattle.iso_pdu.specs.Control.{terminate}
 
 pub record Said : Type 0 where
@@ -73,15 +73,6 @@ source_in number said = record {
   };
 }
 
-abbrev tuning_in : ℕ → Said → BigSync
-tuning_in which said = record {
-  info = (setup_in said).info;
-  which = which;
-  first = next_in said;
-  anchor = next_anchor_of (setup_in said) said.calls;
-  delay = (setup_in said).delay;
-}
-
 abbrev open_in : Said → Option ℕ
 open_in said =
     cond (not (is_sending_at (unwrap_or said.phase absent)) || is_over_at said.stage || (events said.calls == 0)) None
@@ -101,7 +92,7 @@ pub pdu_back_same : (airs : Airs) (own own' : List Step) (back bis subevent : �
 pdu_back_same airs own own' back bis subevent same = ap (λ said. pdu_said airs said (back_in said back) bis subevent) same
 
 pub tuning_same : (own own' : List Step) (which : ℕ) → said_of own ≡ said_of own' → big_sync_on own which ≡ big_sync_on own' which
-tuning_same own own' which same = ap (tuning_in which) same
+tuning_same own own' which same = ap (λ said. (source_in 0 said).big_sync which) same
 
 pub hear_same : (airs : Airs) (own own' : List Step) (back : ℕ) (position : Position) → said_of own ≡ said_of own'
     → hear_at airs own (event_back own back) position ≡ hear_at airs own' (event_back own' back) position

@@ -1,6 +1,6 @@
 -- Lines of which none was refused give steps of which none is: relayed units are steps that source 1 takes, and what closes an event of
 -- source 0 is permitted behind them as before.
-use Rattle.scenario_laws.proofs.Known.Sources.Steps.Prelude.{ℕ, ◌≡◌, ◌≤◌, ◌||◌, ◌∙◌, not, cond, Bool, true, false, List, [], ◌∷◌, length, leb, ltb, Option, None, Some, refl, ap, arith, option_or, eqb-true, false≢true, ltb-false, none-some, IsInRange, Step, Airs, UnitFault, Refusal, fails_not, maps_none, permitted, is_misplaced, is_out_of_phase, refusal_of, refuse_if, source_refusal, setup_of, Stage, chosen_of, chosen_steps, is_over, is_over_at, is_unbegun, is_unbegun_at, stage_of, steps_of_source, version_at, Offer, after_offer, after_offers, closes_first, dropped_for, happened, offers_at, with_relayed_unit_unless, with_relayed_units, AreLegal, AreSaidLegally, neither}
+use Rattle.scenario_laws.proofs.Known.Sources.Steps.Prelude.{ℕ, ◌≡◌, ◌≤◌, ◌||◌, ◌∙◌, not, cond, Bool, true, false, List, [], ◌∷◌, length, leb, ltb, Option, None, Some, refl, ap, arith, option_or, eqb-true, false≢true, ltb-false, none-some, IsInRange, Step, Airs, UnitFault, Refusal, fails_not, maps_none, permitted, is_misplaced, refusal_of, refuse_if, setup_of, chosen_of, chosen_steps, is_over, is_over_at, is_unbegun, is_unbegun_at, stage_of, steps_of_source, Offer, after_offer, after_offers, closes_first, dropped_for, happened, offers_at, with_relayed_unit_unless, with_relayed_units, AreLegal, AreSaidLegally, neither}
 use Rattle.scenario_laws.proofs.RelayedUnits.Left.{left_by_offers}
 use Rattle.scenario_laws.proofs.RelayedUnits.One.{line_passes}
 
@@ -75,13 +75,6 @@ legal_if : (closes : Bool) (airs : Airs) (boxes : ℕ) (made : List Step) → Ar
 legal_if closes airs boxes made legal runs = grind (arith, all_legal)
 
 -- ---- the step behind them
-
--- why a step that closes an event is refused, of the stage of the scenario and of the steps of the source
-abbrev close_refusal : Airs → Step → Stage → List Step → Option Refusal
-close_refusal airs step stage own =
-    option_or (refuse_if (is_over_at stage) Refusal.AfterEnd)
-    (option_or (refuse_if (is_misplaced stage step || is_out_of_phase own step) Refusal.Order)
-    (option_or (source_refusal airs (version_at stage) own step) None))
 
 chosen_alike : (made others : List Step) → chosen_of others ≡ chosen_of made → steps_of_source 0 others ≡ steps_of_source 0 made
     → chosen_of made ≡ 0 → chosen_steps others ≡ chosen_steps made
