@@ -1,5 +1,5 @@
 -- What a sink hands up on a stream of a source is one entry for each slot of each event of it that the sink closed.
-use Rattle.scenario_laws.proofs.Known.Sources.{ℕ, zero, suc, ◌≡◌, ◌<◌, ◌≤◌, ◌+◌, ◌-◌, ◌*◌, cond, leb, eqb, Bool, true, false, List, [], ◌∷◌, ◌++◌, map, Option, None, Some, refl, sym, ◌∙◌, ap, subst, arith, inl, inr, AllZip, Contains, range_with_len, add-mul, cases_Bool, cond-true, append-nil, append_cancel_left, filter-append, BigInfo, per_event_of, iso_us_of, Handed, anchor_of, unframed_reference_of, render_of, Stay, opened, handed, numbers_of, unit_at, unit_of, all_zip_append, Setup, Call, tick, BigSync, bis_of, handed_at, of_stream, is_in, stay_on, stream_calls, streams_of, is_member, member_is, Step, steps_of_source, setup_of, source_calls, Airs, is_of, sink_calls, source_of, SinkUnit, handed_by, Closed, closed_by, closed_in, closed_since, IsOfSlot, given_since_made, handed_since, is_given, is_made, of_sink, shown_since, slots_closed, time_in, whole_stay, unframed_heard_in as heard_in, unframed_units_of as units_of, window_handed_of as handed_of, window_time_of as time_of, SourceCall, place, ticked_by_sink as ticked_by, ticked_since, closes, closed_if, Legal, true_not_false, Within, within_before, within_itself, of_sink_on, shown_by, shown_if, step_shown, is_its, StayCall}
+use Rattle.scenario_laws.proofs.Known.Sources.{ℕ, zero, suc, ◌≡◌, ◌<◌, ◌≤◌, ◌+◌, ◌-◌, ◌*◌, cond, leb, eqb, Bool, true, false, List, [], ◌∷◌, ◌++◌, map, Option, None, Some, refl, sym, ◌∙◌, ap, subst, arith, inl, inr, AllZip, Contains, range_with_len, add-mul, cases_Bool, cond-true, append-nil, append_cancel_left, filter-append, BigInfo, per_event_of, iso_us_of, Handed, anchor_of, unframed_reference_of, render_of, Stay, opened, handed, numbers_of, unit_at, unit_of, all_zip_append, Setup, Call, tick, BigSync, bis_of, handed_at, of_stream, is_in, stay_on, stream_calls, streams_of, is_member, member_is, Step, steps_of_source, setup_of, source_calls, Airs, is_of, sink_calls, source_of, SinkUnit, handed_by, Closed, closed_by, closed_in, closed_since, IsOfSlot, given_since_made, handed_since, is_given, is_made, of_sink, shown_since, slots_closed, time_in, whole_stay, unframed_heard_in as heard_in, unframed_units_of as units_of, window_handed_of as handed_of, window_time_of as time_of, SourceCall, place, ticked_by_sink as ticked_by, ticked_since, closes, closed_if, Legal, true_not_false, Within, within_before, within_itself, shown_by, shown_if, step_shown, is_its, StayCall, handed_append}
 use Rattle.std.proofs.lemmas.Grind.{flat_map-append}
 use Rattle.scenario_laws.proofs.Announced.{Announcing}
 use Rattle.scenario_laws.proofs.Below.{Below}
@@ -111,7 +111,7 @@ pub step_zip : Below → (airs : Airs) (s n bis : ℕ) (setup : Setup) (step : S
 step_zip below airs s n bis setup step earlier on plain least within = grind (arith, zip_if, with_zip)
 
 pub shown_on : (s n bis : ℕ) (xs ys : List SinkUnit) → of_stream bis (of_sink s n (xs ++ ys)) ≡ of_stream bis (of_sink s n xs) ++ of_stream bis (of_sink s n ys)
-shown_on s n bis xs ys = grind (arith, of_stream, of_sink_on, filter-append, eqb, bis_of, of_sink)
+shown_on s n bis xs ys = grind (arith, of_stream, handed_append, filter-append, eqb, bis_of, of_sink)
 
 again_zip : (s n bis : ℕ) (setup : Setup) (again : Bool) (closed more : List Closed) (units others : List SinkUnit)
     → (again ≡ false → AllZip (IsOfSlot setup bis) (slots_closed setup bis closed) (of_stream bis (of_sink s n units)))

@@ -1,5 +1,5 @@
 -- The units law of a stay.
-use Rattle.scenario_laws.proofs.Known.{ℕ, zero, suc, ◌≡◌, ◌≤◌, ◌+◌, ◌-◌, ◌==◌, cond, ltb, Bool, false, List, [], ◌∷◌, ◌++◌, length, Option, Some, refl, sym, ◌∙◌, ap, subst, inl, inr, arith, slice_get, AllByRecursion, Contains, eq-eqb, eqb-true, ltb-false, append-nil, none-some, same_Some, BigInfo, Bounds, Account, Handed, before_event, lay, lays, begun, handed, Struck, air_at, slots_of, Airs, Call, tune, hear, BigSync, of_stream, stay_on, streams_of, member_is, Step, chosen_of, chosen_steps, steps_of_source, open_event, setup_of, source_calls, MeetAirs, heard_on_air, is_of, reaches, sink_calls, source_of, positions_of, ticked, ticked_if, unless_lost, big_sync_on, SinkUnit, handed_by, steps_of, IsStayStruck, UnitsLaw, any_since, calls_on, handed_since, injected_since, is_given, is_tuned, of_sink, StreamCall, unframed_accept as accept, unframed_accepted as accepted, SourceCall, source_stream, place, ticked_since, Below, Legal, legal, maps_none, Lawful, Settled, bounds_in, lawful, no_group_yet, settled, within_itself, StaysBy, announced, given_stays, plain_stays, BeginsBy, IsOn, IsThere, OnSource, first_next, last_not, none_given, on_before, on_source, rest_not, all_own, stay_within, handed_open, of_sink_on, shown_by, shown_with, step_shown, second_false, chosen_within, end_ticks, event_ticks, all_push, PutsBy}
+use Rattle.scenario_laws.proofs.Known.{ℕ, zero, suc, ◌≡◌, ◌≤◌, ◌+◌, ◌-◌, ◌==◌, cond, ltb, Bool, false, List, [], ◌∷◌, ◌++◌, length, Option, Some, refl, sym, ◌∙◌, ap, subst, inl, inr, arith, slice_get, AllByRecursion, Contains, eq-eqb, eqb-true, ltb-false, append-nil, none-some, same_Some, BigInfo, Bounds, Account, Handed, before_event, lay, lays, begun, handed, Struck, air_at, slots_of, Airs, Call, tune, hear, BigSync, of_stream, stay_on, streams_of, member_is, Step, chosen_of, chosen_steps, steps_of_source, open_event, setup_of, source_calls, MeetAirs, heard_on_air, is_of, reaches, sink_calls, source_of, positions_of, ticked, ticked_if, unless_lost, big_sync_on, SinkUnit, handed_by, steps_of, IsStayStruck, UnitsLaw, any_since, calls_on, handed_since, injected_since, is_given, is_tuned, of_sink, StreamCall, unframed_accept as accept, unframed_accepted as accepted, SourceCall, source_stream, place, ticked_since, Below, Legal, legal, maps_none, Lawful, Settled, bounds_in, lawful, no_group_yet, settled, within_itself, StaysBy, announced, given_stays, plain_stays, BeginsBy, IsOn, IsThere, OnSource, first_next, last_not, none_given, on_before, on_source, rest_not, all_own, stay_within, handed_open, shown_by, shown_with, step_shown, second_false, chosen_within, end_ticks, event_ticks, all_push, PutsBy, handed_append}
 use Rattle.scenario_laws.proofs.FromSources.{sends_own, from_source}
 use Rattle.scenario_laws.proofs.FramedStays.{framed_law, taken_within}
 
@@ -116,7 +116,7 @@ still_since : (airs : Airs) (boxes s n : ℕ) (step : Step) (earlier : List Step
     → of_sink s n (handed_since (is_tuned n) airs earlier ++ handed_by airs earlier step) ≡ ticked_since (sink_calls airs n (step ∷ earlier))
 still_since airs boxes s n step earlier tuning legal least within never is since grow =
     let begins_not : BeginsBy airs s n step earlier tuning → ⊥ = λ begins. never begins.puts.on begins.puts.by in
-    grind (arith, on_before, of_sink_on, handed_since, is_tuned, handed_by, of_sink, since, sink_calls, step_shown, legal)
+    grind (arith, on_before, handed_append, handed_since, is_tuned, handed_by, of_sink, since, sink_calls, step_shown, legal)
 
 -- a step by which the receivers stay
 stays_since : (airs : Airs) (boxes s n : ℕ) (step : Step) (earlier : List Step) (tuning : BigSync) → StaysBy airs n step earlier → handed_by airs earlier step ≡ []

@@ -1,6 +1,6 @@
 -- Without relays a close prints the units of its sinks in order, and nothing else.
 use Rattle.scenario_laws.proofs.Known.Sources.Steps.{ℕ, zero, suc, ◌≡◌, ◌<◌, ◌≤◌, ◌+◌, ◌==◌, ◌∙◌, Bool, true, false, cond, List, [], ◌∷◌, ◌++◌, map, Option, None, Some, refl, ap, arith, append_assoc, flat_map, range_with_len, eq-eqb, eqb-true, ne_eqb, append-nil, flat_map-append, Call, handed_at, Step, handed_line, Handed, Account, SinkUnit, box_of, closing_at, closing_both, closing_by, closing_in, handed_up, answered_by, closes_first, handed_of, offers_at, close_lines, first_lines, output_of, sums_of, unit_lines, is_of, sink_calls, source_of, open_event, Airs, chosen_of, steps_of_source, PrintsUnits, has_relay, sym, subst, inl, inr, list_any, and_right, cases_Bool, false≢true, all_answered, happened, offered_to, offers_before, with_relayed_units, RelayLaw, accepted_on, AreSaidLegally, gives_on, line_refusal, had_relay, relays_to, closing, sink_numbers, answered, passed, no_offers, had_happened, none_offered, all_pass, none_taken, passed_append, step_takes, gives_none, is_free, line_passes, has_had}
-use Rattle.scenario_laws.proofs.RelayedUnits.Offered.{flat_one, handed_append, all_offered}
+use Rattle.scenario_laws.proofs.RelayedUnits.Offered.{flat_one, handed_append, all_offered, not_handed}
 
 -- ---- lists
 
@@ -27,15 +27,10 @@ pub own_handed : (n box : ℕ) (units : List Handed)
 own_handed n box [] = refl
 own_handed n box (unit ∷ units) = rw (eq-eqb n n refl) (ap (λ l. unit ∷ l) (own_handed n box units))
 
-other_handed : (n m box : ℕ) (units : List Handed) → (m == n) ≡ false
-    → handed_of 0 n (map (λ unit. record { source = 0; sink = m; box = box; unit = unit }) units) ≡ []
-other_handed n m box [] other = refl
-other_handed n m box (unit ∷ units) other = rw other (other_handed n m box units other)
-
 pub other_in : (its : Bool) (event n m : ℕ) (calls : List Call) (box : Option ℕ) → (m == n) ≡ false
     → handed_of 0 n (cond its (closing_in 0 event m calls box) []) ≡ []
 other_in true event n m calls None other = refl
-other_in true event n m calls (Some box) other = other_handed n m box (handed_at calls event) other
+other_in true event n m calls (Some box) other = not_handed 0 n 0 m box (handed_at calls event) other
 other_in false event n m calls box other = refl
 
 pub lines_map : (n box : ℕ) (units : List Handed)
