@@ -124,13 +124,11 @@ module _ {A : Type 0} {olds news : List A} {starts accounts : List Account} {lin
 
   pub unassigned_out : (after : List A) → ((history : List TextLine) → RunTo starts history counts machine accounts → UnassignedSame (steps_of airs_of history) news after)
       → UnassignedRun starts lines olds after
-  unassigned_out after unassigned = record {
-    earlier = r.history;
-    later = map plain left;
-    split = r.whole;
-    accepted = r.run.accepted;
-    same = λ box least. unassigned r.history r.run box least ∙ r.unassigned box least;
-  }
+  unassigned_out after unassigned =
+      let same : UnassignedSame (steps_of airs_of r.history) olds after =
+      λ box least. unassigned r.history r.run box least ∙ r.unassigned box least in
+      let split = r.whole in
+      search
 
   pub stops_here : PrefixTaken starts accounts lines
   stops_here =
@@ -169,17 +167,11 @@ module _ {A : Type 0} {olds news : List A} {starts accounts : List Account} {lin
       boxes = took_as starts ends _ _ (sym (units_refused starts r.history r.run.accepted lines (plain line) (map plain later) reason split_at f.because))
           (took_at starts accounts ends (handed_up airs_of (steps_of airs_of r.history)) f.same took);
     }
-    ends_here ends new counts' endings.OutletFault f = record {
-      earlier = r.history;
-      line = plain line;
-      later = map plain later;
-      comes = split_at;
-      accepted = (r.run.accepted, f.0);
-      accounts = accounts;
-      before = took_as starts accounts _ _ (sym (units_all starts r.history r.run.accepted)) took;
-      told = f.1.0;
-      fails = f.1.1;
-    }
+    ends_here ends new counts' endings.OutletFault f =
+        let comes = split_at in
+        let accepted : Accepted (rules_of airs_of starts) (plain line ∷ r.history) = (r.run.accepted, f.0) in
+        let before = took_as starts accounts _ _ (sym (units_all starts r.history r.run.accepted)) took in
+        search
     ends_here ends new counts' endings.Memory (inl same) = subst (λ a. PrefixTaken starts a lines) (sym same) stops_here
     ends_here ends new counts' endings.Memory (inr cut) =
         let before = handed_up airs_of (steps_of airs_of r.history) in
