@@ -37,13 +37,13 @@ handed_happened airs earlier step =
 
 -- ---- what is said of a source, but for its units
 
-record Told : Type 0 where
-  group : Option GroupLine
-  start : Option ℕ
-  ident : Option Identity
-  cipher : Option Cipher
-  lines : List BaseLine
-  performed : ℕ
+pub record Told : Type 0 where
+  pub group : Option GroupLine
+  pub start : Option ℕ
+  pub ident : Option Identity
+  pub cipher : Option Cipher
+  pub lines : List BaseLine
+  pub performed : ℕ
 
 abbrev told_of : List Step → Told
 told_of own = record {
@@ -66,8 +66,8 @@ anchor_in told =
     anchor_of (unwrap_or told.group no_group).origin (first_in told) (next_in told) (iso_us_of (unwrap_or told.group no_group).info)
 
 -- the source that a line means, of its number and of this
-abbrev source_in : ℕ → Told → Source
-source_in number told = record {
+abbrev pub source_told : ℕ → Told → Source
+source_told number told = record {
   number = number;
   address_type = (unwrap_or told.ident no_identity).address_type;
   sid = (unwrap_or told.ident no_identity).sid;
@@ -128,8 +128,8 @@ source_after_relays : (airs : Airs) (step : Step) (earlier : List Step)
 source_after_relays airs step earlier =
     let made = happened airs earlier in
     let after_relays = with_relayed_units airs made step in
-    ap (λ c. source_in c (told_of (steps_of_source c after_relays))) ((left_by_relayed_units airs made step).chosen ∙ chosen_happened airs earlier)
-    ∙ ap (source_in (chosen_of earlier))
+    ap (λ c. source_told c (told_of (steps_of_source c after_relays))) ((left_by_relayed_units airs made step).chosen ∙ chosen_happened airs earlier)
+    ∙ ap (source_told (chosen_of earlier))
     (offers_told (chosen_of earlier) airs (offers_before airs made step) made ∙ told_happened (chosen_of earlier) airs earlier)
 
 -- ---- a sink
