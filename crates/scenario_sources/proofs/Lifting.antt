@@ -1,5 +1,5 @@
 -- The sources after a step that means one of them.
-use Rattle.scenario_sources.proofs.Prelude.{◌≡◌, ◌≢◌, ℕ, ◌<◌, ◌==◌, Bool, true, false, List, ◌∷◌, length, refl, sym, ◌∙◌, ap, eq-eqb, ne_eqb, slice_get, slice_set, get_or, ◌&&◌, arith, Option, None, Some, ◌⊎◌, Result, Ok, Err, get_or_from_slice_get, slice_get-get_or, cases_eq, Refusal, IdentTwice, Stop, Refused, Step, Event, Start, Terminate, chosen_given, chosen_of, chosen_steps, is_of_source, other_of, steps_of_source, identity_of, is_started, get_set_here, get_set_other, refuse_if, Identity, Phase, Sources, fault_in, fault_of, Becomes, IsReady, PhaseAt, PhaseIs, SourcesStand}
+use Rattle.scenario_sources.proofs.Prelude.{◌≡◌, ◌≢◌, ℕ, ◌<◌, ◌-◌, ◌==◌, Bool, true, false, List, ◌∷◌, length, refl, sym, ◌∙◌, ap, eq-eqb, ne_eqb, slice_get, slice_set, get_or, ◌&&◌, arith, Option, None, Some, ◌⊎◌, Result, Ok, Err, get_or_from_slice_get, slice_get-get_or, cases_eq, Refusal, IdentTwice, Stop, Refused, Step, Event, Start, Terminate, chosen_given, chosen_of, chosen_steps, is_of_source, other_of, steps_of_source, identity_of, is_started, get_set_here, get_set_other, refuse_if, Identity, Phase, Sources, fault_in, fault_of, Becomes, IsReady, PhaseAt, PhaseIs, SourcesStand}
 use Rattle.scenario_history.specs.Refusals.{is_ident_twice, twin_refusal}
 use Rattle.source_machine.specs.Setups.{are_twins}
 use Rattle.scenario_sources.specs.declared.performed.Performed.{Performed}
@@ -8,9 +8,9 @@ use Rattle.scenario_sources.specs.Answers.{Answers, Closes, Performs, Terminates
 use Rattle.scenario_sources.specs.State.Phases as state
 
 -- the phase of a source that was read
-pub phase_read : (steps : List Step) (s at : ℕ) (sources : Sources) (phase : Phase) → at ≡ s → s < 2
+pub phase_read : {steps : List Step} {s at : ℕ} {sources : Sources} {phase : Phase} → at ≡ s → s < 2
     → phase ≡ get_or sources.phases.items at phase → SourcesStand steps sources → PhaseIs (steps_of_source s steps) phase
-phase_read steps s at sources phase same below is stands =
+phase_read {sources = sources} same below is stands =
     let two : length sources.phases.items ≡ 2 = sym sources.phases.ok.0 ∙ sources.two in
     grind (arith, length, steps_of_source, slice_get, slice_get-get_or)
 
@@ -20,9 +20,9 @@ pub same_read : (phases : List Phase) (s t : ℕ) (first second : Phase) → s �
 same_read phases s t first second same inside one two = grind (arith, slice_get, slice_get-get_or, get_or_from_slice_get)
 
 -- the phase of the chosen source
-pub chosen_read : (steps : List Step) (at : ℕ) (sources : Sources) (phase : Phase) → at ≡ sources.chosen
+pub chosen_read : {steps : List Step} {at : ℕ} {sources : Sources} {phase : Phase} → at ≡ sources.chosen
     → phase ≡ get_or sources.phases.items at phase → SourcesStand steps sources → PhaseIs (chosen_steps steps) phase
-chosen_read steps at sources phase same is stands = grind (arith, steps_of_source, phase_read)
+chosen_read {sources = sources} same is stands = rw stands.chosen at (phase_read same sources.is_one is stands)
 
 -- the step means the chosen source
 pub record MeansChosen (made : Step) : Type 0 where
@@ -49,12 +49,11 @@ fault_same : (version : ℕ) (steps : List Step) (made : Step) → twin_refusal 
 fault_same version steps made twin fault e = grind arith
 
 -- the phase of the chosen source was read, and one was put in its place
-module _ (steps : List Step) (at : ℕ) (old new : Sources) (was phase : Phase) (same : at ≡ old.chosen)
-    (read : was ≡ get_or old.phases.items at was)
-    (stands : SourcesStand steps old) (chosen : new.chosen ≡ old.chosen) (set : new.phases.items ≡ slice_set old.phases.items at phase)
-        where
+module _ {steps : List Step} {at : ℕ} {old : Sources} {was : Phase} (same : at ≡ old.chosen) (read : was ≡ get_or old.phases.items at was)
+    (stands : SourcesStand steps old) (new : Sources) (phase : Phase) (chosen : new.chosen ≡ old.chosen)
+    (set : new.phases.items ≡ slice_set old.phases.items at phase) where
   here : PhaseIs (chosen_steps steps) was
-  here = chosen_read steps at old was same read stands
+  here = chosen_read same read stands
 
   -- it is a new one
   lifted : (made : Step) → MeansChosen made → PhaseIs (made ∷ chosen_steps steps) phase → SourcesStand (made ∷ steps) new
@@ -78,12 +77,12 @@ module _ (steps : List Step) (at : ℕ) (old new : Sources) (was phase : Phase) 
 
   pub terminates : (version reason : ℕ) (r : Result Terminated Stop)
       → (PhaseIs (chosen_steps steps) was → state.Terminates version (chosen_steps steps) reason phase r)
-          → Terminates version steps reason new r
+      → Terminates version steps reason new r
   terminates version reason (Ok x) b =
-      (fault_same version steps (Terminate reason) refl None (b here).0, lifted (Terminate reason) (grind arith) (b here).1, (b here).2,
-          (b here).3)
-  terminates version reason (Err (Refused cause)) b = (fault_same version steps (Terminate reason) refl (Some cause) (b here).0, again
-      (b here).1)
+      let is = b here in (fault_same version steps (Terminate reason) refl None is.0, lifted (Terminate reason) (grind arith) is.1, is.2,
+          is.3)
+  terminates version reason (Err (Refused cause)) b =
+      (fault_same version steps (Terminate reason) refl (Some cause) (b here).0, again (b here).1)
   terminates version reason (Err _) b = b here
 
   pub closes : (version : ℕ) (made : Step) (r : Result (Option ℕ) Stop) → MeansChosen made → twin_refusal steps made ≡ None
@@ -101,11 +100,15 @@ module _ (steps : List Step) (at : ℕ) (old new : Sources) (was phase : Phase) 
 
 -- ---- start
 
--- the other source was started with the same identity
-pub twice_is : (steps : List Step) (own : Identity) (other : List Step) (r : Bool) → own ≡ identity_of (chosen_steps steps)
-    → other ≡ steps_of_source (other_of (chosen_of steps)) steps
-    → r ≡ (is_started other && are_twins own (identity_of other)) → r ≡ is_ident_twice steps
-twice_is steps own other r is same e = grind (arith, is_started, identity_of, steps_of_source, other_of, chosen_of)
+-- the other source was read, and was started with the same identity
+pub twice_is : {steps : List Step} {at : ℕ} {sources : Sources} {phase : Phase} {own : Identity} {twice : Bool} → at ≡ 1 - sources.chosen
+    → phase ≡ get_or sources.phases.items at phase → SourcesStand steps sources → own ≡ identity_of (chosen_steps steps)
+    → ((other : List Step) → PhaseIs other phase → twice ≡ (is_started other && are_twins own (identity_of other))) → twice
+        ≡ is_ident_twice steps
+twice_is {steps = steps} {sources = sources} same read stands is twice =
+    let other = twice (steps_of_source (1 - sources.chosen) steps) (phase_read same (omega arith) read stands) in
+    let at = stands.chosen in
+    grind (arith, is_started, identity_of, steps_of_source, other_of, chosen_of)
 
 -- all but the proofs of what is always true of them is the same
 pub stands_as : (steps : List Step) (old new : Sources) → SourcesStand steps old → new.chosen ≡ old.chosen → new.phases.items ≡ old.phases.items → SourcesStand steps new

@@ -4,5 +4,4 @@ use Rattle.scenario_sources.proofs.sources.Sources.announce.Goals as goal
 
 pub returns-clause-announces : goal.returns-clause-announces
 returns-clause-announces c steps stands =
-    c.announce.ensures.announces (chosen_steps steps) (chosen_read steps c.from.result c.args.self.now c.index.result.now c.from.ensures
-        c.index.ensures stands)
+    c.announce.ensures.announces (chosen_steps steps) (chosen_read c.from.ensures c.index.ensures stands)

@@ -4,5 +4,4 @@ use Rattle.scenario_sources.proofs.sources.Sources.big_sync.Goals as goal
 
 pub returns : goal.returns
 returns c steps stands =
-    c.big_sync_in.ensures (chosen_steps steps) (chosen_read steps c.from.result c.args.self.now c.index.result.now c.from.ensures
-        c.index.ensures stands)
+    c.big_sync_in.ensures (chosen_steps steps) (chosen_read c.from.ensures c.index.ensures stands)

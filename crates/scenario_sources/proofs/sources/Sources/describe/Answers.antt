@@ -5,7 +5,6 @@ use Rattle.scenario_sources.proofs.sources.Sources.describe.Goals as goal
 
 pub returns : goal.returns
 returns c version steps plain stands =
-    answers steps c.from.result c.args.self.now _ c.index_mut.result.now c.describe.new.phase c.from.ensures c.index_mut.ensures.value
-        stands refl refl
-    version (group_step c.args.info c.args.origin c.args.delay) c.describe.result (grind arith) refl
+    answers c.from.ensures c.index_mut.ensures.value stands _ c.describe.new.phase refl refl version
+    (group_step c.args.info c.args.origin c.args.delay) c.describe.result (grind arith) refl
     (c.describe.ensures version (chosen_steps steps) plain)

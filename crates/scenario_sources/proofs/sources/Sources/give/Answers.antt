@@ -5,7 +5,6 @@ use Rattle.scenario_sources.proofs.sources.Sources.give.Goals as goal
 
 pub returns : goal.returns
 returns c version steps stands =
-    answers steps c.from.result c.args.self.now _ c.index_mut.result.now c.give.new.phase c.from.ensures c.index_mut.ensures.value stands
-        refl refl
-    version (UnitStep c.args.bis c.args.time c.args.octets.now) c.give.result (record { line = λ s steps. refl; chooses = refl }) refl
+    answers c.from.ensures c.index_mut.ensures.value stands _ c.give.new.phase refl refl version
+    (UnitStep c.args.bis c.args.time c.args.octets.now) c.give.result (record { line = λ s steps. refl; chooses = refl }) refl
     (c.give.ensures version (chosen_steps steps))

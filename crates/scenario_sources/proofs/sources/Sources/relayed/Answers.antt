@@ -7,5 +7,4 @@ use Rattle.scenario_sources.proofs.sources.Sources.relayed.Goals as goal
 pub returns : goal.returns
 returns c version steps stands =
     lone_relayed (fault_in version (chosen_steps steps) (UnitStep c.args.bis c.args.time c.args.octets.now)) c.relayed_in.result
-    (c.relayed_in.ensures version (chosen_steps steps)
-    (chosen_read steps c.from.result c.args.self.now c.index.result.now c.from.ensures c.index.ensures stands))
+    (c.relayed_in.ensures version (chosen_steps steps) (chosen_read c.from.ensures c.index.ensures stands))

@@ -5,7 +5,5 @@ use Rattle.scenario_sources.proofs.sources.Sources.stop.Goals as goal
 
 pub returns-clause-closes : goal.returns-clause-closes
 returns-clause-closes c version steps stands =
-    closes steps c.from.result c.args.self.now _ c.index_mut.result.now c.stop.new.phase c.from.ensures c.index_mut.ensures.value stands
-        refl refl
-    version StopStep c.stop.result (record { line = λ s steps. refl; chooses = refl }) refl
-    (c.stop.ensures.closes version (chosen_steps steps))
+    closes c.from.ensures c.index_mut.ensures.value stands _ c.stop.new.phase refl refl version StopStep c.stop.result
+    (record { line = λ s steps. refl; chooses = refl }) refl (c.stop.ensures.closes version (chosen_steps steps))

@@ -4,5 +4,4 @@ use Rattle.scenario_sources.proofs.sources.Sources.taking.Goals as goal
 
 pub returns : goal.returns
 returns c steps stands =
-    c.taking_in.ensures (steps_of_source c.args.source steps)
-    (phase_read steps c.args.source c.from.result c.args.self.now c.index.result.now c.from.ensures (omega arith) c.index.ensures stands)
+    c.taking_in.ensures (steps_of_source c.args.source steps) (phase_read c.from.ensures (omega arith) c.index.ensures stands)
