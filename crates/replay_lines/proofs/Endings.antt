@@ -1,5 +1,5 @@
 -- How a run of a text ends at a line, by what was run and written before it.
-use Rattle.replay_lines.proofs.Prelude.{◌≡◌, ℕ, ◌+◌, Bool, true, false, List, [], ◌∷◌, ◌++◌, length, reverse, refl, sym, ap, ◌∙◌, append_assoc, arith, Option, None, Some, length-append, inl, inr, append-nil, length-reverse, reverse-reverse, false≢true, Keeps, TextLine, lines_of, MayFollow, AppendsPrefix, AppendsShort, Appends-then, AppendsPrefix-then, AppendsPrefix-nothing, Consumes-nothing, Account, airs_of, Airs, Refusal, NoEnd, refusal_line, through, refused, out, end_of, accepted_of, accepted_unless, brought, Accepted, out_accepted, end_accepted, accepted_accepted, is_over, is_over_at, SinkUnit, handed_up, handed_line, took_as, took_history, rules_of, said_of, steps_of, handed_on, out_of, end_after, last_line_after, last_end_after, has_end, transcript_of, transcript_end, units_of, took_all, Ending, Machine, refusal_at, Done, ReadFaulted, brought_by, Broken, Ended, TextIs, RunTo, Refuses}
+use Rattle.replay_lines.proofs.Prelude.{◌≡◌, ℕ, ◌+◌, Bool, true, false, List, [], ◌∷◌, ◌++◌, length, reverse, refl, sym, ap, ◌∙◌, arith, Option, Some, length-append, inl, inr, append-nil, length-reverse, reverse-reverse, false≢true, Keeps, TextLine, lines_of, MayFollow, AppendsPrefix, AppendsShort, Appends-then, AppendsPrefix-then, AppendsPrefix-nothing, Consumes-nothing, Account, airs_of, Refusal, NoEnd, refusal_line, through, refused, out, end_of, accepted_of, brought, Accepted, out_accepted, end_accepted, accepted_accepted, is_over, is_over_at, handed_up, took_as, took_history, rules_of, said_of, steps_of, out_of, end_after, last_line_after, last_end_after, has_end, transcript_of, transcript_end, units_of, took_all, Ending, Machine, refusal_at, Done, ReadFaulted, brought_by, Broken, Ended, TextIs, RunTo, Refuses}
 use Rattle.scenario_laws.proofs.RelayedUnits.Citable.{stage_happened}
 use Rattle.replay_lines.specs.declared.ending.Ending.TheVariants as endings
 
@@ -57,25 +57,6 @@ module _ (starts : List Account) (history : List TextLine) (accepted : Accepted 
 
     pub units_refused : units_of airs_of starts (reverse history ++ line ∷ later) ≡ handed_up airs_of (steps_of airs_of history)
     units_refused = units_then (line ∷ later) ∙ rw because
-
--- ---- the units of further lines
-
--- what further lines hand up, where they are accepted after a history
-pub units_rest : (airs : Airs) (starts : List Account) (history lines : List TextLine)
-    → (rest : List SinkUnit) × (handed_up airs (steps_of airs (accepted_of (rules_of airs starts) history lines)) ≡ handed_up airs (steps_of airs history) ++ rest)
-units_rest airs starts history [] = ([], sym (append-nil (handed_up airs (steps_of airs history))))
-units_rest airs starts history (line ∷ lines) = by ((rules_of airs starts).refusal history line)
-    (units_rest airs starts (line ∷ history) lines)
-  where
-    by : (why : Option Refusal) → (rest : List SinkUnit)
-        × (handed_up airs (steps_of airs (accepted_of (rules_of airs starts) (line ∷ history) lines))
-            ≡ handed_up airs (steps_of airs (line ∷ history)) ++ rest)
-        → (rest : List SinkUnit) × (handed_up airs (steps_of airs
-            (accepted_unless history why (accepted_of (rules_of airs starts) (line ∷ history) lines)))
-        ≡ handed_up airs (steps_of airs history) ++ rest)
-    by (Some reason) more = ([], sym (append-nil (handed_up airs (steps_of airs history))))
-    by None more = (handed_on airs history line ++ more.0, more.1 ∙ ap (λ us. us ++ more.0) (handed_line airs history line)
-        ∙ simp append_assoc)
 
 -- ---- what was run before the line
 

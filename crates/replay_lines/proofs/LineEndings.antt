@@ -2,8 +2,8 @@
 use Rattle.replay_lines.proofs.Prelude.{◌≡◌, ℕ, ◌+◌, Bool, List, [], ◌∷◌, ◌++◌, length, reverse, refl, sym, ap, subst, ◌∙◌, append_assoc, arith, Option, None, Some, Result, Ok, Err, length-append, inl, inr, ◌⊎◌, append-nil, reverse-append, reverse_onto, Appends, TextLine, lines_of, AppendsPrefix, AppendsShort, Appends-then, AppendsPrefix-then, Account, airs_of, Refusal, refusal_line, refused, out, brought, Accepted, handed_up, rules_of, steps_of, handed_on, handed_line, out_of, last_line_after, end_after, has_end, transcript_of, transcript_end, units_of, accounts_after, accounts_append, Took, took_all, Ending, Machine, SinkUnit, BoxFails, CutShort, LinesStand, LineMeets, meets_at, refusal_at, output_at, answered_on, box_fails, took_history, Comes, brought_by, BoxesCut, Broken, FaultCut, LineFails, OutletFaulted, ReadsAhead, TookPrefix, Ended, RunTo, Refuses, Puts, StepRuns, Memory, Refused, OutletFault}
 use Rattle.transcript_text.specs.declared.stop.Stop.{Stop}
 use Rattle.replay_lines.specs.declared.ending.Ending.TheVariants as endings
-use Rattle.replay_lines.proofs.Endings.{out_then, out_all, out_refused, ends_refused, writes_refused, units_then, units_all, units_refused, units_rest, prefix_of_short, prefix_none}
-use Rattle.replay_lines.proofs.Prefixes.{out_more, units_more}
+use Rattle.replay_lines.proofs.Endings.{out_then, out_all, out_refused, ends_refused, writes_refused, units_then, units_all, units_refused, prefix_of_short, prefix_none}
+use Rattle.replay_lines.proofs.Prefixes.{out_more, units_more, units_rest}
 use Rattle.replay_lines.proofs.RefusalLaws.{never_no_end}
 
 -- the units before one went to their boxes, and the box of that one failed

@@ -1,6 +1,6 @@
 -- What a run did over one air it did over any other that gives the same transcripts.
 use Rattle.std.proofs.Common.{arith}
-use Rattle.replay_lines.proofs.Prelude.{◌≡◌, ℕ, Bool, true, List, [], ◌∷◌, reverse, refl, sym, subst, ◌∙◌, Option, None, inl, inr, ◌⊎◌, Appends, TextLine, lines_of, Account, Step, Refusal, Accepted, Took, Said, a_step, nothing, unsaid, refusal_said, rules_of, Airs, out_of, units_of, answered_said, took_as, Ending, CountsStay, AheadOf, Complete, Ended, IsCut, RoomForText, RoomFor, Same, Broken, CutAt, Done, FaultCut, LineFails, NoEndCut, OutletFaulted, ReadFaulted, RefusedAt, WriteCut, brought_by}
+use Rattle.replay_lines.proofs.Prelude.{◌≡◌, ℕ, Bool, true, List, [], ◌∷◌, reverse, refl, sym, subst, ◌∙◌, Option, None, inl, inr, ◌⊎◌, Appends, TextLine, lines_of, Account, Step, Refusal, Accepted, Said, a_step, nothing, unsaid, refusal_said, rules_of, Airs, out_of, answered_said, took_as, Ending, CountsStay, AheadOf, Complete, Ended, IsCut, RoomForText, RoomFor, Same, Broken, CutAt, Done, FaultCut, LineFails, NoEndCut, OutletFaulted, ReadFaulted, RefusedAt, WriteCut, brought_by}
 use Rattle.scenario_history.specs.RelayedUnits.{answered_by}
 use Rattle.scenario_history.specs.Refusals.{line_refusal}
 use Rattle.replay_lines.specs.declared.ending.Ending.TheVariants as endings
@@ -72,9 +72,6 @@ module _ (airs others : Airs) (same : Same airs others) (starts ends : List Acco
   pub ahead_as : (ending : Ending) → AheadOf airs ending starts ends left left' kept kept' → AheadOf others ending starts ends left left' kept kept'
   ahead_as endings.WriteFault d = write_cut_as d
   ahead_as _ d = d
-
-  pub took_text_as : (text : List ℕ) → Took starts ends (units_of airs starts (lines_of true text)) → Took starts ends (units_of others starts (lines_of true text))
-  took_text_as text took = took_as starts ends _ _ (same.units starts (lines_of true text)) took
 
   room_as : (text : List ℕ) → RoomForText others starts text → RoomForText airs starts text
   room_as text room = subst (λ units. RoomFor starts units) (sym (same.units starts (lines_of true text))) room

@@ -1,8 +1,7 @@
 -- What the whole lines of a prefix of a text bring is a prefix of what all lines bring.
 use Rattle.std.proofs.Common.{arith}
-use Rattle.replay_lines.proofs.Prelude.{◌≡◌, ℕ, ◌+◌, Bool, true, false, cond, List, [], ◌∷◌, ◌++◌, length, refl, sym, ap, ◌∙◌, append_assoc, Option, None, Some, append-nil, MayFollow, TextLine, lines_of, Account, Rules, out, out_unless, accepted_of, accepted_unless, brought_by, Step, SinkUnit, handed_up, rules_of, steps_of, Airs, out_of, end_after, has_end, last_line_after, transcript_of, units_of, Refusal}
+use Rattle.replay_lines.proofs.Prelude.{handed_line, handed_on, ◌≡◌, ℕ, ◌+◌, Bool, true, false, cond, List, [], ◌∷◌, ◌++◌, length, refl, sym, ap, ◌∙◌, append_assoc, Option, None, Some, append-nil, MayFollow, TextLine, lines_of, Account, Rules, out, out_unless, accepted_of, accepted_unless, brought_by, Step, SinkUnit, handed_up, rules_of, steps_of, Airs, out_of, end_after, has_end, last_line_after, transcript_of, units_of, Refusal}
 use Rattle.bcast_io.specs.TextLines.{lines_from}
-use Rattle.replay_lines.proofs.Endings.{units_rest}
 
 -- ---- lines
 
@@ -49,10 +48,26 @@ steps_unless airs starts history line why lines =
     steps_of airs (accepted_unless history why (accepted_of (rules_of airs starts) (line ∷ history) lines))
 
 module _ (airs : Airs) (starts : List Account) where
+  -- what further lines hand up
+  pub units_rest : (history lines : List TextLine)
+      → (rest : List SinkUnit) × (handed_up airs (steps_after airs starts history lines) ≡ handed_up airs (steps_of airs history) ++ rest)
+  units_rest history [] = ([], sym (append-nil (handed_up airs (steps_of airs history))))
+  units_rest history (line ∷ lines) = by_refusal ((rules_of airs starts).refusal history line) (units_rest (line ∷ history) lines)
+    where
+      by_refusal : (why : Option Refusal) → (rest : List SinkUnit)
+          × (handed_up airs (steps_after airs starts (line ∷ history) lines) ≡ handed_up airs (steps_of airs (line ∷ history)) ++ rest)
+          → (rest : List SinkUnit) × (handed_up airs (steps_unless airs starts history line why lines)
+              ≡ handed_up airs (steps_of airs history) ++ rest)
+      by_refusal (Some reason) more = ([], sym (append-nil (handed_up airs (steps_of airs history))))
+      by_refusal None more = (
+        handed_on airs history line ++ more.0,
+        more.1 ∙ ap (λ us. us ++ more.0) (handed_line airs history line) ∙ simp append_assoc,
+      )
+
   pub units_more : (history lines later : List TextLine)
       → (rest : List SinkUnit)
       × (handed_up airs (steps_after airs starts history (lines ++ later)) ≡ handed_up airs (steps_after airs starts history lines) ++ rest)
-  units_more history [] later = units_rest airs starts history later
+  units_more history [] later = units_rest history later
   units_more history (line ∷ lines) later =
       by_refusal ((rules_of airs starts).refusal history line) (units_more (line ∷ history) lines later)
     where

@@ -1,11 +1,11 @@
 -- What is promised of a run, from what it did.
 use Rattle.std.proofs.Common.{arith}
-use Rattle.replay_lines.proofs.Prelude.{◌≡◌, ◌≢◌, ℕ, Some, Refusal, IsWhole, List, refl, subst, TextLine, Account, Rose, airs_of, Airs, MeetAirs, transcript_of, Ending, Promised, Did, DidOver, ReadsAtMost, read_limit, AllSame, Laws, World}
+use Rattle.replay_lines.proofs.Prelude.{true, lines_of, took_as, ◌≡◌, ◌≢◌, ℕ, Some, Refusal, IsWhole, List, refl, subst, TextLine, Account, Rose, airs_of, Airs, MeetAirs, transcript_of, Ending, Promised, Did, DidOver, ReadsAtMost, read_limit, AllSame, Laws, World}
 use Rattle.replay_lines.specs.declared.ending.Ending.TheVariants as endings
 use Rattle.replay_lines.proofs.Completing.{ended_whole, ended_ahead, ended_complete}
 use Rattle.replay_lines.proofs.Counting.{ended_counts, ended_one}
 use Rattle.replay_lines.proofs.Endings.{ends_at_once}
-use Rattle.replay_lines.proofs.OtherAirs.{ahead_as, complete_as, counts_as, ended_as, took_text_as}
+use Rattle.replay_lines.proofs.OtherAirs.{ahead_as, complete_as, counts_as, ended_as}
 use Rattle.replay_lines.proofs.ReadingOn.{none_within}
 
 one_of : (boxes : List Account) → Laws boxes → (airs others : Airs) → MeetAirs airs → MeetAirs others → (lines : List TextLine)
@@ -33,8 +33,8 @@ module _ (old new : World) (ending : Ending) where
       counts_as airs_of airs (laws.same airs meets) old.boxes new.boxes old.left new.left old.taken new.taken ending
       (ended_counts old new ending e other) in
       let boxes = λ (airs : Airs) (meets : MeetAirs airs) (text : List ℕ) (is : old.left ≡ Some text) (whole : IsWhole ending).
-      took_text_as airs_of airs (laws.same airs meets) old.boxes new.boxes old.left new.left old.taken new.taken text
-      (ended_whole old new text is ending e whole) in
+      took_as old.boxes new.boxes _ _ ((laws.same airs meets).units old.boxes (lines_of true text))
+          (ended_whole old new text is ending e whole) in
       let complete = λ (airs : Airs) (meets : MeetAirs airs) (text : List ℕ) (is : old.left ≡ Some text).
       complete_as airs_of airs (laws.same airs meets) old.boxes new.boxes old.left new.left old.taken new.taken text
       old.reads new.reads old.writes new.writes ending (ended_complete old new text is ending e read write) in

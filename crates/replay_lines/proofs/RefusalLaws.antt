@@ -2,13 +2,12 @@
 use Rattle.std.proofs.Common.{arith}
 use Rattle.replay_lines.proofs.Prelude.{◌≡◌, ◌≢◌, ℕ, Bool, List, length, Option, None, Some, Result, TextLine, plain, too_long, past, Account, airs_of, Refusal, NoSuchSink, NoEnd, Step, version_of, box_of, said_by, said_of, steps_of, refusal_said, refusal_at}
 use Rattle.std.specs.Prelude.{not, is_some}
-use Rattle.std.specs.Option.{option_or, option_map}
-use Rattle.radio_schedule.specs.declared.air.AirFault.{AirFault}
+use Rattle.std.specs.Option.{option_or}
 use Rattle.sink_history.specs.History.{World}
 use Rattle.sink_history.specs.Refusals.{refusal_of as refusal_of_sink, refuse_if}
 use Rattle.scenario_text.specs.declared.step.Step.TheVariants as kinds
 use Rattle.scenario_words.specs.declared.fault.LineFault.{LineFault}
-use Rattle.scenario_history.specs.Refusals.{no_sink, relayed_or, air_refusal, sink_refusal, source_refusal, twin_refusal, refusal_of}
+use Rattle.scenario_history.specs.Refusals.{no_sink, relayed_or, sink_refusal, source_refusal, twin_refusal, refusal_of}
 
 abbrev OtherThan : Option Refusal → Type 0
 OtherThan None = Unit {0}
@@ -19,12 +18,6 @@ other_if b reason other = grind arith
 
 other_or : (p q : Option Refusal) → OtherThan p → OtherThan q → OtherThan (option_or p q)
 other_or p q h k = grind arith
-
-other_map : {X : Type 0} (f : X → Refusal) → ((x : X) → f x ≢ NoEnd) → (o : Option X) → OtherThan (option_map f o)
-other_map f other o = grind arith
-
-other_place : (fault : AirFault) → air_refusal fault ≢ NoEnd
-other_place fault e = grind arith
 
 other_no_sink : (sink : ℕ) (steps : List Step) → OtherThan (no_sink sink steps)
 other_no_sink sink steps = other_if (not (is_some (box_of sink steps))) NoSuchSink (λ e. cc)

@@ -1,4 +1,4 @@
-use Rattle.replay_lines.proofs.Prelude.{◌∙◌, inr, true, Some, ap, map, refl, arith, lines_of, none_run, listened}
+use Rattle.replay_lines.proofs.Prelude.{◌∙◌, Some, ap, map, refl, arith, none_run, listened}
 use Rattle.replay_lines.proofs.Endings.{ends_at_once}
 use Rattle.replay_lines.proofs.Hearing.{wanted_told}
 use Rattle.replay_lines.proofs.ReadingOn.{none_within}
@@ -9,33 +9,21 @@ use Rattle.replay_lines.proofs.lines.run_lines.Goals as goal
 
 pub returns-in_default : goal.returns-in_default
 returns-in_default g c =
-    let boxes = map (λ b. (goal.Outlet-dyn g (b.vtable, b.value)).account b.value) c.args.outlets.now.items in
     let left = g.S.ByteSource.left c.args.source.now in
-    let kept = g.K.ByteSink.contents c.args.sink.now in record {
-      ended = wanted_told g.L.Listener.may_fail (ends_at_once boxes left kept);
-      unassigned = λ text is. none_run boxes (lines_of true text) c.args.outlets.now.items;
-      told = inr (inr (inr (has_none g.L.Listener.row_of (listened g.L.Listener.told g.L.Listener.rows c.args.listener.now c.args.sink.now))));
-      within = none_within left;
-      read_fault = λ e. absurd (cc);
-      no_read_fault = λ e. refl;
-      write_fault = λ e. absurd (cc);
-      no_write_fault = λ e. refl;
-    }
+    let boxes = map (λ b. (goal.Outlet-dyn g (b.vtable, b.value)).account b.value) c.args.outlets.now.items in
+    let ended = wanted_told g.L.Listener.may_fail (ends_at_once boxes left (g.K.ByteSink.contents c.args.sink.now)) in
+    let told = has_none g.L.Listener.row_of (listened g.L.Listener.told g.L.Listener.rows c.args.listener.now c.args.sink.now) in
+    let within = none_within left in
+    grind (arith, none_run)
 
 pub returns-in_default-new : goal.returns-in_default-new
 returns-in_default-new g c =
-    let boxes = map (λ b. (goal.Outlet-dyn g (b.vtable, b.value)).account b.value) c.args.outlets.now.items in
     let left = g.S.ByteSource.left c.args.source.now in
-    let kept = g.K.ByteSink.contents c.args.sink.now in record {
-      ended = wanted_told g.L.Listener.may_fail (ends_at_once boxes left kept);
-      unassigned = λ text is. none_run boxes (lines_of true text) c.args.outlets.now.items;
-      told = inr (inr (inr (has_none g.L.Listener.row_of (listened g.L.Listener.told g.L.Listener.rows c.args.listener.now c.args.sink.now))));
-      within = none_within left;
-      read_fault = λ e. absurd (cc);
-      no_read_fault = λ e. refl;
-      write_fault = λ e. absurd (cc);
-      no_write_fault = λ e. refl;
-    }
+    let boxes = map (λ b. (goal.Outlet-dyn g (b.vtable, b.value)).account b.value) c.args.outlets.now.items in
+    let ended = wanted_told g.L.Listener.may_fail (ends_at_once boxes left (g.K.ByteSink.contents c.args.sink.now)) in
+    let told = has_none g.L.Listener.row_of (listened g.L.Listener.told g.L.Listener.rows c.args.listener.now c.args.sink.now) in
+    let within = none_within left in
+    grind (arith, none_run)
 
 pub returns-in-Some : goal.returns-in-Some
 returns-in-Some g c =
@@ -92,12 +80,4 @@ lines-preserved g c = record {
 }
 
 pub run_line-requires : goal.run_line-requires
-run_line-requires g c = record {
-  before = record {
-    starts = map (λ b. (goal.Outlet-dyn g (b.vtable, b.value)).account b.value) c.args.outlets.now.items;
-    accounts = map (λ b. (goal.Outlet-dyn g (b.vtable, b.value)).account b.value) c.lines.outlets.items;
-    lines = c.lines.invariant.running.lines;
-    is_next = c.lines.invariant.running.is_next;
-    stands = c.lines.invariant.running.run.stands;
-  };
-}
+run_line-requires g c = search

@@ -1,4 +1,4 @@
-use Rattle.replay_lines.proofs.Prelude.{true, map, lines_of, unassigned_run}
+use Rattle.replay_lines.proofs.Prelude.{[], true, lines_of, unassigned_run}
 use Rattle.replay_lines.proofs.Promises.{promised_run}
 use Rattle.replay_lines.proofs.text.run_text.Goals as goal
 
@@ -10,7 +10,5 @@ returns-clause-promised g c =
 
 pub returns-clause-unassigned : goal.returns-clause-unassigned
 returns-clause-unassigned g c text airs is meets =
-    let boxes = map (λ b. (goal.Outlet-dyn g (b.vtable, b.value)).account b.value) c.args.outlets.now.items in
-    unassigned_run airs boxes (lines_of true text) c.args.outlets.now.items c.run_lines.new.outlets.items
-    (((c.laws_hold.ensures boxes).same airs meets).accepted boxes)
-    (c.run_lines.ensures.unassigned text is)
+    unassigned_run airs _ (lines_of true text) _ _ (((c.laws_hold.ensures []).same airs meets).accepted _)
+        (c.run_lines.ensures.unassigned text is)
