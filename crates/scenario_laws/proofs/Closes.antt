@@ -1,5 +1,5 @@
 -- The events of a source that a sink closes rise, over all its stays with the source.
-use Rattle.scenario_laws.proofs.Known.Sources.{ℕ, zero, suc, ◌≡◌, ◌≢◌, ◌<◌, ◌≤◌, ◌+◌, ◌==◌, cond, not, Bool, true, false, List, [], ◌∷◌, ◌++◌, map, Option, None, Some, refl, sym, ap, subst, arith, inl, inr, IsStrictlyIncreasing, cases_Bool, eq-eqb, eqb-true, eqb-false, false≢true, leb-true, or_parts, none-some, same_Some, Call, tune, hear, BigSync, Step, chosen_of, chosen_steps, is_over, steps_of_source, event_back, is_sending, open_event, performed, Airs, heard_on_air, is_of, reaches, sink_calls, source_of, positions_of, ticked, unless_lost, big_sync_on, Closed, closed_by, closed_since, any_since, given_since_made, is_given, is_made, is_tuned, place, closes, closed_if, Legal, Permitted, permitted, StaysBy, announced, given_stays, plain_stays, next_in, next_rises, air_place, end_ticks, event_ticks, is_its}
+use Rattle.scenario_laws.proofs.Known.Sources.{ℕ, zero, suc, ◌≡◌, ◌≢◌, ◌<◌, ◌≤◌, ◌+◌, ◌==◌, cond, not, Bool, true, false, List, [], ◌∷◌, ◌++◌, map, Option, None, Some, refl, sym, ap, subst, arith, inl, inr, IsStrictlyIncreasing, cases_Bool, eq-eqb, eqb-true, eqb-false, false≢true, leb-true, or_parts, none-some, same_Some, Call, tune, hear, BigSync, Step, chosen_of, chosen_steps, is_over, steps_of_source, event_back, is_sending, open_event, performed, Airs, heard_on_air, is_of, reaches, sink_calls, source_of, positions_of, ticked, unless_lost, big_sync_on, Closed, closed_by, closed_since, any_since, given_since_made, is_given, is_made, is_tuned, place, closes, closed_if, Legal, Permitted, permitted, StaysBy, announced, given_stays, plain_stays, next_in, next_rises, air_place, end_ticks, event_ticks, is_its, map-append}
 use Rattle.scenario_laws.proofs.Announced.{Announcing, as_by_hand}
 use Rattle.scenario_laws.proofs.Stays.{IsOn, begins_calls, begins_next, last_not, on_before, rest_not}
 use Rattle.delegator_machine.specs.Groups as machine
@@ -30,10 +30,6 @@ climbs low (x ∷ y ∷ xs) high climb zero below = let next : x + 1 ≤ y = cli
 climbs low (x ∷ y ∷ xs) high climb (suc k) below =
     let next : suc k + 1 ≡ suc (k + 1) = omega arith in
     rw next (climbs (x + 1) (y ∷ xs) high climb.1 k (omega (arith, below)))
-
-map_on : (f : Closed → ℕ) (xs ys : List Closed) → map f (xs ++ ys) ≡ map f xs ++ map f ys
-map_on f [] ys = refl
-map_on f (x ∷ xs) ys = ap (λ zs. f x ∷ zs) (map_on f xs ys)
 
 -- ---- the open event of a sink
 
@@ -172,7 +168,7 @@ closing_on : Announcing → (airs : Airs) (boxes s n : ℕ) (step : Step) (earli
 closing_on laws airs boxes s n step earlier legal ungiven least on before =
     let now = moved laws airs boxes s n step earlier legal ungiven least before.within in
     record {
-      rise = grind (arith, is_made, closed_since, closed_by, false≢true, map_on, climb_on);
+      rise = grind (arith, is_made, closed_since, closed_by, false≢true, map-append, climb_on);
       within = now.within;
     }
 

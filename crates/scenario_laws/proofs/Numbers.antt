@@ -1,6 +1,5 @@
 -- The units of an event by their numbers, and what a close hands of them.
-use Rattle.scenario_laws.proofs.Known.{ℕ, zero, suc, ◌≡◌, ◌<◌, ◌≤◌, ◌+◌, ◌-◌, ◌==◌, min, cond, Bool, false, List, [], ◌∷◌, ◌++◌, length, map, Some, refl, sym, ◌∙◌, ap, subst, arith, inl, inr, slice_get, AllZip, AllByRecursion, range_with_len, cases_eq, eq-eqb, ne_eqb, none-some, slice_get_within, BigInfo, Bounds, per_event_of, horizon_of, Handed, valid, lost, opened, before_event, lay, lays, begun, handed, unit_at, IsStruck, Place, Struck, air_at, closed_slots, begun_within, lays_accepted, all_zip_append, place_of, slots_of, Airs, Setup, give, events, given, laid_with, next_of, prefix_accepted, lays_events, BigSync, bis_of, stay_on, stream_calls, Step, steps_of_source, MeetAirs, sink_calls, injected_since, is_tuned, IsGiven, time_in, valid_in, whole_stay, StreamCall, unframed_accept as accept, unframed_accepted as accepted, laid_events, unframed_units_of as units_of, window_time_of as time_of, SourceCall, event as perform, source_stream, Below, Legal, Settled, bounds_in, lawful, settled, Within, IsOn, OnSource, TunedTo, on_source, Own, all_own, Climb, climb_from, climb_on, slot_time_is, StayCall}
-use Rattle.std.proofs.lemmas.Slice.Zip.{AllZip-long}
+use Rattle.scenario_laws.proofs.Known.{ℕ, zero, suc, ◌≡◌, ◌<◌, ◌≤◌, ◌+◌, ◌-◌, ◌==◌, min, cond, Bool, false, List, [], ◌∷◌, ◌++◌, length, map, Some, refl, sym, ◌∙◌, ap, subst, arith, inl, inr, slice_get, AllZip, AllByRecursion, range_with_len, cases_eq, eq-eqb, ne_eqb, none-some, slice_get_within, BigInfo, Bounds, per_event_of, horizon_of, Handed, valid, lost, opened, before_event, lay, lays, begun, handed, unit_at, IsStruck, Place, Struck, air_at, closed_slots, begun_within, lays_accepted, all_zip_append, place_of, slots_of, Airs, Setup, give, events, given, laid_with, next_of, prefix_accepted, lays_events, BigSync, bis_of, stay_on, stream_calls, Step, steps_of_source, MeetAirs, sink_calls, injected_since, is_tuned, IsGiven, time_in, valid_in, whole_stay, StreamCall, unframed_accept as accept, unframed_accepted as accepted, laid_events, unframed_units_of as units_of, window_time_of as time_of, SourceCall, event as perform, source_stream, Below, Legal, Settled, bounds_in, lawful, settled, Within, IsOn, OnSource, TunedTo, on_source, Own, all_own, Climb, climb_from, climb_on, slot_time_is, StayCall, AllZip-long}
 use Rattle.scenario_laws.proofs.FromSources.{sends_own, from_source}
 
 -- ---- the units of the slots of a stream, by their numbers

@@ -1,5 +1,5 @@
 -- The units law of a stay.
-use Rattle.scenario_laws.proofs.Known.{ℕ, zero, suc, ◌≡◌, ◌≤◌, ◌+◌, ◌-◌, ◌==◌, cond, ltb, Bool, false, List, [], ◌∷◌, ◌++◌, length, Option, Some, refl, sym, ◌∙◌, ap, subst, inl, inr, arith, slice_get, AllByRecursion, Contains, eq-eqb, eqb-true, ltb-false, append-nil, none-some, same_Some, BigInfo, Bounds, Account, Handed, before_event, lay, lays, begun, handed, Struck, air_at, slots_of, Airs, Call, tune, hear, BigSync, of_stream, stay_on, streams_of, member_is, Step, chosen_of, chosen_steps, steps_of_source, open_event, setup_of, source_calls, MeetAirs, heard_on_air, is_of, reaches, sink_calls, source_of, positions_of, ticked, ticked_if, unless_lost, big_sync_on, SinkUnit, handed_by, steps_of, IsStayStruck, UnitsLaw, any_since, calls_on, handed_since, injected_since, is_given, is_tuned, of_sink, StreamCall, unframed_accept as accept, unframed_accepted as accepted, SourceCall, source_stream, place, ticked_since, Below, Legal, legal, maps_none, Lawful, Settled, bounds_in, lawful, no_group_yet, settled, within_itself, StaysBy, announced, given_stays, plain_stays, BeginsBy, IsOn, IsThere, OnSource, first_next, last_not, none_given, on_before, on_source, rest_not, all_own, stay_within, handed_open, shown_by, shown_with, step_shown, second_false, chosen_within, end_ticks, event_ticks, all_push, PutsBy, handed_append}
+use Rattle.scenario_laws.proofs.Known.{ℕ, zero, suc, ◌≡◌, ◌≤◌, ◌+◌, ◌-◌, ◌==◌, cond, ltb, Bool, false, List, [], ◌∷◌, ◌++◌, length, Option, Some, refl, sym, ◌∙◌, ap, subst, inl, inr, arith, slice_get, AllByRecursion, Contains, eq-eqb, eqb-true, ltb-false, append-nil, none-some, BigInfo, Bounds, Account, Handed, before_event, lay, lays, begun, handed, Struck, air_at, slots_of, Airs, Call, tune, hear, BigSync, of_stream, stay_on, streams_of, member_is, Step, chosen_of, chosen_steps, steps_of_source, open_event, setup_of, source_calls, MeetAirs, heard_on_air, is_of, reaches, sink_calls, source_of, positions_of, ticked, ticked_if, unless_lost, big_sync_on, SinkUnit, handed_by, steps_of, IsStayStruck, UnitsLaw, any_since, calls_on, handed_since, injected_since, is_given, is_tuned, of_sink, StreamCall, unframed_accept as accept, unframed_accepted as accepted, SourceCall, source_stream, place, ticked_since, Below, Legal, legal, maps_none, Lawful, Settled, bounds_in, lawful, no_group_yet, settled, within_itself, StaysBy, announced, given_stays, plain_stays, BeginsBy, IsOn, IsThere, OnSource, first_next, last_not, none_given, on_before, on_source, rest_not, all_own, stay_within, handed_open, shown_by, shown_with, step_shown, second_false, chosen_within, end_ticks, event_ticks, all_append, PutsBy, handed_append, one_of}
 use Rattle.scenario_laws.proofs.FromSources.{sends_own, from_source}
 use Rattle.scenario_laws.proofs.FramedStays.{framed_law, taken_within}
 
@@ -24,13 +24,11 @@ short_before most (lay ∷ earlier) event all = search (short_if, short_before m
 
 short_units : (most : ℕ) (calls : List StreamCall) → Short most calls → AllByRecursion (λ unit. length unit ≤ most) (accepted calls)
 short_units most [] all = tt
-short_units most (accept octets ∷ earlier) all = all_push (λ unit. length unit ≤ most) (accepted earlier) octets (short_units most earlier all.1) all.0
+short_units most (accept octets ∷ earlier) all = all_append (λ unit. length unit ≤ most) (accepted earlier) (octets ∷ []) (short_units most earlier all.1) (all.0, tt)
 short_units most (lay ∷ earlier) all = short_units most earlier all
 
 one_short : (most : ℕ) (units : List (List ℕ)) (i : ℕ) (unit : List ℕ) → AllByRecursion (λ unit. length unit ≤ most) units → slice_get units i ≡ Some unit → length unit ≤ most
-one_short most [] i unit all is = absurd (none-some unit is)
-one_short most (first ∷ units) zero unit all is = subst (λ u. length u ≤ most) (same_Some first unit is) all.0
-one_short most (first ∷ units) (suc i) unit all is = one_short most units i unit all.1 is
+one_short most units i unit all is = one_of (λ (u : List ℕ). length u ≤ most) units i unit all is
 
 short_none : (most : ℕ) (info : BigInfo) (bis : ℕ) (calls : List SourceCall) → calls ≡ [] → Short most (source_stream info bis calls)
 short_none most info bis calls none = subst (λ all. Short most (source_stream info bis all)) (sym none) tt

@@ -2,7 +2,7 @@
 use Rattle.scenario_laws.proofs.Known.Sources.Steps.{ℕ, ◌≡◌, ◌≢◌, ◌⊎◌, ◌==◌, ◌&&◌, ◌||◌, ◌∙◌, cond, not, Bool, true, false, List, [], ◌∷◌, ◌++◌, arith, refl, sym, inl, inr, and_parts, eq-eqb, eqb-true, false≢true, not-true, state_at, language, view_of, waits_of, Step, Account, steps_of, Airs, chosen_of, is_common, is_source_line, calls_made, IsIsolated, IsolationLaw, NoOtherPuts, kept_lines, lines_by, lines_of, puts, chooses, is_kept, is_other, is_sink, only, sink_in, notices_same, waiting_same, Same}
 use Rattle.scenario_laws.proofs.Isolating.Left.{elsewhere, another_sink, left_out}
 use Rattle.scenario_laws.proofs.Isolating.Kept.{Means, kept}
-use Rattle.scenario_laws.proofs.Isolating.Printed.{replied_same, lines_same, octets_on as append_same}
+use Rattle.scenario_laws.proofs.Isolating.Printed.{replied_same, lines_same, append_same}
 
 -- ---- why a step is left out
 

@@ -1,5 +1,5 @@
 -- Of what was offered those units pass that weren't dropped, in order: so what is in the order of the one is in the order of the other.
-use Rattle.scenario_laws.proofs.Known.Sources.Steps.Prelude.{ℕ, zero, suc, ◌≡◌, ◌<◌, ◌≤◌, ◌+◌, ◌-◌, Bool, true, false, cond, List, [], ◌∷◌, length, map, slice_get, Some, refl, arith, slice_index, AllZip, Contains, filter, length-map, iso_us_of, sync_delay_of, Air, accepted, Setup, framed_calls, Handed, Step, setup_of, source_calls, Airs, steps_of_source, AreSaidLegally, InUnitOrder, IsOfUnit, Answered, all_answered, happened, offered_to, RelayLaw, offered, InRelayOrder, IsOfOffered, ◌∙◌, ◌++◌, Option, None, sym, ap, map-append, none-some, same_Some, slice_get-map, of_stream, accept, event, given, give, lost, valid, InSourceOrder, IsGiven, is_valid, valid_in, units_on, is_none, Unit as AudioUnit, SourceCall as Call, passed, FramedCall}
+use Rattle.scenario_laws.proofs.Known.Sources.Steps.Prelude.{ℕ, zero, suc, ◌≡◌, ◌<◌, ◌≤◌, ◌+◌, ◌-◌, Bool, true, false, cond, List, [], ◌∷◌, length, map, slice_get, Some, refl, arith, slice_index, AllZip, Contains, filter, length-map, iso_us_of, sync_delay_of, Air, accepted, Setup, framed_calls, Handed, Step, setup_of, source_calls, Airs, steps_of_source, AreSaidLegally, InUnitOrder, IsOfUnit, Answered, all_answered, happened, offered_to, RelayLaw, offered, InRelayOrder, IsOfOffered, ◌∙◌, ◌++◌, Option, None, sym, ap, map-append, none-some, same_Some, slice_get-map, of_stream, accept, event, given, give, lost, valid, InSourceOrder, IsGiven, is_valid, valid_in, units_on, is_none, Unit as AudioUnit, SourceCall as Call, passed, FramedCall, AllZip-long}
 use Rattle.std.proofs.lemmas.List.Kept.{AllPairs-from_increasing}
 use Rattle.scenario_laws.proofs.RelayedUnits.Left.{event_accepts_none}
 
@@ -114,11 +114,6 @@ zip_get R f (number ∷ numbers) (x ∷ xs) zero y all is = record { one = x; ho
 zip_get R f (number ∷ numbers) (x ∷ xs) (suc k) y all is = zip_get R f numbers xs k y all.1 is
 zip_get R f numbers xs k y all is = search (none-some)
 
-zip_long : {A : Type 0} (R : ℕ → A → Type 0) (numbers : List ℕ) (xs : List A) → AllZip R numbers xs → length numbers ≡ length xs
-zip_long R [] [] all = refl
-zip_long R (number ∷ numbers) (x ∷ xs) all = ap suc (zip_long R numbers xs all.1)
-zip_long R numbers xs all = search
-
 -- ---- unframed
 
 of_given : (setup : Setup) (calls : List Call) (bis number : ℕ) (entry : Handed) (unit : AudioUnit) → IsGiven setup calls bis number entry
@@ -129,7 +124,7 @@ pub numbered_slots : (setup : Setup) (calls : List Call) (bis : ℕ) (entries : 
     → InSourceOrder setup calls bis (valid_in (of_stream bis entries)) → Numbered (given bis calls) (units_on bis entries)
 numbered_slots setup calls bis entries order =
     let long : length order.numbers ≡ length (units_on bis entries) =
-    zip_long (IsGiven setup calls bis) order.numbers (valid_in (of_stream bis entries)) order.given ∙ sym (same_long bis entries) in
+    sym (AllZip-long (IsGiven setup calls bis) order.numbers (valid_in (of_stream bis entries)) order.given) ∙ sym (same_long bis entries) in
     record {
       number = slice_index order.numbers;
       rises = λ j k below within. AllPairs-from_increasing order.numbers order.rising j k 0 below (omega (arith, within, long));
@@ -166,7 +161,7 @@ pub numbered_units : (setup : Setup) (calls : List Call) (bis : ℕ) (air : Air)
 numbered_units setup calls bis air entries order =
     let all = of_stream bis entries in
     let index = place is_valid all in
-    let long : length order.numbers ≡ length all = zip_long (IsOfUnit setup calls bis air) order.numbers all order.each in
+    let long : length order.numbers ≡ length all = sym (AllZip-long (IsOfUnit setup calls bis air) order.numbers all order.each) in
     let same = same_long bis entries in
     record {
       number = λ k. slice_index order.numbers (index k);

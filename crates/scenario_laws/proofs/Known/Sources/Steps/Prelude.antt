@@ -12,6 +12,7 @@ pub use Rattle.std.specs.List.{AllByRecursion, flat_map, AllZip, range_with_len,
 pub use Rattle.std.specs.List.Sorted.{IsStrictlyIncreasing}
 pub use Rattle.std.specs.Option.{option_or, option_and_then, option_map}
 pub use Rattle.std.specs.Prelude.{unwrap_or, slice_index_or, codes, decimal, slice_index, bytes_eq, nat_lt, is_none}
+pub use Rattle.std.proofs.lemmas.Slice.Zip.{AllZip-long}
 pub use Rattle.announcement_train.specs.BaseLines.{BaseLine, subgroups_in}
 pub use Rattle.announcement_train.specs.Layout.{IsTrain}
 pub use Rattle.announcement_train.specs.Told.{Tells, TellsInfo, numbers_of as told_numbers_of}
@@ -115,7 +116,7 @@ pub use Rattle.sink_history.specs.History.{Source, made_of, named_by, own_train,
 pub use Rattle.sink_history.specs.Links.{language, Acts, acts_of, notices_waiting, reads_waiting, is_forged, read_waits, state, view, made_all, delivered, acts_by}
 pub use Rattle.sink_history.specs.Moves.{follows, big_sync_of, received_by, source_by, train_by, follows_by, brings_by}
 pub use Rattle.sink_history.specs.Octets.{AreOctets, IsAsked}
-pub use Rattle.sink_history.specs.Output.{snapshot_in, heard_line, printed_where, drain_lines, if_there, printed_of, read_line, read_lines, serve_line, serve_lines, show_lines, tell_line, tell_lines, view_lines, Lines, replied, stated, was_read, printed_at}
+pub use Rattle.sink_history.specs.Output.{snapshot_in, heard_line, printed_where, drain_lines, if_there, printed_of, read_line, read_lines, serve_line, serve_lines, show_lines, tell_line, tell_lines, view_lines, replied, stated, was_read, printed_at}
 pub use Rattle.sink_history.specs.Refusals.{refuse_if, refused_at, refused_where, link_named, link_twice, no_link, no_notice, no_read, no_record_room, nothing_waits, refused_by}
 pub use Rattle.source_machine.proofs.Citable.{timed_accepted, none_holds, prefix_accepted, lays_events, ahead_within, event_of_number}
 pub use Rattle.source_machine.specs.Airs.{Airs, slots_of, AreAirs, stale_of, airs_of, content_at, pdu_of, place_of, IsAir, air_after}
