@@ -1,11 +1,86 @@
 -- The PDUs of the air that a sink hears.
-use Rattle.replay_steps.proofs.Prelude.{◌≡◌, ℕ, ◌+◌, ◌*◌, ◌<◌, ◌≤◌, ◌++◌, ◌∷◌, Bool, true, false, not, if◌then◌else◌, List, length, Option, None, Some, option_map, Ok, Err, refl, sym, ◌∙◌, ap, subst, arith, le-ltb, option_or, Account, airs_of, Call, heard_line, pdu_line, Refusal, Order, Stop, Refused, OutletFault, Memory, Step, Air, Hear, Inject, Sniff, chosen_of, chosen_steps, running, stage_of, event_back, is_heard, pdu_in, performed, setup_of, source_calls, air_refusal, no_place, no_sink, phase_refusal, source_refusal, refuse_if, NoPlace, Sinks, SinksStand, stands_same, Machine, OnAir, Reaches, histories_on_air, Stands, histories_of, Quiet, Tells, inl, inr, cases_lt, air_fault, with_heard, SentIs}
+use Rattle.replay_steps.proofs.Prelude.{◌≡◌, ℕ, ◌+◌, ◌*◌, ◌<◌, ◌≤◌, ◌++◌, ◌∷◌, Bool, true, false, not, if◌then◌else◌, List, length, Option, None, Some, option_map, Ok, Err, refl, sym, ◌∙◌, ap, subst, arith, le-ltb, option_or, Account, airs_of, Call, heard_line, Refusal, Order, Stop, Refused, OutletFault, Memory, Step, Air, Hear, Inject, chosen_of, chosen_steps, running, stage_of, event_back, is_heard, pdu_in, performed, setup_of, source_calls, air_refusal, no_place, no_sink, phase_refusal, source_refusal, refuse_if, Sinks, SinksStand, stands_same, Machine, OnAir, Reaches, histories_on_air, Stands, histories_of, Quiet, Tells, inl, inr, cases_lt, air_fault, with_heard, SentIs, suc, [], BigInfo, hear_at, heard_on_air, is_lost, position_at, unless_lost, range_with_len, zero, ◌-◌, get_or, div-mul-add, mod-mul-add, map, slice_get, slice_index_or, hear, heard_first, heard_where, Position, LosesFrom, lost_at, unlost}
 use Rattle.isoal_base.specs.declared.hearing.Hearing.{Hearing}
 use Rattle.scenario_sinks.specs.Hearing.{Hears}
 use Rattle.replay_steps.specs.declared.grid.Grid.{Grid}
-use Rattle.replay_steps.proofs.HeardStreams.{AreHeard, event_heard}
-use Rattle.replay_steps.proofs.RelaysStay.{minds_relays}
-use Rattle.replay_steps.proofs.Stepping.{as_step}
+use Rattle.replay_steps.proofs.Stepping.{as_step, minds_relays}
+use Rattle.std.proofs.lemmas.List.FromFn.{get_or-map-range_with_len, length-map-range_with_len}
+use Rattle.std.proofs.lemmas.Option.{slice_get-get_or}
+
+-- what was sent and isn't lost, subevent by subevent
+pub unlost_count : (sent : List (List ℕ)) (lost : List Bool) → length (unlost sent lost) ≡ length sent
+unlost_count sent lost = length-map-range_with_len (λ s. if slice_index_or lost s false then None else slice_get sent s) 0 (length sent)
+
+unlost_at : (sent : List (List ℕ)) (lost : List Bool) (s : ℕ) → s < length sent
+    → get_or (unlost sent lost) s None ≡ (if slice_index_or lost s false then None else slice_get sent s)
+unlost_at sent lost s below = get_or-map-range_with_len (λ s. if slice_index_or lost s false then None else slice_get sent s) 0 (length sent) s s None below (omega arith)
+
+pub lost_there : (sent : List (List ℕ)) (lost : List Bool) (s : ℕ) → s < length sent → slice_index_or lost s false ≡ true → slice_get (unlost sent lost) s ≡ Some None
+lost_there sent lost s below is =
+    slice_get-get_or (unlost sent lost) s None (omega (arith, below, unlost_count sent lost)) ∙ ap (λ o. Some o) (unlost_at sent lost s below ∙ rw is refl)
+
+pub kept_there : (sent : List (List ℕ)) (lost : List Bool) (s : ℕ) (pdu : List ℕ) → s < length sent → slice_index_or lost s false ≡ false → slice_get sent s ≡ Some pdu
+    → slice_get (unlost sent lost) s ≡ Some (Some pdu)
+kept_there sent lost s pdu below is there =
+    slice_get-get_or (unlost sent lost) s None (omega (arith, below, unlost_count sent lost)) ∙ ap (λ o. Some o) (unlost_at sent lost s below ∙ rw (is, there) refl)
+
+-- a PDU of a stream is heard, unless it is lost
+one_heard : (event bis s : ℕ) (lost : Bool) (pdu : List ℕ) (calls : List Call)
+    → heard_where event bis s (if lost then None else Some pdu) calls ≡ unless_lost lost (hear event bis s pdu) calls
+one_heard event bis s true pdu calls = refl
+one_heard event bis s false pdu calls = refl
+
+position_in : (info : BigInfo) (k s : ℕ) → s < info.nse → position_at info (k * info.nse + s) ≡ record { bis = k + 1; subevent = s }
+position_in info k s below = rw (div-mul-add k info.nse s below, mod-mul-add k info.nse s below) refl
+
+-- what a sink hears of a stream, from 0, of the last event, where of each `lose` PDUs the last one is lost
+pub record AreHeard (own : List Step) (lose k : ℕ) (pdus : List (Option (List ℕ))) : Type 0 where
+  pub count : length pdus ≡ (setup_of own).info.nse
+  pub each : (s : ℕ) → s < (setup_of own).info.nse → slice_index_or pdus s None
+      ≡ (if is_lost (setup_of own).info (event_back own 0) lose (record { bis = k + 1; subevent = s }) then None
+      else Some (pdu_in airs_of own (event_back own 0) (k + 1) s))
+
+first_heard : (own : List Step) (lose k : ℕ) (pdus : List (Option (List ℕ))) (calls : List Call) (s : ℕ) → AreHeard own lose k pdus → s ≤ (setup_of own).info.nse
+    → heard_first (event_back own 0) (k + 1) pdus s (heard_on_air airs_of own lose (k * (setup_of own).info.nse) calls)
+    ≡ heard_on_air airs_of own lose (k * (setup_of own).info.nse + s) calls
+first_heard own lose k pdus calls zero are within = ap (λ i. heard_on_air airs_of own lose i calls) (omega arith)
+first_heard own lose k pdus calls (suc s) are within =
+    let info : BigInfo = (setup_of own).info in
+    let event : ℕ = event_back own 0 in
+    let here : Position = record { bis = k + 1; subevent = s } in
+    let before : List Call = heard_on_air airs_of own lose (k * info.nse + s) calls in
+    let next : k * info.nse + suc s ≡ suc (k * info.nse + s) = omega arith in
+    ap (heard_where event (k + 1) s (slice_index_or pdus s None)) (first_heard own lose k pdus calls s are (omega (arith, within)))
+    ∙ ap (λ pdu. heard_where event (k + 1) s pdu before) (are.each s (omega (arith, within)))
+    ∙ one_heard event (k + 1) s (is_lost info event lose here) (pdu_in airs_of own event (k + 1) s) before
+    ∙ ap (λ position. unless_lost (is_lost info event lose position) (hear_at airs_of own event position) before) (sym (position_in info k s (omega (arith, within))))
+    ∙ ap (λ i. heard_on_air airs_of own lose i calls) (sym next)
+
+-- the number of a PDU, counted over all events, streams and subevents
+count_is : (event streams k nse s : ℕ) → event * streams * nse + k * nse + s ≡ (event * streams + (k + 1 - 1)) * nse + s
+count_is event streams k nse s = grind arith
+
+-- what a sink hears of what a stream sent
+pub are_heard : (own : List Step) (lose k bis event streams subevents : ℕ) (sent : List (List ℕ)) (lost : List Bool)
+    → sent ≡ map (pdu_in airs_of own (event_back own 0) bis) (range_with_len 0 (setup_of own).info.nse) → bis ≡ k + 1 → event ≡ event_back own 0
+    → streams ≡ (setup_of own).info.num_bis → subevents ≡ (setup_of own).info.nse
+    → LosesFrom lose (event * streams * subevents + k * subevents) subevents lost → AreHeard own lose k (unlost sent lost)
+are_heard own lose k bis event streams subevents sent lost is b e streams_are subevents_are loses =
+    let nse : ℕ = (setup_of own).info.nse in
+    let f : ℕ → List ℕ = pdu_in airs_of own (event_back own 0) bis in
+    let long : length sent ≡ nse = ap length is ∙ length-map-range_with_len f 0 nse in
+    record {
+      count = unlost_count sent lost ∙ long;
+      each = λ s below.
+          let there : slice_get sent s ≡ Some (pdu_in airs_of own (event_back own 0) (k + 1) s) =
+          ap (λ list. slice_get list s) is ∙ slice_get-get_or (map f (range_with_len 0 nse)) s [] (omega (arith, below, length-map-range_with_len f 0 nse))
+          ∙ ap (λ pdu. Some pdu) (get_or-map-range_with_len f 0 nse s s [] below (omega arith)) ∙ ap (λ x. Some (pdu_in airs_of own (event_back own 0) x s)) b in
+          let number : event * streams * subevents + k * subevents + s ≡ (event_back own 0 * (setup_of own).info.num_bis + (k + 1 - 1)) * nse + s =
+          rw (e, streams_are, subevents_are) (count_is (event_back own 0) (setup_of own).info.num_bis k nse s) in
+          unlost_at sent lost s (omega (arith, below, long))
+          ∙ ap (λ (l : Bool). if l then None else slice_get sent s) (loses s (omega (arith, below, subevents_are)) ∙ ap (lost_at lose) number)
+          ∙ ap (λ pdu. if is_lost (setup_of own).info (event_back own 0) lose (record { bis = k + 1; subevent = s }) then None else pdu) there;
+    }
 
 -- ---- whether a PDU may be handed to a sink
 
@@ -80,18 +155,12 @@ pub air_meets : (boxes version n lose event streams subevents : ℕ) (steps : Li
     → Quiet boxes steps (Air n lose) new (Ok tt)
 air_meets boxes version n lose event streams subevents steps old new stands e on stage same held heard = grind arith
 
--- what was heard of a stream reaches the sink, or doesn't
-both_heard : (b : Bool) (f : List Call → List Call) (heard more calls : List Call) → f heard ≡ more
-    → (if b then f (if b then heard else calls) else (if b then heard else calls)) ≡ (if b then more else calls)
-both_heard b f heard more calls is = grind arith
-
 -- a sink heard a stream more
 pub stream_heard : (steps : List Step) (n lose k source event bis subevents : ℕ) (pdus : List (Option (List ℕ))) (sinks : Sinks) → AreHeard (chosen_steps steps) lose k pdus
     → source ≡ chosen_of steps → event ≡ event_back (chosen_steps steps) 0 → bis ≡ k + 1 → subevents ≡ (setup_of (chosen_steps steps)).info.nse
     → SinksStand (with_heard n source event bis pdus (histories_on_air steps n lose (k * subevents))) sinks
     → SinksStand (histories_on_air steps n lose ((k + 1) * subevents)) sinks
-stream_heard steps n lose k source event bis subevents pdus sinks are chosen is b all stands =
-    grind (arith, stands_same, both_heard, event_heard)
+stream_heard steps n lose k source event bis subevents pdus sinks are chosen is b all stands = grind (arith, stands_same, first_heard)
 
 -- each stream of the group sent its PDUs
 pub none_sent : (steps : List Step) (n lose k bis event streams subevents : ℕ) (sinks : Sinks) → OnAir steps n event streams subevents → k < streams → bis ≡ k + 1
@@ -106,15 +175,3 @@ none_sent steps n lose k bis event streams subevents sinks on within b none stan
           let is : subevents ≡ 0 = omega (arith, nothing) in
           subst P (ap (λ x. k * x) is ∙ (let z : k * 0 ≡ (k + 1) * 0 = omega arith in z) ∙ sym (ap (λ x. (k + 1) * x) is)) stands
     ]
-
--- ---- sniff
-
-pub sniff_fails : (starts : List Account) (version back bis subevent : ℕ) (steps : List Step) (new : Machine) (text : List ℕ) (stop : Stop) → Stands steps new → stage_of steps ≡ running version
-    → is_heard (chosen_steps steps) ≡ true → NoPlace (chosen_steps steps) back bis subevent stop → Tells starts steps (Sniff back bis subevent) new text text (Err stop)
-sniff_fails starts version back bis subevent steps new text stop stands e started p = grind arith
-
-pub sniff_meets : (starts : List Account) (version event back bis subevent : ℕ) (pdu : List ℕ) (steps : List Step) (machine : Machine) (text told : List ℕ) → Stands steps machine
-    → stage_of steps ≡ running version → is_heard (chosen_steps steps) ≡ true
-    → (no_place (chosen_steps steps) back bis subevent ≡ None) × (pdu ≡ pdu_in airs_of (chosen_steps steps) (event_back (chosen_steps steps) back) bis subevent)
-    → event ≡ event_back (chosen_steps steps) back → told ≡ text ++ pdu_line event bis subevent pdu → Tells starts steps (Sniff back bis subevent) machine text told (Ok tt)
-sniff_meets starts version event back bis subevent pdu steps machine text told stands e started place is t = grind arith

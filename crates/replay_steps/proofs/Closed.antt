@@ -1,5 +1,5 @@
 -- What a close of a source did, whether an event of it was open or none.
-use Rattle.replay_steps.proofs.Prelude.{ℕ, zero, suc, ◌≡◌, ◌≢◌, List, [], ◌∷◌, ◌++◌, refl, sym, ◌∙◌, subst, append-nil, Option, None, Some, Result, Ok, Err, range_with_len, Account, airs_of, Stop, Refused, OutletFault, Memory, Step, SinkUnit, accounts_after, Answered, after_offers, answered, first_lines, unit_lines, is_of, closings_at, CutShort, Histories, with_close, SinksStand, Sinks, hands_stop, stands_same, Machine, printed_before, Meets, phase_line, handed_by, answered_by, output_of, inl, inr, ap, append_assoc, accounts_append, hands_then, length, Closes, FirstMeets, ComponentsStand, SecondMeets, arith, sink_numbers}
+use Rattle.replay_steps.proofs.Prelude.{ℕ, ◌≡◌, List, [], ◌∷◌, ◌++◌, refl, sym, ◌∙◌, subst, append-nil, Option, None, Some, Result, Ok, Err, range_with_len, Account, airs_of, Stop, Refused, OutletFault, Memory, Step, SinkUnit, accounts_after, Answered, after_offers, answered, first_lines, unit_lines, closings_at, CutShort, Histories, with_close, hands_stop, Machine, printed_before, Meets, phase_line, handed_by, answered_by, output_of, inl, inr, ap, append_assoc, accounts_append, hands_then, length, Closes, FirstMeets, ComponentsStand, arith, sink_numbers}
 use Rattle.std.specs.Prelude.{OnOk}
 use Rattle.scenario_sinks.specs.Closing as sinks
 use Rattle.scenario_sinks.specs.Handing.{Hands}
@@ -11,12 +11,8 @@ use Rattle.replay_steps.proofs.CloseLines.{lines_closed, offers_closed, units_cl
 abbrev pub Did : List SinkUnit → List Answered → List ℕ → (stands : Type 0) → (text told : List ℕ) → (before after : List Account) → Result (Unit {0}) Stop → Type 0
 Did units answers lines stands text told before after r = Becomes None lines units answers stands ⊥ text told before after r
 
-sinks_left : (past : Histories) (source : ℕ) (sinks : Sinks) → SinksStand past sinks → SinksStand (with_close source None past) sinks
-sinks_left past source sinks stands = grind (arith, stands_same, with_close, is_of)
-
 components_left : (steps : List Step) (past : Histories) (source : ℕ) (machine : Machine) → ComponentsStand steps past machine → ComponentsStand steps (with_close source None past) machine
-components_left steps past source machine components =
-    record { sources = components.sources; sinks = sinks_left past source machine.sinks components.sinks; relays = components.relays }
+components_left steps past source machine components = grind arith
 
 -- a close of source 0
 pub first_did : (steps : List Step) (past : Histories) (closed : Option ℕ) (new : Machine) (text told : List ℕ) (before after : List Account) (r : Result (Unit {0}) Stop)
@@ -82,25 +78,8 @@ stops_meet starts steps made there units more answers lines tail text told befor
 
 -- ---- which source is closed
 
--- no event is open
-pub none_closes : (steps : List Step) (past : Histories) (source : ℕ) (closed : Option ℕ) (machine : Machine) (text : List ℕ) (before : List Account) → closed ≡ None
-    → ComponentsStand steps past machine → Closes steps past source closed machine text text before before (Ok tt)
-none_closes steps past source closed machine text before is components = grind arith
-
 -- one of source 0
 pub first_closes : (steps : List Step) (past : Histories) (source : ℕ) (closed : Option ℕ) (event : ℕ) (new : Machine) (text told : List ℕ) (before after : List Account)
     (r : Result (Unit {0}) Stop) → source ≡ 0 → closed ≡ Some event → FirstMeets steps past event new text told before after r
     → Closes steps past source closed new text told before after r
 first_closes steps past source closed event new text told before after r zeroth is m = grind arith
-
--- one of another source: the other components stay
-second_meets : (steps : List Step) (past : Histories) (other event : ℕ) (old new : Machine) (text told : List ℕ) (before after : List Account) (r : Result (Unit {0}) Stop)
-    → ComponentsStand steps past old → new.sources ≡ old.sources → new.relays ≡ old.relays
-    → sinks.Closes past (suc other) (Some event) new.sinks text told before after r → SecondMeets steps past (suc other) event new text told before after r
-second_meets steps past other event old new text told before after r components sources held m = grind arith
-
-pub second_closes : (steps : List Step) (past : Histories) (source : ℕ) (closed : Option ℕ) (event : ℕ) (old new : Machine) (text told : List ℕ) (before after : List Account)
-    (r : Result (Unit {0}) Stop) → source ≢ 0 → closed ≡ Some event → ComponentsStand steps past old → new.sources ≡ old.sources → new.relays ≡ old.relays
-    → sinks.Closes past source (Some event) new.sinks text told before after r → Closes steps past source closed new text told before after r
-second_closes steps past zero closed event old new text told before after r beside is components sources held m = absurd (beside refl)
-second_closes steps past (suc other) closed event old new text told before after r beside is components sources held m = grind (arith, second_meets steps past other event old new text told before after r components sources held m)

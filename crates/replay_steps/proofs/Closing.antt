@@ -1,11 +1,10 @@
 -- The steps that close the open event of the chosen source.
-use Rattle.replay_steps.proofs.Prelude.{◌≡◌, ◌≤◌, ◌<◌, ℕ, slice_get, sinks_made, Histories, UnassignedSame, Sources, zero, suc, false, List, [], ◌∷◌, ◌++◌, length, inr, refl, sym, ◌∙◌, ap, append_assoc, append-nil, subst, arith, Option, None, Result, Ok, Err, Account, airs_of, Stop, Memory, control_line, Step, chosen_of, chosen_steps, is_over, is_over_at, running, stage_of, steps_of_source, end_pdu, open_event, stale_in, SinkUnit, closing, closing_at, handed_by, Answered, answered_by, with_relayed_units, close_lines, first_lines, stale_lines, unit_lines, stage_same, fault_of, SourcesStand, closings_at, with_close, Machine, Stands, histories_of, Meets, phase_line, Closes, ComponentsStand, sink_numbers}
+use Rattle.replay_steps.proofs.Prelude.{◌≡◌, ◌≤◌, ◌<◌, ℕ, slice_get, sinks_made, Histories, UnassignedSame, Sources, zero, suc, false, List, [], ◌∷◌, ◌++◌, length, inr, refl, sym, ◌∙◌, ap, append_assoc, append-nil, subst, arith, Option, None, Result, Ok, Err, Account, airs_of, Stop, Memory, control_line, Step, chosen_of, chosen_steps, is_over, is_over_at, running, stage_of, steps_of_source, end_pdu, open_event, stale_in, SinkUnit, closing, handed_by, Answered, answered_by, with_relayed_units, close_lines, first_lines, stale_lines, unit_lines, stage_same, fault_of, SourcesStand, closings_at, with_close, Machine, Stands, histories_of, Meets, phase_line, Closes, ComponentsStand, sink_numbers}
 use Rattle.scenario_text.specs.declared.step.Step.TheVariants as variants
 use Rattle.scenario_sources.specs.Answers as sources
 use Rattle.replay_steps.proofs.Closed.{Did, first_did, second_did, stops_meet}
 use Rattle.replay_steps.proofs.ClosesFirst.{CloseSays, ClosesOpen, first_says, first_stands}
-use Rattle.replay_steps.proofs.RelaysStay.{relays_stay}
-use Rattle.replay_steps.proofs.Stepping.{as_step, source_fault}
+use Rattle.replay_steps.proofs.Stepping.{as_step, source_fault, relays_stay}
 use Rattle.replay_steps.proofs.Unassigned.{unassigned_in}
 
 -- ---- the scenario goes on for each source
@@ -15,12 +14,9 @@ not_over s version steps e = ap is_over_at (stage_same s steps ∙ e)
 
 -- ---- what is handed up
 
-closing_same : (s : ℕ) (steps : List Step) (o : Option ℕ) → closings_at s o (histories_of steps) ≡ closing_at airs_of s steps o
-closing_same s steps o = grind arith
-
 pub closing_is : (s source : ℕ) (closed : Option ℕ) (steps : List Step) → source ≡ s → closed ≡ open_event (steps_of_source s steps)
     → closings_at source closed (histories_of steps) ≡ closing airs_of s steps
-closing_is s source closed steps same is = grind (arith, closings_at, histories_of, closing_same, open_event, steps_of_source)
+closing_is s source closed steps same is = grind arith
 
 second_says : (made : Step) (tail : List Step → List ℕ) (steps : List Step) (closed : Option ℕ) → ClosesOpen made tail → chosen_of steps ≡ 1
     → closed ≡ open_event (chosen_steps steps)

@@ -1,5 +1,5 @@
 -- The sums of the boxes, and the end of a scenario.
-use Rattle.replay_steps.proofs.Prelude.{◌≡◌, ℕ, ◌≤◌, false, is_over, Histories, Result, List, [], ◌∷◌, ◌++◌, length, ne_eqb, refl, sym, ◌∙◌, ap, subst, append-nil, append_assoc, arith, Option, None, Some, Ok, Err, flat_map, range_with_len, Account, airs_of, Call, sum_line, Stop, Memory, Step, Drop, End, over, running, sinks_made, stage_after, stage_of, steps_of_source, open_event, is_of, sink_calls, source_of, ticked_if, SinkUnit, account_at, accounts_after, box_of, closing, closing_both, closing_by, handed_up, valid_for, Answered, Offer, after_offers, answered, answered_by, with_relayed_units, first_lines, sum_if, sums_of, unit_lines, no_sink, phase_refusal, box_was_made, octets_add_up, units_add_up, left_by_offers, flat_same, drop_says, end_says, sources_stay, Sinks, closings_at, with_close, without, SinksStand, accounts_append, stands_same, Machine, RelaysStand, Stands, histories_of, relay_histories, BoxesStand, Meets, Tells, phase_line, Closes, ComponentsStand, stage_in, sink_numbers, not_living}
+use Rattle.replay_steps.proofs.Prelude.{◌≡◌, ℕ, ◌≤◌, false, is_over, Histories, Result, List, [], ◌∷◌, ◌++◌, length, ne_eqb, refl, sym, ◌∙◌, ap, subst, append-nil, append_assoc, arith, Option, None, Some, Ok, Err, flat_map, range_with_len, Account, airs_of, Call, sum_line, Stop, Memory, Step, Drop, End, over, running, sinks_made, stage_after, stage_of, steps_of_source, open_event, is_of, sink_calls, source_of, ticked_if, SinkUnit, account_at, accounts_after, box_of, closing, closing_both, closing_by, handed_up, valid_for, Answered, Offer, after_offers, answered, answered_by, with_relayed_units, first_lines, sum_if, sums_of, unit_lines, box_was_made, octets_add_up, units_add_up, left_by_offers, flat_same, drop_says, end_says, sources_stay, Sinks, closings_at, with_close, without, SinksStand, accounts_append, stands_same, Machine, RelaysStand, Stands, histories_of, relay_histories, BoxesStand, Meets, Tells, phase_line, Closes, ComponentsStand, stage_in, sink_numbers, not_living}
 use Rattle.scenario_laws.specs.RelayedUnits.Laws.{IsLeft}
 use Rattle.scenario_sinks.specs.Refusals as sinks
 use Rattle.scenario_sinks.specs.Sums.{Puts, sum_where, sums_where}
@@ -7,8 +7,7 @@ use Rattle.replay_steps.proofs.BoxStops.{AreFrom, from_closings}
 use Rattle.replay_steps.proofs.Closed.{Did, first_did, second_did, stops_meet}
 use Rattle.replay_steps.proofs.CloseLines.{first_printed, lines_closed, offers_closed, offers_same, units_are, units_closed}
 use Rattle.replay_steps.proofs.Closing.{closing_is, not_over}
-use Rattle.replay_steps.proofs.RelaysStay.{relays_stay}
-use Rattle.replay_steps.proofs.Stepping.{or_none}
+use Rattle.replay_steps.proofs.Stepping.{relays_stay}
 
 -- ---- the sums of a box as they stand are those at the start and what was handed to it
 
@@ -24,16 +23,13 @@ sums_same starts steps units (n ∷ numbers) room = grind (arith, accounts_after
 
 -- ---- drop
 
-drop_fault : (boxes version n : ℕ) (steps : List Step) → stage_of steps ≡ running version → phase_refusal airs_of boxes steps (Drop n) ≡ not_living (box_of n steps)
-drop_fault boxes version n steps e = rw e (or_none (no_sink n steps))
-
 pub drop_ends : (starts accounts : List Account) (version n : ℕ) (steps : List Step) (old new : Machine) (text told : List ℕ) → Stands steps old
     → stage_of steps ≡ running version → BoxesStand starts steps accounts → new.stage ≡ old.stage → new.sources ≡ old.sources
     → RelaysStand (relay_histories (Drop n ∷ steps)) new.relays
     → sinks.Answers (not_living (box_of n steps)) (histories_of steps) (without n (histories_of steps)) new.sinks (Ok tt) → Puts (sum_where accounts n (box_of n steps)) text told (Ok tt)
     → Tells starts steps (Drop n) new text told (Ok tt)
 drop_ends starts accounts version n steps old new text told stands e boxes stage same held a p =
-    grind (arith, drop_fault, sources_stay, drop_says, sum_same)
+    grind (arith, sources_stay, drop_says, sum_same)
 
 -- ---- end: a close of source 0 leaves the sinks of source 1
 

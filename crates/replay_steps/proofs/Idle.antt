@@ -2,7 +2,7 @@
 use Rattle.replay_steps.proofs.Prelude.{ℕ, zero, suc, ◌≡◌, ◌≤◌, ◌<◌, ◌+◌, ◌⊎◌, ◌==◌, ◌&&◌, not, Bool, true, false, List, [], ◌∷◌, ◌++◌, refl, sym, ◌∙◌, ap, subst, inl, inr, arith, append_assoc, append-nil, eqb-true, option_map, is_none, Option, None, Some, Result, Ok, Err, flat_map, list_all, range_with_len, and_parts, cases_eq, not-false, Account, airs_of, Stop, Refused, OutletFault, Memory, Step, SinkUnit, accounts_after, after_offers, offered_of, unit_lines, Route, relay_of, closing_of, handed_all, BoxFails, Histories, accounts_append, is_idle, RelaysStand, SourcesStand, Machine, lent, relay_histories, Closes, FirstMeets, ComponentsStand, lines_at, lines_below, offers_below, offers_of, units_below, flat_within, sink_numbers, lines_append}
 use Rattle.scenario_sinks.specs.Closing as sinks
 use Rattle.replay_steps.proofs.Between.{range_more}
-use Rattle.replay_steps.proofs.Closed.{first_closes, second_closes}
+use Rattle.replay_steps.proofs.Closed.{first_closes}
 use Rattle.replay_steps.proofs.CloseLines.{flat_nothing}
 
 -- ---- a box stops units of two lists
@@ -140,12 +140,8 @@ pub closes_at_once : (steps : List Step) (past : Histories) (source : ℕ) (clos
     → new.sources ≡ old.sources → new.relays ≡ old.relays → sinks.Closes past source (Some event) new.sinks text told before after r
     → Closes steps past source closed new text told before after r
 closes_at_once steps past source closed event old new text told before after r idle is components sources held m =
-    grind (arith, second_closes, first_closes, idle_meets, not-false)
+    grind (arith, first_closes, idle_meets, not-false)
 
 -- relays offer as an event of source 0 alone is closed
 pub relays_first : (source : ℕ) (more : Bool) → ((source == 0) && more) ≡ true → source ≡ 0
 relays_first source more both = eqb-true source 0 ((and_parts (source == 0) more both).0)
-
--- whether they may is known by what the relays say
-pub relays_known : (source : ℕ) (idle known : Bool) → source ≡ 0 → idle ≡ known → not idle ≡ ((source == 0) && not known)
-relays_known source idle known zeroth same = grind (arith, not)

@@ -1,16 +1,10 @@
 -- A line by its step.
-use Rattle.replay_steps.proofs.Prelude.{◌≡◌, ℕ, ◌≤◌, List, [], ◌∷◌, ◌++◌, length, inl, inr, Option, None, Some, Result, Ok, Err, refl, sym, ◌∙◌, ap, subst, arith, option_or, leb-false, TextLine, plain, Account, airs_of, happened, with_relayed_units, append-nil, read_of, Step, sinks_made, sinks_made_by, version_at, version_of, hands_alike, left_by_relayed_units, stage_happened, passes_both, accounts_after, handed_by, handed_up, is_relayed, a_step, said_of, steps_of, said_by, said_after, with_said, refusal_said, output_said, handed_said, fails_not, Machine, Stop, OutletFault, Memory, Stands, BoxesStand, StepMeets, accounts_append}
+use Rattle.replay_steps.proofs.Prelude.{◌≡◌, ℕ, ◌≤◌, List, [], ◌∷◌, ◌++◌, length, inl, inr, None, Some, Result, Ok, Err, refl, sym, ◌∙◌, ap, subst, arith, TextLine, plain, Account, airs_of, happened, with_relayed_units, append-nil, read_of, Step, sinks_made, sinks_made_by, version_at, version_of, hands_alike, left_by_relayed_units, stage_happened, passes_both, accounts_after, handed_by, handed_up, is_relayed, a_step, said_of, steps_of, said_by, said_after, with_said, refusal_said, output_said, handed_said, Machine, Stop, OutletFault, Memory, Stands, BoxesStand, StepMeets, accounts_append, Airs, SinkUnit, Took, handed_happened, Said, handed_on, took_all}
 use Rattle.scenario_history.specs.Refusals.{refusal_of}
 use Rattle.replay_steps.specs.LineMeets.{LineMeets, LinesStand}
 
-last_none : {A : Type 0} (a b : Option A) → option_or a b ≡ None → b ≡ None
-last_none a b e = grind arith
-
-first_none : {A : Type 0} (a b : Option A) → option_or a b ≡ None → a ≡ None
-first_none a b e = grind arith
-
 room_stays : (boxes : ℕ) (earlier : List Step) (made : Step) → refusal_of airs_of boxes earlier made ≡ None → sinks_made earlier ≤ boxes → sinks_made (made ∷ earlier) ≤ boxes
-room_stays boxes earlier _ e room = grind (arith, last_none, first_none, leb-false, fails_not)
+room_stays boxes earlier _ e room = grind arith
 
 boxes_go_on : (starts before after : List Account) (earlier : List Step) (made : Step) → BoxesStand starts earlier before → refusal_of airs_of (length starts) earlier made ≡ None
     → after ≡ accounts_after before (handed_by airs_of earlier made) → BoxesStand starts (made ∷ with_relayed_units airs_of earlier made) after
@@ -82,3 +76,20 @@ meets_at starts history line new text told before after result r cleared is meet
 pub lines_beside : (starts : List Account) (lines : List TextLine) (machine new : Machine) (accounts : List Account) → new.stage ≡ machine.stage
     → new.sources ≡ machine.sources → new.sinks ≡ machine.sinks → new.relays ≡ machine.relays → LinesStand starts lines machine accounts → LinesStand starts lines new accounts
 lines_beside starts lines machine new accounts stage sources sinks relays stand = grind arith
+
+-- ---- what a line hands up comes behind what the lines before it did, and the boxes took it
+
+handed_with : (airs : Airs) (earlier : List Step) (said : Said)
+    → handed_up airs (happened airs (with_said said earlier)) ≡ handed_up airs (happened airs earlier) ++ handed_said airs (happened airs earlier) said
+handed_with airs earlier said = grind (arith, handed_happened, append-nil)
+
+-- the units of a line come behind those of the lines before it
+pub handed_line : (airs : Airs) (history : List TextLine) (line : TextLine) → handed_up airs (steps_of airs (line ∷ history)) ≡ handed_up airs (steps_of airs history) ++ handed_on airs history line
+handed_line airs history line = handed_with airs (said_of history) (said_after history line)
+
+-- the boxes took the units of the history
+pub took_history : (starts accounts : List Account) (history : List TextLine) → BoxesStand starts (steps_of airs_of history) accounts → Took starts accounts (handed_up airs_of (steps_of airs_of history))
+took_history starts accounts history b = grind (arith, handed_up, airs_of, steps_of, took_all)
+
+pub took_as : (starts accounts : List Account) (us vs : List SinkUnit) → us ≡ vs → Took starts accounts us → Took starts accounts vs
+took_as starts accounts us vs e t = let P : List SinkUnit → Type 0 = λ u. Took starts accounts u in subst P e t

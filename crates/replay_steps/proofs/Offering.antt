@@ -142,11 +142,6 @@ pub offers_all : (steps : List Step) (n : ℕ) (own : Route) (units : List Hande
 offers_all steps n own units i sources relays text told all m =
     subst (λ us. OffersMeet steps (offered_of n (Some own) (map handed_of us)) sources relays text told (Ok tt)) (take_all i units all) m
 
--- want of memory stays so
-pub offers_stopped : (steps now : List Step) (offers one : List Offer) (sources : Sources) (relays : Relays) (text between told : List ℕ) (stop : Stop)
-    → OffersMeet now one sources relays between told (Err stop) → OffersMeet steps offers sources relays text told (Err stop)
-offers_stopped steps now offers one sources relays text between told stop m = grind arith
-
 -- ---- a sink with a relay or none
 
 pub offers_where : (steps : List Step) (n : ℕ) (own : Option Route) (route : LentRoute) (units : List Handed) (sources : Sources) (relays : Relays) (text told : List ℕ)

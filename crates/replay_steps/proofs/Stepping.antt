@@ -1,17 +1,54 @@
 -- A step by the room that it belongs to.
-use Rattle.replay_steps.proofs.Prelude.{◌≡◌, ℕ, ◌==◌, List, [], ◌∷◌, true, false, if◌then◌else◌, unwrap_or, refl, sym, ◌∙◌, ap, subst, Option, None, Result, Ok, Err, option_or, airs_of, BigInfo, Settings, tune, Refusal, NoSuchBis, Stop, Step, Sink, Tuned, Stage, chosen_of, chosen_steps, running, stage_after, stage_of, version_at, group_of, no_group, setup_of, takes_units, box_of, big_sync_on, version_given, horizon_in, sinks_made, has_beyond, is_misplaced, is_out_of_phase, phase_refusal, relayed_or, sink_refusal, source_refusal, twin_refusal, refuse_if, fault_of, SourcesStand, SaysNothing, sink_says, sources_stay, tuned_says, Histories, with_sink, with_tuning, SinksStand, Machine, RelaysStand, Stands, histories_of, relay_histories, Quiet, phase_line, stage_in, arith, by_numbers, not_made, not_tuned}
+use Rattle.replay_steps.proofs.Prelude.{◌≡◌, ℕ, List, [], ◌∷◌, true, false, unwrap_or, refl, sym, ◌∙◌, ap, subst, Option, None, Result, Ok, Err, option_or, airs_of, Settings, Refusal, Stop, Step, Sink, Tuned, Stage, chosen_of, chosen_steps, running, stage_after, stage_of, version_at, group_of, no_group, takes_units, box_of, big_sync_on, version_given, horizon_in, sinks_made, is_misplaced, phase_refusal, relayed_or, sink_refusal, fault_of, SaysNothing, sink_says, sources_stay, tuned_says, Histories, with_sink, with_tuning, SinksStand, Machine, RelaysStand, Stands, histories_of, relay_histories, Quiet, phase_line, stage_in, arith, not_made, not_tuned, ◌||◌, Bool, option_map, is_none, list_all, list_any, range_with_len, Drop, Relay, gives_on, is_relayed, Route, had_relay, relay_given, relay_of, relays_to, steps_of_source, Relays, lent, UnitLine}
 use Rattle.delegator_history.specs.Announced.{numbers_alone}
 use Rattle.delegator_history.specs.LastGiven.{last_given}
 use Rattle.sync_reference.specs.BigSync.{BigSync}
 use Rattle.scenario_sources.specs.Answers as sources
 use Rattle.scenario_sinks.specs.Refusals as sinks
-use Rattle.replay_steps.proofs.RelaysStay.{beside, minds_relays, relays_stay}
+use Rattle.scenario_sinks.specs.RelayHistories as relays
+
+-- the relays by another past that is the same
+pub relays_as : (one other : relays.Histories) (held : Relays) → ((n : ℕ) → one.routes n ≡ other.routes n) → ((bis : ℕ) → one.relayed bis ≡ other.relayed bis)
+    → ((bis : ℕ) → one.given bis ≡ other.given bis) → RelaysStand one held → RelaysStand other held
+relays_as one other held routes relayed given stands = grind (arith, list_all, is_none, range_with_len)
+
+-- the step says something of relays, or of what source 1 is given
+abbrev pub minds_relays : Step → Bool
+minds_relays (Relay sink bis to) = true
+minds_relays (Drop sink) = true
+minds_relays (UnitLine bis time octets) = true
+minds_relays _ = false
+
+-- what a step says that doesn't
+pub record Beside (made : Step) : Type 0 where
+  pub routes : (n : ℕ) → relay_given n made ≡ None
+  pub relays : (bis : ℕ) → relays_to bis made ≡ false
+  pub gives : (bis : ℕ) → gives_on bis made ≡ false
+  pub none : (steps : List Step) → is_relayed steps made ≡ false
+
+pub beside : (made : Step) → minds_relays made ≡ false → Beside made
+beside made minds = grind arith
+
+routes_stay : (n : ℕ) (steps : List Step) (made : Step) → relay_given n made ≡ None → relay_of n steps ≡ relay_of n (made ∷ steps)
+routes_stay n steps made none = grind arith
+
+had_stays : (bis : ℕ) (steps : List Step) (made : Step) → relays_to bis made ≡ false → had_relay bis steps ≡ had_relay bis (made ∷ steps)
+had_stays bis steps made none = ap (λ hit. hit || had_relay bis steps) (sym none)
+
+given_stays : (bis : ℕ) (steps : List Step) (made : Step) → gives_on bis made ≡ false
+    → list_any (gives_on bis) (steps_of_source 1 steps) ≡ list_any (gives_on bis) (steps_of_source 1 (made ∷ steps))
+given_stays bis steps made none = grind arith
+
+pub relays_stay : (steps : List Step) (made : Step) (held : Relays) → minds_relays made ≡ false → RelaysStand (relay_histories steps) held
+    → RelaysStand (relay_histories (made ∷ steps)) held
+relays_stay steps made held minds stands =
+    let says = beside made minds in
+    relays_as (relay_histories steps) (relay_histories (made ∷ steps)) held
+    (λ n. ap (λ (route : Option Route). option_map lent route) (routes_stay n steps made (says.routes n)))
+    (λ bis. had_stays bis steps made (says.relays bis)) (λ bis. given_stays bis steps made (says.gives bis)) stands
 
 pub or_none : (a : Option Refusal) → option_or a None ≡ a
 or_none a = grind arith
-
-or_assoc : (a b c : Option Refusal) → option_or a (option_or b c) ≡ option_or (option_or a b) c
-or_assoc a b c = grind arith
 
 -- the step may follow the first one and goes on, and the sinks refuse nothing of it
 pub record GoesOn (made : Step) : Type 0 where
@@ -21,8 +58,7 @@ pub record GoesOn (made : Step) : Type 0 where
 
 pub source_fault : (boxes version : ℕ) (steps : List Step) (made : Step) → GoesOn made → stage_of steps ≡ running version
     → phase_refusal airs_of boxes steps made ≡ fault_of version steps made
-source_fault boxes version steps made on e =
-    grind (arith, or_assoc, refuse_if, is_out_of_phase, chosen_steps, source_refusal, airs_of, twin_refusal)
+source_fault boxes version steps made on e = grind arith
 
 -- a line is refused for what its step is refused for, where it gives no unit
 pub as_step : (boxes : ℕ) (steps : List Step) (made : Step) → minds_relays made ≡ false → phase_line airs_of boxes steps made ≡ phase_refusal airs_of boxes steps made
@@ -32,11 +68,6 @@ as_step boxes steps made minds = ap (λ relayed. relayed_or relayed (phase_refus
 pub relays_kept : (steps : List Step) (made : Step) (old new : Machine) → minds_relays made ≡ false → Stands steps old → new.relays ≡ old.relays
     → RelaysStand (relay_histories (made ∷ steps)) new.relays
 relays_kept steps made old new minds stands held = grind (arith, relays_stay steps made old.relays minds stands.relays)
-
--- the machine after a refused step of the sources, or of the sinks
-pub sources_stand : (steps : List Step) (old new : Machine) → Stands steps old → new.stage ≡ old.stage → new.sinks ≡ old.sinks → new.relays ≡ old.relays
-    → SourcesStand steps new.sources → Stands steps new
-sources_stand steps old new stands stage same held sources = grind arith
 
 pub sinks_stand : (steps : List Step) (old new : Machine) → Stands steps old → new.stage ≡ old.stage → new.sources ≡ old.sources → new.relays ≡ old.relays
     → SinksStand (histories_of steps) new.sinks → Stands steps new
@@ -58,7 +89,7 @@ brought steps made old new stands nothing on stage same minds held heard = recor
 pub sources_refuse : (boxes version : ℕ) (steps : List Step) (made : Step) (old new : Machine) (stop : Stop) → phase_line airs_of boxes steps made ≡ fault_of version steps made
     → Stands steps old → new.stage ≡ old.stage → new.sinks ≡ old.sinks → new.relays ≡ old.relays → sources.Answers version steps made new.sources (Err stop)
     → Quiet boxes steps made new (Err stop)
-sources_refuse boxes version steps made old new stop is stands stage same held a = grind (arith, sources_stand)
+sources_refuse boxes version steps made old new stop is stands stage same held a = grind arith
 
 pub sources_meet : (boxes version : ℕ) (steps : List Step) (made : Step) (old new : Machine) (r : Result (Unit {0}) Stop) → GoesOn made
     → histories_of (made ∷ steps) ≡ histories_of steps → Stands steps old → stage_of steps ≡ running version → new.stage ≡ old.stage → new.sinks ≡ old.sinks
@@ -122,25 +153,10 @@ plain_in : (own : List Step) → numbers_alone (unwrap_or (group_of own) no_grou
 plain_in [] = refl
 plain_in (step ∷ own) = plain_by step own (plain_in own)
 
--- the group that the source stands before is the one that its receivers go by
-tuned_to : (own : List Step) (which : ℕ) → big_sync_on own which ≡ by_numbers (big_sync_on own which)
-tuned_to own which = ap (λ (info : BigInfo). record (big_sync_on own which) { info = info }) (sym (plain_in own))
-
--- the sink is synchronized to a BIG, and its receivers go by this one
-abbrev with_both : ℕ → ℕ → BigSync → BigSync → Histories → Histories
-with_both n source big_sync tuning past =
-    record (with_tuning n source big_sync past) { received = λ m. if n == m then tune tuning ∷ past.received m else past.received m }
-
 pub tuned_meets : (boxes version n source which : ℕ) (steps : List Step) (tuning : BigSync) (old new : Machine) (r : Result (Unit {0}) Stop) → Stands steps old
     → stage_of steps ≡ running version → takes_units (chosen_steps steps) ≡ true → source ≡ chosen_of steps → tuning ≡ big_sync_on (chosen_steps steps) which
     → new.stage ≡ old.stage → new.sources ≡ old.sources → new.relays ≡ old.relays
     → sinks.Tunes (not_tuned (box_of n steps) tuning.info.num_bis tuning.which) (histories_of steps) (with_tuning n source tuning (histories_of steps)) new.sinks r
     → Quiet boxes steps (Tuned n which) new r
 tuned_meets boxes version n source which steps tuning old new r stands e going chosen is stage same held a =
-    let own : List Step = chosen_steps steps in
-    let fault : phase_refusal airs_of boxes steps (Tuned n which) ≡ not_tuned (box_of n steps) tuning.info.num_bis tuning.which = grind (arith, or_none (refuse_if (has_beyond (setup_of own).info.num_bis which) NoSuchBis)) in
-    sinks_meet boxes steps (Tuned n which) (not_tuned (box_of n steps) tuning.info.num_bis tuning.which) (with_tuning n source tuning (histories_of steps)) old new r stands fault
-    (tuned_says n which) refl
-    (ap (λ (t : BigSync). with_both n (chosen_of steps) (big_sync_on own which) t (histories_of steps)) (tuned_to own which)
-    ∙ ap (λ s. with_tuning n s (big_sync_on own which) (histories_of steps)) (sym chosen)
-    ∙ ap (λ (t : BigSync). with_tuning n source t (histories_of steps)) (sym is)) stage same refl held a
+    grind (arith, or_none, sinks_meet, tuned_says, plain_in)

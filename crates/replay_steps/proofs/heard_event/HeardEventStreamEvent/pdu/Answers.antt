@@ -1,5 +1,5 @@
 use Rattle.replay_steps.proofs.Prelude.{arith}
-use Rattle.replay_steps.proofs.HeardStreams.{kept_there, lost_there, unlost_count}
+use Rattle.replay_steps.proofs.Airing.{kept_there, lost_there, unlost_count}
 use Rattle.replay_steps.proofs.heard_event.HeardEventStreamEvent.pdu.Goals as goal
 
 pub bounds-self-from : goal.bounds-self-from
