@@ -54,18 +54,12 @@ pub heard : (own : List Step) (setup : Setup) (back bis subevent : ℕ) (pdu : L
     → (no_place own back bis subevent ≡ None) × (pdu ≡ pdu_in airs_of own (event_back own back) bis subevent)
 heard own setup back bis subevent pdu same both = grind (arith, setup_of, source_calls, pdu_of, airs_of, next_of, option_map, unwrap_or)
 
-unwrapped_some : {A : Type 0} (none : A) (xs : List A) → map (λ o. unwrap_or o none) (map Some xs) ≡ xs
-unwrapped_some none [] = refl
-unwrapped_some none (x ∷ xs) = ap (λ rest. x ∷ rest) (unwrapped_some none xs)
-
-unwrapped_map : {A : Type 0} (none : A) (f : ℕ → Option A) (places : List ℕ) → map (λ o. unwrap_or o none) (map f places) ≡ map (λ i. unwrap_or (f i) none) places
-unwrapped_map none f [] = refl
-unwrapped_map none f (i ∷ places) = ap (λ rest. unwrap_or (f i) none ∷ rest) (unwrapped_map none f places)
-
 -- values that are all there
 all_there : {A : Type 0} (none : A) (f : ℕ → Option A) (places : List ℕ) (xs : List A) → map Some xs ≡ map f places
     → xs ≡ map (λ i. unwrap_or (f i) none) places
-all_there none f places xs is = sym (unwrapped_some none xs) ∙ ap (map (λ o. unwrap_or o none)) is ∙ unwrapped_map none f places
+all_there none f [] [] is = refl
+all_there none f (place ∷ places) (x ∷ xs) is = grind (arith, all_there none f places xs)
+all_there none f _ _ is = absurd cc
 
 sends : (own : List Step) (setup : Setup) (bis : ℕ) (sent : List (List ℕ)) → setup ≡ setup_of own
     → ((s : ℕ) → s < setup.info.nse → air_fault setup (source_calls own) 0 bis s ≡ None)

@@ -10,7 +10,7 @@ use Rattle.announcement_train.proofs.Citable.{plain_is_small}
 use Rattle.source_machine.specs.Faults.{ConfigureFails}
 use Rattle.source_machine.specs.declared.fault.ConfigureFault.{ConfigureFault}
 use Rattle.source_machine.specs.declared.fault.ConfigureFault.TheVariants.{BadGroup as Misfit}
-use Rattle.scenario_history.specs.Refusals.{fault_refusal, group_refusal}
+use Rattle.scenario_history.specs.Refusals.{group_refusal}
 use Rattle.sink_history.specs.History.{horizon_in}
 use Rattle.scenario_sources.specs.Bases.{is_long}
 use Rattle.scenario_sources.specs.declared.phase.Phase.{Phase as Phases}
@@ -123,22 +123,16 @@ pub finish_fails : (version first : ℕ) (own : List Step) (said : Described) (p
 finish_fails version first own said plain stop is may fails =
     grind (arith, none-some, passes, draft_is, said_ends, line_of, subgroups_of, nat_lt, length, encoding, base_is)
 
-refused_for : (fault : GroupFault) → (fault ≡ of_group.Encrypted → ⊥) → fault_refusal fault ≡ Some (BadGroup fault)
-refused_for fault other = grind arith
-
 pub bad_refusal : (horizon : ℕ) (info : BigInfo) (fault : GroupFault) → first_fault horizon info ≡ Some fault → (fault ≡ of_group.Encrypted → ⊥)
     → Some (BadGroup fault) ≡ group_refusal (first_fault horizon info)
-bad_refusal horizon info fault is other = sym (ap group_refusal is ∙ refused_for fault other)
+bad_refusal horizon info fault is other = grind arith
 
 pub group_fails : (version first horizon : ℕ) (own : List Step) (said : Described) (plain : Option Endpoint) (fault : ConfigureFault) (stop : Stop) → horizon ≡ horizon_in version
     → DescribedSo own said → MayStart version first own plain → ConfigureFails horizon said.info fault → StartStops fault stop → Begins first own (Err stop)
 group_fails version first horizon own said plain (Misfit fault) (Refused reason) h is may fails g =
-    let all = passes version first own is.0 may.0 in
-    let none : group_refusal (first_fault horizon said.info) ≡ None =
-    ap (λ n. group_refusal (first_fault n said.info)) h ∙ ap (λ i. group_refusal (first_fault (horizon_in version) i)) (sym (checked_is own said is.1)) ∙ all.group in
-    absurd (none-some (BadGroup fault) (sym none ∙ sym (bad_refusal horizon said.info fault fails.first fails.other)))
-group_fails version first horizon own said plain fault stop h is may fails g =
-    search (false≢true, passes, checked_is, none-some, bad_refusal)
+    grind (arith, passes version first own is.0 may.0, bad_refusal horizon said.info fault fails.first fails.other, checked_is own said
+        is.1)
+group_fails version first horizon own said plain fault stop h is may fails g = search (false≢true, none-some)
 
 -- the BASE that it begins with
 said_base : (group : GroupLine) (ss : List Subgroup) → is_some (last_of ss) ≡ true → endpoint group.delay ss ≡ base_from group ss
