@@ -34,9 +34,6 @@ count_laid none h count is = grind arith
 pub laid_some : (count h : ℕ) → 0 < count → cond (count == 0) 0 (count + h) ≡ count + h
 laid_some count h some = cond-false (count == 0) 0 (count + h) (ne_eqb count 0 (λ is. omega (arith, some, is)))
 
-none_yet : (count : ℕ) → (count == 0) ≡ true → count ≡ 0
-none_yet count is = eqb-true count 0 is
-
 pub laid_by : (setup : Setup) (bis : ℕ) (calls : List Call) → LaidBy setup (laid_before setup.info calls) (framed_calls setup bis calls)
 laid_by setup bis [] = record { count_is = refl; each = λ n laying at. absurd (none-some laying at) }
 laid_by setup bis (give stream time octets ∷ calls) = elim (cases_eq stream bis) [
@@ -45,7 +42,7 @@ laid_by setup bis (give stream time octets ∷ calls) = elim (cases_eq stream bi
 ]
 laid_by setup bis (event ∷ calls) =
     subst (λ n. LaidBy setup n (framed_calls setup bis (event ∷ calls)))
-    (count_laid (events calls == 0) (horizon_of setup.info) (events calls) (none_yet (events calls)) ∙ sym (laid_some (suc (events calls)) (horizon_of setup.info) (omega arith)))
+    (count_laid (events calls == 0) (horizon_of setup.info) (events calls) (eqb-true (events calls) 0) ∙ sym (laid_some (suc (events calls)) (horizon_of setup.info) (omega arith)))
     (lay_all setup (laid_before setup.info calls) (laid_with setup.info calls) (framed_calls setup bis calls) (laid_by setup bis calls))
 
 -- an air has an entry for each event laid

@@ -1,7 +1,7 @@
 -- Over two airs that meet the relation of their framing the same happens: relays offer the same units, and source 1 takes the same of
 -- them.
-use Rattle.scenario_laws.proofs.Known.Sources.{arith, ℕ, ◌≡◌, ◌∙◌, cond, not, Bool, true, false, List, [], ◌∷◌, None, refl, ap, flat_map, Step, Offer, after_offer, after_offers, answered_by, closes_first, dropped_for, handed_of, happened, offered_of, offers_at, with_relayed_unit_unless, with_relayed_units, refusal_of, relay_of, setup_of, source_calls, Airs, AreSaidLegally, ◌+◌, ◌==◌, ◌++◌, length, Option, sym, subst, TextLine, Account, Accepted, End, accepted_of, accepted_unless, end_unless, out, out_unless, AreAirs, stale_of, event_fault, Refusal, chosen_of, chosen_steps, is_started, stale_in, MeetAirs, closing_both, handed_up, line_refusal, close_lines, first_lines, output_of, sums_of, unit_lines, handed_said, output_said, refusal_said, rules_of, steps_of, end_after, out_of, transcript_end, transcript_of, units_of, sink_numbers, closing, answered, Runs, happens_legally, left_by_offers, line_passes, runs_at, runs_still, unless_legal, Legal, LinesInRange, legal, permitted, said_legally, lawful, takes, Lawful, are_accepted, checked, group_in, hears, no_end, settled, end_of, event as perform, Said, line_handed_on as handed_on, said_after}
-use Rattle.scenario_laws.proofs.TwoAirs.{Both, Twice, closing_same, in_order, its_same, legal_too, chosen_same, closing_both_same, handed_same, handed_up_same, pdu_same, refusal_same, sink_same}
+use Rattle.scenario_laws.proofs.Known.Sources.{arith, ℕ, ◌≡◌, ◌∙◌, cond, not, Bool, true, false, List, [], ◌∷◌, None, refl, ap, flat_map, Step, Offer, after_offer, after_offers, answered_by, closes_first, dropped_for, handed_of, happened, offered_of, offers_at, with_relayed_unit_unless, with_relayed_units, refusal_of, relay_of, setup_of, source_calls, Airs, AreSaidLegally, ◌+◌, ◌==◌, ◌++◌, length, Option, sym, subst, TextLine, Account, Accepted, End, accepted_of, accepted_unless, end_unless, out, out_unless, AreAirs, stale_of, event_fault, Refusal, chosen_of, chosen_steps, is_started, stale_in, MeetAirs, closing_both, handed_up, line_refusal, close_lines, first_lines, output_of, sums_of, unit_lines, handed_said, output_said, refusal_said, rules_of, steps_of, end_after, out_of, transcript_end, transcript_of, units_of, sink_numbers, closing, answered, Runs, happens_legally, left_by_offers, line_passes, runs_at, runs_still, unless_legal, Legal, LinesInRange, legal, permitted, said_legally, lawful, takes, Lawful, are_accepted, checked, group_in, no_end, settled, end_of, event as perform, Said, line_handed_on as handed_on, said_after}
+use Rattle.scenario_laws.proofs.TwoAirs.{Both, Twice, closing_same, in_order, its_same, legal_too, chosen_same, closing_both_same, handed_same, handed_up_same, refusal_same, sink_same}
 
 -- ---- units that are offered
 
@@ -124,21 +124,7 @@ ends_same airs others both starts made legal none =
 said_brought : (airs others : Airs) → Both airs others → (starts : List Account) (made : List Step) (said : Said) → Legal airs (length starts) made
     → refusal_said airs (length starts) made said ≡ None → output_said airs starts made said ≡ output_said others starts made said
 said_brought airs others both starts made said legal none =
-    grind (
-      arith,
-      legal,
-      line_passes,
-      close_same,
-      stale_same,
-      legal_too,
-      ends_same,
-      handed_up_same,
-      sink_same,
-      pdu_same,
-      chosen_same,
-      hears,
-      permitted,
-    )
+    grind (arith, close_same, stale_same, legal_too, ends_same, handed_up_same, sink_same, chosen_same)
 
 -- what both airs share over a text with these boxes
 pub record Told (airs others : Airs) : Type 0 where

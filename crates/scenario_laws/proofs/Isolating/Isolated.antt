@@ -1,5 +1,5 @@
 -- The isolation law: by one induction over the steps, each of which is kept in both lists or left out of one.
-use Rattle.scenario_laws.proofs.Known.Sources.Steps.{ℕ, ◌≡◌, ◌≢◌, ◌⊎◌, ◌==◌, ◌&&◌, ◌||◌, ◌∙◌, cond, not, Bool, true, false, List, [], ◌∷◌, ◌++◌, arith, refl, sym, inl, inr, and_parts, eq-eqb, eqb-true, false≢true, not-true, state_at, language, view_of, waits_of, Step, Account, steps_of, Airs, chosen_of, is_common, is_source_line, calls_made, IsIsolated, IsolationLaw, NoOtherPuts, kept_lines, lines_by, lines_of, puts, chooses, is_kept, is_other, is_sink, only, sink_in, notices_same, waiting_same, Same}
+use Rattle.scenario_laws.proofs.Known.Sources.Steps.{ℕ, ◌≡◌, ◌≢◌, ◌⊎◌, ◌==◌, ◌&&◌, ◌||◌, cond, not, Bool, true, false, List, [], ◌∷◌, ◌++◌, arith, refl, inl, inr, and_parts, eqb-true, false≢true, not-true, state_at, language, view_of, waits_of, Step, Account, steps_of, Airs, chosen_of, is_common, is_source_line, calls_made, IsIsolated, IsolationLaw, NoOtherPuts, kept_lines, lines_by, lines_of, puts, chooses, is_kept, is_other, is_sink, only, sink_in, notices_same, waiting_same, Same, eqb-false}
 use Rattle.scenario_laws.proofs.Isolating.Left.{elsewhere, another_sink, left_out}
 use Rattle.scenario_laws.proofs.Isolating.Kept.{Means, kept}
 use Rattle.scenario_laws.proofs.Isolating.Printed.{replied_same, lines_same, append_same}
@@ -15,16 +15,13 @@ names_one : (n : ℕ) (step : Step) → is_sink n (sink_in step) ≡ false → i
     → (is_common step || chooses step) ≡ false → is_other n (sink_in step) ≡ true
 names_one n step not line common = grind (arith, false≢true)
 
-apart_from : (c s : ℕ) → (c == s) ≡ false → c ≢ s
-apart_from c s is same = false≢true (sym is ∙ eq-eqb c s same)
-
 fate : (s n : ℕ) (step : Step) (made : List Step) → is_kept s n made step ≡ false
     → (is_other n (sink_in step) ≡ true) ⊎ ((is_source_line step ≡ true) × (chosen_of made ≢ s))
 fate s n step made is =
     elim (by_tests (is_common step || chooses step) (is_source_line step) (chosen_of made == s) (is_other n (sink_in step))
     (is_sink n (sink_in step)) is (names_one n step)) [
       | inl other ↦ inl other
-      | inr elsewhere ↦ inr (elsewhere.0, apart_from (chosen_of made) s elsewhere.1)
+      | inr elsewhere ↦ inr (elsewhere.0, eqb-false (chosen_of made) s elsewhere.1)
     ]
 
 -- ---- what a step is that is kept

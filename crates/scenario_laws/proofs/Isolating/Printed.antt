@@ -1,7 +1,6 @@
 -- What a step that both lists of steps have prints of the sink, of its assistants and of the source.
-use Rattle.scenario_laws.proofs.Known.Sources.{ℕ, zero, suc, ◌≡◌, ◌∙◌, List, ◌++◌, length, map, Option, refl, ap, arith, codes, decimal, option_map, slice_get, range_with_len, Settings, Train, answer_of, outcome_by, state_at, value, writes_waiting, served_out, notified_out, language, notices_waiting, reads_waiting, view_of, Step, Label, reply_line, sink_line, train_words, value_line, Source, drain_lines, heard_line, if_there, printed_where, read_line, read_lines, replied, serve_line, serve_lines, show_lines, stated, tell_line, tell_lines, view_lines, was_read, ◌==◌, not, false, concat, flat_map, eqb-true, not-false, control_line, handed_line, injected_hearing, stale_lines, is_of, sink_calls, source_of, end_pdu, event_back, stale_in, Airs, chosen_of, chosen_steps, calls_made, source_at, made_of, lines_by, unit_lines_by, is_other, sink_in, LinkCall as Call, Alike, notices_same, reads_same, repeats, served_grow, told_grow, waiting_same, Sourced, HistoriesAlike, Same, chosen_alike, own_alike, back_same, end_same, pdu_back_same, both_alike}
-use Rattle.scenario_laws.proofs.Isolating.Kept.{Means, chosen_closing, cond_both, sourced}
-use Rattle.scenario_laws.proofs.Isolating.Said.{stale_same}
+use Rattle.scenario_laws.proofs.Known.Sources.{ℕ, zero, suc, ◌≡◌, ◌∙◌, List, ◌++◌, length, map, Option, refl, ap, arith, codes, decimal, option_map, slice_get, range_with_len, Settings, Train, answer_of, outcome_by, state_at, value, writes_waiting, served_out, notified_out, language, notices_waiting, reads_waiting, view_of, Step, Label, reply_line, sink_line, train_words, value_line, Source, drain_lines, heard_line, if_there, printed_where, read_line, read_lines, replied, serve_line, serve_lines, show_lines, stated, tell_line, tell_lines, view_lines, was_read, ◌==◌, not, false, concat, eqb-true, not-false, Airs, calls_made, source_at, made_of, lines_by, is_other, sink_in, LinkCall as Call, Alike, notices_same, reads_same, repeats, served_grow, told_grow, waiting_same, Sourced, HistoriesAlike, Same, both_alike}
+use Rattle.scenario_laws.proofs.Isolating.Kept.{Means, chosen_closing, sourced}
 
 -- ---- one call on a link
 
@@ -107,33 +106,4 @@ named_same airs s n sink line made others this means same =
 
 pub lines_same : (airs : Airs) (s n : ℕ) (step : Step) (made others : List Step) → is_other n (sink_in step) ≡ false → Means s made step
     → Same airs s n made others → lines_by airs n made step ≡ lines_by airs n others step
-lines_same airs s n last made others this means same =
-    grind (
-      arith,
-      append_same,
-      unit_lines_by,
-      chosen_of,
-      stale_lines,
-      stale_in,
-      chosen_steps,
-      flat_map,
-      handed_line,
-      chosen_closing,
-      stale_same,
-      own_alike,
-      control_line,
-      end_pdu,
-      end_same,
-      both_alike,
-      injected_hearing,
-      this_one,
-      cond_both,
-      is_of,
-      source_of,
-      sink_calls,
-      event_back,
-      chosen_alike,
-      back_same,
-      pdu_back_same,
-      named_same,
-    )
+lines_same airs s n last made others this means same = grind (arith, chosen_closing, both_alike, this_one, named_same)

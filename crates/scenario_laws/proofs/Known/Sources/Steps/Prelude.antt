@@ -78,7 +78,7 @@ pub use Rattle.scenario_history.specs.Bases.{base_lines, base_of, is_base_too_lo
 pub use Rattle.scenario_history.specs.Boxes.{closing_both, handed_up, SinkUnit, handed_by, box_after, box_of, closing_at, closing_by, closing_in, onto_valid, valid_for, closing}
 unfoldable pub use Rattle.scenario_history.specs.Boxes.{sink_numbers}
 pub use Rattle.scenario_history.specs.Lines.{a_step, nothing, unsaid, said_by, said_in, steps_of, with_said, refusal_said, rules_of, output_said, handed_said, said_of, Said, handed_on as line_handed_on, said_after}
-pub use Rattle.scenario_history.specs.Output.{close_lines, first_lines, output_of, sums_of, unit_lines, stale_lines, injected_hearing, sink_lines}
+pub use Rattle.scenario_history.specs.Output.{close_lines, first_lines, output_of, sums_of, unit_lines, stale_lines, sink_lines}
 pub use Rattle.scenario_history.specs.Refusals.{line_refusal, refusal_of, group_refusal, give_refusal, no_sink, is_misplaced, is_out_of_phase, source_refusal, gives_on, is_relayed, train_ends, counter_ends, air_refusal, is_out_of_order, own_refusal, sink_refusal, twin_refusal, is_relay_beyond, may_relay, relayed_or}
 unfoldable pub use Rattle.scenario_history.specs.Refusals.{has_beyond}
 pub use Rattle.scenario_history.specs.RelayedUnits.{happened, answered_by, handed_of, Answered, Offer, after_offer, after_offers, closes_first, dropped_for, offered_of, offers_at, with_relayed_unit_unless, with_relayed_units, offers_before, units_on, all_answered, offered_to, answered, passed, handed_of as of_sink}
@@ -91,7 +91,7 @@ pub use Rattle.scenario_history.specs.Transcript.{end_after, out_of, transcript_
 pub use Rattle.scenario_history.specs.Worlds.{calls_made, source_at, big_sync_on, the_world, announced_of}
 pub use Rattle.scenario_laws.specs.HearingLaw.{IsHeardMore, LosesNothing, no_steps, both_made, hear_more, air_more, none_lost, HearingLaw, HearingLinesLaw, AllHearingLaw, AllHearingLinesLaw, AllPlacesLaw, shown}
 pub use Rattle.scenario_laws.specs.HearingMore.{HearsMore, StandIn, no_calls, both_take, more_hears, no_units, both_have, other_has, DecidedHearing, FramedHearing, HandedHearing, UnframedHearing, entry_in, Keeps}
-pub use Rattle.scenario_laws.specs.Isolation.{units_by, lines_by, lines_of, puts, unit_lines_by, IsIsolated, IsolationLaw, NoOtherPuts, kept_lines}
+pub use Rattle.scenario_laws.specs.Isolation.{units_by, lines_by, lines_of, puts, IsIsolated, IsolationLaw, NoOtherPuts, kept_lines}
 pub use Rattle.scenario_laws.specs.Laws.{is_tuned, any_since, given_since_made, injected_since, is_given, is_injected, is_made, IsFramedStruck, IsStayStruck, UnitsLaw, calls_on, Closed, closed_by, closed_in, closed_since, handed_since, shown_since, air_in, slots_closed, closed_at, SegmentPlace, OrderLaw, StepsInOrder, steps_before, slots_in, InStartOrder, IsOfStart, StaysInOrder, AreInOrder, IsBefore, closed_if}
 pub use Rattle.scenario_laws.specs.Moments.{AreAtTimes, IsAtTime, moment_of_time, IsTaker, IsAtMoments, IsForSlot, IsForTime, IsOneMoment, MomentLaw, accepted_in, moment_of_slot, slots_since, setup_in}
 pub use Rattle.scenario_laws.specs.Only.{is_other, sink_in, chooses, is_kept, only}
