@@ -101,8 +101,7 @@ module _ (reads : Reads) (starts : List Account) where
         by_count : (n : ℕ) → length starts ≡ n → n < 2 → transcript_end airs_of starts (lines_made seed events) ≡ refused (length starts + 3) NoOutlet
         by_count zero is less =
             fails 2 3 refl ((refl, refl), ((refl, refl), (refl, first_sink (length starts) true
-                (le-leb (length starts) 0 (omega (arith, is))))))
-            ∙ ap (λ n. refused (n + 3) NoOutlet) (sym is)
+                (le-leb (length starts) 0 (omega (arith, is)))))) ∙ ap (λ n. refused (n + 3) NoOutlet) (sym is)
         by_count (suc zero) is less =
             fails 3 4 refl ((refl, refl), ((refl, refl), ((refl, first_sink (length starts) false
                 (lt-leb (length starts) 0 (omega (arith, is)))),

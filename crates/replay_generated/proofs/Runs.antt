@@ -68,8 +68,7 @@ units_rest starts history (line ∷ lines) = by (refusal_at starts history line)
   where
     by : (why : Option Refusal)
         → (rest : List SinkUnit) × (handed_up airs_of (steps_of airs_of (accepted_of (rules_of airs_of starts) (line ∷ history) lines))
-        ≡ handed_up airs_of (steps_of airs_of (line ∷ history)) ++ rest)
-        → (rest : List SinkUnit) × (handed_up airs_of (steps_of airs_of
+        ≡ handed_up airs_of (steps_of airs_of (line ∷ history)) ++ rest) → (rest : List SinkUnit) × (handed_up airs_of (steps_of airs_of
             (accepted_unless history why (accepted_of (rules_of airs_of starts) (line ∷ history) lines)))
         ≡ handed_up airs_of (steps_of airs_of history) ++ rest)
     by (Some reason) more = ([], sym (append-nil (handed_up airs_of (steps_of airs_of history))))
@@ -113,8 +112,7 @@ running_none olds starts lines left all machine counts are is stands none = reco
 }
 
 module _ {A : Type 0} {olds news : List A} {starts accounts : List Account} {lines : List TextLine} {left : List (List ℕ)} {number : ℕ}
-    {machine : Machine}
-    {counts : Counts} (r : Running olds news starts accounts lines left number machine counts) where
+    {machine : Machine} {counts : Counts} (r : Running olds news starts accounts lines left number machine counts) where
   took : Took starts accounts (handed_up airs_of (steps_of airs_of r.history))
   took = took_history starts accounts r.history r.run.stands.boxes
 
@@ -161,8 +159,7 @@ module _ {A : Type 0} {olds news : List A} {starts accounts : List Account} {lin
     ends_here ends new counts' (endings.Refused at reason) f = record {
       ends_so = ends_refused starts r.history r.run.accepted lines (plain line) (map plain later) reason split_at f.because
           ∙ ap (λ n. refused n reason) (sym f.number_is);
-      counted = f.counted
-          ∙ ap (λ n. counts_of (brought (rules_of airs_of starts) r.history ++ refusal_line n reason)) f.number_is
+      counted = f.counted ∙ ap (λ n. counts_of (brought (rules_of airs_of starts) r.history ++ refusal_line n reason)) f.number_is
           ∙ ap counts_of (sym (writes_refused starts r.history r.run.accepted lines (plain line) (map plain later) reason split_at f.because));
       boxes = took_as starts ends _ _ (sym (units_refused starts r.history r.run.accepted lines (plain line) (map plain later) reason split_at f.because))
           (took_at starts accounts ends (handed_up airs_of (steps_of airs_of r.history)) f.same took);
@@ -182,8 +179,7 @@ module _ {A : Type 0} {olds news : List A} {starts accounts : List Account} {lin
           split = ap (units_of airs_of starts) split_at ∙ more.1 ∙ ap (λ us. (before ++ us) ++ more.0) cut.1.split ∙ simp append_assoc;
           boxes = took_at starts (accounts_after starts (before ++ cut.1.done)) ends (before ++ cut.1.done)
               (cut.1.boxes ∙ ap (λ a. accounts_after a cut.1.done) r.run.stands.boxes.accounts_are
-                  ∙ sym (accounts_append before cut.1.done starts))
-              (took_all starts (before ++ cut.1.done));
+                  ∙ sym (accounts_append before cut.1.done starts)) (took_all starts (before ++ cut.1.done));
         }
 
     -- the line was run
@@ -203,8 +199,7 @@ module _ {A : Type 0} {olds news : List A} {starts accounts : List Account} {lin
 
     pub runs_out : (ends : List Account) (new : Machine) (counts' : Counts) (number' : ℕ) (result : Option Ending) (ending : Ending) → number' ≡ number + 1 → result ≡ Some ending
         → ((history : List TextLine) → number' ≡ length history + 1 → RunTo starts history counts machine accounts
-        → LineRuns starts history (plain line) counts' new accounts ends result)
-        → Ran starts ends lines counts' ending
+        → LineRuns starts history (plain line) counts' new accounts ends result) → Ran starts ends lines counts' ending
     runs_out ends new counts' number' result ending more is runs =
         let P : Option Ending → Type 0 = λ o. LineRuns starts r.history (plain line) counts' new accounts ends o in
         ends_here ends new counts' ending (subst P is (runs r.history (more ∙ ap (λ n. n + 1) r.number_is) r.run))

@@ -13,8 +13,7 @@ pub told : (text : List ℕ) (left left' : Option (List ℕ)) (prefix : List ℕ
 told text left left' prefix tells c = grind arith
 
 pub rest_of : (text : List ℕ) (left left' : Option (List ℕ)) (prefix : List ℕ) (over : Bool) → left ≡ Some text
-    → TextRead left left' prefix over
-    → (rest : List ℕ) × (text ≡ prefix ++ rest) × MayFollow over true rest
+    → TextRead left left' prefix over → (rest : List ℕ) × (text ≡ prefix ++ rest) × MayFollow over true rest
 rest_of text left left' prefix over tells read = grind (arith, told)
 
 module _ (old new : World) where
@@ -41,8 +40,7 @@ module _ (old new : World) where
         let more = units_more airs_of old.boxes [] (reverse (o.line ∷ o.earlier)) at.0 in
         failure old.boxes new.boxes o.accounts us (handed_on airs_of o.earlier o.line) (f.rest ++ more.0)
             (units_of airs_of old.boxes (lines_of true text))
-        [] stops.0 o.before f
-        (ap (λ t. units_of airs_of old.boxes (lines_of true t)) r.1
+        [] stops.0 o.before f (ap (λ t. units_of airs_of old.boxes (lines_of true t)) r.1
             ∙ ap (units_of airs_of old.boxes) (at.1 ∙ sym (reverse_onto o.line o.earlier at.0))
         ∙ more.1 ∙ ap (λ all. all ++ more.0) (units_added old.boxes o.earlier o.line o.accepted ∙ ap (λ all. us ++ all) f.split)
             ∙ simp append_assoc)

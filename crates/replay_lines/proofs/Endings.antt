@@ -96,10 +96,8 @@ ends_at_once starts left kept = record {
 
 -- NoEnd
 module _ {starts : List Account} {history : List TextLine} {left left' kept mid : Option (List ℕ)} {machine : Machine}
-    {accounts : List Account}
-    {number : ℕ} (is_next : number ≡ length history + 1) (t : TextIs left left' history true)
-        (r : RunTo starts history kept mid machine accounts)
-    (not_over : is_over (steps_of airs_of history) ≡ false) where
+    {accounts : List Account} {number : ℕ} (is_next : number ≡ length history + 1) (t : TextIs left left' history true)
+        (r : RunTo starts history kept mid machine accounts) (not_over : is_over (steps_of airs_of history) ≡ false) where
   no_end_line : transcript_of airs_of starts (lines_of true t.text) ≡ brought (rules_of airs_of starts) history ++ refusal_line number NoEnd
   no_end_line = rw (t.whole, is_next) (writes_through starts history r.accepted false not_over)
 

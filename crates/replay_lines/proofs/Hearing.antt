@@ -67,8 +67,7 @@ pub heard_run : (may_fail : Bool) (old new : World) (ending : Ending)
     → (ending ≢ endings.WriteFault → new.writes ≡ old.writes) → Laws old.boxes → Heard old new ending
 heard_run may_fail old new ending e within read no_read write no_write laws = record {
   run = promised_run old (record { left = new.left; reads = new.reads; taken = new.taken; writes = old.writes; boxes = new.boxes })
-      (as_told true ending)
-      (told_more airs_of old.boxes new.boxes old.left new.left old.taken new.taken may_fail ending e) within
+      (as_told true ending) (told_more airs_of old.boxes new.boxes old.left new.left old.taken new.taken may_fail ending e) within
       (λ is. read (read_told ending is)) (λ other. no_read (λ is. other (ap (as_told true) is)))
       (λ is. absurd (never_write ending is)) (λ other. refl) laws;
   write_fault = write;

@@ -106,8 +106,7 @@ module _ {starts : List Account} {history : List TextLine} {line : TextLine} {le
             ∙ ap (λ us. us ++ more.0) (p.adds ∙ ap (λ us. us ++ p.units) (units_all starts history run.accepted)
             ∙ ap (λ us. all ++ us) cut.split) ∙ simp append_assoc;
         boxes = subst P (accounts_append all cut.done starts ∙ ap (λ a. accounts_after a cut.done) (sym run.stands.boxes.accounts_are)
-            ∙ sym cut.boxes)
-            (took_all starts (all ++ cut.done));
+            ∙ sym cut.boxes) (took_all starts (all ++ cut.done));
       }
 
   ends_broken : (kept' : Option (List ℕ)) (after : List Account) (octets : List ℕ) (p : Partway starts history line before after octets)

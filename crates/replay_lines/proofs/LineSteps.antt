@@ -9,9 +9,8 @@ use Rattle.replay_lines.proofs.LineEndings.{ends_refusal}
 ahead_at : {left left' : Option (List ℕ)} {m n : ℕ} → m ≡ n → ReadsAhead left left' m → ReadsAhead left left' n
 ahead_at e a = rw e at a
 
-pub line_ahead : {left left' : Option (List ℕ)} {history : List TextLine} {reader : Reading} {line : TextLine} {number : ℕ} → number
-    ≡ length history + 1
-    → ReadTo left left' (line ∷ history) reader → ReadsAhead left left' number
+pub line_ahead : {left left' : Option (List ℕ)} {history : List TextLine} {reader : Reading} {line : TextLine} {number : ℕ}
+    → number ≡ length history + 1 → ReadTo left left' (line ∷ history) reader → ReadsAhead left left' number
 line_ahead is_next r = ahead_at (omega arith) (ahead_of r)
 
 module _ {starts : List Account} {history : List TextLine} {left left' kept mid : Option (List ℕ)} {machine : Machine}
@@ -19,8 +18,7 @@ module _ {starts : List Account} {history : List TextLine} {left left' kept mid 
     (is_next : number ≡ length history + 1) (run : RunTo starts history kept mid machine accounts) (kept' : Option (List ℕ))
         (ending : Ending) where
   pub line_past : Comes left left' history past × ReadsAhead left left' (length history + 1)
-      → Refuses number refusals.TextTooLong mid kept' ending
-      → Ended airs_of ending starts accounts left left' kept kept'
+      → Refuses number refusals.TextTooLong mid kept' ending → Ended airs_of ending starts accounts left left' kept kept'
   line_past n f = ends_refusal is_next n.0 (ahead_at (sym is_next) n.1) run kept' refusals.TextTooLong refl ending f
 
   pub line_long : {reader : Reading} → ReadTo left left' (too_long ∷ history) reader → Refuses number refusals.LineTooLong mid kept' ending
@@ -29,8 +27,7 @@ module _ {starts : List Account} {history : List TextLine} {left left' kept mid 
 
 -- the line that a reader lends
 pub line_read : {left left' : Option (List ℕ)} {history : List TextLine} {reader : Reading} (lent : List ℕ)
-    → NextIs left left' history reader (Ok Line)
-    → reader.line ≡ Some lent → ReadTo left left' (plain lent ∷ history) reader
+    → NextIs left left' history reader (Ok Line) → reader.line ≡ Some lent → ReadTo left left' (plain lent ∷ history) reader
 line_read lent n is = grind (arith, plain)
 
 pub step_line : (may_fail : Bool) (starts : List Account) (history : List TextLine) (line : TextLine) (left left' kept kept' : Option (List ℕ)) (reader : Reading) (machine : Machine) (accounts : List Account)
@@ -65,10 +62,8 @@ bound_none reader new = let P : Reading → Type 0 = λ r. 1 + lines_left r ≤ 
 
 -- the next line was run, or the run ended at it
 module _ {A : Type 0} {olds mids : List A} {starts before : List Account} {left mid kept put : Option (List ℕ)} {number : ℕ} {old : Reading}
-    {machine : Machine}
-    (r : Running olds mids starts before left mid kept put number old machine) (may_fail : Bool) (after : List Account)
-        (left' kept' : Option (List ℕ))
-    (new : Reading) (machine' : Machine) (result : Option Ending)
+    {machine : Machine} (r : Running olds mids starts before left mid kept put number old machine) (may_fail : Bool) (after : List Account)
+        (left' kept' : Option (List ℕ)) (new : Reading) (machine' : Machine) (result : Option Ending)
     (runs : (lines : List TextLine) → number ≡ length lines + 1 → ReadTo left mid lines old → RunTo starts lines kept put machine before
     → LineRuns may_fail starts lines left left' kept kept' new machine' after result) where
   pub running_more : (news : List A) → result ≡ None

@@ -64,18 +64,15 @@ module _ (airs : Airs) (starts : List Account) where
         more.1 ∙ ap (λ us. us ++ more.0) (handed_line airs history line) ∙ simp append_assoc,
       )
 
-  pub units_more : (history lines later : List TextLine)
-      → (rest : List SinkUnit)
+  pub units_more : (history lines later : List TextLine) → (rest : List SinkUnit)
       × (handed_up airs (steps_after airs starts history (lines ++ later)) ≡ handed_up airs (steps_after airs starts history lines) ++ rest)
   units_more history [] later = units_rest history later
   units_more history (line ∷ lines) later =
       by_refusal ((rules_of airs starts).refusal history line) (units_more (line ∷ history) lines later)
     where
-      by_refusal : (why : Option Refusal)
-          → (rest : List SinkUnit)
+      by_refusal : (why : Option Refusal) → (rest : List SinkUnit)
           × (handed_up airs (steps_after airs starts (line ∷ history) (lines ++ later))
-          ≡ handed_up airs (steps_after airs starts (line ∷ history) lines) ++ rest)
-          → (rest : List SinkUnit)
+          ≡ handed_up airs (steps_after airs starts (line ∷ history) lines) ++ rest) → (rest : List SinkUnit)
           × (handed_up airs (steps_unless airs starts history line why (lines ++ later))
           ≡ handed_up airs (steps_unless airs starts history line why lines) ++ rest)
       by_refusal (Some reason) more = ([], sym (append-nil (handed_up airs (steps_of airs history))))

@@ -125,8 +125,7 @@ module _ (old new : World) (text : List ℕ) (document : DocumentIs old.left new
         one_outlet_fault = p.one_outlet_fault;
         boxes = λ airs meets told tells whole.
             rw (document_told old.left new.left told tells (stands_for text) document) (p.boxes airs meets text refl whole);
-        complete = λ airs meets told tells.
-            rw (document_told old.left new.left told tells (stands_for text) document)
+        complete = λ airs meets told tells. rw (document_told old.left new.left told tells (stands_for text) document)
             (complete_in airs old.reads new.reads ending (p.complete airs meets text refl));
         reads_at_most = prefix_read old.left new.left (stands_for text) document;
         laws = laws_of (over_text (Some text) old.taken old.writes old.boxes) (over_text left new.taken new.writes new.boxes) ending p;

@@ -16,8 +16,7 @@ lines_told text left left' lines reader is r =
 
 -- the last line was run
 pub unassigned_at : {A : Type 0} {olds mids : List A} {starts accounts : List Account} {left mid kept kept' : Option (List ℕ)} {number : ℕ}
-    {reader : Reading}
-    {machine : Machine} (news : List A) (r : Running olds mids starts accounts left mid kept kept' number reader machine)
+    {reader : Reading} {machine : Machine} (news : List A) (r : Running olds mids starts accounts left mid kept kept' number reader machine)
     → ((lines : List TextLine) → LinesStand starts lines machine accounts → UnassignedSame (steps_of airs_of lines) mids news)
     → (text : List ℕ) → left ≡ Some text → UnassignedRun starts (lines_of true text) olds news
 unassigned_at {left = left} {mid = mid} {reader = reader} news r same text is =

@@ -87,8 +87,7 @@ pub sends_as : (own : List Step) (started : Source) (bis : ℕ) (r : Option (Lis
     → IfSome r (λ sent. (calls : List Call) (airs : List Air) → StandsFor calls started → AreAirs started.setup calls airs
     → map Some sent ≡ map (pdu_of started.setup airs (next_of started.setup calls - 1) bis) (range_with_len 0 started.setup.info.nse))
     → OnSome r ((calls : List Call) → StandsFor calls started → (s : ℕ) → s < started.setup.info.nse → air_fault started.setup calls 0 bis s ≡ None)
-    → IfNone r ((calls : List Call) → StandsFor calls started → (s : ℕ) → air_fault started.setup calls 0 bis s ≢ None)
-    → SentIs own bis r
+    → IfNone r ((calls : List Call) → StandsFor calls started → (s : ℕ) → air_fault started.setup calls 0 bis s ≢ None) → SentIs own bis r
 sends_as own started bis None is checked sent on_air none = sends_not own started.setup bis is.setup (none (source_calls own) is.calls)
 sends_as own started bis (Some pdus) is checked sent on_air none =
     let calls : List Call = source_calls own in
@@ -117,8 +116,7 @@ gives version own old new bis time octets (Err (Refused reason)) is plain identi
 gives version own old new bis time octets (Err _) is plain identity said g = g
 
 -- a unit that doesn't fit is refused for that, also where its stream has had a relay, and any other is Relayed
-relayed_by : (a b c d : Bool)
-    → relayed_or true (option_map give_refusal
+relayed_by : (a b c d : Bool) → relayed_or true (option_map give_refusal
     (if a then Some faults.NoSuchBis else (if b then Some faults.UnitTooLong else (if c then Some faults.TimeOrder else (if d then Some faults.Backlog else None)))))
     ≡ Some (misfit_refusal_of (option_map answer_of (if a then Some faults.NoSuchBis else (if b then Some faults.UnitTooLong else (if c then Some faults.TimeOrder else None)))))
 relayed_by a b c d = grind arith

@@ -29,8 +29,7 @@ returns-in-Ok-TextTooLong-clause-runs g c =
     let kept' = g.K.ByteSink.contents c.refuse.new.sink in
     ended_told airs_of starts boxes left (g.S.ByteSource.left c.read_next.new.source) kept kept' g.L.Listener.may_fail c.refuse.result
     (line_past e run kept' c.refuse.result (rw (c.in-Ok-TextTooLong.is ∙ ap Ok c.in-Ok-TextTooLong.field-0-is) at
-        (c.read_next.ensures.next left lines read))
-    c.refuse.ensures.refuses)
+        (c.read_next.ensures.next left lines read)) c.refuse.ensures.refuses)
 
 pub returns-in-Ok-LineTooLong-clause-runs : goal.returns-in-Ok-LineTooLong-clause-runs
 returns-in-Ok-LineTooLong-clause-runs g c =

@@ -36,5 +36,4 @@ pub returns-in-Err-Memory-clause-runs : goal.returns-in-Err-Memory-clause-runs
 returns-in-Err-Memory-clause-runs g c =
     λ starts lines left left' kept e comes ahead run.
     run_memory e comes ahead run c.line.new.self _ c.clear.new.self c.line.new.text c.line.result c.clear.ensures
-        (c.line.ensures.meets starts lines)
-    (c.in-Err-Memory.is ∙ ap Err c.in-Err-Memory.field-0-is)
+        (c.line.ensures.meets starts lines) (c.in-Err-Memory.is ∙ ap Err c.in-Err-Memory.field-0-is)
