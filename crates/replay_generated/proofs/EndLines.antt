@@ -16,4 +16,4 @@ ended prefix = simp (map-append, reverse-append, read_end)
 pub made_end : (seed events : ℕ) → lines_made seed events ≡ map plain (generated_lines seed events) → has_end (lines_made seed events) ≡ true
 made_end seed events are =
     let last = generated_end seed events in
-    ap has_end are ∙ ap (λ ls. has_end (map plain ls)) last.whole ∙ ended last.prefix
+    ap has_end are ∙ ap (λ ls. has_end (map plain ls)) last.1 ∙ ended last.0

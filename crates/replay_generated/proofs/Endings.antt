@@ -1,10 +1,9 @@
 -- How the generated lines end: at their last, or where no box is left for a sink.
-use Rattle.replay_generated.proofs.Prelude.{◌≡◌, ℕ, zero, suc, ◌+◌, ◌<◌, ◌≤◌, true, false, List, [], ◌∷◌, length, map, codes, refl, sym, ap, subst, ◌∙◌, arith, None, Some, Ok, lt-leb, le-leb, TextLine, plain, Account, airs_of, Refusal, NoOutlet, End, through, refused, end_of, end_unless, LineIs, Step, generated_lines, a_step, refusal_said, rules_of, said_after, said_by, said_in, said_of, with_said, refusal_of, version_of, end_after, has_end, last_end_after, transcript_end, refusal_at, lines_made}
+use Rattle.replay_generated.proofs.Prelude.{◌≡◌, ℕ, zero, suc, ◌+◌, ◌<◌, ◌≤◌, true, false, List, [], ◌∷◌, length, map, refl, sym, ap, subst, ◌∙◌, arith, None, Some, Ok, lt-leb, le-leb, TextLine, plain, Account, airs_of, Refusal, NoOutlet, End, through, refused, end_of, end_unless, LineIs, Step, generated_lines, a_step, refusal_said, rules_of, said_after, said_by, said_in, said_of, with_said, refusal_of, version_of, end_after, has_end, last_end_after, transcript_end, refusal_at, lines_made}
 use Rattle.scenario_text.specs.Steps.{read_of}
-use Rattle.scenario_lines.specs.Generated.{lines_from, unit_line}
 use Rattle.scenario_history.specs.Relays.{has_relay, makes_relay}
 use Rattle.scenario_laws.proofs.RelayedUnits.Citable.{SaidNever, none_relayed, nothing_else, plain_after, says_no_relay}
-use Rattle.replay_generated.proofs.Accepting.{AllFine, all_fine, first_sink, group_step, made_steps, scenario_step, second_sink, sink_step}
+use Rattle.replay_generated.proofs.Accepting.{AllFine, all_fine, first_sink, made_steps, second_sink}
 use Rattle.replay_generated.proofs.EndLines.{made_end}
 use Rattle.replay_generated.proofs.GeneratedText.{generated_read}
 use Rattle.replay_generated.proofs.Saying.{AllSay, all_say}
@@ -16,6 +15,13 @@ Reads = (version : ℕ) (line : List ℕ) (next : Step) → LineIs version next 
 -- a step that a line of version 1 says is no `relay`
 never_relay : (line : List ℕ) (next : Step) → read_of 1 line ≡ Ok (Some next) → makes_relay next ≡ false
 never_relay line next reads = subst SaidNever (ap said_by reads) (says_no_relay 1 (plain line) refl)
+
+-- so many of these steps aren't refused after those made before, and the next one is for this reason; all are of version 1
+abbrev FailsAt : ℕ → List Step → List Step → ℕ → Refusal → Type 0
+FailsAt boxes made [] n reason = ⊥
+FailsAt boxes made (next ∷ later) zero reason = (version_of made ≡ 1) × (refusal_of airs_of boxes made next ≡ Some reason)
+FailsAt boxes made (next ∷ later) (suc n) reason =
+    ((version_of made ≡ 1) × (refusal_of airs_of boxes made next ≡ None)) × FailsAt boxes (next ∷ made) later n reason
 
 module _ (reads : Reads) (starts : List Account) where
   -- the next line says a step
@@ -52,6 +58,20 @@ module _ (reads : Reads) (starts : List Account) where
       (plain_after made next (never_relay line next (reads 1 line next say.0)) unrelayed) say.1 fine.1
   all_accepted history made _ _ are unrelayed say fine = absurd say
 
+  all_refused : (history : List TextLine) (made : List Step) (n number : ℕ) (lines : List (List ℕ)) (steps : List Step) (reason : Refusal)
+      → number ≡ length history + n + 1 → said_of history ≡ made → has_relay made ≡ false → AllSay lines steps
+      → FailsAt (length starts) made steps n reason → end_of (rules_of airs_of starts) history (map plain lines) ≡ refused number reason
+  all_refused history made zero number (line ∷ lines) (next ∷ later) reason is are unrelayed say fails =
+      refused_next history made line next are unrelayed fails.0 say.0 (map plain lines) reason fails.1
+          ∙ ap (λ k. refused k reason) (omega arith)
+  all_refused history made (suc n) number (line ∷ lines) (next ∷ later) reason is are unrelayed say fails =
+      accepted_next history made line next are unrelayed fails.0.0 say.0 (map plain lines) fails.0.1
+      ∙ all_refused (plain line ∷ history) (next ∷ made) n number lines later reason (omega arith)
+      (made_next history made line next are unrelayed fails.0.0 say.0)
+      (plain_after made next (never_relay line next (reads 1 line next say.0)) unrelayed) say.1 fails.1
+  all_refused history made n number [] [] reason is are unrelayed say fails = absurd fails
+  all_refused history made n number _ _ reason is are unrelayed say fails = absurd say
+
   -- ---- the generated lines
 
   module _ (seed events : ℕ) (most : events ≤ 100000) where
@@ -68,48 +88,23 @@ module _ (reads : Reads) (starts : List Account) where
     made_through two =
         last_of through (all_accepted [] [] (generated_lines seed events) (made_steps seed events) refl refl (all_say seed events) (all_fine (length starts) seed events two most))
 
-    -- the lines behind those of the sinks
-    abbrev behind : List TextLine
-    behind =
-        map plain (codes "start 0" ∷ codes "tuned 0 1" ∷ codes "tuned 1 2" ∷ unit_line 1 0 ∷ unit_line 2 0 ∷ lines_from seed 0 events)
-
-    abbrev group_line : List ℕ
-    group_line = codes "group unframed 20000 40000 8 10000 100 100 2 1 3 2 1 600 1800 1"
-
-    abbrev head : List TextLine
-    head = plain group_line ∷ plain (codes "scenario 1") ∷ []
-
-    head_made : said_of head ≡ group_step ∷ scenario_step ∷ []
-    head_made =
-        made_next (plain (codes "scenario 1") ∷ []) (scenario_step ∷ []) group_line group_step
-        (made_next [] [] (codes "scenario 1") scenario_step refl refl refl (all_say seed events).0) refl refl (all_say seed events).1.0
-
-    head_accepted : (later : List TextLine) → end_of (rules_of airs_of starts) [] (plain (codes "scenario 1") ∷ plain group_line ∷ later) ≡ end_of (rules_of airs_of starts) head later
-    head_accepted later =
-        accepted_next [] [] (codes "scenario 1") scenario_step refl refl refl (all_say seed events).0 (plain group_line ∷ later) refl
-        ∙ accepted_next (plain (codes "scenario 1") ∷ []) (scenario_step ∷ []) group_line group_step
-        (made_next [] [] (codes "scenario 1") scenario_step refl refl refl (all_say seed events).0) refl refl (all_say seed events).1.0
-            later refl
-
-    none_left : length starts ≡ 0 → end_of (rules_of airs_of starts) [] (map plain (generated_lines seed events)) ≡ refused 3 NoOutlet
-    none_left none =
-        head_accepted (plain (codes "sink 0 1 1") ∷ plain (codes "sink 1 1 1") ∷ behind)
-        ∙ refused_next head (group_step ∷ scenario_step ∷ []) (codes "sink 0 1 1") (sink_step 0) head_made refl refl (all_say seed events).1.1.0
-        (plain (codes "sink 1 1 1") ∷ behind) NoOutlet (first_sink (length starts) true (le-leb (length starts) 0 (omega (arith, none))))
-
-    one_left : length starts ≡ 1 → end_of (rules_of airs_of starts) [] (map plain (generated_lines seed events)) ≡ refused 4 NoOutlet
-    one_left one =
-        head_accepted (plain (codes "sink 0 1 1") ∷ plain (codes "sink 1 1 1") ∷ behind)
-        ∙ accepted_next head (group_step ∷ scenario_step ∷ []) (codes "sink 0 1 1") (sink_step 0) head_made refl refl (all_say seed events).1.1.0
-        (plain (codes "sink 1 1 1") ∷ behind) (first_sink (length starts) false (lt-leb (length starts) 0 (omega (arith, one))))
-        ∙ refused_next (plain (codes "sink 0 1 1") ∷ head) (sink_step 0 ∷ group_step ∷ scenario_step ∷ []) (codes "sink 1 1 1") (sink_step 1)
-        (made_next head (group_step ∷ scenario_step ∷ []) (codes "sink 0 1 1") (sink_step 0) head_made refl refl (all_say seed events).1.1.0)
-        refl refl (all_say seed events).1.1.1.0 behind NoOutlet (second_sink (length starts) true (le-leb (length starts) 1 (omega (arith, one))))
-
     pub made_refused : length starts < 2 → transcript_end airs_of starts (lines_made seed events) ≡ refused (length starts + 3) NoOutlet
     made_refused few = by_count (length starts) refl few
       where
+        fails : (n number : ℕ) → number ≡ n + 1 → FailsAt (length starts) [] (made_steps seed events) n NoOutlet
+            → transcript_end airs_of starts (lines_made seed events) ≡ refused number NoOutlet
+        fails n number is at =
+            last_of (refused number NoOutlet)
+            (all_refused [] [] n number (generated_lines seed events) (made_steps seed events) NoOutlet (omega arith) refl refl
+                (all_say seed events) at)
+
         by_count : (n : ℕ) → length starts ≡ n → n < 2 → transcript_end airs_of starts (lines_made seed events) ≡ refused (length starts + 3) NoOutlet
-        by_count zero is less = last_of (refused 3 NoOutlet) (none_left is) ∙ ap (λ n. refused (n + 3) NoOutlet) (sym is)
-        by_count (suc zero) is less = last_of (refused 4 NoOutlet) (one_left is) ∙ ap (λ n. refused (n + 3) NoOutlet) (sym is)
+        by_count zero is less =
+            fails 2 3 refl ((refl, refl), ((refl, refl), (refl, first_sink (length starts) true
+                (le-leb (length starts) 0 (omega (arith, is)))))) ∙ ap (λ n. refused (n + 3) NoOutlet) (sym is)
+        by_count (suc zero) is less =
+            fails 3 4 refl ((refl, refl), ((refl, refl), ((refl, first_sink (length starts) false
+                (lt-leb (length starts) 0 (omega (arith, is)))),
+            (refl, second_sink (length starts) true (le-leb (length starts) 1 (omega (arith, is)))))))
+            ∙ ap (λ n. refused (n + 3) NoOutlet) (sym is)
         by_count (suc (suc n)) is less = absurd (omega arith)

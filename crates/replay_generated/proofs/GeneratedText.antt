@@ -1,5 +1,5 @@
 -- The lines of the generated text are the generated lines: none holds the octet that ends a line, and none passes a limit.
-use Rattle.replay_generated.proofs.Prelude.{◌≡◌, ℕ, zero, suc, ◌+◌, ◌*◌, ◌<◌, ◌≤◌, ◌/◌, ◌%◌, Bool, true, false, cond, not, ◌&&◌, eqb, leb, nat_eq, List, [], ◌∷◌, ◌++◌, length, map, codes, decimal, refl, sym, ap, ◌∙◌, append_assoc, arith, length-append, append-nil, replicate, slice_index, ⊤, lt-leb, le-leb, leb-true, ne_eqb, and_parts, joined, digits, plain, too_long, past, line_limit, text_limit, lines-nothing, drawn, next_state, unit_of, head_lines, generated_lines, generated, text_of}
+use Rattle.replay_generated.proofs.Prelude.{◌≡◌, ℕ, zero, suc, ◌+◌, ◌*◌, ◌<◌, ◌≤◌, ◌/◌, ◌%◌, Bool, true, false, cond, not, ◌&&◌, leb, nat_eq, List, [], ◌∷◌, ◌++◌, length, map, codes, decimal, refl, ap, ◌∙◌, append_assoc, arith, length-append, append-nil, replicate, slice_index, ⊤, lt-leb, le-leb, leb-true, ne_eqb, and_parts, joined, digits, plain, too_long, past, line_limit, text_limit, lines-nothing, drawn, next_state, unit_of, head_lines, generated_lines, generated, text_of}
 use Rattle.std.proofs.lemmas.Fmt.{decimal_digit}
 use Rattle.hex.specs.Hex.{encode_with, encode_lower, lower_digits}
 use Rattle.bcast_io.specs.TextLines.{newline, line_of, lines_from, lines_of}
@@ -18,14 +18,7 @@ line_read : (taken : ℕ) (part line rest : List ℕ) → Unended line → taken
 unfolding lines_from
 line_read taken part [] rest none fits = grind (arith, cond, past, lt-leb, text_limit, append-nil)
 line_read taken part (x ∷ line) rest none fits =
-    let ended = line_of part ∷ lines_from true (taken + 1) [] (line ++ newline ∷ rest) in
-    let goes = lines_from true (taken + 1) (part ++ x ∷ []) (line ++ newline ∷ rest) in
-    let count : (taken + 1) + length line ≡ taken + suc (length line) = omega arith in
-    ap (λ b. cond b (past ∷ []) (cond (eqb x newline) ended goes)) (lt-leb text_limit taken (omega arith))
-    ∙ ap (λ b. cond b ended goes) none.0
-    ∙ line_read (taken + 1) (part ++ x ∷ []) line rest none.1 (omega arith)
-    ∙ ap (λ l. line_of l ∷ lines_from true ((taken + 1) + length line + 1) [] rest) (append_assoc part (x ∷ []) line)
-    ∙ ap (λ n. line_of (part ++ x ∷ line) ∷ lines_from true (n + 1) [] rest) count
+    grind (arith, lt-leb, text_limit, append_assoc, line_read (taken + 1) (part ++ x ∷ []) line rest none.1 (omega arith))
 
 -- each line is one of a text, and has at most so many octets
 abbrev AllShort : ℕ → List (List ℕ) → Type 0
@@ -43,9 +36,8 @@ text_read : (taken : ℕ) (lines : List (List ℕ)) → AllShort line_limit line
 text_read taken [] all fits = lines-nothing true taken
 text_read taken (line ∷ lines) all fits =
     let long = first_long line lines in
-    line_read taken [] line (text_of lines) all.0.0 (omega (arith, long))
-    ∙ ap (λ l. l ∷ lines_from true (taken + length line + 1) [] (text_of lines)) (line_short line all.0.1)
-    ∙ ap (λ ls. plain line ∷ ls) (text_read (taken + length line + 1) lines all.1 (omega (arith, long)))
+    rw (line_read taken [] line (text_of lines) all.0.0 (omega (arith, long)), line_short line all.0.1,
+    text_read (taken + length line + 1) lines all.1 (omega (arith, long)))
 
 -- ---- tests of closed lines
 
@@ -63,10 +55,7 @@ are_short most (line ∷ lines) = (is_unended line && leb (length line) most) &&
 
 all_short : (most : ℕ) (lines : List (List ℕ)) → are_short most lines ≡ true → AllShort most lines
 all_short most [] e = tt
-all_short most (line ∷ lines) e =
-    let parts = and_parts (is_unended line && leb (length line) most) (are_short most lines) e in
-    let own = and_parts (is_unended line) (leb (length line) most) parts.0 in
-    ((unended line own.0, leb-true (length line) most own.1), all_short most lines parts.1)
+all_short most (line ∷ lines) e = grind (arith, and_parts, leb-true, unended, all_short most lines)
 
 unended_append : (xs ys : List ℕ) → Unended xs → Unended ys → Unended (xs ++ ys)
 unended_append [] ys h k = k
@@ -146,26 +135,17 @@ lines_count state x (suc count) = omega (arith, lines_count (next_state (next_st
 pub generated_count : (seed events : ℕ) → events ≤ 100000 → length (generated_lines seed events) ≤ 500010
 generated_count seed events most = grind (arith, length-append, head_lines, lines_count)
 
--- the last of these lines is `end`
-pub record LastIsEnd (lines : List (List ℕ)) : Type 0 where
-  pub prefix : List (List ℕ)
-  pub whole : lines ≡ prefix ++ codes "end" ∷ []
-
-behind : (prefix lines : List (List ℕ)) → LastIsEnd lines → LastIsEnd (prefix ++ lines)
-behind prefix lines last = record {
-  prefix = prefix ++ last.prefix;
-  whole = ap (λ ls. prefix ++ ls) last.whole ∙ sym (append_assoc prefix last.prefix (codes "end" ∷ []));
-}
-
-events_end : (state x count : ℕ) → LastIsEnd (made.lines_from state x count)
+-- the last line is `end`
+events_end : (state x count : ℕ) → (prefix : List (List ℕ)) × (made.lines_from state x count ≡ prefix ++ codes "end" ∷ [])
 unfolding made.lines_from
-events_end state x zero = record { prefix = []; whole = refl }
+events_end state x zero = ([], refl)
 events_end state x (suc count) =
-    let first = next_state state in
-    let second = next_state first in
-    behind (unit_line 1 (x + 1) ∷ unit_line 2 (x + 1) ∷ codes "event" ∷ air_line 0 (drawn first) ∷ air_line 1 (drawn second) ∷ [])
-    (made.lines_from second (x + 1) count) (events_end second (x + 1) count)
+    let second = next_state (next_state state) in
+    let more = events_end second (x + 1) count in (
+      unit_line 1 (x + 1) ∷ unit_line 2 (x + 1) ∷ codes "event" ∷ air_line 0 (drawn (next_state state)) ∷ air_line 1
+          (drawn second) ∷ more.0,
+      rw more.1,
+    )
 
-pub generated_end : (seed events : ℕ) → LastIsEnd (generated_lines seed events)
-generated_end seed events =
-    behind (head_lines ++ unit_line 1 0 ∷ unit_line 2 0 ∷ []) (made.lines_from seed 0 events) (events_end seed 0 events)
+pub generated_end : (seed events : ℕ) → (prefix : List (List ℕ)) × (generated_lines seed events ≡ prefix ++ codes "end" ∷ [])
+generated_end seed events = let more = events_end seed 0 events in (head_lines ++ unit_line 1 0 ∷ unit_line 2 0 ∷ more.0, rw more.1)

@@ -1,5 +1,5 @@
 -- What the proofs of this crate use of `std` and of the crates below it, by one import.
-pub use Rattle.std.proofs.Common.{ℕ, List, [], ◌∷◌, ◌++◌, Option, refl, arith, length-append, codes, decimal, ◌≡◌, ◌+◌, true, length, map, reverse, sym, ap, subst, ◌∙◌, append_assoc, None, Some, Ok, Err, inl, inr, append-nil, zero, suc, ◌*◌, ◌<◌, ◌≤◌, Bool, false, cond, nat_eq, not, ◌&&◌, ◌%◌, Result, ◌-◌, ◌≢◌, ◌/◌, eqb, leb}
+pub use Rattle.std.proofs.Common.{ℕ, List, [], ◌∷◌, ◌++◌, Option, refl, arith, length-append, codes, decimal, ◌≡◌, ◌+◌, true, length, map, reverse, sym, ap, subst, ◌∙◌, append_assoc, None, Some, Ok, Err, inl, inr, append-nil, zero, suc, ◌*◌, ◌<◌, ◌≤◌, Bool, false, cond, nat_eq, not, ◌&&◌, ◌%◌, Result, ◌-◌, ◌≢◌, ◌/◌, leb}
 pub use Rattle.std.proofs.lemmas.Bool.{lt-leb, ne_eqb, le-leb, le-ltb, cases_lt, leb-true, and_parts}
 pub use Rattle.std.specs.List.{flat_map, concat, filter}
 pub use Rattle.std.specs.Option.{option_map}

@@ -1,6 +1,6 @@
 -- What a generated run promises, by how its lines ended and what was written.
 use Rattle.std.proofs.Common.{arith}
-use Rattle.replay_generated.proofs.Prelude.{◌≡◌, ◌≢◌, ℕ, ◌+◌, ◌<◌, ◌≤◌, List, [], ◌∷◌, length, reverse, refl, sym, subst, Option, inl, inr, append-nil, cases_lt, TextLine, AppendsShort, Appends-nothing, Account, airs_of, Airs, Refusal, NoOutlet, counts_of, summary_of, Counts, End, through, refused, Accepted, RoomFor, SinkUnit, Took, rules_of, handed_on, transcript_of, transcript_end, units_of, BoxFails, BoxFailed, Did, EndedOver, GeneratedRun, IsDoneOrMemory, Summed, lines_made, Ends, PrefixTaken, Puts, Told}
+use Rattle.replay_generated.proofs.Prelude.{took_as, ◌≡◌, ◌≢◌, ℕ, ◌+◌, ◌<◌, ◌≤◌, List, [], ◌∷◌, length, reverse, refl, sym, subst, Option, inl, inr, append-nil, cases_lt, TextLine, AppendsShort, Appends-nothing, Account, airs_of, Airs, Refusal, NoOutlet, counts_of, summary_of, Counts, End, through, refused, Accepted, RoomFor, SinkUnit, rules_of, handed_on, transcript_of, transcript_end, units_of, BoxFails, BoxFailed, Did, EndedOver, GeneratedRun, IsDoneOrMemory, Summed, lines_made, Ends, PrefixTaken, Puts, Told}
 use Rattle.bcast_base.specs.Counts.{Rose}
 use Rattle.scenario_history.specs.Airs.{MeetAirs}
 use Rattle.scenario_sinks.specs.Faults.{CountsStay, OneCounts}
@@ -33,24 +33,19 @@ module _ (airs : Airs) (same : Same airs) (starts ends : List Account) (events :
   cut_as d = grind (arith, same.octets, same.units)
 
   failed_as : BoxFailed airs_of starts ends lines → BoxFailed airs starts ends lines
-  failed_as d = record {
-    earlier = d.earlier;
-    line = d.line;
-    later = d.later;
-    comes = d.comes;
-    accepted = same.accepted starts (d.line ∷ d.earlier) d.accepted;
-    accounts = d.accounts;
-    before = subst (λ (us : List SinkUnit). Took starts d.accounts us) (same.units starts (reverse d.earlier)) d.before;
-    told = d.told;
-    fails = subst (λ (us : List SinkUnit). BoxFails us [] d.told d.accounts ends) (same.handed starts d.earlier d.line d.accepted.0) d.fails;
-  }
+  failed_as d =
+      let accepted = same.accepted starts (d.line ∷ d.earlier) d.accepted in
+      let before = took_as starts d.accounts _ _ (same.units starts (reverse d.earlier)) d.before in
+      let fails =
+      subst (λ (us : List SinkUnit). BoxFails us [] d.told d.accounts ends) (same.handed starts d.earlier d.line d.accepted.0) d.fails in
+      search
 
   ended_as : (outcome : Outcome) → EndedOver airs_of events lines outcome starts ends kept kept' → EndedOver airs events lines outcome starts ends kept kept'
   ended_as outcome d = grind (arith, summed_as, cut_as, failed_as)
 
 -- ---- what was written
 
-module _ (starts ends : List Account) (events : ℕ) (lines : List TextLine) (kept kept' : Option (List ℕ)) (faults faults' : ℕ) where
+module _ {starts ends : List Account} {events : ℕ} {lines : List TextLine} {kept kept' : Option (List ℕ)} where
   -- a prefix of the summary was written, and the boxes took all units
   cut_short : (counts : Counts) (end : End Refusal) → Told starts ends lines counts end → AppendsShort kept kept' (summary_of events counts)
       → CutShort airs_of starts ends events lines kept kept'
@@ -63,7 +58,7 @@ module _ (starts ends : List Account) (events : ℕ) (lines : List TextLine) (ke
   }
 
   -- the summary was put to the sink
-  pub put_ends : (counts : Counts) (end : End Refusal) (ended result : Outcome) → Told starts ends lines counts end
+  pub put_ends : {faults faults' : ℕ} (counts : Counts) (end : End Refusal) (ended result : Outcome) → Told starts ends lines counts end
       → (Summed airs_of starts ends events lines kept kept' end → EndedOver airs_of events lines ended starts ends kept kept') → ended ≢ outcomes.WriteFault
       → Puts (summary_of events counts) ended kept kept' faults faults' result → Ends starts ends events lines kept kept' faults faults' result
   put_ends counts end ended result told as_ended other (inl put) =
@@ -72,23 +67,15 @@ module _ (starts ends : List Account) (events : ℕ) (lines : List TextLine) (ke
   put_ends counts end ended result told as_ended other (inr (inl put)) = let cut = cut_short counts end told put.1 in grind arith
   put_ends counts end ended result told as_ended other (inr (inr put)) = let cut = cut_short counts end told put.1 in grind arith
 
-pub failed_ends : (starts ends : List Account) (events : ℕ) (lines : List TextLine) (kept : Option (List ℕ)) (faults : ℕ) → BoxFailed airs_of starts ends lines
-    → Ends starts ends events lines kept kept faults faults outcomes.OutletFault
-failed_ends starts ends events lines kept faults failed = record { did = (failed, Appends-nothing kept); rose = λ is. cc; stays = λ is. refl }
+pub failed_ends : {starts ends : List Account} {events : ℕ} {lines : List TextLine} {kept : Option (List ℕ)} {faults : ℕ}
+    → BoxFailed airs_of starts ends lines → Ends starts ends events lines kept kept faults faults outcomes.OutletFault
+failed_ends {kept = kept} failed = record { did = (failed, Appends-nothing kept); rose = λ is. cc; stays = λ is. refl }
 
-pub memory_ends : (starts ends : List Account) (events : ℕ) (lines : List TextLine) (kept : Option (List ℕ)) (faults : ℕ) → PrefixTaken starts ends lines
-    → Ends starts ends events lines kept kept faults faults outcomes.Memory
-memory_ends starts ends events lines kept faults prefix = record {
-  did = record {
-    written = none_written kept events (counts_of (transcript_of airs_of starts lines));
-    done = prefix.done;
-    rest = prefix.rest;
-    split = prefix.split;
-    boxes = prefix.boxes;
-  };
-  rose = λ is. cc;
-  stays = λ is. refl;
-}
+pub memory_ends : {starts ends : List Account} {events : ℕ} {lines : List TextLine} {kept : Option (List ℕ)} {faults : ℕ}
+    → PrefixTaken starts ends lines → Ends starts ends events lines kept kept faults faults outcomes.Memory
+memory_ends {starts = starts} {events = events} {lines = lines} {kept = kept} prefix =
+    let written = none_written kept events (counts_of (transcript_of airs_of starts lines)) in
+    record { did = search; rose = λ is. cc; stays = λ is. refl }
 
 -- ---- the promise
 

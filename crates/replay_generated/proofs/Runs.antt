@@ -68,8 +68,7 @@ units_rest starts history (line ∷ lines) = by (refusal_at starts history line)
   where
     by : (why : Option Refusal)
         → (rest : List SinkUnit) × (handed_up airs_of (steps_of airs_of (accepted_of (rules_of airs_of starts) (line ∷ history) lines))
-        ≡ handed_up airs_of (steps_of airs_of (line ∷ history)) ++ rest)
-        → (rest : List SinkUnit) × (handed_up airs_of (steps_of airs_of
+        ≡ handed_up airs_of (steps_of airs_of (line ∷ history)) ++ rest) → (rest : List SinkUnit) × (handed_up airs_of (steps_of airs_of
             (accepted_unless history why (accepted_of (rules_of airs_of starts) (line ∷ history) lines)))
         ≡ handed_up airs_of (steps_of airs_of history) ++ rest)
     by (Some reason) more = ([], sym (append-nil (handed_up airs_of (steps_of airs_of history))))
@@ -113,8 +112,7 @@ running_none olds starts lines left all machine counts are is stands none = reco
 }
 
 module _ {A : Type 0} {olds news : List A} {starts accounts : List Account} {lines : List TextLine} {left : List (List ℕ)} {number : ℕ}
-    {machine : Machine}
-    {counts : Counts} (r : Running olds news starts accounts lines left number machine counts) where
+    {machine : Machine} {counts : Counts} (r : Running olds news starts accounts lines left number machine counts) where
   took : Took starts accounts (handed_up airs_of (steps_of airs_of r.history))
   took = took_history starts accounts r.history r.run.stands.boxes
 
@@ -124,13 +122,11 @@ module _ {A : Type 0} {olds news : List A} {starts accounts : List Account} {lin
 
   pub unassigned_out : (after : List A) → ((history : List TextLine) → RunTo starts history counts machine accounts → UnassignedSame (steps_of airs_of history) news after)
       → UnassignedRun starts lines olds after
-  unassigned_out after unassigned = record {
-    earlier = r.history;
-    later = map plain left;
-    split = r.whole;
-    accepted = r.run.accepted;
-    same = λ box least. unassigned r.history r.run box least ∙ r.unassigned box least;
-  }
+  unassigned_out after unassigned =
+      let same : UnassignedSame (steps_of airs_of r.history) olds after =
+      λ box least. unassigned r.history r.run box least ∙ r.unassigned box least in
+      let split = r.whole in
+      search
 
   pub stops_here : PrefixTaken starts accounts lines
   stops_here =
@@ -163,23 +159,16 @@ module _ {A : Type 0} {olds news : List A} {starts accounts : List Account} {lin
     ends_here ends new counts' (endings.Refused at reason) f = record {
       ends_so = ends_refused starts r.history r.run.accepted lines (plain line) (map plain later) reason split_at f.because
           ∙ ap (λ n. refused n reason) (sym f.number_is);
-      counted = f.counted
-          ∙ ap (λ n. counts_of (brought (rules_of airs_of starts) r.history ++ refusal_line n reason)) f.number_is
+      counted = f.counted ∙ ap (λ n. counts_of (brought (rules_of airs_of starts) r.history ++ refusal_line n reason)) f.number_is
           ∙ ap counts_of (sym (writes_refused starts r.history r.run.accepted lines (plain line) (map plain later) reason split_at f.because));
       boxes = took_as starts ends _ _ (sym (units_refused starts r.history r.run.accepted lines (plain line) (map plain later) reason split_at f.because))
           (took_at starts accounts ends (handed_up airs_of (steps_of airs_of r.history)) f.same took);
     }
-    ends_here ends new counts' endings.OutletFault f = record {
-      earlier = r.history;
-      line = plain line;
-      later = map plain later;
-      comes = split_at;
-      accepted = (r.run.accepted, f.0);
-      accounts = accounts;
-      before = took_as starts accounts _ _ (sym (units_all starts r.history r.run.accepted)) took;
-      told = f.1.0;
-      fails = f.1.1;
-    }
+    ends_here ends new counts' endings.OutletFault f =
+        let comes = split_at in
+        let accepted : Accepted (rules_of airs_of starts) (plain line ∷ r.history) = (r.run.accepted, f.0) in
+        let before = took_as starts accounts _ _ (sym (units_all starts r.history r.run.accepted)) took in
+        search
     ends_here ends new counts' endings.Memory (inl same) = subst (λ a. PrefixTaken starts a lines) (sym same) stops_here
     ends_here ends new counts' endings.Memory (inr cut) =
         let before = handed_up airs_of (steps_of airs_of r.history) in
@@ -190,8 +179,7 @@ module _ {A : Type 0} {olds news : List A} {starts accounts : List Account} {lin
           split = ap (units_of airs_of starts) split_at ∙ more.1 ∙ ap (λ us. (before ++ us) ++ more.0) cut.1.split ∙ simp append_assoc;
           boxes = took_at starts (accounts_after starts (before ++ cut.1.done)) ends (before ++ cut.1.done)
               (cut.1.boxes ∙ ap (λ a. accounts_after a cut.1.done) r.run.stands.boxes.accounts_are
-                  ∙ sym (accounts_append before cut.1.done starts))
-              (took_all starts (before ++ cut.1.done));
+                  ∙ sym (accounts_append before cut.1.done starts)) (took_all starts (before ++ cut.1.done));
         }
 
     -- the line was run
@@ -211,16 +199,17 @@ module _ {A : Type 0} {olds news : List A} {starts accounts : List Account} {lin
 
     pub runs_out : (ends : List Account) (new : Machine) (counts' : Counts) (number' : ℕ) (result : Option Ending) (ending : Ending) → number' ≡ number + 1 → result ≡ Some ending
         → ((history : List TextLine) → number' ≡ length history + 1 → RunTo starts history counts machine accounts
-        → LineRuns starts history (plain line) counts' new accounts ends result)
-        → Ran starts ends lines counts' ending
+        → LineRuns starts history (plain line) counts' new accounts ends result) → Ran starts ends lines counts' ending
     runs_out ends new counts' number' result ending more is runs =
         let P : Option Ending → Type 0 = λ o. LineRuns starts r.history (plain line) counts' new accounts ends o in
         ends_here ends new counts' ending (subst P is (runs r.history (more ∙ ap (λ n. n + 1) r.number_is) r.run))
 
 -- ---- a line
 
-module _ (starts : List Account) (history : List TextLine) (line : TextLine) (machine new : Machine) (before after : List Account) (counts : Counts) (text told : List ℕ)
-    (result : Result (Unit {0}) Stop) (run : RunTo starts history counts machine before) (cleared : text ≡ [])
+module _ {starts : List Account} {history : List TextLine} {machine : Machine} {before : List Account} {counts : Counts} (line : TextLine)
+    (new : Machine)
+    (after : List Account) (text told : List ℕ) (result : Result (Unit {0}) Stop) (run : RunTo starts history counts machine before)
+        (cleared : text ≡ [])
     (meets : LinesStand starts history machine before → LineMeets starts history line new text told before after result) where
   met : (r : Result (Unit {0}) Stop) → result ≡ r → LineMeets starts history line new [] told before after r
   met r is = meets_at starts history line new text told before after result r cleared is (meets run.stands)

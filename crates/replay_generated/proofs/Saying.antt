@@ -15,8 +15,7 @@ use Rattle.replay_generated.proofs.Accepting.{event_steps, group_step, made_step
 -- ---- a line of a row
 
 row_says : (row : Row) (values : Values row.places) → row_of 1 row.first ≡ Some row → all_small row.places ≡ true
-    → takes_all_last row.places ≡ true
-    → is_unspaced row.first ≡ true → AllHaveWords row.places values
+    → takes_all_last row.places ≡ true → is_unspaced row.first ≡ true → AllHaveWords row.places values
     → LineIs 1 (made_of row.places row.build values) (joined row.first (all_words row.places values))
 row_says row values known small last first have = record {
   first = row.first;

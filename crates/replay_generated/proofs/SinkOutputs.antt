@@ -60,7 +60,7 @@ module _ (label : Label) (made : Settings) (link : ℕ) where
 
 of_whole : (source : Source) (step : Step) (made : Settings) (calls : List Call) → AllWhole (printed_of source step made calls)
 of_whole source (steps.Announce sink) made calls = search line_whole
-of_whole source step made calls = search (there_whole, drain_whole, flat_whole, map_whole, line_whole)
+of_whole source next made calls = search (there_whole, drain_whole, flat_whole, map_whole, line_whole)
 
 at_whole : (world : World) (earlier : List Step) (next : Step) (named : Option ℕ) → AllWhole (printed_at world earlier next named)
 at_whole world earlier next named = grind (arith, of_whole)

@@ -1,22 +1,12 @@
 -- The counts of the boxes, by how a run ended.
 use Rattle.std.proofs.Common.{arith}
-use Rattle.replay_lines.proofs.Prelude.{◌≢◌, ℕ, true, false, List, [], reverse, refl, Option, inl, inr, ◌⊎◌, TextLine, lines_of, Account, airs_of, handed_on, out_of, units_of, CountsStay, OneCounts, failed_one, none_counts, one_then, took_stay, Ending, Ended, IsCut, Broken, FaultCut, LineFails}
+use Rattle.replay_lines.proofs.Prelude.{◌≢◌, World, DidOver, ℕ, List, [], reverse, Option, inl, inr, ◌⊎◌, TextLine, Account, airs_of, handed_on, units_of, CountsStay, OneCounts, failed_one, none_counts, one_then, took_stay, Ending, IsCut, Broken, FaultCut, LineFails}
 use Rattle.replay_lines.specs.declared.ending.Ending.TheVariants as endings
-use Rattle.replay_lines.proofs.LineUnits.{box_stops}
+use Rattle.replay_lines.proofs.LineEndings.{box_stops}
 
 broken_counts : (starts ends : List Account) (left left' kept kept' : Option (List ℕ)) → Broken airs_of starts ends left left' kept kept'
     → CountsStay starts ends ⊎ FaultCut airs_of starts ends left left' kept kept'
 broken_counts starts ends left left' kept kept' e = grind (arith, took_stay)
-
-pub ended_counts : (ending : Ending) (starts ends : List Account) (left left' kept kept' : Option (List ℕ)) → Ended airs_of ending starts ends left left' kept kept'
-    → ending ≢ endings.OutletFault → CountsStay starts ends ⊎ (IsCut ending × FaultCut airs_of starts ends left left' kept kept')
-ended_counts endings.Done starts ends left left' kept kept' e other = inl (took_stay starts ends (units_of airs_of starts (lines_of true e.text)) e.boxes)
-ended_counts (endings.Refused line reason) starts ends left left' kept kept' e other = inl (took_stay starts ends e.0.units e.0.boxes)
-ended_counts endings.ReadFault starts ends left left' kept kept' e other = inl (took_stay starts ends (units_of airs_of starts (lines_of false e.text)) e.boxes)
-ended_counts endings.WriteFault starts ends left left' kept kept' e other =
-    elim (broken_counts starts ends left left' kept kept' e.0) [ inl stay ↦ inl stay | inr failed ↦ inr (tt, failed) ]
-ended_counts endings.OutletFault starts ends left left' kept kept' e other = absurd (other refl)
-ended_counts endings.Memory starts ends left left' kept kept' e other = grind (arith, broken_counts)
 
 -- the box of a unit of a line failed
 stopped_one : (starts before after : List Account) (history : List TextLine) (line : TextLine) (text told : List ℕ)
@@ -33,12 +23,12 @@ broken_one starts ends left left' kept kept' e = elim (broken_counts starts ends
       (stopped_one starts failed.accounts ends failed.earlier failed.line [] failed.told failed.fails)
 ]
 
-pub ended_one : (ending : Ending) (starts ends : List Account) (left left' kept kept' : Option (List ℕ)) → Ended airs_of ending starts ends left left' kept kept' → OneCounts starts ends
-ended_one endings.Done starts ends left left' kept kept' e = none_counts starts ends (took_stay starts ends (units_of airs_of starts (lines_of true e.text)) e.boxes)
-ended_one (endings.Refused line reason) starts ends left left' kept kept' e = none_counts starts ends (took_stay starts ends e.0.units e.0.boxes)
-ended_one endings.ReadFault starts ends left left' kept kept' e = none_counts starts ends (took_stay starts ends (units_of airs_of starts (lines_of false e.text)) e.boxes)
-ended_one endings.WriteFault starts ends left left' kept kept' e = broken_one starts ends left left' kept kept' e.0
-ended_one endings.OutletFault starts ends left left' kept kept' e =
-    one_then starts e.accounts ends (took_stay starts e.accounts (units_of airs_of starts (reverse e.earlier)) e.before)
-    (stopped_one starts e.accounts ends e.earlier e.line (out_of airs_of starts (reverse e.earlier)) e.told e.fails)
-ended_one endings.Memory starts ends left left' kept kept' e = broken_one starts ends left left' kept kept' e
+module _ (old new : World) where
+  pub ended_counts : (ending : Ending) → DidOver airs_of ending old new → ending ≢ endings.OutletFault
+      → CountsStay old.boxes new.boxes ⊎ (IsCut ending × FaultCut airs_of old.boxes new.boxes old.left new.left old.taken new.taken)
+  ended_counts endings.Done e other = grind (arith, took_stay, broken_counts)
+  ended_counts ending e other = grind (arith, took_stay, broken_counts)
+
+  pub ended_one : (ending : Ending) → DidOver airs_of ending old new → OneCounts old.boxes new.boxes
+  ended_one endings.Done e = search (none_counts, took_stay)
+  ended_one ending e = search (none_counts, took_stay, broken_one, one_then, stopped_one)

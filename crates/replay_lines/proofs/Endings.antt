@@ -1,5 +1,5 @@
 -- How a run of a text ends at a line, by what was run and written before it.
-use Rattle.replay_lines.proofs.Prelude.{◌≡◌, ℕ, ◌+◌, Bool, true, false, List, [], ◌∷◌, ◌++◌, length, reverse, refl, sym, ap, subst, ◌∙◌, append_assoc, arith, Option, None, Some, length-append, inl, inr, append-nil, length-reverse, reverse-reverse, false≢true, Appends, Keeps, TextLine, lines_of, MayFollow, AppendsPrefix, AppendsShort, Appends-then, AppendsPrefix-then, AppendsPrefix-nothing, Consumes-nothing, Account, airs_of, Airs, Refusal, NoEnd, refusal_line, through, refused, out, out_unless, end_of, end_unless, accepted_of, accepted_unless, brought, Accepted, out_accepted, end_accepted, accepted_accepted, is_over, is_over_at, SinkUnit, handed_up, handed_line, took_as, took_history, rules_of, said_of, steps_of, handed_on, out_of, end_after, last_line_after, last_end_after, has_end, transcript_of, transcript_end, units_of, took_all, Ending, Machine, refusal_at, output_at, Done, ReadFaulted, brought_by, Broken, Ended, TextIs, RunTo, Refuses}
+use Rattle.replay_lines.proofs.Prelude.{◌≡◌, ℕ, ◌+◌, Bool, true, false, List, [], ◌∷◌, ◌++◌, length, reverse, refl, sym, ap, ◌∙◌, arith, Option, Some, length-append, inl, inr, append-nil, length-reverse, reverse-reverse, false≢true, Keeps, TextLine, lines_of, MayFollow, AppendsPrefix, AppendsShort, Appends-then, AppendsPrefix-then, AppendsPrefix-nothing, Consumes-nothing, Account, airs_of, Refusal, NoEnd, refusal_line, through, refused, out, end_of, accepted_of, brought, Accepted, out_accepted, end_accepted, accepted_accepted, is_over, is_over_at, handed_up, took_as, took_history, rules_of, said_of, steps_of, out_of, end_after, last_line_after, last_end_after, has_end, transcript_of, transcript_end, units_of, took_all, Ending, Machine, refusal_at, Done, ReadFaulted, brought_by, Broken, Ended, TextIs, RunTo, Refuses}
 use Rattle.scenario_laws.proofs.RelayedUnits.Citable.{stage_happened}
 use Rattle.replay_lines.specs.declared.ending.Ending.TheVariants as endings
 
@@ -18,13 +18,13 @@ module _ (starts : List Account) (history : List TextLine) (accepted : Accepted 
   units_then lines = ap (λ all. handed_up airs_of (steps_of airs_of all)) (accepted_accepted (rules_of airs_of starts) history lines accepted)
 
   pub out_all : out_of airs_of starts (reverse history) ≡ brought (rules_of airs_of starts) history
-  out_all = ap (out_of airs_of starts) (sym (append-nil (reverse history))) ∙ out_then [] ∙ append-nil (brought (rules_of airs_of starts) history)
+  out_all = simp append-nil at (out_then [])
 
   pub end_all : end_after airs_of starts (reverse history) ≡ through
-  end_all = ap (end_after airs_of starts) (sym (append-nil (reverse history))) ∙ end_then []
+  end_all = simp append-nil at (end_then [])
 
   pub units_all : units_of airs_of starts (reverse history) ≡ handed_up airs_of (steps_of airs_of history)
-  units_all = ap (units_of airs_of starts) (sym (append-nil (reverse history))) ∙ units_then []
+  units_all = simp append-nil at (units_then [])
 
   over_all : (b : Bool) → is_over (steps_of airs_of history) ≡ b → has_end (reverse history) ≡ b
   over_all b over =
@@ -35,79 +35,30 @@ module _ (starts : List Account) (history : List TextLine) (accepted : Accepted 
 
   -- the whole transcript, where the history is all
   pub ends_through : (b : Bool) → is_over (steps_of airs_of history) ≡ b → transcript_end airs_of starts (reverse history) ≡ last_end_after through b (length history + 1)
-  ends_through b over =
-      ap (λ e. last_end_after e (has_end (reverse history)) (length (reverse history) + 1)) end_all
-      ∙ ap (λ x. last_end_after through x (length (reverse history) + 1)) (over_all b over)
-      ∙ ap (λ n. last_end_after through b n) number_all
+  ends_through b over = λ i. last_end_after (end_all i) (over_all b over i) (number_all i)
 
   pub writes_through : (b : Bool) → is_over (steps_of airs_of history) ≡ b
       → transcript_of airs_of starts (reverse history) ≡ brought (rules_of airs_of starts) history ++ last_line_after through b (length history + 1)
-  writes_through b over =
-      ap (λ prefix. prefix ++ last_line_after (end_after airs_of starts (reverse history)) (has_end (reverse history)) (length (reverse history) + 1)) out_all
-      ∙ ap (λ e. brought (rules_of airs_of starts) history ++ last_line_after e (has_end (reverse history)) (length (reverse history) + 1)) end_all
-      ∙ ap (λ x. brought (rules_of airs_of starts) history ++ last_line_after through x (length (reverse history) + 1)) (over_all b over)
-      ∙ ap (λ n. brought (rules_of airs_of starts) history ++ last_line_after through b n) number_all
+  writes_through b over = λ i. out_all i ++ last_line_after (end_all i) (over_all b over i) (number_all i)
 
   -- a line is refused
   module _ (line : TextLine) (reason : Refusal) (because : refusal_at starts history line ≡ Some reason) (later : List TextLine) where
     pub out_refused : out (rules_of airs_of starts) history (line ∷ later) ≡ refusal_line (length history + 1) reason
-    out_refused = ap (λ why. out_unless (rules_of airs_of starts) history why (output_at starts history line ++ out (rules_of airs_of starts) (line ∷ history) later)) because
+    out_refused = rw because
 
     end_refused : end_after airs_of starts (reverse history ++ line ∷ later) ≡ refused (length history + 1) reason
-    end_refused = end_then (line ∷ later) ∙ ap (λ why. end_unless history why (end_of (rules_of airs_of starts) (line ∷ history) later)) because
+    end_refused = end_then (line ∷ later) ∙ rw because
 
     pub ends_refused : transcript_end airs_of starts (reverse history ++ line ∷ later) ≡ refused (length history + 1) reason
-    ends_refused = ap (λ e. last_end_after e (has_end (reverse history ++ line ∷ later)) (length (reverse history ++ line ∷ later) + 1)) end_refused
+    ends_refused = rw end_refused
 
     pub writes_refused : transcript_of airs_of starts (reverse history ++ line ∷ later) ≡ brought (rules_of airs_of starts) history ++ refusal_line (length history + 1) reason
-    writes_refused =
-        ap (λ e. out_of airs_of starts (reverse history ++ line ∷ later) ++ last_line_after e (has_end (reverse history ++ line ∷ later)) (length (reverse history ++ line ∷ later) + 1)) end_refused
-        ∙ append-nil (out_of airs_of starts (reverse history ++ line ∷ later))
-        ∙ out_then (line ∷ later)
-        ∙ ap (λ last. brought (rules_of airs_of starts) history ++ last) out_refused
+    writes_refused = simp (end_refused, append-nil, out_then (line ∷ later), out_refused)
 
     pub units_refused : units_of airs_of starts (reverse history ++ line ∷ later) ≡ handed_up airs_of (steps_of airs_of history)
-    units_refused =
-        units_then (line ∷ later)
-        ∙ ap (λ why. handed_up airs_of (steps_of airs_of (accepted_unless history why (accepted_of (rules_of airs_of starts) (line ∷ history) later)))) because
-
-  -- a line is accepted
-  pub out_line : (line : TextLine) → refusal_at starts history line ≡ None → (later : List TextLine)
-      → out (rules_of airs_of starts) history (line ∷ later) ≡ output_at starts history line ++ out (rules_of airs_of starts) (line ∷ history) later
-  out_line line none later =
-      ap (λ why. out_unless (rules_of airs_of starts) history why (output_at starts history line ++ out (rules_of airs_of starts) (line ∷ history) later)) none
-
--- ---- the units of further lines
-
--- what further lines hand up, where they are accepted after a history
-pub units_rest : (airs : Airs) (starts : List Account) (history lines : List TextLine)
-    → (rest : List SinkUnit) × (handed_up airs (steps_of airs (accepted_of (rules_of airs starts) history lines)) ≡ handed_up airs (steps_of airs history) ++ rest)
-units_rest airs starts history [] = ([], sym (append-nil (handed_up airs (steps_of airs history))))
-units_rest airs starts history (line ∷ lines) = by_refusal (units_rest airs starts (line ∷ history) lines) ((rules_of airs starts).refusal history line) refl
-  where
-    by_refusal : (rest : List SinkUnit) × (handed_up airs (steps_of airs (accepted_of (rules_of airs starts) (line ∷ history) lines)) ≡ handed_up airs (steps_of airs (line ∷ history)) ++ rest)
-        → (why : Option Refusal) → (rules_of airs starts).refusal history line ≡ why
-        → (rest : List SinkUnit) × (handed_up airs (steps_of airs (accepted_of (rules_of airs starts) history (line ∷ lines))) ≡ handed_up airs (steps_of airs history) ++ rest)
-    by_refusal more (Some reason) is = (
-      [],
-      ap (λ w. handed_up airs (steps_of airs (accepted_unless history w (accepted_of (rules_of airs starts) (line ∷ history) lines)))) is
-          ∙ sym (append-nil (handed_up airs (steps_of airs history))),
-    )
-    by_refusal more None is = (
-      handed_on airs history line ++ more.0,
-      ap (λ w. handed_up airs (steps_of airs (accepted_unless history w (accepted_of (rules_of airs starts) (line ∷ history) lines)))) is
-          ∙ more.1
-          ∙ ap (λ prefix. prefix ++ more.0) (handed_line airs history line)
-          ∙ append_assoc (handed_up airs (steps_of airs history)) (handed_on airs history line) more.0,
-    )
+    units_refused = units_then (line ∷ later) ∙ rw because
 
 -- ---- what was run before the line
-
-appends_same : (kept kept' : Option (List ℕ)) (xs ys : List ℕ) → xs ≡ ys → Appends kept kept' xs → Appends kept kept' ys
-appends_same kept kept' xs ys e a = let P : List ℕ → Type 0 = λ x. Appends kept kept' x in subst P e a
-
-prefix_same : (kept kept' : Option (List ℕ)) (xs ys : List ℕ) → xs ≡ ys → AppendsPrefix kept kept' xs → AppendsPrefix kept kept' ys
-prefix_same kept kept' xs ys e a = let P : List ℕ → Type 0 = λ x. AppendsPrefix kept kept' x in subst P e a
 
 pub prefix_of_short : (kept kept' : Option (List ℕ)) (xs : List ℕ) → AppendsShort kept kept' xs → AppendsPrefix kept kept' xs
 prefix_of_short kept kept' xs s = record { prefix = s.prefix; rest = s.rest; whole = s.whole; appended = s.appended }
@@ -120,26 +71,18 @@ prefix_none kept xs = AppendsPrefix-nothing kept kept xs (keeps_same kept)
 
 -- ---- the end of the text, and a fault of the source
 
-pub ends_done : (starts : List Account) (history : List TextLine) (left left' kept kept' : Option (List ℕ)) (machine : Machine) (accounts : List Account)
-    → TextIs left left' history true → RunTo starts history kept kept' machine accounts → is_over (steps_of airs_of history) ≡ true → Done airs_of starts accounts left left' kept kept'
-ends_done starts history left left' kept kept' machine accounts t r over = record {
-  text = t.text;
-  read = t.read;
-  through_all = ap (transcript_end airs_of starts) t.whole ∙ ends_through starts history r.accepted true over;
-  written = appends_same kept kept' _ _
-      (sym (ap (transcript_of airs_of starts) t.whole ∙ writes_through starts history r.accepted true over ∙ append-nil (brought (rules_of airs_of starts) history))) r.written;
-  boxes = took_as starts accounts _ _ (sym (ap (units_of airs_of starts) t.whole ∙ units_all starts history r.accepted)) (took_history starts accounts history r.stands.boxes);
-}
+pub ends_done : {starts : List Account} {history : List TextLine} {left left' kept kept' : Option (List ℕ)} {machine : Machine}
+    {accounts : List Account}
+    → TextIs left left' history true → RunTo starts history kept kept' machine accounts → is_over (steps_of airs_of history) ≡ true
+    → Done airs_of starts accounts left left' kept kept'
+ends_done {starts = starts} {history = history} {accounts = accounts} t r over =
+    grind (arith, ends_through starts history r.accepted true over, writes_through starts history r.accepted true over, append-nil,
+    units_all starts history r.accepted, took_history starts accounts history r.stands.boxes)
 
-pub ends_faulted : (starts : List Account) (history : List TextLine) (left left' kept kept' : Option (List ℕ)) (machine : Machine) (accounts : List Account)
+pub ends_faulted : {starts : List Account} {history : List TextLine} {left left' kept kept' : Option (List ℕ)} {machine : Machine}
+    {accounts : List Account}
     → TextIs left left' history false → RunTo starts history kept kept' machine accounts → ReadFaulted airs_of starts accounts left left' kept kept'
-ends_faulted starts history left left' kept kept' machine accounts t r = record {
-  text = t.text;
-  read = t.read;
-  through_all = ap (end_after airs_of starts) t.whole ∙ end_all starts history r.accepted;
-  written = appends_same kept kept' _ _ (sym (ap (out_of airs_of starts) t.whole ∙ out_all starts history r.accepted)) r.written;
-  boxes = took_as starts accounts _ _ (sym (ap (units_of airs_of starts) t.whole ∙ units_all starts history r.accepted)) (took_history starts accounts history r.stands.boxes);
-}
+ends_faulted t r = grind (arith, end_all, out_all, units_all, took_history)
 
 -- nothing was read, for want of memory
 pub ends_at_once : (starts : List Account) (left kept : Option (List ℕ)) → Broken airs_of starts starts left left kept kept
@@ -152,32 +95,29 @@ ends_at_once starts left kept = record {
 }
 
 -- NoEnd
-module _ (starts : List Account) (history : List TextLine) (left left' kept mid kept' : Option (List ℕ)) (machine : Machine) (accounts : List Account) (number : ℕ)
-    (is_next : number ≡ length history + 1) (t : TextIs left left' history true) (r : RunTo starts history kept mid machine accounts)
-    (not_over : is_over (steps_of airs_of history) ≡ false) where
+module _ {starts : List Account} {history : List TextLine} {left left' kept mid : Option (List ℕ)} {machine : Machine}
+    {accounts : List Account} {number : ℕ} (is_next : number ≡ length history + 1) (t : TextIs left left' history true)
+        (r : RunTo starts history kept mid machine accounts) (not_over : is_over (steps_of airs_of history) ≡ false) where
   no_end_line : transcript_of airs_of starts (lines_of true t.text) ≡ brought (rules_of airs_of starts) history ++ refusal_line number NoEnd
-  no_end_line =
-      ap (transcript_of airs_of starts) t.whole ∙ writes_through starts history r.accepted false not_over
-      ∙ ap (λ n. brought (rules_of airs_of starts) history ++ refusal_line n NoEnd) (sym is_next)
+  no_end_line = rw (t.whole, is_next) (writes_through starts history r.accepted false not_over)
 
   no_end_end : transcript_end airs_of starts (lines_of true t.text) ≡ refused number NoEnd
-  no_end_end =
-      ap (transcript_end airs_of starts) t.whole ∙ ends_through starts history r.accepted false not_over ∙ ap (λ n. refused n NoEnd) (sym is_next)
+  no_end_end = rw (t.whole, is_next) (ends_through starts history r.accepted false not_over)
 
   no_end_units : units_of airs_of starts (lines_of true t.text) ≡ handed_up airs_of (steps_of airs_of history)
-  no_end_units = ap (units_of airs_of starts) t.whole ∙ units_all starts history r.accepted
+  no_end_units = rw t.whole (units_all starts history r.accepted)
 
   same_lines : (at_end : Bool) (more : List ℕ) → MayFollow true at_end more → lines_of at_end (t.text ++ more) ≡ lines_of true t.text
-  same_lines at_end more follows =
-      let f = follows refl in
-      ap (λ b. lines_of b (t.text ++ more)) f.0 ∙ ap (λ rest. lines_of true (t.text ++ rest)) f.1 ∙ ap (lines_of true) (append-nil t.text)
+  same_lines at_end more follows = grind (arith, append-nil, follows refl)
 
-  broken_no_end : AppendsPrefix mid kept' (refusal_line number NoEnd) → Broken airs_of starts accounts left left' kept kept'
-  broken_no_end f = record {
+  broken_no_end : (kept' : Option (List ℕ)) → AppendsPrefix mid kept' (refusal_line number NoEnd)
+      → Broken airs_of starts accounts left left' kept kept'
+  broken_no_end kept' f = record {
     text = t.text;
     over = true;
     read = t.read;
-    written = prefix_same kept kept' _ _ (sym no_end_line) (AppendsPrefix-then kept mid kept' (brought (rules_of airs_of starts) history) (refusal_line number NoEnd) r.written f);
+    written = rw no_end_line
+        (AppendsPrefix-then kept mid kept' (brought (rules_of airs_of starts) history) (refusal_line number NoEnd) r.written f);
     boxes = inl (record {
       done = handed_up airs_of (steps_of airs_of history);
       rest = [];
@@ -186,13 +126,11 @@ module _ (starts : List Account) (history : List TextLine) (left left' kept mid 
     });
   }
 
-  pub ends_no_end : (ending : Ending) → Refuses number NoEnd mid kept' ending → Ended airs_of ending starts accounts left left' kept kept'
-  ends_no_end endings.Done f = absurd f
-  ends_no_end endings.ReadFault f = absurd f
-  ends_no_end endings.OutletFault f = absurd f
-  ends_no_end endings.Memory f = broken_no_end f
-  ends_no_end endings.WriteFault f = (
-    broken_no_end (prefix_of_short mid kept' (refusal_line number NoEnd) f),
+  pub ends_no_end : (kept' : Option (List ℕ)) (ending : Ending) → Refuses number NoEnd mid kept' ending
+      → Ended airs_of ending starts accounts left left' kept kept'
+  ends_no_end kept' endings.Memory f = broken_no_end kept' f
+  ends_no_end kept' endings.WriteFault f = (
+    broken_no_end kept' (prefix_of_short mid kept' (refusal_line number NoEnd) f),
     inr (record {
       text = t.text;
       read = t.read;
@@ -203,15 +141,15 @@ module _ (starts : List Account) (history : List TextLine) (left left' kept mid 
       boxes = took_as starts accounts _ _ (sym no_end_units) (took_history starts accounts history r.stands.boxes);
     }),
   )
-  ends_no_end (endings.Refused line why) f =
-      let P : Ending → Type 0 = λ s. Ended airs_of s starts accounts left left' kept kept' in
-      let at_line : P (endings.Refused number NoEnd) = (
+  ends_no_end kept' (endings.Refused line why) f =
+      (
         record {
           text = t.text;
           over = true;
           read = t.read;
           no_end = λ e. refl;
-          ends_so = λ at_end more follows. ap (transcript_end airs_of starts) (same_lines at_end more follows) ∙ no_end_end;
+          ends_so = λ at_end more follows.
+              ap (transcript_end airs_of starts) (same_lines at_end more follows) ∙ no_end_end ∙ sym (λ i. refused (f.0 i) (f.1 i));
           octets = brought (rules_of airs_of starts) history ++ refusal_line number NoEnd;
           transcript = λ at_end more follows. ap (transcript_of airs_of starts) (same_lines at_end more follows) ∙ no_end_line;
           written = Appends-then kept mid kept' (brought (rules_of airs_of starts) history) (refusal_line number NoEnd) r.written f.2;
@@ -219,6 +157,6 @@ module _ (starts : List Account) (history : List TextLine) (left left' kept mid 
           handed = λ at_end more follows. ap (units_of airs_of starts) (same_lines at_end more follows) ∙ no_end_units;
           boxes = took_history starts accounts history r.stands.boxes;
         },
-        (λ other. absurd (other refl)),
-      ) in
-      subst P (ap (λ n. endings.Refused n NoEnd) (sym f.0) ∙ ap (endings.Refused line) (sym f.1)) at_line
+        (λ other. absurd (other f.1)),
+      )
+  ends_no_end kept' _ f = absurd f

@@ -8,7 +8,6 @@ mod Prefixes
 mod Hearing
 mod LineEndings
 mod LineSteps
-mod LineUnits
 mod Listening
 mod OtherAirs
 mod Promises

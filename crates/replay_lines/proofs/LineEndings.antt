@@ -1,251 +1,284 @@
 -- How a run of a text goes on or ends once a line was read.
-use Rattle.replay_lines.proofs.Prelude.{◌≡◌, ℕ, ◌+◌, Bool, List, [], ◌∷◌, ◌++◌, length, reverse, refl, sym, ap, subst, ◌∙◌, append_assoc, arith, Option, None, Some, length-append, inl, inr, ◌⊎◌, append-nil, reverse-append, Appends, TextLine, lines_of, AppendsPrefix, AppendsShort, Appends-then, AppendsPrefix-then, Account, airs_of, Refusal, refusal_line, refused, brought, Accepted, handed_up, rules_of, steps_of, handed_on, out_of, last_line_after, end_after, has_end, transcript_of, transcript_end, units_of, Ending, Machine, CutShort, BoxesStand, LinesStand, answered_on, refusal_at, output_at, took_history, Comes, brought_by, BoxesCut, Broken, FaultCut, LineFails, OutletFaulted, ReadsAhead, CutAt, BoxesAt, Ended, Refuses, Puts, StepRuns}
+use Rattle.replay_lines.proofs.Prelude.{◌≡◌, ℕ, ◌+◌, Bool, List, [], ◌∷◌, ◌++◌, length, reverse, refl, sym, ap, subst, ◌∙◌, append_assoc, arith, Option, None, Some, Result, Ok, Err, length-append, inl, inr, ◌⊎◌, append-nil, reverse-append, reverse_onto, Appends, TextLine, lines_of, AppendsPrefix, AppendsShort, Appends-then, AppendsPrefix-then, Account, airs_of, Refusal, refusal_line, refused, out, brought, Accepted, handed_up, rules_of, steps_of, handed_on, handed_line, out_of, last_line_after, end_after, has_end, transcript_of, transcript_end, units_of, accounts_after, accounts_append, Took, took_all, Ending, Machine, SinkUnit, BoxFails, CutShort, LinesStand, LineMeets, meets_at, refusal_at, output_at, answered_on, box_fails, took_history, Comes, brought_by, BoxesCut, Broken, FaultCut, LineFails, OutletFaulted, ReadsAhead, TookPrefix, Ended, RunTo, Refuses, Puts, StepRuns, Memory, Refused, OutletFault}
+use Rattle.transcript_text.specs.declared.stop.Stop.{Stop}
 use Rattle.replay_lines.specs.declared.ending.Ending.TheVariants as endings
-use Rattle.replay_steps.specs.Failing.{printed_before}
-use Rattle.replay_lines.proofs.Endings.{out_then, out_all, ends_refused, writes_refused, units_refused, prefix_of_short, prefix_none}
+use Rattle.replay_lines.proofs.Endings.{out_then, out_all, out_refused, ends_refused, writes_refused, units_then, units_all, units_refused, prefix_of_short, prefix_none}
+use Rattle.replay_lines.proofs.Prefixes.{out_more, units_more, units_rest}
 use Rattle.replay_lines.proofs.RefusalLaws.{never_no_end}
-use Rattle.replay_lines.proofs.LineUnits.{Brings, CutFor, box_stops, brings_before, brings_nothing, brings_refused, brings_output, cut_before}
-use Rattle.replay_lines.proofs.LineUnits.{cut_after, cut_within, at_refused, at_prefix, at_after, took_before}
 
--- ---- a write that was cut short
+-- the units before one went to their boxes, and the box of that one failed
+pub box_stops : (starts before after : List Account) (history : List TextLine) (line : TextLine) (text told : List ℕ)
+    → LineFails airs_of starts history line text told before after → (lines : List ℕ)
+        × BoxFails (handed_on airs_of history line) [] lines before after
+box_stops starts before after history line text told f =
+    box_fails (handed_on airs_of history line) (answered_on airs_of history line) (output_at starts history line) text told before after f
+
+-- the units that an accepted line adds
+pub units_added : (starts : List Account) (history : List TextLine) (line : TextLine) → Accepted (rules_of airs_of starts) (line ∷ history)
+    → units_of airs_of starts (reverse (line ∷ history)) ≡ units_of airs_of starts (reverse history) ++ handed_on airs_of history line
+units_added starts history line accepted =
+    grind (arith, units_all starts (line ∷ history) accepted, handed_line airs_of history line, units_all starts history accepted.0)
+
+-- ---- what a line brings, and what the boxes took of its units
+
+-- The line begins with these octets, and the boxes took a prefix of the units that it adds.
+record Partway (starts : List Account) (history : List TextLine) (line : TextLine) (before after : List Account)
+    (octets : List ℕ) : Type 0 where
+  rest : List ℕ
+  brings : out_of airs_of starts (reverse (line ∷ history)) ≡ brought (rules_of airs_of starts) history ++ (octets ++ rest)
+  units : List SinkUnit
+  adds : units_of airs_of starts (reverse (line ∷ history)) ≡ units_of airs_of starts (reverse history) ++ units
+  took : TookPrefix units before after
+
+abbrev none_cut : (boxes : List Account) (units : List SinkUnit) → CutShort units boxes boxes
+none_cut boxes units = record { done = []; rest = units; split = refl; boxes = refl }
+
+abbrev all_cut : (before after : List Account) (units : List SinkUnit) → after ≡ accounts_after before units → CutShort units before after
+all_cut before after units is = record { done = units; rest = []; split = sym (append-nil units); boxes = is }
 
 brought_prefix : (over : Bool) (starts : List Account) (kept kept' : Option (List ℕ)) (text : List ℕ) (octets rest : List ℕ)
     → out_of airs_of starts (lines_of over text) ≡ octets ++ rest → AppendsPrefix kept kept' octets → AppendsPrefix kept kept' (brought_by airs_of over starts text)
 brought_prefix over starts kept kept' text octets rest is f =
     grind (arith, last_line_after, end_after, airs_of, lines_of, has_end, length, append_assoc)
 
--- the line among those of the text as far as it was read
-lines_now : (left left' : Option (List ℕ)) (history : List TextLine) (line : TextLine) (c : Comes left left' history line)
-    → (later : List TextLine) × (lines_of c.over c.text ≡ reverse history ++ line ∷ later)
-lines_now left left' history line c =
-    let at = c.lines c.over [] (λ over. (over, refl)) in
-    (at.0, ap (lines_of c.over) (sym (append-nil c.text)) ∙ at.1)
+module _ {starts : List Account} {history : List TextLine} {line : TextLine} {left left' kept mid : Option (List ℕ)} {machine : Machine}
+    {before : List Account} {number : ℕ} (is_next : number ≡ length history + 1) (c : Comes left left' history line)
+    (ahead : ReadsAhead left left' number) (run : RunTo starts history kept mid machine before) where
+  line_out : out_of airs_of starts (reverse (line ∷ history))
+      ≡ brought (rules_of airs_of starts) history ++ out (rules_of airs_of starts) history (line ∷ [])
+  line_out = ap (out_of airs_of starts) (reverse-append (line ∷ []) history) ∙ out_then starts history run.accepted (line ∷ [])
 
-pub ends_broken : (starts : List Account) (history : List TextLine) (line : TextLine) (left left' kept mid kept' : Option (List ℕ)) (accounts : List Account) (octets : List ℕ)
-    → Comes left left' history line → Accepted (rules_of airs_of starts) history → Appends kept mid (brought (rules_of airs_of starts) history)
-    → Brings starts history line octets → CutFor starts history line accounts ⊎ FaultCut airs_of starts accounts left left' kept kept' → AppendsPrefix mid kept' octets
-    → Broken airs_of starts accounts left left' kept kept'
-ends_broken starts history line left left' kept mid kept' accounts octets c accepted written brings cut f =
-    let now = lines_now left left' history line c in
-    let more = brings now.0 in
-    let so_far = brought (rules_of airs_of starts) history in
-    let P : List TextLine → Type 0 = λ ls. BoxesCut airs_of starts accounts ls in
-    record {
-      text = c.text;
-      over = c.over;
-      read = c.read;
-      written = brought_prefix c.over starts kept kept' c.text (so_far ++ octets) more.0
-          (ap (out_of airs_of starts) now.1 ∙ out_then starts history accepted (line ∷ now.0) ∙ ap (λ rest. so_far ++ rest) more.1 ∙ sym (append_assoc so_far octets more.0))
-          (AppendsPrefix-then kept mid kept' so_far octets written f);
-      boxes = elim cut [ inl prefix ↦ inl (subst P (sym now.1) (prefix now.0)) | inr failed ↦ inr failed ];
-    }
+  -- nothing was written of it, and no box was called
+  abbrev part_none : Partway starts history line before before []
+  part_none =
+      let more = units_rest airs_of starts history (line ∷ []) in
+      record {
+        rest = out (rules_of airs_of starts) history (line ∷ []);
+        brings = line_out;
+        units = more.0;
+        adds = ap (units_of airs_of starts) (reverse-append (line ∷ []) history) ∙ units_then starts history run.accepted (line ∷ [])
+            ∙ more.1 ∙ ap (λ us. us ++ more.0) (sym (units_all starts history run.accepted));
+        took = inl (none_cut before more.0);
+      }
 
-ends_cut : (starts : List Account) (history : List TextLine) (line : TextLine) (left left' kept mid kept' : Option (List ℕ)) (accounts : List Account) (octets : List ℕ) (number : ℕ)
-    → number ≡ length history + 1 → Comes left left' history line → Accepted (rules_of airs_of starts) history → Appends kept mid (brought (rules_of airs_of starts) history)
-    → Brings starts history line octets → BoxesAt airs_of starts accounts history line → AppendsShort mid kept' octets
-    → CutAt airs_of starts accounts left left' kept kept' number
-ends_cut starts history line left left' kept mid kept' accounts octets number is_next c accepted written brings at s =
-    let now = lines_now left left' history line c in
-    let more = brings [] in
-    let so_far = brought (rules_of airs_of starts) history in
-    let with_line : out_of airs_of starts (reverse (line ∷ history)) ≡ so_far ++ (octets ++ more.0) =
-    ap (out_of airs_of starts) (reverse-append (line ∷ []) history) ∙ out_then starts history accepted (line ∷ []) ∙ ap (λ rest. so_far ++ rest) more.1 in
-    record {
-      text = c.text;
-      over = c.over;
-      read = c.read;
-      earlier = history;
-      last = line;
-      later = now.0;
-      lines = now.1;
-      number = is_next;
-      accepted = accepted;
-      prefix = so_far ++ s.prefix;
-      written = Appends-then kept mid kept' so_far s.prefix written s.appended;
-      not_before = omega (arith, ap length (out_all starts history accepted), length-append so_far s.prefix);
-      longer = omega (
-        arith,
-        ap length with_line,
-        length-append so_far
-            (octets ++ more.0),
-        length-append octets more.0,
-        length-append so_far s.prefix,
-        ap length s.whole,
-        length-append s.prefix s.rest,
-        s.some,
-      );
-      boxes = at;
-    }
+  abbrev part_refused : (reason : Refusal) → refusal_at starts history line ≡ Some reason
+      → Partway starts history line before before (refusal_line number reason)
+  part_refused reason because = record {
+    rest = [];
+    brings = line_out ∙ ap (λ octets. brought (rules_of airs_of starts) history ++ octets)
+        (out_refused starts history run.accepted line reason because [] ∙ ap (λ n. refusal_line n reason) (sym is_next)
+        ∙ sym (append-nil (refusal_line number reason)));
+    units = [];
+    adds = ap (units_of airs_of starts) (reverse-append (line ∷ []) history)
+        ∙ units_refused starts history run.accepted line reason because []
+        ∙ sym (units_all starts history run.accepted) ∙ sym (append-nil (units_of airs_of starts (reverse history)));
+    took = inl (none_cut before []);
+  }
 
-ends_write : (starts : List Account) (history : List TextLine) (line : TextLine) (left left' kept mid kept' : Option (List ℕ)) (accounts : List Account) (octets : List ℕ) (number : ℕ)
-    → number ≡ length history + 1 → Comes left left' history line → ReadsAhead left left' number
-    → Accepted (rules_of airs_of starts) history → Appends kept mid (brought (rules_of airs_of starts) history)
-    → Brings starts history line octets → CutFor starts history line accounts ⊎ FaultCut airs_of starts accounts left left' kept kept' → BoxesAt airs_of starts accounts history line → AppendsShort mid kept' octets
-    → Ended airs_of endings.WriteFault starts accounts left left' kept kept'
-ends_write starts history line left left' kept mid kept' accounts octets number is_next c ahead accepted written brings cut at s = (
-  ends_broken starts history line left left' kept mid kept' accounts octets c accepted written brings cut (prefix_of_short mid kept' octets s),
-  inl (number, ends_cut starts history line left left' kept mid kept' accounts octets number is_next c accepted written brings at s, ahead),
-)
+  abbrev part_on : (after : List Account) (octets rest : List ℕ) → refusal_at starts history line ≡ None
+      → output_at starts history line ≡ octets ++ rest → TookPrefix (handed_on airs_of history line) before after
+      → Partway starts history line before after octets
+  part_on after octets rest none is took = record {
+    rest = rest;
+    brings = out_all starts (line ∷ history) (run.accepted, none) ∙ ap (λ xs. brought (rules_of airs_of starts) history ++ xs) is;
+    units = handed_on airs_of history line;
+    adds = units_added starts history line (run.accepted, none);
+    took = took;
+  }
 
--- ---- a refusal
+  -- ---- a write that was cut short
 
-pub ends_refusal : (starts : List Account) (history : List TextLine) (line : TextLine) (left left' kept mid kept' : Option (List ℕ)) (accounts : List Account) (number : ℕ) (reason : Refusal)
-    → number ≡ length history + 1 → Comes left left' history line → ReadsAhead left left' number
-    → Accepted (rules_of airs_of starts) history → Appends kept mid (brought (rules_of airs_of starts) history) → BoxesStand starts (steps_of airs_of history) accounts
-    → refusal_at starts history line ≡ Some reason
-    → (ending : Ending) → Refuses number reason mid kept' ending → Ended airs_of ending starts accounts left left' kept kept'
-ends_refusal starts history line left left' kept mid kept' accounts number reason is_next c ahead accepted written b because endings.Done f = absurd f
-ends_refusal starts history line left left' kept mid kept' accounts number reason is_next c ahead accepted written b because endings.ReadFault f = absurd f
-ends_refusal starts history line left left' kept mid kept' accounts number reason is_next c ahead accepted written b because endings.OutletFault f = absurd f
-ends_refusal starts history line left left' kept mid kept' accounts number reason is_next c ahead accepted written b because endings.Memory f =
-    ends_broken starts history line left left' kept mid kept' accounts (refusal_line number reason) c accepted written
-    (brings_refused starts history line reason number is_next accepted because) (inl (cut_before starts accounts history line accepted b)) f
-ends_refusal starts history line left left' kept mid kept' accounts number reason is_next c ahead accepted written b because endings.WriteFault f =
-    ends_write starts history line left left' kept mid kept' accounts (refusal_line number reason) number is_next c ahead accepted written
-    (brings_refused starts history line reason number is_next accepted because) (inl (cut_before starts accounts history line accepted b))
-    (at_refused starts accounts history line reason accepted because b) f
-ends_refusal starts history line left left' kept mid kept' accounts number reason is_next c ahead accepted written b because (endings.Refused at why) f =
-    let so_far = brought (rules_of airs_of starts) history in
-    let P : Ending → Type 0 = λ s. Ended airs_of s starts accounts left left' kept kept' in
-    let at_line : P (endings.Refused number reason) = (
+  now : (later : List TextLine) × (lines_of c.over c.text ≡ reverse (line ∷ history) ++ later)
+  now =
+      let at = c.lines c.over [] (λ over. (over, refl)) in
+      (at.0, ap (lines_of c.over) (sym (append-nil c.text)) ∙ at.1 ∙ sym (reverse_onto line history at.0))
+
+  took_cut : (after : List Account) (octets : List ℕ) (p : Partway starts history line before after octets) → CutShort p.units before after
+      → BoxesCut airs_of starts after (lines_of c.over c.text)
+  took_cut after octets p cut =
+      let all = handed_up airs_of (steps_of airs_of history) in
+      let more = units_more airs_of starts [] (reverse (line ∷ history)) now.0 in
+      let P : List Account → Type 0 = λ a. Took starts a (all ++ cut.done) in
+      record {
+        done = all ++ cut.done;
+        rest = cut.rest ++ more.0;
+        split = ap (units_of airs_of starts) now.1 ∙ more.1
+            ∙ ap (λ us. us ++ more.0) (p.adds ∙ ap (λ us. us ++ p.units) (units_all starts history run.accepted)
+            ∙ ap (λ us. all ++ us) cut.split) ∙ simp append_assoc;
+        boxes = subst P (accounts_append all cut.done starts ∙ ap (λ a. accounts_after a cut.done) (sym run.stands.boxes.accounts_are)
+            ∙ sym cut.boxes) (took_all starts (all ++ cut.done));
+      }
+
+  ends_broken : (kept' : Option (List ℕ)) (after : List Account) (octets : List ℕ) (p : Partway starts history line before after octets)
+      → CutShort p.units before after ⊎ FaultCut airs_of starts after left left' kept kept' → AppendsPrefix mid kept' octets
+      → Broken airs_of starts after left left' kept kept'
+  ends_broken kept' after octets p cut f =
+      let so_far = brought (rules_of airs_of starts) history in
+      let more = out_more (rules_of airs_of starts) [] (reverse (line ∷ history)) now.0 in
       record {
         text = c.text;
         over = c.over;
         read = c.read;
-        no_end = λ e. absurd (never_no_end starts history line (because ∙ ap Some e));
-        ends_so = λ at_end more follows.
-            ap (transcript_end airs_of starts) (c.lines at_end more follows).1
-            ∙ ends_refused starts history accepted line reason because (c.lines at_end more follows).0
-            ∙ ap (λ n. refused n reason) (sym is_next);
-        octets = so_far ++ refusal_line number reason;
-        transcript = λ at_end more follows.
-            ap (transcript_of airs_of starts) (c.lines at_end more follows).1
-            ∙ writes_refused starts history accepted line reason because (c.lines at_end more follows).0
-            ∙ ap (λ n. so_far ++ refusal_line n reason) (sym is_next);
-        written = Appends-then kept mid kept' so_far (refusal_line number reason) written f.2;
-        units = handed_up airs_of (steps_of airs_of history);
-        handed = λ at_end more follows.
-            ap (units_of airs_of starts) (c.lines at_end more follows).1
-            ∙ units_refused starts history accepted line reason because (c.lines at_end more follows).0;
-        boxes = took_history starts accounts history b;
-      },
-      (λ other. ahead),
-    ) in
-    subst P (ap (λ n. endings.Refused n reason) (sym f.0) ∙ ap (endings.Refused at) (sym f.1)) at_line
-
--- ---- a step
-
--- what was put after a line that is accepted
-pub step_put : (starts : List Account) (history : List TextLine) (line : TextLine) (left left' kept mid kept' : Option (List ℕ)) (machine : Machine) (accounts : List Account) (number : ℕ)
-    (octets : List ℕ)
-    → number ≡ length history + 1 → Comes left left' history line → ReadsAhead left left' number
-    → Accepted (rules_of airs_of starts) history → Appends kept mid (brought (rules_of airs_of starts) history)
-    → refusal_at starts history line ≡ None → LinesStand starts (line ∷ history) machine accounts → octets ≡ output_at starts history line
-    → (result : Option Ending) → Puts octets mid kept' result → StepRuns starts (line ∷ history) left left' kept kept' machine accounts result
-step_put starts history line left left' kept mid kept' machine accounts number octets is_next c ahead accepted written none stands told None p =
-    let P : List ℕ → Type 0 = λ xs. Appends mid kept' xs in
-    record {
-      accepted = (accepted, none);
-      written = Appends-then kept mid kept' (brought (rules_of airs_of starts) history) (output_at starts history line) written (subst P told p);
-      stands = stands;
-    }
-step_put starts history line left left' kept mid kept' machine accounts number octets is_next c ahead accepted written none stands told (Some endings.WriteFault) p =
-    let P : List ℕ → Type 0 = λ xs. AppendsShort mid kept' xs in
-    ends_write starts history line left left' kept mid kept' accounts (output_at starts history line) number is_next c ahead accepted written
-    (brings_output starts history line accepted none) (inl (cut_after starts accounts history line accepted none stands.boxes))
-    (at_after starts accounts history line accepted none stands.boxes) (subst P told p)
-step_put starts history line left left' kept mid kept' machine accounts number octets is_next c ahead accepted written none stands told (Some endings.Memory) p =
-    let P : List ℕ → Type 0 = λ xs. AppendsShort mid kept' xs in
-    ends_broken starts history line left left' kept mid kept' accounts (output_at starts history line) c accepted written
-    (brings_output starts history line accepted none) (inl (cut_after starts accounts history line accepted none stands.boxes)) (prefix_of_short mid kept' (output_at starts history line) (subst P told p))
-step_put starts history line left left' kept mid kept' machine accounts number octets is_next c ahead accepted written none stands told result p =
-    search (brought, rules_of, airs_of, output_at, ends_write, brings_output, cut_after, at_after, ends_broken, prefix_of_short)
-
--- the box of a unit of the line failed, and what came before the unit was put
-module _ (starts : List Account) (history : List TextLine) (line : TextLine) (left left' kept mid kept' : Option (List ℕ)) (before after : List Account) (number : ℕ) (told : List ℕ)
-    (is_next : number ≡ length history + 1) (c : Comes left left' history line) (ahead : ReadsAhead left left' number)
-    (accepted : Accepted (rules_of airs_of starts) history) (written : Appends kept mid (brought (rules_of airs_of starts) history))
-    (b : BoxesStand starts (steps_of airs_of history) before) (none : refusal_at starts history line ≡ None)
-    (f : LineFails airs_of starts history line [] told before after) where
-  brings_told : Brings starts history line told
-  brings_told = brings_before starts before after history line told accepted none f
-
-  -- writing what comes before the unit was cut short
-  fault_cut : AppendsShort mid kept' told → FaultCut airs_of starts after left left' kept kept'
-  fault_cut short = record {
-    earlier = history;
-    line = line;
-    comes = c;
-    accepted = (accepted, none);
-    accounts = before;
-    before = took_before starts before history accepted b;
-    told = told;
-    fails = f;
-    between = mid;
-    written = let P : List ℕ → Type 0 = λ xs. Appends kept mid xs in subst P (sym (out_all starts history accepted)) written;
-    cut = short;
-  }
-
-  pub outlet_put : (result : Option Ending) → Puts told mid kept' result
-      → (ending : Ending) → result ≡ Some ending ⊎ ((result ≡ None) × (ending ≡ endings.OutletFault)) → Ended airs_of ending starts after left left' kept kept'
-  outlet_put result p ending how = elim how [
-    | inl is ↦ stopped ending (let P : Option Ending → Type 0 = λ r. Puts told mid kept' r in subst P is p)
-    | inr is ↦
-        let P : Option Ending → Type 0 = λ r. Puts told mid kept' r in
-        let Q : Ending → Type 0 = λ s. Ended airs_of s starts after left left' kept kept' in
-        subst Q (sym is.1) (faulted (subst P is.0 p))
-  ]
-    where
-      faulted : Appends mid kept' told → OutletFaulted airs_of starts after left left' kept kept'
-      faulted p = record {
-        earlier = history;
-        line = line;
-        comes = c;
-        ahead = let P : ℕ → Type 0 = λ n. ReadsAhead left left' n in subst P is_next ahead;
-        accepted = (accepted, none);
-        accounts = before;
-        before = took_before starts before history accepted b;
-        told = brought (rules_of airs_of starts) history ++ told;
-        fails = record {
-          done = f.done;
-          unit = f.unit;
-          rest = f.rest;
-          split = f.split;
-          bis = f.bis;
-          time = f.time;
-          octets = f.octets;
-          is_valid = f.is_valid;
-          lines = ap (λ prefix. brought (rules_of airs_of starts) history ++ prefix) f.lines
-              ∙ ap (λ prefix. prefix ++ printed_before (answered_on airs_of history line) f.done f.unit) (sym (out_all starts history accepted));
-          behind = f.behind;
-          prefix = f.prefix;
-          box = f.box;
-        };
-        written = Appends-then kept mid kept' (brought (rules_of airs_of starts) history) told written p;
+        written = brought_prefix c.over starts kept kept' c.text (so_far ++ octets) (p.rest ++ more.0)
+            (ap (out_of airs_of starts) now.1 ∙ more.1 ∙ ap (λ xs. xs ++ more.0) p.brings ∙ simp append_assoc)
+            (AppendsPrefix-then kept mid kept' so_far octets run.written f);
+        boxes = elim cut [ inl short ↦ inl (took_cut after octets p short) | inr failed ↦ inr failed ];
       }
 
-      stopped : (ending : Ending) → Puts told mid kept' (Some ending) → Ended airs_of ending starts after left left' kept kept'
-      stopped endings.WriteFault p =
-          ends_write starts history line left left' kept mid kept' after told number is_next c ahead accepted written
-          brings_told (inr (fault_cut p))
-          (at_prefix starts before after history line accepted none b (inr (box_stops starts before after history line [] told f))) p
-      stopped endings.Memory p =
-          ends_broken starts history line left left' kept mid kept' after told c accepted written
-          brings_told (inr (fault_cut p)) (prefix_of_short mid kept' told p)
-      stopped endings.Done p = absurd p
-      stopped endings.ReadFault p = absurd p
-      stopped endings.OutletFault p = absurd p
-      stopped (endings.Refused at why) p = absurd p
+  ends_write : (kept' : Option (List ℕ)) (after : List Account) (octets : List ℕ) (p : Partway starts history line before after octets)
+      → CutShort p.units before after ⊎ FaultCut airs_of starts after left left' kept kept' → AppendsShort mid kept' octets
+      → Ended airs_of endings.WriteFault starts after left left' kept kept'
+  ends_write kept' after octets p cut s =
+      let so_far = brought (rules_of airs_of starts) history in (
+        ends_broken kept' after octets p cut (prefix_of_short mid kept' octets s),
+        inl (number, record {
+          text = c.text;
+          over = c.over;
+          read = c.read;
+          earlier = history;
+          last = line;
+          later = now.0;
+          lines = now.1 ∙ reverse_onto line history now.0;
+          number = is_next;
+          accepted = run.accepted;
+          prefix = so_far ++ s.prefix;
+          written = Appends-then kept mid kept' so_far s.prefix run.written s.appended;
+          not_before = omega (arith, ap length (out_all starts history run.accepted), length-append so_far s.prefix);
+          longer = omega (arith, ap length p.brings, length-append {A = ℕ}, ap length s.whole, s.some);
+          boxes = record {
+            accounts = before;
+            before = grind (arith, units_all, took_history);
+            units = p.units;
+            added = p.adds;
+            prefix = p.took;
+          };
+        }, ahead),
+      )
 
--- memory ran out in the step
-pub step_memory : (starts : List Account) (history : List TextLine) (line : TextLine) (left left' kept mid : Option (List ℕ)) (before after : List Account)
-    → Comes left left' history line → Accepted (rules_of airs_of starts) history → Appends kept mid (brought (rules_of airs_of starts) history)
-    → BoxesStand starts (steps_of airs_of history) before
-    → (after ≡ before) ⊎ ((refusal_at starts history line ≡ None) × CutShort (handed_on airs_of history line) before after)
-    → Broken airs_of starts after left left' kept mid
-step_memory starts history line left left' kept mid before after c accepted written b how =
-    ends_broken starts history line left left' kept mid mid after [] c accepted written (brings_nothing starts history line) (inl (cut how)) (prefix_none mid [])
-  where
-    cut : (after ≡ before) ⊎ ((refusal_at starts history line ≡ None) × CutShort (handed_on airs_of history line) before after) → CutFor starts history line after
-    cut (inl same) = let P : List Account → Type 0 = λ a. CutFor starts history line a in subst P (sym same) (cut_before starts before history line accepted b)
-    cut (inr short) = cut_within starts before after history line accepted short.0 b short.1
+  -- ---- a refusal
+
+  pub ends_refusal : (kept' : Option (List ℕ)) (reason : Refusal) → refusal_at starts history line ≡ Some reason
+      → (ending : Ending) → Refuses number reason mid kept' ending → Ended airs_of ending starts before left left' kept kept'
+  ends_refusal kept' reason because endings.Memory f =
+      ends_broken kept' before (refusal_line number reason) (part_refused reason because) (inl (none_cut before [])) f
+  ends_refusal kept' reason because endings.WriteFault f =
+      ends_write kept' before (refusal_line number reason) (part_refused reason because) (inl (none_cut before [])) f
+  ends_refusal kept' reason because (endings.Refused at why) f =
+      let so_far = brought (rules_of airs_of starts) history in (
+        record {
+          text = c.text;
+          over = c.over;
+          read = c.read;
+          no_end = λ e. absurd (never_no_end starts history line (because ∙ ap Some (sym f.1 ∙ e)));
+          ends_so = λ at_end more follows. let lines = c.lines at_end more follows in
+              ap (transcript_end airs_of starts) lines.1 ∙ ends_refused starts history run.accepted line reason because lines.0
+              ∙ sym (λ i. refused ((f.0 ∙ is_next) i) (f.1 i));
+          octets = so_far ++ refusal_line number reason;
+          transcript = λ at_end more follows. let lines = c.lines at_end more follows in
+              ap (transcript_of airs_of starts) lines.1 ∙ writes_refused starts history run.accepted line reason because lines.0
+              ∙ ap (λ n. so_far ++ refusal_line n reason) (sym is_next);
+          written = Appends-then kept mid kept' so_far (refusal_line number reason) run.written f.2;
+          units = handed_up airs_of (steps_of airs_of history);
+          handed = λ at_end more follows. let lines = c.lines at_end more follows in
+              ap (units_of airs_of starts) lines.1 ∙ units_refused starts history run.accepted line reason because lines.0;
+          boxes = took_history starts before history run.stands.boxes;
+        },
+        (λ other. subst (λ n. ReadsAhead left left' n) (sym f.0) ahead),
+      )
+  ends_refusal kept' reason because _ f = absurd f
+
+  -- ---- a step
+
+  -- what was put after a line that is accepted
+  step_put : (kept' : Option (List ℕ)) (new : Machine) (after : List Account) → refusal_at starts history line ≡ None
+      → LinesStand starts (line ∷ history) new after → after ≡ accounts_after before (handed_on airs_of history line)
+      → (result : Option Ending) → Puts (output_at starts history line) mid kept' result
+      → StepRuns starts (line ∷ history) left left' kept kept' new after result
+  step_put kept' new after none stands took None p = record {
+    accepted = (run.accepted, none);
+    written = Appends-then kept mid kept' (brought (rules_of airs_of starts) history) (output_at starts history line) run.written p;
+    stands = stands;
+  }
+  step_put kept' new after none stands took (Some endings.WriteFault) p =
+      let cut : CutShort (handed_on airs_of history line) before after = all_cut before after (handed_on airs_of history line) took in
+      let output = output_at starts history line in
+      ends_write kept' after output (part_on after output [] none (sym (append-nil output)) (inl cut)) (inl cut) p
+  step_put kept' new after none stands took (Some endings.Memory) p =
+      let cut : CutShort (handed_on airs_of history line) before after = all_cut before after (handed_on airs_of history line) took in
+      let output = output_at starts history line in
+      ends_broken kept' after output (part_on after output [] none (sym (append-nil output)) (inl cut)) (inl cut)
+          (prefix_of_short mid kept' output p)
+  step_put kept' new after none stands took (Some _) p = absurd p
+
+  -- the box of a unit of the line failed, and what came before the unit was put
+  module _ (kept' : Option (List ℕ)) (after : List Account) (told : List ℕ) (none : refusal_at starts history line ≡ None)
+      (f : LineFails airs_of starts history line [] told before after) where
+    abbrev part_told : Partway starts history line before after told
+    part_told =
+        part_on after told f.behind none (f.prefix ∙ ap (λ xs. xs ++ f.behind) (sym f.lines))
+            (inr (box_stops starts before after history line [] told f))
+
+    -- writing what comes before the unit was cut short
+    fault_cut : AppendsShort mid kept' told → FaultCut airs_of starts after left left' kept kept'
+    fault_cut short =
+        let accepted : Accepted (rules_of airs_of starts) (line ∷ history) = (run.accepted, none) in
+        let took : Took starts before (units_of airs_of starts (reverse history)) = grind (arith, units_all, took_history) in
+        let written : Appends kept mid (out_of airs_of starts (reverse history)) = rw (out_all starts history run.accepted) run.written in
+        search
+
+    stopped : (ending : Ending) → Puts told mid kept' (Some ending) → Ended airs_of ending starts after left left' kept kept'
+    stopped endings.WriteFault p = ends_write kept' after told part_told (inr (fault_cut p)) p
+    stopped endings.Memory p = ends_broken kept' after told part_told (inr (fault_cut p)) (prefix_of_short mid kept' told p)
+    stopped _ p = absurd p
+
+    faulted : Appends mid kept' told → OutletFaulted airs_of starts after left left' kept kept'
+    faulted p = record {
+      earlier = history;
+      line = line;
+      comes = c;
+      ahead = subst (λ n. ReadsAhead left left' n) is_next ahead;
+      accepted = (run.accepted, none);
+      accounts = before;
+      before = grind (arith, units_all, took_history);
+      told = brought (rules_of airs_of starts) history ++ told;
+      fails = let all = out_all starts history run.accepted in grind arith;
+      written = Appends-then kept mid kept' (brought (rules_of airs_of starts) history) told run.written p;
+    }
+
+  -- memory ran out in the step
+  pub step_memory : (after : List Account) → (after ≡ before)
+      ⊎ ((refusal_at starts history line ≡ None) × CutShort (handed_on airs_of history line) before after)
+      → Broken airs_of starts after left left' kept mid
+  step_memory after (inl same) =
+      subst (λ a. Broken airs_of starts a left left' kept mid) (sym same)
+          (ends_broken mid before [] part_none (inl (none_cut before part_none.units)) (prefix_none mid []))
+  step_memory after (inr cut) =
+      ends_broken mid after [] (part_on after [] (output_at starts history line) cut.0 refl (inl cut.1)) (inl cut.1) (prefix_none mid [])
+
+  module _ (new : Machine) (after : List Account) (text told : List ℕ) (result : Result (Unit {0}) Stop) (cleared : text ≡ [])
+      (meets : LinesStand starts history machine before → LineMeets starts history line new text told before after result) where
+    met : (r : Result (Unit {0}) Stop) → result ≡ r → LineMeets starts history line new [] told before after r
+    met r is = meets_at starts history line new text told before after result r cleared is (meets run.stands)
+
+    pub run_ok : (u : Unit {0}) (kept' : Option (List ℕ)) (put : Option Ending) → result ≡ Ok u → Puts told mid kept' put
+        → StepRuns starts (line ∷ history) left left' kept kept' new after put
+    run_ok u kept' put is p = let m = met (Ok u) is in step_put kept' new after m.0 m.1 m.3 put (subst (λ xs. Puts xs mid kept' put) m.2 p)
+
+    pub run_refused : (reason : Refusal) (kept' : Option (List ℕ)) (ending : Ending) → result ≡ Err (Refused reason)
+        → Refuses number reason mid kept' ending → Ended airs_of ending starts after left left' kept kept'
+    run_refused reason kept' ending is f =
+        let m = met (Err (Refused reason)) is in
+        subst (λ a. Ended airs_of ending starts a left left' kept kept') (sym m.3) (ends_refusal kept' reason m.0 ending f)
+
+    pub run_failed : (kept' : Option (List ℕ)) (put : Option Ending) → result ≡ Err OutletFault → Puts told mid kept' put
+        → (ending : Ending) → put ≡ Some ending → Ended airs_of ending starts after left left' kept kept'
+    run_failed kept' put is p ending why =
+        let m = met (Err OutletFault) is in stopped kept' after told m.0 m.1 ending (subst (λ r. Puts told mid kept' r) why p)
+
+    pub run_faulted : (kept' : Option (List ℕ)) (put : Option Ending) → result ≡ Err OutletFault → Puts told mid kept' put
+        → put ≡ None → Ended airs_of endings.OutletFault starts after left left' kept kept'
+    run_faulted kept' put is p why =
+        let m = met (Err OutletFault) is in faulted kept' after told m.0 m.1 (subst (λ r. Puts told mid kept' r) why p)
+
+    pub run_memory : result ≡ Err Memory → Broken airs_of starts after left left' kept mid
+    run_memory is = step_memory after (met (Err Memory) is)

@@ -1,86 +1,34 @@
 -- What the loop of `replay` does at a line, put together.
-use Rattle.replay_lines.proofs.Prelude.{◌≡◌, ℕ, ◌+◌, ◌≤◌, Bool, false, List, [], ◌∷◌, length, refl, sym, subst, arith, Option, None, Some, Result, Ok, Err, inl, inr, TextLine, plain, too_long, past, text_limit, Reading, lines_left, LineRead, Line, LineTooLong, TextTooLong, Failed, Account, airs_of, Refusal, Ending, Machine, Refused, OutletFault, Memory, steps_of, UnassignedSame, meets_at, unassigned_line, LinesStand, LineMeets, Comes, ReadsAhead, Broken, Ended, as_told, ReadTo, NextIs, RunTo, Refuses, Puts, StepRuns, StepHeard, LineRuns, Appends-nothing}
+use Rattle.replay_lines.proofs.Prelude.{◌≡◌, ℕ, ◌+◌, ◌≤◌, Bool, false, List, [], ◌∷◌, length, refl, sym, subst, arith, Option, None, Some, Ok, TextLine, plain, too_long, past, text_limit, Reading, lines_left, Line, LineTooLong, TextTooLong, Account, airs_of, Ending, Machine, steps_of, UnassignedSame, unassigned_line, LinesStand, Comes, ReadsAhead, Ended, as_told, ReadTo, NextIs, RunTo, Refuses, StepHeard, LineRuns, Appends-nothing}
 use Rattle.transcript_text.specs.declared.refusal.Refusal.TheVariants as refusals
-use Rattle.replay_lines.specs.declared.ending.Ending.TheVariants as endings
-use Rattle.transcript_text.specs.declared.stop.Stop.{Stop}
 use Rattle.replay_lines.proofs.ReadingOn.{read_none, comes_of, ahead_of}
-use Rattle.replay_lines.proofs.LineEndings.{ends_refusal, step_put, outlet_put, step_memory}
-
--- ---- a step
-
-module _ (starts : List Account) (history : List TextLine) (line : TextLine) (left left' kept mid : Option (List ℕ)) (machine new : Machine) (before after : List Account)
-    (number : ℕ) (text told : List ℕ) (result : Result (Unit {0}) Stop)
-    (is_next : number ≡ length history + 1) (comes : Comes left left' history line) (ahead : ReadsAhead left left' number)
-    (run : RunTo starts history kept mid machine before) (cleared : text ≡ [])
-    (meets : LinesStand starts history machine before → LineMeets starts history line new text told before after result) where
-  met : (r : Result (Unit {0}) Stop) → result ≡ r → LineMeets starts history line new [] told before after r
-  met r is = meets_at starts history line new text told before after result r cleared is (meets run.stands)
-
-  pub run_ok : (u : Unit {0}) (kept' : Option (List ℕ)) (put : Option Ending) → result ≡ Ok u → Puts told mid kept' put
-      → StepRuns starts (line ∷ history) left left' kept kept' new after put
-  run_ok u kept' put is p =
-      let m = met (Ok u) is in
-      step_put starts history line left left' kept mid kept' new after number told is_next comes ahead run.accepted run.written m.0 m.1 m.2 put p
-
-  pub run_refused : (reason : Refusal) (kept' : Option (List ℕ)) (ending : Ending) → result ≡ Err (Refused reason) → Refuses number reason mid kept' ending
-      → Ended airs_of ending starts after left left' kept kept'
-  run_refused reason kept' ending is f =
-      let m = met (Err (Refused reason)) is in
-      let P : List Account → Type 0 = λ a. Ended airs_of ending starts a left left' kept kept' in
-      subst P (sym m.3) (ends_refusal starts history line left left' kept mid kept' before number reason is_next comes ahead run.accepted run.written run.stands.boxes m.0 ending f)
-
-  pub run_failed : (kept' : Option (List ℕ)) (put : Option Ending) → result ≡ Err OutletFault → Puts told mid kept' put
-      → (ending : Ending) → (put ≡ Some ending) → Ended airs_of ending starts after left left' kept kept'
-  run_failed kept' put is p ending why =
-      let m = met (Err OutletFault) is in
-      outlet_put starts history line left left' kept mid kept' before after number told is_next comes ahead run.accepted run.written run.stands.boxes m.0 m.1 put p ending (inl why)
-
-  pub run_faulted : (kept' : Option (List ℕ)) (put : Option Ending) → result ≡ Err OutletFault → Puts told mid kept' put
-      → (put ≡ None) → Ended airs_of endings.OutletFault starts after left left' kept kept'
-  run_faulted kept' put is p why =
-      let m = met (Err OutletFault) is in
-      outlet_put starts history line left left' kept mid kept' before after number told is_next comes ahead run.accepted run.written run.stands.boxes m.0 m.1 put p endings.OutletFault
-      (inr (why, refl))
-
-  pub run_memory : result ≡ Err Memory → Broken airs_of starts after left left' kept mid
-  run_memory is =
-      step_memory starts history line left left' kept mid before after comes run.accepted run.written run.stands.boxes (met (Err Memory) is)
+use Rattle.replay_lines.proofs.LineEndings.{ends_refusal}
 
 -- ---- a line
 
-pub next_at : (left left' : Option (List ℕ)) (lines : List TextLine) (new : Reading) (r s : Result LineRead Failed) → NextIs left left' lines new r → r ≡ s → NextIs left left' lines new s
-next_at left left' lines new r s n e = let P : Result LineRead Failed → Type 0 = λ x. NextIs left left' lines new x in subst P e n
+ahead_at : {left left' : Option (List ℕ)} {m n : ℕ} → m ≡ n → ReadsAhead left left' m → ReadsAhead left left' n
+ahead_at e a = rw e at a
 
-ahead_at : (left left' : Option (List ℕ)) (m n : ℕ) → m ≡ n → ReadsAhead left left' m → ReadsAhead left left' n
-ahead_at left left' m n e a = let P : ℕ → Type 0 = λ x. ReadsAhead left left' x in subst P e a
+pub line_ahead : {left left' : Option (List ℕ)} {history : List TextLine} {reader : Reading} {line : TextLine} {number : ℕ}
+    → number ≡ length history + 1 → ReadTo left left' (line ∷ history) reader → ReadsAhead left left' number
+line_ahead is_next r = ahead_at (omega arith) (ahead_of r)
 
-module _ (starts : List Account) (history : List TextLine) (left left' kept mid kept' : Option (List ℕ)) (machine : Machine) (accounts : List Account) (number : ℕ) (reader : Reading)
-    (is_next : number ≡ length history + 1) (run : RunTo starts history kept mid machine accounts) where
-  pub line_past : (ending : Ending) → NextIs left left' history reader (Ok TextTooLong) → Refuses number refusals.TextTooLong mid kept' ending
+module _ {starts : List Account} {history : List TextLine} {left left' kept mid : Option (List ℕ)} {machine : Machine}
+    {accounts : List Account} {number : ℕ}
+    (is_next : number ≡ length history + 1) (run : RunTo starts history kept mid machine accounts) (kept' : Option (List ℕ))
+        (ending : Ending) where
+  pub line_past : Comes left left' history past × ReadsAhead left left' (length history + 1)
+      → Refuses number refusals.TextTooLong mid kept' ending → Ended airs_of ending starts accounts left left' kept kept'
+  line_past n f = ends_refusal is_next n.0 (ahead_at (sym is_next) n.1) run kept' refusals.TextTooLong refl ending f
+
+  pub line_long : {reader : Reading} → ReadTo left left' (too_long ∷ history) reader → Refuses number refusals.LineTooLong mid kept' ending
       → Ended airs_of ending starts accounts left left' kept kept'
-  line_past ending n f =
-      ends_refusal starts history past left left' kept mid kept' accounts number refusals.TextTooLong is_next n.0 (ahead_at left left' (length history + 1) number (sym is_next) n.1)
-      run.accepted run.written run.stands.boxes refl ending f
-
-  pub line_long : (ending : Ending) → NextIs left left' history reader (Ok LineTooLong) → Refuses number refusals.LineTooLong mid kept' ending
-      → Ended airs_of ending starts accounts left left' kept kept'
-  line_long ending n f =
-      ends_refusal starts history too_long left left' kept mid kept' accounts number refusals.LineTooLong is_next (comes_of left left' history too_long reader n)
-      (ahead_at left left' (length (too_long ∷ history)) number (omega arith) (ahead_of left left' (too_long ∷ history) reader n))
-      run.accepted run.written run.stands.boxes refl ending f
+  line_long n f = ends_refusal is_next (comes_of n) (line_ahead is_next n) run kept' refusals.LineTooLong refl ending f
 
 -- the line that a reader lends
-pub line_read : (left left' : Option (List ℕ)) (history : List TextLine) (reader : Reading) (lent : List ℕ) → NextIs left left' history reader (Ok Line) → reader.line ≡ Some lent
-    → ReadTo left left' (plain lent ∷ history) reader
-line_read left left' history reader lent n is = grind (arith, plain)
-
-pub line_comes : (left left' : Option (List ℕ)) (history : List TextLine) (reader : Reading) (line : TextLine) → ReadTo left left' (line ∷ history) reader → Comes left left' history line
-line_comes left left' history reader line r = comes_of left left' history line reader r
-
-pub line_ahead : (left left' : Option (List ℕ)) (history : List TextLine) (reader : Reading) (line : TextLine) (number : ℕ) → number ≡ length history + 1
-    → ReadTo left left' (line ∷ history) reader → ReadsAhead left left' number
-line_ahead left left' history reader line number is_next r =
-    ahead_at left left' (length (line ∷ history)) number (omega arith) (ahead_of left left' (line ∷ history) reader r)
+pub line_read : {left left' : Option (List ℕ)} {history : List TextLine} {reader : Reading} (lent : List ℕ)
+    → NextIs left left' history reader (Ok Line) → reader.line ≡ Some lent → ReadTo left left' (plain lent ∷ history) reader
+line_read lent n is = grind (arith, plain)
 
 pub step_line : (may_fail : Bool) (starts : List Account) (history : List TextLine) (line : TextLine) (left left' kept kept' : Option (List ℕ)) (reader : Reading) (machine : Machine) (accounts : List Account)
     (result : Option Ending) → ReadTo left left' (line ∷ history) reader → StepHeard may_fail starts (line ∷ history) left left' kept kept' machine accounts result
@@ -112,29 +60,27 @@ running_none olds starts left kept reader machine new stands = record {
 pub bound_none : (reader : Reading) → reader ≡ record { ahead = []; part = []; taken = 0; over = false; line = None } → 1 + lines_left reader ≤ text_limit + 2
 bound_none reader new = let P : Reading → Type 0 = λ r. 1 + lines_left r ≤ text_limit + 2 in subst P (sym new) (omega arith)
 
-pub running_more : {A : Type 0} (may_fail : Bool) (olds mids news : List A) (starts before after : List Account) (left mid left' kept put kept' : Option (List ℕ)) (number next : ℕ) (old new : Reading) (machine machine' : Machine) (result : Option Ending)
-    → Running olds mids starts before left mid kept put number old machine → next ≡ number + 1 → result ≡ None
-    → ((lines : List TextLine) → LinesStand starts lines machine before → UnassignedSame (steps_of airs_of lines) mids news)
-    → ((lines : List TextLine) → number ≡ length lines + 1 → ReadTo left mid lines old → RunTo starts lines kept put machine before
-    → LineRuns may_fail starts lines left left' kept kept' new machine' after result)
-    → Running olds news starts after left left' kept kept' next new machine'
-running_more may_fail olds mids news starts before after left mid left' kept put kept' number next old new machine machine' result r is none same runs =
-    let P : Option Ending → Type 0 = λ x. LineRuns may_fail starts r.lines left left' kept kept' new machine' after x in
-    let m = subst P none (runs r.lines r.is_next r.read r.run) in
-    record {
-      lines = m.0 ∷ r.lines;
-      is_next = omega (arith, r.is_next);
-      read = m.1;
-      run = m.2;
-      unassigned = unassigned_line m.0 r.lines olds mids news r.unassigned (same r.lines r.run.stands);
-    }
+-- the next line was run, or the run ended at it
+module _ {A : Type 0} {olds mids : List A} {starts before : List Account} {left mid kept put : Option (List ℕ)} {number : ℕ} {old : Reading}
+    {machine : Machine} (r : Running olds mids starts before left mid kept put number old machine) (may_fail : Bool) (after : List Account)
+        (left' kept' : Option (List ℕ)) (new : Reading) (machine' : Machine) (result : Option Ending)
+    (runs : (lines : List TextLine) → number ≡ length lines + 1 → ReadTo left mid lines old → RunTo starts lines kept put machine before
+    → LineRuns may_fail starts lines left left' kept kept' new machine' after result) where
+  pub running_more : (news : List A) → result ≡ None
+      → ((lines : List TextLine) → LinesStand starts lines machine before → UnassignedSame (steps_of airs_of lines) mids news)
+      → Running olds news starts after left left' kept kept' (number + 1) new machine'
+  running_more news none same =
+      let P : Option Ending → Type 0 = λ x. LineRuns may_fail starts r.lines left left' kept kept' new machine' after x in
+      let m = subst P none (runs r.lines r.is_next r.read r.run) in
+      record {
+        lines = m.0 ∷ r.lines;
+        is_next = omega (arith, r.is_next);
+        read = m.1;
+        run = m.2;
+        unassigned = unassigned_line m.0 r.lines olds mids news r.unassigned (same r.lines r.run.stands);
+      }
 
-pub running_ends : {A : Type 0} (may_fail : Bool) (olds mids : List A) (starts before after : List Account) (left mid left' kept put kept' : Option (List ℕ)) (number : ℕ) (old new : Reading) (machine machine' : Machine)
-    (result : Option Ending) (ending : Ending)
-    → Running olds mids starts before left mid kept put number old machine → result ≡ Some ending
-    → ((lines : List TextLine) → number ≡ length lines + 1 → ReadTo left mid lines old → RunTo starts lines kept put machine before
-    → LineRuns may_fail starts lines left left' kept kept' new machine' after result)
-    → Ended airs_of (as_told may_fail ending) starts after left left' kept kept'
-running_ends may_fail olds mids starts before after left mid left' kept put kept' number old new machine machine' result ending r some runs =
-    let P : Option Ending → Type 0 = λ x. LineRuns may_fail starts r.lines left left' kept kept' new machine' after x in
-    subst P some (runs r.lines r.is_next r.read r.run)
+  pub running_ends : (ending : Ending) → result ≡ Some ending → Ended airs_of (as_told may_fail ending) starts after left left' kept kept'
+  running_ends ending some =
+      let P : Option Ending → Type 0 = λ x. LineRuns may_fail starts r.lines left left' kept kept' new machine' after x in
+      subst P some (runs r.lines r.is_next r.read r.run)

@@ -1,8 +1,8 @@
 -- What a run did over one air it did over any other that gives the same transcripts.
-use Rattle.replay_lines.proofs.Prelude.{◌≡◌, ◌≤◌, ◌<◌, ℕ, Bool, true, false, List, [], ◌∷◌, ◌++◌, length, reverse, refl, sym, ap, subst, ◌∙◌, Option, None, inl, inr, ◌⊎◌, Appends, TextLine, lines_of, AppendsPrefix, Account, Step, Refusal, Accepted, SinkUnit, Took, Said, a_step, nothing, unsaid, handed_on, refusal_said, rules_of, Airs, out_of, units_of, answered_on, answered_said, took_as, Ending, CountsStay, AheadOf, Complete, Ended, IsCut, RoomForText, RoomFor, Same, BoxesAt, BoxesCut, Broken, CutAt, Done, FaultCut, LineFails, NoEndCut, OutletFaulted, ReadFaulted, RefusedAt, WriteCut, brought_by}
-use Rattle.scenario_history.specs.RelayedUnits.{Answered, answered_by}
+use Rattle.std.proofs.Common.{arith}
+use Rattle.replay_lines.proofs.Prelude.{◌≡◌, ℕ, Bool, true, List, [], ◌∷◌, reverse, refl, sym, subst, ◌∙◌, Option, None, inl, inr, ◌⊎◌, Appends, TextLine, lines_of, Account, Step, Refusal, Accepted, Said, a_step, nothing, unsaid, refusal_said, rules_of, Airs, out_of, answered_said, took_as, Ending, CountsStay, AheadOf, Complete, Ended, IsCut, RoomForText, RoomFor, Same, Broken, CutAt, Done, FaultCut, LineFails, NoEndCut, OutletFaulted, ReadFaulted, RefusedAt, WriteCut, brought_by}
+use Rattle.scenario_history.specs.RelayedUnits.{answered_by}
 use Rattle.scenario_history.specs.Refusals.{line_refusal}
-use Rattle.replay_steps.specs.Failing.{CloseFails}
 use Rattle.replay_lines.specs.declared.ending.Ending.TheVariants as endings
 
 -- the same becomes of the units that relays offer before a line, where it does before each step that isn't refused
@@ -15,143 +15,51 @@ answered_alike airs others boxes made more (unsaid reason) alike none = refl
 
 module _ (airs others : Airs) (same : Same airs others) (starts ends : List Account) (left left' kept kept' : Option (List ℕ)) where
   done_as : Done airs starts ends left left' kept kept' → Done others starts ends left left' kept kept'
-  done_as d = record {
-    text = d.text;
-    read = d.read;
-    through_all = sym (same.end starts (lines_of true d.text)) ∙ d.through_all;
-    written = subst (λ octets. Appends kept kept' octets) (same.octets starts (lines_of true d.text)) d.written;
-    boxes = took_as starts ends _ _ (same.units starts (lines_of true d.text)) d.boxes;
-  }
+  done_as d = grind (arith, same)
 
   refused_as : (line : ℕ) (reason : Refusal) → RefusedAt airs starts ends left left' kept kept' line reason → RefusedAt others starts ends left left' kept kept' line reason
-  refused_as line reason d = record {
-    text = d.text;
-    over = d.over;
-    read = d.read;
-    no_end = d.no_end;
-    ends_so = λ at_end more follows. sym (same.end starts (lines_of at_end (d.text ++ more))) ∙ d.ends_so at_end more follows;
-    octets = d.octets;
-    transcript = λ at_end more follows. sym (same.octets starts (lines_of at_end (d.text ++ more))) ∙ d.transcript at_end more follows;
-    written = d.written;
-    units = d.units;
-    handed = λ at_end more follows. sym (same.units starts (lines_of at_end (d.text ++ more))) ∙ d.handed at_end more follows;
-    boxes = d.boxes;
-  }
+  refused_as line reason d = search (← same.end, ← same.octets, ← same.units, d.ends_so, d.transcript, d.handed)
 
   read_fault_as : ReadFaulted airs starts ends left left' kept kept' → ReadFaulted others starts ends left left' kept kept'
-  read_fault_as d = record {
-    text = d.text;
-    read = d.read;
-    through_all = sym (same.lines_end starts (lines_of false d.text)) ∙ d.through_all;
-    written = subst (λ octets. Appends kept kept' octets) (same.out starts (lines_of false d.text)) d.written;
-    boxes = took_as starts ends _ _ (same.units starts (lines_of false d.text)) d.boxes;
-  }
+  read_fault_as d = grind (arith, same.lines_end, same.out, same.units)
 
   brought_as : (over : Bool) (text : List ℕ) → brought_by airs over starts text ≡ brought_by others over starts text
-  brought_as true text = same.octets starts (lines_of true text)
-  brought_as false text = same.out starts (lines_of false text)
-
-  cut_as : (lines : List TextLine) → BoxesCut airs starts ends lines → BoxesCut others starts ends lines
-  cut_as lines d = record { done = d.done; rest = d.rest; split = sym (same.units starts lines) ∙ d.split; boxes = d.boxes }
+  brought_as over text = grind (arith, same)
 
   -- the box of a unit of a line fails, and the same was printed before it
   fails_as : (earlier : List TextLine) (line : TextLine) (text told : List ℕ) (before after : List Account)
       → Accepted (rules_of airs starts) (line ∷ earlier) → LineFails airs starts earlier line text told before after
       → LineFails others starts earlier line text told before after
-  fails_as earlier line text told before after accepted f =
-      let units = handed_on airs earlier line in
-      let output = (rules_of others starts).output earlier line in
-      let P : List SinkUnit → Type 0 = λ us. CloseFails us (answered_on others earlier line) output text told before after in
-      let Q : List Answered → Type 0 = λ answers. CloseFails units answers output text told before after in
-      let R : List ℕ → Type 0 = λ octets. CloseFails units (answered_on airs earlier line) octets text told before after in
-      subst P (same.handed starts earlier line accepted.0)
-      (subst Q (same.answered starts earlier line accepted) (subst R (same.output starts earlier line accepted) f))
+  fails_as earlier line text told before after accepted f = search (← same.handed starts, ← same.output starts, ← same.answered starts)
 
   failed_as : FaultCut airs starts ends left left' kept kept' → FaultCut others starts ends left left' kept kept'
-  failed_as d = record {
-    earlier = d.earlier;
-    line = d.line;
-    comes = d.comes;
-    accepted = same.accepted starts (d.line ∷ d.earlier) d.accepted;
-    accounts = d.accounts;
-    before = took_as starts d.accounts _ _ (same.units starts (reverse d.earlier)) d.before;
-    told = d.told;
-    fails = fails_as d.earlier d.line [] d.told d.accounts ends d.accepted d.fails;
-    between = d.between;
-    written = subst (λ octets. Appends kept d.between octets) (same.out starts (reverse d.earlier)) d.written;
-    cut = d.cut;
-  }
+  failed_as d =
+      let before = took_as starts d.accounts _ _ (same.units starts (reverse d.earlier)) d.before in
+      let accepted = same.accepted starts (d.line ∷ d.earlier) d.accepted in
+      let fails = fails_as d.earlier d.line [] d.told d.accounts ends d.accepted d.fails in
+      let written : Appends kept d.between (out_of others starts (reverse d.earlier)) = rw same.out at d.written in
+      search
 
   broken_as : Broken airs starts ends left left' kept kept' → Broken others starts ends left left' kept kept'
-  broken_as d = record {
-    text = d.text;
-    over = d.over;
-    read = d.read;
-    written = subst (λ octets. AppendsPrefix kept kept' octets) (brought_as d.over d.text) d.written;
-    boxes = elim d.boxes [
-      | inl cut ↦ inl (cut_as (lines_of d.over d.text) cut)
-      | inr failed ↦ inr (failed_as failed)
-    ];
-  }
+  broken_as d = grind (arith, brought_as, same.units, failed_as)
 
   outlet_fault_as : OutletFaulted airs starts ends left left' kept kept' → OutletFaulted others starts ends left left' kept kept'
-  outlet_fault_as d = record {
-    earlier = d.earlier;
-    line = d.line;
-    comes = d.comes;
-    ahead = d.ahead;
-    accepted = same.accepted starts (d.line ∷ d.earlier) d.accepted;
-    accounts = d.accounts;
-    before = took_as starts d.accounts _ _ (same.units starts (reverse d.earlier)) d.before;
-    told = d.told;
-    fails = fails_as d.earlier d.line (out_of others starts (reverse d.earlier)) d.told d.accounts ends d.accepted
-        (subst (λ text. LineFails airs starts d.earlier d.line text d.told d.accounts ends) (same.out starts (reverse d.earlier)) d.fails);
-    written = d.written;
-  }
-
-  boxes_at_as : (earlier : List TextLine) (line : TextLine) → BoxesAt airs starts ends earlier line → BoxesAt others starts ends earlier line
-  boxes_at_as earlier line d = record {
-    accounts = d.accounts;
-    before = took_as starts d.accounts _ _ (same.units starts (reverse earlier)) d.before;
-    units = d.units;
-    added = sym (same.units starts (reverse (line ∷ earlier))) ∙ d.added ∙ ap (λ us. us ++ d.units) (same.units starts (reverse earlier));
-    prefix = d.prefix;
-  }
+  outlet_fault_as d =
+      let before = took_as starts d.accounts _ _ (same.units starts (reverse d.earlier)) d.before in
+      let accepted = same.accepted starts (d.line ∷ d.earlier) d.accepted in
+      let fails =
+      fails_as d.earlier d.line (out_of others starts (reverse d.earlier)) d.told d.accounts ends d.accepted (rw same.out at d.fails) in
+      search
 
   cut_at_as : (line : ℕ) → CutAt airs starts ends left left' kept kept' line → CutAt others starts ends left left' kept kept' line
-  cut_at_as line d = record {
-    text = d.text;
-    over = d.over;
-    read = d.read;
-    earlier = d.earlier;
-    last = d.last;
-    later = d.later;
-    lines = d.lines;
-    number = d.number;
-    accepted = same.accepted starts d.earlier d.accepted;
-    prefix = d.prefix;
-    written = d.written;
-    not_before = subst (λ octets. length octets ≤ length d.prefix) (same.out starts (reverse d.earlier)) d.not_before;
-    longer = subst (λ octets. length d.prefix < length octets) (same.out starts (reverse (d.last ∷ d.earlier))) d.longer;
-    boxes = boxes_at_as d.earlier d.last d.boxes;
-  }
+  cut_at_as line d = grind (arith, same.accepted, same.out, same.units)
 
   no_end_as : NoEndCut airs starts ends left left' kept kept' → NoEndCut others starts ends left left' kept kept'
-  no_end_as d = record {
-    text = d.text;
-    read = d.read;
-    ends_so = sym (same.end starts (lines_of true d.text)) ∙ d.ends_so;
-    prefix = d.prefix;
-    written = d.written;
-    not_before = subst (λ octets. length octets ≤ length d.prefix) (same.out starts (lines_of true d.text)) d.not_before;
-    boxes = took_as starts ends _ _ (same.units starts (lines_of true d.text)) d.boxes;
-  }
+  no_end_as d = grind (arith, same.end, same.out, same.units)
 
   write_cut_as : WriteCut airs starts ends left left' kept kept' → WriteCut others starts ends left left' kept kept'
-  write_cut_as d = elim d [
-    | inl cut ↦ inl (cut.0, cut_at_as cut.0 cut.1, cut.2)
-    | inr no_end ↦ inr (no_end_as no_end)
-  ]
+  write_cut_as (inl cut) = inl (cut.0, cut_at_as cut.0 cut.1, cut.2)
+  write_cut_as (inr no_end) = inr (no_end_as no_end)
 
   pub ended_as : (ending : Ending) → Ended airs ending starts ends left left' kept kept' → Ended others ending starts ends left left' kept kept'
   ended_as endings.Done d = done_as d
@@ -162,15 +70,8 @@ module _ (airs others : Airs) (same : Same airs others) (starts ends : List Acco
   ended_as endings.Memory d = broken_as d
 
   pub ahead_as : (ending : Ending) → AheadOf airs ending starts ends left left' kept kept' → AheadOf others ending starts ends left left' kept kept'
-  ahead_as endings.Done d = tt
-  ahead_as (endings.Refused line reason) d = d
-  ahead_as endings.ReadFault d = tt
   ahead_as endings.WriteFault d = write_cut_as d
-  ahead_as endings.OutletFault d = tt
-  ahead_as endings.Memory d = tt
-
-  pub took_text_as : (text : List ℕ) → Took starts ends (units_of airs starts (lines_of true text)) → Took starts ends (units_of others starts (lines_of true text))
-  took_text_as text took = took_as starts ends _ _ (same.units starts (lines_of true text)) took
+  ahead_as _ d = d
 
   room_as : (text : List ℕ) → RoomForText others starts text → RoomForText airs starts text
   room_as text room = subst (λ units. RoomFor starts units) (sym (same.units starts (lines_of true text))) room
@@ -185,4 +86,4 @@ module _ (airs others : Airs) (same : Same airs others) (starts ends : List Acco
 
   pub counts_as : (ending : Ending) → CountsStay starts ends ⊎ (IsCut ending × FaultCut airs starts ends left left' kept kept')
       → CountsStay starts ends ⊎ (IsCut ending × FaultCut others starts ends left left' kept kept')
-  counts_as ending counts = elim counts [ inl stay ↦ inl stay | inr failed ↦ inr (failed.0, failed_as failed.1) ]
+  counts_as ending counts = grind (arith, failed_as)

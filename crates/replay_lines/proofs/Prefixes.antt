@@ -1,7 +1,7 @@
 -- What the whole lines of a prefix of a text bring is a prefix of what all lines bring.
-use Rattle.replay_lines.proofs.Prelude.{◌≡◌, ℕ, ◌+◌, Bool, true, false, cond, eqb, leb, List, [], ◌∷◌, ◌++◌, length, refl, sym, ap, ◌∙◌, append_assoc, Option, None, Some, append-nil, MayFollow, TextLine, past, newline, text_limit, line_of, lines_of, Account, Rules, out, out_unless, accepted_of, accepted_unless, brought_by, Step, SinkUnit, handed_up, rules_of, steps_of, Airs, out_of, end_after, has_end, last_line_after, transcript_of, units_of, Refusal}
+use Rattle.std.proofs.Common.{arith}
+use Rattle.replay_lines.proofs.Prelude.{handed_line, handed_on, ◌≡◌, ℕ, ◌+◌, Bool, true, false, cond, List, [], ◌∷◌, ◌++◌, length, refl, sym, ap, ◌∙◌, append_assoc, Option, None, Some, append-nil, MayFollow, TextLine, lines_of, Account, Rules, out, out_unless, accepted_of, accepted_unless, brought_by, Step, SinkUnit, handed_up, rules_of, steps_of, Airs, out_of, end_after, has_end, last_line_after, transcript_of, units_of, Refusal}
 use Rattle.bcast_io.specs.TextLines.{lines_from}
-use Rattle.replay_lines.proofs.Endings.{units_rest}
 
 -- ---- lines
 
@@ -22,18 +22,11 @@ lines_more : (taken : ℕ) (part prefix rest : List ℕ)
 unfolding lines_from
 lines_more taken part [] rest = (lines_from true taken part rest, refl)
 lines_more taken part (x ∷ prefix) rest =
-    let ended = lines_from true (taken + 1) [] (prefix ++ rest) in
-    let ended_prefix = lines_from false (taken + 1) [] prefix in
-    let going = lines_from true (taken + 1) (part ++ x ∷ []) (prefix ++ rest) in
-    let going_prefix = lines_from false (taken + 1) (part ++ x ∷ []) prefix in
-    prefix_of_either (leb text_limit taken) (past ∷ [])
-    (cond (eqb x newline) (line_of part ∷ ended) going) (cond (eqb x newline) (line_of part ∷ ended_prefix) going_prefix)
-    (prefix_of_line (eqb x newline) (line_of part) ended ended_prefix going going_prefix
-    (lines_more (taken + 1) [] prefix rest) (lines_more (taken + 1) (part ++ x ∷ []) prefix rest))
+    search (prefix_of_either, prefix_of_line, lines_more (taken + 1) [] prefix rest, lines_more (taken + 1) (part ++ x ∷ []) prefix rest)
 
 -- ---- octets and units
 
-out_more : (rules : Rules TextLine Refusal) (history lines later : List TextLine)
+pub out_more : (rules : Rules TextLine Refusal) (history lines later : List TextLine)
     → (rest : List ℕ) × (out rules history (lines ++ later) ≡ out rules history lines ++ rest)
 out_more rules history [] later = (out rules history later, refl)
 out_more rules history (line ∷ lines) later = by_refusal (rules.refusal history line) (out_more rules (line ∷ history) lines later)
@@ -43,11 +36,7 @@ out_more rules history (line ∷ lines) later = by_refusal (rules.refusal histor
         → (rest : List ℕ) × (out_unless rules history why (rules.output history line ++ out rules (line ∷ history) (lines ++ later))
         ≡ out_unless rules history why (rules.output history line ++ out rules (line ∷ history) lines) ++ rest)
     by_refusal (Some reason) more = ([], sym (append-nil (rules.refused_line (length history + 1) reason)))
-    by_refusal None more = (
-      more.0,
-      ap (λ octets. rules.output history line ++ octets) more.1
-          ∙ sym (append_assoc (rules.output history line) (out rules (line ∷ history) lines) more.0),
-    )
+    by_refusal None more = (more.0, grind (arith, append_assoc))
 
 -- the steps of the lines that are accepted of these after a history
 abbrev steps_after : Airs → List Account → List TextLine → List TextLine → List Step
@@ -59,18 +48,31 @@ steps_unless airs starts history line why lines =
     steps_of airs (accepted_unless history why (accepted_of (rules_of airs starts) (line ∷ history) lines))
 
 module _ (airs : Airs) (starts : List Account) where
-  units_more : (history lines later : List TextLine)
-      → (rest : List SinkUnit)
+  -- what further lines hand up
+  pub units_rest : (history lines : List TextLine)
+      → (rest : List SinkUnit) × (handed_up airs (steps_after airs starts history lines) ≡ handed_up airs (steps_of airs history) ++ rest)
+  units_rest history [] = ([], sym (append-nil (handed_up airs (steps_of airs history))))
+  units_rest history (line ∷ lines) = by_refusal ((rules_of airs starts).refusal history line) (units_rest (line ∷ history) lines)
+    where
+      by_refusal : (why : Option Refusal) → (rest : List SinkUnit)
+          × (handed_up airs (steps_after airs starts (line ∷ history) lines) ≡ handed_up airs (steps_of airs (line ∷ history)) ++ rest)
+          → (rest : List SinkUnit) × (handed_up airs (steps_unless airs starts history line why lines)
+              ≡ handed_up airs (steps_of airs history) ++ rest)
+      by_refusal (Some reason) more = ([], sym (append-nil (handed_up airs (steps_of airs history))))
+      by_refusal None more = (
+        handed_on airs history line ++ more.0,
+        more.1 ∙ ap (λ us. us ++ more.0) (handed_line airs history line) ∙ simp append_assoc,
+      )
+
+  pub units_more : (history lines later : List TextLine) → (rest : List SinkUnit)
       × (handed_up airs (steps_after airs starts history (lines ++ later)) ≡ handed_up airs (steps_after airs starts history lines) ++ rest)
-  units_more history [] later = units_rest airs starts history later
+  units_more history [] later = units_rest history later
   units_more history (line ∷ lines) later =
       by_refusal ((rules_of airs starts).refusal history line) (units_more (line ∷ history) lines later)
     where
-      by_refusal : (why : Option Refusal)
-          → (rest : List SinkUnit)
+      by_refusal : (why : Option Refusal) → (rest : List SinkUnit)
           × (handed_up airs (steps_after airs starts (line ∷ history) (lines ++ later))
-          ≡ handed_up airs (steps_after airs starts (line ∷ history) lines) ++ rest)
-          → (rest : List SinkUnit)
+          ≡ handed_up airs (steps_after airs starts (line ∷ history) lines) ++ rest) → (rest : List SinkUnit)
           × (handed_up airs (steps_unless airs starts history line why (lines ++ later))
           ≡ handed_up airs (steps_unless airs starts history line why lines) ++ rest)
       by_refusal (Some reason) more = ([], sym (append-nil (handed_up airs (steps_of airs history))))
@@ -80,11 +82,7 @@ module _ (airs : Airs) (starts : List Account) where
 
   pub transcript_more : (over : Bool) (text prefix rest : List ℕ) → text ≡ prefix ++ rest → MayFollow over true rest
       → (more : List ℕ) × (transcript_of airs starts (lines_of true text) ≡ brought_by airs over starts prefix ++ more)
-  transcript_more true text prefix rest whole follows = (
-    [],
-    ap (λ t. transcript_of airs starts (lines_of true t)) (whole ∙ ap (λ r. prefix ++ r) (follows refl).1 ∙ append-nil prefix)
-        ∙ sym (append-nil (transcript_of airs starts (lines_of true prefix))),
-  )
+  transcript_more true text prefix rest whole follows = ([], grind (arith, append-nil))
   transcript_more false text prefix rest whole follows =
       let all = lines_of true text in
       let later = lines_more 0 [] prefix rest in
@@ -97,11 +95,7 @@ module _ (airs : Airs) (starts : List Account) where
 
   pub units_of_more : (over : Bool) (text prefix rest : List ℕ) → text ≡ prefix ++ rest → MayFollow over true rest
       → (more : List SinkUnit) × (units_of airs starts (lines_of true text) ≡ units_of airs starts (lines_of over prefix) ++ more)
-  units_of_more true text prefix rest whole follows = (
-    [],
-    ap (λ t. units_of airs starts (lines_of true t)) (whole ∙ ap (λ r. prefix ++ r) (follows refl).1 ∙ append-nil prefix)
-        ∙ sym (append-nil (units_of airs starts (lines_of true prefix))),
-  )
+  units_of_more true text prefix rest whole follows = ([], grind (arith, append-nil))
   units_of_more false text prefix rest whole follows =
       let later = lines_more 0 [] prefix rest in
       let more = units_more [] (lines_of false prefix) later.0 in (

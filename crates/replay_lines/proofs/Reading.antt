@@ -1,5 +1,5 @@
 -- What was read of a document, and what it stands for.
-use Rattle.replay_lines.proofs.Prelude.{◌≡◌, ℕ, ◌+◌, ◌≤◌, cond, List, [], ◌++◌, length, ap, subst, ◌∙◌, arith, Option, Some, length-append, lt-ltb, le-ltb, append-nil, Consumes, IsAtEnd, ReadWhole, ReadPast, ReadPrefix, document_limit, Meaning, no_toml, no_form, lines, meaning_of, TooLong, BadToml, BadDocument, DocumentIs, WholeIs, Standing, refused_for, stands_for, standing_by}
+use Rattle.replay_lines.proofs.Prelude.{◌≡◌, ℕ, ◌+◌, ◌≤◌, cond, List, length, ap, arith, Option, Some, length-append, lt-ltb, le-ltb, append-nil, ReadWhole, ReadPast, ReadPrefix, document_limit, meaning_of, TooLong, DocumentIs, WholeIs, Standing, refused_for, standing_by}
 use Rattle.replay_lines.proofs.Completing.{told}
 use Rattle.replay_lines.specs.Standing.{standing_of}
 
@@ -14,49 +14,25 @@ is_within document within = grind (arith, cond, refused_for, standing_by, meanin
 -- a document that was read to its end
 pub whole_is : (left left' : Option (List ℕ)) (document : List ℕ) → ReadWhole left left' document
     → DocumentIs left left' (standing_by (meaning_of document))
-whole_is left left' document read = by_meaning (meaning_of document) (is_within document read.within)
-  where
-    by_meaning : (meaning : Meaning) → standing_of document ≡ standing_by meaning → DocumentIs left left' (standing_by meaning)
-    by_meaning no_toml means = record { document = document; read = read; means = means }
-    by_meaning no_form means = record { document = document; read = read; means = means }
-    by_meaning (lines octets) means = record { document = document; read = read; means = means }
+whole_is left left' document read = grind (arith, is_within)
 
-module _ (left left' : Option (List ℕ)) where
-  prefix_of_whole : (standing : Standing) → WholeIs left left' standing → ReadPrefix (document_limit + 1) left left'
-  prefix_of_whole standing whole = record {
-    octets = whole.document;
-    consumed = whole.read.consumed;
-    least = omega (arith, whole.read.within);
-  }
-
-  -- no more was read than octet 1,048,577
-  pub prefix_read : (standing : Standing) → DocumentIs left left' standing → ReadPrefix (document_limit + 1) left left'
-  prefix_read (refused_for TooLong) past = record { octets = past.octets; consumed = past.consumed; least = omega (arith, past.long) }
-  prefix_read (refused_for BadToml) whole = prefix_of_whole (refused_for BadToml) whole
-  prefix_read (refused_for BadDocument) whole = prefix_of_whole (refused_for BadDocument) whole
-  prefix_read (stands_for text) whole = prefix_of_whole (stands_for text) whole
+-- no more was read than octet 1,048,577
+pub prefix_read : (left left' : Option (List ℕ)) (standing : Standing) → DocumentIs left left' standing
+    → ReadPrefix (document_limit + 1) left left'
+prefix_read left left' standing document = grind arith
 
 -- ---- a source that tells its octets
 
 module _ (left left' : Option (List ℕ)) (document : List ℕ) (tells : left ≡ Some document) where
-  octets_of : (prefix : List ℕ) → Consumes left left' prefix → (rest : List ℕ) × (left' ≡ Some rest) × (document ≡ prefix ++ rest)
-  octets_of prefix consumed =
-      let P : Option (List ℕ) → Type 0 = λ l. Consumes l left' prefix in told document left' prefix (subst P tells consumed)
-
   whole_told : (standing : Standing) → WholeIs left left' standing → standing_of document ≡ standing
-  whole_told standing whole =
-      let t = octets_of whole.document whole.read.consumed in
-      let none : t.0 ≡ [] = subst IsAtEnd t.1 whole.read.at_end in
-      ap standing_of (t.2 ∙ ap (λ rest. whole.document ++ rest) none ∙ append-nil whole.document) ∙ whole.means
+  whole_told standing whole = grind (arith, told, append-nil)
 
   past_told : ReadPast left left' → standing_of document ≡ refused_for TooLong
   past_told past =
-      let t = octets_of past.octets past.consumed in
+      let t = told document left left' past.octets tells past.consumed in
       is_too_long document (omega (arith, past.long, ap length t.2, length-append past.octets t.0))
 
   -- the document that it tells stands for what was read
   pub document_told : (standing : Standing) → DocumentIs left left' standing → standing_of document ≡ standing
   document_told (refused_for TooLong) past = past_told past
-  document_told (refused_for BadToml) whole = whole_told (refused_for BadToml) whole
-  document_told (refused_for BadDocument) whole = whole_told (refused_for BadDocument) whole
-  document_told (stands_for text) whole = whole_told (stands_for text) whole
+  document_told standing whole = whole_told standing whole

@@ -1,5 +1,5 @@
 -- The text that a run took from its source, line by line.
-use Rattle.replay_lines.proofs.Prelude.{◌≡◌, ℕ, ◌+◌, ◌≤◌, Bool, true, false, List, [], ◌∷◌, ◌++◌, length, reverse, refl, sym, ap, subst, ◌∙◌, append_assoc, arith, Option, None, Result, Ok, Err, length-append, append-nil, length-reverse, false≢true, false_from_ne_true, Consumes, IsAtEnd, TextLine, plain, too_long, past, lines_of, Reading, IsSound, IsPast, IsDone, BreaksOff, lines_after, LineRead, Line, LineTooLong, TextTooLong, End, Failed, Consumes-nothing, lines-nothing, lines-unended, lines-end, lines-past_all, reverse_onto, Comes, ReadsAhead, ReadsAtMost, read_limit, ReadTo, TextIs, NextIs}
+use Rattle.replay_lines.proofs.Prelude.{◌≡◌, ℕ, ◌+◌, ◌≤◌, Bool, true, false, List, [], ◌∷◌, ◌++◌, length, reverse, refl, sym, ap, ◌∙◌, append_assoc, arith, Option, None, Result, Ok, Err, length-append, append-nil, length-reverse, false≢true, false_from_ne_true, Consumes, IsAtEnd, TextLine, plain, too_long, past, lines_of, Reading, IsSound, IsPast, IsDone, BreaksOff, lines_after, LineRead, Line, LineTooLong, TextTooLong, End, Failed, Consumes-nothing, lines-nothing, lines-unended, lines-end, lines-past_all, reverse_onto, Comes, ReadsAhead, ReadsAtMost, read_limit, ReadTo, TextIs, NextIs}
 use Rattle.std.specs.Prelude.{IfOk, OnErr}
 use Rattle.bcast_io.specs.TextLines.{lines_from}
 use Rattle.bcast_io.specs.State.Reading.{Took}
@@ -13,18 +13,11 @@ read_none left reader e = grind (arith, false≢true)
 
 -- what was passed has these lines, and no octet of another
 pub passed_lines : (left left' : Option (List ℕ)) (lines : List TextLine) (reader : Reading) (r : ReadTo left left' lines reader) → lines_of true r.passed ≡ reverse lines
-passed_lines left left' lines reader r =
-    grind (
-      arith,
-      append-nil r.passed,
-      r.begins true [] (λ over. (refl, refl)),
-      r.anew,
-      lines-nothing true reader.taken,
-      append-nil (reverse lines),
-    )
+passed_lines left left' lines reader r = grind (arith, append-nil, r.begins true [] (λ over. (refl, refl)), lines-nothing)
 
-pub ahead_of : (left left' : Option (List ℕ)) (lines : List TextLine) (reader : Reading) → ReadTo left left' lines reader → ReadsAhead left left' (length lines)
-ahead_of left left' lines reader r = record {
+pub ahead_of : {left left' : Option (List ℕ)} {lines : List TextLine} {reader : Reading} → ReadTo left left' lines reader
+    → ReadsAhead left left' (length lines)
+ahead_of {left = left} {left' = left'} {lines = lines} {reader = reader} r = record {
   upto = r.passed;
   ahead = reader.ahead;
   consumed = r.consumed;
@@ -32,8 +25,9 @@ ahead_of left left' lines reader r = record {
   within = omega (arith, ap length (passed_lines left left' lines reader r), length-reverse lines);
 }
 
-pub comes_of : (left left' : Option (List ℕ)) (lines : List TextLine) (line : TextLine) (reader : Reading) → ReadTo left left' (line ∷ lines) reader → Comes left left' lines line
-comes_of left left' lines line reader r = record {
+pub comes_of : {left left' : Option (List ℕ)} {lines : List TextLine} {line : TextLine} {reader : Reading}
+    → ReadTo left left' (line ∷ lines) reader → Comes left left' lines line
+comes_of {lines = lines} {line = line} {reader = reader} r = record {
   text = r.passed ++ reader.ahead;
   over = reader.over;
   read = record { consumed = r.consumed; at_end = r.at_end };
@@ -56,17 +50,10 @@ consumed_more left mid left' lines old new further r t = grind (arith, append_as
 pub read_line : (left mid left' : Option (List ℕ)) (lines : List TextLine) (old new : Reading) (line : TextLine)
     → ReadTo left mid lines old → old.over ≡ false → Took old new mid left' (line ∷ []) → new.part ≡ [] → IsSound new → (new.over ≡ true → IsAtEnd left')
     → ReadTo left left' (line ∷ lines) new
-read_line left mid left' lines old new line r going t part sound end = record {
-  passed = r.passed ++ t.reads.octets;
-  consumed = consumed_more left mid left' lines old new (line ∷ []) r t;
-  begins = λ at_end more follows.
-      begins_more left mid left' lines old new (line ∷ []) r going t at_end more follows
-      ∙ sym (reverse_onto line lines (lines_after at_end new more));
-  count = t.reads.count ∙ ap (λ n. n + length t.reads.octets) r.count ∙ sym (length-append r.passed t.reads.octets);
-  anew = part;
-  at_end = end;
-  sound = sound;
-}
+read_line left mid left' lines old new line r going t part sound end =
+    let consumed = consumed_more left mid left' lines old new (line ∷ []) r t in
+    let begins = begins_more left mid left' lines old new (line ∷ []) r going t in
+    grind (arith, reverse_onto, length-append)
 
 least_last : (taken : ℕ) (part : List ℕ) → length (lines_from true taken part []) ≤ 1
 least_last taken [] = omega (arith, ap length (lines-nothing true taken))
@@ -105,18 +92,9 @@ read_end left mid left' lines old new r done none end = record {
 
 pub read_broken : (left mid left' : Option (List ℕ)) (lines : List TextLine) (old new : Reading)
     → ReadTo left mid lines old → old.over ≡ false → BreaksOff old new mid left' → TextIs left left' lines false
-read_broken left mid left' lines old new r going b = record {
-  text = r.passed ++ b.took.reads.octets;
-  read = record {
-    consumed =
-        let same : (r.passed ++ b.took.reads.octets) ++ new.ahead ≡ r.passed ++ b.took.reads.octets =
-        ap (λ rest. (r.passed ++ b.took.reads.octets) ++ rest) b.ahead ∙ append-nil (r.passed ++ b.took.reads.octets) in
-        let P : List ℕ → Type 0 = λ xs. Consumes left left' xs in
-        subst P same (consumed_more left mid left' lines old new [] r b.took);
-    at_end = λ over. absurd (false≢true over);
-  };
-  whole = grind (arith, lines_of, append-nil, begins_more, false≢true, reverse, lines-unended);
-}
+read_broken left mid left' lines old new r going b =
+    let consumed = consumed_more left mid left' lines old new [] r b.took in
+    grind (arith, lines_of, append-nil, begins_more, false≢true, reverse, lines-unended)
 
 -- the source is at its end where the reader is over
 at_the_end : (left mid left' : Option (List ℕ)) (lines : List TextLine) (old new : Reading) (over : Bool) → old.over ≡ over

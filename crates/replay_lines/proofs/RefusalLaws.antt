@@ -1,17 +1,13 @@
 -- No line is refused as NoEnd, which is the refusal of a text.
 use Rattle.std.proofs.Common.{arith}
-use Rattle.replay_lines.proofs.Prelude.{◌≡◌, ◌≢◌, ℕ, Bool, List, length, Option, None, Some, Result, TextLine, plain, too_long, past, Account, airs_of, Refusal, NoSuchSink, SinkTwice, NoOutlet, NoEnd, Step, chosen_steps, version_of, is_over, sinks_made, box_of, said_by, said_of, steps_of, refusal_said, refusal_at}
-use Rattle.std.specs.Prelude.{nat_le, not, is_some}
-use Rattle.std.specs.Option.{option_or, option_map}
-use Rattle.radio_schedule.specs.declared.air.AirFault.{AirFault}
-use Rattle.sink_history.specs.Calls.{Call}
-use Rattle.delegator_history.specs.Trains.{Settings}
+use Rattle.replay_lines.proofs.Prelude.{◌≡◌, ◌≢◌, ℕ, Bool, List, length, Option, None, Some, Result, TextLine, plain, too_long, past, Account, airs_of, Refusal, NoSuchSink, NoEnd, Step, version_of, box_of, said_by, said_of, steps_of, refusal_said, refusal_at}
+use Rattle.std.specs.Prelude.{not, is_some}
+use Rattle.std.specs.Option.{option_or}
 use Rattle.sink_history.specs.History.{World}
-use Rattle.sink_history.specs.Refusals.{link_twice, no_link, no_record_room, nothing_waits, refused_where, refusal_of as refusal_of_sink, refuse_if}
-use Rattle.scenario_history.specs.Worlds.{the_world}
+use Rattle.sink_history.specs.Refusals.{refusal_of as refusal_of_sink, refuse_if}
 use Rattle.scenario_text.specs.declared.step.Step.TheVariants as kinds
 use Rattle.scenario_words.specs.declared.fault.LineFault.{LineFault}
-use Rattle.scenario_history.specs.Refusals.{no_sink, relayed_or, air_refusal, sink_refusal, source_refusal, twin_refusal, refusal_of}
+use Rattle.scenario_history.specs.Refusals.{no_sink, relayed_or, sink_refusal, source_refusal, twin_refusal, refusal_of}
 
 abbrev OtherThan : Option Refusal → Type 0
 OtherThan None = Unit {0}
@@ -23,58 +19,26 @@ other_if b reason other = grind arith
 other_or : (p q : Option Refusal) → OtherThan p → OtherThan q → OtherThan (option_or p q)
 other_or p q h k = grind arith
 
-other_map : {X : Type 0} (f : X → Refusal) → ((x : X) → f x ≢ NoEnd) → (o : Option X) → OtherThan (option_map f o)
-other_map f other o = grind arith
-
-other_place : (fault : AirFault) → air_refusal fault ≢ NoEnd
-other_place fault e = grind arith
-
 other_no_sink : (sink : ℕ) (steps : List Step) → OtherThan (no_sink sink steps)
 other_no_sink sink steps = other_if (not (is_some (box_of sink steps))) NoSuchSink (λ e. cc)
 
--- ---- what the sink that a step names and its links are
-
-other_link : (calls : List Call) (link : Option ℕ) → OtherThan (no_link calls link)
-other_link calls link = grind (arith, other_if)
-
-other_twice : (calls : List Call) (step : Step) → OtherThan (link_twice calls step)
-other_twice calls _ = grind (arith, other_if)
-
-other_waits : (made : Settings) (calls : List Call) (step : Step) → OtherThan (nothing_waits made calls step)
-other_waits made calls _ = grind (arith, other_if)
-
-other_room : (made : Settings) (calls : List Call) (step : Step) → OtherThan (no_record_room made calls step)
-other_room made calls _ = grind (arith, other_if)
-
-other_where : (next : Step) (made : Option Settings) (calls : List Call) → OtherThan (refused_where next made calls)
-other_where next made calls = grind (arith, other_or, other_link, other_twice, other_waits, other_room)
-
 other_named : (world : World) (earlier : List Step) (step : Step) → OtherThan (refusal_of_sink world earlier step)
-other_named world earlier step = grind (arith, other_where)
+other_named world earlier step = grind (arith, other_or, other_if)
 
 -- ---- all reasons
 
 other_of_sinks : (boxes : ℕ) (steps : List Step) (step : Step) → OtherThan (sink_refusal boxes steps step)
-other_of_sinks boxes steps (kinds.Sink sink streams slots mtu) =
-    other_or (refuse_if (is_some (box_of sink steps)) SinkTwice) (refuse_if (nat_le boxes (sinks_made steps)) NoOutlet)
-    (other_if (is_some (box_of sink steps)) SinkTwice (λ e. cc)) (other_if (nat_le boxes (sinks_made steps)) NoOutlet (λ e. cc))
-other_of_sinks boxes steps (kinds.Drop sink) = other_no_sink sink steps
-other_of_sinks boxes steps (kinds.Tuned sink which) = other_no_sink sink steps
-other_of_sinks boxes steps (kinds.Hear sink back bis subevent) = other_no_sink sink steps
-other_of_sinks boxes steps (kinds.Air sink lose) = other_no_sink sink steps
-other_of_sinks boxes steps (kinds.Inject sink back bis subevent octets) = other_no_sink sink steps
-other_of_sinks boxes steps (kinds.Relay sink bis to) = tt
-other_of_sinks boxes steps step = other_named the_world steps step
+other_of_sinks boxes steps (kinds.Sink sink streams slots mtu) = grind (arith, other_or, other_if)
+other_of_sinks boxes steps made = search (other_no_sink, other_named)
 
 other_of_source : (version : ℕ) (own : List Step) (step : Step) → OtherThan (source_refusal airs_of version own step)
-other_of_source version own _ = grind (arith, other_if, other_or, other_map, other_place)
+other_of_source version own _ = grind arith
 
 other_of_twin : (steps : List Step) (step : Step) → OtherThan (twin_refusal steps step)
 other_of_twin steps _ = grind (arith, other_if, other_or, other_no_sink)
 
 other_step : (boxes : ℕ) (steps : List Step) (step : Step) → OtherThan (refusal_of airs_of boxes steps step)
-other_step boxes steps step =
-    grind (arith, other_or, is_over, airs_of, other_if, version_of, chosen_steps, other_of_sinks, other_of_source, other_of_twin)
+other_step boxes steps made = grind (arith, other_or, other_if, other_of_sinks, other_of_source, other_of_twin)
 
 other_relayed : (test : Bool) (refusal : Option Refusal) → OtherThan refusal → OtherThan (relayed_or test refusal)
 other_relayed test refusal other = grind arith

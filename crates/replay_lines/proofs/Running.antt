@@ -1,5 +1,5 @@
 -- What is promised of a document whose lines were run, by a source in memory.
-use Rattle.replay_lines.proofs.Prelude.{◌≡◌, ℕ, ◌++◌, ◌∷◌, true, List, reverse, refl, sym, ap, subst, ◌∙◌, append_assoc, arith, Option, Some, Result, Ok, inl, inr, append-nil, Appends, Rose, AppendsPrefix-of_more, TextLine, lines_of, AppendsPrefix, through, refused, Complete, Promised, Broken, Comes, Done, FaultCut, OutletFaulted, RefusedAt, World, Ending, SinkUnit, Took, Airs, transcript_of, transcript_end, units_of, Refusal, Account, DocumentIs, FaultCutIn, TomlCut, TomlOutlet, TomlWritten, FromToml, TomlComplete, TomlEnding, Standing, stands_for, end_over, units_over, over_text}
+use Rattle.replay_lines.proofs.Prelude.{◌≡◌, ℕ, ◌++◌, ◌∷◌, true, List, reverse, refl, sym, ap, ◌∙◌, append_assoc, arith, Option, Some, Ok, inl, inr, append-nil, Rose, AppendsPrefix-of_more, TextLine, lines_of, through, refused, Complete, Promised, Broken, Comes, Done, FaultCut, OutletFaulted, RefusedAt, World, Ending, Airs, Refusal, Account, DocumentIs, FaultCutIn, TomlCut, TomlOutlet, TomlWritten, FromToml, TomlComplete, TomlEnding, stands_for, over_text}
 use Rattle.replay_lines.specs.declared.ending.Ending.TheVariants as endings
 use Rattle.replay_lines.proofs.Completing.{rest_of}
 use Rattle.replay_lines.proofs.Prefixes.{transcript_more, units_of_more}
@@ -10,90 +10,66 @@ use Rattle.replay_lines.proofs.Unread.{laws_of}
 pub never_fails : ¬ Rose 0 0
 never_fails rose = omega (arith, rose.0)
 
-ok_is : {T E : Type 0} (one other : T) (result : Result T E) → result ≡ Ok one → result ≡ Ok other → one ≡ other
-ok_is one other result here is = cc
-
 abbrev pub ran : Ending → TomlEnding
 ran ending = Ok ending
 
 pub ending_is : (ending other : Ending) → ran ending ≡ ran other → ending ≡ other
-ending_is ending other is = ok_is ending other (ran ending) refl is
+ending_is ending other is = cc
 
 module _ (airs : Airs) (starts ends : List Account) (text : List ℕ) (left kept kept' : Option (List ℕ)) where
   -- the line among those of the text
   line_in : (earlier : List TextLine) (line : TextLine) → Comes (Some text) left earlier line
       → (later : List TextLine) × (lines_of true text ≡ reverse earlier ++ line ∷ later)
   line_in earlier line comes =
-      let rest = rest_of text left comes.text comes.over comes.read in
+      let rest = rest_of text (Some text) left comes.text comes.over refl comes.read in
       let at = comes.lines true rest.0 rest.2 in
       (at.0, ap (lines_of true) rest.1 ∙ at.1)
 
   fault_in : FaultCut airs starts ends (Some text) left kept kept' → FaultCutIn airs starts ends kept kept' (lines_of true text)
-  fault_in cut =
-      let at = line_in cut.earlier cut.line cut.comes in
-      record {
-        earlier = cut.earlier;
-        line = cut.line;
-        later = at.0;
-        comes = at.1;
-        accepted = cut.accepted;
-        accounts = cut.accounts;
-        before = cut.before;
-        told = cut.told;
-        fails = cut.fails;
-        between = cut.between;
-        written = cut.written;
-        cut = cut.cut;
-      }
+  fault_in cut = let at = line_in cut.earlier cut.line cut.comes in search
 
 module _ (old new : World) (text : List ℕ) (document : DocumentIs old.left new.left (stands_for text)) (left : Option (List ℕ)) where
   done_in : (airs : Airs) → Done airs old.boxes new.boxes (Some text) left old.taken new.taken
       → TomlWritten airs old.boxes new.boxes old.left new.left old.taken new.taken (Ok through)
   done_in airs done =
-      let rest = rest_of text left done.text true done.read in
+      let rest = rest_of text (Some text) left done.text true refl done.read in
       let same : done.text ≡ text = sym (rest.1 ∙ ap (λ more. done.text ++ more) (rest.2 refl).1 ∙ append-nil done.text) in
-      let P : List ℕ → Type 0 = λ t. Appends old.taken new.taken (transcript_of airs old.boxes (lines_of true t)) in
-      let Q : List ℕ → Type 0 = λ t. Took old.boxes new.boxes (units_of airs old.boxes (lines_of true t)) in
       record {
         standing = stands_for text;
         document = document;
-        ends_so = ap Ok (ap (λ t. transcript_end airs old.boxes (lines_of true t)) (sym same) ∙ done.through_all);
-        written = subst P same done.written;
-        boxes = subst Q same done.boxes;
+        ends_so = ap Ok (rw same at done.through_all);
+        written = rw same at done.written;
+        boxes = rw same at done.boxes;
       }
 
   refused_in : (airs : Airs) (line : ℕ) (reason : Refusal)
       → RefusedAt airs old.boxes new.boxes (Some text) left old.taken new.taken line reason
       → TomlWritten airs old.boxes new.boxes old.left new.left old.taken new.taken (Ok (refused line reason))
   refused_in airs line reason at =
-      let rest = rest_of text left at.text at.over at.read in
-      let P : List ℕ → Type 0 = λ octets. Appends old.taken new.taken octets in
-      let Q : List SinkUnit → Type 0 = λ units. Took old.boxes new.boxes units in
+      let rest = rest_of text (Some text) left at.text at.over refl at.read in
       record {
         standing = stands_for text;
         document = document;
-        ends_so = ap Ok (ap (λ t. transcript_end airs old.boxes (lines_of true t)) rest.1 ∙ at.ends_so true rest.0 rest.2);
-        written = subst P (sym (ap (λ t. transcript_of airs old.boxes (lines_of true t)) rest.1 ∙ at.transcript true rest.0 rest.2))
-            at.written;
-        boxes = subst Q (sym (ap (λ t. units_of airs old.boxes (lines_of true t)) rest.1 ∙ at.handed true rest.0 rest.2)) at.boxes;
+        ends_so = ap Ok (rw rest.1 (at.ends_so true rest.0 rest.2));
+        written = rw (rest.1, at.transcript true rest.0 rest.2) at.written;
+        boxes = rw (rest.1, at.handed true rest.0 rest.2) at.boxes;
       }
 
   cut_in : (airs : Airs) → Broken airs old.boxes new.boxes (Some text) left old.taken new.taken
       → TomlCut airs old.boxes new.boxes old.left new.left old.taken new.taken
   cut_in airs broken =
-      let rest = rest_of text left broken.text broken.over broken.read in
+      let rest = rest_of text (Some text) left broken.text broken.over refl broken.read in
       let octets = transcript_more airs old.boxes broken.over text broken.text rest.0 rest.1 rest.2 in
       let units = units_of_more airs old.boxes broken.over text broken.text rest.0 rest.1 rest.2 in
-      let P : List ℕ → Type 0 = λ xs. AppendsPrefix old.taken new.taken xs in
       record {
         standing = stands_for text;
         document = document;
-        written = subst P (sym octets.1) (AppendsPrefix-of_more old.taken new.taken _ octets.0 broken.written);
+        written = rw octets.1 (AppendsPrefix-of_more old.taken new.taken _ octets.0 broken.written);
         boxes = elim broken.boxes [
           | inl cut ↦ inl (record {
             done = cut.done;
             rest = cut.rest ++ units.0;
-            split = units.1 ∙ ap (λ us. us ++ units.0) cut.split ∙ append_assoc cut.done cut.rest units.0;
+            split = units.1 ∙ ap (λ us. us ++ units.0) cut.split ∙ simp append_assoc;
             boxes = cut.boxes;
           })
           | inr failed ↦ inr (fault_in airs old.boxes new.boxes text left old.taken new.taken failed)
@@ -121,14 +97,7 @@ module _ (old new : World) (text : List ℕ) (document : DocumentIs old.left new
 
   complete_in : (airs : Airs) (reads reads' : ℕ) (ending : Ending) → Complete airs text old.boxes new.boxes 0 0 old.writes new.writes ending
       → TomlComplete airs (stands_for text) old.boxes new.boxes reads reads' old.writes new.writes (Ok ending)
-  complete_in airs reads reads' ending complete = record {
-    through_all = λ is no_read no_write none.
-        let over : transcript_end airs old.boxes (lines_of true text) ≡ through =
-        ok_is (transcript_end airs old.boxes (lines_of true text)) through (end_over airs old.boxes (stands_for text)) refl is in
-        complete.through_all over never_fails no_write none;
-    room = λ room is. complete.room room (ending_is ending endings.OutletFault is);
-    no_fault = λ room no_read no_write. complete.no_fault room never_fails no_write;
-  }
+  complete_in airs reads reads' ending complete = grind (arith, never_fails, complete.through_all, complete.room, complete.no_fault)
 
   pub ran_toml : (ending : Ending)
       → Promised (over_text (Some text) old.taken old.writes old.boxes) (over_text left new.taken new.writes new.boxes) ending
@@ -155,12 +124,8 @@ module _ (old new : World) (text : List ℕ) (document : DocumentIs old.left new
         ];
         one_outlet_fault = p.one_outlet_fault;
         boxes = λ airs meets told tells whole.
-            let P : Standing → Type 0 = λ s. Took old.boxes new.boxes (units_over airs old.boxes s) in
-            subst P (sym (document_told old.left new.left told tells (stands_for text) document)) (p.boxes airs meets text refl whole);
-        complete = λ airs meets told tells.
-            let P : Standing → Type 0 =
-            λ s. TomlComplete airs s old.boxes new.boxes old.reads new.reads old.writes new.writes (ran ending) in
-            subst P (sym (document_told old.left new.left told tells (stands_for text) document))
+            rw (document_told old.left new.left told tells (stands_for text) document) (p.boxes airs meets text refl whole);
+        complete = λ airs meets told tells. rw (document_told old.left new.left told tells (stands_for text) document)
             (complete_in airs old.reads new.reads ending (p.complete airs meets text refl));
         reads_at_most = prefix_read old.left new.left (stands_for text) document;
         laws = laws_of (over_text (Some text) old.taken old.writes old.boxes) (over_text left new.taken new.writes new.boxes) ending p;

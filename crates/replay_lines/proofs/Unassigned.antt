@@ -6,10 +6,8 @@ use Rattle.replay_lines.proofs.LineSteps.{Running}
 -- the lines of a text are those that were read and then others
 lines_told : (text : List ℕ) (left left' : Option (List ℕ)) (lines : List TextLine) (reader : Reading) → left ≡ Some text → ReadTo left left' lines reader
     → (later : List TextLine) × (lines_of true text ≡ reverse lines ++ later)
-lines_told text left left' lines reader is read =
-    let P : Option (List ℕ) → Type 0 = λ l. ReadTo l left' lines reader in
-    let r = subst P is read in
-    let t = told text left' (r.passed ++ reader.ahead) r.consumed in
+lines_told text left left' lines reader is r =
+    let t = told text left left' (r.passed ++ reader.ahead) is r.consumed in
     let more : List ℕ = reader.ahead ++ t.0 in
     let all : text ≡ r.passed ++ more = t.2 ∙ append_assoc r.passed reader.ahead t.0 in
     let follows : MayFollow reader.over true more =
@@ -17,11 +15,11 @@ lines_told text left left' lines reader is read =
     (lines_after true reader more, ap (lines_of true) all ∙ r.begins true more follows)
 
 -- the last line was run
-pub unassigned_at : {A : Type 0} (olds mids news : List A) (starts accounts : List Account) (left mid kept kept' : Option (List ℕ)) (number : ℕ) (reader : Reading) (machine : Machine)
-    → Running olds mids starts accounts left mid kept kept' number reader machine
+pub unassigned_at : {A : Type 0} {olds mids : List A} {starts accounts : List Account} {left mid kept kept' : Option (List ℕ)} {number : ℕ}
+    {reader : Reading} {machine : Machine} (news : List A) (r : Running olds mids starts accounts left mid kept kept' number reader machine)
     → ((lines : List TextLine) → LinesStand starts lines machine accounts → UnassignedSame (steps_of airs_of lines) mids news)
     → (text : List ℕ) → left ≡ Some text → UnassignedRun starts (lines_of true text) olds news
-unassigned_at olds mids news starts accounts left mid kept kept' number reader machine r same text is =
+unassigned_at {left = left} {mid = mid} {reader = reader} news r same text is =
     let at = lines_told text left mid r.lines reader is r.read in
     record {
       earlier = r.lines;

@@ -1,31 +1,23 @@
 -- What is promised where a document wasn't read, and of the laws.
-use Rattle.replay_lines.proofs.Prelude.{◌≡◌, ℕ, ◌+◌, true, List, refl, Option, Ok, inl, arith, Rose, ReadPrefix, document_limit, Promised, World, Ending, lines_of, AppendsPrefix, AppendsPrefix-nothing, MeetAirs, Airs, none_counts, DocumentLaws, FromToml, Standing, refused_for, stands_for, transcript_over}
+use Rattle.replay_lines.proofs.Prelude.{Account, None, ◌≡◌, ℕ, ◌+◌, true, List, refl, Option, Ok, arith, Rose, ReadPrefix, document_limit, Promised, World, Ending, lines_of, AppendsPrefix, AppendsPrefix-nothing, MeetAirs, Airs, none_counts, DocumentLaws, FromToml, Standing, refused_for, stands_for, transcript_over}
 use Rattle.replay_lines.specs.declared.ending.Ending.TheVariants as endings
 use Rattle.replay_lines.specs.FromToml.{Unread}
 use Rattle.replay_lines.proofs.Endings.{keeps_same}
 
 -- the laws that are promised of every run
 pub laws_of : (old new : World) (ending : Ending) → Promised old new ending → DocumentLaws old.boxes
-laws_of old new ending p = record {
-  some_airs = p.some_airs;
-  one_transcript = one_over;
-  units_law = p.units_law;
-  order_law = p.order_law;
-  moment_law = p.moment_law;
-  in_time_law = p.in_time_law;
-  hearing_law = p.hearing_law;
-  agreement_law = p.agreement_law;
-  links_law = p.links_law;
-  migration_law = p.migration_law;
-  isolation_law = p.isolation_law;
-  relay_law = p.relay_law;
-  relayed_units_law = p.relayed_units_law;
-}
+laws_of old new ending p = assumption one_over
   where
     one_over : (airs others : Airs) → MeetAirs airs → MeetAirs others → (standing : Standing)
         → transcript_over airs old.boxes standing ≡ transcript_over others old.boxes standing
     one_over airs others meets meet_too (refused_for cause) = refl
     one_over airs others meets meet_too (stands_for text) = p.one_transcript airs others meets meet_too (lines_of true text)
+
+-- so of every document
+pub laws_at : ((old : World) → Promised old old endings.Memory) → (boxes : List Account) → DocumentLaws boxes
+laws_at promised boxes =
+    let old : World = record { left = None; reads = 0; taken = None; writes = 0; boxes = boxes } in laws_of old old endings.Memory
+        (promised old)
 
 -- nothing was put
 pub nothing_put : (kept : Option (List ℕ)) (octets : List ℕ) → AppendsPrefix kept kept octets
@@ -39,50 +31,13 @@ module _ (old : World) (left : Option (List ℕ)) (reads : ℕ) where
   none_written : (most : ℕ) → ReadPrefix most old.left left → Unread most old (after_reads old left reads)
   none_written most prefix = record { read = prefix; written = keeps_same old.taken; boxes = refl }
 
+  longer : ReadPrefix document_limit old.left left → ReadPrefix (document_limit + 1) old.left left
+  longer prefix = record { octets = prefix.octets; consumed = prefix.consumed; least = omega (arith, prefix.least) }
+
   pub failed_toml : ReadPrefix document_limit old.left left → Rose old.reads reads → DocumentLaws old.boxes
       → FromToml old (after_reads old left reads) (Ok endings.ReadFault)
-  failed_toml prefix rose laws = record {
-    done = λ is. absurd cc;
-    refused = λ line reason is. absurd cc;
-    document_refused = λ cause is. absurd cc;
-    read_fault = λ is. (rose, none_written document_limit prefix);
-    write_fault = λ is. absurd cc;
-    outlet_fault = λ is. absurd cc;
-    memory = λ is. absurd cc;
-    no_read_fault = λ other. absurd (other refl);
-    no_write_fault = λ other. refl;
-    no_outlet_fault = λ airs meets other. inl (λ box. refl);
-    one_outlet_fault = none_counts old.boxes old.boxes (λ box. refl);
-    boxes = λ airs meets document tells whole. absurd whole;
-    complete = λ airs meets document tells. record {
-      through_all = λ through no_read no_write none. absurd (no_read rose);
-      room = λ room is. cc;
-      no_fault = λ room no_read no_write. absurd (no_read rose);
-    };
-    reads_at_most = record { octets = prefix.octets; consumed = prefix.consumed; least = omega (arith, prefix.least) };
-    laws = laws;
-  }
+  failed_toml prefix rose laws = grind (arith, none_written, longer, none_counts)
 
   pub wanting_toml : ReadPrefix (document_limit + 1) old.left left → reads ≡ old.reads → DocumentLaws old.boxes
       → FromToml old (after_reads old left reads) (Ok endings.Memory)
-  wanting_toml prefix same laws = record {
-    done = λ is. absurd cc;
-    refused = λ line reason is. absurd cc;
-    document_refused = λ cause is. absurd cc;
-    read_fault = λ is. absurd cc;
-    write_fault = λ is. absurd cc;
-    outlet_fault = λ is. absurd cc;
-    memory = λ is. inl (none_written (document_limit + 1) prefix);
-    no_read_fault = λ other. same;
-    no_write_fault = λ other. refl;
-    no_outlet_fault = λ airs meets other. inl (λ box. refl);
-    one_outlet_fault = none_counts old.boxes old.boxes (λ box. refl);
-    boxes = λ airs meets document tells whole. absurd whole;
-    complete = λ airs meets document tells. record {
-      through_all = λ through no_read no_write none. tt;
-      room = λ room is. cc;
-      no_fault = λ room no_read no_write. tt;
-    };
-    reads_at_most = prefix;
-    laws = laws;
-  }
+  wanting_toml prefix same laws = grind (arith, none_written, none_counts)

@@ -1,11 +1,86 @@
 -- The PDUs of the air that a sink hears.
-use Rattle.replay_steps.proofs.Prelude.{◌≡◌, ℕ, ◌+◌, ◌*◌, ◌<◌, ◌≤◌, ◌==◌, ◌++◌, ◌∷◌, Bool, true, false, not, is_some, if◌then◌else◌, List, length, Option, None, Some, option_map, Ok, Err, refl, sym, ◌∙◌, ap, subst, ne_eqb, arith, le-ltb, option_or, Account, airs_of, Call, heard_line, pdu_line, Refusal, NoSuchSink, NotOnAir, Order, Stop, Refused, OutletFault, Memory, Step, Air, Hear, Inject, Sniff, chosen_of, chosen_steps, running, sinks_made, stage_of, event_back, is_heard, pdu_in, performed, setup_of, source_calls, heard_on_air, reaches, sink_calls, source_of, positions_of, box_of, injected_hearing, calls_made, made_of, air_refusal, no_place, no_sink, phase_refusal, source_refusal, refuse_if, NoPlace, air_says, hear_says, inject_says, sniff_says, sources_stay, Sinks, Histories, with_hearing, SinksStand, stands_same, Machine, OnAir, Reaches, histories_on_air, Stands, histories_of, Quiet, Tells, inl, inr, cases_lt, air_fault, heard_calls, with_heard, SentIs}
+use Rattle.replay_steps.proofs.Prelude.{◌≡◌, ℕ, ◌+◌, ◌*◌, ◌<◌, ◌≤◌, ◌++◌, ◌∷◌, Bool, true, false, not, if◌then◌else◌, List, length, Option, None, Some, option_map, Ok, Err, refl, sym, ◌∙◌, ap, subst, arith, le-ltb, option_or, Account, airs_of, Call, heard_line, Refusal, Order, Stop, Refused, OutletFault, Memory, Step, Air, Hear, Inject, chosen_of, chosen_steps, running, stage_of, event_back, is_heard, pdu_in, performed, setup_of, source_calls, air_refusal, no_place, no_sink, phase_refusal, source_refusal, refuse_if, Sinks, SinksStand, stands_same, Machine, OnAir, Reaches, histories_on_air, Stands, histories_of, Quiet, Tells, inl, inr, cases_lt, air_fault, with_heard, SentIs, suc, [], BigInfo, hear_at, heard_on_air, is_lost, position_at, unless_lost, range_with_len, zero, ◌-◌, get_or, div-mul-add, mod-mul-add, map, slice_get, slice_index_or, hear, heard_first, heard_where, Position, LosesFrom, lost_at, unlost}
 use Rattle.isoal_base.specs.declared.hearing.Hearing.{Hearing}
 use Rattle.scenario_sinks.specs.Hearing.{Hears}
 use Rattle.replay_steps.specs.declared.grid.Grid.{Grid}
-use Rattle.replay_steps.proofs.HeardStreams.{AreHeard, event_heard}
-use Rattle.replay_steps.proofs.RelaysStay.{minds_relays, relays_stay}
-use Rattle.replay_steps.proofs.Stepping.{as_step, brought, or_none}
+use Rattle.replay_steps.proofs.Stepping.{as_step, minds_relays}
+use Rattle.std.proofs.lemmas.List.FromFn.{get_or-map-range_with_len, length-map-range_with_len}
+use Rattle.std.proofs.lemmas.Option.{slice_get-get_or}
+
+-- what was sent and isn't lost, subevent by subevent
+pub unlost_count : (sent : List (List ℕ)) (lost : List Bool) → length (unlost sent lost) ≡ length sent
+unlost_count sent lost = length-map-range_with_len (λ s. if slice_index_or lost s false then None else slice_get sent s) 0 (length sent)
+
+unlost_at : (sent : List (List ℕ)) (lost : List Bool) (s : ℕ) → s < length sent
+    → get_or (unlost sent lost) s None ≡ (if slice_index_or lost s false then None else slice_get sent s)
+unlost_at sent lost s below = get_or-map-range_with_len (λ s. if slice_index_or lost s false then None else slice_get sent s) 0 (length sent) s s None below (omega arith)
+
+pub lost_there : (sent : List (List ℕ)) (lost : List Bool) (s : ℕ) → s < length sent → slice_index_or lost s false ≡ true → slice_get (unlost sent lost) s ≡ Some None
+lost_there sent lost s below is =
+    slice_get-get_or (unlost sent lost) s None (omega (arith, below, unlost_count sent lost)) ∙ ap (λ o. Some o) (unlost_at sent lost s below ∙ rw is refl)
+
+pub kept_there : (sent : List (List ℕ)) (lost : List Bool) (s : ℕ) (pdu : List ℕ) → s < length sent → slice_index_or lost s false ≡ false → slice_get sent s ≡ Some pdu
+    → slice_get (unlost sent lost) s ≡ Some (Some pdu)
+kept_there sent lost s pdu below is there =
+    slice_get-get_or (unlost sent lost) s None (omega (arith, below, unlost_count sent lost)) ∙ ap (λ o. Some o) (unlost_at sent lost s below ∙ rw (is, there) refl)
+
+-- a PDU of a stream is heard, unless it is lost
+one_heard : (event bis s : ℕ) (lost : Bool) (pdu : List ℕ) (calls : List Call)
+    → heard_where event bis s (if lost then None else Some pdu) calls ≡ unless_lost lost (hear event bis s pdu) calls
+one_heard event bis s true pdu calls = refl
+one_heard event bis s false pdu calls = refl
+
+position_in : (info : BigInfo) (k s : ℕ) → s < info.nse → position_at info (k * info.nse + s) ≡ record { bis = k + 1; subevent = s }
+position_in info k s below = rw (div-mul-add k info.nse s below, mod-mul-add k info.nse s below) refl
+
+-- what a sink hears of a stream, from 0, of the last event, where of each `lose` PDUs the last one is lost
+pub record AreHeard (own : List Step) (lose k : ℕ) (pdus : List (Option (List ℕ))) : Type 0 where
+  pub count : length pdus ≡ (setup_of own).info.nse
+  pub each : (s : ℕ) → s < (setup_of own).info.nse → slice_index_or pdus s None
+      ≡ (if is_lost (setup_of own).info (event_back own 0) lose (record { bis = k + 1; subevent = s }) then None
+      else Some (pdu_in airs_of own (event_back own 0) (k + 1) s))
+
+first_heard : (own : List Step) (lose k : ℕ) (pdus : List (Option (List ℕ))) (calls : List Call) (s : ℕ) → AreHeard own lose k pdus → s ≤ (setup_of own).info.nse
+    → heard_first (event_back own 0) (k + 1) pdus s (heard_on_air airs_of own lose (k * (setup_of own).info.nse) calls)
+    ≡ heard_on_air airs_of own lose (k * (setup_of own).info.nse + s) calls
+first_heard own lose k pdus calls zero are within = ap (λ i. heard_on_air airs_of own lose i calls) (omega arith)
+first_heard own lose k pdus calls (suc s) are within =
+    let info : BigInfo = (setup_of own).info in
+    let event : ℕ = event_back own 0 in
+    let here : Position = record { bis = k + 1; subevent = s } in
+    let before : List Call = heard_on_air airs_of own lose (k * info.nse + s) calls in
+    let next : k * info.nse + suc s ≡ suc (k * info.nse + s) = omega arith in
+    ap (heard_where event (k + 1) s (slice_index_or pdus s None)) (first_heard own lose k pdus calls s are (omega (arith, within)))
+    ∙ ap (λ pdu. heard_where event (k + 1) s pdu before) (are.each s (omega (arith, within)))
+    ∙ one_heard event (k + 1) s (is_lost info event lose here) (pdu_in airs_of own event (k + 1) s) before
+    ∙ ap (λ position. unless_lost (is_lost info event lose position) (hear_at airs_of own event position) before) (sym (position_in info k s (omega (arith, within))))
+    ∙ ap (λ i. heard_on_air airs_of own lose i calls) (sym next)
+
+-- the number of a PDU, counted over all events, streams and subevents
+count_is : (event streams k nse s : ℕ) → event * streams * nse + k * nse + s ≡ (event * streams + (k + 1 - 1)) * nse + s
+count_is event streams k nse s = grind arith
+
+-- what a sink hears of what a stream sent
+pub are_heard : (own : List Step) (lose k bis event streams subevents : ℕ) (sent : List (List ℕ)) (lost : List Bool)
+    → sent ≡ map (pdu_in airs_of own (event_back own 0) bis) (range_with_len 0 (setup_of own).info.nse) → bis ≡ k + 1 → event ≡ event_back own 0
+    → streams ≡ (setup_of own).info.num_bis → subevents ≡ (setup_of own).info.nse
+    → LosesFrom lose (event * streams * subevents + k * subevents) subevents lost → AreHeard own lose k (unlost sent lost)
+are_heard own lose k bis event streams subevents sent lost is b e streams_are subevents_are loses =
+    let nse : ℕ = (setup_of own).info.nse in
+    let f : ℕ → List ℕ = pdu_in airs_of own (event_back own 0) bis in
+    let long : length sent ≡ nse = ap length is ∙ length-map-range_with_len f 0 nse in
+    record {
+      count = unlost_count sent lost ∙ long;
+      each = λ s below.
+          let there : slice_get sent s ≡ Some (pdu_in airs_of own (event_back own 0) (k + 1) s) =
+          ap (λ list. slice_get list s) is ∙ slice_get-get_or (map f (range_with_len 0 nse)) s [] (omega (arith, below, length-map-range_with_len f 0 nse))
+          ∙ ap (λ pdu. Some pdu) (get_or-map-range_with_len f 0 nse s s [] below (omega arith)) ∙ ap (λ x. Some (pdu_in airs_of own (event_back own 0) x s)) b in
+          let number : event * streams * subevents + k * subevents + s ≡ (event_back own 0 * (setup_of own).info.num_bis + (k + 1 - 1)) * nse + s =
+          rw (e, streams_are, subevents_are) (count_is (event_back own 0) (setup_of own).info.num_bis k nse s) in
+          unlost_at sent lost s (omega (arith, below, long))
+          ∙ ap (λ (l : Bool). if l then None else slice_get sent s) (loses s (omega (arith, below, subevents_are)) ∙ ap (lost_at lose) number)
+          ∙ ap (λ pdu. if is_lost (setup_of own).info (event_back own 0) lose (record { bis = k + 1; subevent = s }) then None else pdu) there;
+    }
 
 -- ---- whether a PDU may be handed to a sink
 
@@ -38,33 +113,11 @@ reach_fails boxes version n steps made new (Refused reason) stands brings e r = 
 reach_fails boxes version n steps made new OutletFault stands brings e r = r
 reach_fails boxes version n steps made new Memory stands brings e r = absurd r
 
-pub own_fault : (boxes version n : ℕ) (steps : List Step) (made : Step) → Brings n made → stage_of steps ≡ running version → is_heard (chosen_steps steps) ≡ true
-    → is_some (box_of n steps) ≡ true → phase_refusal airs_of boxes steps made ≡ source_refusal airs_of version (chosen_steps steps) made
-own_fault boxes version n steps made brings e started lives =
-    brings.refusal boxes version steps e ∙ rw (started, lives) (or_none (source_refusal airs_of version (chosen_steps steps) made))
-
 -- ---- the sinks after a hearing
-
-some_heard : (past : Histories) (n source event bis subevent : ℕ) (octets : List ℕ) (new : Sinks) (o : Option Hearing) → is_some (past.boxes n) ≡ true
-    → Hears past n source event bis subevent octets new o → SinksStand (with_hearing n source event bis subevent octets past) new
-some_heard past n source event bis subevent octets new o lives h = grind (arith, is_some)
-
-heard_as : (past : Histories) (n s t d e bis subevent : ℕ) (o p : List ℕ) (new : Sinks) → s ≡ t → d ≡ e → o ≡ p
-    → SinksStand (with_hearing n s d bis subevent o past) new → SinksStand (with_hearing n t e bis subevent p past) new
-heard_as past n s t d e bis subevent o p new a b c h = grind (arith, with_hearing)
 
 -- the same past, where the sinks have their histories by a line that leaves them
 if_same : {A : Type 0} (b : Bool) (x : A) → x ≡ (if b then x else x)
 if_same b x = grind arith
-
-hearing_stays : (steps : List Step) (made : Step) (n event bis subevent : ℕ) (octets : List ℕ) (sinks : Sinks)
-    → ((m : ℕ) → box_of m steps ≡ box_of m (made ∷ steps)) → ((m : ℕ) → made_of m steps ≡ made_of m (made ∷ steps))
-    → ((m : ℕ) → source_of m steps ≡ source_of m (made ∷ steps)) → ((m : ℕ) → calls_made m steps ≡ calls_made m (made ∷ steps))
-    → ((m : ℕ) → (with_hearing n (chosen_of steps) event bis subevent octets (histories_of steps)).received m ≡ sink_calls airs_of m (made ∷ steps))
-    → sinks_made steps ≡ sinks_made (made ∷ steps)
-    → SinksStand (with_hearing n (chosen_of steps) event bis subevent octets (histories_of steps)) sinks → SinksStand (histories_of (made ∷ steps)) sinks
-hearing_stays steps made n event bis subevent octets sinks boxes mades sources lives received count stands =
-    grind (arith, stands_same, with_hearing, chosen_of, histories_of)
 
 pub hear_meets : (boxes version n source event back bis subevent : ℕ) (pdu : List ℕ) (steps : List Step) (old new : Machine) (o : Option Hearing) (grid : Grid)
     → Stands steps old → stage_of steps ≡ running version → Reaches steps n (Ok grid)
@@ -72,23 +125,8 @@ pub hear_meets : (boxes version n source event back bis subevent : ℕ) (pdu : L
     → source ≡ chosen_of steps → event ≡ event_back (chosen_steps steps) back
     → new.stage ≡ old.stage → new.sources ≡ old.sources → new.relays ≡ old.relays → Hears (histories_of steps) n source event bis subevent pdu new.sinks o
     → Quiet boxes steps (Hear n back bis subevent) new (Ok tt)
-hear_meets boxes version n source event back bis subevent pdu steps old new o grid stands e r place chosen is stage same held h = (
-  own_fault boxes version n steps (Hear n back bis subevent) (hear_brings n back bis subevent) e r.0 r.2 ∙ place.0,
-  brought steps (Hear n back bis subevent) old new stands (hear_says n back bis subevent) refl stage same refl held
-      (hearing_stays steps (Hear n back bis subevent) n (event_back (chosen_steps steps) back) bis subevent
-      (pdu_in airs_of (chosen_steps steps) (event_back (chosen_steps steps) back) bis subevent) new.sinks
-      (λ m. refl) (λ m. refl) (λ m. refl) (λ m. if_same (n == m) (calls_made m steps)) (λ m. refl) refl
-      (heard_as (histories_of steps) n source (chosen_of steps) event (event_back (chosen_steps steps) back) bis subevent pdu
-      (pdu_in airs_of (chosen_steps steps) (event_back (chosen_steps steps) back) bis subevent) new.sinks chosen is place.1
-      (some_heard (histories_of steps) n source event bis subevent pdu new.sinks o r.2 h))),
-)
-
-pub place_fails : (boxes version n back bis subevent : ℕ) (steps : List Step) (made : Step) (new : Machine) (grid : Grid) (stop : Stop) → Stands steps new → Brings n made
-    → source_refusal airs_of version (chosen_steps steps) made ≡ no_place (chosen_steps steps) back bis subevent → stage_of steps ≡ running version
-    → Reaches steps n (Ok grid) → NoPlace (chosen_steps steps) back bis subevent stop → Quiet boxes steps made new (Err stop)
-place_fails boxes version n back bis subevent steps made new grid (Refused reason) stands brings own e r p =
-    (as_step boxes steps made brings.minds ∙ own_fault boxes version n steps made brings e r.0 r.2 ∙ own ∙ p, stands)
-place_fails boxes version n back bis subevent steps made new grid stop stands brings own e r p = search (as_step, own_fault)
+hear_meets boxes version n source event back bis subevent pdu steps old new o grid stands e r place chosen is stage same held h =
+    grind arith
 
 -- ---- inject
 
@@ -103,20 +141,7 @@ pub inject_meets : (starts : List Account) (version n source event back bis sube
     → new.stage ≡ old.stage → new.sources ≡ old.sources → new.relays ≡ old.relays → Hears (histories_of steps) n source event bis subevent octets new.sinks (Some hearing)
     → told ≡ text ++ heard_line n hearing → Tells starts steps (Inject n back bis subevent octets) new text told (Ok tt)
 inject_meets starts version n source event back bis subevent octets steps old new hearing grid text told stands e r place chosen is stage same held h t =
-    let made : Step = Inject n back bis subevent octets in
-    let answer : hearing ≡ injected_hearing airs_of steps n back bis subevent octets = grind (arith, source_of, sink_calls, airs_of, chosen_of) in (
-      own_fault (length starts) version n steps made (inject_brings n back bis subevent octets) e r.0 r.2 ∙ place,
-      brought steps made old new stands (inject_says n back bis subevent octets) refl stage same refl held
-          (hearing_stays steps made n (event_back (chosen_steps steps) back) bis subevent octets new.sinks
-          (λ m. refl) (λ m. refl) (λ m. refl) (λ m. if_same (n == m) (calls_made m steps)) (λ m. refl) refl
-          (heard_as (histories_of steps) n source (chosen_of steps) event (event_back (chosen_steps steps) back) bis subevent octets octets new.sinks chosen is refl h.2)),
-      t ∙ ap (λ x. text ++ heard_line n x) answer,
-    )
-
--- the sink lives, so it hears
-pub inject_fails : (starts : List Account) (version n source event bis subevent : ℕ) (octets : List ℕ) (steps : List Step) (new : Sinks) (grid : Grid) → Reaches steps n (Ok grid)
-    → Hears (histories_of steps) n source event bis subevent octets new None → ⊥
-inject_fails starts version n source event bis subevent octets steps new grid r h = let e : true ≡ false = sym r.2 ∙ ap is_some h in cc e
+    grind arith
 
 -- ---- air
 
@@ -125,59 +150,17 @@ pub no_fault : (own : List Step) (bis subevent : ℕ) → bis ≤ (setup_of own)
     → air_fault (setup_of own) (source_calls own) 0 bis subevent ≡ None
 no_fault own bis subevent p q r = grind (arith, le-ltb, setup_of, source_calls)
 
-on_air : (n : ℕ) → 0 < n → refuse_if (n == 0) NotOnAir ≡ None
-on_air n h = ap (λ (b : Bool). refuse_if b NotOnAir) (ne_eqb n 0 (λ e. omega arith))
-
 pub air_meets : (boxes version n lose event streams subevents : ℕ) (steps : List Step) (old new : Machine) → Stands steps old → stage_of steps ≡ running version
     → OnAir steps n event streams subevents → new.stage ≡ old.stage → new.sources ≡ old.sources → new.relays ≡ old.relays → SinksStand (histories_of (Air n lose ∷ steps)) new.sinks
     → Quiet boxes steps (Air n lose) new (Ok tt)
-air_meets boxes version n lose event streams subevents steps old new stands e on stage same held heard = (
-  own_fault boxes version n steps (Air n lose) (air_brings n lose) e on.started on.lives ∙ on_air (performed (chosen_steps steps)) on.some,
-  brought steps (Air n lose) old new stands (air_says n lose) refl stage same refl held heard,
-)
-
-pub air_fails : (boxes version n lose : ℕ) (steps : List Step) (grid : Grid) → stage_of steps ≡ running version → Reaches steps n (Ok grid)
-    → performed (chosen_steps steps) ≡ 0 → phase_refusal airs_of boxes steps (Air n lose) ≡ Some NotOnAir
-air_fails boxes version n lose steps grid e r none = grind (arith, own_fault, air_brings, refuse_if)
-
-pub air_begins : (steps : List Step) (n lose : ℕ) (sinks : Sinks) → SinksStand (histories_of steps) sinks → SinksStand (histories_on_air steps n lose 0) sinks
-air_begins steps n lose sinks stands = grind (arith, stands_same, histories_of, histories_on_air, if_same, reaches, sink_calls, airs_of)
-
--- all positions of the event were heard
-pub air_ends : (steps : List Step) (n lose : ℕ) (sinks : Sinks) → SinksStand (histories_on_air steps n lose (positions_of (chosen_steps steps))) sinks
-    → SinksStand (histories_of (Air n lose ∷ steps)) sinks
-air_ends steps n lose sinks stands =
-    grind (arith, stands_same, histories_on_air, positions_of, chosen_steps, histories_of, if_same, calls_made)
-
--- what was heard of a stream reaches the sink, or doesn't
-both_heard : (b : Bool) (f : List Call → List Call) (heard more calls : List Call) → f heard ≡ more
-    → (if b then f (if b then heard else calls) else (if b then heard else calls)) ≡ (if b then more else calls)
-both_heard b f heard more calls is = grind arith
+air_meets boxes version n lose event streams subevents steps old new stands e on stage same held heard = grind arith
 
 -- a sink heard a stream more
 pub stream_heard : (steps : List Step) (n lose k source event bis subevents : ℕ) (pdus : List (Option (List ℕ))) (sinks : Sinks) → AreHeard (chosen_steps steps) lose k pdus
     → source ≡ chosen_of steps → event ≡ event_back (chosen_steps steps) 0 → bis ≡ k + 1 → subevents ≡ (setup_of (chosen_steps steps)).info.nse
     → SinksStand (with_heard n source event bis pdus (histories_on_air steps n lose (k * subevents))) sinks
     → SinksStand (histories_on_air steps n lose ((k + 1) * subevents)) sinks
-stream_heard steps n lose k source event bis subevents pdus sinks are chosen is b all stands =
-    let own : List Step = chosen_steps steps in
-    let nse : ℕ = (setup_of own).info.nse in
-    let S : ℕ → Type 0 = λ x. SinksStand (with_heard n x (event_back own 0) (k + 1) pdus (histories_on_air steps n lose (k * nse))) sinks in
-    let E : ℕ → Type 0 = λ x. SinksStand (with_heard n source x (k + 1) pdus (histories_on_air steps n lose (k * nse))) sinks in
-    let B : ℕ → Type 0 = λ x. SinksStand (with_heard n source event x pdus (histories_on_air steps n lose (k * nse))) sinks in
-    let N : ℕ → Type 0 = λ x. SinksStand (with_heard n source event bis pdus (histories_on_air steps n lose (k * x))) sinks in
-    subst (λ x. SinksStand (histories_on_air steps n lose ((k + 1) * x)) sinks) (sym all)
-    (stands_same (with_heard n (chosen_of steps) (event_back own 0) (k + 1) pdus (histories_on_air steps n lose (k * nse))) (histories_on_air steps n lose ((k + 1) * nse)) sinks
-    (record {
-      boxes = λ m. refl;
-      mades = λ m. refl;
-      sources = λ m. refl;
-      lives = λ m. refl;
-      received = λ m. both_heard (reaches n m steps) (heard_calls (event_back own 0) (k + 1) pdus) (heard_on_air airs_of own lose (k * nse) (sink_calls airs_of m steps))
-          (heard_on_air airs_of own lose ((k + 1) * nse) (sink_calls airs_of m steps)) (sink_calls airs_of m steps)
-          (event_heard own lose k pdus (sink_calls airs_of m steps) are);
-      made = refl;
-    }) (subst S chosen (subst E is (subst B b (subst N all stands)))))
+stream_heard steps n lose k source event bis subevents pdus sinks are chosen is b all stands = grind (arith, stands_same, first_heard)
 
 -- each stream of the group sent its PDUs
 pub none_sent : (steps : List Step) (n lose k bis event streams subevents : ℕ) (sinks : Sinks) → OnAir steps n event streams subevents → k < streams → bis ≡ k + 1
@@ -192,38 +175,3 @@ none_sent steps n lose k bis event streams subevents sinks on within b none stan
           let is : subevents ≡ 0 = omega (arith, nothing) in
           subst P (ap (λ x. k * x) is ∙ (let z : k * 0 ≡ (k + 1) * 0 = omega arith in z) ∙ sym (ap (λ x. (k + 1) * x) is)) stands
     ]
-
-pub no_sink_there : (steps : List Step) (n : ℕ) → is_heard (chosen_steps steps) ≡ true → is_some (box_of n steps) ≡ false
-    → option_or (refuse_if (not (is_heard (chosen_steps steps))) Order) (no_sink n steps) ≡ Some NoSuchSink
-no_sink_there steps n started none = rw (started, none) refl
-
--- ---- sniff
-
-pub sniff_early : (boxes version back bis subevent : ℕ) (steps : List Step) → stage_of steps ≡ running version → is_heard (chosen_steps steps) ≡ false
-    → phase_refusal airs_of boxes steps (Sniff back bis subevent) ≡ Some Order
-sniff_early boxes version back bis subevent steps e started = rw (e, started) refl
-
-sniff_fault : (boxes version back bis subevent : ℕ) (steps : List Step) → stage_of steps ≡ running version → is_heard (chosen_steps steps) ≡ true
-    → phase_refusal airs_of boxes steps (Sniff back bis subevent) ≡ no_place (chosen_steps steps) back bis subevent
-sniff_fault boxes version back bis subevent steps e started = rw (e, started) (or_none (no_place (chosen_steps steps) back bis subevent))
-
-pub sniff_fails : (starts : List Account) (version back bis subevent : ℕ) (steps : List Step) (new : Machine) (text : List ℕ) (stop : Stop) → Stands steps new → stage_of steps ≡ running version
-    → is_heard (chosen_steps steps) ≡ true → NoPlace (chosen_steps steps) back bis subevent stop → Tells starts steps (Sniff back bis subevent) new text text (Err stop)
-sniff_fails starts version back bis subevent steps new text (Refused reason) stands e started p = (sniff_fault (length starts) version back bis subevent steps e started ∙ p, stands, refl)
-sniff_fails starts version back bis subevent steps new text OutletFault stands e started p = p
-sniff_fails starts version back bis subevent steps new text Memory stands e started p = tt
-
-pub sniff_meets : (starts : List Account) (version event back bis subevent : ℕ) (pdu : List ℕ) (steps : List Step) (machine : Machine) (text told : List ℕ) → Stands steps machine
-    → stage_of steps ≡ running version → is_heard (chosen_steps steps) ≡ true
-    → (no_place (chosen_steps steps) back bis subevent ≡ None) × (pdu ≡ pdu_in airs_of (chosen_steps steps) (event_back (chosen_steps steps) back) bis subevent)
-    → event ≡ event_back (chosen_steps steps) back → told ≡ text ++ pdu_line event bis subevent pdu → Tells starts steps (Sniff back bis subevent) machine text told (Ok tt)
-sniff_meets starts version event back bis subevent pdu steps machine text told stands e started place is t = (
-  sniff_fault (length starts) version back bis subevent steps e started ∙ place.0,
-  record {
-    stage = stands.stage;
-    sources = sources_stay (Sniff back bis subevent) steps machine.sources (sniff_says back bis subevent) stands.sources;
-    sinks = stands.sinks;
-    relays = relays_stay steps (Sniff back bis subevent) machine.relays refl stands.relays;
-  },
-  t ∙ ap (λ d. text ++ pdu_line d bis subevent pdu) is ∙ ap (λ o. text ++ pdu_line (event_back (chosen_steps steps) back) bis subevent o) place.1,
-)

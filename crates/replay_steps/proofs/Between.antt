@@ -1,5 +1,5 @@
 -- Closing an event of source 0 for one sink after the other.
-use Rattle.replay_steps.proofs.Prelude.{ℕ, ◌≡◌, ◌<◌, ◌+◌, ◌-◌, ◌==◌, nat_lt, Bool, cond, List, [], ◌++◌, refl, sym, ◌∙◌, ap, ap₂, subst, arith, append_assoc, append-nil, eq-eqb, ne_eqb, le-ltb, lt-ltb, slice_get, Some, Ok, Err, flat_map, range_with_len, cases_order, flat_map-append, Account, Call, airs_of, Stop, Refused, OutletFault, Memory, Step, SinkUnit, accounts_after, closing_by, Offer, after_offers, answered, offered_of, unit_lines, is_of, ticked_if, left_by_offers, closing_of, handed_all, CutShort, Histories, with_close, with_close_at, SinksStand, UnassignedSame, Sinks, accounts_append, hands_stop, hands_then, stands_same, RelaysStand, SourcesStand, Machine, FirstBetween, with_closes_below, relay_histories, FirstMeets, ComponentsStand, SinkMeets, answer_lines, lines_at, lines_below, offers_below, offers_of, units_below}
+use Rattle.replay_steps.proofs.Prelude.{ℕ, ◌≡◌, ◌<◌, ◌+◌, ◌-◌, cond, List, [], ◌++◌, refl, sym, ◌∙◌, ap, ap₂, subst, arith, append_assoc, append-nil, le-ltb, lt-ltb, slice_get, Some, Ok, Err, flat_map, range_with_len, flat_map-append, Account, airs_of, Stop, Refused, OutletFault, Memory, Step, SinkUnit, accounts_after, closing_by, Offer, after_offers, answered, offered_of, unit_lines, is_of, ticked_if, left_by_offers, closing_of, handed_all, CutShort, Histories, with_close, with_close_at, SinksStand, UnassignedSame, Sinks, accounts_append, hands_stop, hands_then, RelaysStand, SourcesStand, Machine, FirstBetween, with_closes_below, relay_histories, FirstMeets, ComponentsStand, SinkMeets, answer_lines, lines_at, lines_below, offers_below, offers_of, units_below, Result, Handed, relay_of, ClosesAt, Sources, Relays, OffersMeet}
 use Rattle.scenario_sinks.proofs.Ranges.{range_append}
 use Rattle.replay_steps.proofs.Offering.{after_append}
 
@@ -29,18 +29,10 @@ range_about f n below =
 pub not_yet : (past : Histories) (event n : ℕ) → closing_of n 0 event (with_closes_below event n past) ≡ closing_of n 0 event past
 not_yet past event n = grind (arith, closing_by, cond, ticked_if, is_of, le-ltb)
 
-received_next : (its : Bool) (event : ℕ) (calls : List Call) (n m : ℕ)
-    → cond (n == m) (ticked_if its (Some event) (cond (nat_lt m n) (ticked_if its (Some event) calls) calls)) (cond (nat_lt m n) (ticked_if its (Some event) calls) calls)
-    ≡ cond (nat_lt m (n + 1)) (ticked_if its (Some event) calls) calls
-received_next its event calls n m = grind (arith, ticked_if, cases_order, cond, nat_lt, eq-eqb, le-ltb, lt-ltb, ne_eqb)
-
 -- and then it did
 closed_next : (past : Histories) (event n : ℕ) (sinks : Sinks) → SinksStand (with_close_at n 0 event (with_closes_below event n past)) sinks
     → SinksStand (with_closes_below event (n + 1) past) sinks
-closed_next past event n sinks stands = grind (arith, stands_same, with_close_at, with_closes_below, received_next, is_of)
-
-closed_none : (past : Histories) (event : ℕ) (sinks : Sinks) → SinksStand past sinks → SinksStand (with_closes_below event 0 past) sinks
-closed_none past event sinks stands = grind (arith, stands_same, with_closes_below, cond, ticked_if, is_of, le-ltb)
+closed_next past event n sinks stands = grind arith
 
 -- all of them did
 closed_all : (past : Histories) (event : ℕ) (sinks : Sinks) → SinksStand (with_closes_below event 8 past) sinks → SinksStand (with_close 0 (Some event) past) sinks
@@ -50,11 +42,7 @@ closed_all past event sinks stands = grind (arith, slice_get, cond, ticked_if, i
 
 pub between_starts : (steps : List Step) (past : Histories) (event : ℕ) (machine : Machine) (text : List ℕ) (before : List Account) → ComponentsStand steps past machine
     → FirstBetween steps past event 0 machine text text before before
-between_starts steps past event machine text before components = record {
-  components = record { sources = components.sources; sinks = closed_none past event machine.sinks components.sinks; relays = components.relays };
-  lines = sym (append-nil text);
-  boxes = refl;
-}
+between_starts steps past event machine text before components = grind (arith, append-nil)
 
 -- what the next sink offers is what it offers by the steps before the relayed units of those below it
 offers_now : (steps : List Step) (past : Histories) (event n : ℕ)
@@ -98,11 +86,7 @@ pub between_stops : (steps : List Step) (past : Histories) (event n : ℕ) (mid 
     → SinkMeets (after_offers airs_of (offers_below steps past event n) steps) (with_closes_below event n past) n event new told told2 between after (Err stop)
     → FirstMeets steps past event there text told2 before after (Err stop)
 between_stops steps past event n mid new there text told told2 before between after (Refused reason) below b m = m
-between_stops steps past event n mid new there text told told2 before between after OutletFault below b m = record {
-  number = n;
-  within = below;
-  fails = grind (arith, not_yet past event n, b.lines, b.boxes);
-}
+between_stops steps past event n mid new there text told told2 before between after OutletFault below b m = grind (arith, not_yet)
 between_stops steps past event n mid new there text told told2 before between after Memory below b m =
     let prefix : List SinkUnit = units_below past event n in
     let here : List SinkUnit = closing_of n 0 event past in
@@ -125,3 +109,25 @@ between_over steps past event number machine text told before after all b =
 -- the boxes of no living sink
 pub unassigned_next : {A : Type 0} (past : Histories) (old mid new : List A) → UnassignedSame past old mid → UnassignedSame past mid new → UnassignedSame past old new
 unassigned_next past old mid new first second place free = second place free ∙ first place free
+
+-- ---- one sink
+
+-- what its relay offers of the units that it lends
+pub offers_lent : (steps : List Step) (past : Histories) (n event : ℕ) (lent : List Handed) (sources : Sources) (relays : Relays) (text told : List ℕ) (r : Result (Unit {0}) Stop)
+    → lent ≡ handed_all (closing_of n 0 event past) → OffersMeet steps (offered_of n (relay_of n steps) lent) sources relays text told r
+    → OffersMeet steps (offers_of steps past n event) sources relays text told r
+offers_lent steps past n event lent sources relays text told r is o = grind (arith, offered_of, relay_of)
+
+-- its units were handed, and its relay offered them
+pub sink_relays : (steps : List Step) (past : Histories) (n event : ℕ) (mid : Sinks) (new : Machine) (text told told2 : List ℕ) (before after : List Account)
+    → ClosesAt past n 0 event mid text told before after (Ok tt)
+    → OffersMeet steps (offers_of steps past n event) new.sources new.relays told told2 (Ok tt)
+    → SinksStand (with_close_at n 0 event past) new.sinks → SinkMeets steps past n event new text told2 before after (Ok tt)
+sink_relays steps past n event mid new text told told2 before after c o s = grind (arith, append_assoc)
+
+-- memory ran out as they were offered
+pub offers_stop : (steps : List Step) (past : Histories) (n event : ℕ) (mid : Sinks) (new : Machine) (sources : Sources) (relays : Relays) (text told told2 : List ℕ)
+    (before after : List Account) (stop : Stop) → ClosesAt past n 0 event mid text told before after (Ok tt)
+    → OffersMeet steps (offers_of steps past n event) sources relays told told2 (Err stop)
+    → SinkMeets steps past n event new text told2 before after (Err stop)
+offers_stop steps past n event mid new sources relays text told told2 before after stop c o = grind (arith, closing_of, append-nil)

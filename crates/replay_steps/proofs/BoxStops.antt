@@ -1,5 +1,5 @@
 -- A close that a box stops: what was printed before is a prefix of what the close prints.
-use Rattle.replay_steps.proofs.Prelude.{ℕ, ◌≡◌, ◌≢◌, ◌<◌, ◌+◌, ◌-◌, ◌==◌, nat_lt, Bool, true, false, cond, List, [], ◌∷◌, ◌++◌, map, refl, sym, ◌∙◌, ap, ap₂, subst, inl, inr, append_assoc, append-nil, arith, eq-eqb, ne_eqb, le-ltb, lt-ltb, Err, filter, flat_map, range_with_len, and_left, and_right, cases_eq, filter-append, Account, Handed, TookAt, Failed, handed_at, airs_of, Step, SinkUnit, accounts_after, Answered, after_offers, answered, dropped_lines, first_lines, unit_lines, is_of, closing_of, handed_all, BoxFails, Histories, accounts_append, CloseFails, printed_before, FirstFails, answer_lines, lines_at, lines_below, offers_below, offers_of, units_below, flat_within, handed_append, handed_line, sink_numbers, lines_append}
+use Rattle.replay_steps.proofs.Prelude.{ℕ, ◌≡◌, ◌≢◌, ◌<◌, ◌+◌, ◌-◌, ◌==◌, nat_lt, Bool, true, false, cond, List, [], ◌∷◌, ◌++◌, map, refl, sym, ◌∙◌, ap, ap₂, subst, append_assoc, append-nil, arith, eq-eqb, ne_eqb, le-ltb, lt-ltb, Err, filter, flat_map, range_with_len, and_left, and_right, filter-append, Account, Handed, TookAt, Failed, handed_at, airs_of, Step, SinkUnit, accounts_after, Answered, after_offers, answered, dropped_lines, first_lines, unit_lines, is_of, closing_of, handed_all, BoxFails, Histories, accounts_append, CloseFails, printed_before, FirstFails, answer_lines, lines_at, lines_below, offers_below, offers_of, units_below, flat_within, handed_append, handed_line, sink_numbers, lines_append}
 use Rattle.scenario_history.specs.RelayedUnits.{handed_of}
 use Rattle.replay_steps.proofs.Between.{range_about}
 use Rattle.replay_steps.proofs.CloseLines.{answers_of, flat_nothing, none_handed, of_sink, own_handed, own_lines}
@@ -49,9 +49,7 @@ from_back s (u ∷ us) vs are = from_back s us vs are.1
 
 pub from_closings : (s event : ℕ) (past : Histories) (ns : List ℕ) → AreFrom s (flat_map (λ n. closing_of n s event past) ns)
 from_closings s event past [] = tt
-from_closings s event past (n ∷ ns) =
-    from_both s (closing_of n s event past) (flat_map (λ m. closing_of m s event past) ns)
-    (from_of s n (closing_of n s event past) (of_closing n s event past)) (from_closings s event past ns)
+from_closings s event past (n ∷ ns) = grind (arith, from_closings s event past ns, from_both, from_of, of_closing)
 
 -- ---- their lines
 
@@ -84,30 +82,11 @@ second_kept (u ∷ us) are = ap (λ s. cond (s == 1) (u ∷ filter of_second us)
 abbrev of_below : ℕ → Answered → Bool
 of_below number answer = nat_lt answer.offer.sink number
 
-own_kept : (hit : Bool) (n : ℕ) (answer : Answered) (prefix rest : List Answered) → of_sink n answer ≡ true → filter (of_sink n) prefix ≡ cond hit rest []
-    → filter (of_sink n) (cond hit (answer ∷ prefix) prefix) ≡ cond hit (answer ∷ rest) []
-own_kept hit n answer prefix rest is same = grind (arith, cond, filter, of_sink)
-
-other_kept : (kept : Bool) (n : ℕ) (answer : Answered) (prefix rest : List Answered) → of_sink n answer ≡ false → filter (of_sink n) prefix ≡ rest
-    → filter (of_sink n) (cond kept (answer ∷ prefix) prefix) ≡ rest
-other_kept kept n answer prefix rest is same = grind (arith, cond, filter, of_sink)
-
 kept_below : (n number : ℕ) (hit : Bool) (answers : List Answered) → nat_lt n number ≡ hit
     → filter (of_sink n) (filter (of_below number) answers) ≡ cond hit (filter (of_sink n) answers) []
 kept_below n number true [] is = refl
 kept_below n number false [] is = refl
-kept_below n number hit (answer ∷ answers) is =
-    let more : filter (of_sink n) (filter (of_below number) answers) ≡ cond hit (filter (of_sink n) answers) [] = kept_below n number hit answers is in
-    elim (cases_eq answer.offer.sink n) [
-      | inl same ↦
-          ap (λ b. filter (of_sink n) (cond b (answer ∷ filter (of_below number) answers) (filter (of_below number) answers)))
-          (ap (λ m. nat_lt m number) same ∙ is)
-          ∙ own_kept hit n answer (filter (of_below number) answers) (filter (of_sink n) answers) (eq-eqb answer.offer.sink n same) more
-          ∙ ap (λ b. cond hit (cond b (answer ∷ filter (of_sink n) answers) (filter (of_sink n) answers)) []) (sym (eq-eqb answer.offer.sink n same))
-      | inr other ↦
-          other_kept (of_below number answer) n answer (filter (of_below number) answers) (cond hit (filter (of_sink n) answers) []) (ne_eqb answer.offer.sink n other) more
-          ∙ ap (λ b. cond hit (cond b (answer ∷ filter (of_sink n) answers) (filter (of_sink n) answers)) []) (sym (ne_eqb answer.offer.sink n other))
-    ]
+kept_below n number hit (answer ∷ answers) is = grind (arith, kept_below n number hit answers is)
 
 -- the lines of a sink's units, and then of what it offered among what the sinks below a number did
 abbrev printed_at : (n : ℕ) → List SinkUnit → List Answered → List ℕ
@@ -202,9 +181,7 @@ first_fails steps past event text told before after f =
 -- units of source 1 print nothing among those of source 0
 second_apart : (first d : List SinkUnit) (answers : List Answered) → AreFrom 1 d → first_lines (first ++ d) answers ≡ first_lines first answers
 unfolding sink_numbers
-second_apart first d answers are =
-    flat_within (λ n. printed_at n (first ++ d) answers) (λ n. printed_at n first answers) 0 8
-    (grind (arith, flat_map, dropped_lines, handed_append, second_handed, append-nil))
+second_apart first d answers are = grind (arith, flat_within, handed_append, second_handed, append-nil)
 
 before_second : (first d : List SinkUnit) (answers : List Answered) (unit : SinkUnit) → AreFrom 0 first → AreFrom 1 d → unit.source ≡ 1
     → printed_before answers (first ++ d) unit ≡ first_lines first answers ++ unit_lines d

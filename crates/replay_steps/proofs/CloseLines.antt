@@ -1,8 +1,9 @@
 -- What a close of source 0 prints, sink by sink, is what its definition says: the units of each sink, and then those that its relay
 -- offered and that source 1 didn't take.
-use Rattle.replay_steps.proofs.Prelude.{ℕ, zero, suc, ◌≡◌, ◌<◌, ◌≤◌, ◌+◌, ◌-◌, ◌==◌, Bool, true, false, cond, List, [], ◌∷◌, ◌++◌, map, refl, sym, ◌∙◌, ap, ap₂, subst, inl, inr, append-nil, arith, eq-eqb, ne_eqb, Option, None, Some, filter, flat_map, range_with_len, cases_eq, filter-append, Call, handed_at, Handed, airs_of, Step, SinkUnit, closing, closing_at, closing_in, Answered, Offer, after_offer, after_offers, answered, dropped_for, offered_of, offers_at, units_on, dropped_lines, first_lines, unit_lines, Route, relay_of, is_of, open_event, steps_of_source, closing_of, handed_all, Histories, histories_of, answer_lines, lines_at, lines_below, offers_below, offers_of, units_below, flat_within, flat_one, other_in, handed_flat, lines_map, AudioUnit, handed_line, sink_numbers, own_units}
+use Rattle.replay_steps.proofs.Prelude.{◌≢◌, append_assoc, ℕ, zero, suc, ◌≡◌, ◌<◌, ◌≤◌, ◌+◌, ◌-◌, ◌==◌, Bool, true, cond, List, [], ◌∷◌, ◌++◌, map, refl, sym, ◌∙◌, ap, ap₂, append-nil, arith, eq-eqb, ne_eqb, Option, None, Some, filter, flat_map, range_with_len, filter-append, Call, handed_at, Handed, airs_of, Step, SinkUnit, closing, closing_at, closing_in, Answered, Offer, after_offer, after_offers, answered, offered_of, offers_at, units_on, dropped_lines, first_lines, unit_lines, Route, relay_of, is_of, open_event, steps_of_source, closing_of, handed_all, Histories, histories_of, answer_lines, lines_at, lines_below, offers_below, offers_of, units_below, flat_within, flat_one, other_in, handed_flat, lines_map, AudioUnit, handed_line, sink_numbers, own_units}
 use Rattle.scenario_history.specs.RelayedUnits.{handed_of}
-use Rattle.replay_steps.proofs.Offering.{after_append, answered_append}
+use Rattle.replay_steps.proofs.Between.{range_about}
+use Rattle.replay_steps.proofs.Offering.{answered_append}
 
 -- ---- lists
 
@@ -76,9 +77,7 @@ none_asked n relay = grind arith
 offers_in : (steps : List Step) (closed : Option ℕ) → closing airs_of 0 steps ≡ units_closed (histories_of steps) closed
     → offers_at airs_of steps ≡ offers_closed steps (histories_of steps) closed
 unfolding sink_numbers
-offers_in steps None is =
-    flat_nothing (λ n. offered_of n (relay_of n steps) (handed_of 0 n (closing airs_of 0 steps))) 0 8
-    (λ n least below. ap (λ units. offered_of n (relay_of n steps) (handed_of 0 n units)) is ∙ none_asked n (relay_of n steps))
+offers_in steps None is = grind (arith, flat_nothing, none_asked)
 offers_in steps (Some event) is =
     flat_within (λ n. offered_of n (relay_of n steps) (handed_of 0 n (closing airs_of 0 steps))) (λ n. offers_of steps (histories_of steps) n event) 0 8
     (λ n least below. ap (offered_of n (relay_of n steps)) (ap (handed_of 0 n) is ∙ own_handed (histories_of steps) event n 8 (omega (arith, below))))
@@ -102,12 +101,7 @@ route_answers : (n m : ℕ) (route : Route) (units : List AudioUnit) (steps : Li
     → filter (of_sink n) (answered airs_of (map (each_offer m route) units) steps) ≡ cond (m == n) (answered airs_of (map (each_offer m route) units) steps) []
 route_answers n m route [] steps = no_answers (m == n)
 route_answers n m route (unit ∷ units) steps =
-    let now : List Step = after_offer airs_of (each_offer m route unit) steps in
-    let rest : List Answered = answered airs_of (map (each_offer m route) units) now in
-    let here : Answered = record { offer = each_offer m route unit; reason = dropped_for airs_of (each_offer m route unit) steps } in
-    let more : filter (of_sink n) rest ≡ cond (m == n) rest [] = route_answers n m route units now in
-    ap (λ l. cond (m == n) (here ∷ l) l) more
-    ∙ (elim (m == n) as (λ b. cond b (here ∷ cond b rest []) (cond b rest []) ≡ cond b (here ∷ rest) []) [ true ↦ refl | false ↦ refl ])
+    grind (arith, route_answers n m route units (after_offer airs_of (each_offer m route unit) steps))
 
 sink_answers : (n m : ℕ) (relay : Option Route) (units : List Handed) (steps : List Step)
     → filter (of_sink n) (answered airs_of (offered_of m relay units) steps) ≡ cond (m == n) (answered airs_of (offered_of m relay units) steps) []
@@ -116,53 +110,39 @@ sink_answers n m relay units steps = grind (arith, no_answers, route_answers, un
 abbrev asks : List Step → Histories → ℕ → ℕ → List Offer
 asks steps past event m = offers_of steps past m event
 
--- sinks behind this one answer for themselves
-answers_past : (steps : List Step) (past : Histories) (event n start count : ℕ) (now : List Step) → n < start
+-- other sinks answer for themselves
+answers_other : (steps : List Step) (past : Histories) (event n start count : ℕ) (now : List Step) → ((m : ℕ) → start ≤ m → m < start + count → m ≢ n)
     → filter (of_sink n) (answered airs_of (flat_map (asks steps past event) (range_with_len start count)) now) ≡ []
-answers_past steps past event n start zero now beyond = refl
-answers_past steps past event n start (suc count) now beyond =
+answers_other steps past event n start zero now other = refl
+answers_other steps past event n start (suc count) now other =
     let here : List Offer = asks steps past event start in
     let rest : List Offer = flat_map (asks steps past event) (range_with_len (start + 1) count) in
     let then : List Step = after_offers airs_of here now in
-    ap (filter (of_sink n)) (answered_append here rest now)
-    ∙ filter-append (of_sink n) (answered airs_of here now) (answered airs_of rest then) ∙ ap₂ (λ one two. one ++ two)
-    (sink_answers n start (relay_of start steps) (handed_all (closing_of start 0 event past)) now
-    ∙ ap (λ b. cond b (answered airs_of here now) []) (ne_eqb start n (λ same. omega (arith, same, beyond))))
-    (answers_past steps past event n (start + 1) count then (omega (arith, beyond)))
-
-pub own_answers : (steps : List Step) (past : Histories) (event n start count : ℕ) (now : List Step) → start ≤ n → n < start + count
-    → filter (of_sink n) (answered airs_of (flat_map (asks steps past event) (range_with_len start count)) now)
-    ≡ answered airs_of (asks steps past event n) (after_offers airs_of (flat_map (asks steps past event) (range_with_len start (n - start))) now)
-own_answers steps past event n start zero now least below = absurd (omega (arith, least, below))
-own_answers steps past event n start (suc count) now least below =
-    let here : List Offer = asks steps past event start in
-    let rest : List Offer = flat_map (asks steps past event) (range_with_len (start + 1) count) in
-    let then : List Step = after_offers airs_of here now in
-    let P : ℕ → Type 0 = λ m. answered airs_of (asks steps past event start) now ≡ answered airs_of (asks steps past event m)
-    (after_offers airs_of (flat_map (asks steps past event) (range_with_len start (m - start))) now) in
-    ap (filter (of_sink n)) (answered_append here rest now)
-    ∙ filter-append (of_sink n) (answered airs_of here now) (answered airs_of rest then) ∙ (elim (cases_eq start n) [
-      | inl same ↦
-          ap₂ (λ one two. one ++ two) (grind (arith, sink_answers, relay_of, handed_all, closing_of, cond, answered, airs_of, eq-eqb))
-          (answers_past steps past event n (start + 1) count then (omega (arith, same))) ∙ append-nil (answered airs_of here now)
-          ∙ (let none : start - start ≡ 0 = omega arith in
-          subst P same (ap (λ k. answered airs_of here (after_offers airs_of (flat_map (asks steps past event) (range_with_len start k)) now)) (sym none)))
-      | inr other ↦
-          let left : n - start ≡ suc (n - (start + 1)) = omega (arith, least, other) in
-          ap₂ (λ one two. one ++ two) (sink_answers n start (relay_of start steps) (handed_all (closing_of start 0 event past)) now
-          ∙ ap (λ b. cond b (answered airs_of here now) []) (ne_eqb start n other))
-          (own_answers steps past event n (start + 1) count then (omega (arith, least, other)) (omega (arith, below)))
-          ∙ ap (answered airs_of (asks steps past event n)) (grind (arith, after_append, flat_map, range_with_len, after_offers, airs_of))
-    ])
+    let less = answers_other steps past event n (start + 1) count then (λ m least below. other m (omega (arith, least)) (omega (arith, below))) in
+    let its = sink_answers n start (relay_of start steps) (handed_all (closing_of start 0 event past)) now in
+    grind (arith, answered_append here rest now, filter-append (of_sink n) (answered airs_of here now) (answered airs_of rest then), ne_eqb start n (other start (omega arith) (omega arith)))
 
 -- of what becomes of all that the sinks' relays offer the part of one
 pub answers_of : (steps : List Step) (past : Histories) (event n : ℕ) → n < 8
     → filter (of_sink n) (answered airs_of (offers_below steps past event 8) steps)
     ≡ answered airs_of (offers_of steps past n event) (after_offers airs_of (offers_below steps past event n) steps)
 answers_of steps past event n below =
-    let same : n - 0 ≡ n = omega arith in
-    own_answers steps past event n 0 8 steps (omega arith) (omega (arith, below))
-    ∙ ap (λ k. answered airs_of (offers_of steps past n event) (after_offers airs_of (offers_below steps past event k) steps)) same
+    let before : List Offer = offers_below steps past event n in
+    let own : List Offer = offers_of steps past n event in
+    let later : List Offer = flat_map (asks steps past event) (range_with_len (n + 1) (7 - n)) in
+    let then : List Step = after_offers airs_of before steps in
+    let one = answers_other steps past event n 0 n steps (λ m least less same. omega (arith, less, same)) in
+    let two = sink_answers n n (relay_of n steps) (handed_all (closing_of n 0 event past)) then in
+    let three = answers_other steps past event n (n + 1) (7 - n) (after_offers airs_of own then) (λ m least less same. omega (arith, least, same)) in
+    ap (λ all. filter (of_sink n) (answered airs_of all steps)) (range_about (asks steps past event) n below ∙ append_assoc before own later)
+    ∙ ap (filter (of_sink n)) (answered_append before (own ++ later) steps ∙ ap (λ l. answered airs_of before steps ++ l) (answered_append own later then))
+    ∙ grind (
+      arith,
+      filter-append (of_sink n) (answered airs_of before steps) (answered airs_of own then ++ answered airs_of later (after_offers airs_of own then)),
+      filter-append (of_sink n) (answered airs_of own then) (answered airs_of later (after_offers airs_of own then)),
+      append-nil (answered airs_of own then),
+      eq-eqb n n refl,
+    )
 
 -- ---- the lines of a close of source 0
 

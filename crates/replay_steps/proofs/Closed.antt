@@ -1,7 +1,6 @@
 -- What a close of a source did, whether an event of it was open or none.
-use Rattle.replay_steps.proofs.Prelude.{ℕ, zero, suc, ◌≡◌, ◌≢◌, List, [], ◌∷◌, ◌++◌, refl, sym, ◌∙◌, subst, append-nil, Option, None, Some, Result, Ok, Err, range_with_len, Account, airs_of, Stop, Refused, OutletFault, Memory, Step, SinkUnit, accounts_after, Answered, after_offers, answered, first_lines, unit_lines, is_of, closings_at, CutShort, Histories, with_close, SinksStand, Sinks, RelaysStand, SourcesStand, hands_stop, stands_same, Machine, printed_before, relay_histories, Meets, phase_line, handed_by, answered_by, output_of, inl, inr, ap, append_assoc, accounts_append, hands_then, length, Closes, FirstMeets, ComponentsStand, SecondMeets, arith, sink_numbers}
+use Rattle.replay_steps.proofs.Prelude.{ℕ, ◌≡◌, List, [], ◌∷◌, ◌++◌, refl, sym, ◌∙◌, subst, append-nil, Option, None, Some, Result, Ok, Err, range_with_len, Account, airs_of, Stop, Refused, OutletFault, Memory, Step, SinkUnit, accounts_after, Answered, after_offers, answered, first_lines, unit_lines, closings_at, CutShort, Histories, with_close, hands_stop, Machine, printed_before, Meets, phase_line, handed_by, answered_by, output_of, inl, inr, ap, append_assoc, accounts_append, hands_then, length, Closes, FirstMeets, ComponentsStand, arith, sink_numbers}
 use Rattle.std.specs.Prelude.{OnOk}
-use Rattle.scenario_sinks.specs.Closing as sinks
 use Rattle.scenario_sinks.specs.Handing.{Hands}
 use Rattle.replay_steps.specs.Meets.{Becomes}
 use Rattle.replay_steps.proofs.BoxStops.{AreFrom, first_fails, from_closings, second_fails}
@@ -11,35 +10,22 @@ use Rattle.replay_steps.proofs.CloseLines.{lines_closed, offers_closed, units_cl
 abbrev pub Did : List SinkUnit → List Answered → List ℕ → (stands : Type 0) → (text told : List ℕ) → (before after : List Account) → Result (Unit {0}) Stop → Type 0
 Did units answers lines stands text told before after r = Becomes None lines units answers stands ⊥ text told before after r
 
-sinks_left : (past : Histories) (source : ℕ) (sinks : Sinks) → SinksStand past sinks → SinksStand (with_close source None past) sinks
-sinks_left past source sinks stands = grind (arith, stands_same, with_close, is_of)
-
 components_left : (steps : List Step) (past : Histories) (source : ℕ) (machine : Machine) → ComponentsStand steps past machine → ComponentsStand steps (with_close source None past) machine
-components_left steps past source machine components =
-    record { sources = components.sources; sinks = sinks_left past source machine.sinks components.sinks; relays = components.relays }
+components_left steps past source machine components = grind arith
 
 -- a close of source 0
 pub first_did : (steps : List Step) (past : Histories) (closed : Option ℕ) (new : Machine) (text told : List ℕ) (before after : List Account) (r : Result (Unit {0}) Stop)
     → Closes steps past 0 closed new text told before after r
     → Did (units_closed past closed) (answered airs_of (offers_closed steps past closed) steps) (lines_closed steps past closed)
     (ComponentsStand (after_offers airs_of (offers_closed steps past closed) steps) (with_close 0 closed past) new) text told before after r
-first_did steps past None new text told before after (Ok x) m = (refl, components_left steps past 0 new m.0, m.1 ∙ sym (append-nil text), m.2)
-first_did steps past None new text told before after (Err stop) m = let never = m.3 in absurd (cc never)
-first_did steps past (Some event) new text told before after (Ok x) m = (refl, m.0, m.1, m.2)
-first_did steps past (Some event) new text told before after (Err (Refused reason)) m = absurd m
-first_did steps past (Some event) new text told before after (Err OutletFault) m = (refl, first_fails steps past event text told before after m)
-first_did steps past (Some event) new text told before after (Err Memory) m = inr (refl, m)
+first_did steps past closed new text told before after r m = grind (arith, components_left, append-nil, first_fails)
 
 -- units of source 1 were handed behind those of source 0
 hands_did : (first us : List SinkUnit) (answers : List Answered) (stands : Type 0) (text mid told : List ℕ) (before between after : List Account) (r : Result (Unit {0}) Stop)
     → AreFrom 0 first → AreFrom 1 us → mid ≡ text ++ first_lines first answers → between ≡ accounts_after before first → OnOk r stands → Hands us mid told between after r
     → Did (first ++ us) answers (first_lines first answers ++ unit_lines us) stands text told before after r
-hands_did first us answers stands text mid told before between after (Ok x) are own prefix accounts s h = (
-  refl,
-  s,
-  h.0 ∙ ap (λ l. l ++ unit_lines us) prefix ∙ append_assoc text (first_lines first answers) (unit_lines us),
-  h.1 ∙ ap (λ a. accounts_after a us) accounts ∙ sym (accounts_append first us before),
-)
+hands_did first us answers stands text mid told before between after (Ok x) are own prefix accounts s h =
+    grind (arith, append_assoc, accounts_append)
 hands_did first us answers stands text mid told before between after (Err (Refused reason)) are own prefix accounts s h = absurd h
 hands_did first us answers stands text mid told before between after (Err OutletFault) are own prefix accounts s h =
     (refl, second_fails first us answers text mid told before between after are own prefix accounts h)
@@ -91,33 +77,8 @@ stops_meet starts steps made there units more answers lines tail text told befor
 
 -- ---- which source is closed
 
--- no event is open
-pub none_closes : (steps : List Step) (past : Histories) (source : ℕ) (closed : Option ℕ) (machine : Machine) (text : List ℕ) (before : List Account) → closed ≡ None
-    → ComponentsStand steps past machine → Closes steps past source closed machine text text before before (Ok tt)
-none_closes steps past source closed machine text before is components = grind arith
-
 -- one of source 0
 pub first_closes : (steps : List Step) (past : Histories) (source : ℕ) (closed : Option ℕ) (event : ℕ) (new : Machine) (text told : List ℕ) (before after : List Account)
     (r : Result (Unit {0}) Stop) → source ≡ 0 → closed ≡ Some event → FirstMeets steps past event new text told before after r
     → Closes steps past source closed new text told before after r
 first_closes steps past source closed event new text told before after r zeroth is m = grind arith
-
--- one of another source: the other components stay
-second_meets : (steps : List Step) (past : Histories) (other event : ℕ) (old new : Machine) (text told : List ℕ) (before after : List Account) (r : Result (Unit {0}) Stop)
-    → ComponentsStand steps past old → new.sources ≡ old.sources → new.relays ≡ old.relays
-    → sinks.Closes past (suc other) (Some event) new.sinks text told before after r → SecondMeets steps past (suc other) event new text told before after r
-second_meets steps past other event old new text told before after (Ok x) components sources held m = (
-  record {
-    sources = subst (λ s. SourcesStand steps s) (sym sources) components.sources;
-    sinks = m.stands;
-    relays = subst (λ r. RelaysStand (relay_histories steps) r) (sym held) components.relays;
-  },
-  m.hands,
-)
-second_meets steps past other event old new text told before after (Err stop) components sources held m = m.hands
-
-pub second_closes : (steps : List Step) (past : Histories) (source : ℕ) (closed : Option ℕ) (event : ℕ) (old new : Machine) (text told : List ℕ) (before after : List Account)
-    (r : Result (Unit {0}) Stop) → source ≢ 0 → closed ≡ Some event → ComponentsStand steps past old → new.sources ≡ old.sources → new.relays ≡ old.relays
-    → sinks.Closes past source (Some event) new.sinks text told before after r → Closes steps past source closed new text told before after r
-second_closes steps past zero closed event old new text told before after r beside is components sources held m = absurd (beside refl)
-second_closes steps past (suc other) closed event old new text told before after r beside is components sources held m = grind (arith, second_meets steps past other event old new text told before after r components sources held m)

@@ -1,12 +1,10 @@
 -- The steps that close the open event of the chosen source.
-use Rattle.replay_steps.proofs.Prelude.{◌≡◌, ◌≤◌, ◌==◌, ◌<◌, ℕ, slice_get, sinks_made, Histories, UnassignedSame, Sources, zero, suc, false, List, [], ◌∷◌, ◌++◌, length, inr, inl, refl, sym, ◌∙◌, ap, append_assoc, append-nil, subst, arith, Option, None, Result, Ok, Err, Account, airs_of, Stop, Refused, OutletFault, Memory, control_line, Step, chosen_of, chosen_steps, is_over, is_over_at, running, stage_of, steps_of_source, end_pdu, open_event, stale_in, SinkUnit, accounts_after, closing, closing_at, handed_by, Answered, answered_by, closes_first, with_relayed_units, close_lines, first_lines, stale_lines, unit_lines, stage_same, fault_of, SourcesStand, closings_at, with_close, Machine, Stands, histories_of, Meets, phase_line, Closes, ComponentsStand, stage_in, sink_numbers}
+use Rattle.replay_steps.proofs.Prelude.{◌≡◌, ◌≤◌, ◌<◌, ℕ, slice_get, sinks_made, Histories, UnassignedSame, Sources, zero, suc, false, List, [], ◌∷◌, ◌++◌, length, inr, refl, sym, ◌∙◌, ap, append_assoc, append-nil, subst, arith, Option, None, Result, Ok, Err, Account, airs_of, Stop, Memory, control_line, Step, chosen_of, chosen_steps, is_over, is_over_at, running, stage_of, steps_of_source, end_pdu, open_event, stale_in, SinkUnit, closing, handed_by, Answered, answered_by, with_relayed_units, close_lines, first_lines, stale_lines, unit_lines, stage_same, fault_of, SourcesStand, closings_at, with_close, Machine, Stands, histories_of, Meets, phase_line, Closes, ComponentsStand, sink_numbers}
 use Rattle.scenario_text.specs.declared.step.Step.TheVariants as variants
 use Rattle.scenario_sources.specs.Answers as sources
 use Rattle.replay_steps.proofs.Closed.{Did, first_did, second_did, stops_meet}
 use Rattle.replay_steps.proofs.ClosesFirst.{CloseSays, ClosesOpen, first_says, first_stands}
-use Rattle.replay_steps.proofs.RelaysStay.{relays_stay}
-use Rattle.replay_steps.proofs.StepLaws.{no_relayed_units}
-use Rattle.replay_steps.proofs.Stepping.{as_step, source_fault, sources_stand}
+use Rattle.replay_steps.proofs.Stepping.{as_step, source_fault, relays_stay}
 use Rattle.replay_steps.proofs.Unassigned.{unassigned_in}
 
 -- ---- the scenario goes on for each source
@@ -16,12 +14,9 @@ not_over s version steps e = ap is_over_at (stage_same s steps ∙ e)
 
 -- ---- what is handed up
 
-closing_same : (s : ℕ) (steps : List Step) (o : Option ℕ) → closings_at s o (histories_of steps) ≡ closing_at airs_of s steps o
-closing_same s steps o = grind arith
-
 pub closing_is : (s source : ℕ) (closed : Option ℕ) (steps : List Step) → source ≡ s → closed ≡ open_event (steps_of_source s steps)
     → closings_at source closed (histories_of steps) ≡ closing airs_of s steps
-closing_is s source closed steps same is = grind (arith, closings_at, histories_of, closing_same, open_event, steps_of_source)
+closing_is s source closed steps same is = grind arith
 
 second_says : (made : Step) (tail : List Step → List ℕ) (steps : List Step) (closed : Option ℕ) → ClosesOpen made tail → chosen_of steps ≡ 1
     → closed ≡ open_event (chosen_steps steps)
@@ -36,23 +31,13 @@ fault_line made tail boxes version steps closes e = as_step boxes steps made clo
 second_stands : (made : Step) (tail : List Step → List ℕ) (steps : List Step) (closed : Option ℕ) (old new : Machine) → ClosesOpen made tail → Stands steps old
     → chosen_of steps ≡ 1 → closed ≡ open_event (chosen_steps steps) → new.stage ≡ old.stage → ComponentsStand (made ∷ steps) (with_close 1 closed (histories_of steps)) new
     → Stands (made ∷ with_relayed_units airs_of steps made) new
-second_stands made tail steps closed old new closes stands is open_is stage components =
-    let alone : closes_first steps made ≡ false = closes.first steps ∙ ap (λ c. c == 0) is in
-    subst (λ before_it. Stands (made ∷ before_it) new) (sym (no_relayed_units steps made alone))
-    (record {
-      stage = ap stage_in stage ∙ stands.stage ∙ sym (closes.on.stage (stage_of steps));
-      sources = components.sources;
-      sinks = grind (arith, closes.past steps, components.sinks);
-      relays = components.relays;
-    })
+second_stands made tail steps closed old new closes stands is open_is stage components = grind arith
 
 -- the close of such a step, by what it says
 did_as : (steps : List Step) (made : Step) (units : List SinkUnit) (answers : List Answered) (lines : List ℕ) (one other : Type 0) (text told : List ℕ) (before after : List Account)
     (r : Result (Unit {0}) Stop) → CloseSays steps made units answers lines → (one → other) → Did units answers lines one text told before after r
     → Did (handed_by airs_of steps made) (answered_by airs_of steps made) (close_lines airs_of steps made) other text told before after r
-did_as steps made units answers lines one other text told before after (Ok x) says then d =
-    (refl, then d.1, d.2 ∙ ap (λ l. text ++ l) (sym says.lines_are), d.3 ∙ ap (accounts_after before) (sym says.units_are))
-did_as steps made units answers lines one other text told before after (Err stop) says then d = grind (arith, says.units_are, says.answers_are, says.lines_are)
+did_as steps made units answers lines one other text told before after r says then d = grind arith
 
 -- nothing is printed of no units
 pub nothing_printed : (let none : List SinkUnit = [] in let unasked : List Answered = [] in first_lines none unasked ≡ [])
@@ -88,12 +73,7 @@ pub record Closed (starts : List Account) (steps : List Step) (made : Step) (new
 
 pub closed_meets : (made : Step) (tail : List Step → List ℕ) (starts : List Account) (steps : List Step) (new : Machine) (text told last : List ℕ) (before after : List Account)
     → ClosesOpen made tail → Closed starts steps made new text told before after → last ≡ told ++ tail steps → Meets starts steps made new text last before after (Ok tt)
-closed_meets made tail starts steps new text told last before after closes all lines = (
-  all.passes,
-  all.did.1,
-  grind (arith, all.did.2, append_assoc text (close_lines airs_of steps made) (tail steps), closes.output starts steps),
-  all.did.3,
-)
+closed_meets made tail starts steps new text told last before after closes all lines = grind (arith, append_assoc)
 
 -- all units went to their boxes, and memory ran out as more was printed
 pub closed_wants : (made : Step) (starts : List Account) (steps : List Step) (new : Machine) (text told : List ℕ) (before after : List Account)
@@ -149,14 +129,7 @@ module _ {made : Step} {tail : List Step → List ℕ} (closes : ClosesOpen made
 pub step_refused : {made : Step} {tail : List Step → List ℕ} {steps : List Step} {old : Machine} (starts : List Account) (version : ℕ) (taken : Sources) (text : List ℕ)
     (accounts : List Account) (stop : Stop) → ClosesOpen made tail → Stands steps old → stage_of steps ≡ running version → sources.Answers version steps made taken (Err stop)
     → Meets starts steps made (record old { sources = taken }) text text accounts accounts (Err stop)
-step_refused {made} {tail} {steps} {old} starts version taken text accounts (Refused reason) closes stands e c = (
-  fault_line made tail (length starts) version steps closes e ∙ c.0,
-  sources_stand steps old (record old { sources = taken }) stands refl refl refl c.1,
-  refl,
-  refl,
-)
-step_refused starts version taken text accounts OutletFault closes stands e c = absurd c
-step_refused starts version taken text accounts Memory closes stands e c = inl refl
+step_refused {made} {tail} {steps} {old} starts version taken text accounts stop closes stands e c = grind arith
 
 -- ---- event, stop, terminate
 

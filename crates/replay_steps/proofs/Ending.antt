@@ -1,5 +1,5 @@
 -- The sums of the boxes, and the end of a scenario.
-use Rattle.replay_steps.proofs.Prelude.{◌≡◌, ℕ, ◌≤◌, false, is_over, Histories, Result, List, [], ◌∷◌, ◌++◌, length, inr, ne_eqb, refl, sym, ◌∙◌, ap, subst, append-nil, append_assoc, arith, Option, None, Some, Ok, Err, flat_map, range_with_len, Account, airs_of, Call, sum_line, Stop, Refused, OutletFault, Memory, Step, Drop, End, over, running, sinks_made, stage_after, stage_of, steps_of_source, open_event, is_of, sink_calls, source_of, ticked_if, SinkUnit, account_at, accounts_after, box_of, closing, closing_both, closing_by, handed_up, valid_for, Answered, Offer, after_offers, answered, answered_by, with_relayed_units, first_lines, sum_if, sums_of, unit_lines, no_sink, phase_refusal, box_was_made, octets_add_up, units_add_up, left_by_offers, flat_same, Sources, SourcesStand, drop_says, end_says, sources_stay, Sinks, closings_at, with_close, without, SinksStand, accounts_append, stands_same, Machine, RelaysStand, Stands, histories_of, relay_histories, BoxesStand, Meets, Tells, phase_line, Closes, ComponentsStand, stage_in, sink_numbers, not_living}
+use Rattle.replay_steps.proofs.Prelude.{◌≡◌, ℕ, ◌≤◌, false, is_over, Histories, Result, List, [], ◌∷◌, ◌++◌, length, ne_eqb, refl, sym, ◌∙◌, ap, subst, append-nil, append_assoc, arith, Option, None, Some, Ok, Err, flat_map, range_with_len, Account, airs_of, Call, sum_line, Stop, Memory, Step, Drop, End, over, running, sinks_made, stage_after, stage_of, steps_of_source, open_event, is_of, sink_calls, source_of, ticked_if, SinkUnit, account_at, accounts_after, box_of, closing, closing_both, closing_by, handed_up, valid_for, Answered, Offer, after_offers, answered, answered_by, with_relayed_units, first_lines, sum_if, sums_of, unit_lines, box_was_made, octets_add_up, units_add_up, left_by_offers, flat_same, drop_says, end_says, sources_stay, Sinks, closings_at, with_close, without, SinksStand, accounts_append, stands_same, Machine, RelaysStand, Stands, histories_of, relay_histories, BoxesStand, Meets, Tells, phase_line, Closes, ComponentsStand, stage_in, sink_numbers, not_living}
 use Rattle.scenario_laws.specs.RelayedUnits.Laws.{IsLeft}
 use Rattle.scenario_sinks.specs.Refusals as sinks
 use Rattle.scenario_sinks.specs.Sums.{Puts, sum_where, sums_where}
@@ -7,8 +7,7 @@ use Rattle.replay_steps.proofs.BoxStops.{AreFrom, from_closings}
 use Rattle.replay_steps.proofs.Closed.{Did, first_did, second_did, stops_meet}
 use Rattle.replay_steps.proofs.CloseLines.{first_printed, lines_closed, offers_closed, offers_same, units_are, units_closed}
 use Rattle.replay_steps.proofs.Closing.{closing_is, not_over}
-use Rattle.replay_steps.proofs.RelaysStay.{relays_stay}
-use Rattle.replay_steps.proofs.Stepping.{or_none, sinks_stand}
+use Rattle.replay_steps.proofs.Stepping.{relays_stay}
 
 -- ---- the sums of a box as they stand are those at the start and what was handed to it
 
@@ -24,33 +23,13 @@ sums_same starts steps units (n ∷ numbers) room = grind (arith, accounts_after
 
 -- ---- drop
 
-drop_fault : (boxes version n : ℕ) (steps : List Step) → stage_of steps ≡ running version → phase_refusal airs_of boxes steps (Drop n) ≡ not_living (box_of n steps)
-drop_fault boxes version n steps e = rw e (or_none (no_sink n steps))
-
 pub drop_ends : (starts accounts : List Account) (version n : ℕ) (steps : List Step) (old new : Machine) (text told : List ℕ) → Stands steps old
     → stage_of steps ≡ running version → BoxesStand starts steps accounts → new.stage ≡ old.stage → new.sources ≡ old.sources
     → RelaysStand (relay_histories (Drop n ∷ steps)) new.relays
     → sinks.Answers (not_living (box_of n steps)) (histories_of steps) (without n (histories_of steps)) new.sinks (Ok tt) → Puts (sum_where accounts n (box_of n steps)) text told (Ok tt)
     → Tells starts steps (Drop n) new text told (Ok tt)
-drop_ends starts accounts version n steps old new text told stands e boxes stage same held a p = (
-  drop_fault (length starts) version n steps e ∙ a.0,
-  record {
-    stage = ap stage_in stage ∙ stands.stage;
-    sources = let S : Sources → Type 0 = λ s. SourcesStand (Drop n ∷ steps) s in subst S (sym same) (sources_stay (Drop n) steps old.sources (drop_says n) stands.sources);
-    sinks = a.1;
-    relays = held;
-  },
-  grind (arith, boxes.accounts_are, sum_same starts steps (handed_up airs_of steps) n (box_of n steps) refl boxes.room),
-)
-
-pub drop_fails : (starts accounts : List Account) (version n : ℕ) (steps : List Step) (old new : Machine) (text told : List ℕ) (stop : Stop) → Stands steps old
-    → stage_of steps ≡ running version → new.stage ≡ old.stage → new.sources ≡ old.sources → new.relays ≡ old.relays
-    → sinks.Answers (not_living (box_of n steps)) (histories_of steps) (without n (histories_of steps)) new.sinks (Err stop) → Puts (sum_where accounts n (box_of n steps)) text told (Err stop)
-    → Tells starts steps (Drop n) new text told (Err stop)
-drop_fails starts accounts version n steps old new text told (Refused reason) stands e stage same held a p =
-    (drop_fault (length starts) version n steps e ∙ a.0, sinks_stand steps old new stands stage same held a.1, p)
-drop_fails starts accounts version n steps old new text told OutletFault stands e stage same held a p = a
-drop_fails starts accounts version n steps old new text told Memory stands e stage same held a p = tt
+drop_ends starts accounts version n steps old new text told stands e boxes stage same held a p =
+    grind (arith, sources_stay, drop_says, sum_same)
 
 -- ---- end: a close of source 0 leaves the sinks of source 1
 
@@ -132,17 +111,12 @@ both_did steps first second mid new text told last before between after r opens 
 pub second_stops : (starts : List Account) (version : ℕ) (steps : List Step) (first second : Option ℕ) (new : Machine) (text last : List ℕ) (before after : List Account) (stop : Stop)
     → stage_of steps ≡ running version → BothDid steps first second new text last before after (Err stop) → Meets starts steps End new text last before after (Err stop)
 second_stops starts version steps first second new text last before after stop e d =
-    stops_meet starts steps End new _ [] _ _ (end_sums starts steps) text last before after stop (end_passes (length starts) version steps e)
-    (sym (append-nil (closing_both airs_of steps))) refl
-    (sym (append_assoc (first_lines (closing airs_of 0 steps) (answered_by airs_of steps End)) (unit_lines (closing airs_of 1 steps)) (end_sums starts steps))) d
+    grind (arith, stops_meet, end_passes, append-nil, append_assoc)
 
 -- memory ran out as the sums were put
 pub sums_stop : (starts : List Account) (version : ℕ) (steps : List Step) (first second : Option ℕ) (new : Machine) (text told : List ℕ) (before after : List Account)
     → stage_of steps ≡ running version → BothDid steps first second new text told before after (Ok tt) → Meets starts steps End new text told before after (Err Memory)
-sums_stop starts version steps first second new text told before after e d = inr (
-  end_passes (length starts) version steps e,
-  record { done = closing_both airs_of steps; rest = []; split = sym (append-nil (closing_both airs_of steps)); boxes = d.3 },
-)
+sums_stop starts version steps first second new text told before after e d = grind (arith, end_passes, append-nil)
 
 end_sinks : (steps late : List Step) (first second : Option ℕ) (offers : List Offer) (sinks : Sinks) → late ≡ after_offers airs_of offers steps → Opens steps first second
     → SinksStand (with_close 1 second (with_close 0 first (histories_of steps))) sinks → SinksStand (histories_of (End ∷ late)) sinks

@@ -2,7 +2,7 @@
 use Rattle.replay_steps.proofs.Prelude.{ℕ, zero, suc, ◌≡◌, ◌≤◌, ◌<◌, ◌+◌, ◌⊎◌, ◌==◌, ◌&&◌, not, Bool, true, false, List, [], ◌∷◌, ◌++◌, refl, sym, ◌∙◌, ap, subst, inl, inr, arith, append_assoc, append-nil, eqb-true, option_map, is_none, Option, None, Some, Result, Ok, Err, flat_map, list_all, range_with_len, and_parts, cases_eq, not-false, Account, airs_of, Stop, Refused, OutletFault, Memory, Step, SinkUnit, accounts_after, after_offers, offered_of, unit_lines, Route, relay_of, closing_of, handed_all, BoxFails, Histories, accounts_append, is_idle, RelaysStand, SourcesStand, Machine, lent, relay_histories, Closes, FirstMeets, ComponentsStand, lines_at, lines_below, offers_below, offers_of, units_below, flat_within, sink_numbers, lines_append}
 use Rattle.scenario_sinks.specs.Closing as sinks
 use Rattle.replay_steps.proofs.Between.{range_more}
-use Rattle.replay_steps.proofs.Closed.{first_closes, second_closes}
+use Rattle.replay_steps.proofs.Closed.{first_closes}
 use Rattle.replay_steps.proofs.CloseLines.{flat_nothing}
 
 -- ---- a box stops units of two lists
@@ -110,11 +110,12 @@ plain_below steps past event number none most =
 
 -- ---- an event of source 0
 
-all_meet : (steps : List Step) (past : Histories) (event : ℕ) (old new : Machine) (text told : List ℕ) (before after : List Account) (r : Result (Unit {0}) Stop)
-    → NoRelays steps → ComponentsStand steps past old → new.sources ≡ old.sources → new.relays ≡ old.relays
+pub idle_meets : (steps : List Step) (past : Histories) (event : ℕ) (old new : Machine) (text told : List ℕ) (before after : List Account) (r : Result (Unit {0}) Stop)
+    → is_idle (relay_histories steps) ≡ true → ComponentsStand steps past old → new.sources ≡ old.sources → new.relays ≡ old.relays
     → sinks.Closes past 0 (Some event) new.sinks text told before after r → FirstMeets steps past event new text told before after r
 unfolding sink_numbers
-all_meet steps past event old new text told before after (Ok x) none components sources held m =
+idle_meets steps past event old new text told before after (Ok x) idle components sources held m =
+    let none = none_has steps idle in
     let stay : after_offers airs_of (offers_below steps past event 8) steps ≡ steps =
     ap (λ offers. after_offers airs_of offers steps) (nothing_below steps past event 8 none (omega arith)) in (
       record {
@@ -125,33 +126,22 @@ all_meet steps past event old new text told before after (Ok x) none components 
       m.hands.0 ∙ ap (λ l. text ++ l) (sym (plain_below steps past event 8 none (omega arith))),
       m.hands.1,
     )
-all_meet steps past event old new text told before after (Err (Refused reason)) none components sources held m = m.hands
-all_meet steps past event old new text told before after (Err OutletFault) none components sources held m =
+idle_meets steps past event old new text told before after (Err (Refused reason)) idle components sources held m = m.hands
+idle_meets steps past event old new text told before after (Err OutletFault) idle components sources held m =
+    let none = none_has steps idle in
     let f : FailsBelow past event 8 text told before after = fails_below past event 8 text told before after m.hands in
     let within : f.number < 8 = f.within in
     record { number = f.number; within = f.within; fails = grind (arith, closing_of, accounts_after, units_below, plain_below) }
-all_meet steps past event old new text told before after (Err Memory) none components sources held m = m.hands
-
-pub idle_meets : (steps : List Step) (past : Histories) (event : ℕ) (old new : Machine) (text told : List ℕ) (before after : List Account) (r : Result (Unit {0}) Stop)
-    → is_idle (relay_histories steps) ≡ true → ComponentsStand steps past old → new.sources ≡ old.sources → new.relays ≡ old.relays
-    → sinks.Closes past 0 (Some event) new.sinks text told before after r → FirstMeets steps past event new text told before after r
-idle_meets steps past event old new text told before after r idle components sources held m =
-    all_meet steps past event old new text told before after r (none_has steps idle) components sources held m
+idle_meets steps past event old new text told before after (Err Memory) idle components sources held m = m.hands
 
 -- an event that is closed for all sinks at once: of another source, or where no sink has a relay
 pub closes_at_once : (steps : List Step) (past : Histories) (source : ℕ) (closed : Option ℕ) (event : ℕ) (old new : Machine) (text told : List ℕ) (before after : List Account)
     (r : Result (Unit {0}) Stop) → ((source == 0) && not (is_idle (relay_histories steps))) ≡ false → closed ≡ Some event → ComponentsStand steps past old
     → new.sources ≡ old.sources → new.relays ≡ old.relays → sinks.Closes past source (Some event) new.sinks text told before after r
     → Closes steps past source closed new text told before after r
-closes_at_once steps past (suc other) closed event old new text told before after r idle is components sources held m =
-    second_closes steps past (suc other) closed event old new text told before after r (λ e. absurd (cc e)) is components sources held m
 closes_at_once steps past source closed event old new text told before after r idle is components sources held m =
-    search (first_closes, idle_meets, not-false, is_idle, relay_histories, second_closes)
+    grind (arith, first_closes, idle_meets, not-false)
 
 -- relays offer as an event of source 0 alone is closed
 pub relays_first : (source : ℕ) (more : Bool) → ((source == 0) && more) ≡ true → source ≡ 0
 relays_first source more both = eqb-true source 0 ((and_parts (source == 0) more both).0)
-
--- whether they may is known by what the relays say
-pub relays_known : (source : ℕ) (idle known : Bool) → source ≡ 0 → idle ≡ known → not idle ≡ ((source == 0) && not known)
-relays_known source idle known zeroth same = grind (arith, not)

@@ -1,18 +1,10 @@
 -- A line by its step.
-use Rattle.replay_steps.proofs.Prelude.{◌≡◌, ℕ, ◌≤◌, List, [], ◌∷◌, ◌++◌, length, inl, inr, Option, None, Some, Result, Ok, Err, refl, sym, ◌∙◌, ap, subst, arith, option_or, leb-false, TextLine, plain, Account, airs_of, BadLine, happened, with_relayed_units, append-nil, read_of, Step, sinks_made, sinks_made_by, version_at, version_of, hands_alike, left_by_relayed_units, stage_happened, passes_both, accounts_after, handed_by, handed_up, is_relayed, a_step, nothing, unsaid, said_of, steps_of, said_by, said_after, with_said, refusal_said, output_said, handed_said, fails_not, Machine, Stop, Refused, OutletFault, Memory, Stands, BoxesStand, StepMeets, accounts_append}
-use Rattle.scenario_words.specs.declared.fault.LineFault.TheVariants.{BadLine as Misfit}
+use Rattle.replay_steps.proofs.Prelude.{◌≡◌, ℕ, ◌≤◌, List, [], ◌∷◌, ◌++◌, length, inl, inr, None, Some, Result, Ok, Err, refl, sym, ◌∙◌, ap, subst, arith, TextLine, plain, Account, airs_of, happened, with_relayed_units, append-nil, read_of, Step, sinks_made, sinks_made_by, version_at, version_of, hands_alike, left_by_relayed_units, stage_happened, passes_both, accounts_after, handed_by, handed_up, is_relayed, a_step, said_of, steps_of, said_by, said_after, with_said, refusal_said, output_said, handed_said, Machine, Stop, OutletFault, Memory, Stands, BoxesStand, StepMeets, accounts_append, Airs, SinkUnit, Took, handed_happened, Said, handed_on, took_all}
 use Rattle.scenario_history.specs.Refusals.{refusal_of}
 use Rattle.replay_steps.specs.LineMeets.{LineMeets, LinesStand}
-use Rattle.replay_steps.proofs.StepLaws.{stands_beside}
-
-last_none : {A : Type 0} (a b : Option A) → option_or a b ≡ None → b ≡ None
-last_none a b e = grind arith
-
-first_none : {A : Type 0} (a b : Option A) → option_or a b ≡ None → a ≡ None
-first_none a b e = grind arith
 
 room_stays : (boxes : ℕ) (earlier : List Step) (made : Step) → refusal_of airs_of boxes earlier made ≡ None → sinks_made earlier ≤ boxes → sinks_made (made ∷ earlier) ≤ boxes
-room_stays boxes earlier _ e room = grind (arith, last_none, first_none, leb-false, fails_not)
+room_stays boxes earlier _ e room = grind arith
 
 boxes_go_on : (starts before after : List Account) (earlier : List Step) (made : Step) → BoxesStand starts earlier before → refusal_of airs_of (length starts) earlier made ≡ None
     → after ≡ accounts_after before (handed_by airs_of earlier made) → BoxesStand starts (made ∷ with_relayed_units airs_of earlier made) after
@@ -50,20 +42,7 @@ said_meets starts lines line made new text told before after (Ok x) boxes is m =
 said_meets starts lines line made new text told before after (Err OutletFault) boxes is m = grind (arith, refusal_said, airs_of, length, steps_of, handed_said, output_said)
 said_meets starts lines line made new text told before after (Err Memory) boxes is (inl same) = inl same
 said_meets starts lines line made new text told before after (Err Memory) boxes is (inr m) = grind (arith, refusal_said, airs_of, length, steps_of, handed_said)
-said_meets starts lines line made new text told before after r boxes is m =
-    search (
-      steps_of,
-      airs_of,
-      one_more,
-      passes_both,
-      is_relayed,
-      length,
-      refusal_said,
-      boxes_go_on,
-      output_said,
-      accounts_after,
-      handed_said,
-    )
+said_meets starts lines line made new text told before after r boxes is m = grind arith
 
 -- the version of what happens is that of what the lines say
 pub version_said : (lines : List TextLine) → version_of (steps_of airs_of lines) ≡ version_of (said_of lines)
@@ -82,25 +61,7 @@ line_meets starts lines line version made new text told before after r boxes is 
 pub none_meets : (starts : List Account) (lines : List TextLine) (line : List ℕ) (version : ℕ) (machine : Machine) (text : List ℕ) (accounts : List Account)
     → LinesStand starts lines machine accounts → version ≡ version_of (said_of lines) → read_of version line ≡ Ok None
     → LineMeets starts lines (plain line) machine text text accounts accounts (Ok tt)
-none_meets starts lines line version machine text accounts st is reads =
-    let says : said_after lines (plain line) ≡ nothing = ap (λ v. said_by (read_of v line)) (sym is) ∙ ap said_by reads in
-    let same : said_of (plain line ∷ lines) ≡ said_of lines = ap (λ s. with_said s (said_of lines)) says in
-    let before = steps_of airs_of lines in (
-      ap (refusal_said airs_of (length starts) before) says,
-      record {
-        stands = (let P : List Step → Type 0 = λ s. Stands (happened airs_of s) machine in subst P (sym same) st.stands);
-        boxes = (let P : List Step → Type 0 = λ s. BoxesStand starts (happened airs_of s) accounts in subst P (sym same) st.boxes);
-      },
-      sym (append-nil text) ∙ ap (λ s. text ++ output_said airs_of starts before s) (sym says),
-      ap (λ s. accounts_after accounts (handed_said airs_of before s)) (sym says),
-    )
-
--- a line that isn't of the grammar
-pub misfit_meets : (starts : List Account) (lines : List TextLine) (line : List ℕ) (version word : ℕ) (machine : Machine) (text : List ℕ) (accounts : List Account)
-    → LinesStand starts lines machine accounts → version ≡ version_of (said_of lines) → read_of version line ≡ Err (Misfit word)
-    → LineMeets starts lines (plain line) machine text text accounts accounts (Err (Refused (BadLine word)))
-misfit_meets starts lines line version word machine text accounts st is reads =
-    grind (arith, said_after, plain, unsaid, said_by, read_of, refusal_said, airs_of, length, steps_of)
+none_meets starts lines line version machine text accounts st is reads = grind (arith, append-nil)
 
 pub nothing_handed : (starts : List Account) → BoxesStand starts [] starts
 nothing_handed starts = record { accounts_are = refl; room = omega arith }
@@ -114,7 +75,21 @@ meets_at starts history line new text told before after result r cleared is meet
 -- the memory that is kept for the octets of later units is no part of it
 pub lines_beside : (starts : List Account) (lines : List TextLine) (machine new : Machine) (accounts : List Account) → new.stage ≡ machine.stage
     → new.sources ≡ machine.sources → new.sinks ≡ machine.sinks → new.relays ≡ machine.relays → LinesStand starts lines machine accounts → LinesStand starts lines new accounts
-lines_beside starts lines machine new accounts stage sources sinks relays stand = record {
-  stands = stands_beside (steps_of airs_of lines) machine new stage sources sinks relays stand.stands;
-  boxes = stand.boxes;
-}
+lines_beside starts lines machine new accounts stage sources sinks relays stand = grind arith
+
+-- ---- what a line hands up comes behind what the lines before it did, and the boxes took it
+
+handed_with : (airs : Airs) (earlier : List Step) (said : Said)
+    → handed_up airs (happened airs (with_said said earlier)) ≡ handed_up airs (happened airs earlier) ++ handed_said airs (happened airs earlier) said
+handed_with airs earlier said = grind (arith, handed_happened, append-nil)
+
+-- the units of a line come behind those of the lines before it
+pub handed_line : (airs : Airs) (history : List TextLine) (line : TextLine) → handed_up airs (steps_of airs (line ∷ history)) ≡ handed_up airs (steps_of airs history) ++ handed_on airs history line
+handed_line airs history line = handed_with airs (said_of history) (said_after history line)
+
+-- the boxes took the units of the history
+pub took_history : (starts accounts : List Account) (history : List TextLine) → BoxesStand starts (steps_of airs_of history) accounts → Took starts accounts (handed_up airs_of (steps_of airs_of history))
+took_history starts accounts history b = grind (arith, handed_up, airs_of, steps_of, took_all)
+
+pub took_as : (starts accounts : List Account) (us vs : List SinkUnit) → us ≡ vs → Took starts accounts us → Took starts accounts vs
+took_as starts accounts us vs e t = let P : List SinkUnit → Type 0 = λ u. Took starts accounts u in subst P e t

@@ -1,17 +1,11 @@
 -- The PDUs of an event that are lost, counted on.
-use Rattle.replay_steps.proofs.Prelude.{◌≡◌, ℕ, ◌+◌, ◌*◌, ◌/◌, ◌%◌, ◌<◌, sym, ◌∙◌, ap, arith, List, true, false, Bool, ◌≤◌, ◌-◌, length, get_or, set, zero, suc, replicate, refl, get_or-set_other, get_or-set_same, inl, inr, add-mul, cases_eq, cases_lt, eq-eqb, ne_eqb, lt-ltb, div-add-mod', mod-mul-add, mod_below, CountsOn, lost_at}
-
-whole : (n lose e : ℕ) → n + e ≡ n / lose * lose + (n % lose + e)
-whole n lose e = omega (arith, div-add-mod' n lose)
-
-next_whole : (n lose e : ℕ) → lose ≤ n % lose + e → n + e ≡ (n / lose + 1) * lose + (n % lose + e - lose)
-next_whole n lose e past = omega (arith, div-add-mod' n lose, add-mul (n / lose) 1 lose)
+use Rattle.replay_steps.proofs.Prelude.{◌≡◌, ℕ, ◌+◌, ◌%◌, ◌<◌, sym, ◌∙◌, ap, arith, List, true, false, Bool, ◌≤◌, ◌-◌, length, get_or, set, zero, suc, replicate, refl, get_or-set_other, get_or-set_same, inl, inr, cases_eq, cases_lt, eq-eqb, ne_eqb, lt-ltb, CountsOn, lost_at}
 
 mod_near : (n lose e : ℕ) → n % lose + e < lose → (n + e) % lose ≡ n % lose + e
-mod_near n lose e below = ap (λ m. m % lose) (whole n lose e) ∙ mod-mul-add (n / lose) lose (n % lose + e) below
+mod_near n lose e below = grind arith
 
 mod_far : (n lose e : ℕ) → lose ≤ n % lose + e → n % lose + e - lose < lose → (n + e) % lose ≡ n % lose + e - lose
-mod_far n lose e past below = ap (λ m. m % lose) (next_whole n lose e past) ∙ mod-mul-add (n / lose + 1) lose (n % lose + e - lose) below
+mod_far n lose e past below = grind arith
 
 none_lost : (lose number : ℕ) → number % lose + 1 < lose → lost_at lose number ≡ false
 none_lost lose number less = grind (arith, ne_eqb)
@@ -81,13 +75,4 @@ one_marked lose n count place lost some below within marked =
 
 -- how many come before the next one behind all of them
 pub counts_on : (lose n count place : ℕ) (lost : List Bool) → 0 < lose → count ≤ place → Marked lose n count place lost → CountsOn lose (n + count) (place - count)
-counts_on lose n count place lost some past marked _ =
-    let m : ℕ = n + count in
-    let e : ℕ = place - count in
-    let near = marked.near in
-    let there : (m + e) % lose ≡ lose - 1 = ap (λ k. k % lose) (omega (arith, past)) ∙ marked.hit in
-    let rest = mod_below m lose some in
-    elim (cases_lt (m % lose + e) lose) [
-      | inl below ↦ omega (arith, mod_near m lose e below, there)
-      | inr over ↦ absurd (omega (arith, mod_far m lose e over (omega (arith, rest, near, past)), there, rest, near, past))
-    ]
+counts_on lose n count place lost some past marked _ = grind arith

@@ -1,8 +1,7 @@
 -- Units that relays offer to source 1, by what they make of the sources, of the relays and of the text.
-use Rattle.replay_steps.proofs.Prelude.{ℕ, ◌≡◌, ◌≢◌, ◌<◌, ◌≤◌, ◌+◌, ◌==◌, ◌||◌, List, [], ◌∷◌, ◌++◌, length, map, take, get_or, not, refl, sym, ◌∙◌, ap, subst, append_assoc, append-nil, arith, eq-eqb, ne_eqb, option_map, slice_get, Option, None, Some, Result, Ok, Err, list_any, option_or, map-append, take_all, take_more, flat_map-append, Handed, airs_of, dropped_line, Refusal, Stop, Refused, OutletFault, Memory, Step, Source, Answered, Offer, after_offer, after_offers, answered, offered_of, units_on, valid_on, with_relayed_unit, answer_line, gives_on, source_refusal, refuse_if, Route, takes_units, chosen_of, steps_of_source, version_of, Relays, RelaysStand, handed_as, handed_of, Answers, Sources, SourcesStand, lent, relay_histories, Drops, GivesSecond, OffersMeet, answer_lines, AudioUnit, UnitLine, LentRoute, octets_of}
+use Rattle.replay_steps.proofs.Prelude.{ℕ, ◌≡◌, ◌≢◌, ◌<◌, ◌≤◌, ◌+◌, List, [], ◌∷◌, ◌++◌, length, map, take, get_or, not, refl, sym, ◌∙◌, ap, subst, append_assoc, append-nil, arith, eq-eqb, ne_eqb, option_map, slice_get, Option, None, Some, Result, Ok, Err, option_or, map-append, take_all, take_more, flat_map-append, Handed, airs_of, Refusal, Stop, Refused, OutletFault, Memory, Step, Source, Answered, Offer, after_offer, after_offers, answered, offered_of, units_on, valid_on, with_relayed_unit, answer_line, source_refusal, refuse_if, Route, takes_units, chosen_of, steps_of_source, version_of, Relays, RelaysStand, handed_as, handed_of, Answers, Sources, SourcesStand, lent, relay_histories, Drops, GivesSecond, OffersMeet, answer_lines, AudioUnit, UnitLine, LentRoute, octets_of}
 use Rattle.scenario_sinks.specs.RelayHistories as pasts
 use Rattle.scenario_sinks.specs.declared.gathered.HandedUnit.{HandedUnit}
-use Rattle.replay_steps.proofs.RelaysStay.{relays_as}
 use Rattle.replay_steps.proofs.Stepping.{or_none}
 
 -- ---- the sources by other steps
@@ -81,18 +80,14 @@ offers_other steps n own unit octets sources relays text is other s r =
 -- the relays once source 1 was given the unit
 pub routes_after_relays : (offer : Offer) (to : ℕ) (steps : List Step) (held : Relays) → offer.route.to ≡ to
     → RelaysStand (pasts.with_relayed_unit to (relay_histories steps)) held → RelaysStand (relay_histories (with_relayed_unit offer steps)) held
-routes_after_relays offer to steps held is stands =
-    relays_as (pasts.with_relayed_unit to (relay_histories steps)) (relay_histories (with_relayed_unit offer steps)) held (λ n. refl) (λ bis. refl)
-    (λ bis. ap (λ bound. (bound == bis) || list_any (gives_on bis) (steps_of_source 1 steps)) (sym is)) stands
+routes_after_relays offer to steps held is stands = grind arith
 
 -- source 1 takes the unit
 pub offers_taken : (steps : List Step) (n : ℕ) (own : Route) (unit : HandedUnit) (octets : List ℕ) (sources : Sources) (relays : Relays) (text : List ℕ)
     → octets_of unit ≡ Some octets → unit.bis ≡ own.bis → GivesSecond steps (offer_of n own unit.time octets) sources (Ok tt)
     → RelaysStand (relay_histories (with_relayed_unit (offer_of n own unit.time octets) steps)) relays
     → OffersMeet steps (offered_of n (Some own) (handed_of unit ∷ [])) sources relays text text (Ok tt)
-offers_taken steps n own unit octets sources relays text is same g r =
-    subst (λ all. OffersMeet steps all sources relays text text (Ok tt)) (sym (valid_as n own unit octets is ∙ own_unit n own unit.bis unit.time octets same))
-    (rw g.0 (g.1, r, sym (append-nil text)))
+offers_taken steps n own unit octets sources relays text is same g r = grind (arith, valid_as, own_unit, append-nil)
 
 -- source 1 doesn't take it, which is told
 pub offers_dropped : (steps : List Step) (n bis : ℕ) (own : Route) (unit : HandedUnit) (octets : List ℕ) (reason : Refusal) (sources : Sources) (relays : Relays) (text told : List ℕ)
@@ -100,15 +95,8 @@ pub offers_dropped : (steps : List Step) (n bis : ℕ) (own : Route) (unit : Han
     → GivesSecond steps (offer_of n own unit.time octets) sources (Err (Refused reason))
     → RelaysStand (relay_histories steps) relays → Drops n bis reason text told r
     → OffersMeet steps (offered_of n (Some own) (handed_of unit ∷ [])) sources relays text told r
-offers_dropped steps n bis own unit octets reason sources relays text told (Ok x) is same stream g r line =
-    subst (λ all. OffersMeet steps all sources relays text told (Ok tt)) (sym (valid_as n own unit octets is ∙ own_unit n own unit.bis unit.time octets same))
-    (rw g.0 (
-      g.1,
-      r,
-      line ∙ ap (λ b. text ++ dropped_line n b reason) stream ∙ ap (λ l. text ++ l) (sym (append-nil (dropped_line n own.bis reason))),
-    ))
-offers_dropped steps n bis own unit octets reason sources relays text told r is same stream g r' line =
-    search (valid_as, own_unit, dropped_line, append-nil)
+offers_dropped steps n bis own unit octets reason sources relays text told result is same stream g r line =
+    grind (arith, valid_as, own_unit, append-nil)
 
 -- ---- units one behind the other
 
@@ -131,16 +119,8 @@ offered_append n own us vs = grind (arith, map, flat_map-append, valid_on, map-a
 pub offers_then : (steps : List Step) (xs ys : List Offer) (mid new : Sources) (between relays : Relays) (text told told2 : List ℕ) (r : Result (Unit {0}) Stop)
     → OffersMeet steps xs mid between text told (Ok tt) → OffersMeet (after_offers airs_of xs steps) ys new relays told told2 r
     → OffersMeet steps (xs ++ ys) new relays text told2 r
-offers_then steps xs ys mid new between relays text told told2 (Ok x) one two =
-    let now : List Step = after_offers airs_of xs steps in (
-      subst (λ made. SourcesStand made new) (sym (after_append xs ys steps)) two.0,
-      subst (λ made. RelaysStand (relay_histories made) relays) (sym (after_append xs ys steps)) two.1,
-      two.2 ∙ ap (λ prefix. prefix ++ answer_lines (answered airs_of ys now)) one.2
-          ∙ append_assoc text (answer_lines (answered airs_of xs steps)) (answer_lines (answered airs_of ys now))
-          ∙ ap (λ l. text ++ l) (sym (lines_append (answered airs_of xs steps) (answered airs_of ys now)) ∙ ap answer_lines (sym (answered_append xs ys steps))),
-    )
 offers_then steps xs ys mid new between relays text told told2 r one two =
-    search (after_offers, airs_of, after_append, relay_histories, answer_lines, answered, append_assoc, lines_append, answered_append)
+    grind (arith, after_append, append_assoc, lines_append, answered_append)
 
 -- one unit more of a sink
 pub offers_more : (steps : List Step) (n : ℕ) (own : Route) (units : List HandedUnit) (i : ℕ) (unit : HandedUnit) (mid new : Sources) (between relays : Relays)
@@ -161,11 +141,6 @@ pub offers_all : (steps : List Step) (n : ℕ) (own : Route) (units : List Hande
     → OffersMeet steps (offered_of n (Some own) (map handed_of units)) sources relays text told (Ok tt)
 offers_all steps n own units i sources relays text told all m =
     subst (λ us. OffersMeet steps (offered_of n (Some own) (map handed_of us)) sources relays text told (Ok tt)) (take_all i units all) m
-
--- want of memory stays so
-pub offers_stopped : (steps now : List Step) (offers one : List Offer) (sources : Sources) (relays : Relays) (text between told : List ℕ) (stop : Stop)
-    → OffersMeet now one sources relays between told (Err stop) → OffersMeet steps offers sources relays text told (Err stop)
-offers_stopped steps now offers one sources relays text between told stop m = grind arith
 
 -- ---- a sink with a relay or none
 

@@ -1,12 +1,9 @@
 -- The lines of a sink's control and of its links.
-use Rattle.replay_steps.proofs.Prelude.{◌≡◌, ℕ, List, [], ◌∷◌, ◌++◌, Bool, true, false, is_some, cond, refl, sym, ◌∙◌, ap, subst, Option, None, Some, Result, Ok, Err, length, concat, option_or, Account, airs_of, NoSuchSink, Order, Stop, Refused, OutletFault, Memory, Step, Announce, End, Stage, chosen_steps, running, stage_after, stage_of, is_sending, setup_of, source_calls, box_of, handed_by, output_of, sink_lines, phase_refusal, train_ends, calls_made, source_at, the_world, Settings, made_of, named_by, refused_at, refused_where, refusal_of, IsSinkLine, AnnouncesAs, SaysNothing, Histories, with_line, SinksStand, Machine, Stands, histories_of, Tells, closes_first, is_relayed, arith, announce_fault}
+use Rattle.replay_steps.proofs.Prelude.{◌≡◌, ℕ, List, [], ◌∷◌, false, is_some, refl, ◌∙◌, ap, Option, None, Some, Result, Ok, length, concat, Account, airs_of, Stop, Step, Announce, End, Stage, chosen_steps, running, stage_after, stage_of, box_of, handed_by, output_of, sink_lines, phase_refusal, calls_made, source_at, the_world, made_of, named_by, refused_at, refused_where, refusal_of, IsSinkLine, AnnouncesAs, SaysNothing, Histories, with_line, Machine, Stands, histories_of, Tells, closes_first, is_relayed, arith}
 use Rattle.announcement_train.specs.declared.train.Train.{Train as Announced}
-use Rattle.sink_history.specs.Calls.{Call}
-use Rattle.sink_history.specs.History.{Source}
-use Rattle.sink_history.specs.Output.{printed_at, printed_of, printed_where}
+use Rattle.sink_history.specs.Output.{printed_at, printed_where}
 use Rattle.scenario_sinks.specs.SinkLines.{SinkLineMakes}
-use Rattle.replay_steps.proofs.RelaysStay.{beside, minds_relays}
-use Rattle.replay_steps.proofs.Stepping.{brought, or_none, sinks_stand}
+use Rattle.replay_steps.proofs.Stepping.{brought, sinks_stand, beside, minds_relays}
 
 -- ---- what such a line says
 
@@ -28,12 +25,7 @@ record Runs (made : Step) : Type 0 where
 
 line_runs : (made : Step) → IsSinkLine made → Runs made
 line_runs End line = absurd line
-line_runs made line = record {
-  stage = λ stage. search;
-  refusal = λ boxes version steps e. search (line, e, or_none (refusal_of the_world steps made)) depth 2 fits 20 parts 0 steps 300000;
-  past = λ steps. search;
-  handed = λ steps. search;
-}
+line_runs made line = grind arith
 
 line_minds : (made : Step) → IsSinkLine made → minds_relays made ≡ false
 line_minds made line = grind arith
@@ -50,12 +42,8 @@ nothing_handed_by steps made line = (line_runs made line).handed steps
 
 -- ---- what it prints
 
-silent : (source : Source) (made : Step) (calls : List Call) (o : Option Settings)
-    → ((sink : Settings) → printed_of source made sink calls ≡ []) → [] ≡ concat (printed_where source made o calls)
-silent source made calls o quiet = grind (arith, concat)
-
 line_prints : (starts : List Account) (steps : List Step) (made : Step) → IsSinkLine made → output_of airs_of starts steps made ≡ sink_lines steps made
-line_prints starts steps made line = grind (arith, silent)
+line_prints starts steps made line = grind arith
 
 -- ---- what it does
 
@@ -66,14 +54,8 @@ named_meets : (starts : List Account) (n : ℕ) (steps : List Step) (made : Step
     → output_of airs_of starts steps made ≡ concat (printed_where (source_at steps) made (made_of n steps) (calls_made n steps))
     → new.stage ≡ old.stage → new.sources ≡ old.sources → minds_relays made ≡ false → new.relays ≡ old.relays
     → SinkLineMakes (histories_of steps) n (source_at steps) made new.sinks text told r → Tells starts steps made new text told r
-named_meets starts n steps made old new text told (Ok x) stands is nothing on past output stage same minds held m = (
-  is ∙ m.0,
-  brought steps made old new stands nothing on stage same minds held (let P : Histories → Type 0 = λ p. SinksStand p new.sinks in subst P (sym past) m.1),
-  m.2 ∙ ap (λ l. text ++ l) (sym output),
-)
-named_meets starts n steps made old new text told (Err (Refused reason)) stands is nothing on past output stage same minds held m =
-    (is ∙ m.0, sinks_stand steps old new stands stage same held m.1, m.2)
-named_meets starts n steps made old new text told r stands is nothing on past output stage same minds held m = search (brought, sinks_stand)
+named_meets starts n steps made old new text told r stands is nothing on past output stage same minds held m =
+    grind (arith, brought, sinks_stand)
 
 pub line_meets : (starts : List Account) (version n : ℕ) (steps : List Step) (made : Step) (old new : Machine) (text told : List ℕ) (r : Result (Unit {0}) Stop)
     → Stands steps old → stage_of steps ≡ running version → IsSinkLine made → named_by made ≡ Some n → new.stage ≡ old.stage → new.sources ≡ old.sources
@@ -87,52 +69,15 @@ line_meets starts version n steps made old new text told r stands e line named s
 
 -- ---- announce
 
-announce_says : (n : ℕ) → SaysNothing (Announce n)
-announce_says n = grind arith
-
-pub announce_early : (boxes version n : ℕ) (steps : List Step) → stage_of steps ≡ running version → is_sending (chosen_steps steps) ≡ false
-    → phase_refusal airs_of boxes steps (Announce n) ≡ Some Order
-announce_early boxes version n steps e going = rw (e, going) refl
-
--- a sink was made where it has a box
-cond_same : {A B : Type 0} (b : Bool) (o p : Option A) (q r : Option B) → is_some o ≡ is_some q → is_some p ≡ is_some r → is_some (cond b o p) ≡ is_some (cond b q r)
-cond_same b o p q r one other = grind arith
-
 made_by_box : (n : ℕ) (step : Step) (earlier : List Step) → is_some (made_of n earlier) ≡ is_some (box_of n earlier)
     → is_some (made_of n (step ∷ earlier)) ≡ is_some (box_of n (step ∷ earlier))
-made_by_box n other earlier same = grind (arith, cond_same, made_of, box_of)
+made_by_box n other earlier same = grind arith
 
 made_with_box : (n : ℕ) (steps : List Step) → is_some (made_of n steps) ≡ is_some (box_of n steps)
 made_with_box n [] = refl
 made_with_box n (step ∷ earlier) = made_by_box n step earlier (made_with_box n earlier)
 
-hears_train : (n : ℕ) (calls : List Call) (o : Option Settings) → is_some o ≡ true → refused_where (Announce n) o calls ≡ None
-hears_train n calls o e = grind arith
-
-not_there : (n : ℕ) (calls : List Call) (o : Option Settings) → is_some o ≡ false → refused_where (Announce n) o calls ≡ Some NoSuchSink
-not_there n calls o e = grind arith
-
-announce_fault_is : (boxes version n : ℕ) (steps : List Step) → stage_of steps ≡ running version → is_sending (chosen_steps steps) ≡ true
-    → phase_refusal airs_of boxes steps (Announce n)
-    ≡ option_or (refused_where (Announce n) (made_of n steps) (calls_made n steps)) (train_ends (announce_fault (setup_of (chosen_steps steps)) (source_calls (chosen_steps steps))))
-announce_fault_is boxes version n steps e going =
-    grind (arith, option_or, refused_where, made_of, calls_made, or_none, train_ends, setup_of, chosen_steps, source_calls)
-
-pub announce_nowhere : (boxes version n : ℕ) (steps : List Step) → stage_of steps ≡ running version → is_sending (chosen_steps steps) ≡ true
-    → is_some (box_of n steps) ≡ false → phase_refusal airs_of boxes steps (Announce n) ≡ Some NoSuchSink
-announce_nowhere boxes version n steps e going lives = grind (arith, announce_fault_is, not_there, made_with_box)
-
-pub announce_fails : (starts : List Account) (version n : ℕ) (steps : List Step) (new : Machine) (text : List ℕ) (stop : Stop) → Stands steps new → stage_of steps ≡ running version
-    → is_sending (chosen_steps steps) ≡ true → is_some (box_of n steps) ≡ true → AnnouncesAs (chosen_steps steps) (Err stop)
-    → Tells starts steps (Announce n) new text text (Err stop)
-announce_fails starts version n steps new text (Refused reason) stands e going lives a = grind (arith, train_ends, setup_of, chosen_steps, source_calls, announce_fault_is, length, option_or, hears_train, calls_made, made_of, made_with_box)
-announce_fails starts version n steps new text OutletFault stands e going lives a = a
-announce_fails starts version n steps new text Memory stands e going lives a = tt
-
 pub announce_meets : (starts : List Account) (version n : ℕ) (steps : List Step) (train : Announced) (old new : Machine) (text told : List ℕ) (r : Result (Unit {0}) Stop)
     → Stands steps old → stage_of steps ≡ running version → AnnouncesAs (chosen_steps steps) (Ok train) → new.stage ≡ old.stage → new.sources ≡ old.sources
     → new.relays ≡ old.relays → SinkLineMakes (histories_of steps) n (source_at steps) (Announce n) new.sinks text told r → Tells starts steps (Announce n) new text told r
-announce_meets starts version n steps train old new text told r stands e a stage same held m =
-    named_meets starts n steps (Announce n) old new text told r stands
-    (announce_fault_is (length starts) version n steps e a.0 ∙ ap (λ f. option_or (refused_where (Announce n) (made_of n steps) (calls_made n steps)) (train_ends f)) a.1
-    ∙ or_none (refused_where (Announce n) (made_of n steps) (calls_made n steps))) (announce_says n) refl refl refl stage same refl held m
+announce_meets starts version n steps train old new text told r stands e a stage same held m = grind arith

@@ -1,5 +1,5 @@
 -- Each step by its own clause.
-use Rattle.replay_steps.proofs.Prelude.{◌≡◌, ℕ, cond, List, [], ◌∷◌, ◌++◌, length, map, false, inl, None, Result, Ok, Err, refl, sym, ◌∙◌, ap, subst, append-nil, length-map, Account, airs_of, Step, Scenario, is_over, running, stage_of, unbegun, accounts_after, handed_by, handed_up, after_offers, closes_first, offers_at, with_relayed_units, output_of, is_relayed, line_refusal, phase_refusal, relayed_or, boxes_stay, Machine, Stop, Memory, Stands, BoxesStand, Quiet, Tells, Meets, StepMeets, phase_line, arith}
+use Rattle.replay_steps.proofs.Prelude.{◌≡◌, ℕ, cond, List, [], ◌∷◌, length, map, false, Result, Ok, refl, sym, ap, append-nil, length-map, Account, airs_of, Step, Scenario, is_over, running, stage_of, unbegun, handed_by, handed_up, after_offers, closes_first, offers_at, with_relayed_units, output_of, is_relayed, line_refusal, boxes_stay, Machine, Stop, Stands, BoxesStand, Quiet, Tells, Meets, StepMeets, phase_line, arith}
 
 pub boxes_counted : {A : Type 0} (f : A → Account) (items : List A) (starts : List Account) (steps : List Step) (n : ℕ) → n ≡ length items
     → BoxesStand starts steps (map f items) → n ≡ length starts
@@ -9,19 +9,10 @@ boxes_counted f items starts steps n is boxes = grind (arith, length-map, length
 pub no_relayed_units : (steps : List Step) (made : Step) → closes_first steps made ≡ false → with_relayed_units airs_of steps made ≡ steps
 no_relayed_units steps made alone = ap (λ hit. after_offers airs_of (cond hit (offers_at airs_of steps) []) steps) alone
 
--- a step that gives no unit isn't Relayed
-not_relayed : (boxes : ℕ) (steps : List Step) (made : Step) → is_relayed steps made ≡ false → phase_line airs_of boxes steps made ≡ phase_refusal airs_of boxes steps made
-not_relayed boxes steps made gives_none = ap (λ relayed. relayed_or relayed (phase_refusal airs_of boxes steps made)) gives_none
-
 -- the memory that is kept for the octets of later units is no part of what the machine stands for
 pub stands_beside : (steps : List Step) (machine new : Machine) → new.stage ≡ machine.stage → new.sources ≡ machine.sources → new.sinks ≡ machine.sinks
     → new.relays ≡ machine.relays → Stands steps machine → Stands steps new
-stands_beside steps machine new stage sources sinks relays stands = record {
-  stage = rw stage stands.stage;
-  sources = rw sources stands.sources;
-  sinks = rw sinks stands.sinks;
-  relays = rw relays stands.relays;
-}
+stands_beside steps machine new stage sources sinks relays stands = grind arith
 
 pub quiet_beside : (boxes : ℕ) (steps : List Step) (made : Step) (machine new : Machine) (r : Result (Unit {0}) Stop) → new.stage ≡ machine.stage
     → new.sources ≡ machine.sources → new.sinks ≡ machine.sinks → new.relays ≡ machine.relays → Quiet boxes steps made machine r → Quiet boxes steps made new r
@@ -35,21 +26,12 @@ meets_beside starts steps made machine new text told before after r stage source
 pub quiet_meets : (starts : List Account) (boxes : ℕ) (steps : List Step) (made : Step) (new : Machine) (text : List ℕ) (accounts : List Account) (r : Result (Unit {0}) Stop)
     → boxes ≡ length starts → output_of airs_of starts steps made ≡ [] → handed_by airs_of steps made ≡ [] → closes_first steps made ≡ false
     → Quiet boxes steps made new r → Meets starts steps made new text text accounts accounts r
-quiet_meets starts boxes steps made new text accounts (Ok x) count output handed alone q = (
-  subst (λ n. phase_line airs_of n steps made ≡ None) count q.0,
-  subst (λ before. Stands (made ∷ before) new) (sym (no_relayed_units steps made alone)) q.1,
-  sym (ap (λ l. text ++ l) output ∙ append-nil text),
-  sym (ap (accounts_after accounts) handed),
-)
-quiet_meets starts boxes steps made new text accounts (Err Memory) count output handed alone q = inl refl
-quiet_meets starts boxes steps made new text accounts r count output handed alone q =
-    search (phase_line, airs_of, no_relayed_units, append-nil, accounts_after)
+quiet_meets starts boxes steps made new text accounts r count output handed alone q = grind (arith, no_relayed_units, append-nil)
 
 pub tells_meets : (starts : List Account) (steps : List Step) (made : Step) (new : Machine) (text told : List ℕ) (accounts : List Account) (r : Result (Unit {0}) Stop)
     → handed_by airs_of steps made ≡ [] → closes_first steps made ≡ false → is_relayed steps made ≡ false
     → Tells starts steps made new text told r → Meets starts steps made new text told accounts accounts r
-tells_meets starts steps made new text told accounts r handed alone gives_none t =
-    grind (arith, not_relayed, length, no_relayed_units, accounts_after)
+tells_meets starts steps made new text told accounts r handed alone gives_none t = grind arith
 
 -- a step that follows no `end`
 pub goes_on : (boxes : ℕ) (steps : List Step) (made : Step) → is_over steps ≡ false → phase_line airs_of boxes steps made ≡ line_refusal airs_of boxes steps made

@@ -1,17 +1,54 @@
 -- A step by the room that it belongs to.
-use Rattle.replay_steps.proofs.Prelude.{◌≡◌, ℕ, ◌==◌, List, [], ◌∷◌, true, false, if◌then◌else◌, unwrap_or, refl, sym, ◌∙◌, ap, subst, Option, None, Some, Result, Ok, Err, option_or, airs_of, BigInfo, Settings, tune, Refusal, NoSuchBis, Order, Stop, Refused, OutletFault, Memory, Step, Sink, Source, Tuned, Stage, chosen_of, chosen_steps, running, stage_after, stage_of, version_at, group_of, no_group, setup_of, takes_units, box_of, big_sync_on, horizon_of, version_given, horizon_in, sinks_made, has_beyond, is_misplaced, is_out_of_phase, phase_refusal, relayed_or, sink_refusal, source_refusal, twin_refusal, refuse_if, Sources, fault_of, SourcesStand, SaysNothing, sink_says, sources_stay, tuned_says, Sinks, Histories, with_sink, with_tuning, SinksStand, Machine, Relays, RelaysStand, Stands, histories_of, relay_histories, Quiet, phase_line, stage_in, arith, by_numbers, not_made, not_tuned}
+use Rattle.replay_steps.proofs.Prelude.{◌≡◌, ℕ, List, [], ◌∷◌, true, false, unwrap_or, refl, sym, ◌∙◌, ap, subst, Option, None, Result, Ok, Err, option_or, airs_of, Settings, Refusal, Stop, Step, Sink, Tuned, Stage, chosen_of, chosen_steps, running, stage_after, stage_of, version_at, group_of, no_group, takes_units, box_of, big_sync_on, version_given, horizon_in, sinks_made, is_misplaced, phase_refusal, relayed_or, sink_refusal, fault_of, SaysNothing, sink_says, sources_stay, tuned_says, Histories, with_sink, with_tuning, SinksStand, Machine, RelaysStand, Stands, histories_of, relay_histories, Quiet, phase_line, stage_in, arith, not_made, not_tuned, ◌||◌, Bool, option_map, is_none, list_all, list_any, range_with_len, Drop, Relay, gives_on, is_relayed, Route, had_relay, relay_given, relay_of, relays_to, steps_of_source, Relays, lent, UnitLine}
 use Rattle.delegator_history.specs.Announced.{numbers_alone}
 use Rattle.delegator_history.specs.LastGiven.{last_given}
 use Rattle.sync_reference.specs.BigSync.{BigSync}
 use Rattle.scenario_sources.specs.Answers as sources
 use Rattle.scenario_sinks.specs.Refusals as sinks
-use Rattle.replay_steps.proofs.RelaysStay.{beside, minds_relays, relays_stay}
+use Rattle.scenario_sinks.specs.RelayHistories as relays
+
+-- the relays by another past that is the same
+pub relays_as : (one other : relays.Histories) (held : Relays) → ((n : ℕ) → one.routes n ≡ other.routes n) → ((bis : ℕ) → one.relayed bis ≡ other.relayed bis)
+    → ((bis : ℕ) → one.given bis ≡ other.given bis) → RelaysStand one held → RelaysStand other held
+relays_as one other held routes relayed given stands = grind (arith, list_all, is_none, range_with_len)
+
+-- the step says something of relays, or of what source 1 is given
+abbrev pub minds_relays : Step → Bool
+minds_relays (Relay sink bis to) = true
+minds_relays (Drop sink) = true
+minds_relays (UnitLine bis time octets) = true
+minds_relays _ = false
+
+-- what a step says that doesn't
+pub record Beside (made : Step) : Type 0 where
+  pub routes : (n : ℕ) → relay_given n made ≡ None
+  pub relays : (bis : ℕ) → relays_to bis made ≡ false
+  pub gives : (bis : ℕ) → gives_on bis made ≡ false
+  pub none : (steps : List Step) → is_relayed steps made ≡ false
+
+pub beside : (made : Step) → minds_relays made ≡ false → Beside made
+beside made minds = grind arith
+
+routes_stay : (n : ℕ) (steps : List Step) (made : Step) → relay_given n made ≡ None → relay_of n steps ≡ relay_of n (made ∷ steps)
+routes_stay n steps made none = grind arith
+
+had_stays : (bis : ℕ) (steps : List Step) (made : Step) → relays_to bis made ≡ false → had_relay bis steps ≡ had_relay bis (made ∷ steps)
+had_stays bis steps made none = ap (λ hit. hit || had_relay bis steps) (sym none)
+
+given_stays : (bis : ℕ) (steps : List Step) (made : Step) → gives_on bis made ≡ false
+    → list_any (gives_on bis) (steps_of_source 1 steps) ≡ list_any (gives_on bis) (steps_of_source 1 (made ∷ steps))
+given_stays bis steps made none = grind arith
+
+pub relays_stay : (steps : List Step) (made : Step) (held : Relays) → minds_relays made ≡ false → RelaysStand (relay_histories steps) held
+    → RelaysStand (relay_histories (made ∷ steps)) held
+relays_stay steps made held minds stands =
+    let says = beside made minds in
+    relays_as (relay_histories steps) (relay_histories (made ∷ steps)) held
+    (λ n. ap (λ (route : Option Route). option_map lent route) (routes_stay n steps made (says.routes n)))
+    (λ bis. had_stays bis steps made (says.relays bis)) (λ bis. given_stays bis steps made (says.gives bis)) stands
 
 pub or_none : (a : Option Refusal) → option_or a None ≡ a
 or_none a = grind arith
-
-or_assoc : (a b c : Option Refusal) → option_or a (option_or b c) ≡ option_or (option_or a b) c
-or_assoc a b c = grind arith
 
 -- the step may follow the first one and goes on, and the sinks refuse nothing of it
 pub record GoesOn (made : Step) : Type 0 where
@@ -21,11 +58,7 @@ pub record GoesOn (made : Step) : Type 0 where
 
 pub source_fault : (boxes version : ℕ) (steps : List Step) (made : Step) → GoesOn made → stage_of steps ≡ running version
     → phase_refusal airs_of boxes steps made ≡ fault_of version steps made
-source_fault boxes version steps made on e =
-    grind (arith, or_assoc, refuse_if, is_out_of_phase, chosen_steps, source_refusal, airs_of, twin_refusal)
-
-stage_stays : (steps : List Step) (made : Step) (old new : Machine) → GoesOn made → Stands steps old → new.stage ≡ old.stage → stage_in new.stage ≡ stage_of (made ∷ steps)
-stage_stays steps made old new on stands same = ap stage_in same ∙ stands.stage ∙ sym (on.stage (stage_of steps))
+source_fault boxes version steps made on e = grind arith
 
 -- a line is refused for what its step is refused for, where it gives no unit
 pub as_step : (boxes : ℕ) (steps : List Step) (made : Step) → minds_relays made ≡ false → phase_line airs_of boxes steps made ≡ phase_refusal airs_of boxes steps made
@@ -36,24 +69,9 @@ pub relays_kept : (steps : List Step) (made : Step) (old new : Machine) → mind
     → RelaysStand (relay_histories (made ∷ steps)) new.relays
 relays_kept steps made old new minds stands held = grind (arith, relays_stay steps made old.relays minds stands.relays)
 
--- the machine after a refused step of the sources, or of the sinks
-pub sources_stand : (steps : List Step) (old new : Machine) → Stands steps old → new.stage ≡ old.stage → new.sinks ≡ old.sinks → new.relays ≡ old.relays
-    → SourcesStand steps new.sources → Stands steps new
-sources_stand steps old new stands stage same held sources = record {
-  stage = ap stage_in stage ∙ stands.stage;
-  sources = sources;
-  sinks = let S : Sinks → Type 0 = λ k. SinksStand (histories_of steps) k in subst S (sym same) stands.sinks;
-  relays = let R : Relays → Type 0 = λ r. RelaysStand (relay_histories steps) r in subst R (sym held) stands.relays;
-}
-
 pub sinks_stand : (steps : List Step) (old new : Machine) → Stands steps old → new.stage ≡ old.stage → new.sources ≡ old.sources → new.relays ≡ old.relays
     → SinksStand (histories_of steps) new.sinks → Stands steps new
-sinks_stand steps old new stands stage same held sinks = record {
-  stage = ap stage_in stage ∙ stands.stage;
-  sources = let S : Sources → Type 0 = λ s. SourcesStand steps s in subst S (sym same) stands.sources;
-  sinks = sinks;
-  relays = let R : Relays → Type 0 = λ r. RelaysStand (relay_histories steps) r in subst R (sym held) stands.relays;
-}
+sinks_stand steps old new stands stage same held sinks = grind arith
 
 -- a step that says nothing of a source, by what it made of the sinks
 pub brought : (steps : List Step) (made : Step) (old new : Machine) → Stands steps old → SaysNothing made → stage_of (made ∷ steps) ≡ stage_of steps
@@ -61,12 +79,17 @@ pub brought : (steps : List Step) (made : Step) (old new : Machine) → Stands s
     → SinksStand (histories_of (made ∷ steps)) new.sinks → Stands (made ∷ steps) new
 brought steps made old new stands nothing on stage same minds held heard = record {
   stage = ap stage_in stage ∙ stands.stage ∙ sym on;
-  sources = let S : Sources → Type 0 = λ s. SourcesStand (made ∷ steps) s in subst S (sym same) (sources_stay made steps old.sources nothing stands.sources);
+  sources = rw same (sources_stay made steps old.sources nothing stands.sources);
   sinks = heard;
   relays = relays_kept steps made old new minds stands held;
 }
 
 -- ---- a step of the sources alone
+
+pub sources_refuse : (boxes version : ℕ) (steps : List Step) (made : Step) (old new : Machine) (stop : Stop) → phase_line airs_of boxes steps made ≡ fault_of version steps made
+    → Stands steps old → new.stage ≡ old.stage → new.sinks ≡ old.sinks → new.relays ≡ old.relays → sources.Answers version steps made new.sources (Err stop)
+    → Quiet boxes steps made new (Err stop)
+sources_refuse boxes version steps made old new stop is stands stage same held a = grind arith
 
 pub sources_meet : (boxes version : ℕ) (steps : List Step) (made : Step) (old new : Machine) (r : Result (Unit {0}) Stop) → GoesOn made
     → histories_of (made ∷ steps) ≡ histories_of steps → Stands steps old → stage_of steps ≡ running version → new.stage ≡ old.stage → new.sinks ≡ old.sinks
@@ -74,54 +97,24 @@ pub sources_meet : (boxes version : ℕ) (steps : List Step) (made : Step) (old 
 sources_meet boxes version steps made old new (Ok x) on past stands e stage same minds held a = (
   as_step boxes steps made minds ∙ source_fault boxes version steps made on e ∙ a.0,
   record {
-    stage = stage_stays steps made old new on stands stage;
+    stage = ap stage_in stage ∙ stands.stage ∙ sym (on.stage (stage_of steps));
     sources = a.1;
-    sinks = let P : Histories → Type 0 = λ p. SinksStand p new.sinks in let S : Sinks → Type 0 = λ s. SinksStand (histories_of steps) s in
-        subst P (sym past) (subst S (sym same) stands.sinks);
+    sinks = subst (λ (p : Histories). SinksStand p new.sinks) (sym past) (rw same stands.sinks);
     relays = relays_kept steps made old new minds stands held;
   },
 )
-sources_meet boxes version steps made old new (Err (Refused reason)) on past stands e stage same minds held a =
-    (as_step boxes steps made minds ∙ source_fault boxes version steps made on e ∙ a.0, sources_stand steps old new stands stage same held a.1)
-sources_meet boxes version steps made old new (Err OutletFault) on past stands e stage same minds held a = a
-sources_meet boxes version steps made old new (Err Memory) on past stands e stage same minds held a = tt
-
-pub choose_meets : (boxes version source : ℕ) (steps : List Step) (old new : Machine) → Stands steps old → stage_of steps ≡ running version
-    → new.stage ≡ old.stage → new.sinks ≡ old.sinks → new.relays ≡ old.relays → SourcesStand (Source source ∷ steps) new.sources
-    → Quiet boxes steps (Source source) new (Ok tt)
-choose_meets boxes version source steps old new stands e stage same held s = (
-  rw e refl,
-  record {
-    stage = ap stage_in stage ∙ stands.stage;
-    sources = s;
-    sinks = let S : Sinks → Type 0 = λ k. SinksStand (histories_of steps) k in subst S (sym same) stands.sinks;
-    relays = relays_kept steps (Source source) old new refl stands held;
-  },
-)
+sources_meet boxes version steps made old new (Err stop) on past stands e stage same minds held a =
+    sources_refuse boxes version steps made old new stop (as_step boxes steps made minds ∙ source_fault boxes version steps made on e) stands stage same held a
 
 -- ---- a step of the sinks alone
-
--- less is said after want of memory
-pub less_said : (fault : Option Refusal) (past next : Histories) (new : Sinks) (r : Result (Unit {0}) Stop) → sinks.Answers fault past next new r → sinks.Tunes fault past next new r
-less_said fault past next new r a = grind arith
 
 pub sinks_meet : (boxes : ℕ) (steps : List Step) (made : Step) (fault : Option Refusal) (next : Histories) (old new : Machine) (r : Result (Unit {0}) Stop) → Stands steps old
     → phase_refusal airs_of boxes steps made ≡ fault → SaysNothing made → stage_of (made ∷ steps) ≡ stage_of steps → histories_of (made ∷ steps) ≡ next
     → new.stage ≡ old.stage → new.sources ≡ old.sources → minds_relays made ≡ false → new.relays ≡ old.relays
     → sinks.Tunes fault (histories_of steps) next new.sinks r → Quiet boxes steps made new r
-sinks_meet boxes steps made fault next old new (Ok x) stands is nothing on past stage same minds held a = (
-  as_step boxes steps made minds ∙ is ∙ a.0,
-  record {
-    stage = ap stage_in stage ∙ stands.stage ∙ sym on;
-    sources = let S : Sources → Type 0 = λ s. SourcesStand (made ∷ steps) s in subst S (sym same) (sources_stay made steps old.sources nothing stands.sources);
-    sinks = let P : Histories → Type 0 = λ p. SinksStand p new.sinks in subst P (sym past) a.1;
-    relays = relays_kept steps made old new minds stands held;
-  },
-)
-sinks_meet boxes steps made fault next old new (Err (Refused reason)) stands is nothing on past stage same minds held a =
-    (as_step boxes steps made minds ∙ is ∙ a.0, sinks_stand steps old new stands stage same held a.1)
-sinks_meet boxes steps made fault next old new (Err OutletFault) stands is nothing on past stage same minds held a = a
-sinks_meet boxes steps made fault next old new (Err Memory) stands is nothing on past stage same minds held a = tt
+sinks_meet boxes steps made fault next old new (Ok x) stands is nothing on past stage same minds held a =
+    (as_step boxes steps made minds ∙ is ∙ a.0, brought steps made old new stands nothing on stage same minds held (rw past a.1))
+sinks_meet boxes steps made fault next old new (Err stop) stands is nothing on past stage same minds held a = grind (arith, as_step, sinks_stand)
 
 -- ---- sink
 
@@ -133,9 +126,6 @@ version_by other earlier same = grind arith
 version_said : (steps : List Step) → unwrap_or (last_given version_given steps) 1 ≡ version_at (stage_of steps)
 version_said [] = refl
 version_said (step ∷ earlier) = version_by step earlier (version_said earlier)
-
-horizon_said : (version horizon : ℕ) (steps : List Step) → stage_of steps ≡ running version → horizon ≡ horizon_in version → horizon ≡ horizon_of steps
-horizon_said version horizon steps e is = is ∙ ap horizon_in (sym (version_said steps ∙ ap version_at e))
 
 -- what the line says, in a scenario whose groups have at most this horizon
 abbrev made_with : (streams slots horizon : ℕ) → Option ℕ → Settings
@@ -149,15 +139,10 @@ make_meets boxes version n streams slots horizon mtu steps old new r stands e is
     let fault : Option Refusal = not_made (box_of n steps) (sinks_made steps) boxes in
     let next : Histories = with_sink n (made_with streams slots horizon mtu) (histories_of steps) in
     sinks_meet boxes steps (Sink n streams slots mtu) fault next old new r stands (rw e (or_none fault)) (sink_says n streams slots mtu) refl
-    (ap (λ h. with_sink n (made_with streams slots h mtu) (histories_of steps)) (sym (horizon_said version horizon steps e is))) stage same refl held
-    (less_said fault (histories_of steps) next new.sinks r a)
+    (ap (λ h. with_sink n (made_with streams slots h mtu) (histories_of steps)) (ap horizon_in (version_said steps ∙ ap version_at e) ∙ sym is)) stage same refl held
+    (grind arith)
 
 -- ---- tuned
-
--- the chosen source is not between its start and its stop
-pub tuned_early : (boxes version n which : ℕ) (steps : List Step) → stage_of steps ≡ running version → takes_units (chosen_steps steps) ≡ false
-    → phase_refusal airs_of boxes steps (Tuned n which) ≡ Some Order
-tuned_early boxes version n which steps e going = rw (e, going) refl
 
 -- a `group` line says the numbers of a group and nothing more
 plain_by : (step : Step) (own : List Step) → numbers_alone (unwrap_or (group_of own) no_group).info ≡ (unwrap_or (group_of own) no_group).info
@@ -168,25 +153,10 @@ plain_in : (own : List Step) → numbers_alone (unwrap_or (group_of own) no_grou
 plain_in [] = refl
 plain_in (step ∷ own) = plain_by step own (plain_in own)
 
--- the group that the source stands before is the one that its receivers go by
-tuned_to : (own : List Step) (which : ℕ) → big_sync_on own which ≡ by_numbers (big_sync_on own which)
-tuned_to own which = ap (λ (info : BigInfo). record (big_sync_on own which) { info = info }) (sym (plain_in own))
-
--- the sink is synchronized to a BIG, and its receivers go by this one
-abbrev with_both : ℕ → ℕ → BigSync → BigSync → Histories → Histories
-with_both n source big_sync tuning past =
-    record (with_tuning n source big_sync past) { received = λ m. if n == m then tune tuning ∷ past.received m else past.received m }
-
 pub tuned_meets : (boxes version n source which : ℕ) (steps : List Step) (tuning : BigSync) (old new : Machine) (r : Result (Unit {0}) Stop) → Stands steps old
     → stage_of steps ≡ running version → takes_units (chosen_steps steps) ≡ true → source ≡ chosen_of steps → tuning ≡ big_sync_on (chosen_steps steps) which
     → new.stage ≡ old.stage → new.sources ≡ old.sources → new.relays ≡ old.relays
     → sinks.Tunes (not_tuned (box_of n steps) tuning.info.num_bis tuning.which) (histories_of steps) (with_tuning n source tuning (histories_of steps)) new.sinks r
     → Quiet boxes steps (Tuned n which) new r
 tuned_meets boxes version n source which steps tuning old new r stands e going chosen is stage same held a =
-    let own : List Step = chosen_steps steps in
-    let fault : phase_refusal airs_of boxes steps (Tuned n which) ≡ not_tuned (box_of n steps) tuning.info.num_bis tuning.which = grind (arith, or_none (refuse_if (has_beyond (setup_of own).info.num_bis which) NoSuchBis)) in
-    sinks_meet boxes steps (Tuned n which) (not_tuned (box_of n steps) tuning.info.num_bis tuning.which) (with_tuning n source tuning (histories_of steps)) old new r stands fault
-    (tuned_says n which) refl
-    (ap (λ (t : BigSync). with_both n (chosen_of steps) (big_sync_on own which) t (histories_of steps)) (tuned_to own which)
-    ∙ ap (λ s. with_tuning n s (big_sync_on own which) (histories_of steps)) (sym chosen)
-    ∙ ap (λ (t : BigSync). with_tuning n source t (histories_of steps)) (sym is)) stage same refl held a
+    grind (arith, or_none, sinks_meet, tuned_says, plain_in)

@@ -1,6 +1,6 @@
 -- Where a sink is that `announce` puts on a group: where the group's source is for its next event (Basic Audio Profile 1.0,
 -- sections 3.7.2 and 6.5).
-use Rattle.scenario_laws.proofs.Known.Sources.{ℕ, ◌≡◌, ◌<◌, ◌≤◌, ◌^◌, Bool, List, Some, arith, unwrap_or, none-some, Endpoint, BigInfo, IsTrain, Tells, IsOnGroup, heard_as, MayAnnounce, train_of, Snapshot, TrainOutcome, Settings, outcome_by, big_sync_in, BigSync, by_numbers, next_anchor_of, next_of, Step, own_train, big_sync_of, snapshot_in, base_of, subgroups_of, checked_info, group_of, identity_of, no_group, setup_of, source_calls, Airs, chosen_of, chosen_steps, announced_of, big_sync_on, calls_made, source_at, ◌-◌, cond, ltb, true, false, [], ◌∷◌, refl, subst, inl, inr, filter, list_any, range_with_len, div-eq_of_lt, pow-le-pow_right, cases_Bool, eqb-true, false≢true, ltb-true, is_in, TrainOctets as Train, SinkSetup, taken, Tellable, may_announce, tellable, Legal, Permitted, Lawful, Settled, bounds_in, lawful, sends, settled, has_beyond, Brings}
+use Rattle.scenario_laws.proofs.Known.Sources.{ℕ, ◌≡◌, ◌<◌, ◌≤◌, ◌^◌, Bool, List, Some, arith, unwrap_or, none-some, Endpoint, BigInfo, IsTrain, Tells, IsOnGroup, heard_as, MayAnnounce, train_of, Snapshot, TrainOutcome, Settings, outcome_by, big_sync_in, BigSync, by_numbers, next_anchor_of, next_of, Step, own_train, big_sync_of, snapshot_in, base_of, subgroups_of, checked_info, group_of, identity_of, no_group, setup_of, source_calls, Airs, chosen_of, chosen_steps, announced_of, big_sync_on, calls_made, source_at, ◌-◌, cond, ltb, true, false, [], ◌∷◌, refl, subst, inl, inr, filter, list_any, range_with_len, div-eq_of_lt, pow-le-pow_right, cases_Bool, eqb-true, false≢true, ltb-true, is_in, TrainOctets as Train, SinkSetup, taken, may_announce, tellable, Legal, Permitted, Lawful, bounds_in, lawful, sends, settled, has_beyond, Brings}
 
 -- the laws of announcements
 pub record Announcing : Type 0 where
@@ -41,9 +41,6 @@ abbrev pub IsOn : List Step → BigSync → Type 0
 IsOn own big_sync =
     IsOnGroup (base_of own) (checked_info own) (next_of (setup_of own) (source_calls own)) (next_anchor_of (setup_of own) (source_calls own)) big_sync
 
-same_tuning : (own : List Step) (big_sync : BigSync) → Settled own → Tellable own → IsOn own big_sync → by_numbers big_sync ≡ big_sync_on own big_sync.which
-same_tuning own big_sync is tells on = grind (arith, unwrap_or, group_of, no_group, subgroups_of)
-
 -- the train synchronizes the sink to the BIG of the source
 pub announced_on : Announcing → (airs : Airs) (boxes n : ℕ) (earlier : List Step) (made : Settings) (big_sync : BigSync)
     → Legal airs boxes earlier → Permitted airs boxes earlier (Step.Announce n)
@@ -66,14 +63,8 @@ pub announced_tuning : Announcing → (airs : Airs) (boxes n : ℕ) (earlier : L
     → by_numbers big_sync ≡ big_sync_on (chosen_steps earlier) big_sync.which
 announced_tuning laws airs boxes n earlier made big_sync legal permits is =
     let legal_own : Lawful airs (chosen_steps earlier) = lawful airs boxes (chosen_of earlier) earlier legal in
-    same_tuning (chosen_steps earlier) big_sync (settled airs (chosen_steps earlier) legal_own) (tellable airs (chosen_steps earlier) legal_own)
-    (announced_on laws airs boxes n earlier made big_sync legal permits is)
-
-pub announced_within : Announcing → (airs : Airs) (boxes n : ℕ) (earlier : List Step) (made : Settings) (big_sync : BigSync)
-    → Legal airs boxes earlier → Permitted airs boxes earlier (Step.Announce n)
-    → big_sync_of made (snapshot_in made (calls_made n earlier)) (Some (own_train (source_at earlier))) ≡ Some big_sync
-    → big_sync.which < 2 ^ (setup_of (chosen_steps earlier)).info.num_bis
-announced_within laws airs boxes n earlier made big_sync legal permits is = (announced_on laws airs boxes n earlier made big_sync legal permits is).within
+    grind (arith, unwrap_or, group_of, no_group, subgroups_of, (settled airs (chosen_steps earlier) legal_own), (tellable airs
+    (chosen_steps earlier) legal_own), (announced_on laws airs boxes n earlier made big_sync legal permits is))
 
 -- ---- a stay that an announced train begins is the one that `tuned` would begin with the same streams, which are the group's
 
@@ -86,14 +77,12 @@ none_of : (test in_set : ℕ → Bool) (xs : List ℕ) → ((x : ℕ) → in_set
 none_of test in_set [] none = refl
 none_of test in_set (x ∷ xs) none = kept test x (filter in_set xs) (in_set x) (none x) (none_of test in_set xs none)
 
-above_out : (num_bis which bis : ℕ) → which < 2 ^ num_bis → num_bis < bis → is_in which bis ≡ true → ⊥
-above_out num_bis which bis small above in_set = grind (arith, pow-le-pow_right, div-eq_of_lt, false≢true)
-
 none_beyond : (num_bis which : ℕ) → which < 2 ^ num_bis → has_beyond num_bis which ≡ false
 unfolding has_beyond
 none_beyond num_bis which small =
     none_of (λ bis. ltb num_bis bis) (is_in which) (range_with_len 1 31)
-    (λ bis in_set. elim (cases_Bool (ltb num_bis bis)) [ inl above ↦ absurd (above_out num_bis which bis small (ltb-true num_bis bis above) in_set) | inr within ↦ within ])
+    (λ bis in_set. elim (cases_Bool (ltb num_bis bis)) [ inl above ↦ absurd (grind (arith, pow-le-pow_right, div-eq_of_lt, false≢true,
+    (ltb-true num_bis bis above))) | inr within ↦ within ])
 
 -- ---- as by hand
 
@@ -103,5 +92,6 @@ pub as_by_hand : Announcing → (airs : Airs) (boxes n sink : ℕ) (earlier : Li
 as_by_hand laws airs boxes n sink earlier big_sync legal permits brings =
     let permits_it : Permitted airs boxes earlier (Step.Announce n) = subst (λ m. Permitted airs boxes earlier (Step.Announce m)) (eqb-true sink n brings.0) permits in (
       announced_tuning laws airs boxes n earlier brings.1.made big_sync legal permits_it brings.1.is,
-      none_beyond (setup_of (chosen_steps earlier)).info.num_bis big_sync.which (announced_within laws airs boxes n earlier brings.1.made big_sync legal permits_it brings.1.is),
+      none_beyond (setup_of (chosen_steps earlier)).info.num_bis big_sync.which
+      ((announced_on laws airs boxes n earlier brings.1.made big_sync legal permits_it brings.1.is).within),
     )

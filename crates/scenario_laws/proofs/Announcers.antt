@@ -1,15 +1,15 @@
 -- The BASE of a source that was started can be announced: each field of it meets its row (Basic Audio Profile 1.0, section
 -- 3.7.2.2).
-use Rattle.scenario_laws.proofs.Known.Sources.Steps.Prelude.{ℕ, zero, suc, ◌≡◌, ◌<◌, ◌≤◌, ◌+◌, ◌^◌, cond, eqb, ltb, Bool, false, List, [], ◌∷◌, ◌++◌, length, map, Some, None, refl, sym, ◌∙◌, arith, AllByRecursion, range_with_len, ltb-false, ne_eqb, append-nil, list_any-append, IsDraft, is_empty_last, last_of, size_fault, Subgroup, AreNew, EntryFits, IsBase, SubgroupFits, endpoint, is_lc3, lc3, stands_in, GroupLine, base_from, ◌||◌, not, leb, is_some, true, Option, Ok, subst, unwrap_or, false≢true, leb-false, or_parts, none-some, BigInfo, Cipher, FitsWidths, Refuses, entry_fault, metadata_fault, indices, numbers_alone, MayAnnounce, cipher_octets, next_anchor_of, next_of, with_cipher, announce_fault, Step, IsInRange, NoSuchBis, base_lines, base_of, has_bis, has_subgroup, is_base_too_long, is_last_bare, subgroups_of, group_refusal, train_ends, refuse_if, horizon_in, Phase, checked_info, cipher_of, group_of, identity_of, is_absent_at, is_described_at, is_sending, is_sending_at, is_started, Airs, no_group, phase_of, setup_of, source_calls, entry_bis_of as bis_of, base_encoding as encoding, draft_opened as opened, fails_not, neither}
+use Rattle.scenario_laws.proofs.Known.Sources.Steps.Prelude.{ℕ, zero, suc, ◌≡◌, ◌<◌, ◌≤◌, ◌+◌, ◌^◌, cond, eqb, ltb, Bool, false, List, [], ◌∷◌, ◌++◌, length, map, Some, None, refl, sym, ◌∙◌, arith, AllByRecursion, range_with_len, ltb-false, ne_eqb, append-nil, list_any-append, IsDraft, is_empty_last, last_of, size_fault, Subgroup, AreNew, EntryFits, IsBase, SubgroupFits, endpoint, is_lc3, lc3, stands_in, GroupLine, base_from, ◌||◌, not, leb, true, Ok, subst, unwrap_or, false≢true, leb-false, or_parts, none-some, Refuses, numbers_alone, MayAnnounce, cipher_octets, next_anchor_of, next_of, announce_fault, Step, IsInRange, NoSuchBis, base_lines, base_of, has_bis, has_subgroup, is_base_too_long, is_last_bare, subgroups_of, group_refusal, train_ends, refuse_if, horizon_in, checked_info, cipher_of, group_of, identity_of, is_absent_at, is_described_at, is_sending, is_started, Airs, no_group, phase_of, setup_of, source_calls, entry_bis_of as bis_of, base_encoding as encoding, draft_opened as opened, fails_not, neither}
 use Rattle.std.proofs.lemmas.List.FromFn.{length-map-range_with_len}
 use Rattle.ltv_codec.specs.Layout.{AreLtvs}
 use Rattle.base_grammar.proofs.Drafts.{draft_done, finish_is, with_entry_keeps, with_metadata_keeps, with_subgroup_keeps}
-use Rattle.announcement_train.specs.PlainBase.{plain_base_of, plain_entry, plain_subgroup}
+use Rattle.announcement_train.specs.PlainBase.{plain_entry, plain_subgroup}
 use Rattle.announcement_train.proofs.Citable.{plain_is_small, adds_to_last, describes_last}
 use Rattle.big_info.specs.Layout.{CipherIs}
 use Rattle.ltv_codec.proofs.Citable.{are_read}
 use Rattle.source_machine.specs.declared.fault.AnnounceFault.{AnnounceFault}
-use Rattle.scenario_laws.proofs.Sources.{Allowed, Lawful, Settled, bounds_in, not_yet, sends, settled, true_not_false}
+use Rattle.scenario_laws.proofs.Wholes.{Allowed, Lawful, Settled, bounds_in, not_yet, sends, settled, true_not_false}
 use Rattle.base_grammar.specs.declared.fault.DraftFault.{DraftFault}
 
 -- ---- the BASE of which no line says one
@@ -43,9 +43,6 @@ plain_fits n most = record {
   entries = entries_fit (is_lc3 lc3) 1 n (omega arith) (omega (arith, most));
 }
 
-plain_is_base : (delay n : ℕ) → delay < 2 ^ 24 → 1 ≤ n → n ≤ 31 → IsBase (plain_base_of delay n)
-plain_is_base delay n width least most = search (length-map-range_with_len, plain_fits, append-nil, all_new, ltb-false, plain_is_small)
-
 -- ---- the BASE of lines
 
 finishes : (last : Bool) (octets : ℕ) → last ≡ false → ltb 252 octets ≡ false → size_fault (cond last (Some DraftFault.NoBis) None) octets ≡ None
@@ -54,7 +51,8 @@ finishes last octets some short = cc (some, short)
 pub is_base : (group : GroupLine) (subgroups : List Subgroup) → group.delay < 2 ^ 24 → 1 ≤ group.info.num_bis → group.info.num_bis ≤ 31
     → IsDraft (endpoint group.delay subgroups) → is_empty_last (last_of subgroups) ≡ false → ltb 252 (length (encoding (base_from group subgroups))) ≡ false
     → IsBase (base_from group subgroups)
-is_base group [] width least most draft some short = plain_is_base group.delay group.info.num_bis width least most
+is_base group [] width least most draft some short =
+    search (length-map-range_with_len, plain_fits, append-nil, all_new, ltb-false, plain_is_small)
 is_base group (subgroup ∷ others) width least most draft some short =
     draft_done (endpoint group.delay (subgroup ∷ others)) draft (sym (finish_is (endpoint group.delay (subgroup ∷ others)))
     ∙ finishes (is_empty_last (last_of (subgroup ∷ others))) (length (encoding (endpoint group.delay (subgroup ∷ others)))) some short)
@@ -77,41 +75,26 @@ pub record Tellable (own : List Step) : Type 0 where
   pub full : is_started own ≡ true → is_last_bare own ≡ false
   pub short : is_started own ≡ true → is_base_too_long own ≡ false
 
-there_then : (p : Phase) → not (is_described_at p) ≡ false → is_absent_at p ≡ false
-there_then p is = grind (arith, false≢true)
-
-sends_then : (p : Phase) → not (is_sending_at p) ≡ false → is_absent_at p ≡ false
-sends_then p is = grind (arith, false≢true)
-
 -- ---- a line of its BASE
-
-full_then : (last : Bool) → last ≡ false → Refuses (cond last (Some DraftFault.NoBis) None) (Ok tt)
-full_then last is = subst (λ b. Refuses (cond b (Some DraftFault.NoBis) None) (Ok tt)) (sym is) tt
 
 opens_next : (own : List Step) (codec config : List ℕ) → Tellable own → IsInRange (Step.Subgroup codec config) → is_last_bare own ≡ false
     → (delay : ℕ) → delay < 2 ^ 24 → IsDraft (endpoint delay (subgroups_of (Step.Subgroup codec config ∷ own)))
 opens_next own codec config before ranged full delay width =
     with_subgroup_keeps delay codec config (subgroups_of own) (subgroups_of own ++ opened codec config ∷ []) (Ok tt) (before.draft delay width) ranged.0
-    (λ reads. are_read config ranged.4 ranged.2) refl tt (full_then (is_last_bare own) full)
-
-some_there : (subgroups : List Subgroup) → not (is_some (last_of subgroups)) ≡ false → Refuses (metadata_fault subgroups) (Ok tt)
-some_there subgroups is = grind (arith, false≢true)
+    (λ reads. are_read config ranged.4 ranged.2) refl tt (subst (λ b. Refuses (cond b (Some DraftFault.NoBis) None) (Ok tt)) (sym full) tt)
 
 describes_next : (own : List Step) (metadata : List ℕ) → Tellable own → IsInRange (Step.Meta metadata) → not (has_subgroup own) ≡ false
     → (delay : ℕ) → delay < 2 ^ 24 → IsDraft (endpoint delay (subgroups_of (Step.Meta metadata ∷ own)))
 describes_next own metadata before ranged some delay width =
     with_metadata_keeps delay metadata (subgroups_of own) (subgroups_of (Step.Meta metadata ∷ own)) (Ok tt) (before.draft delay width) (are_read metadata ranged.2 ranged.1)
-    (describes_last metadata (base_lines own)) tt (some_there (subgroups_of own) some)
-
-new_there : (subgroups : List Subgroup) (bis : ℕ) → not (is_some (last_of subgroups)) ≡ false → stands_in (indices subgroups) bis ≡ false → Refuses (entry_fault subgroups bis) (Ok tt)
-new_there subgroups bis is none = grind (arith, false≢true)
+    (describes_last metadata (base_lines own)) tt (grind (arith, false≢true))
 
 adds_next : (own : List Step) (bis : ℕ) (config : List ℕ) → Tellable own → IsInRange (Step.Bis bis config) → not (has_subgroup own) ≡ false → has_bis own bis ≡ false
     → (delay : ℕ) → delay < 2 ^ 24 → IsDraft (endpoint delay (subgroups_of (Step.Bis bis config ∷ own)))
 adds_next own bis config before ranged some none delay width =
     with_entry_keeps delay (record { bis = bis; config = config }) (subgroups_of own) (subgroups_of (Step.Bis bis config ∷ own)) (Ok tt) (before.draft delay width)
     (λ last is reads. are_read config ranged.2 ranged.1) (ranged.3, ranged.4)
-    (adds_to_last (record { bis = bis; config = config }) (base_lines own)) tt (new_there (subgroups_of own) bis some none)
+    (adds_to_last (record { bis = bis; config = config }) (base_lines own)) tt (grind (arith, false≢true))
 
 -- ---- each line
 
@@ -133,9 +116,11 @@ tellable_after airs own (Step.Bis bis config) before allows =
     let new = or_parts (ltb (group_line own).info.num_bis bis) (has_bis own bis) (fails_not (ltb (group_line own).info.num_bis bis || has_bis own bis) NoSuchBis allows.by_source) in
     let idle : is_started own ≡ false = not_yet own (not (has_subgroup own)) allows.in_phase in
     search (not_started, adds_next own bis config before allows.ranged parts.1 new.1)
-tellable_after airs own (Step.Start first) before allows = grind (arith, or_parts, not, is_described_at, phase_of, is_last_bare, there_then, fails_not, is_base_too_long, neither, group_refusal, horizon_in, checked_info, refuse_if)
-tellable_after airs own Step.Stop before allows = grind (arith, sends_then, phase_of, sends)
-tellable_after airs own (Step.Terminate reason) before allows = grind (arith, sends_then, phase_of, sends)
+tellable_after airs own (Step.Start first) before allows =
+    grind (arith, or_parts, not, is_described_at, phase_of, is_last_bare, fails_not, is_base_too_long, neither, group_refusal, horizon_in,
+    checked_info, refuse_if, false≢true)
+tellable_after airs own Step.Stop before allows = grind (arith, phase_of, sends, false≢true)
+tellable_after airs own (Step.Terminate reason) before allows = grind (arith, phase_of, sends, false≢true)
 tellable_after airs own _ before allows = assumption
 
 pub tellable : (airs : Airs) (own : List Step) → Lawful airs own → Tellable own
@@ -143,12 +128,6 @@ tellable airs [] lawful = grind (arith, false≢true)
 tellable airs (step ∷ own) lawful = tellable_after airs own step (tellable airs own lawful.0) lawful.1
 
 -- ---- what it announces
-
-widths_with : (info : BigInfo) (cipher : Option Cipher) → FitsWidths info → FitsWidths (with_cipher info cipher)
-widths_with info cipher widths = assumption
-
-no_train_end : (fault : Option AnnounceFault) → train_ends fault ≡ None → fault ≡ None
-no_train_end fault none = grind (arith, none-some)
 
 counts : (b : Bool) (fault : AnnounceFault) → cond b (Some fault) None ≡ None → b ≡ false
 counts b fault none = grind (arith, none-some)
@@ -159,13 +138,13 @@ may_announce airs own lawful is_its none =
     let is : Settled own = settled airs own lawful in
     let tells : Tellable own = tellable airs own lawful in
     let started : is_started own ≡ true = sends own is_its in
-    let origin : 3000 ≤ (group_line own).origin = tells.late (sends_then (phase_of own) is_its) in
+    let origin : 3000 ≤ (group_line own).origin = tells.late (grind (arith, false≢true)) in
     record {
       three = tells.three;
       base_is = is_base (group_line own) (subgroups_of own) tells.delay (bounds_in own is started).num_bis (omega (arith, is.widths.num_bis))
           (tells.draft (group_line own).delay tells.delay) (tells.full started) (tells.short started);
-      widths = widths_with (group_line own).info (cipher_of own) is.widths;
+      widths = assumption;
       cipher = tells.cipher;
-      count = grind (arith, leb-false, next_of, setup_of, source_calls, counts, leb, no_train_end, announce_fault);
+      count = grind (arith, leb-false, next_of, setup_of, source_calls, counts, leb, announce_fault, none-some);
       late = omega (arith, origin);
     }

@@ -1,5 +1,5 @@
 -- The events of a source that a sink closes rise, over all its stays with the source.
-use Rattle.scenario_laws.proofs.Known.Sources.{ℕ, zero, suc, ◌≡◌, ◌≢◌, ◌<◌, ◌≤◌, ◌+◌, ◌==◌, cond, not, Bool, true, false, List, [], ◌∷◌, ◌++◌, map, Option, None, Some, refl, sym, ap, subst, arith, inl, inr, IsStrictlyIncreasing, cases_Bool, eq-eqb, eqb-true, eqb-false, false≢true, leb-true, or_parts, none-some, same_Some, Call, tune, hear, BigSync, Step, chosen_of, chosen_steps, is_over, steps_of_source, event_back, is_sending, open_event, pdu_in, performed, Airs, heard_on_air, is_of, reaches, sink_calls, source_of, positions_of, ticked, unless_lost, big_sync_on, Closed, closed_by, closed_since, any_since, given_since_made, is_given, is_made, is_tuned, place, closes, closed_if, Legal, Permitted, permitted, StaysBy, announced, given_stays, plain_stays, next_in, next_rises, air_place, end_ticks, event_ticks, is_its}
+use Rattle.scenario_laws.proofs.Known.Sources.{ℕ, zero, suc, ◌≡◌, ◌≢◌, ◌<◌, ◌≤◌, ◌+◌, ◌==◌, cond, not, Bool, true, false, List, [], ◌∷◌, ◌++◌, map, Option, None, Some, refl, sym, ap, subst, arith, inl, inr, IsStrictlyIncreasing, cases_Bool, eq-eqb, eqb-true, eqb-false, false≢true, leb-true, or_parts, none-some, same_Some, Call, tune, hear, BigSync, Step, chosen_of, chosen_steps, is_over, steps_of_source, event_back, is_sending, open_event, performed, Airs, heard_on_air, is_of, reaches, sink_calls, source_of, positions_of, ticked, unless_lost, big_sync_on, Closed, closed_by, closed_since, any_since, given_since_made, is_given, is_made, is_tuned, place, closes, closed_if, Legal, Permitted, permitted, StaysBy, announced, given_stays, plain_stays, next_in, next_rises, air_place, end_ticks, event_ticks, is_its, map-append}
 use Rattle.scenario_laws.proofs.Announced.{Announcing, as_by_hand}
 use Rattle.scenario_laws.proofs.Stays.{IsOn, begins_calls, begins_next, last_not, on_before, rest_not}
 use Rattle.delegator_machine.specs.Groups as machine
@@ -31,10 +31,6 @@ climbs low (x ∷ y ∷ xs) high climb (suc k) below =
     let next : suc k + 1 ≡ suc (k + 1) = omega arith in
     rw next (climbs (x + 1) (y ∷ xs) high climb.1 k (omega (arith, below)))
 
-map_on : (f : Closed → ℕ) (xs ys : List Closed) → map f (xs ++ ys) ≡ map f xs ++ map f ys
-map_on f [] ys = refl
-map_on f (x ∷ xs) ys = ap (λ zs. f x ∷ zs) (map_on f xs ys)
-
 -- ---- the open event of a sink
 
 abbrev pub event_of : Closed → ℕ
@@ -57,29 +53,18 @@ pub record Moves (mine : Bool) (calls : List Call) (next : ℕ) (closed : List C
   pub climbs_on : Climb (prefix mine calls next) (map event_of closed) (prefix mine' calls' next')
   pub within : prefix mine' calls' next' ≤ next'
 
-stay_moves : (mine : Bool) (calls : List Call) (next next' : ℕ) → next ≤ next' → prefix mine calls next ≤ next → Moves mine calls next [] mine calls next'
-stay_moves mine calls next next' more within = grind arith
-
 gone_moves : (s : ℕ) (gone : Bool) (calls : List Call) (source : Option ℕ) (next next' : ℕ) → next ≤ next' → prefix (is_of s source) calls next ≤ next
     → Moves (is_of s source) calls next [] (is_of s (cond gone None source)) (cond gone [] calls) next'
-gone_moves s gone calls source next next' more within = grind (arith, stay_moves)
-
-on_moves : (mine its : Bool) (on : BigSync) (calls : List Call) (next next' : ℕ) → next ≤ next' → (its ≡ true → on.first ≡ next) → prefix mine calls next ≤ next
-    → Moves mine calls next [] its (tune on ∷ calls) next'
-on_moves mine its on calls next next' more is within = grind arith
+gone_moves s gone calls source next next' more within = grind arith
 
 put_moves : (s : ℕ) (put : Bool) (on : BigSync) (chosen : ℕ) (calls : List Call) (source : Option ℕ) (next next' : ℕ) → next ≤ next' → ((chosen == s) ≡ true → on.first ≡ next)
     → prefix (is_of s source) calls next ≤ next
     → Moves (is_of s source) calls next [] (is_of s (cond put (Some chosen) source)) (cond put (tune on ∷ calls) calls) next'
-put_moves s put on chosen calls source next next' more is within = grind (arith, on_moves, stay_moves)
-
-same_prefix : (mine : Bool) (calls more : List Call) (next : ℕ) → place more ≡ place calls → ((tuning : BigSync) → closes tuning more ≡ closes tuning calls)
-    → prefix mine more next ≡ prefix mine calls next
-same_prefix mine calls more next there same = grind arith
+put_moves s put on chosen calls source next next' more is within = grind arith
 
 more_moves : (mine hit : Bool) (more calls : List Call) (next next' : ℕ) → next ≤ next' → place more ≡ place calls → ((tuning : BigSync) → closes tuning more ≡ closes tuning calls)
     → prefix mine calls next ≤ next → Moves mine calls next [] mine (cond hit more calls) next'
-more_moves mine hit more calls next next' later there same within = grind (arith, same_prefix, stay_moves)
+more_moves mine hit more calls next next' later there same within = grind arith
 
 lost_closes : (gone : Bool) (event bis subevent : ℕ) (octets : List ℕ) (calls : List Call) (tuning : BigSync)
     → closes tuning (unless_lost gone (hear event bis subevent octets) calls) ≡ closes tuning calls
@@ -89,18 +74,11 @@ air_closes : (airs : Airs) (own : List Step) (lose count : ℕ) (calls : List Ca
 air_closes airs own lose zero calls tuning = refl
 air_closes airs own lose (suc i) calls tuning = search (lost_closes, air_closes airs own lose i calls tuning)
 
--- a group that is left, and none that is entered
-none_prefix : (mine : Bool) (calls : List Call) (next : ℕ) → place calls ≡ None → prefix mine calls next ≡ next
-none_prefix mine calls next nowhere = grind arith
-
-off_moves : (mine mine' : Bool) (calls later : List Call) (next next' : ℕ) → next ≤ next' → place later ≡ None → prefix mine calls next ≤ next → Moves mine calls next [] mine' later next'
-off_moves mine mine' calls later next next' more nowhere within = grind (arith, none_prefix)
-
 -- a close of an event of the source, or of another
 close_moves : (mine its : Bool) (last_open : Option ℕ) (calls calls' : List Call) (next next' : ℕ) → ((event : ℕ) → last_open ≡ Some event → event < next) → next ≤ next'
     → prefix mine calls next ≤ next → (mine ≡ true → calls' ≡ cond its (ticked last_open calls) calls)
     → Moves mine calls next (cond its (closed_if mine calls last_open) []) mine calls' next'
-close_moves mine its last_open calls calls' next next' past more within is = grind (arith, stay_moves, leb-true)
+close_moves mine its last_open calls calls' next next' past more within is = grind (arith, leb-true)
 
 pub open_if : (shut : Bool) (last event : ℕ) → cond shut None (Some last) ≡ Some event → (shut ≡ false) × (last ≡ event)
 open_if shut last event is = grind (arith, none-some, same_Some)
@@ -121,7 +99,7 @@ its_prefix airs s n made = prefix (mine_in s n made) (sink_calls airs n made) (n
 stays_move : (airs : Airs) (s n : ℕ) (step : Step) (earlier : List Step) (next' : ℕ) → StaysBy airs n step earlier → next_in (steps_of_source s earlier) ≤ next'
     → its_prefix airs s n earlier ≤ next_in (steps_of_source s earlier)
     → Moves (mine_in s n earlier) (sink_calls airs n earlier) (next_in (steps_of_source s earlier)) [] (mine_in s n (step ∷ earlier)) (sink_calls airs n (step ∷ earlier)) next'
-stays_move airs s n step earlier next' stays more within = grind (arith, stay_moves, off_moves, sink_calls, next_in, steps_of_source, is_of)
+stays_move airs s n step earlier next' stays more within = grind (arith, sink_calls, next_in, steps_of_source, is_of)
 
 announced_moves : Announcing → (airs : Airs) (boxes s n sink : ℕ) (earlier : List Step) (next' : ℕ) → Legal airs boxes earlier → Permitted airs boxes earlier (Step.Announce sink)
     → next_in (steps_of_source s earlier) ≤ next' → its_prefix airs s n earlier ≤ next_in (steps_of_source s earlier)
@@ -130,14 +108,14 @@ announced_moves : Announcing → (airs : Airs) (boxes s n sink : ℕ) (earlier :
 announced_moves laws airs boxes s n sink earlier next' legal permits more within = elim (announced airs n sink earlier) [
   | inl stays ↦ stays_move airs s n (Step.Announce sink) earlier next' stays more within
   | inr goes ↦ elim goes [
-    | inl follows ↦ grind (arith, off_moves, sink_calls, next_in, steps_of_source)
+    | inl follows ↦ grind (arith, sink_calls, next_in, steps_of_source)
     | inr put ↦
         let on : BigSync = machine.by_numbers put.big_sync in
         let first_is : on.first ≡ next_in (chosen_steps earlier) = ap (λ (t : BigSync). t.first) (as_by_hand laws airs boxes n sink earlier put.big_sync legal permits put.brings).0 in
         subst (λ calls. Moves (mine_in s n earlier) (sink_calls airs n earlier) (next_in (steps_of_source s earlier)) [] (mine_in s n (Step.Announce sink ∷ earlier)) calls next') (sym put.calls_is)
         (subst (λ source. Moves (mine_in s n earlier) (sink_calls airs n earlier) (next_in (steps_of_source s earlier)) [] (is_of s source) (tune on ∷ sink_calls airs n earlier) next')
         (sym put.source_is)
-        (grind (arith, on_moves, chosen_of, sink_calls, next_in, steps_of_source, eqb-true)))
+        (grind (arith, chosen_of, sink_calls, next_in, steps_of_source, eqb-true)))
   ]
 ]
 
@@ -185,27 +163,19 @@ moved laws airs boxes s n step earlier legal ungiven least within = search (move
 pub made_nothing : (airs : Airs) (n : ℕ) (step : Step) (earlier : List Step) → is_made n earlier step ≡ true → sink_calls airs n (step ∷ earlier) ≡ []
 made_nothing airs n step earlier made = grind (arith, false≢true)
 
-closing_anew : (airs : Airs) (s n : ℕ) (step : Step) (earlier : List Step) → is_made n earlier step ≡ true → Closing airs s n (step ∷ earlier)
-closing_anew airs s n step earlier made =
-    grind (arith, next_in, steps_of_source, none_prefix, sink_calls, made_nothing, map, cond, closed_since, closed_by)
-
-climbs_further : (again : Bool) (before now : List Closed) (low high : ℕ) → again ≡ false → Climb 0 (map event_of before) low → Climb low (map event_of now) high
-    → Climb 0 (map event_of (cond again [] (before ++ now))) high
-climbs_further again before now low high on first rest = grind (arith, false≢true, map_on, climb_on)
-
 closing_on : Announcing → (airs : Airs) (boxes s n : ℕ) (step : Step) (earlier : List Step) → Legal airs boxes (step ∷ earlier) → is_given n step ≡ false → s ≤ 1 → is_made n earlier step ≡ false
     → Closing airs s n earlier → Closing airs s n (step ∷ earlier)
 closing_on laws airs boxes s n step earlier legal ungiven least on before =
     let now = moved laws airs boxes s n step earlier legal ungiven least before.within in
     record {
-      rise = grind (arith, climbs_further, is_made, closed_since, closed_by);
+      rise = grind (arith, is_made, closed_since, closed_by, false≢true, map-append, climb_on);
       within = now.within;
     }
 
 pub closing : Announcing → (airs : Airs) (boxes s n : ℕ) (made : List Step) → Legal airs boxes made → given_since_made n made ≡ false → s ≤ 1 → Closing airs s n made
 closing laws airs boxes s n [] legal ungiven least = record { rise = omega arith; within = omega arith }
 closing laws airs boxes s n (step ∷ earlier) legal ungiven least = elim (cases_Bool (is_made n earlier step)) [
-  | inl again ↦ closing_anew airs s n step earlier again
+  | inl again ↦ grind (arith, next_in, steps_of_source, sink_calls, made_nothing, map, cond, closed_since, closed_by)
   | inr on ↦
       closing_on laws airs boxes s n step earlier legal (last_not (is_made n earlier step) (is_given n step) (given_since_made n earlier) ungiven) least on
       (closing laws airs boxes s n earlier legal.0 (rest_not (is_made n earlier step) (is_given n step) (given_since_made n earlier) ungiven on) least)

@@ -1,29 +1,18 @@
 -- Of all that is handed up by a step, what is of one sink and one source.
-use Rattle.scenario_laws.proofs.Known.Sources.Steps.{ℕ, zero, suc, ◌≡◌, ◌≢◌, ◌≤◌, ◌+◌, ◌==◌, ◌&&◌, cond, eqb, not, Bool, true, false, List, [], ◌∷◌, ◌++◌, map, Option, None, Some, refl, ◌∙◌, ap, arith, inl, inr, is_some, flat_map, range_with_len, cases_eq, cond-false, cond-true, eq-eqb, ne_eqb, eqb-true, false≢true, and_right, and_left, not-false, append-nil, map-append, filter-append, none-some, Handed, Call, handed_at, Step, NoSuchSink, Settings, made_of, chosen_of, sinks_made, steps_of_source, open_event, Airs, is_of, sink_calls, source_of, with_sink_call, SinkUnit, box_after, box_of, closing_at, closing_by, closing_in, handed_by, no_sink, of_sink, place, closing, sink_numbers, Permitted, fails_not, permitted, unmoved, air_place, end_place, same_place, tick_if_place}
+use Rattle.scenario_laws.proofs.Known.Sources.Steps.{ℕ, ◌≡◌, ◌≢◌, ◌≤◌, ◌+◌, ◌==◌, ◌&&◌, cond, eqb, not, Bool, true, false, List, [], ◌∷◌, ◌++◌, map, Option, None, Some, refl, ◌∙◌, ap, arith, inl, inr, is_some, flat_map, range_with_len, cases_eq, cond-false, cond-true, eq-eqb, ne_eqb, eqb-true, false≢true, and_right, not-false, append-nil, none-some, Handed, Call, handed_at, Step, NoSuchSink, made_of, chosen_of, steps_of_source, open_event, Airs, is_of, sink_calls, source_of, with_sink_call, SinkUnit, box_after, box_of, closing_at, closing_by, closing_in, handed_by, no_sink, of_sink, place, closing, sink_numbers, Permitted, fails_not, permitted, unmoved, air_place, end_place, same_place, tick_if_place}
 use Rattle.scenario_laws.proofs.Legals.{Legal}
-use Rattle.scenario_laws.proofs.RelayedUnits.Offered.{flat_one}
+use Rattle.scenario_laws.proofs.RelayedUnits.Offered.{flat_one, handed_append, not_handed, not_closing}
 
 -- ---- a sink that is on a group has a box
-
-gone_housed : (gone : Bool) (box : Option ℕ) (calls : List Call) → (box ≡ None → place calls ≡ None) → cond gone None box ≡ None → place (cond gone [] calls) ≡ None
-gone_housed gone box calls before none = grind arith
 
 is_none : (box : Option ℕ) → is_some box ≡ true → box ≡ None → ⊥
 is_none box has none = grind (arith, false≢true, none-some)
 
-made_as : (gone : Bool) (box : Option ℕ) (made : Option Settings) → (box ≡ None → made ≡ None) → cond gone None box ≡ None
-    → cond gone None made ≡ None
-made_as gone box made before none = grind arith
-
-made_anew : (again : Bool) (count : ℕ) (anew : Settings) (box : Option ℕ) (made : Option Settings) → (box ≡ None → made ≡ None)
-    → cond again (Some count) box ≡ None → cond again (Some anew) made ≡ None
-made_anew again count anew box made before none = grind (arith, none-some)
-
 -- a sink without a box doesn't live
 unmade : (n : ℕ) (made : List Step) → box_of n made ≡ None → made_of n made ≡ None
 unmade n [] none = refl
-unmade n (Step.Sink sink streams slots mtu ∷ earlier) none = made_anew (sink == n) (sinks_made earlier) _ (box_of n earlier) (made_of n earlier) (unmade n earlier) none
-unmade n (Step.Drop sink ∷ earlier) none = made_as (sink == n) (box_of n earlier) (made_of n earlier) (unmade n earlier) none
+unmade n (Step.Sink sink streams slots mtu ∷ earlier) none = grind (arith, none-some, (unmade n earlier))
+unmade n (Step.Drop sink ∷ earlier) none = grind (arith, (unmade n earlier))
 unmade n (_ ∷ earlier) none = unmade n earlier none
 
 has_box : (sink : ℕ) (earlier : List Step) → no_sink sink earlier ≡ None → is_some (box_of sink earlier) ≡ true
@@ -32,7 +21,7 @@ has_box sink earlier none = not-false (is_some (box_of sink earlier)) (fails_not
 housed_after : (airs : Airs) (boxes n : ℕ) (step : Step) (earlier : List Step) (calls : List Call) → Permitted airs boxes earlier step → (box_of n earlier ≡ None → place calls ≡ None)
     → box_after n step earlier (box_of n earlier) ≡ None → place (with_sink_call airs n step earlier calls) ≡ None
 housed_after airs boxes n step earlier calls permits before none =
-    grind (arith, gone_housed, has_box, same_place, air_place, tick_if_place, end_place, unmoved, unmade, none-some, is_none, eqb-true)
+    grind (arith, has_box, same_place, air_place, tick_if_place, end_place, unmoved, unmade, none-some, is_none, eqb-true)
 
 housed : (airs : Airs) (boxes n : ℕ) (made : List Step) → Legal airs boxes made → box_of n made ≡ None → place (sink_calls airs n made) ≡ None
 housed airs boxes n [] legal none = refl
@@ -40,20 +29,13 @@ housed airs boxes n (step ∷ earlier) legal none = search (housed_after, permit
 
 -- ---- of what is handed up as an event is closed, what is of one sink and one source
 
-pub of_sink_on : (s n : ℕ) (xs ys : List SinkUnit) → of_sink s n (xs ++ ys) ≡ of_sink s n xs ++ of_sink s n ys
-of_sink_on s n xs ys = search (filter-append, map-append)
-
 of_sinks : (s n : ℕ) (f : ℕ → List SinkUnit) (ms : List ℕ) → of_sink s n (flat_map f ms) ≡ flat_map (λ m. of_sink s n (f m)) ms
 of_sinks s n f [] = refl
-of_sinks s n f (m ∷ ms) = of_sink_on s n (f m) (flat_map f ms) ∙ ap (λ ys. of_sink s n (f m) ++ ys) (of_sinks s n f ms)
+of_sinks s n f (m ∷ ms) = handed_append s n (f m) (flat_map f ms) ∙ ap (λ ys. of_sink s n (f m) ++ ys) (of_sinks s n f ms)
 
 own_units : (s n box : ℕ) (units : List Handed) → of_sink s n (map (λ unit. record { source = s; sink = n; box = box; unit = unit }) units) ≡ units
 own_units s n box [] = refl
 own_units s n box (unit ∷ units) = rw (eq-eqb s s refl, eq-eqb n n refl) (ap (λ us. unit ∷ us) (own_units s n box units))
-
-other_units : (s n c m box : ℕ) (units : List Handed) → (eqb c s && eqb m n) ≡ false → of_sink s n (map (λ unit. record { source = c; sink = m; box = box; unit = unit }) units) ≡ []
-other_units s n c m box [] apart = refl
-other_units s n c m box (unit ∷ units) apart = rw apart (other_units s n c m box units apart)
 
 -- the units of an event, where one is closed
 abbrev pub handed_open : List Call → Option ℕ → List Handed
@@ -66,11 +48,7 @@ own_closing s n event calls box mine before = grind (arith, own_units)
 
 other_closing : (s n c m event : ℕ) (calls : List Call) (box : Option ℕ) (its : Bool) → (eqb c s && eqb m n) ≡ false
     → of_sink s n (cond its (closing_in c event m calls box) []) ≡ []
-other_closing s n c m event calls box its apart = grind (arith, other_units)
-
-none_of : (g : ℕ → List Handed) (start count : ℕ) → ((m : ℕ) → start ≤ m → g m ≡ []) → flat_map g (range_with_len start count) ≡ []
-none_of g start zero none = refl
-none_of g start (suc count) none = cc (none start (omega arith), none_of g (start + 1) count (λ m least. none m (omega (arith, least))))
+other_closing s n c m event calls box its apart = grind (arith, not_handed)
 
 sink_closing : (airs : Airs) (boxes s n : ℕ) (made : List Step) (event : ℕ) → Legal airs boxes made → n ≤ 7
     → of_sink s n (closing_at airs s made (Some event)) ≡ cond (is_of s (source_of n made)) (handed_at (sink_calls airs n made) event) []
@@ -80,13 +58,6 @@ sink_closing airs boxes s n made event legal within =
     ∙ flat_one (λ m. of_sink s n (closing_by s event m (sink_calls airs m made) (source_of m made) (box_of m made))) n 0 8 (omega arith) (omega (arith, within))
     (λ m apart. other_closing s n s m event (sink_calls airs m made) (box_of m made) (is_of s (source_of m made)) (and_right (eqb s s) (eqb m n) (ne_eqb m n apart)))
     ∙ own_closing s n event (sink_calls airs n made) (box_of n made) (is_of s (source_of n made)) (housed airs boxes n made legal)
-
-unfold_other : (airs : Airs) (s c n : ℕ) (made : List Step) (event : ℕ) → c ≢ s → of_sink s n (closing_at airs c made (Some event)) ≡ []
-unfolding sink_numbers
-unfold_other airs s c n made event apart = search (of_sinks, none_of, other_closing, and_left, ne_eqb)
-
-other_source : (airs : Airs) (s c n : ℕ) (made : List Step) (last_open : Option ℕ) → c ≢ s → of_sink s n (closing_at airs c made last_open) ≡ []
-other_source airs s c n made last_open apart = grind (arith, unfold_other)
 
 -- ---- what a step hands up of a sink and a source
 
@@ -106,15 +77,11 @@ shown_by airs s n earlier _ = []
 cond_same : (units : List Handed) (b : Bool) → cond b units units ≡ units
 cond_same units b = grind arith
 
-closing_open : (airs : Airs) (boxes s n : ℕ) (made : List Step) (last_open : Option ℕ) → Legal airs boxes made → n ≤ 7
-    → of_sink s n (closing_at airs s made last_open) ≡ shown_if (is_of s (source_of n made)) (sink_calls airs n made) last_open
-closing_open airs boxes s n made last_open legal within = grind (arith, cond_same, sink_closing)
-
 pub closing_shown : (airs : Airs) (boxes s c n : ℕ) (made : List Step) → Legal airs boxes made → n ≤ 7
     → of_sink s n (closing airs c made) ≡ cond (c == s) (shown_with airs s n made) []
 closing_shown airs boxes s c n made legal within = elim (cases_eq c s) [
-  | inl same ↦ grind (arith, of_sink, closing_open, open_event, steps_of_source, cond-true, eq-eqb)
-  | inr apart ↦ grind (arith, other_source, open_event, steps_of_source, cond-false, ne_eqb)
+  | inl same ↦ grind (arith, of_sink, open_event, steps_of_source, cond-true, eq-eqb, cond_same, sink_closing)
+  | inr apart ↦ grind (arith, cond-false, ne_eqb, not_closing)
 ]
 
 -- one of the two sources is this one
@@ -125,7 +92,7 @@ pub step_shown : (airs : Airs) (boxes s n : ℕ) (step : Step) (earlier : List S
     → of_sink s n (handed_by airs earlier step) ≡ shown_by airs s n earlier step
 step_shown airs boxes s n Step.End earlier legal least within =
     cc (
-      of_sink_on s n (closing airs 0 earlier) (closing airs 1 earlier),
+      handed_append s n (closing airs 0 earlier) (closing airs 1 earlier),
       closing_shown airs boxes s 0 n earlier legal within,
       closing_shown airs boxes s 1 n earlier legal within,
       both_shown s (shown_with airs s n earlier) least,

@@ -34,9 +34,6 @@ count_laid none h count is = grind arith
 pub laid_some : (count h : ℕ) → 0 < count → cond (count == 0) 0 (count + h) ≡ count + h
 laid_some count h some = cond-false (count == 0) 0 (count + h) (ne_eqb count 0 (λ is. omega (arith, some, is)))
 
-none_yet : (count : ℕ) → (count == 0) ≡ true → count ≡ 0
-none_yet count is = eqb-true count 0 is
-
 pub laid_by : (setup : Setup) (bis : ℕ) (calls : List Call) → LaidBy setup (laid_before setup.info calls) (framed_calls setup bis calls)
 laid_by setup bis [] = record { count_is = refl; each = λ n laying at. absurd (none-some laying at) }
 laid_by setup bis (give stream time octets ∷ calls) = elim (cases_eq stream bis) [
@@ -45,7 +42,7 @@ laid_by setup bis (give stream time octets ∷ calls) = elim (cases_eq stream bi
 ]
 laid_by setup bis (event ∷ calls) =
     subst (λ n. LaidBy setup n (framed_calls setup bis (event ∷ calls)))
-    (count_laid (events calls == 0) (horizon_of setup.info) (events calls) (none_yet (events calls)) ∙ sym (laid_some (suc (events calls)) (horizon_of setup.info) (omega arith)))
+    (count_laid (events calls == 0) (horizon_of setup.info) (events calls) (eqb-true (events calls) 0) ∙ sym (laid_some (suc (events calls)) (horizon_of setup.info) (omega arith)))
     (lay_all setup (laid_before setup.info calls) (laid_with setup.info calls) (framed_calls setup bis calls) (laid_by setup bis calls))
 
 -- an air has an entry for each event laid
@@ -64,25 +61,25 @@ events_in setup bis calls air is = air_long setup.info (framed_calls setup bis c
 abbrev Short : ℕ → Timed → Type 0
 Short most unit = length unit.octets ≤ most
 
-pub all_push : {A : Type 0} (P : A → Type 0) (xs : List A) (x : A) → AllByRecursion P xs → P x → AllByRecursion P (xs ++ x ∷ [])
-all_push P [] x all last = (last, tt)
-all_push P (y ∷ xs) x all last = (all.0, all_push P xs x all.1 last)
+pub all_append : {A : Type 0} (P : A → Type 0) (xs ys : List A) → AllByRecursion P xs → AllByRecursion P ys → AllByRecursion P (xs ++ ys)
+all_append P [] ys first rest = rest
+all_append P (x ∷ xs) ys first rest = (first.0, all_append P xs ys first.1 rest)
 
 all_short : (airs : Airs) (setup : Setup) (bis : ℕ) (calls : List Call) → AreAccepted airs setup calls → AllByRecursion (Short setup.info.max_sdu) (accepted (framed_calls setup bis calls))
 all_short airs setup bis [] all = tt
 all_short airs setup bis (give stream time octets ∷ calls) all = elim (cases_eq stream bis) [
   | inl same ↦ rw (eq-eqb stream bis same)
-      (all_push (Short setup.info.max_sdu) (accepted (framed_calls setup bis calls)) (record { time = unwrap_or time 0; octets = octets }) (all_short airs setup bis calls all.0)
-      (ltb-false setup.info.max_sdu (length octets) (second_false (ltb setup.info.num_bis stream) (ltb setup.info.max_sdu (length octets)) _ _ _ all.1)))
+      (all_append (Short setup.info.max_sdu) (accepted (framed_calls setup bis calls)) (record { time = unwrap_or time 0; octets = octets } ∷ []) (all_short airs setup bis calls all.0)
+      (ltb-false setup.info.max_sdu (length octets) (second_false (ltb setup.info.num_bis stream) (ltb setup.info.max_sdu (length octets)) _ _ _ all.1), tt))
   | inr other ↦ rw (ne_eqb stream bis other) (all_short airs setup bis calls all.0)
 ]
 all_short airs setup bis (event ∷ calls) all = search (timed_accepted, all_short airs setup bis calls all.0)
 
-one_of : (most : ℕ) (units : List Timed) (i : ℕ) (unit : Timed) → AllByRecursion (Short most) units → slice_get units i ≡ Some unit → Short most unit
-one_of most [] i unit all is = absurd (none-some unit is)
-one_of most (first ∷ units) zero unit all is = subst (Short most) (same_Some first unit is) all.0
-one_of most (first ∷ units) (suc i) unit all is = one_of most units i unit all.1 is
+pub one_of : {A : Type 0} (P : A → Type 0) (xs : List A) (i : ℕ) (x : A) → AllByRecursion P xs → slice_get xs i ≡ Some x → P x
+one_of P [] i x all is = absurd (none-some x is)
+one_of P (first ∷ xs) zero x all is = subst P (same_Some first x is) all.0
+one_of P (first ∷ xs) (suc i) x all is = one_of P xs i x all.1 is
 
 pub unit_short : (airs : Airs) (setup : Setup) (bis : ℕ) (calls : List Call) → AreAccepted airs setup calls → (i : ℕ) (unit : Timed) → slice_get (accepted (framed_calls setup bis calls)) i ≡ Some unit
     → length unit.octets ≤ setup.info.max_sdu
-unit_short airs setup bis calls all i unit is = one_of setup.info.max_sdu (accepted (framed_calls setup bis calls)) i unit (all_short airs setup bis calls all) is
+unit_short airs setup bis calls all i unit is = one_of (Short setup.info.max_sdu) (accepted (framed_calls setup bis calls)) i unit (all_short airs setup bis calls all) is

@@ -1,7 +1,63 @@
--- What a source of a framed group sends is its own: the PDUs of the units that its air sends, by payload numbers.
-use Rattle.scenario_laws.proofs.Known.{ℕ, zero, suc, ◌≡◌, ◌<◌, ◌≤◌, ◌+◌, ◌-◌, ◌*◌, ◌/◌, List, [], ◌∷◌, ◌++◌, length, map, Some, refl, sym, ◌∙◌, ap, subst, arith, slice_get, unwrap_or, AllZip, range_with_len, option_and_then, add-mul, BigInfo, Group, Bounds, horizon_of, Content, framed, pdu, Air, pdu_at, Fit, InOrder, Sent, parts_at, ahead_of, payload_number, AreAirs, IsAir, pdu_of, Airs, Setup, events, next_of, ahead_within, event_of_number, BigSync, setup_of, source_calls, MeetAirs, AreSent, by_payload, ◌==◌, cond, ltb, Bool, true, false, Option, is_some, slice_index_or, Contains, list_any, div-mul-le_self, mul-le-mul, eqb-true, false≢true, ltb-false, or_parts, Stay, opened, decided, heard_in, is_heard, struck, segmented, opened_least, framed_calls, laid_before, of_stream, member_is, stay_on, streams_of, Step, steps_of_source, is_started, sink_calls, IsFramedStruck, air_in, calls_on, handed_since, injected_since, is_tuned, of_sink, SourceCall, Below, Settled, group_in, settled, Lawful, are_accepted, bounds_in, lawful, events_more, Within, next_in, within_itself, WholeSends, its_airs, all_own, events_in, laid_some, unit_short, read_as, heard_first, ticked_since, has_beyond, Announcing, Legal, IsOn, OnSource, TunedTo, on_source, stay_within, StayCall}
-use Rattle.scenario_laws.proofs.SentUnits.{each_sent, fit_on, order_from, order_on, parts_on}
+-- The units that a framed air sends, by payload numbers: the PDU of each number is theirs.
+use Rattle.scenario_laws.proofs.Known.{ℕ, zero, suc, ◌≡◌, ◌<◌, ◌≤◌, ◌+◌, ◌-◌, ◌*◌, ◌/◌, List, [], ◌∷◌, ◌++◌, length, map, Some, refl, sym, ◌∙◌, ap, subst, arith, slice_get, unwrap_or, AllZip, range_with_len, option_and_then, add-mul, BigInfo, Group, Bounds, horizon_of, Content, framed, pdu, Air, pdu_at, Fit, InOrder, Sent, parts_at, ahead_of, payload_number, AreAirs, IsAir, pdu_of, Airs, Setup, events, next_of, ahead_within, event_of_number, BigSync, setup_of, source_calls, MeetAirs, AreSent, by_payload, ◌==◌, cond, ltb, Bool, true, false, Option, is_some, slice_index_or, Contains, list_any, div-mul-le_self, mul-le-mul, eqb-true, false≢true, ltb-false, or_parts, Stay, opened, decided, heard_in, is_heard, struck, segmented, opened_least, framed_calls, laid_before, of_stream, member_is, stay_on, streams_of, Step, steps_of_source, is_started, sink_calls, IsFramedStruck, air_in, calls_on, handed_since, injected_since, is_tuned, of_sink, SourceCall, Below, Settled, group_in, settled, Lawful, are_accepted, bounds_in, lawful, events_more, Within, next_in, within_itself, WholeSends, its_airs, all_own, events_in, laid_some, unit_short, read_as, heard_first, ticked_since, has_beyond, Announcing, Legal, IsOn, OnSource, TunedTo, on_source, stay_within, StayCall, ◌%◌, ◌&&◌, eqb, None, inl, inr, cases_eq, eq-eqb, ne_eqb, div-add-mod', mod_below, Laid, event_at, EventsAre, get-range, carried, is_last, part_with, behind}
 use Rattle.scenario_laws.proofs.FromSources.{framed_from_source}
+
+-- ---- the PDU of a number
+
+pub each_sent : (info : BigInfo) (air : Air) (units : List Sent) (number : ℕ) → 1 ≤ info.bn → EventsAre info air units → number / info.bn < length air
+    → pdu_at info.bn air number ≡ Some (pdu (framed (parts_at units number)))
+each_sent info [] units number some are below = absurd (omega (arith, below))
+each_sent info (entry ∷ earlier) units number some are below = elim (cases_eq (length earlier) (number / info.bn)) [
+  | inl here ↦ grind (arith, option_and_then, slice_get, cond, event_at, eq-eqb, length, div-add-mod', get-range, pdu, framed, parts_at,
+  mod_below)
+  | inr apart ↦
+      ap (λ b. option_and_then (λ (event : Laid). slice_get event.pdus (number % info.bn)) (cond b (Some entry.event) (event_at earlier (number / info.bn)))) (ne_eqb (length earlier)
+      (number / info.bn) apart) ∙ each_sent info earlier units number some are.0 (omega (arith, below, apart))
+]
+
+-- ---- numbers that begin further on
+
+abbrev pub moved_on : ℕ → Sent → Sent
+moved_on base unit = record { first = base + unit.first; offset = unit.offset; segments = unit.segments; whole = unit.whole }
+
+same_test : (base a b : ℕ) → eqb (base + a) (base + b) ≡ eqb a b
+same_test base a b = grind (arith, cases_eq, eq-eqb, ne_eqb)
+
+carried_on : (base from : ℕ) (offset : Option ℕ) (segments : List (List ℕ)) (whole : Bool) (number : ℕ)
+    → carried (base + from) offset segments whole (base + number) ≡ carried from offset segments whole number
+carried_on base from offset [] whole number = refl
+carried_on base from offset (octets ∷ segments) whole number =
+    let next : base + from + 1 ≡ base + (from + 1) = omega arith in
+    rw (same_test base from number) (ap (λ rest. cond (eqb from number) (part_with offset (whole && is_last segments) octets ∷ []) rest)
+    (ap (λ f. carried f None segments whole (base + number)) next ∙ carried_on base (from + 1) None segments whole number))
+
+pub parts_on : (base : ℕ) (units : List Sent) (number : ℕ) → parts_at (map (moved_on base) units) (base + number) ≡ parts_at units number
+parts_on base [] number = refl
+parts_on base (unit ∷ units) number =
+    cc (carried_on base unit.first (Some unit.offset) unit.segments unit.whole number, parts_on base units number)
+
+no_more : (base : ℕ) (units : List Sent) → units ≡ [] → map (moved_on base) units ≡ []
+no_more base units none = ap (map (moved_on base)) none
+
+pub order_on : (base from laid : ℕ) (units : List Sent) → InOrder from laid units → InOrder (base + from) (base + laid) (map (moved_on base) units)
+order_on base from laid [] order = tt
+order_on base from laid (unit ∷ units) order =
+    let next : base + (behind unit - 1) ≡ behind (moved_on base unit) - 1 = omega (arith, order.1) in (
+      omega (arith, order.0),
+      order.1,
+      (λ partly. (no_more base units (order.2 partly).0, omega (arith, (order.2 partly).1))),
+      subst (λ f. InOrder f (base + laid) (map (moved_on base) units)) next (order_on base (behind unit - 1) laid units order.3),
+    )
+
+pub order_from : (from low laid : ℕ) (units : List Sent) → low ≤ from → InOrder from laid units → InOrder low laid units
+order_from from low laid [] more order = tt
+order_from from low laid (unit ∷ units) more order = (omega (arith, more, order.0), order.1, order.2, order.3)
+
+pub fit_on : (base most : ℕ) (units : List Sent) → Fit most units → Fit most (map (moved_on base) units)
+fit_on base most [] fit = tt
+fit_on base most (unit ∷ units) fit = (fit.0, fit_on base most units fit.1)
+
+-- ---- what a source of a framed group sends is its own: the PDUs of the units that its air sends, by payload numbers
 
 -- ---- the air of a stream
 

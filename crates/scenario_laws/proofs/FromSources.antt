@@ -1,13 +1,10 @@
 -- What is the source's own is read as what was laid.
-use Rattle.scenario_laws.proofs.Known.{ℕ, ◌≡◌, ◌+◌, ltb, List, [], ◌∷◌, ◌++◌, Option, Some, Result, Ok, sym, ◌∙◌, ap, subst, arith, AllByRecursion, none-some, same_Some, Content, PduIs, framed, pdu, Stay, Sent, parts_at, segmented, laid, Slots, air_at, FromSource, unframed, ◌<◌, ◌≤◌, true, refl, unwrap_or, Group, Air, payload_number, AreAirs, airs_of, content_at, pdu_of, slots_of, Airs, Setup, next_of, IsChecked, BigSync, stay_on, Step, setup_of, source_calls, is_started, MeetAirs, pdu_read_of as read_of, read_as, taken_of, heard_first, FramedFromSource, Own, SendsOwn, its_airs, SourceCall, Below, Lawful, Settled, checked, group_in, settled, Extends, Within, events_more, StayCall}
+use Rattle.scenario_laws.proofs.Known.{ℕ, ◌≡◌, ◌+◌, ltb, List, [], ◌∷◌, ◌++◌, Option, Some, Result, Ok, sym, ◌∙◌, ap, subst, arith, AllByRecursion, none-some, same_Some, Content, PduIs, framed, pdu, Stay, Sent, parts_at, segmented, laid, Slots, air_at, FromSource, unframed, ◌<◌, ◌≤◌, true, refl, unwrap_or, Group, Air, payload_number, AreAirs, airs_of, content_at, pdu_of, slots_of, Airs, Setup, next_of, IsChecked, BigSync, stay_on, Step, setup_of, source_calls, is_started, MeetAirs, pdu_read_of as read_of, read_as, heard_first, FramedFromSource, Own, SendsOwn, its_airs, SourceCall, Below, Lawful, Settled, checked, group_in, settled, Extends, Within, events_more, StayCall}
 use Rattle.iso_pdu.specs.declared.fault.PduFault.{PduFault}
 use Rattle.iso_pdu.proofs.Citable.{pdu-is, read_of-layout, read_of-encoded}
 
 slot_unframed : (max_pdu : ℕ) (slot : Option (List ℕ)) (r : ℕ) → unframed (laid max_pdu slot r) ≡ Some (laid max_pdu slot r)
 slot_unframed max_pdu slot r = grind (arith, ltb)
-
-taken_cases : {A : Type 0} (takes : Content → Option A) (r : Result Content PduFault) (part : A) → taken_of takes r ≡ Some part → (got : Content) × (r ≡ Ok got) × (takes got ≡ Some part)
-taken_cases takes r part is = grind (arith, none-some)
 
 same_ok : (a b : Content) → (let ok : Content → Result Content PduFault = λ c. Ok c in ok a ≡ ok b) → a ≡ b
 same_ok a b e = cc
@@ -16,7 +13,7 @@ same_ok a b e = cc
 read_own : {A : Type 0} (takes : Content → Option A) (max_pdu : ℕ) (sent : Content) (part : A) (octets : List ℕ) → octets ≡ pdu sent
     → read_as takes max_pdu octets ≡ Some part → takes sent ≡ Some part
 read_own takes max_pdu sent part octets is reads =
-    let got = taken_cases takes (read_of max_pdu octets) part reads in
+    let got : (got : Content) × ((read_of max_pdu octets) ≡ Ok got) × (takes got ≡ Some part) = grind (arith, none-some) in
     let long = (read_of-encoded max_pdu got.0 octets got.1).1 in
     let again : read_of max_pdu octets ≡ Ok sent = read_of-layout max_pdu sent octets (subst (PduIs sent) (sym is) (pdu-is sent), long) in
     ap takes (same_ok sent got.0 (sym again ∙ got.1)) ∙ got.2

@@ -1,7 +1,7 @@
 -- Each PDU that a sink hears on a stream of its group is the source's own at its payload number, where none is injected.
-use Rattle.scenario_laws.proofs.Known.Sources.{ℕ, zero, suc, ◌≡◌, ◌≢◌, ◌<◌, ◌≤◌, ◌+◌, ◌*◌, ◌/◌, ◌%◌, ◌&&◌, ◌||◌, ◌==◌, cond, ltb, leb, Bool, true, false, List, [], ◌∷◌, Option, None, Some, refl, sym, ◌∙◌, ap, subst, arith, inl, inr, AllByRecursion, div-lt_iff_lt-mul, and_parts, eqb-true, eqb-false, ltb-false, leb-false, false≢true, mod_below, none-some, Bounds, Content, pdu, laid, payload_number, AreAirs, Airs, Setup, events, next_of, air_fault, Call, tune, hear, BigSync, stay_on, stream_calls, Step, NotOnAir, chosen_of, chosen_steps, steps_of_source, setup_of, source_calls, performed, event_back, is_started, pdu_in, open_event, MeetAirs, position_at, is_lost, is_of, hear_at, unless_lost, heard_on_air, reaches, sink_calls, source_of, positions_of, ticked_if, big_sync_on, air_refusal, no_place, injected_since, is_injected, is_tuned, SourceCall, Legal, Permitted, fails_not, maps_none, permitted, Lawful, are_accepted, bounds_in, group_in, lawful, settled, Within, within_before, StaysBy, announced, given_stays, plain_stays, StayCall}
+use Rattle.scenario_laws.proofs.Known.Sources.{ℕ, zero, suc, ◌≡◌, ◌≢◌, ◌<◌, ◌≤◌, ◌+◌, ◌*◌, ◌/◌, ◌%◌, ◌&&◌, ◌||◌, ◌==◌, cond, ltb, leb, Bool, true, false, List, [], ◌∷◌, Option, Some, refl, sym, ◌∙◌, ap, subst, arith, inl, inr, AllByRecursion, div-lt_iff_lt-mul, and_parts, eqb-true, eqb-false, ltb-false, leb-false, false≢true, mod_below, none-some, Bounds, Content, pdu, laid, payload_number, AreAirs, Airs, Setup, events, next_of, air_fault, Call, tune, hear, BigSync, stay_on, stream_calls, Step, NotOnAir, chosen_of, chosen_steps, steps_of_source, setup_of, source_calls, performed, event_back, is_started, pdu_in, open_event, MeetAirs, position_at, is_lost, is_of, hear_at, unless_lost, heard_on_air, reaches, sink_calls, source_of, positions_of, ticked_if, big_sync_on, air_refusal, injected_since, is_injected, is_tuned, SourceCall, Legal, Permitted, fails_not, maps_none, permitted, Lawful, are_accepted, bounds_in, group_in, lawful, settled, Within, within_before, StaysBy, announced, given_stays, plain_stays, StayCall}
 use Rattle.scenario_laws.proofs.Announced.{Announcing}
-use Rattle.scenario_laws.proofs.Stays.{BeginsBy, IsOn, OnSource, begins_calls, last_not, on_before, on_source, rest_not}
+use Rattle.scenario_laws.proofs.Stays.{IsOn, OnSource, begins_calls, last_not, on_before, on_source, rest_not}
 
 -- each PDU of a stream that these steps of a source sent is the source's own, by what it lays at each number
 abbrev pub SendsOwn : Airs → (ℕ → Content) → BigSync → ℕ → List Step → Type 0
@@ -68,20 +68,12 @@ tick_if_own : (laid : ℕ → Content) (tuning : BigSync) (bis : ℕ) (mine : Bo
     → AllOwn laid tuning bis calls → AllOwn laid tuning bis (ticked_if mine last_open calls)
 tick_if_own laid tuning bis mine last_open calls all = grind (arith, laid)
 
-inject_own : (laid : ℕ → Content) (tuning : BigSync) (bis : ℕ) (mine its injected : Bool) (call : Call) (calls : List Call)
-    → (mine || injected) ≡ false → (injected ≡ false → AllOwn laid tuning bis calls) → AllOwn laid tuning bis (cond (mine && its) (call ∷ calls) calls)
-inject_own laid tuning bis mine its injected call calls clean before = grind (arith, false≢true)
-
 -- ---- a place on the air that isn't refused
 
 pub record OnAir (own : List Step) (back bis subevent : ℕ) : Type 0 where
   pub stream : bis ≤ (setup_of own).info.num_bis
   pub subevent_below : subevent < (setup_of own).info.nse
   pub performed_then : back < performed own
-
-pub on_air : (own : List Step) (back bis subevent : ℕ) → no_place own back bis subevent ≡ None → OnAir own back bis subevent
-on_air own back bis subevent none =
-    grind (arith, air_fault, setup_of, source_calls, maps_none, air_refusal, none-some, ltb, leb, events, ltb-false, leb-false)
 
 -- ---- step by step
 
@@ -111,7 +103,8 @@ own_after : (airs : Airs) (laid : ℕ → Content) (tuning : BigSync) (boxes s n
 own_after airs laid tuning boxes s n bis (Step.Tuned sink which) earlier injected permits least there clean ready =
     put_own laid tuning bis (sink == n) injected (big_sync_on (chosen_steps earlier) which) (sink_calls airs n earlier) clean (λ none. (ready none).all)
 own_after airs laid tuning boxes s n bis (Step.Hear sink back stream subevent) earlier injected permits least there clean ready =
-    let at : OnAir (chosen_steps earlier) back stream subevent = on_air (chosen_steps earlier) back stream subevent permits.by_source in
+    let at : OnAir (chosen_steps earlier) back stream subevent = grind (arith, air_fault, setup_of, source_calls, maps_none, air_refusal,
+    none-some, ltb, leb, events, ltb-false, leb-false) in
     mine_own laid tuning bis (reaches sink n earlier) _ (sink_calls airs n earlier) (ready clean).all
     (λ mine. let now = sent_by airs laid tuning bis s n sink earlier (sink_calls airs n earlier) there mine (ready clean) in
     hear_own laid tuning bis (event_back (chosen_steps earlier) back) stream subevent _ (sink_calls airs n earlier) now.all
@@ -123,7 +116,8 @@ own_after airs laid tuning boxes s n bis (Step.Air sink lose) earlier injected p
     (ready clean).all
     (λ mine. let now = sent_by airs laid tuning bis s n sink earlier (sink_calls airs n earlier) there mine (ready clean) in
     air_own airs laid tuning (chosen_steps earlier) bis lose (positions_of (chosen_steps earlier)) (sink_calls airs n earlier) now.sent least now.bounds.nse (omega (arith, near)) (omega arith) now.all)
-own_after airs laid tuning boxes s n bis (Step.Inject sink back stream subevent octets) earlier injected permits least there clean ready = grind (arith, inject_own, laid, is_of, chosen_of, source_of, hear, event_back, chosen_steps, sink_calls)
+own_after airs laid tuning boxes s n bis (Step.Inject sink back stream subevent octets) earlier injected permits least there clean ready =
+    grind (arith, laid, is_of, chosen_of, source_of, hear, event_back, chosen_steps, sink_calls, false≢true)
 own_after airs laid tuning boxes s n bis Step.End earlier injected permits least there clean ready =
     tick_if_own laid tuning bis (is_of 1 (source_of n earlier)) (open_event (steps_of_source 1 earlier))
     (ticked_if (is_of 0 (source_of n earlier)) (open_event (steps_of_source 0 earlier)) (sink_calls airs n earlier))
@@ -132,10 +126,6 @@ own_after airs laid tuning boxes s n bis (Step.Announce sink) earlier injected p
 own_after airs laid tuning boxes s n bis (Step.Train sink time ext adv acad) earlier injected permits least there clean ready = grind (arith, stays_own, laid, given_stays, last_not, is_tuned)
 own_after airs laid tuning boxes s n bis step earlier injected permits least there clean ready =
     search (gone_own, tick_if_own, (ready clean).all, stays_own, plain_stays)
-
-begins_own : (airs : Airs) (laid : ℕ → Content) (s n bis : ℕ) (step : Step) (earlier : List Step) (tuning : BigSync) → BeginsBy airs s n step earlier tuning
-    → AllOwn laid tuning bis (sink_calls airs n (step ∷ earlier))
-begins_own airs laid s n bis step earlier tuning begins = subst (AllOwn laid tuning bis) (sym (begins_calls airs s n step earlier tuning begins)) tt
 
 -- what the source sends, so far and later, is its own, by what it lays at each number in all
 abbrev pub WholeSends : Airs → Setup → List SourceCall → (ℕ → Content) → BigSync → ℕ → Type 0
@@ -159,5 +149,5 @@ all_own laws airs setup whole laid tuning boxes s n bis (step ∷ earlier) sends
         sends (steps_of_source s earlier) own_legal on.started shorter,
         bounds_in (steps_of_source s earlier) (settled airs (steps_of_source s earlier) own_legal) on.started,
       )))
-  | inr begins ↦ begins_own airs laid s n bis step earlier tuning begins
+  | inr begins ↦ subst (AllOwn laid tuning bis) (sym (begins_calls airs s n step earlier tuning begins)) tt
 ]

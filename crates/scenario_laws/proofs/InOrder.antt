@@ -1,5 +1,5 @@
 -- The valid units that a sink hands up of a source are units that the source accepted, in order.
-use Rattle.scenario_laws.proofs.Known.{ℕ, ◌≡◌, ◌<◌, ◌≤◌, ◌+◌, ◌==◌, cond, leb, Bool, true, false, List, [], ◌∷◌, ◌++◌, length, map, Option, None, Some, refl, sym, ◌∙◌, ap, subst, arith, inl, inr, eq-eqb, cases_Bool, leb-true, false≢true, append-nil, filter-append, BigInfo, Handed, slots_of, Airs, Setup, events, Call, tick, BigSync, handed_at, of_stream, is_in, stay_on, stream_calls, is_member, member_is, Step, chosen_of, steps_of_source, setup_of, source_calls, open_event, MeetAirs, is_of, sink_calls, source_of, ticked, SinkUnit, handed_by, closed_by, given_since_made, handed_since, injected_since, is_given, is_injected, is_made, is_tuned, of_sink, shown_since, InSourceOrder, valid_in, laid_events, unframed_units_of as units_of, SourceCall, source_stream, place, closes, Announcing, Below, Legal, legal, lawful, true_not_false, Within, events_more, next_in, next_rises, within_before, within_itself, IsOn, OnSource, TunedTo, last_not, not_in_stay, on_since_made, on_source, rest_not, handed_open, shown_by, shown_if, step_shown, end_ticks, event_ticks, is_its, Climb, climbs, event_of, prefix, prefix_of, its_prefix, mine_in, open_before, on_whole, shown_on, tick_hands, tick_others, climb_up}
+use Rattle.scenario_laws.proofs.Known.{ℕ, ◌≡◌, ◌<◌, ◌≤◌, ◌+◌, ◌==◌, cond, leb, Bool, true, false, List, [], ◌∷◌, ◌++◌, length, map, Option, None, Some, refl, sym, ◌∙◌, ap, subst, arith, inl, inr, eq-eqb, cases_Bool, leb-true, false≢true, append-nil, filter-append, BigInfo, Handed, slots_of, Airs, Setup, events, Call, tick, BigSync, handed_at, of_stream, is_in, stay_on, stream_calls, is_member, member_is, Step, chosen_of, steps_of_source, setup_of, source_calls, open_event, MeetAirs, is_of, sink_calls, source_of, ticked, SinkUnit, handed_by, closed_by, given_since_made, handed_since, injected_since, is_given, is_injected, is_made, is_tuned, of_sink, shown_since, InSourceOrder, valid_in, laid_events, unframed_units_of as units_of, SourceCall, source_stream, place, closes, Below, Legal, legal, lawful, true_not_false, Within, events_more, next_in, next_rises, within_before, within_itself, IsOn, OnSource, TunedTo, last_not, not_in_stay, on_since_made, on_source, rest_not, handed_open, shown_by, shown_if, step_shown, end_ticks, event_ticks, is_its, climbs, event_of, prefix, prefix_of, its_prefix, mine_in, open_before, on_whole, shown_on, tick_hands, tick_others, climb_up}
 use Rattle.scenario_laws.proofs.UnitsLaw.{slot_short}
 use Rattle.scenario_laws.proofs.Closes.{closing, moved}
 use Rattle.scenario_laws.proofs.Numbers.{laid_least, Ordered, ordered_none, ordered_later, ordered_more, close_batch}
@@ -61,12 +61,6 @@ closed_orders below airs meets boxes s n bis setup whole made ready event before
     (valid_in (units_of (stay_on tuning bis) (stream_calls (stay_on tuning bis) (sink_calls airs n made)) (tuning.first + closes tuning (sink_calls airs n made))))
     (omega (arith, on.first)) past (omega (arith, over, before, same, more, laid, on.first)) order last)
 
-tuned_plain : Announcing → (airs : Airs) (boxes s n bis : ℕ) (setup : Setup) (whole : List SourceCall) (made : List Step) → Ready airs boxes s n bis setup whole made
-    → (tuning : BigSync) → place (sink_calls airs n made) ≡ Some tuning → source_of n made ≡ Some s → tuning.info.framing ≡ 0
-tuned_plain laws airs boxes s n bis setup whole made ready tuning is its =
-    ap (λ (i : BigInfo). i.framing)
-    (on_whole laws airs boxes s n setup whole made ready.legal_is ready.ungiven ready.within (ap (is_of s) its ∙ eq-eqb s s refl) tuning is).info ∙ ready.plain
-
 event_orders : Below → (airs : Airs) → MeetAirs airs → (boxes s n bis : ℕ) (setup : Setup) (whole : List SourceCall) (made : List Step) → Ready airs boxes s n bis setup whole made
     → (event : ℕ) → event < next_in (steps_of_source s made) → source_of n made ≡ Some s → (p : Option BigSync) → place (sink_calls airs n made) ≡ p → (next later : ℕ)
     → next_in (steps_of_source s made) ≤ next → prefix_of p (tick event ∷ sink_calls airs n made) next ≤ later → (units : List Handed)
@@ -84,7 +78,9 @@ event_orders below airs meets boxes s n bis setup whole made ready event before 
           let shown : of_stream bis (handed_at (sink_calls airs n made) event)
           ≡ cond (leb (tuning.first + closes tuning (sink_calls airs n made)) event)
           (units_of (stay_on tuning bis) (stream_calls (stay_on tuning bis) (sink_calls airs n made)) (tuning.first + closes tuning (sink_calls airs n made))) [] =
-          tick_hands below event (sink_calls airs n made) tuning bis (tuned_plain below.announcing airs boxes s n bis setup whole made ready tuning is its) is
+          tick_hands below event (sink_calls airs n made) tuning bis (ap (λ (i : BigInfo). i.framing)
+          (on_whole below.announcing airs boxes s n setup whole made ready.legal_is ready.ungiven ready.within (ap
+          (is_of s) its ∙ eq-eqb s s refl) tuning is).info ∙ ready.plain) is
           (is_member tuning.which bis ready.least ready.greatest taken)
           ∙ ap (λ o. cond (leb o event) (units_of (stay_on tuning bis) (stream_calls (stay_on tuning bis) (sink_calls airs n made)) o) []) (below.one_open tuning (sink_calls airs n made) bis) in
           elim (cases_Bool (leb (tuning.first + closes tuning (sink_calls airs n made)) event)) [

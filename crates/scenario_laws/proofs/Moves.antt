@@ -1,6 +1,6 @@
 -- What a line makes of a sink that it names by its control or by its links: its receivers stay or leave, or a train puts them on
 -- a group; and a sink that follows a train on no group may be of another source then.
-use Rattle.scenario_laws.proofs.Known.Sources.Steps.Prelude.{ℕ, ◌≡◌, ◌⊎◌, ◌==◌, ◌&&◌, cond, Bool, true, false, List, ◌∷◌, Option, None, Some, is_some, refl, ap, inl, inr, arith, by_numbers, with_leave, with_step, TrainHeard, Snapshot, TrainOutcome, Settings, Train, heard, ignored, outcome_by, by_broadcast_id, by_slot, big_sync_in, BigSync, Call, leave, tune, has_group, Step, Source, made_of, named_by, own_train, brings_by, follows, big_sync_of, received_by, source_by, train_by, snapshot_in, Airs, sink_calls, source_after, source_of, with_sink_call, chosen_of, calls_made, source_at, is_tuned, SinkSetup as Setup, taken, place, moved, LinkCall, is_made, is_injected, is_given}
+use Rattle.scenario_laws.proofs.Known.Sources.Steps.Prelude.{ℕ, ◌≡◌, ◌⊎◌, ◌==◌, cond, Bool, true, false, List, ◌∷◌, Option, None, Some, is_some, refl, ap, inl, inr, arith, by_numbers, with_leave, with_step, Snapshot, TrainOutcome, Settings, Train, heard, ignored, outcome_by, big_sync_in, BigSync, Call, leave, tune, has_group, Step, Source, made_of, named_by, own_train, brings_by, follows, big_sync_of, received_by, source_by, train_by, snapshot_in, Airs, sink_calls, source_after, source_of, with_sink_call, chosen_of, calls_made, source_at, is_tuned, taken, place, moved, LinkCall, is_made, is_injected, is_given}
 use Rattle.scenario_laws.proofs.Places.{Nowhere, nowhere}
 
 -- ---- what becomes of the receivers
@@ -41,16 +41,10 @@ StaysBy airs n step earlier =
 
 -- ---- a line that hands the sink no train
 
-left_or_not : (was is : Bool) (calls : List Call) → Left (with_leave was is calls) calls
-left_or_not was is calls = grind arith
-
-moved_left : (n : ℕ) (named : Option ℕ) (step : Step) (earlier : List Step) (calls : List Call) → train_by (source_at earlier) step ≡ None → Left (moved n named step earlier calls) calls
-moved_left n named step earlier calls none = grind (arith, left_or_not)
-
 pub plain_stays : (airs : Airs) (n : ℕ) (step : Step) (earlier : List Step) → train_by (source_at earlier) step ≡ None
     → moved n (named_by step) step earlier (sink_calls airs n earlier) ≡ with_sink_call airs n step earlier (sink_calls airs n earlier)
     → source_after n step earlier (source_of n earlier) ≡ source_of n earlier → is_tuned n earlier step ≡ false → StaysBy airs n step earlier
-plain_stays airs n step earlier none is same begins_not = grind (arith, sink_calls, moved_left, named_by)
+plain_stays airs n step earlier none is same begins_not = grind (arith, sink_calls, named_by)
 
 pub same_if : {A : Type 0} (hit : Bool) (x : A) → cond hit x x ≡ x
 same_if hit x = grind arith
@@ -72,14 +66,6 @@ given_stays airs n sink time ext adv acad earlier other = search arith
 
 -- ---- a train that is announced
 
-heard_at : (setup : Setup) (snapshot : Snapshot) (train : Train) (slot : Option ℕ) (other : ℕ) (answer : TrainHeard) (encrypted : Option Bool)
-    → by_slot setup snapshot train slot ≡ heard other answer encrypted → has_group snapshot.place ≡ false
-heard_at setup snapshot train slot other answer encrypted is = grind arith
-
-heard_by : (setup : Setup) (snapshot : Snapshot) (train : Train) (id : Option (List ℕ)) (other : ℕ) (answer : TrainHeard) (encrypted : Option Bool)
-    → by_broadcast_id setup snapshot train id ≡ heard other answer encrypted → has_group snapshot.place ≡ false
-heard_by setup snapshot train id other answer encrypted is = grind (arith, heard_at)
-
 -- what the source of a line announces synchronizes a sink, of this history, to this BIG
 pub record BroughtTo (source : Source) (lives : List LinkCall) (big_sync : BigSync) : Type 0 where
   pub made : Settings
@@ -89,9 +75,9 @@ by_train : (source : Source) (lives : List LinkCall) (made : Settings) (later : 
     → (has_group (snapshot_in made lives).place ≡ false → place calls ≡ None) → (brought : TrainOutcome) → outcome_by made.setup (snapshot_in made lives) (own_train source) ≡ brought
     → Went (BroughtTo source lives) source.number (is_some (big_sync_in brought)) calls (with_step (big_sync_in brought) (snapshot_in made lives) later calls)
     its_source (cond (follows brought) (Some source.number) its_source)
-by_train source lives made later calls its_source nowhere (ignored answer) is = grind (arith, left_or_not, has_group, snapshot_in)
+by_train source lives made later calls its_source nowhere (ignored answer) is = grind (arith, has_group, snapshot_in)
 by_train source lives made later calls its_source nowhere (heard slot answer encrypted) is =
-    let off : has_group (snapshot_in made lives).place ≡ false = heard_by made.setup (snapshot_in made lives) (own_train source) _ slot answer encrypted is in
+    let off : has_group (snapshot_in made lives).place ≡ false = grind arith in
     inr (inl (assumption (ap (λ was. with_leave was (has_group later.place) calls) off, nowhere off)))
 by_train source lives made later calls its_source nowhere (taken slot bits encrypted big_sync) is =
     inr (inr (record { big_sync = big_sync; brings = record { made = made; is = ap big_sync_in is }; calls_is = refl; source_is = refl; begins_is = refl }))
@@ -102,10 +88,6 @@ by_made : (source : Source) (n : ℕ) (here there : List LinkCall) (made : Optio
     its_source (source_by source (Step.Announce n) made here its_source)
 by_made source n here there None calls its_source nowhere = inl (record { left = inl refl; same = refl; begins_not = refl })
 by_made source n here there (Some made) calls its_source nowhere = search (by_train, nowhere)
-
-went_if : (Brings : BigSync → Type 0) (chosen : ℕ) (hit begins : Bool) (calls more : List Call) (source new : Option ℕ) → Went Brings chosen begins calls more source new
-    → Went (λ big_sync. (hit ≡ true) × Brings big_sync) chosen (hit && begins) calls (cond hit more calls) source (cond hit new source)
-went_if x1 chosen hit begins calls more source new went = grind (arith, follows)
 
 -- `announce` names the sink of this number, and synchronizes it to this BIG
 abbrev pub Brings : ℕ → ℕ → List Step → BigSync → Type 0
@@ -123,8 +105,5 @@ FollowsBy airs n sink earlier =
 
 pub announced : (airs : Airs) (n sink : ℕ) (earlier : List Step) → StaysBy airs n (Step.Announce sink) earlier ⊎ (FollowsBy airs n sink earlier ⊎ PutBy airs n sink earlier)
 announced airs n sink earlier =
-    went_if (BroughtTo (source_at earlier) (calls_made n earlier)) (chosen_of earlier) (sink == n) (brings_by (source_at earlier) (Step.Announce sink) (made_of n earlier) (calls_made n earlier))
-    (sink_calls airs n earlier)
-    (received_by (source_at earlier) (Step.Announce sink) (made_of n earlier) (calls_made n earlier) (calls_made n (Step.Announce sink ∷ earlier)) (sink_calls airs n earlier))
-    (source_of n earlier) (source_by (source_at earlier) (Step.Announce sink) (made_of n earlier) (calls_made n earlier) (source_of n earlier))
-    (by_made (source_at earlier) sink (calls_made n earlier) (calls_made n (Step.Announce sink ∷ earlier)) (made_of n earlier) (sink_calls airs n earlier) (source_of n earlier) (nowhere airs n earlier))
+    grind (arith, follows, (by_made (source_at earlier) sink (calls_made n earlier) (calls_made n (Step.Announce sink ∷ earlier))
+    (made_of n earlier) (sink_calls airs n earlier) (source_of n earlier) (nowhere airs n earlier)))

@@ -1,6 +1,5 @@
 -- The units of an event by their numbers, and what a close hands of them.
-use Rattle.scenario_laws.proofs.Known.{ℕ, zero, suc, ◌≡◌, ◌<◌, ◌≤◌, ◌+◌, ◌-◌, ◌==◌, min, cond, Bool, false, List, [], ◌∷◌, ◌++◌, length, map, Some, refl, sym, ◌∙◌, ap, subst, arith, inl, inr, slice_get, AllZip, AllByRecursion, range_with_len, cases_eq, eq-eqb, ne_eqb, false≢true, none-some, slice_get_within, BigInfo, Bounds, per_event_of, horizon_of, Handed, valid, lost, opened, before_event, lay, lays, begun, handed, unit_at, IsStruck, Place, Struck, air_at, closed_slots, begun_within, lays_accepted, all_zip_append, place_of, slots_of, Airs, Setup, give, events, given, laid_with, next_of, prefix_accepted, lays_events, BigSync, bis_of, stay_on, stream_calls, Step, steps_of_source, MeetAirs, sink_calls, injected_since, is_tuned, IsGiven, is_valid, time_in, valid_in, whole_stay, StreamCall, unframed_accept as accept, unframed_accepted as accepted, laid_events, unframed_units_of as units_of, window_time_of as time_of, SourceCall, event as perform, source_stream, Below, Legal, Settled, bounds_in, lawful, settled, Within, IsOn, OnSource, TunedTo, on_source, Own, all_own, Climb, climb_from, climb_on, slot_time_is, StayCall}
-use Rattle.std.proofs.lemmas.Slice.Zip.{AllZip-long}
+use Rattle.scenario_laws.proofs.Known.{ℕ, zero, suc, ◌≡◌, ◌<◌, ◌≤◌, ◌+◌, ◌-◌, ◌==◌, min, cond, Bool, false, List, [], ◌∷◌, ◌++◌, length, map, Some, refl, sym, ◌∙◌, ap, subst, arith, inl, inr, slice_get, AllZip, AllByRecursion, range_with_len, cases_eq, eq-eqb, ne_eqb, none-some, slice_get_within, BigInfo, Bounds, per_event_of, horizon_of, Handed, valid, lost, opened, before_event, lay, lays, begun, handed, unit_at, IsStruck, Place, Struck, air_at, closed_slots, begun_within, lays_accepted, all_zip_append, place_of, slots_of, Airs, Setup, give, events, given, laid_with, next_of, prefix_accepted, lays_events, BigSync, bis_of, stay_on, stream_calls, Step, steps_of_source, MeetAirs, sink_calls, injected_since, is_tuned, IsGiven, time_in, valid_in, whole_stay, StreamCall, unframed_accept as accept, unframed_accepted as accepted, laid_events, unframed_units_of as units_of, window_time_of as time_of, SourceCall, event as perform, source_stream, Below, Legal, Settled, bounds_in, lawful, settled, Within, IsOn, OnSource, TunedTo, on_source, Own, all_own, Climb, climb_from, climb_on, slot_time_is, StayCall, AllZip-long}
 use Rattle.scenario_laws.proofs.FromSources.{sends_own, from_source}
 
 -- ---- the units of the slots of a stream, by their numbers
@@ -143,24 +142,14 @@ zip_at R f g start (suc count) all i least below = elim (cases_eq start i) [
   | inr other ↦ zip_at R f g (start + 1) count all.1 i (omega (arith, least, other)) (omega (arith, below))
 ]
 
-abbrev octets_inside : Handed → List ℕ
-octets_inside (valid b t o) = o
-octets_inside (lost b t) = []
-
-valid_not_lost : (b t stream time : ℕ) (octets : List ℕ) → lost b t ≡ valid stream time octets → ⊥
-valid_not_lost b t stream time octets same = false≢true (ap is_valid same)
-
-opened_octets : (b t : ℕ) (o : List ℕ) (stream time : ℕ) (octets : List ℕ) → valid b t o ≡ valid stream time octets → o ≡ octets
-opened_octets b t o stream time octets is = ap octets_inside is
-
 struck_slots : (setup : Setup) (whole : List SourceCall) (tuning : BigSync) (bis event slot : ℕ) (calls : List StayCall) (unit : Handed) → TunedTo setup tuning → tuning.first ≤ event
     → IsStruck (stay_on tuning bis) (slots_of setup whole bis) calls event slot unit → IsSlots setup whole bis event slot unit
 struck_slots setup whole tuning bis event slot calls (valid b t o) on least struck stream time octets is = (
   sym (ap bis_of is) ∙ struck.0,
   sym (ap time_in is) ∙ struck.1 ∙ slot_time_is setup tuning bis event slot on least,
-  struck.2.has ∙ ap (λ u. Some u) (opened_octets b t o stream time octets is),
+  cc (struck.2.has),
 )
-struck_slots setup whole tuning bis event slot calls (lost b t) on least struck stream time octets is = absurd (valid_not_lost b t stream time octets is)
+struck_slots setup whole tuning bis event slot calls (lost b t) on least struck stream time octets is = cc
 
 last_batch : (setup : Setup) (whole : List SourceCall) (tuning : BigSync) (bis event : ℕ) (sc : List StayCall) → TunedTo setup tuning
     → opened (stay_on tuning bis) sc ≡ event → tuning.first ≤ event → setup.first ≤ event → event < next_of setup whole

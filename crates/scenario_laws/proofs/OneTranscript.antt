@@ -1,19 +1,13 @@
 -- Over two airs that meet the relation of their framing the same happens: relays offer the same units, and source 1 takes the same of
 -- them.
-use Rattle.scenario_laws.proofs.Known.Sources.{arith, ℕ, ◌≡◌, ◌∙◌, cond, not, Bool, true, false, List, [], ◌∷◌, None, refl, ap, flat_map, option_map, Step, give_fault, Offer, after_offer, after_offers, answered_by, closes_first, dropped_for, handed_of, happened, offered_of, offers_at, with_relayed_unit_unless, with_relayed_units, give_refusal, refusal_of, relay_of, setup_of, source_calls, takes_units, Airs, steps_of_source, AreSaidLegally, ◌+◌, ◌==◌, ◌++◌, length, Option, sym, subst, TextLine, Account, Accepted, End, accepted_of, accepted_unless, end_unless, out, out_unless, AreAirs, stale_of, event_fault, Refusal, chosen_of, chosen_steps, is_started, stale_in, MeetAirs, closing_both, handed_up, line_refusal, close_lines, first_lines, output_of, sums_of, unit_lines, handed_said, output_said, refusal_said, rules_of, steps_of, end_after, out_of, transcript_end, transcript_of, units_of, sink_numbers, closing, answered, Runs, happens_legally, left_by_offers, line_passes, runs_at, runs_still, unless_legal, Legal, LinesInRange, legal, permitted, said_legally, lawful, takes, Lawful, are_accepted, checked, group_in, hears, no_end, settled, end_of, event as perform, Said, line_handed_on as handed_on, said_after}
-use Rattle.scenario_laws.proofs.TwoAirs.{Both, Twice, closing_same, in_order, its_same, legal_too, chosen_same, closing_both_same, handed_same, handed_up_same, pdu_same, refusal_same, sink_same}
+use Rattle.scenario_laws.proofs.Known.Sources.{arith, ℕ, ◌≡◌, ◌∙◌, cond, not, Bool, true, false, List, [], ◌∷◌, None, refl, ap, flat_map, Step, Offer, after_offer, after_offers, answered_by, closes_first, dropped_for, handed_of, happened, offered_of, offers_at, with_relayed_unit_unless, with_relayed_units, refusal_of, relay_of, setup_of, source_calls, Airs, AreSaidLegally, ◌+◌, ◌==◌, ◌++◌, length, Option, sym, subst, TextLine, Account, Accepted, End, accepted_of, accepted_unless, end_unless, out, out_unless, AreAirs, stale_of, event_fault, Refusal, chosen_of, chosen_steps, is_started, stale_in, MeetAirs, closing_both, handed_up, line_refusal, close_lines, first_lines, output_of, sums_of, unit_lines, handed_said, output_said, refusal_said, rules_of, steps_of, end_after, out_of, transcript_end, transcript_of, units_of, sink_numbers, closing, answered, Runs, happens_legally, left_by_offers, line_passes, runs_at, runs_still, unless_legal, Legal, LinesInRange, legal, permitted, said_legally, lawful, takes, Lawful, are_accepted, checked, group_in, no_end, settled, end_of, event as perform, Said, line_handed_on as handed_on, said_after}
+use Rattle.scenario_laws.proofs.TwoAirs.{Both, Twice, closing_same, in_order, its_same, legal_too, chosen_same, closing_both_same, handed_same, handed_up_same, refusal_same, sink_same}
 
 -- ---- units that are offered
 
 dropped_same : (airs others : Airs) → Both airs others → (boxes : ℕ) (offer : Offer) (made : List Step) → Twice airs others boxes made
     → dropped_for airs offer made ≡ dropped_for others offer made
 dropped_same airs others both boxes offer made twice = grind (arith, in_order, not, its_same, lawful, takes)
-
-offers_same : (airs others : Airs) → Both airs others → (boxes : ℕ) (made : List Step) → Legal airs boxes made
-    → offers_at airs made ≡ offers_at others made
-offers_same airs others both boxes made legal =
-    ap (λ units. flat_map (λ n. offered_of n (relay_of n made) (handed_of 0 n units)) sink_numbers)
-    (closing_same airs others both boxes 0 made legal)
 
 -- the same becomes of these units
 record Alike (airs others : Airs) (offers : List Offer) (made : List Step) : Type 0 where
@@ -45,7 +39,8 @@ record RelayedUnitsAlike (airs others : Airs) (closes : Bool) (made : List Step)
 relayed_units_alike : (closes : Bool) (airs others : Airs) → Both airs others → (boxes : ℕ) (made : List Step) → Legal airs boxes made
     → (closes ≡ true → Runs made) → RelayedUnitsAlike airs others closes made
 relayed_units_alike true airs others both boxes made legal runs =
-    let offers = offers_same airs others both boxes made legal in
+    let offers = ap (λ units. flat_map (λ n. offered_of n (relay_of n made) (handed_of 0 n units)) sink_numbers)
+    (closing_same airs others both boxes 0 made legal) in
     let both_ways : Alike airs others (offers_at airs made) made =
     alike airs others both boxes (offers_at airs made) made legal (runs refl) in
     assumption (
@@ -126,27 +121,10 @@ ends_same airs others both starts made legal none =
 
 -- ---- lines
 
-said_refused : (airs others : Airs) → Both airs others → (boxes : ℕ) (made : List Step) (said : Said) → Legal airs boxes made → refusal_said airs boxes made said ≡ refusal_said others boxes made said
-said_refused airs others both boxes made said legal = grind (arith, refusal_same, legal, legal_too)
-
 said_brought : (airs others : Airs) → Both airs others → (starts : List Account) (made : List Step) (said : Said) → Legal airs (length starts) made
     → refusal_said airs (length starts) made said ≡ None → output_said airs starts made said ≡ output_said others starts made said
 said_brought airs others both starts made said legal none =
-    grind (
-      arith,
-      legal,
-      line_passes,
-      close_same,
-      stale_same,
-      legal_too,
-      ends_same,
-      handed_up_same,
-      sink_same,
-      pdu_same,
-      chosen_same,
-      hears,
-      permitted,
-    )
+    grind (arith, close_same, stale_same, legal_too, ends_same, handed_up_same, sink_same, chosen_same)
 
 -- what both airs share over a text with these boxes
 pub record Told (airs others : Airs) : Type 0 where
@@ -160,7 +138,8 @@ steps_same airs others told starts history accepted = grind (arith, happened_sam
 refused_same : (airs others : Airs) → Told airs others → (starts : List Account) (history : List TextLine) (line : TextLine) → Accepted (rules_of airs starts) history
     → refusal_said airs (length starts) (steps_of airs history) (said_after history line)
     ≡ refusal_said others (length starts) (steps_of others history) (said_after history line)
-refused_same airs others told starts history line accepted = grind (arith, said_refused, length, steps_of, legal, refusal_said, steps_same)
+refused_same airs others told starts history line accepted =
+    grind (arith, length, steps_of, legal, refusal_said, steps_same, refusal_same, legal_too)
 
 pub brought_same : (airs others : Airs) → Told airs others → (starts : List Account) (history : List TextLine) (line : TextLine)
     → Accepted (rules_of airs starts) history → refusal_said airs (length starts) (steps_of airs history) (said_after history line) ≡ None

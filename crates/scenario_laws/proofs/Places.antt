@@ -1,5 +1,5 @@
 -- The group that the receivers of a sink are on, before a line of the air and after it: the same.
-use Rattle.scenario_laws.proofs.Known.Sources.Steps.Prelude.{ℕ, zero, suc, ◌≡◌, cond, Bool, List, Option, refl, ◌∙◌, arith, Call, hear, Step, Airs, heard_on_air, ticked_if, unless_lost, ◌==◌, true, false, [], ◌∷◌, None, Some, sym, ap, subst, false≢true, none-some, same_Some, with_step, Snapshot, sync_to_group, train_heard, Settings, Train, BigSync, snapshot_goes_on, tune, stepped, has_group, Source, given_train, calls_at, made_of, named_by, own_train, big_sync_of, received_by, train_by, snapshot_in, sink_calls, with_sink_call, calls_made, source_at, the_world, place, link_steps_of as steps_of, moved, LinkCall}
+use Rattle.scenario_laws.proofs.Known.Sources.Steps.Prelude.{ℕ, zero, suc, ◌≡◌, cond, Bool, List, Option, refl, ◌∙◌, arith, Call, hear, Step, Airs, heard_on_air, ticked_if, unless_lost, ◌==◌, true, false, [], ◌∷◌, None, Some, sym, ap, subst, false≢true, none-some, same_Some, with_step, Snapshot, sync_to_group, train_heard, Settings, Train, BigSync, snapshot_goes_on, tune, stepped, has_group, Source, given_train, calls_at, made_of, own_train, big_sync_of, received_by, train_by, snapshot_in, sink_calls, with_sink_call, calls_made, source_at, the_world, place, link_steps_of as steps_of, moved, LinkCall}
 use Rattle.delegator_machine.proofs.Citable.{comes_on}
 
 pub same_place : (mine : Bool) (more calls : List Call) → place more ≡ place calls → place (cond mine more calls) ≡ place calls

@@ -7,5 +7,4 @@ pub mod Legal
 pub mod Offered
 pub mod One
 pub mod Printed
-pub mod Refused
 pub mod Routes

@@ -1,4 +1,3 @@
 -- The laws of relayed units.
-pub mod Both
 pub mod Numbered
 pub mod Offering

@@ -1,5 +1,5 @@
 -- What a sink hands up on a stream of a source is one entry for each slot of each event of it that the sink closed.
-use Rattle.scenario_laws.proofs.Known.Sources.{ℕ, zero, suc, ◌≡◌, ◌<◌, ◌≤◌, ◌+◌, ◌-◌, ◌*◌, cond, leb, eqb, Bool, true, false, List, [], ◌∷◌, ◌++◌, map, Option, None, Some, refl, sym, ◌∙◌, ap, subst, arith, inl, inr, AllZip, Contains, range_with_len, add-mul, cases_Bool, cond-true, append-nil, append_cancel_left, filter-append, BigInfo, per_event_of, iso_us_of, Handed, anchor_of, unframed_reference_of, render_of, Stay, opened, handed, numbers_of, unit_at, unit_of, all_zip_append, Setup, Call, tick, BigSync, bis_of, handed_at, of_stream, is_in, stay_on, stream_calls, streams_of, is_member, member_is, Step, steps_of_source, setup_of, source_calls, Airs, is_of, sink_calls, source_of, SinkUnit, handed_by, Closed, closed_at, closed_by, closed_in, closed_since, IsOfSlot, given_since_made, handed_since, is_given, is_made, of_sink, shown_since, slots_closed, time_in, whole_stay, unframed_heard_in as heard_in, unframed_units_of as units_of, window_handed_of as handed_of, window_time_of as time_of, SourceCall, place, ticked_by_sink as ticked_by, ticked_since, closes, closed_if, Legal, true_not_false, Within, within_before, within_itself, handed_open, of_sink_on, shown_by, shown_if, step_shown, is_its, StayCall}
+use Rattle.scenario_laws.proofs.Known.Sources.{ℕ, zero, suc, ◌≡◌, ◌<◌, ◌≤◌, ◌+◌, ◌-◌, ◌*◌, cond, leb, eqb, Bool, true, false, List, [], ◌∷◌, ◌++◌, map, Option, None, Some, refl, sym, ◌∙◌, ap, subst, arith, inl, inr, AllZip, Contains, range_with_len, add-mul, cases_Bool, cond-true, append-nil, append_cancel_left, filter-append, BigInfo, per_event_of, iso_us_of, Handed, anchor_of, unframed_reference_of, render_of, Stay, opened, handed, numbers_of, unit_at, unit_of, all_zip_append, Setup, Call, tick, BigSync, bis_of, handed_at, of_stream, is_in, stay_on, stream_calls, streams_of, is_member, member_is, Step, steps_of_source, setup_of, source_calls, Airs, is_of, sink_calls, source_of, SinkUnit, handed_by, Closed, closed_by, closed_in, closed_since, IsOfSlot, given_since_made, handed_since, is_given, is_made, of_sink, shown_since, slots_closed, time_in, whole_stay, unframed_heard_in as heard_in, unframed_units_of as units_of, window_handed_of as handed_of, window_time_of as time_of, SourceCall, place, ticked_by_sink as ticked_by, ticked_since, closes, closed_if, Legal, true_not_false, Within, within_before, within_itself, shown_by, shown_if, step_shown, is_its, StayCall, handed_append}
 use Rattle.std.proofs.lemmas.Grind.{flat_map-append}
 use Rattle.scenario_laws.proofs.Announced.{Announcing}
 use Rattle.scenario_laws.proofs.Below.{Below}
@@ -47,9 +47,6 @@ pub slot_time_is : (setup : Setup) (tuning : BigSync) (bis event slot : ℕ) →
     → time_of (stay_on tuning bis) event slot ≡ time_of (whole_stay setup bis) event slot
 slot_time_is setup tuning bis event slot on least = render_same (λ info anchor. unframed_reference_of info anchor slot) setup tuning event on least
 
-handed_is : (bis time : ℕ) (unit : Option (List ℕ)) → (bis_of (handed_of bis time unit) ≡ bis) × (time_in (handed_of bis time unit) ≡ time)
-handed_is bis time unit = grind arith
-
 pub zip_maps : {A B : Type 0} (R : A → B → Type 0) (f : ℕ → A) (g : ℕ → B) (start count : ℕ) → ((i : ℕ) → i < start + count → R (f i) (g i))
     → AllZip R (map f (range_with_len start count)) (map g (range_with_len start count))
 zip_maps R f g start zero each = tt
@@ -62,11 +59,12 @@ units_in_slots : (setup : Setup) (tuning : BigSync) (bis : ℕ) (calls : List St
 units_in_slots setup tuning bis calls event on least =
     zip_maps (IsOfSlot setup bis) (λ slot. record { event = event; slot = slot }) (unit_at (stay_on tuning bis) calls event) 0 (per_event_of setup.info)
     (λ slot below.
-    let is = handed_is bis (time_of (stay_on tuning bis) event slot) (unit_of tuning.info.max_sdu (map (heard_in (stay_on tuning bis) calls) (numbers_of (stay_on tuning bis) event slot))) in
+    let is : (bis_of (handed_of bis (time_of (stay_on tuning bis) event slot) (unit_of tuning.info.max_sdu (map (heard_in
+    (stay_on tuning bis) calls) (numbers_of (stay_on tuning bis) event slot)))) ≡ bis) × (time_in (handed_of bis (time_of
+    (stay_on tuning bis) event slot) (unit_of tuning.info.max_sdu (map (heard_in (stay_on tuning bis) calls) (numbers_of
+    (stay_on tuning bis) event slot)))) ≡ (time_of (stay_on tuning bis) event slot)) =
+    grind arith in
     (is.0, is.1 ∙ slot_time_is setup tuning bis event slot on least))
-
-not_in_slots : (setup : Setup) (bis : ℕ) (over : Bool) (closed : Closed) → is_in closed.which bis ≡ false → slots_closed setup bis (cond over (closed ∷ []) []) ≡ []
-not_in_slots setup bis over closed out = grind arith
 
 one_slots : (setup : Setup) (bis : ℕ) (closed : Closed) → is_in closed.which bis ≡ true
     → slots_closed setup bis (closed ∷ []) ≡ map (λ slot. record { event = closed.event; slot = slot }) (range_with_len 0 (per_event_of setup.info))
@@ -93,18 +91,14 @@ event_zip below setup bis event calls (Some tuning) is on plain least within = e
       let none : of_stream bis (handed_at calls event) ≡ [] =
       tick_others below event calls tuning bis is (λ at. true_not_false (is_in tuning.which bis) (member_is tuning.which bis at).0 free) in
       subst (λ shown. AllZip (IsOfSlot setup bis) (slots_closed setup bis (closed_in (Some tuning) calls event)) shown) (sym none)
-      (grind (arith, not_in_slots, leb))
+      (grind (arith, leb))
 ]
 
 -- ---- step by step
 
-open_zip : Below → (setup : Setup) (bis : ℕ) (calls : List Call) (last_open : Option ℕ) → ((tuning : BigSync) → place calls ≡ Some tuning → TunedTo setup tuning)
-    → setup.info.framing ≡ 0 → 1 ≤ bis → bis ≤ 31 → AllZip (IsOfSlot setup bis) (slots_closed setup bis (closed_at calls last_open)) (of_stream bis (handed_open calls last_open))
-open_zip below setup bis calls last_open on plain least within = grind (arith, event_zip)
-
 with_zip : Below → (setup : Setup) (bis : ℕ) (calls : List Call) (last_open : Option ℕ) (mine : Bool) → (mine ≡ true → (tuning : BigSync) → place calls ≡ Some tuning → TunedTo setup tuning)
     → setup.info.framing ≡ 0 → 1 ≤ bis → bis ≤ 31 → AllZip (IsOfSlot setup bis) (slots_closed setup bis (closed_if mine calls last_open)) (of_stream bis (shown_if mine calls last_open))
-with_zip below setup bis calls last_open true on plain least within = open_zip below setup bis calls last_open (on refl) plain least within
+with_zip below setup bis calls last_open true on plain least within = grind (arith, event_zip, (on refl))
 with_zip below setup bis calls last_open false on plain least within = tt
 
 zip_if : (setup : Setup) (bis : ℕ) (its : Bool) (closed : List Closed) (units : List Handed) → AllZip (IsOfSlot setup bis) (slots_closed setup bis closed) (of_stream bis units)
@@ -117,7 +111,7 @@ pub step_zip : Below → (airs : Airs) (s n bis : ℕ) (setup : Setup) (step : S
 step_zip below airs s n bis setup step earlier on plain least within = grind (arith, zip_if, with_zip)
 
 pub shown_on : (s n bis : ℕ) (xs ys : List SinkUnit) → of_stream bis (of_sink s n (xs ++ ys)) ≡ of_stream bis (of_sink s n xs) ++ of_stream bis (of_sink s n ys)
-shown_on s n bis xs ys = grind (arith, of_stream, of_sink_on, filter-append, eqb, bis_of, of_sink)
+shown_on s n bis xs ys = grind (arith, of_stream, handed_append, filter-append, eqb, bis_of, of_sink)
 
 again_zip : (s n bis : ℕ) (setup : Setup) (again : Bool) (closed more : List Closed) (units others : List SinkUnit)
     → (again ≡ false → AllZip (IsOfSlot setup bis) (slots_closed setup bis closed) (of_stream bis (of_sink s n units)))

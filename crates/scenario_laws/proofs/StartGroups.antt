@@ -2,12 +2,10 @@
 -- holds of the group without its cipher.
 use Rattle.scenario_laws.proofs.Known.Sources.Steps.Prelude.{ℕ, ◌≡◌, ◌<◌, cond, Bool, true, false, List, [], ◌∷◌, ◌++◌, Option, None, Some, refl, sym, ap, arith, unwrap_or, find, AllByRecursion, false≢true, none-some, BigInfo, Cipher, GroupFault, faults, number_of, IsFirstFault, NoFault, has_fault, with_cipher, without_cipher, none_holds, group_refusal, first_fault}
 
-not_found : (holds : Bool) (fault : GroupFault) (rest : Option GroupFault) → cond holds (Some fault) rest ≡ None → (holds ≡ false) × (rest ≡ None)
-not_found holds fault rest none = grind (arith, none-some)
-
 none_found : (test : GroupFault → Bool) (all : List GroupFault) → find test all ≡ None → AllByRecursion (λ fault. test fault ≡ false) all
 none_found test [] none = tt
-none_found test (fault ∷ all) none = let here = not_found (test fault) fault (find test all) none in (here.0, none_found test all here.1)
+none_found test (fault ∷ all) none = let here : ((test fault) ≡ false) × ((find test all) ≡ None) =
+    grind (arith, none-some) in (here.0, none_found test all here.1)
 
 each_of : (test : GroupFault → Bool) → AllByRecursion (λ fault. test fault ≡ false) faults → (fault : GroupFault) → test fault ≡ false
 each_of test all fault = grind arith
@@ -39,9 +37,6 @@ found_last test (fault ∷ all) last is others =
     let more = found_last test all last here.1 others.1 in
     ((here.0, more.0), more.1)
 
-it_holds : (holds : Bool) (last : GroupFault) → cond holds (Some last) None ≡ Some last → holds ≡ true
-it_holds holds last is = grind (arith, none-some)
-
 before_last : (test : GroupFault → Bool) → AllByRecursion (λ fault. test fault ≡ false) but_last → (other : GroupFault) → number_of other < number_of GroupFault.Encrypted → test other ≡ false
 before_last test all other below = grind arith
 
@@ -53,7 +48,7 @@ first_encrypted greatest info is =
       differs GroupFault.RangeIso (omega arith),
       grind (arith, differs),
     ) in
-    record { holds = it_holds (test GroupFault.Encrypted) GroupFault.Encrypted found.1; none_before = before_last test found.0 }
+    record { holds = grind (arith, none-some); none_before = before_last test found.0 }
 
 pub may_be_sent : (greatest : ℕ) (info : BigInfo) (cipher : Option Cipher) (found : Option GroupFault) → first_fault greatest (with_cipher info cipher) ≡ found
     → group_refusal found ≡ None → NoFault greatest (without_cipher info)

@@ -1,9 +1,10 @@
 -- The entries that a stay on a framed stream decides, each of a start that was heard in it, in the order of these starts.
-use Rattle.scenario_laws.proofs.Known.{ℕ, zero, suc, ◌≡◌, ◌<◌, ◌≤◌, ◌+◌, ◌-◌, ◌*◌, ◌/◌, Bool, List, [], ◌∷◌, ◌++◌, map, Option, Some, None, refl, sym, ◌∙◌, ap, subst, arith, inl, inr, append_assoc, slice_get, AllZip, flat_map, range_with_len, add-mul, zero-add, div-mul-add, Part, start, Handed, Stay, opened, decided, event_tokens, heard_in, closed_end, Token, time_of, token_of, tokens_of, Fate, whole, broken, undecided, fate_at, units, opened_least, bis_of, AreInOrder, IsBefore, SegmentPlace, all_zip_append, time_in, ◌||◌, is_some, false, Contains, list_any, div-mul-le_self, mul-le-mul, cases_Bool, append-nil, list_any-append, BigInfo, Setup, next_of, BigSync, of_stream, is_in, stay_on, streams_of, is_member, member_is, Step, steps_of_source, setup_of, source_calls, Airs, sink_calls, Closed, InStartOrder, IsOfStart, calls_on, given_since_made, is_given, is_made, is_tuned, shown_since, more as further, framed_handed_of as handed_of, SourceCall, ticked_since, Below, Legal, true_not_false, Within, next_in, within_before, within_itself, IsOn, OnSource, TunedTo, on_source, rest_not, StayCall, made_alike}
+use Rattle.scenario_laws.proofs.Known.{ℕ, zero, suc, ◌≡◌, ◌<◌, ◌≤◌, ◌+◌, ◌-◌, ◌*◌, ◌/◌, Bool, List, [], ◌∷◌, ◌++◌, map, Option, Some, None, refl, sym, ◌∙◌, ap, subst, arith, inl, inr, append_assoc, slice_get, AllZip, flat_map, range_with_len, add-mul, zero-add, div-mul-add, Part, start, Handed, Stay, opened, decided, event_tokens, heard_in, closed_end, Token, time_of, token_of, tokens_of, Fate, undecided, fate_at, units, opened_least, bis_of, AreInOrder, IsBefore, SegmentPlace, all_zip_append, time_in, ◌||◌, is_some, false, Contains, list_any, div-mul-le_self, mul-le-mul, cases_Bool, append-nil, list_any-append, BigInfo, Setup, next_of, BigSync, of_stream, is_in, stay_on, streams_of, is_member, member_is, Step, steps_of_source, setup_of, source_calls, Airs, sink_calls, Closed, InStartOrder, IsOfStart, calls_on, given_since_made, is_given, is_made, is_tuned, shown_since, more as further, framed_handed_of as handed_of, SourceCall, ticked_since, Below, Legal, true_not_false, Within, next_in, within_before, within_itself, IsOn, OnSource, TunedTo, on_source, rest_not, StayCall, made_alike, length, Account, steps_of, OrderLaw, StepsInOrder, legal, closes_rise, slots_are_shown}
 use Rattle.scenario_laws.proofs.UnitsLaw.{since}
 use Rattle.scenario_laws.proofs.FramedStays.{heard_least, next_of_whole, opened_within, stay_on_whole}
-use Rattle.scenario_laws.proofs.UnitOrder.{event_below, start_time_is}
+use Rattle.scenario_laws.proofs.UnitOrder.{event_below, start_time_is, entries_in_order}
 use Rattle.scenario_laws.proofs.StaysInTurn.{OverStay, Turns, closed_from, over_stays}
+use Rattle.scenario_laws.proofs.InOrder.{units_in_order}
 
 -- ---- places in order, between two payload numbers
 
@@ -31,23 +32,17 @@ behind_more at (next ∷ places) high more most behind = (behind.0, behind_more 
 pub rise_more : (low : ℕ) (places : List SegmentPlace) (high more : ℕ) → high ≤ more → RiseTo low places high → RiseTo low places more
 rise_more low places high more most rise = grind (arith, behind_more)
 
-rise_from : (low from : ℕ) (places : List SegmentPlace) (high : ℕ) → low ≤ from → RiseTo from places high → RiseTo low places high
-rise_from low from places high least rise = grind arith
-
 behind_on : (at : SegmentPlace) (xs : List SegmentPlace) (middle : ℕ) (ys : List SegmentPlace) (high : ℕ) → Behind at xs middle → RiseTo middle ys high → Behind at (xs ++ ys) high
 behind_on at [] middle [] high first rest = omega (arith, first, rest)
 behind_on at [] middle (y ∷ ys) high first rest = (inl (omega (arith, first, rest.0)), rest.1)
 behind_on at (x ∷ xs) middle ys high first rest = (first.0, behind_on x xs middle ys high first.1 rest)
 
 pub rise_on : (low : ℕ) (xs : List SegmentPlace) (middle : ℕ) (ys : List SegmentPlace) (high : ℕ) → RiseTo low xs middle → RiseTo middle ys high → RiseTo low (xs ++ ys) high
-rise_on low xs middle ys high first rest = grind (arith, rise_from, behind_on)
+rise_on low xs middle ys high first rest = grind (arith, behind_on)
 
 behind_order : (at : SegmentPlace) (places : List SegmentPlace) (high : ℕ) → Behind at places high → AreInOrder (at ∷ places)
 behind_order at [] high behind = tt
 behind_order at (next ∷ places) high behind = (behind.0, behind_order next places high behind.1)
-
-pub are_in_order : (low : ℕ) (places : List SegmentPlace) (high : ℕ) → RiseTo low places high → AreInOrder places
-are_in_order low places high rise = grind (arith, behind_order)
 
 -- ---- the entries of a PDU
 
@@ -98,14 +93,10 @@ record StartsAt (stay : Stay) (calls : List StayCall) (number segment offset tim
   is_start : slice_get parts segment ≡ Some (start offset complete octets)
   time_is : time ≡ time_of stay (number / stay.info.bn) offset
 
-at_start : (stay : Stay) (calls : List StayCall) (number segment offset time : ℕ) (entry : Handed) → StartsAt stay calls number segment offset time → bis_of entry ≡ stay.bis
-    → time_in entry ≡ time → AtStart stay calls (record { number = number; segment = segment }) entry
-at_start stay calls number segment offset time entry starts stream same = search arith
-
 by_fate : (stay : Stay) (calls : List StayCall) (number segment offset time : ℕ) (fate : Fate) (entries : List Handed) → StartsAt stay calls number segment offset time
     → InPdu stay calls number (segment + 1) entries → InPdu stay calls number segment (handed_of stay.bis time fate ++ entries)
 by_fate stay calls number segment offset time (undecided octets) entries starts rest = none_in stay calls number segment entries rest
-by_fate stay calls number segment offset time fate entries starts rest = search (one_in, at_start)
+by_fate stay calls number segment offset time fate entries starts rest = search one_in
 
 -- what these segments of a PDU, from one on, give in front of other tokens
 abbrev PduGives : Stay → List StayCall → ℕ → ℕ → ℕ → List Token → List Token → Type 0
@@ -158,9 +149,6 @@ told_on stay calls low middle high xs ys first rest = record {
   each = all_zip_append (AtStart stay calls) first.places rest.places xs ys first.each rest.each;
 }
 
-pdu_told : (stay : Stay) (calls : List StayCall) (number : ℕ) (entries : List Handed) → InPdu stay calls number 0 entries → Told stay calls number (number + 1) entries
-pdu_told stay calls number entries pdu = grind (arith, within_behind)
-
 -- what so many PDUs of an event give in front of other tokens
 abbrev NumbersGive : Stay → List StayCall → ℕ → ℕ → ℕ → ℕ → List Token → Type 0
 NumbersGive stay calls max_sdu event number count rest =
@@ -178,7 +166,7 @@ numbers_give stay calls max_sdu event number (suc count) of_event rest =
     let end : number + 1 + count ≡ number + suc count = omega arith in (
       first.0 ++ later.0,
       grind (arith, units, append_assoc),
-      told_on stay calls number (number + 1) (number + suc count) first.0 later.0 (pdu_told stay calls number first.0 first.2)
+      told_on stay calls number (number + 1) (number + suc count) first.0 later.0 (grind (arith, within_behind))
           (subst (λ high. Told stay calls (number + 1) high later.0) end later.2),
     )
 
@@ -214,10 +202,6 @@ record GoesOn (n : ℕ) (all made : List Step) : Type 0 where
   pub split : all ≡ later ++ made
   pub same_sink : list_any (is_made n made) later ≡ false
 
--- it doesn't matter what came before
-any_alike : (n : ℕ) (before before' later : List Step) → list_any (is_made n before) later ≡ list_any (is_made n before') later
-any_alike n before before' later = search made_alike
-
 neither : (a b : Bool) → a ≡ false → b ≡ false → (a || (b || false)) ≡ false
 neither a b first second = grind (arith, true_not_false)
 
@@ -225,7 +209,7 @@ went_on : (n : ℕ) (all : List Step) (step : Step) (earlier : List Step) → is
 went_on n all step earlier still goes = record {
   later = goes.later ++ step ∷ [];
   split = goes.split ∙ sym (append_assoc goes.later (step ∷ []) earlier);
-  same_sink = grind (arith, list_any-append, is_made, neither, list_any, any_alike);
+  same_sink = grind (arith, list_any-append, is_made, neither, list_any, made_alike);
 }
 
 -- ---- the starts of one stay, by all steps
@@ -374,4 +358,15 @@ starts_in_order below airs boxes s n bis made legal is_framed source_within sink
     } in
     let all = over_stays (Claim airs made s n bis) (Fine airs boxes s n made) airs boxes s n bis turns made
     (record { legal_is = legal; within = within_itself (steps_of_source s made); ungiven = ungiven; goes = record { later = []; split = refl; same_sink = refl } }) in
-    record { places = all.places; order = are_in_order 0 all.places _ all.rise; each = all.each }
+    record { places = all.places; order = grind (arith, behind_order); each = all.each }
+
+-- ---- the order law, of both framings
+
+pub stays_in_order : Below → StepsInOrder
+stays_in_order below airs meets boxes made lawful_steps s n source_below ungiven =
+    search (closes_rise, slots_are_shown, starts_in_order, units_in_order, entries_in_order)
+
+pub order_law_holds : Below → (starts : List Account) → OrderLaw starts
+order_law_holds below starts airs meets lines accepted s n source_below ungiven =
+    stays_in_order below airs meets (length starts) (steps_of airs lines) (legal below.in_range airs starts lines accepted) s n source_below
+    ungiven

@@ -1,5 +1,5 @@
 -- The stays of a sink: it is on the group of the source that it is of, by what fixes the source.
-use Rattle.scenario_laws.proofs.Known.Sources.{ℕ, ◌≡◌, ◌⊎◌, ◌≤◌, ◌||◌, cond, Bool, true, false, List, [], ◌∷◌, Option, Some, refl, sym, ◌∙◌, ap, subst, arith, inl, inr, false≢true, or_parts, none-some, same_Some, iso_us_of, anchor_of, Setup, next_of, Call, tune, BigSync, Step, chosen_of, chosen_steps, steps_of_source, is_started, setup_of, source_calls, Airs, sink_calls, source_of, big_sync_on, any_since, given_since_made, injected_since, is_given, is_injected, is_made, is_tuned, steps_before, place, has_beyond, Legal, Permitted, fails_not, permitted, sends, takes, true_not_false, goes, next_in, given_is_injected}
+use Rattle.scenario_laws.proofs.Known.Sources.{ℕ, ◌≡◌, ◌⊎◌, ◌≤◌, ◌||◌, cond, Bool, true, false, List, [], ◌∷◌, Option, Some, refl, sym, ◌∙◌, ap, subst, arith, inl, inr, false≢true, or_parts, none-some, same_Some, iso_us_of, anchor_of, Setup, next_of, Call, tune, BigSync, Step, chosen_of, chosen_steps, steps_of_source, is_started, setup_of, source_calls, Airs, sink_calls, source_of, any_since, given_since_made, injected_since, is_given, is_injected, is_made, is_tuned, steps_before, place, has_beyond, Legal, Permitted, fails_not, permitted, sends, takes, true_not_false, goes, next_in, given_is_injected}
 use Rattle.scenario_laws.proofs.Announced.{Announcing, as_by_hand}
 use Rattle.scenario_laws.proofs.Becoming.{Puts, becomes, puts_first}
 
@@ -102,17 +102,13 @@ pub record OnSource (own : List Step) (tuning : BigSync) : Type 0 where
   pub tuned : TunedTo (setup_of own) tuning
   pub streams : has_beyond (setup_of own).info.num_bis tuning.which ≡ false
 
-tuned_to : (airs : Airs) (boxes s : ℕ) (earlier : List Step) (tuning : BigSync) (which : ℕ) → is_started (chosen_steps earlier) ≡ true → big_sync_on (chosen_steps earlier) which ≡ tuning
-    → has_beyond (setup_of (chosen_steps earlier)).info.num_bis which ≡ false → chosen_of earlier ≡ s → OnSource (steps_of_source s earlier) tuning
-tuned_to airs boxes s earlier tuning which started same within chosen = search arith
-
 pub begins_to : Announcing → (airs : Airs) (boxes s n : ℕ) (step : Step) (earlier : List Step) (tuning : BigSync) → Legal airs boxes earlier → Permitted airs boxes earlier step
     → BeginsBy airs s n step earlier tuning → OnSource (steps_of_source s earlier) tuning
-begins_to laws airs boxes s n (Step.Tuned sink which) earlier tuning legal permits begins = grind (arith, tuned_to, takes, chosen_steps, fails_not, setup_of)
+begins_to laws airs boxes s n (Step.Tuned sink which) earlier tuning legal permits begins =
+    grind (arith, takes, chosen_steps, fails_not, setup_of)
 begins_to laws airs boxes s n (Step.Announce sink) earlier tuning legal permits begins =
     let by_hand = as_by_hand laws airs boxes n sink earlier begins.puts.by.0.big_sync legal permits begins.puts.by.0.brings in
-    tuned_to airs boxes s earlier tuning begins.puts.by.0.big_sync.which (sends (chosen_steps earlier) permits.in_phase)
-    (sym by_hand.0 ∙ begins.puts.by.1 ∙ begins.on_is) by_hand.1 begins.chosen_is
+    search (arith, (sends (chosen_steps earlier) permits.in_phase), (sym by_hand.0 ∙ begins.puts.by.1 ∙ begins.on_is))
 begins_to laws airs boxes s n _ earlier tuning legal permits begins = absurd begins.puts.by
 
 -- such a stay begins with the source's next event

@@ -1,5 +1,5 @@
 -- Two airs that meet the relation of their framing: no source, no refusal, no sink and no close tells them apart.
-use Rattle.scenario_laws.proofs.Known.{ℕ, zero, suc, ◌≡◌, Bool, true, false, List, [], ◌∷◌, Option, None, refl, sym, ◌∙◌, ap, arith, unwrap_or, option_or, or_parts, Air, AreAirs, airs_of, pdu_of, Airs, Setup, IsChecked, Call, Step, Refusal, chosen_of, chosen_steps, steps_of_source, event_back, is_started, open_event, pdu_in, setup_of, source_calls, MeetAirs, heard_on_air, sink_calls, position_at, with_sink_call, closing_at, closing_both, handed_by, handed_up, refusal_of, refuse_if, SourceCall, closing, Legal, permitted, Lawful, checked, group_in, hears, lawful, settled, takes, flat_same, its_airs}
+use Rattle.scenario_laws.proofs.Known.{ℕ, zero, suc, ◌≡◌, Bool, true, false, List, [], ◌∷◌, Option, None, refl, sym, ◌∙◌, ap, arith, unwrap_or, option_or, or_parts, Air, AreAirs, airs_of, pdu_of, Airs, Setup, IsChecked, Call, Step, Refusal, chosen_of, chosen_steps, steps_of_source, event_back, is_started, open_event, pdu_in, setup_of, source_calls, MeetAirs, heard_on_air, sink_calls, position_at, with_sink_call, closing_at, closing_both, handed_by, handed_up, refusal_of, refuse_if, SourceCall, closing, Legal, permitted, Lawful, checked, group_in, hears, lawful, settled, takes, flat_same, its_airs, subst}
 
 -- the relation has at most one solution
 abbrev pub OneAir : Type 0
@@ -87,3 +87,8 @@ pub handed_up_same : (airs others : Airs) → Both airs others → (boxes : ℕ)
 handed_up_same airs others both boxes [] legal = refl
 handed_up_same airs others both boxes (step ∷ earlier) legal =
     cc (handed_up_same airs others both boxes earlier legal.0, handed_same airs others both boxes earlier step legal.0)
+
+-- ---- airs that meet the relation of their framing
+
+pub airs_meet : SomeAirs → MeetAirs airs_of
+airs_meet some = record { meet = λ group setup calls same accepted. some setup calls (subst IsChecked (sym same) (checked group)) }

@@ -1,5 +1,5 @@
 -- The entries of a framed stream over all stays of a sink with a source: each is of a unit that the source accepted, in order.
-use Rattle.scenario_laws.proofs.Known.{ℕ, suc, ◌≡◌, ◌⊎◌, ◌<◌, ◌≤◌, ◌+◌, ◌-◌, ◌*◌, ◌/◌, true, false, List, [], ◌∷◌, ◌++◌, map, Some, refl, sym, ◌∙◌, ap, subst, arith, inl, inr, slice_get, Contains, add-mul, mul-le-mul, cases_Bool, append-nil, div-mul-add, BigInfo, iso_us_of, Handed, valid, lost, Air, opened, Timed, accepted, layings_of, IsOf, Sent, closed_end, entry_of, is_heard, struck, time_of, cases_low, opened_least, anchor_of, framed_reference_of, render_of, Setup, framed_calls, next_of, BigSync, bis_of, of_stream, is_in, stay_on, streams_of, is_member, member_is, Step, steps_of_source, is_started, setup_of, source_calls, Airs, MeetAirs, sink_calls, AreSent, InUnitOrder, IsOfUnit, IsSentAs, by_payload, time_in, whole_stay, Closed, air_in, calls_on, given_since_made, injected_since, is_given, is_injected, is_made, is_tuned, shown_since, octets_in, SourceCall, ticked_since, anchor_in, Below, Legal, Lawful, lawful, true_not_false, Within, goes, next_in, within_before, within_itself, OnSource, TunedTo, on_source, rest_not, climbs, laid_by, StayCall, render_same}
+use Rattle.scenario_laws.proofs.Known.{ℕ, suc, ◌≡◌, ◌<◌, ◌≤◌, ◌+◌, ◌-◌, ◌*◌, ◌/◌, true, false, List, [], ◌∷◌, ◌++◌, map, Some, refl, sym, ◌∙◌, ap, subst, arith, inl, inr, slice_get, Contains, add-mul, mul-le-mul, cases_Bool, append-nil, div-mul-add, BigInfo, iso_us_of, Handed, Air, opened, Timed, accepted, layings_of, IsOf, Sent, closed_end, entry_of, is_heard, struck, time_of, cases_low, opened_least, framed_reference_of, Setup, framed_calls, next_of, BigSync, bis_of, of_stream, is_in, stay_on, streams_of, is_member, member_is, Step, steps_of_source, is_started, setup_of, source_calls, Airs, MeetAirs, sink_calls, AreSent, InUnitOrder, IsOfUnit, IsSentAs, by_payload, time_in, whole_stay, Closed, air_in, calls_on, given_since_made, injected_since, is_given, is_injected, is_made, is_tuned, shown_since, SourceCall, ticked_since, anchor_in, Below, Legal, Lawful, lawful, true_not_false, Within, goes, next_in, within_before, within_itself, OnSource, TunedTo, on_source, rest_not, climbs, laid_by, StayCall, render_same}
 use Rattle.scenario_laws.proofs.UnitsLaw.{since}
 use Rattle.scenario_laws.proofs.InOrder.{clean_stay}
 use Rattle.scenario_laws.proofs.FramedStays.{FramedWhole, laid_end, sent_in_order, heard_least, mul_least, next_of_whole, opened_within, same_air, stay_decided, stay_on_whole, taken_within, whole_units}
@@ -56,14 +56,6 @@ event_is first bn event number least below =
 pub event_below : (event number opens bn : ℕ) → event * bn ≤ number → number < opens * bn → event < opens
 event_below event number opens bn least below = grind (arith, cases_low, mul-le-mul)
 
-entry_stream : (bis time : ℕ) (octets : List ℕ) (whole : Type 0) (entry : Handed) → ((entry ≡ lost bis time) ⊎ (whole × (entry ≡ valid bis time octets)))
-    → (bis_of entry ≡ bis) × (time_in entry ≡ time)
-entry_stream bis time octets whole entry is = grind (arith, bis_of, time_in)
-
-entry_octets : (bis time : ℕ) (octets all : List ℕ) (whole : Type 0) (entry : Handed) → (whole → octets ≡ all) → ((entry ≡ lost bis time) ⊎ (whole × (entry ≡ valid bis time octets)))
-    → (bis' time' : ℕ) (octets' : List ℕ) → entry ≡ valid bis' time' octets' → octets' ≡ all
-entry_octets bis time octets all whole entry of_unit is bis' time' octets' same = grind arith
-
 pub one_entry : (setup : Setup) (whole : List SourceCall) (tuning : BigSync) (bis : ℕ) (air : Air) (n : ℕ) (sent : Sent) (entry : Handed) (calls : List StayCall) → 1 ≤ setup.info.bn
     → TunedTo setup tuning → opened (stay_on tuning bis) calls ≤ next_of setup whole → IsInAir setup whole bis air n sent
     → IsEntry (stay_on tuning bis) (is_heard (stay_on tuning bis) calls) (closed_end (stay_on tuning bis) calls) sent entry
@@ -91,7 +83,9 @@ one_entry setup whole tuning bis air n sent entry calls some on opens numbered i
     subst (λ (b : ℕ). setup.first * setup.info.bn + one.first < opened (stay_on tuning bis) calls * b) bn_is is.start_closed in
     let below : event < opened (stay_on tuning bis) calls =
     event_below event (setup.first * setup.info.bn + one.first) (opened (stay_on tuning bis) calls) setup.info.bn (omega (arith, product, is_of.timed.least)) closed in
-    let parts = entry_stream bis (time_of (stay_on tuning bis) ((setup.first * setup.info.bn + one.first) / tuning.info.bn) one.offset) (octets_in one.segments) (one.whole ≡ true) entry is.is in
+    let parts : (bis_of entry ≡ bis) × (time_in entry ≡ (time_of (stay_on tuning bis)
+    ((setup.first * setup.info.bn + one.first) / tuning.info.bn) one.offset)) =
+    grind (arith, bis_of, time_in) in
     record {
       unit = unit;
       sent = sent;
@@ -107,7 +101,7 @@ one_entry setup whole tuning bis air n sent entry calls some on opens numbered i
       ready = omega (arith, is_of.timed.ready, anchor_is);
       stream = parts.0;
       time_is = grind (arith, parts.1, start_time_is setup tuning bis event one.offset on first_event, is_of.timed.offset);
-      valid_is = grind (arith, entry_octets, time_of, stay_on);
+      valid_is = grind (arith, time_of, stay_on);
     }
 
 stay_gives : (setup : Setup) (whole : List SourceCall) (tuning : BigSync) (bis : ℕ) (air : Air) (calls : List StayCall) → 1 ≤ setup.info.bn → TunedTo setup tuning

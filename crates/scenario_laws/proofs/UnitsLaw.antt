@@ -1,5 +1,5 @@
 -- The units law of a stay.
-use Rattle.scenario_laws.proofs.Known.{ℕ, zero, suc, ◌≡◌, ◌≤◌, ◌+◌, ◌-◌, ◌==◌, cond, ltb, Bool, false, List, [], ◌∷◌, ◌++◌, length, Option, Some, refl, sym, ◌∙◌, ap, subst, inl, inr, arith, slice_get, AllByRecursion, Contains, eq-eqb, eqb-true, ltb-false, append-nil, none-some, same_Some, BigInfo, Bounds, Account, Handed, before_event, lay, lays, begun, handed, Struck, air_at, slots_of, Airs, give_fault, Call, tune, hear, BigSync, of_stream, stay_on, streams_of, member_is, Step, IsInRange, chosen_of, chosen_steps, steps_of_source, open_event, setup_of, source_calls, MeetAirs, heard_on_air, is_of, reaches, sink_calls, source_of, positions_of, ticked, ticked_if, unless_lost, big_sync_on, SinkUnit, handed_by, give_refusal, steps_of, IsStayStruck, UnitsLaw, any_since, calls_on, handed_since, injected_since, is_given, is_tuned, of_sink, StreamCall, unframed_accept as accept, unframed_accepted as accepted, SourceCall, source_stream, place, ticked_since, Below, Legal, legal, maps_none, Allowed, Lawful, Settled, bounds_in, lawful, no_group_yet, settled, within_itself, StaysBy, announced, given_stays, plain_stays, BeginsBy, IsOn, IsThere, OnSource, first_next, last_not, none_given, on_before, on_source, rest_not, all_own, stay_within, handed_open, of_sink_on, shown_by, shown_with, step_shown, second_false, chosen_within, end_ticks, event_ticks, all_push, PutsBy}
+use Rattle.scenario_laws.proofs.Known.{ℕ, zero, suc, ◌≡◌, ◌≤◌, ◌+◌, ◌-◌, ◌==◌, cond, ltb, Bool, false, List, [], ◌∷◌, ◌++◌, length, Option, Some, refl, sym, ◌∙◌, ap, subst, inl, inr, arith, slice_get, AllByRecursion, Contains, eq-eqb, eqb-true, ltb-false, append-nil, none-some, BigInfo, Bounds, Account, Handed, before_event, lay, lays, begun, handed, Struck, air_at, slots_of, Airs, Call, tune, hear, BigSync, of_stream, stay_on, streams_of, member_is, Step, chosen_of, chosen_steps, steps_of_source, open_event, setup_of, source_calls, MeetAirs, heard_on_air, is_of, reaches, sink_calls, source_of, positions_of, ticked, ticked_if, unless_lost, big_sync_on, SinkUnit, handed_by, steps_of, IsStayStruck, UnitsLaw, any_since, calls_on, handed_since, injected_since, is_given, is_tuned, of_sink, StreamCall, unframed_accept as accept, unframed_accepted as accepted, SourceCall, source_stream, place, ticked_since, Below, Legal, legal, maps_none, Lawful, Settled, bounds_in, lawful, no_group_yet, settled, within_itself, StaysBy, announced, given_stays, plain_stays, BeginsBy, IsOn, IsThere, OnSource, first_next, last_not, none_given, on_before, on_source, rest_not, all_own, stay_within, handed_open, shown_by, shown_with, step_shown, second_false, chosen_within, end_ticks, event_ticks, all_append, PutsBy, handed_append, one_of}
 use Rattle.scenario_laws.proofs.FromSources.{sends_own, from_source}
 use Rattle.scenario_laws.proofs.FramedStays.{framed_law, taken_within}
 
@@ -24,13 +24,11 @@ short_before most (lay ∷ earlier) event all = search (short_if, short_before m
 
 short_units : (most : ℕ) (calls : List StreamCall) → Short most calls → AllByRecursion (λ unit. length unit ≤ most) (accepted calls)
 short_units most [] all = tt
-short_units most (accept octets ∷ earlier) all = all_push (λ unit. length unit ≤ most) (accepted earlier) octets (short_units most earlier all.1) all.0
+short_units most (accept octets ∷ earlier) all = all_append (λ unit. length unit ≤ most) (accepted earlier) (octets ∷ []) (short_units most earlier all.1) (all.0, tt)
 short_units most (lay ∷ earlier) all = short_units most earlier all
 
 one_short : (most : ℕ) (units : List (List ℕ)) (i : ℕ) (unit : List ℕ) → AllByRecursion (λ unit. length unit ≤ most) units → slice_get units i ≡ Some unit → length unit ≤ most
-one_short most [] i unit all is = absurd (none-some unit is)
-one_short most (first ∷ units) zero unit all is = subst (λ u. length u ≤ most) (same_Some first unit is) all.0
-one_short most (first ∷ units) (suc i) unit all is = one_short most units i unit all.1 is
+one_short most units i unit all is = one_of (λ (u : List ℕ). length u ≤ most) units i unit all is
 
 short_none : (most : ℕ) (info : BigInfo) (bis : ℕ) (calls : List SourceCall) → calls ≡ [] → Short most (source_stream info bis calls)
 short_none most info bis calls none = subst (λ all. Short most (source_stream info bis all)) (sym none) tt
@@ -38,13 +36,11 @@ short_none most info bis calls none = subst (λ all. Short most (source_stream i
 abbrev ShortIn : ℕ → List Step → Type 0
 ShortIn bis own = Short (setup_of own).info.max_sdu (source_stream (setup_of own).info bis (source_calls own))
 
-short_after : (airs : Airs) (bis : ℕ) (own : List Step) (step : Step) → Settled own → Allowed airs own step → ShortIn bis own → ShortIn bis (step ∷ own)
-short_after airs bis own _ is allows before =
-    grind (arith, short_none, no_group_yet, maps_none, length, ltb-false, second_false, ltb, short_if, short_lays)
-
 short_of : (airs : Airs) (bis : ℕ) (own : List Step) → Lawful airs own → ShortIn bis own
 short_of airs bis [] legal = tt
-short_of airs bis (step ∷ own) legal = short_after airs bis own step (settled airs own legal.0) legal.1 (short_of airs bis own legal.0)
+short_of airs bis (step ∷ own) legal =
+    grind (arith, short_none, no_group_yet, maps_none, length, ltb-false, second_false, ltb, short_if, short_lays,
+    (settled airs own legal.0), (short_of airs bis own legal.0))
 
 pub slot_short : (airs : Airs) (bis : ℕ) (own : List Step) → Lawful airs own → (event slot : ℕ) (unit : List ℕ)
     → slots_of (setup_of own) (source_calls own) bis event slot ≡ Some unit → length unit ≤ (setup_of own).info.max_sdu
@@ -83,12 +79,9 @@ air_since airs own lose (suc i) calls = search (lost_since, air_since airs own l
 more_since : (mine : Bool) (more calls : List Call) → ticked_since more ≡ ticked_since calls → ticked_since (cond mine more calls) ≡ ticked_since calls ++ []
 more_since mine more calls same = grind (arith, append-nil)
 
-tick_since : (last_open : Option ℕ) (calls : List Call) → ticked_since (ticked last_open calls) ≡ ticked_since calls ++ handed_open calls last_open
-tick_since last_open calls = grind (arith, append-nil)
-
 if_since : (its : Bool) (last_open : Option ℕ) (calls : List Call)
     → ticked_since (cond its (ticked last_open calls) calls) ≡ ticked_since calls ++ cond its (handed_open calls last_open) []
-if_since its last_open calls = grind (arith, tick_since, append-nil)
+if_since its last_open calls = grind (arith, append-nil)
 
 own_if : (s : ℕ) (source : Option ℕ) (units : List Handed) → source ≡ Some s → cond (is_of s source) units [] ≡ units
 own_if s source units is = ap (λ o. cond (is_of s o) units []) is ∙ ap (λ b. cond b units []) (eq-eqb s s refl)
@@ -121,7 +114,7 @@ still_since : (airs : Airs) (boxes s n : ℕ) (step : Step) (earlier : List Step
     → of_sink s n (handed_since (is_tuned n) airs earlier ++ handed_by airs earlier step) ≡ ticked_since (sink_calls airs n (step ∷ earlier))
 still_since airs boxes s n step earlier tuning legal least within never is since grow =
     let begins_not : BeginsBy airs s n step earlier tuning → ⊥ = λ begins. never begins.puts.on begins.puts.by in
-    grind (arith, on_before, of_sink_on, handed_since, is_tuned, handed_by, of_sink, since, sink_calls, step_shown, legal)
+    grind (arith, on_before, handed_append, handed_since, is_tuned, handed_by, of_sink, since, sink_calls, step_shown, legal)
 
 -- a step by which the receivers stay
 stays_since : (airs : Airs) (boxes s n : ℕ) (step : Step) (earlier : List Step) (tuning : BigSync) → StaysBy airs n step earlier → handed_by airs earlier step ≡ []
@@ -140,7 +133,7 @@ since_after airs boxes s n (Step.Air sink lose) earlier tuning legal least withi
     (λ its. more_since (reaches sink n earlier) _ (sink_calls airs n earlier) (air_since airs (chosen_steps earlier) lose (positions_of (chosen_steps earlier)) (sink_calls airs n earlier)))
 since_after airs boxes s n Step.End earlier tuning legal least within is since =
     still_since airs boxes s n Step.End earlier tuning legal least within (λ on by. by) is since
-    (grind (arith, end_ticks, open_event, steps_of_source, sink_calls, source_of, tick_since, own_if, handed_open))
+    (grind (arith, end_ticks, open_event, steps_of_source, sink_calls, source_of, own_if, handed_open, append-nil))
 since_after airs boxes s n (Step.Announce sink) earlier tuning legal least within is since = elim (announced airs n sink earlier) [
   | inl stays ↦ stays_since airs boxes s n (Step.Announce sink) earlier tuning stays refl is since
   | inr goes ↦ grind (arith, none-some, of_sink, cond, handed_since, is_tuned)
@@ -162,14 +155,11 @@ pub record Numbers (s n : ℕ) : Type 0 where
   pub source_within : s ≤ 1
   pub sink_within : n ≤ 7
 
-begins_numbers : (airs : Airs) (boxes s n : ℕ) (step : Step) (earlier : List Step) (tuning : BigSync) → Legal airs boxes earlier → IsInRange step → BeginsBy airs s n step earlier tuning → Numbers s n
-begins_numbers airs boxes s n _ earlier tuning legal ranged begins = grind (arith, chosen_within, legal, eqb-true)
-
 pub numbers : (airs : Airs) (boxes s n : ℕ) (made : List Step) (tuning : BigSync) → Legal airs boxes made → IsOn airs s n made tuning → Numbers s n
 numbers airs boxes s n [] tuning legal is = absurd (none-some tuning is.place_is)
 numbers airs boxes s n (step ∷ earlier) tuning legal is = elim (on_before airs s n step earlier tuning is) [
   | inl before ↦ numbers airs boxes s n earlier tuning legal.0 before
-  | inr begins ↦ begins_numbers airs boxes s n step earlier tuning legal.0 legal.2 begins
+  | inr begins ↦ grind (arith, chosen_within, legal, eqb-true)
 ]
 
 -- ---- the law

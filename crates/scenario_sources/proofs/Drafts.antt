@@ -1,5 +1,5 @@
 -- A source whose BASE is put together, after a line that says something of it.
-use Rattle.scenario_sources.proofs.Prelude.{ℕ, ◌≡◌, ◌≤◌, ◌<◌, ◌⊎◌, nat_lt, Bool, true, false, cond, List, [], ◌∷◌, length, Option, None, Some, Result, Ok, Err, refl, sym, ap, is_some, not, ◌∙◌, arith, le-ltb, lt-ltb, ForSome, BigInfo, Refuses, entry_fault, finish_fault, is_empty_last, last_of, metadata_fault, opened, size_fault, subgroup_fault, with_entry, with_metadata, with_subgroup, Endpoint, IsConfig, endpoint, indices, is_lc3, encoding, stands_in, Subgroup, NoSuchBis, Order, Stop, Refused, Step, Bis, Meta, base_lines, has_bis, has_subgroup, is_last_bare, subgroups_of, described, phase_of, Described, Becomes, DescribedIs}
+use Rattle.scenario_sources.proofs.Prelude.{ℕ, ◌≡◌, ◌≤◌, ◌<◌, ◌⊎◌, nat_lt, Bool, true, false, cond, List, [], ◌∷◌, length, Option, None, Some, Result, Ok, Err, refl, sym, ap, is_some, not, ◌∙◌, arith, le-ltb, lt-ltb, ForSome, Refuses, entry_fault, finish_fault, is_empty_last, last_of, metadata_fault, opened, size_fault, subgroup_fault, with_entry, with_metadata, with_subgroup, Endpoint, IsConfig, endpoint, indices, is_lc3, encoding, stands_in, Subgroup, NoSuchBis, Order, Stop, Refused, Step, Bis, Meta, base_lines, has_bis, has_subgroup, is_last_bare, subgroups_of, described, phase_of, Described, Becomes, DescribedIs}
 use Rattle.ltv_codec.specs.Layout.{AreLtvs}
 use Rattle.base_grammar.specs.declared.fault.DraftFault.{DraftFault}
 use Rattle.base_grammar.specs.declared.fault.DraftFault.TheVariants as of_draft
@@ -80,20 +80,7 @@ opens_not version own codec config said new fault stop is keeps refuses base sto
 pub gives_metadata : (version : ℕ) (own : List Step) (metadata : List ℕ) (said new : Described) → (phase_of own ≡ described) × DescribedIs own said → Keeps said new
     → Refuses (metadata_fault said.base.subgroups) (Ok tt) → new.base ≡ with_metadata metadata said.base
     → Becomes version own (Meta metadata) (phases.Described new) (Ok tt)
-gives_metadata version own metadata said new is keeps refuses base =
-    grind (
-      arith,
-      subgroups_are,
-      has_subgroup,
-      is_some,
-      last_of,
-      has_last,
-      with_metadata,
-      endpoint,
-      describes_last,
-      base_lines,
-      subgroups_of,
-    )
+gives_metadata version own metadata said new is keeps refuses base = grind (arith, subgroups_are, has_last, describes_last)
 
 pub gives_no_metadata : (version : ℕ) (own : List Step) (metadata : List ℕ) (said new : Described) (fault : DraftFault) (stop : Stop) → (phase_of own ≡ described) × DescribedIs own said
     → Keeps said new → Refuses (metadata_fault said.base.subgroups) (Err fault) → new.base ≡ said.base → stop ≡ stop_of fault
@@ -127,16 +114,7 @@ adds version own bis number config said new is keeps some same below refuses bas
     let has : has_subgroup own ≡ true = ap (λ ss. is_some (last_of ss)) (sym are) ∙ some in
     let fresh : has_bis own bis ≡ false = ap (λ ss. stands_in (indices ss) bis) (sym are) ∙ entry_passes said.base.subgroups bis some refuses in (
       rw (is.0, has, is.1.group, within, fresh) refl,
-      (
-        is.0,
-        record {
-          group = is.1.group ∙ ap Some (rw (keeps.info, keeps.origin, keeps.delay) refl);
-          ident = keeps.identity ∙ is.1.ident;
-          cipher = ap (λ (info : BigInfo). info.cipher) keeps.info ∙ is.1.cipher;
-          base = grind (arith, is.1.base, adds_to_last e (base_lines own), keeps.delay);
-          calls = is.1.calls;
-        },
-      ),
+      grind (arith, is.1.base, adds_to_last e (base_lines own), keeps.delay),
     )
 
 pub adds_not : (version : ℕ) (own : List Step) (bis number : ℕ) (config : List ℕ) (said new : Described) (fault : DraftFault) (stop : Stop) → (phase_of own ≡ described) × DescribedIs own said

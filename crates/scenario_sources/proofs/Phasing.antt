@@ -1,5 +1,5 @@
 -- One source after a step that means it.
-use Rattle.scenario_sources.proofs.Prelude.{◌≡◌, ◌≢◌, ◌<◌, ◌-◌, ℕ, Air, airs_exist, Bool, true, false, not, nat_le, nat_lt, List, [], ◌∷◌, length, refl, sym, subst, option_or, ◌∙◌, ap, is_some, unwrap_or, option_map, if◌then◌else◌, arith, Option, None, Some, Result, Ok, Err, endpoint, BigInfo, Cipher, subgroups_in, with_cipher, without_cipher, airs_of, pdu_of, stale_of, waiting_of, Call, Setup, next_of, Source, StandsFor, Refusal, Order, Stop, Refused, OutletFault, Memory, Step, Ident, subgroups_of, GroupLine, cipher_of, event_back, pdu_in, absent, described, sending, phase_of, ident_of, is_ciphered, open_event, performed, setup_of, source_calls, stale_in, takes_units, is_over, Identity, Described, IsPlain, group_step, fault_in, misfit_refusal_of, AbsentIs, Becomes, DescribedIs, StartedIs}
+use Rattle.scenario_sources.proofs.Prelude.{◌≡◌, ◌≢◌, ◌<◌, ◌-◌, ℕ, Air, airs_exist, Bool, true, false, List, [], ◌∷◌, refl, sym, subst, option_or, ◌∙◌, ap, is_some, unwrap_or, option_map, if◌then◌else◌, arith, Option, None, Some, Result, Ok, Err, endpoint, BigInfo, Cipher, subgroups_in, with_cipher, without_cipher, airs_of, pdu_of, stale_of, waiting_of, Call, Setup, next_of, Source, StandsFor, Refusal, Order, Stop, Refused, Step, Ident, subgroups_of, GroupLine, cipher_of, event_back, pdu_in, absent, described, sending, phase_of, ident_of, is_ciphered, open_event, performed, setup_of, source_calls, stale_in, takes_units, is_over, Identity, Described, IsPlain, group_step, fault_in, misfit_refusal_of, AbsentIs, Becomes, DescribedIs, StartedIs}
 use Rattle.std.specs.List.{range_with_len}
 use Rattle.std.specs.Prelude.{map, IfNone, IfSome, OnSome}
 use Rattle.iso_pdu.specs.Encoding.{pdu}
@@ -54,18 +54,12 @@ pub heard : (own : List Step) (setup : Setup) (back bis subevent : ℕ) (pdu : L
     → (no_place own back bis subevent ≡ None) × (pdu ≡ pdu_in airs_of own (event_back own back) bis subevent)
 heard own setup back bis subevent pdu same both = grind (arith, setup_of, source_calls, pdu_of, airs_of, next_of, option_map, unwrap_or)
 
-unwrapped_some : {A : Type 0} (none : A) (xs : List A) → map (λ o. unwrap_or o none) (map Some xs) ≡ xs
-unwrapped_some none [] = refl
-unwrapped_some none (x ∷ xs) = ap (λ rest. x ∷ rest) (unwrapped_some none xs)
-
-unwrapped_map : {A : Type 0} (none : A) (f : ℕ → Option A) (places : List ℕ) → map (λ o. unwrap_or o none) (map f places) ≡ map (λ i. unwrap_or (f i) none) places
-unwrapped_map none f [] = refl
-unwrapped_map none f (i ∷ places) = ap (λ rest. unwrap_or (f i) none ∷ rest) (unwrapped_map none f places)
-
 -- values that are all there
 all_there : {A : Type 0} (none : A) (f : ℕ → Option A) (places : List ℕ) (xs : List A) → map Some xs ≡ map f places
     → xs ≡ map (λ i. unwrap_or (f i) none) places
-all_there none f places xs is = sym (unwrapped_some none xs) ∙ ap (map (λ o. unwrap_or o none)) is ∙ unwrapped_map none f places
+all_there none f [] [] is = refl
+all_there none f (place ∷ places) (x ∷ xs) is = grind (arith, all_there none f places xs)
+all_there none f _ _ is = absurd cc
 
 sends : (own : List Step) (setup : Setup) (bis : ℕ) (sent : List (List ℕ)) → setup ≡ setup_of own
     → ((s : ℕ) → s < setup.info.nse → air_fault setup (source_calls own) 0 bis s ≡ None)
@@ -93,8 +87,7 @@ pub sends_as : (own : List Step) (started : Source) (bis : ℕ) (r : Option (Lis
     → IfSome r (λ sent. (calls : List Call) (airs : List Air) → StandsFor calls started → AreAirs started.setup calls airs
     → map Some sent ≡ map (pdu_of started.setup airs (next_of started.setup calls - 1) bis) (range_with_len 0 started.setup.info.nse))
     → OnSome r ((calls : List Call) → StandsFor calls started → (s : ℕ) → s < started.setup.info.nse → air_fault started.setup calls 0 bis s ≡ None)
-    → IfNone r ((calls : List Call) → StandsFor calls started → (s : ℕ) → air_fault started.setup calls 0 bis s ≢ None)
-    → SentIs own bis r
+    → IfNone r ((calls : List Call) → StandsFor calls started → (s : ℕ) → air_fault started.setup calls 0 bis s ≢ None) → SentIs own bis r
 sends_as own started bis None is checked sent on_air none = sends_not own started.setup bis is.setup (none (source_calls own) is.calls)
 sends_as own started bis (Some pdus) is checked sent on_air none =
     let calls : List Call = source_calls own in
@@ -120,12 +113,10 @@ gives version own old new bis time octets (Err (Refused reason)) is plain identi
   grind (arith, uncoded, option_map, source_calls, airs_of),
   grind (arith, source_calls),
 )
-gives version own old new bis time octets (Err OutletFault) is plain identity said g = g
-gives version own old new bis time octets (Err Memory) is plain identity said g = tt
+gives version own old new bis time octets (Err _) is plain identity said g = g
 
 -- a unit that doesn't fit is refused for that, also where its stream has had a relay, and any other is Relayed
-relayed_by : (a b c d : Bool)
-    → relayed_or true (option_map give_refusal
+relayed_by : (a b c d : Bool) → relayed_or true (option_map give_refusal
     (if a then Some faults.NoSuchBis else (if b then Some faults.UnitTooLong else (if c then Some faults.TimeOrder else (if d then Some faults.Backlog else None)))))
     ≡ Some (misfit_refusal_of (option_map answer_of (if a then Some faults.NoSuchBis else (if b then Some faults.UnitTooLong else (if c then Some faults.TimeOrder else None)))))
 relayed_by a b c d = grind arith
@@ -142,21 +133,7 @@ pub relays_not : (version : ℕ) (own : List Step) (started : Source) (bis : ℕ
     → fault ≡ option_map answer_of (misfit_of started.setup (source_calls own) bis time octets) → reason ≡ misfit_refusal_of fault
     → relayed_or true (fault_in version own (UnitStep bis time octets)) ≡ Some reason
 relays_not version own started bis time octets fault reason is plain fits named =
-    grind (
-      arith,
-      uncoded,
-      relayed_by,
-      nat_lt,
-      length,
-      not,
-      nat_le,
-      waiting_of,
-      setup_of,
-      source_calls,
-      airs_of,
-      misfit_refusal_of,
-      option_map,
-    )
+    grind (arith, uncoded, relayed_by, waiting_of, airs_of)
 
 -- both sources refuse nothing of a unit
 pub lone_relayed : (refusal : Option Refusal) (reason : Refusal) → relayed_or true refusal ≡ Some reason → relayed_or true (option_or refusal None) ≡ Some reason

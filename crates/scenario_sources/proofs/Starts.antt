@@ -10,7 +10,7 @@ use Rattle.announcement_train.proofs.Citable.{plain_is_small}
 use Rattle.source_machine.specs.Faults.{ConfigureFails}
 use Rattle.source_machine.specs.declared.fault.ConfigureFault.{ConfigureFault}
 use Rattle.source_machine.specs.declared.fault.ConfigureFault.TheVariants.{BadGroup as Misfit}
-use Rattle.scenario_history.specs.Refusals.{fault_refusal, group_refusal}
+use Rattle.scenario_history.specs.Refusals.{group_refusal}
 use Rattle.sink_history.specs.History.{horizon_in}
 use Rattle.scenario_sources.specs.Bases.{is_long}
 use Rattle.scenario_sources.specs.declared.phase.Phase.{Phase as Phases}
@@ -71,13 +71,8 @@ pub start_long : (version first horizon : ℕ) (own : List Step) (said : Describ
     → bare ≡ is_empty_last (last_of said.base.subgroups) → bare ≡ false → None ≡ group_refusal (first_fault horizon said.info)
     → long ≡ is_long (finish_fault said.base) → long ≡ true → fault_in version own (Start first) ≡ Some BaseTooLong
 start_long version first horizon own said bare long h is e f g l t =
-    grind (
-      arith,
-      bare_own own said bare is.1 e,
-      base_is own said is.1,
-      too_long (line_of said) (subgroups_of own) (sym (bare_own own said bare is.1 e) ∙ f) (sym (ap is_long (draft_is own said is.1)) ∙ sym l ∙ t),
-      start_fault version first horizon own said None h is (sym (bare_own own said bare is.1 e) ∙ f) g,
-    )
+    grind (arith, bare_own own said bare is.1 e, base_is own said is.1, too_long (line_of said) (subgroups_of own), draft_is own said is.1,
+    start_fault version first horizon own said None h is)
 
 -- ---- it may be started
 
@@ -90,8 +85,8 @@ pub may_start_said : (version first horizon : ℕ) (own : List Step) (said : Des
 may_start_said version first horizon own said bare long has h is e f g l n k t =
     let closed : is_last_bare own ≡ false = sym (bare_own own said bare is.1 e) ∙ f in
     let some : has_subgroup own ≡ true = sym (has_own own said has is.1 k) ∙ t in
-    let little : is_base_too_long own ≡ false = grind (arith, nat_lt, length, encoding, base_is, long_said, line_of, subgroups_of, draft_is) in
-    (start_fault version first horizon own said None h is closed g ∙ ap (λ b. refuse_if b BaseTooLong) little, some)
+    grind (arith, base_is own said is.1, long_said (line_of said) (subgroups_of own), draft_is own said is.1,
+    start_fault version first horizon own said None h is closed g)
 
 no_subgroups : (group : GroupLine) (ss : List Subgroup) → is_some (last_of ss) ≡ false → base_from group ss ≡ plain_base_of group.delay group.info.num_bis
 no_subgroups group ss none = grind (arith, false≢true, has_last)
@@ -102,11 +97,8 @@ pub may_start_plain : (version first horizon : ℕ) (own : List Step) (said : De
 may_start_plain version first horizon own said bare has base few h is e f g k n b =
     let closed : is_last_bare own ≡ false = sym (bare_own own said bare is.1 e) ∙ f in
     let none : has_subgroup own ≡ false = sym (has_own own said has is.1 k) ∙ n in
-    let little : is_base_too_long own ≡ false =
-    ap (λ v. nat_lt 252 (length (encoding v))) (base_is own said is.1) ∙ none_said (line_of said) (subgroups_of own) few none in (
-      start_fault version first horizon own said None h is closed g ∙ ap (λ b. refuse_if b BaseTooLong) little,
-      b ∙ sym (no_subgroups (line_of said) (subgroups_of own) none) ∙ sym (base_is own said is.1),
-    )
+    grind (arith, base_is own said is.1, none_said (line_of said) (subgroups_of own) few none,
+    no_subgroups (line_of said) (subgroups_of own) none, start_fault version first horizon own said None h is closed g)
 
 -- ---- it begins
 
@@ -131,22 +123,16 @@ pub finish_fails : (version first : ℕ) (own : List Step) (said : Described) (p
 finish_fails version first own said plain stop is may fails =
     grind (arith, none-some, passes, draft_is, said_ends, line_of, subgroups_of, nat_lt, length, encoding, base_is)
 
-refused_for : (fault : GroupFault) → (fault ≡ of_group.Encrypted → ⊥) → fault_refusal fault ≡ Some (BadGroup fault)
-refused_for fault other = grind arith
-
 pub bad_refusal : (horizon : ℕ) (info : BigInfo) (fault : GroupFault) → first_fault horizon info ≡ Some fault → (fault ≡ of_group.Encrypted → ⊥)
     → Some (BadGroup fault) ≡ group_refusal (first_fault horizon info)
-bad_refusal horizon info fault is other = sym (ap group_refusal is ∙ refused_for fault other)
+bad_refusal horizon info fault is other = grind arith
 
 pub group_fails : (version first horizon : ℕ) (own : List Step) (said : Described) (plain : Option Endpoint) (fault : ConfigureFault) (stop : Stop) → horizon ≡ horizon_in version
     → DescribedSo own said → MayStart version first own plain → ConfigureFails horizon said.info fault → StartStops fault stop → Begins first own (Err stop)
 group_fails version first horizon own said plain (Misfit fault) (Refused reason) h is may fails g =
-    let all = passes version first own is.0 may.0 in
-    let none : group_refusal (first_fault horizon said.info) ≡ None =
-    ap (λ n. group_refusal (first_fault n said.info)) h ∙ ap (λ i. group_refusal (first_fault (horizon_in version) i)) (sym (checked_is own said is.1)) ∙ all.group in
-    absurd (none-some (BadGroup fault) (sym none ∙ sym (bad_refusal horizon said.info fault fails.first fails.other)))
-group_fails version first horizon own said plain fault stop h is may fails g =
-    search (false≢true, passes, checked_is, none-some, bad_refusal)
+    grind (arith, passes version first own is.0 may.0, bad_refusal horizon said.info fault fails.first fails.other, checked_is own said
+        is.1)
+group_fails version first horizon own said plain fault stop h is may fails g = search (false≢true, none-some)
 
 -- the BASE that it begins with
 said_base : (group : GroupLine) (ss : List Subgroup) → is_some (last_of ss) ≡ true → endpoint group.delay ss ≡ base_from group ss

@@ -1,5 +1,5 @@
 -- Two histories of one sink of which one has trains more that it ignored: they come to the same, and each call keeps that.
-use Rattle.scenario_laws.proofs.Known.Sources.Steps.Prelude.{ℕ, zero, suc, ◌≡◌, min, cond, false, List, ◌∷◌, length, Option, arith, refl, ap, unwrap_or, option_or, false≢true, none_change, snapshot_goes_on, Snapshot, snapshot_of, train_heard, written, TrainOutcome, Train, outcome_by, done_by_outcome, value_at, is_joined, joining_by, served_of, step_by, writes, writes_waiting, drained, read_out, repeated, served_out, notified_out, acts_of, made_all, notices_waiting, reads_waiting, waiting_of, follows, DelegatorStep as Step, delegator_nothing as nothing, SinkSetup as Setup, LinkCall as Call, link_steps_of as steps_of, link_with_step as with_step}
+use Rattle.scenario_laws.proofs.Known.Sources.Steps.Prelude.{ℕ, zero, suc, ◌≡◌, min, cond, false, List, ◌∷◌, length, Option, arith, refl, ap, false≢true, none_change, snapshot_goes_on, Snapshot, snapshot_of, train_heard, written, Train, outcome_by, value_at, is_joined, joining_by, served_of, step_by, writes, writes_waiting, drained, read_out, repeated, served_out, notified_out, acts_of, made_all, notices_waiting, reads_waiting, waiting_of, follows, DelegatorStep as Step, SinkSetup as Setup, LinkCall as Call, link_steps_of as steps_of, link_with_step as with_step}
 
 -- ---- what two histories have alike
 
@@ -21,10 +21,6 @@ pub waiting_same : (setup : Setup) (mtu : Option ℕ) (link : ℕ) (a b : List C
 waiting_same setup mtu link a b same = cc (same.served link, same.written link)
 
 -- ---- a call more
-
-or_same : {A : Type 0} (given : Option A) (x y : Option A) (none : A) → unwrap_or x none ≡ unwrap_or y none
-    → unwrap_or (option_or given x) none ≡ unwrap_or (option_or given y) none
-or_same given x y none same = grind arith
 
 snapshot_with : (setup : Setup) (more : Option Step) (xs ys : List Step) → snapshot_of setup xs ≡ snapshot_of setup ys
     → snapshot_of setup (with_step more xs) ≡ snapshot_of setup (with_step more ys)
@@ -52,7 +48,7 @@ acts_grow setup mtu link call a b same now = grind arith
 pub grows : (setup : Setup) (mtu : Option ℕ) (call : Call) (a b : List Call) → Alike setup mtu a b → Alike setup mtu (call ∷ a) (call ∷ b)
 grows setup mtu call a b same = record {
   snapshot = snapshot_grows setup mtu call a b same;
-  joined = grind (arith, or_same, joining_by);
+  joined = grind (arith, joining_by);
   written = λ link. written_grows link call a b (same.written link);
   served = λ link. served_grows link call a b (same.served link) (same.written link);
   acts = λ link. acts_grow setup mtu link call a b same (snapshot_grows setup mtu call a b same);
@@ -101,15 +97,13 @@ drains setup mtu link a b same = search (read_grow, told_grow, served_grow)
 
 -- ---- a train that is ignored
 
-pub done_nothing : (brought : TrainOutcome) → follows brought ≡ false → done_by_outcome brought ≡ nothing
-done_nothing brought not = grind (arith, false≢true)
-
 pub ignores : (setup : Setup) (mtu : Option ℕ) (train : Train) (a : List Call)
     → follows (outcome_by setup (snapshot_of setup (steps_of a)) train) ≡ false → Alike setup mtu (Call.stepped (train_heard train) ∷ a) a
 ignores setup mtu train a not =
     let snapshot : Snapshot = snapshot_of setup (steps_of a) in
     let more : List Call = Call.stepped (train_heard train) ∷ a in
-    let now : snapshot_of setup (steps_of more) ≡ snapshot = grind (arith, snapshot_goes_on, train_heard, done_nothing, outcome_by) in record {
+    let now : snapshot_of setup (steps_of more) ≡ snapshot = grind (arith, snapshot_goes_on, train_heard, outcome_by,
+    false≢true) in record {
       snapshot = now;
       joined = λ link. refl;
       written = λ link. refl;

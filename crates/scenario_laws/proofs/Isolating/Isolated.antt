@@ -1,8 +1,8 @@
 -- The isolation law: by one induction over the steps, each of which is kept in both lists or left out of one.
-use Rattle.scenario_laws.proofs.Known.Sources.Steps.{ℕ, ◌≡◌, ◌≢◌, ◌⊎◌, ◌==◌, ◌&&◌, ◌||◌, ◌∙◌, cond, not, Bool, true, false, List, [], ◌∷◌, ◌++◌, arith, refl, sym, inl, inr, and_parts, eq-eqb, eqb-true, false≢true, not-true, state_at, Settings, language, view_of, waits_of, Step, Account, steps_of, Airs, chosen_of, is_common, is_source_line, calls_made, IsIsolated, IsSameHistory, IsolationLaw, NoOtherPuts, kept_lines, lines_by, lines_of, puts, chooses, is_kept, is_other, is_sink, only, sink_in, LinkCall as Call, Alike, notices_same, waiting_same, Same}
+use Rattle.scenario_laws.proofs.Known.Sources.Steps.{ℕ, ◌≡◌, ◌≢◌, ◌⊎◌, ◌==◌, ◌&&◌, ◌||◌, cond, not, Bool, true, false, List, [], ◌∷◌, ◌++◌, arith, refl, inl, inr, and_parts, eqb-true, false≢true, not-true, state_at, language, view_of, waits_of, Step, Account, steps_of, Airs, chosen_of, is_common, is_source_line, calls_made, IsIsolated, IsolationLaw, NoOtherPuts, kept_lines, lines_by, lines_of, puts, chooses, is_kept, is_other, is_sink, only, sink_in, notices_same, waiting_same, Same, eqb-false}
 use Rattle.scenario_laws.proofs.Isolating.Left.{elsewhere, another_sink, left_out}
 use Rattle.scenario_laws.proofs.Isolating.Kept.{Means, kept}
-use Rattle.scenario_laws.proofs.Isolating.Printed.{replied_same, lines_same, octets_on as append_same}
+use Rattle.scenario_laws.proofs.Isolating.Printed.{replied_same, lines_same, append_same}
 
 -- ---- why a step is left out
 
@@ -15,16 +15,13 @@ names_one : (n : ℕ) (step : Step) → is_sink n (sink_in step) ≡ false → i
     → (is_common step || chooses step) ≡ false → is_other n (sink_in step) ≡ true
 names_one n step not line common = grind (arith, false≢true)
 
-apart_from : (c s : ℕ) → (c == s) ≡ false → c ≢ s
-apart_from c s is same = false≢true (sym is ∙ eq-eqb c s same)
-
 fate : (s n : ℕ) (step : Step) (made : List Step) → is_kept s n made step ≡ false
     → (is_other n (sink_in step) ≡ true) ⊎ ((is_source_line step ≡ true) × (chosen_of made ≢ s))
 fate s n step made is =
     elim (by_tests (is_common step || chooses step) (is_source_line step) (chosen_of made == s) (is_other n (sink_in step))
     (is_sink n (sink_in step)) is (names_one n step)) [
       | inl other ↦ inl other
-      | inr elsewhere ↦ inr (elsewhere.0, apart_from (chosen_of made) s elsewhere.1)
+      | inr elsewhere ↦ inr (elsewhere.0, eqb-false (chosen_of made) s elsewhere.1)
     ]
 
 -- ---- what a step is that is kept
@@ -36,9 +33,6 @@ names : (s n : ℕ) (step : Step) (made : List Step) → is_kept s n made step �
 names s n step made is = grind (arith, not, not-true, and_parts, false≢true)
 
 -- ---- the induction
-
-none_same : (airs : Airs) (s n : ℕ) → Same airs s n [] []
-none_same airs s n = search arith
 
 same_if : (airs : Airs) (s n : ℕ) (step : Step) (made : List Step) (hit : Bool) → is_kept s n made step ≡ hit
     → (chosen_of made ≢ s → puts n made step ≡ false)
@@ -52,7 +46,7 @@ same_if airs s n step made false is puts_not same = elim (fate s n step made is)
 ]
 
 same_of : (airs : Airs) (s n : ℕ) (made : List Step) → NoOtherPuts s n made → Same airs s n made (only s n made)
-same_of airs s n [] puts_not = none_same airs s n
+same_of airs s n [] puts_not = search arith
 same_of airs s n (step ∷ made) puts_not = search (same_if, same_of airs s n made puts_not.0)
 
 -- ---- what the kept steps print
@@ -69,9 +63,6 @@ lines_kept airs s n (step ∷ made) puts_not =
 
 -- ---- the law
 
-same_history : (made : Settings) (a b : List Call) → Alike made.setup made.mtu a b → IsSameHistory made a b
-same_history made a b same = grind (arith, state_at, waiting_same, replied_same, notices_same, waits_of, language, view_of)
-
 pub isolated : (airs : Airs) (s n : ℕ) (made : List Step) → NoOtherPuts s n made → IsIsolated airs s n made
 isolated airs s n made puts_not =
     let same : Same airs s n made (only s n made) = same_of airs s n made puts_not in record {
@@ -80,7 +71,7 @@ isolated airs s n made puts_not =
       calls = same.calls;
       units = same.units;
       sums = same.took;
-      lives = grind (arith, same_history, calls_made, only);
+      lives = grind (arith, calls_made, only, state_at, waiting_same, replied_same, notices_same, waits_of, language, view_of);
       lines = lines_kept airs s n made puts_not;
     }
 

@@ -1,6 +1,6 @@
 -- A step that both lists of steps have keeps what they have alike of a sink and a source, where it means this source if it is a
 -- source line.
-use Rattle.scenario_laws.proofs.Known.Sources.{ℕ, ◌≡◌, ◌≢◌, ◌∙◌, cond, Bool, true, false, List, ◌∷◌, Option, None, Some, is_some, arith, ap, option_or, cases_eq, ne_eqb, Call, Step, box_of, handed_by, handed_up, is_of, reaches, sink_calls, source_of, ticked_by, ticked_if, open_event, Airs, chosen_given, chosen_of, is_source_line, steps_of_source, calls_made, source_at, made_of, version_given, units_by, closing, Sourced, cond_same, history_grows, moved_same, sourced_same, back_same, hear_same, heard_same, said_grows, tuning_same, HistoriesAlike, Same, chosen_alike, horizon_alike, own_alike, source_alike, kept_took, both_alike, closing_alike, opens_alike, units_append}
+use Rattle.scenario_laws.proofs.Known.Sources.{ℕ, ◌≡◌, ◌≢◌, true, false, List, ◌∷◌, is_some, arith, option_or, cases_eq, ne_eqb, Call, Step, box_of, handed_by, handed_up, is_of, reaches, sink_calls, source_of, ticked_by, ticked_if, open_event, Airs, chosen_given, chosen_of, is_source_line, steps_of_source, calls_made, source_at, made_of, version_given, units_by, closing, Sourced, cond_same, history_grows, sourced_same, said_grows, HistoriesAlike, Same, chosen_alike, horizon_alike, source_alike, kept_took, both_alike, closing_alike, opens_alike, units_append}
 
 -- the step means this source, where it is a source line
 abbrev pub Means : ℕ → List Step → Step → Type 0
@@ -9,12 +9,6 @@ Means s made step = is_source_line step ≡ true → chosen_of made ≡ s
 pub sourced : (airs : Airs) (s n : ℕ) (step : Step) (made others : List Step) → Means s made step → Same airs s n made others
     → Sourced step (source_at made) (source_at others)
 sourced airs s n this made others means same is = source_alike airs s n made others (means is) same
-
-pub cond_both : {A : Type 0} (hit hit' : Bool) (x x' y y' : A) → hit ≡ hit' → x ≡ x' → y ≡ y' → cond hit x y ≡ cond hit' x' y'
-cond_both hit hit' x x' y y' hits then otherwise = ap (λ b. cond b x y) hits ∙ cond_same hit' x x' y y' then otherwise
-
-cons_same : (x y : Call) (xs ys : List Call) → x ≡ y → xs ≡ ys → x ∷ xs ≡ y ∷ ys
-cons_same x y xs ys first rest = ap (λ call. call ∷ xs) first ∙ ap (λ calls. y ∷ calls) rest
 
 -- ---- whether it lives, and with which limits
 
@@ -28,15 +22,9 @@ source_grows : (airs : Airs) (s n : ℕ) (step : Step) (made others : List Step)
     → source_of n (step ∷ made) ≡ source_of n (step ∷ others)
 source_grows airs s n step made others means same = grind (arith, cond_same, chosen_alike, sourced_same, source_alike)
 
-none_apart : (hit : Bool) (t : ℕ) (source : Option ℕ) → is_of t source ≡ false → is_of t (cond hit None source) ≡ false
-none_apart hit t source apart = grind arith
-
-one_apart : (hit : Bool) (t one : ℕ) (source : Option ℕ) → one ≢ t → is_of t source ≡ false → is_of t (cond hit (Some one) source) ≡ false
-one_apart hit t one source other apart = grind (arith, ne_eqb)
-
 apart_grows : (airs : Airs) (s n : ℕ) (step : Step) (made others : List Step) → Means s made step → Same airs s n made others
     → (t : ℕ) → t ≢ s → is_of t (source_of n (step ∷ made)) ≡ false
-apart_grows airs s n step made others means same t other = grind (arith, none_apart, one_apart)
+apart_grows airs s n step made others means same t other = grind (arith, ne_eqb)
 
 -- ---- what its receivers took
 
@@ -56,23 +44,7 @@ reaches_alike airs s n sink made others same = cc (chosen_alike airs s n made ot
 calls_grow : (airs : Airs) (s n : ℕ) (step : Step) (made others : List Step) → Means s made step → Same airs s n made others
     → HistoriesAlike (made_of n (step ∷ made)) (calls_made n (step ∷ made)) (calls_made n (step ∷ others))
     → sink_calls airs n (step ∷ made) ≡ sink_calls airs n (step ∷ others)
-calls_grow airs s n step made others means same later =
-    grind (
-      arith,
-      cond_same,
-      cons_same,
-      tuning_same,
-      own_alike,
-      cond_both,
-      reaches_alike,
-      hear_same,
-      heard_same,
-      back_same,
-      closes_alike,
-      ticks_alike,
-      moved_same,
-      sourced,
-    )
+calls_grow airs s n step made others means same later = grind arith
 
 -- ---- its units
 

@@ -1,6 +1,6 @@
 -- A step that is left out changes nothing of the sink and of the source: it names another sink, or it means another source and puts
 -- the sink on no train and no group.
-use Rattle.scenario_laws.proofs.Known.Sources.{ℕ, ◌≡◌, cond, not, Bool, true, List, [], ◌∷◌, Option, None, is_some, arith, subst, option_or, false≢true, append-nil, Settings, Call, Step, box_of, handed_by, handed_up, is_of, sink_calls, source_of, Airs, chosen_given, last_given, steps_of_source, calls_made, made_of, version_given, units_by, is_other, sink_in, ◌≢◌, ◌==◌, ◌&&◌, false, Some, refl, ap, and_right, ne_eqb, cond-false, with_leave, train_heard, TrainOutcome, Train, big_sync_in, ticked_if, open_event, chosen_of, chosen_steps, is_common, is_source_line, source_at, Source, given_train, calls_by, own_train, follows, follows_by, received_by, train_by, puts, alike_itself, alike_then, ignores, SourceSaid as Said, source_said_after as said_after, source_said_of as said_of, said_stays, said_elsewhere, HistoriesAlike, Same, left_took, units_append, closing_none, same_if, LinkCall}
+use Rattle.scenario_laws.proofs.Known.Sources.{ℕ, ◌≡◌, cond, not, Bool, true, List, [], ◌∷◌, Option, None, arith, subst, false≢true, append-nil, Settings, Call, Step, box_of, handed_by, is_of, sink_calls, source_of, Airs, chosen_given, steps_of_source, calls_made, made_of, version_given, units_by, is_other, sink_in, ◌≢◌, ◌==◌, ◌&&◌, false, Some, refl, ap, and_right, ne_eqb, cond-false, train_heard, TrainOutcome, Train, big_sync_in, ticked_if, open_event, chosen_of, chosen_steps, is_source_line, source_at, Source, given_train, calls_by, own_train, follows, follows_by, received_by, train_by, puts, alike_itself, alike_then, ignores, SourceSaid as Said, source_said_after as said_after, source_said_of as said_of, said_stays, said_elsewhere, HistoriesAlike, Same, left_took, units_append, closing_none, same_if, LinkCall}
 
 -- ---- what a step leaves
 
@@ -40,32 +40,16 @@ pub record Quiet (step : Step) : Type 0 where
 quiet : (n : ℕ) (step : Step) → is_other n (sink_in step) ≡ true → Quiet step
 quiet n step other = grind (arith, false≢true)
 
-made_other : (n : ℕ) (step : Step) (made : List Step) → is_other n (sink_in step) ≡ true → made_of n (step ∷ made) ≡ made_of n made
-made_other n step made other = grind (arith, pass)
-
-history_other : (n : ℕ) (step : Step) (made : List Step) → is_other n (sink_in step) ≡ true → calls_made n (step ∷ made) ≡ calls_made n made
-history_other n step made other = grind (arith, pass)
-
-source_other : (n : ℕ) (step : Step) (made : List Step) → is_other n (sink_in step) ≡ true → source_of n (step ∷ made) ≡ source_of n made
-source_other n step made other = grind (arith, pass)
-
-calls_other : (airs : Airs) (n : ℕ) (step : Step) (made : List Step) → is_other n (sink_in step) ≡ true
-    → sink_calls airs n (step ∷ made) ≡ sink_calls airs n made
-calls_other airs n step made other = grind (arith, pass, false≢true)
-
 box_other : (n : ℕ) (step : Step) (made : List Step) → is_other n (sink_in step) ≡ true → box_of n (step ∷ made) ≡ box_of n made
 box_other n step made other = grind (arith, pass)
 
 pub another_sink : (airs : Airs) (s n : ℕ) (step : Step) (made : List Step) → is_other n (sink_in step) ≡ true → Leaves airs s n step made
 another_sink airs s n step made other =
-    grind (arith, quiet, said_stays, made_other, lives_equal, history_other, source_other, calls_other, box_other)
+    grind (arith, quiet, said_stays, lives_equal, box_other, pass, false≢true)
 
 -- ---- a line that means another source, and puts the sink on no train and no group, changes nothing of the sink and of the source
 
 -- ---- a source line is no common step, and neither makes nor drops a sink
-
-not_common : (step : Step) → is_source_line step ≡ true → is_common step ≡ false
-not_common step is = grind (arith, false≢true)
 
 -- ---- a train that isn't followed
 
@@ -78,13 +62,10 @@ train_lives false source train made a not = lives_itself made a
 not_joined : (brought : TrainOutcome) → follows brought ≡ false → big_sync_in brought ≡ None
 not_joined brought not = grind (arith, false≢true)
 
-not_left : (on : Bool) (calls : List Call) → with_leave on on calls ≡ calls
-not_left on calls = grind arith
-
 train_received : (hit : Bool) (source : Source) (line : Step) (train : Train) (made : Option Settings) (a a' : List LinkCall) (calls : List Call)
     → train_by source line ≡ Some train → (hit && follows_by source (Some train) made a) ≡ false → HistoriesAlike made (cond hit a' a) a
     → cond hit (received_by source line made a (cond hit a' a) calls) calls ≡ calls
-train_received hit source line train made a a' calls is not same = grind (arith, not_joined, not_left)
+train_received hit source line train made a a' calls is not same = grind (arith, not_joined)
 
 -- ---- the history
 
@@ -98,10 +79,6 @@ history_stays n _ made is not = search (lives_equal, cond-false, same_if, false�
 
 -- ---- its receivers, where it isn't of the source that the line means
 
-close_stays : (airs : Airs) (n : ℕ) (made : List Step) → is_of (chosen_of made) (source_of n made) ≡ false
-    → ticked_if (is_of (chosen_of made) (source_of n made)) (open_event (chosen_steps made)) (sink_calls airs n made) ≡ sink_calls airs n made
-close_stays airs n made apart = ap (λ its. ticked_if its (open_event (chosen_steps made)) (sink_calls airs n made)) apart
-
 calls_stay : (airs : Airs) (n : ℕ) (step : Step) (made : List Step) → is_source_line step ≡ true → puts n made step ≡ false
     → is_of (chosen_of made) (source_of n made) ≡ false → sink_calls airs n (step ∷ made) ≡ sink_calls airs n made
 calls_stay airs n (Step.Announce sink) made is not apart =
@@ -113,11 +90,12 @@ calls_stay airs n (Step.Train sink time ext adv acad) made is not apart =
     (made_of n made) (calls_made n made)
     (calls_by (source_at made) (Step.Train sink time ext adv acad) (made_of n made) (calls_made n made)) (sink_calls airs n made) refl not
     (history_stays n (Step.Train sink time ext adv acad) made is not)
-calls_stay airs n _ made is not apart = search (cond-false, and_right, false≢true, close_stays airs n made apart)
+calls_stay airs n _ made is not apart =
+    search (cond-false, and_right, false≢true, (ap (λ its. ticked_if its (open_event (chosen_steps made)) (sink_calls airs n made)) apart))
 
 -- ---- what it hands up
 
 pub elsewhere : (airs : Airs) (s n : ℕ) (step : Step) (made : List Step) → is_source_line step ≡ true → chosen_of made ≢ s
     → puts n made step ≡ false → is_of (chosen_of made) (source_of n made) ≡ false → Leaves airs s n step made
 elsewhere airs s n step made is other not apart =
-    grind (arith, said_elsewhere, not_common, and_right, ne_eqb, history_stays, not, cond-false, calls_stay, false≢true, closing_none)
+    grind (arith, said_elsewhere, and_right, ne_eqb, history_stays, not, cond-false, calls_stay, false≢true, closing_none)

@@ -1,6 +1,6 @@
 -- What a line makes of two histories of the sink that it names which come to the same: of the histories, of the receivers, and of the
 -- source that the sink is of.
-use Rattle.scenario_laws.proofs.Known.Sources.Steps.Prelude.{ℕ, ◌≡◌, cond, Bool, true, List, [], ◌∷◌, Option, None, Some, subst, arith, encoding, control_heard, locations_set, train_heard, train_lost, Settings, Train, outcome_by, born, Step, is_source_line, calls_made, source_at, the_world, Source, calls_at, calls_by, made_of, named_by, own_train, follows, follows_by, received_by, source_by, train_by, LinkCall as Call, moved}
+use Rattle.scenario_laws.proofs.Known.Sources.Steps.Prelude.{ℕ, ◌≡◌, cond, Bool, true, List, [], ◌∷◌, Option, None, Some, subst, arith, Settings, Train, outcome_by, born, Step, is_source_line, calls_made, source_at, the_world, Source, calls_at, calls_by, made_of, named_by, follows, follows_by, source_by, train_by, LinkCall as Call, moved}
 use Rattle.scenario_laws.proofs.Isolating.Histories.{Alike, alike_itself, drains, grows}
 use Rattle.scenario_laws.proofs.Isolating.Same.{HistoriesAlike}
 use Rattle.bass_operations.specs.declared.operation.Operation.TheVariants as operations
@@ -12,10 +12,6 @@ use Rattle.group_sink.specs.Calls as sinks
 abbrev pub Sourced : Step → (source source' : Source) → Type 0
 Sourced line source source' = is_source_line line ≡ true → source ≡ source'
 
-called_sourced : (line : Step) (source source' : Source) → Sourced line source source' → (made : Option Settings) (calls : List Call)
-    → calls_by source line made calls ≡ calls_by source' line made calls
-called_sourced _ source source' same made calls = grind (arith, calls_by)
-
 -- ---- the histories
 
 called_some : (source : Source) (line : Step) (made : Settings) (a b : List Call) → Alike made.setup made.mtu a b
@@ -23,14 +19,10 @@ called_some : (source : Source) (line : Step) (made : Settings) (a b : List Call
 called_some source (Step.Drop sink) made a b same = alike_itself made.setup made.mtu []
 called_some source _ made a b same = search (grows, drains)
 
-lives_if : (hit : Bool) (made : Option Settings) (a b a' b' : List Call) → HistoriesAlike made a b → HistoriesAlike made a' b'
-    → HistoriesAlike made (cond hit a' a) (cond hit b' b)
-lives_if hit made a b a' b' before later = grind arith
-
 named_lives : (n : ℕ) (named : Option ℕ) (line : Step) (earlier others : List Step) (made : Option Settings) (a b : List Call)
     → Sourced line (source_at earlier) (source_at others) → HistoriesAlike made a b
     → HistoriesAlike made (calls_at the_world n named line earlier made a) (calls_at the_world n named line others made b)
-named_lives n named line earlier others made a b sourced same = grind (arith, lives_if, called_sourced, called_some)
+named_lives n named line earlier others made a b sourced same = grind (arith, called_some, calls_by)
 
 born_lives : (hit : Bool) (new : Settings) (mtu : Option ℕ) (made : Option Settings) (a b : List Call) → HistoriesAlike made a b
     → HistoriesAlike (cond hit (Some new) made) (cond hit (born mtu) a) (cond hit (born mtu) b)
@@ -53,12 +45,6 @@ history_grows n step earlier others sourced sink_same same =
 
 -- ---- the receivers
 
-received_some : (line : Step) (source source' : Source) → Sourced line source source'
-    → (made : Settings) (a a' b b' : List Call) (calls calls' : List sinks.Call)
-    → Alike made.setup made.mtu a b → Alike made.setup made.mtu a' b' → calls ≡ calls'
-    → received_by source line (Some made) a a' calls ≡ received_by source' line (Some made) b b' calls'
-received_some line source source' sourced made a a' b b' calls calls' before later took = grind (arith, train_by)
-
 pub cond_same : {A : Type 0} (hit : Bool) (x x' y y' : A) → x ≡ x' → y ≡ y' → cond hit x y ≡ cond hit x' y'
 cond_same hit x x' y y' then otherwise = cc
 
@@ -68,7 +54,7 @@ pub moved_same : (n : ℕ) (named : Option ℕ) (line : Step) (earlier others : 
     → HistoriesAlike (made_of n earlier) (calls_made n earlier) (calls_made n others)
     → HistoriesAlike (made_of n earlier) (calls_made n (line ∷ earlier)) (calls_made n (line ∷ others)) → calls ≡ calls'
     → moved n named line earlier calls ≡ moved n named line others calls'
-moved_same n named line earlier others calls calls' sourced sink_same before later took = grind (arith, cond_same, received_some)
+moved_same n named line earlier others calls calls' sourced sink_same before later took = grind (arith, cond_same, train_by)
 
 -- ---- the source that the sink is of
 

@@ -1,7 +1,6 @@
 -- What a step that both lists of steps have prints of the sink, of its assistants and of the source.
-use Rattle.scenario_laws.proofs.Known.Sources.{ℕ, zero, suc, ◌≡◌, ◌∙◌, List, ◌++◌, length, map, Option, refl, ap, arith, codes, decimal, option_map, slice_get, range_with_len, Settings, Train, answer_of, outcome_by, state_at, value, writes_waiting, served_out, notified_out, language, notices_waiting, reads_waiting, view_of, Step, Label, reply_line, sink_line, train_words, value_line, Source, Lines, drain_lines, heard_line, if_there, printed_of, printed_where, read_line, read_lines, replied, serve_line, serve_lines, show_lines, stated, tell_line, tell_lines, view_lines, was_read, ◌==◌, not, false, concat, flat_map, eqb-true, not-false, control_line, handed_line, injected_hearing, stale_lines, is_of, sink_calls, source_of, end_pdu, event_back, stale_in, Airs, chosen_of, chosen_steps, calls_made, source_at, made_of, lines_by, unit_lines_by, is_other, sink_in, LinkCall as Call, Alike, notices_same, reads_same, repeats, served_grow, told_grow, waiting_same, Sourced, HistoriesAlike, Same, chosen_alike, own_alike, back_same, end_same, pdu_back_same, both_alike}
-use Rattle.scenario_laws.proofs.Isolating.Kept.{Means, chosen_closing, cond_both, sourced}
-use Rattle.scenario_laws.proofs.Isolating.Said.{stale_same}
+use Rattle.scenario_laws.proofs.Known.Sources.{ℕ, zero, suc, ◌≡◌, ◌∙◌, List, ◌++◌, length, map, Option, refl, ap, arith, codes, decimal, option_map, slice_get, range_with_len, Settings, Train, answer_of, outcome_by, state_at, value, writes_waiting, served_out, notified_out, language, notices_waiting, reads_waiting, view_of, Step, Label, reply_line, sink_line, train_words, value_line, Source, drain_lines, heard_line, if_there, printed_where, read_line, read_lines, replied, serve_line, serve_lines, show_lines, stated, tell_line, tell_lines, view_lines, was_read, ◌==◌, not, false, concat, eqb-true, not-false, Airs, calls_made, source_at, made_of, lines_by, is_other, sink_in, LinkCall as Call, Alike, notices_same, reads_same, repeats, served_grow, told_grow, waiting_same, Sourced, HistoriesAlike, Same, both_alike}
+use Rattle.scenario_laws.proofs.Isolating.Kept.{Means, chosen_closing, sourced}
 
 -- ---- one call on a link
 
@@ -26,7 +25,7 @@ read_line_same label made link a b same = ap (if_there (value_line label.read la
 
 -- ---- a drain
 
-append_same : (xs ys xs' ys' : Lines) → xs ≡ xs' → ys ≡ ys' → xs ++ ys ≡ xs' ++ ys'
+pub append_same : {A : Type 0} (xs ys xs' ys' : List A) → xs ≡ xs' → ys ≡ ys' → xs ++ ys ≡ xs' ++ ys'
 append_same xs ys xs' ys' first rest = ap (λ ls. ls ++ ys) first ∙ ap (λ ls. xs' ++ ls) rest
 
 serves_same : (label : Label) (made : Settings) (link count : ℕ) (a b : List Call) → Alike made.setup made.mtu a b
@@ -82,14 +81,10 @@ train_same sink made a b train same = ap (λ snapshot. sink_line sink (train_wor
 
 -- ---- what a line prints that names the sink
 
-printed_sourced : (line : Step) (source source' : Source) → Sourced line source source' → (made : Settings) (calls : List Call)
-    → printed_of source line made calls ≡ printed_of source' line made calls
-printed_sourced _ source source' sourced made calls = grind arith
-
 pub printed_same : (line : Step) (source source' : Source) (made made' : Option Settings) (a b : List Call) → Sourced line source source'
     → made ≡ made' → HistoriesAlike made a b → printed_where source line made a ≡ printed_where source' line made' b
 printed_same line source source' made made' a b sourced sinks_same same =
-    grind (arith, printed_sourced, serve_same, tell_same, read_line_same, drain_same, shown_same, train_same, views_same)
+    grind (arith, serve_same, tell_same, read_line_same, drain_same, shown_same, train_same, views_same)
 
 -- ---- what a step prints that is kept: the same over both lists of steps
 
@@ -98,9 +93,6 @@ this_one : (sink n : ℕ) → not (sink == n) ≡ false → sink ≡ n
 this_one sink n is = eqb-true sink n (not-false (sink == n) is)
 
 -- ---- units
-
-pub octets_on : (xs ys xs' ys' : List ℕ) → xs ≡ xs' → ys ≡ ys' → xs ++ ys ≡ xs' ++ ys'
-octets_on xs ys xs' ys' first rest = ap (λ ls. ls ++ ys) first ∙ ap (λ ls. xs' ++ ls) rest
 
 -- ---- lines of the sink
 
@@ -114,33 +106,4 @@ named_same airs s n sink line made others this means same =
 
 pub lines_same : (airs : Airs) (s n : ℕ) (step : Step) (made others : List Step) → is_other n (sink_in step) ≡ false → Means s made step
     → Same airs s n made others → lines_by airs n made step ≡ lines_by airs n others step
-lines_same airs s n last made others this means same =
-    grind (
-      arith,
-      octets_on,
-      unit_lines_by,
-      chosen_of,
-      stale_lines,
-      stale_in,
-      chosen_steps,
-      flat_map,
-      handed_line,
-      chosen_closing,
-      stale_same,
-      own_alike,
-      control_line,
-      end_pdu,
-      end_same,
-      both_alike,
-      injected_hearing,
-      this_one,
-      cond_both,
-      is_of,
-      source_of,
-      sink_calls,
-      event_back,
-      chosen_alike,
-      back_same,
-      pdu_back_same,
-      named_same,
-    )
+lines_same airs s n last made others this means same = grind (arith, chosen_closing, both_alike, this_one, named_same)

@@ -1,5 +1,6 @@
 -- What is said of a source, looked back for: eight facts, of which all else that sinks and lines take of it are functions.
-use Rattle.scenario_laws.proofs.Known.Sources.Steps.Prelude.{arith, ℕ, zero, suc, ◌≡◌, ◌-◌, ◌%◌, ◌^◌, ◌==◌, ◌||◌, ◌∙◌, not, cond, Bool, false, List, [], ◌∷◌, Option, None, Some, ap, unwrap_or, option_or, train_of, Endpoint, Cipher, Call, hear, BigSync, control, pdu, BaseLine, subgroups_in, Step, base_from, base_lines, with_base_line, Position, hear_at, heard_on_air, is_lost, position_at, positions_of, unless_lost, GroupLine, Phase, absent, cipher_given, cipher_of, end_pdu, event_back, group_given, Airs, pdu_of, stale_of, group_of, ident_of, identity_given, is_ahead_in, is_sending_at, no_group, no_identity, open_event, pdu_in, phase_given, setup_from, setup_of, source_calls, stale_in, start_given, start_of, with_source_call, Stage, chosen_of, chosen_steps, is_of_source, is_over_at, last_given, stage_after, stage_of, steps_of_source, version_at, big_sync_on, source_at, Source, Setup, events, next_anchor_of, next_of, with_cipher, Identity, SourceCall, event as perform}
+use Rattle.scenario_laws.proofs.Known.Sources.Steps.Prelude.{arith, ℕ, zero, suc, ◌≡◌, ◌-◌, ◌%◌, ◌^◌, ◌==◌, ◌||◌, ◌∙◌, not, cond, Bool, false, List, ◌∷◌, Option, None, Some, ap, unwrap_or, option_or, Cipher, Call, hear, control, pdu, BaseLine, Step, base_lines, with_base_line, hear_at, heard_on_air, is_lost, position_at, unless_lost, GroupLine, Phase, absent, cipher_given, cipher_of, end_pdu, event_back, group_given, Airs, stale_of, group_of, ident_of, identity_given, is_ahead_in, is_sending_at, no_group, open_event, phase_given, setup_from, setup_of, source_calls, stale_in, start_given, start_of, with_source_call, Stage, chosen_of, chosen_steps, is_of_source, is_over_at, last_given, stage_after, stage_of, steps_of_source, version_at, source_at, Setup, events, next_of, Identity, SourceCall, event as perform}
+use Rattle.scenario_laws.proofs.RelayedUnits.Histories.{Told, source_told}
 use Rattle.iso_pdu.specs.Control.{terminate}
 
 pub record Said : Type 0 where
@@ -48,39 +49,8 @@ next_in said = next_of (setup_in said) said.calls
 abbrev back_in : Said → ℕ → ℕ
 back_in said back = next_in said - 1 - back
 
-abbrev base_in : Said → Endpoint
-base_in said = base_from (unwrap_or said.group no_group) (subgroups_in said.lines)
-
-abbrev identity_in : Said → Identity
-identity_in said = unwrap_or said.ident no_identity
-
-abbrev pdu_said : Airs → Said → (event bis subevent : ℕ) → List ℕ
-pdu_said airs said event bis subevent = unwrap_or (pdu_of (setup_in said) (airs (setup_in said) said.calls) event bis subevent) []
-
-abbrev source_in : ℕ → Said → Source
-source_in number said = record {
-  number = number;
-  address_type = (identity_in said).address_type;
-  sid = (identity_in said).sid;
-  announced = train_of (identity_in said).broadcast_id (base_in said) (with_cipher (unwrap_or said.group no_group).info said.cipher)
-      (next_in said) (next_anchor_of (setup_in said) said.calls);
-  big_sync = λ which. record {
-    info = (setup_in said).info;
-    which = which;
-    first = next_in said;
-    anchor = next_anchor_of (setup_in said) said.calls;
-    delay = (setup_in said).delay;
-  };
-}
-
-abbrev tuning_in : ℕ → Said → BigSync
-tuning_in which said = record {
-  info = (setup_in said).info;
-  which = which;
-  first = next_in said;
-  anchor = next_anchor_of (setup_in said) said.calls;
-  delay = (setup_in said).delay;
-}
+abbrev told_in : Said → Told
+told_in s = record { group = s.group; start = s.start; ident = s.ident; cipher = s.cipher; lines = s.lines; performed = events s.calls }
 
 abbrev open_in : Said → Option ℕ
 open_in said =
@@ -91,21 +61,6 @@ open_in said =
 
 pub open_same : (own own' : List Step) → said_of own ≡ said_of own' → open_event own ≡ open_event own'
 open_same own own' same = ap open_in same
-
-pub back_same : (own own' : List Step) (back : ℕ) → said_of own ≡ said_of own' → event_back own back ≡ event_back own' back
-back_same own own' back same = ap (λ said. back_in said back) same
-
--- of the events before the last one performed
-pub pdu_back_same : (airs : Airs) (own own' : List Step) (back bis subevent : ℕ) → said_of own ≡ said_of own'
-    → pdu_in airs own (event_back own back) bis subevent ≡ pdu_in airs own' (event_back own' back) bis subevent
-pdu_back_same airs own own' back bis subevent same = ap (λ said. pdu_said airs said (back_in said back) bis subevent) same
-
-pub tuning_same : (own own' : List Step) (which : ℕ) → said_of own ≡ said_of own' → big_sync_on own which ≡ big_sync_on own' which
-tuning_same own own' which same = ap (tuning_in which) same
-
-pub hear_same : (airs : Airs) (own own' : List Step) (back : ℕ) (position : Position) → said_of own ≡ said_of own'
-    → hear_at airs own (event_back own back) position ≡ hear_at airs own' (event_back own' back) position
-hear_same airs own own' back position same = grind (arith, hear)
 
 pub stale_same : (airs : Airs) (own own' : List Step) → said_of own ≡ said_of own' → stale_in airs own ≡ stale_in airs own'
 stale_same airs own own' same = ap (λ said. stale_of (setup_in said) said.calls (airs (setup_in said) (perform ∷ said.calls))) same
@@ -128,16 +83,12 @@ heard_first airs own own' lose zero calls calls' same took = took
 heard_first airs own own' lose (suc i) calls calls' same took =
     cc (heard_one airs own own' lose i (heard_on_air airs own lose i calls) same, heard_first airs own own' lose i calls calls' same took)
 
-pub heard_same : (airs : Airs) (own own' : List Step) (lose : ℕ) (calls calls' : List Call) → said_of own ≡ said_of own' → calls ≡ calls'
-    → heard_on_air airs own lose (positions_of own) calls ≡ heard_on_air airs own' lose (positions_of own') calls'
-heard_same airs own own' lose calls calls' same took = grind (arith, heard_on_air, heard_first, positions_of)
-
 -- ---- the chosen source
 
 -- the source that a line after these steps means
 pub source_same : (made others : List Step) → chosen_of made ≡ chosen_of others
     → said_of (chosen_steps made) ≡ said_of (chosen_steps others) → source_at made ≡ source_at others
-source_same made others chosen same = ap (λ s. source_in s (said_of (chosen_steps made))) chosen ∙ ap (source_in (chosen_of others)) same
+source_same made others chosen same = ap (λ s. source_told s (told_in (said_of (chosen_steps made)))) chosen ∙ ap (λ said. source_told (chosen_of others) (told_in said)) same
 
 -- where it is this one, of which both say the same
 pub chosen_said : (s : ℕ) (made others : List Step) → chosen_of made ≡ s → chosen_of made ≡ chosen_of others

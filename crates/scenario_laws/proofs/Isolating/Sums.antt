@@ -1,6 +1,6 @@
 -- What the box of a sink took since the sink was made: the valid units that the sink handed up since then, and nothing else, since no
 -- two sinks have one box and a new sink has a new one.
-use Rattle.scenario_laws.proofs.Known.Sources.Steps.Prelude.{ℕ, ◌≡◌, ◌<◌, ◌≤◌, ◌==◌, ◌∙◌, cond, Bool, true, false, List, [], ◌∷◌, ◌++◌, map, Option, None, Some, arith, refl, sym, ap, AllByRecursion, filter, flat_map, cases_eq, eq-eqb, eqb-true, ne_eqb, append-nil, none-some, Handed, valid, lost, Call, handed_at, Step, box_was_made, valid_append, SinkUnit, box_of, closing_at, closing_in, handed_by, handed_up, onto_valid, valid_for, open_event, Airs, chosen_of, sinks_made, sinks_made_by, steps_of_source, units_by, closing}
+use Rattle.scenario_laws.proofs.Known.Sources.Steps.Prelude.{ℕ, ◌≡◌, ◌<◌, ◌≤◌, ◌==◌, ◌∙◌, cond, Bool, true, false, List, [], ◌∷◌, ◌++◌, map, Option, None, Some, arith, refl, sym, ap, AllByRecursion, filter, flat_map, cases_eq, eq-eqb, eqb-true, ne_eqb, append-nil, none-some, Handed, valid, lost, Call, handed_at, Step, box_was_made, valid_append, SinkUnit, box_of, closing_at, closing_in, handed_by, handed_up, onto_valid, valid_for, open_event, Airs, sinks_made, sinks_made_by, steps_of_source, units_by, closing}
 
 -- the octets of the valid ones
 abbrev pub octets_in : List Handed → List (List ℕ)
@@ -10,13 +10,10 @@ octets_in (lost bis time ∷ units) = octets_in units
 
 -- ---- no two sinks have one box
 
-same_some : (a b : ℕ) → (let some : ℕ → Option ℕ = λ n. Some n in some a ≡ some b) → a ≡ b
-same_some a b e = cc
-
 made_hits : (sink m k count b : ℕ) (bm bk : Option ℕ) (hm hk : Bool) → (bm ≡ Some b → b < count) → (bk ≡ Some b → b < count)
     → (bm ≡ Some b → bk ≡ Some b → m ≡ k) → (sink == m) ≡ hm → (sink == k) ≡ hk → cond hm (Some count) bm ≡ Some b
     → cond hk (Some count) bk ≡ Some b → m ≡ k
-made_hits sink m k count b bm bk hm hk older older' before p q em ek = grind (arith, eqb-true, same_some)
+made_hits sink m k count b bm bk hm hk older older' before p q em ek = grind (arith, eqb-true)
 
 gone_hits : (m k b : ℕ) (bm bk : Option ℕ) (hm hk : Bool) → (bm ≡ Some b → bk ≡ Some b → m ≡ k) → cond hm None bm ≡ Some b
     → cond hk None bk ≡ Some b → m ≡ k
@@ -56,7 +53,7 @@ fits_units b n t m box [] same = tt
 fits_units b n t m box (unit ∷ units) same = (same, fits_units b n t m box units same)
 
 same_tests : (made : List Step) (n m b box : ℕ) → box_of n made ≡ Some b → box_of m made ≡ Some box → (box == b) ≡ (m == n)
-same_tests made n m b box its is = grind (arith, cases_eq, same_some, box_of, eq-eqb, ne_eqb, one_box)
+same_tests made n m b box its is = grind (arith, cases_eq, box_of, eq-eqb, ne_eqb, one_box)
 
 fits_one : (made : List Step) (b n t event m : ℕ) (calls : List Call) (hit : Bool) (box : Option ℕ) → box_of n made ≡ Some b
     → box_of m made ≡ box → FitsBox b n (cond hit (closing_in t event m calls box) [])
@@ -146,4 +143,4 @@ left_took airs n step made others took none stays box other its its' =
 
 pub kept_took : (airs : Airs) (n : ℕ) (step : Step) (made others : List Step) → TookAlike airs n made others
     → units_by n (handed_by airs made step) ≡ units_by n (handed_by airs others step) → TookAlike airs n (step ∷ made) (step ∷ others)
-kept_took airs n step made others took same box other its its' = grind (arith, same_some, valid_append, none_yet, stays_took, none-some)
+kept_took airs n step made others took same box other its its' = grind (arith, valid_append, none_yet, stays_took, none-some)

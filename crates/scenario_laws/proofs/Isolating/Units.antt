@@ -31,10 +31,6 @@ other_in : (its : Bool) (t event n m : ℕ) (calls : List Call) (box : Option �
     → units_by n (cond its (closing_in t event m calls box) []) ≡ []
 other_in its t event n m calls box other = grind (arith, other_units)
 
-boxes_in : (its : Bool) (t event n : ℕ) (calls : List Call) (box box' : Option ℕ) → is_some box ≡ is_some box'
-    → units_by n (cond its (closing_in t event n calls box) []) ≡ units_by n (cond its (closing_in t event n calls box') [])
-boxes_in its t event n calls box box' same = grind (arith, false≢true, own_units)
-
 -- ---- all sinks
 
 abbrev closes : Airs → (t event : ℕ) → List Step → ℕ → List SinkUnit
@@ -49,7 +45,7 @@ pub record HandsAlike (airs : Airs) (n : ℕ) (made others : List Step) : Type 0
 each_closes : (airs : Airs) (t event n : ℕ) (made others : List Step) → HandsAlike airs n made others → (m : ℕ)
     → units_by n (closes airs t event made m) ≡ units_by n (closes airs t event others m)
 each_closes airs t event n made others same m =
-    grind (arith, cases_eq, units_by, boxes_in, is_of, source_of, sink_calls, box_of, other_in, ne_eqb)
+    grind (arith, cases_eq, units_by, is_of, source_of, sink_calls, box_of, other_in, ne_eqb, false≢true, own_units)
 
 closing_same : (airs : Airs) (t n : ℕ) (last_open : Option ℕ) (made others : List Step) → HandsAlike airs n made others
     → units_by n (closing_at airs t made last_open) ≡ units_by n (closing_at airs t others last_open)

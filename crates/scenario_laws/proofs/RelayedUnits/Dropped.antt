@@ -1,6 +1,6 @@
 -- A unit that a relay offers is dropped for one of four reasons: the stream that it goes to is one of source 1, which is framed and
 -- takes times ahead.
-use Rattle.scenario_laws.proofs.Known.Sources.Steps.{ℕ, ◌≡◌, ◌==◌, ◌&&◌, ◌∙◌, not, cond, Bool, true, false, List, [], ◌∷◌, ltb, arith, None, Some, refl, ap, subst, inl, inr, slice_index_or, All, option_map, option_or, and_parts, eqb-true, false≢true, or_parts, All-head, All-tail, Step, Airs, permitted, stage_same, give_refusal, is_out_of_phase, refusal_of, source_refusal, refuse_if, Phase, absent, described, is_ciphered, is_sending, is_sending_at, is_started, phase_of, sending, setup_of, stopped, takes_units, was_started_at, chosen_of, is_of_source, is_source_line, steps_of_source, version_at, version_of, DroppedLaw, Offer, after_offer, closes_first, dropped_for, happened, offers_at, AreLegal, had_relay, relay_of, or_cases, stage_happened, left_by_offers, Runs, happens_legally, runs_at, runs_still, unless_legal, is_free, line_passes, Stands, offers_stand, route_had, Refusal}
+use Rattle.scenario_laws.proofs.Known.Sources.Steps.{ℕ, ◌≡◌, ◌==◌, ◌&&◌, ◌∙◌, not, cond, Bool, true, false, List, [], ◌∷◌, ltb, arith, None, Some, refl, ap, subst, inl, inr, slice_index_or, All, option_map, option_or, and_parts, eqb-true, false≢true, or_parts, All-head, All-tail, Step, Airs, permitted, stage_same, is_out_of_phase, refusal_of, source_refusal, refuse_if, Phase, is_ciphered, is_sending, is_sending_at, is_started, phase_of, sending, setup_of, takes_units, was_started_at, chosen_of, is_of_source, is_source_line, steps_of_source, version_at, version_of, DroppedLaw, Offer, after_offer, closes_first, dropped_for, happened, offers_at, AreLegal, had_relay, relay_of, or_cases, stage_happened, left_by_offers, Runs, happens_legally, runs_at, runs_still, unless_legal, is_free, line_passes, Stands, offers_stand, route_had, Refusal}
 use Rattle.relay_role.specs.Relayed.{drop_name}
 use Rattle.scenario_laws.specs.RelayedUnits.Dropped.{AreDroppedByName, refusal_named, second_at, second_of}
 use Rattle.source_machine.specs.UnitFaults as give_faults
@@ -16,10 +16,6 @@ pub record Settled (own : List Step) (to : ℕ) : Type 0 where
 sending_started : (phase : Phase) → is_sending_at phase ≡ true → was_started_at phase ≡ true
 sending_started sending is = refl
 sending_started phase is = search
-
-settled_if : (mine : Bool) (step : Step) (own : List Step) (to : ℕ) → (mine ≡ true → is_out_of_phase own step ≡ false) → Settled own to
-    → Settled (cond mine (step ∷ own) own) to
-settled_if mine step own to test before = grind (arith, or_parts, false≢true)
 
 by_line : (airs : Airs) (boxes : ℕ) (earlier : List Step) (step : Step) → refusal_of airs boxes earlier step ≡ None
     → (is_source_line step && (chosen_of earlier == 1)) ≡ true → is_out_of_phase (steps_of_source 1 earlier) step ≡ false
@@ -54,22 +50,15 @@ settled airs boxes to (Step.Relay sink bis into ∷ earlier) legal had = elim (o
   | inr before ↦ settled airs boxes to earlier legal.0 before
 ]
 settled airs boxes to (step ∷ earlier) legal had =
-    settled_if (is_of_source 1 earlier step) step (steps_of_source 1 earlier) to (in_phase airs boxes earlier step legal.1)
-    (settled airs boxes to earlier legal.0 had)
+    grind (arith, or_parts, false≢true, (in_phase airs boxes earlier step legal.1), (settled airs boxes to earlier legal.0 had))
 
 -- ---- the reasons
-
-same_reason : (long above full : Bool) → option_map give_refusal (cond long (Some give_faults.UnitTooLong)
-    (cond (not (above && true)) (Some give_faults.TimeOrder) (cond full (Some give_faults.Backlog) None)))
-    ≡ option_map refusal_named (cond long (Some drops.UnitTooLong)
-    (cond (not above) (Some drops.TimeOrder) (cond full (Some drops.Backlog) None)))
-same_reason long above full = grind arith
 
 by_takes : (takes : Bool) (airs : Airs) (version : ℕ) (own : List Step) (offer : Offer) → Settled own offer.route.to → version_of own ≡ 2
     → option_or (refuse_if (not takes) Refusal.Order)
     (source_refusal airs version own (Step.Unit offer.route.to (Some offer.unit.time) offer.unit.octets))
     ≡ option_map refusal_named (drop_name airs offer.route.to offer.unit (second_at takes own))
-by_takes takes airs version own offer set second = grind (arith, same_reason, ltb, eqb-true)
+by_takes takes airs version own offer set second = grind (arith, ltb, eqb-true)
 
 one_named : (airs : Airs) (boxes : ℕ) (offer : Offer) (made : List Step) → AreLegal airs boxes made → version_of made ≡ 2
     → relay_of offer.sink made ≡ Some offer.route

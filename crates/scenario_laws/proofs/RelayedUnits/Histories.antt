@@ -1,5 +1,5 @@
 -- What happens by steps of lines, of what they say: relayed units are no part of the stage, of the sinks and of what is handed up.
-use Rattle.scenario_laws.proofs.Known.Sources.Steps.Prelude.{◌≡◌, ◌==◌, ◌∙◌, cond, Bool, true, false, List, [], ◌∷◌, ◌++◌, refl, sym, ap, ap₂, eqb-true, Step, handed_by, handed_up, after_offers, happened, offers_at, with_relayed_units, Airs, chosen_of, sinks_made, stage_of, ℕ, ◌+◌, ◌||◌, ◌&&◌, Option, arith, unwrap_or, option_or, train_of, Settings, iso_us_of, Cipher, BaseLine, subgroups_in, Source, calls_after, calls_at, calls_by, made_by, made_of, named_by, events, anchor_of, with_cipher, Identity, Refusal, base_from, base_lines, Offer, after_offer, offers_before, with_relayed_unit_unless, GroupLine, cipher_of, group_of, ident_of, no_group, no_identity, source_calls, start_of, chosen_given, is_common, is_of_source, is_source_line, last_given, steps_of_source, calls_made, source_at, the_world, closing, LinkCall as Call, sink_horizon_of as horizon_of}
+use Rattle.scenario_laws.proofs.Known.Sources.Steps.Prelude.{◌≡◌, ◌==◌, ◌∙◌, cond, Bool, true, false, List, [], ◌∷◌, ◌++◌, refl, sym, ap, ap₂, eqb-true, Step, handed_by, handed_up, after_offers, happened, offers_at, with_relayed_units, Airs, chosen_of, sinks_made, stage_of, ℕ, ◌+◌, ◌||◌, ◌&&◌, Option, arith, unwrap_or, train_of, Settings, iso_us_of, Cipher, BaseLine, subgroups_in, Source, calls_after, calls_at, calls_by, made_by, made_of, named_by, events, anchor_of, with_cipher, Identity, Refusal, base_from, base_lines, Offer, after_offer, offers_before, with_relayed_unit_unless, GroupLine, cipher_of, group_of, ident_of, no_group, no_identity, source_calls, start_of, is_common, is_of_source, is_source_line, steps_of_source, calls_made, source_at, the_world, closing, LinkCall as Call, sink_horizon_of as horizon_of}
 use Rattle.scenario_laws.proofs.RelayedUnits.Left.{left_by_relayed_units, left_by_offers}
 
 pub stage_happened : (airs : Airs) (said : List Step) → stage_of (happened airs said) ≡ stage_of said
@@ -37,13 +37,13 @@ handed_happened airs earlier step =
 
 -- ---- what is said of a source, but for its units
 
-record Told : Type 0 where
-  group : Option GroupLine
-  start : Option ℕ
-  ident : Option Identity
-  cipher : Option Cipher
-  lines : List BaseLine
-  performed : ℕ
+pub record Told : Type 0 where
+  pub group : Option GroupLine
+  pub start : Option ℕ
+  pub ident : Option Identity
+  pub cipher : Option Cipher
+  pub lines : List BaseLine
+  pub performed : ℕ
 
 abbrev told_of : List Step → Told
 told_of own = record {
@@ -66,8 +66,8 @@ anchor_in told =
     anchor_of (unwrap_or told.group no_group).origin (first_in told) (next_in told) (iso_us_of (unwrap_or told.group no_group).info)
 
 -- the source that a line means, of its number and of this
-abbrev source_in : ℕ → Told → Source
-source_in number told = record {
+abbrev pub source_told : ℕ → Told → Source
+source_told number told = record {
   number = number;
   address_type = (unwrap_or told.ident no_identity).address_type;
   sid = (unwrap_or told.ident no_identity).sid;
@@ -103,15 +103,10 @@ offers_horizon airs (offer ∷ offers) made = search (unless_horizon, offers_hor
 
 -- ---- the source that a line means
 
-chosen_next : (chosen before others : Option ℕ) → unwrap_or before 0 ≡ unwrap_or others 0
-    → unwrap_or (option_or chosen before) 0 ≡ unwrap_or (option_or chosen others) 0
-chosen_next chosen before others same = grind arith
-
 pub chosen_happened : (airs : Airs) (said : List Step) → chosen_of (happened airs said) ≡ chosen_of said
 chosen_happened airs [] = refl
 chosen_happened airs (step ∷ earlier) =
-    chosen_next (chosen_given step) (last_given chosen_given (with_relayed_units airs (happened airs earlier) step)) (last_given chosen_given earlier)
-    ((left_by_relayed_units airs (happened airs earlier) step).chosen ∙ chosen_happened airs earlier)
+    grind (arith, ((left_by_relayed_units airs (happened airs earlier) step).chosen ∙ chosen_happened airs earlier))
 
 told_if : (mine : Bool) (step : Step) (own others : List Step) → told_of own ≡ told_of others
     → told_of (cond mine (step ∷ own) own) ≡ told_of (cond mine (step ∷ others) others)
@@ -133,8 +128,8 @@ source_after_relays : (airs : Airs) (step : Step) (earlier : List Step)
 source_after_relays airs step earlier =
     let made = happened airs earlier in
     let after_relays = with_relayed_units airs made step in
-    ap (λ c. source_in c (told_of (steps_of_source c after_relays))) ((left_by_relayed_units airs made step).chosen ∙ chosen_happened airs earlier)
-    ∙ ap (source_in (chosen_of earlier))
+    ap (λ c. source_told c (told_of (steps_of_source c after_relays))) ((left_by_relayed_units airs made step).chosen ∙ chosen_happened airs earlier)
+    ∙ ap (source_told (chosen_of earlier))
     (offers_told (chosen_of earlier) airs (offers_before airs made step) made ∙ told_happened (chosen_of earlier) airs earlier)
 
 -- ---- a sink

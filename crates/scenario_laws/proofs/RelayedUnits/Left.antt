@@ -1,8 +1,5 @@
 -- What relayed units leave: a step that chooses a source and one that gives source 1 a unit change nothing else.
-use Rattle.scenario_laws.proofs.Known.Sources.Steps.Prelude.{◌∙◌, List, [], ◌∷◌, Option, None, Some, append-nil, Step, Refusal, Airs, Offer, after_offer, after_offers, offers_before, with_relayed_unit, with_relayed_unit_unless, with_relayed_units, IsLeft, ℕ, ◌≡◌, ◌==◌, ◌&&◌, cond, Bool, false, ◌++◌, arith, refl, sym, ap, append_assoc, list_any, false≢true, or_parts, map-append, filter-append, accept, accepted, Setup, event, framed_calls, give, timed_accepted, setup_of, source_calls, chosen_of, Answered, dropped_for, offered_to, PassesAtOnce, accepted_on, gives_on, Unit as AudioUnit, FramedCall, SourceCall as Call, answered, passed}
-
-left_same : (airs : Airs) (steps : List Step) → IsLeft airs steps steps
-left_same airs steps = assumption
+use Rattle.scenario_laws.proofs.Known.Sources.Steps.Prelude.{◌∙◌, List, [], ◌∷◌, Option, None, Some, append-nil, Step, Refusal, Airs, Offer, after_offer, after_offers, offers_before, with_relayed_unit_unless, with_relayed_units, IsLeft, ℕ, ◌≡◌, ◌==◌, ◌&&◌, cond, Bool, false, ◌++◌, arith, refl, sym, ap, append_assoc, list_any, false≢true, or_parts, map-append, filter-append, accept, accepted, Setup, event, framed_calls, give, timed_accepted, setup_of, source_calls, chosen_of, Answered, dropped_for, offered_to, PassesAtOnce, accepted_on, gives_on, Unit as AudioUnit, FramedCall, SourceCall as Call, answered, passed}
 
 left_then : (airs : Airs) (after_relays between before : List Step) → IsLeft airs after_relays between → IsLeft airs between before
     → IsLeft airs after_relays before
@@ -24,16 +21,13 @@ left_then airs after_relays between before later first = record {
   handed = later.handed ∙ first.handed;
 }
 
-left_by_relayed_unit : (airs : Airs) (offer : Offer) (steps : List Step) → IsLeft airs (with_relayed_unit offer steps) steps
-left_by_relayed_unit airs offer steps = search (append-nil)
-
 left_unless : (airs : Airs) (reason : Option Refusal) (offer : Offer) (steps : List Step)
     → IsLeft airs (with_relayed_unit_unless reason offer steps) steps
-left_unless airs None offer steps = left_by_relayed_unit airs offer steps
-left_unless airs (Some reason) offer steps = left_same airs steps
+left_unless airs None offer steps = search append-nil
+left_unless airs (Some reason) offer steps = assumption
 
 pub left_by_offers : (airs : Airs) (offers : List Offer) (steps : List Step) → IsLeft airs (after_offers airs offers steps) steps
-left_by_offers airs [] steps = left_same airs steps
+left_by_offers airs [] steps = assumption
 left_by_offers airs (offer ∷ offers) steps = search (left_then, left_unless, left_by_offers airs offers (after_offer airs offer steps))
 
 pub left_by_relayed_units : (airs : Airs) (steps : List Step) (step : Step) → IsLeft airs (with_relayed_units airs steps step) steps
@@ -89,10 +83,6 @@ pub passed_append : (to : ℕ) (one other : List Answered)
     → passed (offered_to to (one ++ other)) ≡ passed (offered_to to one) ++ passed (offered_to to other)
 passed_append to one other = search (filter-append, map-append)
 
-one_passes : (to : ℕ) (reason : Option Refusal) (offer : Offer) (made : List Step) → accepted_on to (with_relayed_unit_unless reason offer made)
-    ≡ accepted_on to made ++ passed (offered_to to (record { offer = offer; reason = reason } ∷ []))
-one_passes to reason offer made = grind (arith, append-nil)
-
 pub all_pass : (airs : Airs) (to : ℕ) (offers : List Offer) (made : List Step)
     → accepted_on to (after_offers airs offers made) ≡ accepted_on to made ++ passed (offered_to to (answered airs offers made))
 all_pass airs to [] made = sym (append-nil (accepted_on to made))
@@ -101,7 +91,7 @@ all_pass airs to (offer ∷ offers) made =
     let next = after_offer airs offer made in
     let one : List Answered = record { offer = offer; reason = reason } ∷ [] in
     let others = answered airs offers next in
-    all_pass airs to offers next ∙ ap (λ units. units ++ passed (offered_to to others)) (one_passes to reason offer made)
+    all_pass airs to offers next ∙ ap (λ units. units ++ passed (offered_to to others)) (grind (arith, append-nil))
     ∙ append_assoc (accepted_on to made) (passed (offered_to to one)) (passed (offered_to to others))
     ∙ ap (λ units. accepted_on to made ++ units) (sym (passed_append to one others))
 

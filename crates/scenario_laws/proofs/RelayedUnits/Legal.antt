@@ -1,8 +1,8 @@
 -- Lines of which none was refused give steps of which none is: relayed units are steps that source 1 takes, and what closes an event of
 -- source 0 is permitted behind them as before.
-use Rattle.scenario_laws.proofs.Known.Sources.Steps.Prelude.{ℕ, ◌≡◌, ◌≤◌, ◌||◌, ◌∙◌, not, cond, Bool, true, false, List, [], ◌∷◌, length, leb, ltb, Option, None, Some, refl, ap, arith, option_map, option_or, eqb-true, false≢true, ltb-false, none-some, IsInRange, Step, Airs, give_fault, has_its_time, UnitFault, Refusal, fails_not, maps_none, permitted, give_refusal, is_misplaced, is_out_of_phase, refusal_of, refuse_if, source_refusal, setup_of, source_calls, takes_units, Stage, chosen_of, chosen_steps, is_over, is_over_at, is_unbegun, is_unbegun_at, stage_of, steps_of_source, version_at, Offer, after_offer, after_offers, closes_first, dropped_for, happened, offers_at, with_relayed_unit_unless, with_relayed_units, AreLegal, AreSaidLegally, neither}
+use Rattle.scenario_laws.proofs.Known.Sources.Steps.Prelude.{ℕ, ◌≡◌, ◌≤◌, ◌||◌, ◌∙◌, not, cond, Bool, true, false, List, [], ◌∷◌, length, leb, ltb, Option, None, Some, refl, ap, arith, option_or, eqb-true, false≢true, ltb-false, none-some, IsInRange, Step, Airs, UnitFault, Refusal, fails_not, maps_none, permitted, is_misplaced, refusal_of, refuse_if, setup_of, chosen_of, chosen_steps, is_over, is_over_at, is_unbegun, is_unbegun_at, stage_of, steps_of_source, Offer, after_offer, after_offers, closes_first, dropped_for, happened, offers_at, with_relayed_unit_unless, with_relayed_units, AreLegal, AreSaidLegally, neither}
 use Rattle.scenario_laws.proofs.RelayedUnits.Left.{left_by_offers}
-use Rattle.scenario_laws.proofs.RelayedUnits.Refused.{line_passes}
+use Rattle.scenario_laws.proofs.RelayedUnits.One.{line_passes}
 
 -- ---- the scenario is under way
 
@@ -47,10 +47,6 @@ none_of_four over misplaced out source p q r s = rw (p, q, r, s) refl
 choosing : (airs : Airs) (boxes source : ℕ) (made : List Step) → Runs made → refusal_of airs boxes made (Step.Source source) ≡ None
 choosing airs boxes source made runs = none_of_four (is_over made) (is_unbegun made) false None runs.goes_on runs.begun refl refl
 
-giving : (airs : Airs) (boxes : ℕ) (offer : Offer) (made : List Step) → Runs made → dropped_for airs offer made ≡ None
-    → refusal_of airs boxes (Step.Source 1 ∷ made) (Step.Unit offer.route.to (Some offer.unit.time) offer.unit.octets) ≡ None
-giving airs boxes offer made runs none = grind (arith, neither, not, none_of_four, fails_not)
-
 pub second_false : (a b : Bool) (x y : UnitFault) (z : Option UnitFault) → cond a (Some x) (cond b (Some y) z) ≡ None → b ≡ false
 second_false a b x y z none = grind (arith, none-some)
 
@@ -63,7 +59,8 @@ short airs boxes offer made legal none = grind (arith, neither, not, length, ltb
 
 pub unless_legal : (airs : Airs) (boxes : ℕ) (reason : Option Refusal) (offer : Offer) (made : List Step) → AreLegal airs boxes made
     → Runs made → dropped_for airs offer made ≡ reason → AreLegal airs boxes (with_relayed_unit_unless reason offer made)
-unless_legal airs boxes reason offer made legal runs is = grind (arith, choosing, giving, short, chosen_of, chosen_below)
+unless_legal airs boxes reason offer made legal runs is =
+    grind (arith, choosing, short, chosen_of, chosen_below, neither, not, none_of_four, fails_not)
 
 all_legal : (airs : Airs) (boxes : ℕ) (offers : List Offer) (made : List Step) → AreLegal airs boxes made → Runs made
     → AreLegal airs boxes (after_offers airs offers made)
@@ -79,25 +76,13 @@ legal_if closes airs boxes made legal runs = grind (arith, all_legal)
 
 -- ---- the step behind them
 
--- why a step that closes an event is refused, of the stage of the scenario and of the steps of the source
-abbrev close_refusal : Airs → Step → Stage → List Step → Option Refusal
-close_refusal airs step stage own =
-    option_or (refuse_if (is_over_at stage) Refusal.AfterEnd)
-    (option_or (refuse_if (is_misplaced stage step || is_out_of_phase own step) Refusal.Order)
-    (option_or (source_refusal airs (version_at stage) own step) None))
-
 chosen_alike : (made others : List Step) → chosen_of others ≡ chosen_of made → steps_of_source 0 others ≡ steps_of_source 0 made
     → chosen_of made ≡ 0 → chosen_steps others ≡ chosen_steps made
 chosen_alike made others chosen first is = cc (chosen, is, first, is)
 
-close_if : (closes : Bool) (airs : Airs) (step : Step) (made : List Step) → (closes ≡ true → chosen_of made ≡ 0)
-    → (let after = after_offers airs (cond closes (offers_at airs made) []) made in
-    close_refusal airs step (stage_of after) (chosen_steps after) ≡ close_refusal airs step (stage_of made) (chosen_steps made))
-close_if closes airs this made is = grind (arith, left_by_offers, chosen_alike)
-
 step_legal : (airs : Airs) (boxes : ℕ) (made : List Step) (step : Step) → refusal_of airs boxes made step ≡ None
     → refusal_of airs boxes (with_relayed_units airs made step) step ≡ None
-step_legal airs boxes made this none = grind (arith, close_if, eqb-true, left_by_offers)
+step_legal airs boxes made this none = grind (arith, eqb-true, left_by_offers, chosen_alike)
 
 pub happens_legally : (airs : Airs) (boxes : ℕ) (said : List Step) → AreSaidLegally airs boxes said
     → AreLegal airs boxes (happened airs said)

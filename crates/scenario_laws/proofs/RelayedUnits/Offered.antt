@@ -1,5 +1,5 @@
 -- What is offered to a stream of source 1 is what one sink handed up of one of its streams.
-use Rattle.scenario_laws.proofs.Known.Sources.Steps.{ℕ, zero, suc, ◌≡◌, ◌≢◌, ◌<◌, ◌≤◌, ◌+◌, ◌==◌, ◌&&◌, ◌∙◌, Bool, true, false, cond, List, [], ◌∷◌, ◌++◌, map, Option, None, Some, refl, sym, ap, subst, arith, inl, inr, Contains, filter, flat_map, range_with_len, cases_Bool, cases_eq, and_right, eq-eqb, eqb-true, false_from_ne_true, false≢true, or_parts, append-nil, map-append, filter-append, IsInRange, Step, Handed, SinkUnit, handed_by, open_event, Airs, chosen_of, steps_of_source, Answered, Offer, after_offer, all_answered, answered_by, closes_first, dropped_for, handed_of, happened, offered_of, offered_to, offers_at, units_on, with_relayed_units, handed_on, is_route, offered, AreSaidLegally, Route, had_relay, relay_of, relays_to, Unit as AudioUnit, closing, sink_numbers, answered, left_by_relayed_units, OneStands, contains_cases, first_free, one_stands, had_happened, none_now, none_offered, route_had}
+use Rattle.scenario_laws.proofs.Known.Sources.Steps.{ℕ, zero, suc, ◌≡◌, ◌≢◌, ◌<◌, ◌≤◌, ◌+◌, ◌==◌, ◌∙◌, Bool, true, false, cond, List, [], ◌∷◌, ◌++◌, map, Option, None, Some, refl, sym, ap, subst, arith, inl, inr, Contains, filter, flat_map, range_with_len, cases_Bool, cases_eq, and_right, eq-eqb, eqb-true, false_from_ne_true, false≢true, or_parts, append-nil, map-append, filter-append, IsInRange, Step, Handed, SinkUnit, handed_by, open_event, Airs, chosen_of, steps_of_source, Answered, Offer, after_offer, all_answered, answered_by, closes_first, handed_of, happened, offered_of, offered_to, offers_at, units_on, with_relayed_units, handed_on, is_route, offered, AreSaidLegally, Route, had_relay, relay_of, relays_to, Unit as AudioUnit, closing, sink_numbers, answered, left_by_relayed_units, OneStands, contains_cases, first_free, one_stands, had_happened, none_now, none_offered, route_had, eqb, and_left, ◌&&◌}
 
 -- ---- lists
 
@@ -32,22 +32,13 @@ units_to_flat : (to : ℕ) (f : ℕ → List Offer) (ms : List ℕ) → units_to
 units_to_flat to f [] = refl
 units_to_flat to f (m ∷ ms) = units_to_append to (f m) (flat_map f ms) ∙ ap (λ l. units_to to (f m) ++ l) (units_to_flat to f ms)
 
-answer_if : (hit : Bool) (answer : Answered) (answers : List Answered) (offers : List Offer)
-    → map (λ (a : Answered). a.offer.unit) answers ≡ map (λ (offer : Offer). offer.unit) offers
-    → map (λ (a : Answered). a.offer.unit) (cond hit (answer ∷ answers) answers) ≡ map (λ (offer : Offer). offer.unit) (cond hit (answer.offer ∷ offers) offers)
-answer_if hit answer answers offers same = grind arith
-
 -- each unit that is offered is answered
 answered_units : (airs : Airs) (to : ℕ) (offers : List Offer) (made : List Step)
     → map (λ (a : Answered). a.offer.unit) (offered_to to (answered airs offers made)) ≡ units_to to offers
 answered_units airs to [] made = refl
 answered_units airs to (offer ∷ offers) made =
     let next = after_offer airs offer made in
-    answer_if (offer.route.to == to) (record { offer = offer; reason = dropped_for airs offer made })
-    (offered_to to (answered airs offers next)) (filter (λ (o : Offer). o.route.to == to) offers) (answered_units airs to offers next)
-
-same_nil : (hit : Bool) → (let none : List AudioUnit = [] in none ≡ cond hit none none)
-same_nil hit = grind arith
+    grind (arith, (answered_units airs to offers next))
 
 one_more : (hit : Bool) (n : ℕ) (route : Route) (unit : AudioUnit) (units : List AudioUnit) (offers : List Offer)
     → map (λ (offer : Offer). offer.unit) offers ≡ cond hit units []
@@ -56,7 +47,7 @@ one_more hit n route unit units offers same = grind arith
 
 route_units : (to n : ℕ) (route : Route) (units : List AudioUnit)
     → units_to to (map (λ unit. record { sink = n; route = route; unit = unit }) units) ≡ cond (route.to == to) units []
-route_units to n route [] = same_nil (route.to == to)
+route_units to n route [] = grind arith
 route_units to n route (unit ∷ units) = search (one_more, route_units to n route units)
 
 -- what one sink offers to the stream
@@ -89,24 +80,24 @@ offers_units airs n bis to made below stands =
 pub handed_append : (s n : ℕ) (one other : List SinkUnit) → handed_of s n (one ++ other) ≡ handed_of s n one ++ handed_of s n other
 handed_append s n one other = search (filter-append, map-append)
 
-not_of_map : (n t m box : ℕ) (units : List Handed) → (t == 0) ≡ false
-    → handed_of 0 n (map (λ unit. record { source = t; sink = m; box = box; unit = unit }) units) ≡ []
-not_of_map n t m box [] other = refl
-not_of_map n t m box (unit ∷ units) other = rw other (not_of_map n t m box units other)
+pub not_handed : (s n c m box : ℕ) (units : List Handed) → (eqb c s && eqb m n) ≡ false
+    → handed_of s n (map (λ unit. record { source = c; sink = m; box = box; unit = unit }) units) ≡ []
+not_handed s n c m box [] apart = refl
+not_handed s n c m box (unit ∷ units) apart = rw apart (not_handed s n c m box units apart)
 
-not_flat : (n : ℕ) (f : ℕ → List SinkUnit) (ms : List ℕ) → ((m : ℕ) → handed_of 0 n (f m) ≡ []) → handed_of 0 n (flat_map f ms) ≡ []
-not_flat n f [] each = refl
-not_flat n f (m ∷ ms) each = cc (handed_append 0 n (f m) (flat_map f ms), each m, not_flat n f ms each)
+not_flat : (s n : ℕ) (f : ℕ → List SinkUnit) (ms : List ℕ) → ((m : ℕ) → handed_of s n (f m) ≡ []) → handed_of s n (flat_map f ms) ≡ []
+not_flat s n f [] each = refl
+not_flat s n f (m ∷ ms) each = cc (handed_append s n (f m) (flat_map f ms), each m, not_flat s n f ms each)
 
--- another source closes nothing of source 0
-not_first : (airs : Airs) (n t : ℕ) (made : List Step) → (t == 0) ≡ false → handed_of 0 n (closing airs t made) ≡ []
-not_first airs n t made other = grind (arith, not_flat, not_of_map, open_event, steps_of_source)
+-- another source closes nothing of this one
+pub not_closing : (airs : Airs) (s n t : ℕ) (made : List Step) → (t == s) ≡ false → handed_of s n (closing airs t made) ≡ []
+not_closing airs s n t made other = grind (arith, not_flat, not_handed, and_left, open_event, steps_of_source)
 
 -- a close of the chosen source
 by_chosen : (airs : Airs) (n : ℕ) (made after_relays : List Step) (hit : Bool) → (chosen_of made == 0) ≡ hit → chosen_of after_relays ≡ chosen_of made
     → closing airs 0 after_relays ≡ closing airs 0 made
     → handed_of 0 n (closing airs (chosen_of after_relays) after_relays) ≡ cond hit (handed_of 0 n (closing airs 0 made)) []
-by_chosen airs n made after_relays hit is same closes = grind (arith, eqb-true, not_first)
+by_chosen airs n made after_relays hit is same closes = grind (arith, eqb-true, not_closing)
 
 -- what the sink hands up of source 0 by a step, behind the relayed units
 pub first_handed : (airs : Airs) (n : ℕ) (made : List Step) (step : Step) → handed_of 0 n (handed_by airs (with_relayed_units airs made step) step)
@@ -114,7 +105,7 @@ pub first_handed : (airs : Airs) (n : ℕ) (made : List Step) (step : Step) → 
 first_handed airs n made Step.End =
     let after_relays = with_relayed_units airs made Step.End in
     handed_append 0 n (closing airs 0 after_relays) (closing airs 1 after_relays)
-    ∙ ap (λ l. handed_of 0 n (closing airs 0 after_relays) ++ l) (not_first airs n 1 after_relays refl)
+    ∙ ap (λ l. handed_of 0 n (closing airs 0 after_relays) ++ l) (not_closing airs 0 n 1 after_relays refl)
     ∙ append-nil (handed_of 0 n (closing airs 0 after_relays)) ∙ ap (handed_of 0 n) (left_by_relayed_units airs made Step.End).closing_first
 first_handed airs n made step =
     search (by_chosen airs n made (with_relayed_units airs made step) (chosen_of made == 0) refl (left_by_relayed_units airs made step).chosen (left_by_relayed_units airs made step).closing_first)
@@ -124,7 +115,7 @@ first_handed airs n made step =
 offers_if : (closes : Bool) (airs : Airs) (n bis to : ℕ) (made : List Step) → n ≤ 7 → OneStands n bis to made
     → units_to to (cond closes (offers_at airs made) []) ≡ cond (is_route bis to (relay_of n made)) (units_on bis (cond closes (handed_of 0 n (closing airs 0 made)) [])) []
 offers_if true airs n bis to made below stands = offers_units airs n bis to made below stands
-offers_if false airs n bis to made below stands = same_nil (is_route bis to (relay_of n made))
+offers_if false airs n bis to made below stands = grind arith
 
 offered_now : (airs : Airs) (n bis to : ℕ) (made : List Step) (step : Step) → n ≤ 7 → OneStands n bis to made
     → map (λ (a : Answered). a.offer.unit) (offered_to to (answered_by airs made step)) ≡ cond (is_route bis to (relay_of n made)) (handed_on airs n bis made step) []

@@ -1,6 +1,6 @@
 -- Without relays a close prints the units of its sinks in order, and nothing else.
-use Rattle.scenario_laws.proofs.Known.Sources.Steps.{ℕ, zero, suc, ◌≡◌, ◌<◌, ◌≤◌, ◌+◌, ◌==◌, ◌∙◌, Bool, true, false, cond, List, [], ◌∷◌, ◌++◌, map, Option, None, Some, refl, ap, arith, append_assoc, flat_map, range_with_len, eq-eqb, eqb-true, ne_eqb, append-nil, flat_map-append, Call, handed_at, Step, handed_line, Handed, Account, SinkUnit, box_of, closing_at, closing_both, closing_by, closing_in, handed_up, answered_by, closes_first, handed_of, offers_at, close_lines, first_lines, output_of, sums_of, unit_lines, is_of, sink_calls, source_of, open_event, Airs, chosen_of, steps_of_source, PrintsUnits, has_relay, ◌||◌, sym, subst, inl, inr, list_any, and_right, cases_Bool, false≢true, all_answered, happened, offered_to, offers_before, with_relayed_units, RelayLaw, accepted_on, AreSaidLegally, gives_on, line_refusal, had_relay, relays_to, closing, sink_numbers, answered, passed, no_offers, had_happened, none_offered, all_pass, gives_to, none_taken, passed_append, step_takes, gives_none, is_free, line_passes, has_had}
-use Rattle.scenario_laws.proofs.RelayedUnits.Offered.{flat_one, handed_append, all_offered}
+use Rattle.scenario_laws.proofs.Known.Sources.Steps.{ℕ, zero, suc, ◌≡◌, ◌<◌, ◌≤◌, ◌+◌, ◌==◌, ◌∙◌, Bool, true, false, cond, List, [], ◌∷◌, ◌++◌, map, Option, None, Some, refl, ap, arith, append_assoc, flat_map, range_with_len, eq-eqb, eqb-true, ne_eqb, append-nil, flat_map-append, Call, handed_at, Step, handed_line, Handed, Account, SinkUnit, box_of, closing_at, closing_both, closing_by, closing_in, handed_up, answered_by, closes_first, handed_of, offers_at, close_lines, first_lines, output_of, sums_of, unit_lines, is_of, sink_calls, source_of, open_event, Airs, chosen_of, steps_of_source, PrintsUnits, has_relay, sym, subst, inl, inr, list_any, and_right, cases_Bool, false≢true, all_answered, happened, offered_to, offers_before, with_relayed_units, RelayLaw, accepted_on, AreSaidLegally, gives_on, line_refusal, had_relay, relays_to, closing, sink_numbers, answered, passed, no_offers, had_happened, none_offered, all_pass, none_taken, passed_append, step_takes, gives_none, is_free, line_passes, has_had}
+use Rattle.scenario_laws.proofs.RelayedUnits.Offered.{flat_one, handed_append, all_offered, not_handed}
 
 -- ---- lists
 
@@ -27,15 +27,10 @@ pub own_handed : (n box : ℕ) (units : List Handed)
 own_handed n box [] = refl
 own_handed n box (unit ∷ units) = rw (eq-eqb n n refl) (ap (λ l. unit ∷ l) (own_handed n box units))
 
-other_handed : (n m box : ℕ) (units : List Handed) → (m == n) ≡ false
-    → handed_of 0 n (map (λ unit. record { source = 0; sink = m; box = box; unit = unit }) units) ≡ []
-other_handed n m box [] other = refl
-other_handed n m box (unit ∷ units) other = rw other (other_handed n m box units other)
-
 pub other_in : (its : Bool) (event n m : ℕ) (calls : List Call) (box : Option ℕ) → (m == n) ≡ false
     → handed_of 0 n (cond its (closing_in 0 event m calls box) []) ≡ []
 other_in true event n m calls None other = refl
-other_in true event n m calls (Some box) other = other_handed n m box (handed_at calls event) other
+other_in true event n m calls (Some box) other = not_handed 0 n 0 m box (handed_at calls event) other
 other_in false event n m calls box other = refl
 
 pub lines_map : (n box : ℕ) (units : List Handed)
@@ -72,16 +67,14 @@ unfolding sink_numbers
 at_event airs made None = refl
 at_event airs made (Some event) = search (flat_within, one_printed, flat_flat)
 
-first_printed : (airs : Airs) (made : List Step) → first_lines (closing airs 0 made) [] ≡ unit_lines (closing airs 0 made)
-first_printed airs made = at_event airs made (open_event (steps_of_source 0 made))
-
 -- no relay offers anything
 none_answered : (closes : Bool) (airs : Airs) (made : List Step) → has_relay made ≡ false
     → answered airs (cond closes (offers_at airs made) []) made ≡ []
 none_answered closes airs made none = grind (arith, no_offers)
 
 pub prints_units : PrintsUnits
-prints_units airs made step none = cc (none_answered (closes_first made step) airs made none, first_printed airs made)
+prints_units airs made step none =
+    cc (none_answered (closes_first made step) airs made none, (at_event airs made (open_event (steps_of_source 0 made))))
 
 closed_if : (hit : Bool) (airs : Airs) (made : List Step) (step : Step) → (chosen_of made == 0) ≡ hit → has_relay made ≡ false
     → cond hit (first_lines (closing airs 0 made) (answered_by airs made step)) (unit_lines (closing airs (chosen_of made) made)) ≡ unit_lines (closing airs (chosen_of made) made)
@@ -102,11 +95,6 @@ plain_end airs starts made none = search (prints_units, append_assoc, flat_map-a
 
 -- ---- what passes
 
--- a `unit` line closes no event
-gives_none_then : (airs : Airs) (bis : ℕ) (made : List Step) (step : Step) → gives_to bis made step ≡ false
-    → gives_to bis (with_relayed_units airs made step) step ≡ false
-gives_none_then airs bis made step none = grind (arith, and_right)
-
 -- the stream had a relay before this step
 goes_on : (airs : Airs) (boxes to : ℕ) (step : Step) (earlier : List Step) → line_refusal airs boxes (happened airs earlier) step ≡ None
     → had_relay to earlier ≡ true → accepted_on to (happened airs earlier) ≡ passed (offered_to to (all_answered airs earlier))
@@ -115,7 +103,7 @@ goes_on airs boxes to step earlier none had before =
     let made = happened airs earlier in
     let now = answered_by airs made step in
     let unnamed = gives_none airs boxes to made step none (had_happened airs to earlier ∙ had) in
-    step_takes to step (with_relayed_units airs made step) (gives_none_then airs to made step unnamed)
+    step_takes to step (with_relayed_units airs made step) (grind (arith, and_right))
     ∙ all_pass airs to (offers_before airs made step) made ∙ ap (λ units. units ++ passed (offered_to to now)) before
     ∙ sym (passed_append to (all_answered airs earlier) now)
 
@@ -131,15 +119,12 @@ begins airs boxes to (Step.Relay sink bis into) earlier none before its =
     ∙ sym (ap passed (ap (offered_to to) (append-nil (all_answered airs earlier)) ∙ none_offered airs to earlier before))
 begins airs boxes to this earlier none before its = absurd (false≢true its)
 
-had_now : (now before : Bool) → (now || before) ≡ true → before ≡ false → now ≡ true
-had_now now before had not = grind (arith, false≢true)
-
 pub passes : (airs : Airs) (boxes to : ℕ) (said : List Step) → AreSaidLegally airs boxes said → had_relay to said ≡ true
     → accepted_on to (happened airs said) ≡ passed (offered_to to (all_answered airs said))
 passes airs boxes to [] legal had = absurd (false≢true had)
 passes airs boxes to (step ∷ earlier) legal had = elim (cases_Bool (had_relay to earlier)) [
   | inl before ↦ goes_on airs boxes to step earlier legal.1 before (passes airs boxes to earlier legal.0 before)
-  | inr before ↦ begins airs boxes to step earlier legal.1 before (had_now (relays_to to step) (had_relay to earlier) had before)
+  | inr before ↦ begins airs boxes to step earlier legal.1 before (grind (arith, false≢true))
 ]
 
 pub relay_law_holds : (boxes : ℕ) → RelayLaw boxes

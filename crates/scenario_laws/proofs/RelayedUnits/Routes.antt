@@ -1,5 +1,5 @@
 -- A line of version 1 is no `relay` line: no row of the table that version 1 knows makes one.
-use Rattle.scenario_laws.proofs.Known.Sources.Steps.Prelude.{ℕ, ◌≡◌, Bool, false, cond, nat_eq, List, [], ◌∷◌, Option, None, Some, Result, Ok, Err, refl, arith, TextLine, ◌>>=◌, LineFault, at_known, built_at, Build, Row, event_rows, first_rows, link_rows, row_in, sink_rows, source_rows, Step, a_step, nothing, said_by, said_in, unsaid, has_relay, makes_relay, ◌==◌, ◌||◌, ◌∙◌, true, ◌++◌, map, sym, ap, unwrap_or, All, filter, flat_map, option_or, and_right, eq-eqb, eqb-true, false_from_ne_true, false≢true, or_parts, or_right, All-append, All-cons, All-head, All-nil, All-tail, filter-append, none-some, same_Some, Handed, Airs, chosen_of, last_given, Answered, Offer, after_offer, after_offers, all_answered, answered_by, closes_first, dropped_for, happened, offered_of, offered_to, offers_at, offers_before, units_on, with_relayed_units, NoneRelayed, is_relayed, Route, had_relay, relay_given, relay_of, relays_to, Left, at_place, read_of, step_of, first_row_of, link_row_of, row_of, row_of_2, sink_row_of, source_row_of, Said, or_left, Unit as AudioUnit, answered}
+use Rattle.scenario_laws.proofs.Known.Sources.Steps.Prelude.{ℕ, ◌≡◌, Bool, false, cond, nat_eq, List, [], ◌∷◌, Option, None, Some, Result, Ok, Err, refl, arith, TextLine, ◌>>=◌, LineFault, at_known, built_at, Build, Row, event_rows, first_rows, link_rows, row_in, sink_rows, source_rows, Step, a_step, nothing, said_by, said_in, unsaid, has_relay, makes_relay, ◌==◌, ◌||◌, ◌∙◌, true, ◌++◌, map, sym, ap, unwrap_or, All, filter, flat_map, option_or, and_right, eq-eqb, eqb-true, false_from_ne_true, false≢true, or_parts, or_right, All-append, All-cons, All-head, All-nil, All-tail, filter-append, none-some, same_Some, Handed, Airs, chosen_of, last_given, Answered, Offer, after_offer, all_answered, answered_by, closes_first, dropped_for, happened, offered_of, offered_to, offers_at, offers_before, units_on, with_relayed_units, NoneRelayed, is_relayed, Route, had_relay, relay_given, relay_of, relays_to, Left, at_place, read_of, step_of, first_row_of, link_row_of, row_of, row_of_2, sink_row_of, source_row_of, Said, or_left, Unit as AudioUnit, answered}
 use Rattle.scenario_words.specs.Places.{Place, PlaceValue}
 use Rattle.scenario_laws.proofs.RelayedUnits.Left.{left_by_relayed_units}
 
@@ -131,9 +131,6 @@ of_relay made n (Some route) units is = of_route made n route (units_on route.bi
 pub offers_stand : (airs : Airs) (made : List Step) → All (Stands made) (offers_at airs made)
 offers_stand airs made = search (flat_all, of_relay)
 
-before_stand : (airs : Airs) (made : List Step) (step : Step) → All (Stands made) (offers_before airs made step)
-before_stand airs made step = grind (arith, closes_first, offers_at, offers_stand)
-
 answers_of : (airs : Airs) (P : Offer → Type 0) (offers : List Offer) (made : List Step) → All P offers
     → All (λ (answer : Answered). P answer.offer) (answered airs offers made)
 answers_of airs P [] made all = All-nil (λ (answer : Answered). P answer.offer)
@@ -141,10 +138,6 @@ answers_of airs P (offer ∷ offers) made all =
     All-cons (λ (answer : Answered). P answer.offer) (record { offer = offer; reason = dropped_for airs offer made })
     (answered airs offers (after_offer airs offer made)) (All-head P offer offers all)
     (answers_of airs P offers (after_offer airs offer made) (All-tail P offer offers all))
-
-pub answers_stand : (airs : Airs) (made : List Step) (step : Step)
-    → All (λ (answer : Answered). Stands made answer.offer) (answered_by airs made step)
-answers_stand airs made step = answers_of airs (Stands made) (offers_before airs made step) made (before_stand airs made step)
 
 -- ---- a stream that has had no relay
 
@@ -159,7 +152,8 @@ pub none_now : (airs : Airs) (to : ℕ) (made : List Step) (step : Step) → had
 none_now airs to made step none =
     filter_none (λ (answer : Answered). answer.offer.route.to == to) (answered_by airs made step)
     (λ k d within. false_from_ne_true _ (λ its.
-    let had = route_had _ made _ (answers_stand airs made step k d within) in
+    let had = route_had _ made _ ((answers_of airs (Stands made) (offers_before airs made step) made (grind (arith, closes_first,
+    offers_at, offers_stand))) k d within) in
     false≢true (sym none ∙ ap (λ bis. had_relay bis made) (sym (eqb-true _ to its)) ∙ had)))
 
 -- relayed units make no relay
@@ -182,29 +176,21 @@ flat_none : {A B : Type 0} (f : A → List B) (xs : List A) → ((x : A) → f x
 flat_none f [] each = refl
 flat_none f (x ∷ xs) each = ap (λ l. l ++ flat_map f xs) (each x) ∙ flat_none f xs each
 
-dropped_none : (hit : Bool) (later : Option (Option Route)) → unwrap_or later None ≡ None
-    → unwrap_or (option_or (cond hit (Some None) None) later) None ≡ None
-dropped_none hit later none = grind arith
-
 no_route : (n : ℕ) (made : List Step) → has_relay made ≡ false → relay_of n made ≡ None
 no_route n [] none = refl
 no_route n (Step.Relay sink bis to ∷ earlier) none = absurd (false≢true (sym none))
-no_route n (Step.Drop sink ∷ earlier) none = dropped_none (sink == n) (last_given (relay_given n) earlier) (no_route n earlier none)
+no_route n (Step.Drop sink ∷ earlier) none = grind (arith, (no_route n earlier none))
 no_route n (this ∷ earlier) none = no_route n earlier none
 
 pub no_offers : (airs : Airs) (made : List Step) → has_relay made ≡ false → offers_at airs made ≡ []
 no_offers airs made none = search (flat_none, no_route)
-
-no_relayed_units : (closes : Bool) (airs : Airs) (made : List Step) → has_relay made ≡ false
-    → after_offers airs (cond closes (offers_at airs made) []) made ≡ made
-no_relayed_units closes airs made none = grind (arith, no_offers)
 
 pub nothing_else : (airs : Airs) (said : List Step) → has_relay said ≡ false → happened airs said ≡ said
 nothing_else airs [] none = refl
 nothing_else airs (step ∷ earlier) none =
     let before = (or_parts (makes_relay step) (has_relay earlier) none).1 in
     ap (λ made. step ∷ with_relayed_units airs made step) (nothing_else airs earlier before)
-    ∙ ap (λ made. step ∷ made) (no_relayed_units (closes_first earlier step) airs earlier before)
+    ∙ ap (λ made. step ∷ made) (grind (arith, no_offers))
 
 none_had : (bis : ℕ) (made : List Step) → has_relay made ≡ false → had_relay bis made ≡ false
 none_had bis [] none = refl

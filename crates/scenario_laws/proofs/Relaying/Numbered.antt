@@ -1,5 +1,5 @@
 -- Of what was offered those units pass that weren't dropped, in order: so what is in the order of the one is in the order of the other.
-use Rattle.scenario_laws.proofs.Known.Sources.Steps.Prelude.{ℕ, zero, suc, ◌≡◌, ◌<◌, ◌≤◌, ◌+◌, ◌-◌, Bool, true, false, cond, List, [], ◌∷◌, length, map, slice_get, Some, refl, arith, slice_index, AllZip, Contains, filter, IsStrictlyIncreasing, length-map, iso_us_of, sync_delay_of, Air, accepted, Setup, framed_calls, Handed, Step, setup_of, source_calls, Airs, steps_of_source, AreSaidLegally, InUnitOrder, IsOfUnit, Answered, all_answered, happened, offered_to, RelayLaw, offered, InRelayOrder, IsOfOffered, ◌∙◌, ◌++◌, Option, None, sym, ap, map-append, none-some, same_Some, slice_get-map, of_stream, accept, event, given, give, lost, valid, InSourceOrder, IsGiven, is_valid, valid_in, units_on, is_none, Unit as AudioUnit, SourceCall as Call, passed, FramedCall}
+use Rattle.scenario_laws.proofs.Known.Sources.Steps.Prelude.{ℕ, zero, suc, ◌≡◌, ◌<◌, ◌≤◌, ◌+◌, ◌-◌, Bool, true, false, cond, List, [], ◌∷◌, length, map, slice_get, Some, refl, arith, slice_index, AllZip, Contains, filter, length-map, iso_us_of, sync_delay_of, Air, accepted, Setup, framed_calls, Handed, Step, setup_of, source_calls, Airs, steps_of_source, AreSaidLegally, InUnitOrder, IsOfUnit, Answered, all_answered, happened, offered_to, RelayLaw, offered, InRelayOrder, IsOfOffered, ◌∙◌, ◌++◌, Option, None, sym, ap, map-append, none-some, same_Some, slice_get-map, of_stream, accept, event, given, give, lost, valid, InSourceOrder, IsGiven, is_valid, valid_in, units_on, is_none, Unit as AudioUnit, SourceCall as Call, passed, FramedCall, AllZip-long}
 use Rattle.std.proofs.lemmas.List.Kept.{AllPairs-from_increasing}
 use Rattle.scenario_laws.proofs.RelayedUnits.Left.{event_accepts_none}
 
@@ -15,23 +15,14 @@ abbrev pub place : {A : Type 0} → (A → Bool) → List A → ℕ → ℕ
 place test [] k = k
 place test (x ∷ xs) k = place_by (test x) (place test xs) k
 
-gets_by : {A B : Type 0} (hit : Bool) (f : A → B) (x : A) (xs kept : List A) (later : ℕ → ℕ) (y : B)
-    → ((k : ℕ) → slice_get (map f kept) k ≡ Some y → slice_get (map f xs) (later k) ≡ Some y)
-    → (k : ℕ) → slice_get (map f (cond hit (x ∷ kept) kept)) k ≡ Some y → slice_get (map f (x ∷ xs)) (place_by hit later k) ≡ Some y
-gets_by hit f x xs kept later y goes_on k is = grind arith
-
 pub place_gets : {A B : Type 0} (test : A → Bool) (f : A → B) (xs : List A) (y : B) (k : ℕ) → slice_get (map f (filter test xs)) k ≡ Some y
     → slice_get (map f xs) (place test xs k) ≡ Some y
 place_gets test f [] y k is = is
-place_gets test f (x ∷ xs) y k is = gets_by (test x) f x xs (filter test xs) (place test xs) y (place_gets test f xs y) k is
-
-rises_by : (hit : Bool) (later : ℕ → ℕ) → ((j k : ℕ) → j < k → later j < later k) → (j k : ℕ) → j < k
-    → place_by hit later j < place_by hit later k
-rises_by hit later rises j k below = grind arith
+place_gets test f (x ∷ xs) y k is = grind (arith, (place_gets test f xs y))
 
 pub place_rises : {A : Type 0} (test : A → Bool) (xs : List A) (j k : ℕ) → j < k → place test xs j < place test xs k
 place_rises test [] j k below = below
-place_rises test (x ∷ xs) j k below = rises_by (test x) (place test xs) (place_rises test xs) j k below
+place_rises test (x ∷ xs) j k below = grind (arith, (place_rises test xs))
 
 -- ---- numbers that are mapped
 
@@ -39,9 +30,6 @@ pub at_map : (f : ℕ → ℕ) (xs : List ℕ) (k : ℕ) → k < length xs → s
 at_map f [] k below = absurd (omega (arith, below))
 at_map f (x ∷ xs) zero below = refl
 at_map f (x ∷ xs) (suc k) below = at_map f xs k (omega (arith, below))
-
-rising_map : (f : ℕ → ℕ) → ((j k : ℕ) → j < k → f j < f k) → (xs : List ℕ) → IsStrictlyIncreasing xs → IsStrictlyIncreasing (map f xs)
-rising_map f rises xs increasing k within = grind (arith, length, length-map, at_map, slice_index)
 
 pub zip_map : {A B C : Type 0} (f : A → C) (R : A → B → Type 0) (S : C → B → Type 0) → ((a : A) → (b : B) → R a b → S (f a) b)
     → (xs : List A) (ys : List B) → AllZip R xs ys → AllZip S (map f xs) ys
@@ -72,7 +60,7 @@ in_relay_order law airs boxes said legal n bis to within air entries order =
     let relayed = law boxes airs said legal n bis to within in
     record {
       numbers = map (place taken answers) order.numbers;
-      rising = rising_map (place taken answers) (place_rises taken answers) order.numbers order.rising;
+      rising = grind (arith, length, length-map, at_map, slice_index, (place_rises taken answers));
       each = search (zip_map, setup_of, source_calls, offered, of_offered);
     }
 
@@ -109,11 +97,6 @@ units_are bis [] = refl
 units_are bis (valid stream time octets ∷ entries) = search (valid_if, units_are bis entries)
 units_are bis (lost stream time ∷ entries) = search (lost_if, units_are bis entries)
 
--- the unit at a place is that of the valid entry there
-shown_at : (bis : ℕ) (entries : List Handed) (k : ℕ) (unit : AudioUnit) → slice_get (units_on bis entries) k ≡ Some unit
-    → slice_get (map shown (valid_in (of_stream bis entries))) k ≡ Some (shown (valid 0 unit.time unit.octets))
-shown_at bis entries k unit is = grind (arith, units_are, slice_get-map, valid, units_on)
-
 same_long : (bis : ℕ) (entries : List Handed) → length (units_on bis entries) ≡ length (valid_in (of_stream bis entries))
 same_long bis entries = grind (arith, length-map, units_on, valid, length, units_are, valid_in, of_stream)
 
@@ -131,11 +114,6 @@ zip_get R f (number ∷ numbers) (x ∷ xs) zero y all is = record { one = x; ho
 zip_get R f (number ∷ numbers) (x ∷ xs) (suc k) y all is = zip_get R f numbers xs k y all.1 is
 zip_get R f numbers xs k y all is = search (none-some)
 
-zip_long : {A : Type 0} (R : ℕ → A → Type 0) (numbers : List ℕ) (xs : List A) → AllZip R numbers xs → length numbers ≡ length xs
-zip_long R [] [] all = refl
-zip_long R (number ∷ numbers) (x ∷ xs) all = ap suc (zip_long R numbers xs all.1)
-zip_long R numbers xs all = search
-
 -- ---- unframed
 
 of_given : (setup : Setup) (calls : List Call) (bis number : ℕ) (entry : Handed) (unit : AudioUnit) → IsGiven setup calls bis number entry
@@ -146,13 +124,13 @@ pub numbered_slots : (setup : Setup) (calls : List Call) (bis : ℕ) (entries : 
     → InSourceOrder setup calls bis (valid_in (of_stream bis entries)) → Numbered (given bis calls) (units_on bis entries)
 numbered_slots setup calls bis entries order =
     let long : length order.numbers ≡ length (units_on bis entries) =
-    zip_long (IsGiven setup calls bis) order.numbers (valid_in (of_stream bis entries)) order.given ∙ sym (same_long bis entries) in
+    sym (AllZip-long (IsGiven setup calls bis) order.numbers (valid_in (of_stream bis entries)) order.given) ∙ sym (same_long bis entries) in
     record {
       number = slice_index order.numbers;
       rises = λ j k below within. AllPairs-from_increasing order.numbers order.rising j k 0 below (omega (arith, within, long));
       gives = λ k unit is.
           let found = zip_get (IsGiven setup calls bis) shown order.numbers (valid_in (of_stream bis entries)) k
-          (shown (valid 0 unit.time unit.octets)) order.given (shown_at bis entries k unit is) in
+          (shown (valid 0 unit.time unit.octets)) order.given (grind (arith, units_are, slice_get-map, valid, units_on)) in
           of_given setup calls bis (slice_index order.numbers k) found.one unit found.holds found.is;
     }
 
@@ -174,20 +152,16 @@ of_unit : (setup : Setup) (calls : List Call) (bis : ℕ) (air : Air) (number : 
 of_unit setup calls bis air number (valid stream time octets) unit its is = grind (arith, given_units setup bis calls, slice_get-map (λ (u : AudioUnit). u.octets) (accepted (framed_calls setup bis calls)) number, its.accepted, its.valid_is stream time octets refl, same_Some (record { time = time; octets = octets }) unit is)
 of_unit setup calls bis air number (lost stream time) unit its is = absurd (none-some unit is)
 
-within_by : {A : Type 0} (hit : Bool) (x : A) (xs kept : List A) (later : ℕ → ℕ) → ((k : ℕ) → k < length kept → later k < length xs)
-    → (k : ℕ) → k < length (cond hit (x ∷ kept) kept) → place_by hit later k < length (x ∷ xs)
-within_by hit x xs kept later goes_on k below = grind (arith, length)
-
 place_within : {A : Type 0} (test : A → Bool) (xs : List A) (k : ℕ) → k < length (filter test xs) → place test xs k < length xs
 place_within test [] k below = below
-place_within test (x ∷ xs) k below = within_by (test x) x xs (filter test xs) (place test xs) (place_within test xs) k below
+place_within test (x ∷ xs) k below = grind (arith, length, (place_within test xs))
 
 pub numbered_units : (setup : Setup) (calls : List Call) (bis : ℕ) (air : Air) (entries : List Handed)
     → InUnitOrder setup calls bis air (of_stream bis entries) → Numbered (given bis calls) (units_on bis entries)
 numbered_units setup calls bis air entries order =
     let all = of_stream bis entries in
     let index = place is_valid all in
-    let long : length order.numbers ≡ length all = zip_long (IsOfUnit setup calls bis air) order.numbers all order.each in
+    let long : length order.numbers ≡ length all = sym (AllZip-long (IsOfUnit setup calls bis air) order.numbers all order.each) in
     let same = same_long bis entries in
     record {
       number = λ k. slice_index order.numbers (index k);
@@ -197,6 +171,7 @@ numbered_units setup calls bis air entries order =
           (omega (arith, last, long));
       gives = λ k unit is.
           let found = zip_get (IsOfUnit setup calls bis air) shown order.numbers all (index k) (shown (valid 0 unit.time unit.octets))
-          order.each (place_gets is_valid shown all (shown (valid 0 unit.time unit.octets)) k (shown_at bis entries k unit is)) in
+          order.each (place_gets is_valid shown all (shown (valid 0 unit.time unit.octets)) k (grind (arith, units_are, slice_get-map,
+          valid, units_on))) in
           of_unit setup calls bis air (slice_index order.numbers (index k)) found.one unit found.holds found.is;
     }

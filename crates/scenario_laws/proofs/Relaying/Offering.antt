@@ -1,16 +1,9 @@
 -- What the relay of a sink offered is the end of what the sink handed up since it was made: while the relay stands, the sink lives.
-use Rattle.scenario_laws.proofs.Known.Sources.Steps.{ℕ, ◌≡◌, ◌==◌, ◌∙◌, cond, Bool, true, false, List, [], ◌∷◌, ◌++◌, Option, None, Some, arith, is_some, refl, sym, ap, append_assoc, inl, inr, unwrap_or, Contains, option_or, eq-eqb, eqb-true, false_from_ne_true, false≢true, append-nil, map-append, flat_map-append, filter-append, none-some, same_Some, Step, Refusal, SinkUnit, box_of, handed_by, fails_not, permitted, line_refusal, refuse_if, Airs, last_given, sinks_made, handed_since, is_made, of_sink, Offer, after_offer, after_offers, happened, offers_before, units_on, with_relayed_unit_unless, with_relayed_units, handed_on, is_route, offered, AreLegal, AreSaidLegally, Route, had_relay, relay_given, relay_of, EndsWith, suc, ◌⊎◌, ◌<◌, ◌≤◌, ◌&&◌, ◌||◌, length, slice_get, subst, and_parts, cases_Bool, or_parts, IsInRange, given, Handed, MeetAirs, closes_first, handed_of, setup_of, source_calls, chosen_of, is_of_source, steps_of_source, StepsInOrder, given_since_made, injected_since, is_given, is_injected, air_in, injected_till_last_offer, Unit as AudioUnit, neither, OneStands, contains_cases, first_free, had_happened, happens_legally, has_had, is_free, left_by_relayed_units, line_passes, one_stands, chosen_happened, closing, Numbered, numbered_slots, numbered_units, made_alike, given_is_injected}
+use Rattle.scenario_laws.proofs.Known.Sources.Steps.{ℕ, ◌≡◌, ◌==◌, ◌∙◌, cond, Bool, true, false, List, [], ◌∷◌, ◌++◌, Option, None, Some, arith, is_some, refl, sym, ap, append_assoc, inl, inr, unwrap_or, Contains, option_or, eq-eqb, eqb-true, false_from_ne_true, false≢true, append-nil, map-append, flat_map-append, filter-append, none-some, same_Some, Step, Refusal, SinkUnit, box_of, handed_by, fails_not, permitted, line_refusal, refuse_if, Airs, last_given, handed_since, is_made, of_sink, Offer, after_offer, after_offers, happened, offers_before, units_on, with_relayed_unit_unless, with_relayed_units, handed_on, is_route, offered, AreLegal, AreSaidLegally, Route, had_relay, relay_given, relay_of, EndsWith, suc, ◌⊎◌, ◌<◌, ◌≤◌, ◌&&◌, ◌||◌, length, slice_get, subst, and_parts, cases_Bool, or_parts, IsInRange, given, MeetAirs, closes_first, setup_of, source_calls, chosen_of, is_of_source, steps_of_source, StepsInOrder, given_since_made, injected_since, is_injected, air_in, injected_till_last_offer, Unit as AudioUnit, neither, OneStands, contains_cases, first_free, had_happened, happens_legally, has_had, is_free, left_by_relayed_units, line_passes, one_stands, chosen_happened, Numbered, numbered_slots, numbered_units, made_alike, given_is_injected, map, slice_index, AllZip, IsStrictlyIncreasing, length-map, slice_get_within, Setup, Handed, RelayLaw, shown_since, InFirstOrder, InRelayOrder, IsOfOffered, RelayedUnits, UnitPlace, at_map, in_relay_order, zip_map}
 use Rattle.scenario_laws.proofs.RelayedUnits.Offered.{not_yet, first_handed, in_range}
+use Rattle.scenario_laws.proofs.RelayedUnits.Dropped.{settled}
 
 -- ---- a sink with a relay lives
-
-boxed_if : (hit : Bool) (box : Option ℕ) (made : ℕ) → is_some box ≡ true → is_some (cond hit (Some made) box) ≡ true
-boxed_if hit box made is = grind arith
-
-made_boxed : (hit : Bool) (n sink bis to : ℕ) (later : Option (Option Route)) (route : Route) (box : ℕ → Option ℕ) → (hit ≡ true → sink ≡ n)
-    → is_some (box sink) ≡ true → (unwrap_or later None ≡ Some route → is_some (box n) ≡ true)
-    → unwrap_or (option_or (cond hit (Some (Some (record { bis = bis; to = to }))) None) later) None ≡ Some route → is_some (box n) ≡ true
-made_boxed hit n sink bis to later route box same living before is = grind (arith, is_some)
 
 dropped_boxed : (hit : Bool) (later : Option (Option Route)) (route : Route) (box : Option ℕ)
     → (unwrap_or later None ≡ Some route → is_some box ≡ true)
@@ -21,11 +14,11 @@ boxed : (airs : Airs) (boxes n : ℕ) (route : Route) (made : List Step) → Are
     → is_some (box_of n made) ≡ true
 boxed airs boxes n route [] legal is = absurd (none-some route is)
 boxed airs boxes n route (Step.Relay sink bis to ∷ earlier) legal is =
-    made_boxed (sink == n) n sink bis to (last_given (relay_given n) earlier) route (λ k. box_of k earlier) (eqb-true sink n)
-    (is_free airs boxes earlier sink bis to legal.1).living (boxed airs boxes n route earlier legal.0) is
+    grind (arith, is_some, (eqb-true sink n), ((is_free airs boxes earlier sink bis to legal.1).living),
+    (boxed airs boxes n route earlier legal.0))
 boxed airs boxes n route (Step.Drop sink ∷ earlier) legal is = search (dropped_boxed, boxed airs boxes n route earlier legal.0)
 boxed airs boxes n route (Step.Sink sink streams slots mtu ∷ earlier) legal is =
-    boxed_if (sink == n) (box_of n earlier) (sinks_made earlier) (boxed airs boxes n route earlier legal.0 is)
+    grind (arith, (boxed airs boxes n route earlier legal.0 is))
 boxed airs boxes n route (this ∷ earlier) legal is = boxed airs boxes n route earlier legal.0 is
 
 -- a sink that lives isn't made
@@ -202,16 +195,11 @@ injected_happened airs n (step ∷ earlier) =
 
 -- ---- a step that closes an event of source 0
 
-relay_next : (given one other : Option (Option Route)) → unwrap_or one None ≡ unwrap_or other None
-    → unwrap_or (option_or given one) None ≡ unwrap_or (option_or given other) None
-relay_next given one other same = grind arith
-
 -- relayed units are no part of the relays
 relay_happened : (airs : Airs) (n : ℕ) (said : List Step) → relay_of n (happened airs said) ≡ relay_of n said
 relay_happened airs n [] = refl
 relay_happened airs n (step ∷ earlier) =
-    relay_next (relay_given n step) (last_given (relay_given n) (with_relayed_units airs (happened airs earlier) step))
-    (last_given (relay_given n) earlier) ((left_by_relayed_units airs (happened airs earlier) step).relay n ∙ relay_happened airs n earlier)
+    grind (arith, ((left_by_relayed_units airs (happened airs earlier) step).relay n ∙ relay_happened airs n earlier))
 
 closes_alike : (one other : List Step) (step : Step) → chosen_of one ≡ chosen_of other → closes_first one step ≡ closes_first other step
 closes_alike one other this same = grind arith
@@ -266,10 +254,6 @@ record Way (to : ℕ) (relay : Option Route) : Type 0 where
 way_of : (bis to : ℕ) (relay : Option Route) → is_route bis to relay ≡ true → Way to relay
 way_of bis to relay is = grind (arith, false≢true, eqb-true, and_parts)
 
-none_if : (route closes : Bool) (bis : ℕ) (units : List Handed) → (route && closes) ≡ false
-    → cond route (units_on bis (cond closes units [])) [] ≡ []
-none_if route closes bis units not = grind (arith, false≢true)
-
 -- a step that closes no event of source 0 while the relay stands offers nothing
 none_offered : (airs : Airs) (n bis to : ℕ) (step : Step) (earlier : List Step)
     → (is_route bis to (relay_of n earlier) && closes_first earlier step) ≡ false
@@ -281,7 +265,7 @@ none_offered airs n bis to step earlier not =
     let closes = closes_first made step in
     let same : (route && closes) ≡ (is_route bis to (relay_of n earlier) && closes_first earlier step) = grind (arith, relay_happened airs n earlier, closes_alike made earlier step (chosen_happened airs earlier)) in
     ap (λ units. before ++ cond route (units_on bis units) []) (first_handed airs n made step)
-    ∙ ap (λ l. before ++ l) (none_if route closes bis (handed_of 0 n (closing airs 0 made)) (same ∙ not)) ∙ append-nil before
+    ∙ ap (λ l. before ++ l) (grind (arith, false≢true, (same ∙ not))) ∙ append-nil before
 
 numbered_none : (octets : List (List ℕ)) → Numbered octets []
 numbered_none octets = record { number = λ k. k; rises = λ j k below within. below; gives = λ k unit is. absurd (none-some unit is) }
@@ -329,3 +313,57 @@ offered_numbered order airs meets boxes n bis to (step ∷ earlier) legal within
             (ap (λ b. cond b one other) (sym not) ∙ clean)))
       ]
     ]
+
+-- ---- the relayed units law: what is in the order of source 1 is in the order of what the relaying sink handed up, and that is in the
+-- order of source 0
+
+-- ---- the numbers of the entries
+
+-- each of these numbers is the place of one of the units
+bounded : (setup : Setup) (to : ℕ) (units : List AudioUnit) (numbers : List ℕ) (entries : List Handed) (k : ℕ)
+    → AllZip (IsOfOffered setup to units) numbers entries → k < length numbers → slice_index numbers k < length units
+bounded setup to units [] entries k all below = absurd (omega (arith, below))
+bounded setup to units (number ∷ numbers) (entry ∷ entries) (suc k) all below =
+    bounded setup to units numbers entries k all.1 (omega (arith, below))
+bounded setup to units numbers entries k all below = search slice_get_within
+
+rising_units : (octets : List (List ℕ)) (units : List AudioUnit) (numbered : Numbered octets units) (setup : Setup) (to : ℕ)
+    (entries : List Handed) (order : InRelayOrder setup to units entries) → IsStrictlyIncreasing (map numbered.number order.numbers)
+rising_units octets units numbered setup to entries order k within = grind (arith, length, length-map, at_map, slice_index, bounded)
+
+-- ---- the entries
+
+abbrev unit_place : (ℕ → ℕ) → ℕ → UnitPlace
+unit_place number k = record { number = number k; place = k }
+
+numbers_are : (number : ℕ → ℕ) (ks : List ℕ) → map (λ (at : UnitPlace). at.number) (map (unit_place number) ks) ≡ map number ks
+numbers_are number [] = refl
+numbers_are number (k ∷ ks) = ap (λ l. number k ∷ l) (numbers_are number ks)
+
+places_are : (number : ℕ → ℕ) (ks : List ℕ) → map (λ (at : UnitPlace). at.place) (map (unit_place number) ks) ≡ ks
+places_are number [] = refl
+places_are number (k ∷ ks) = ap (λ l. k ∷ l) (places_are number ks)
+
+in_first_order : (octets : List (List ℕ)) (units : List AudioUnit) → Numbered octets units → (setup : Setup) (to : ℕ) (entries : List Handed)
+    → InRelayOrder setup to units entries → InFirstOrder octets units setup to entries
+in_first_order octets units numbered setup to entries order = record {
+  units = map (unit_place numbered.number) order.numbers;
+  numbers_rise = grind (arith, numbers_are numbered.number order.numbers, rising_units octets units numbered setup to entries order);
+  places_rise = subst IsStrictlyIncreasing (sym (places_are numbered.number order.numbers)) order.rising;
+  each = grind (arith, zip_map);
+}
+
+-- ---- the law
+
+pub relayed_units : ((boxes : ℕ) → RelayLaw boxes) → StepsInOrder → (boxes : ℕ) → RelayedUnits boxes
+relayed_units law order boxes airs meets said legal n bis to within least greatest to_least to_greatest m below first_clean clean =
+    let made : List Step = happened airs said in
+    let made_legal = happens_legally airs boxes said legal in
+    let framed : (setup_of (steps_of_source 1 made)).info.framing ≡ 1 = eqb-true (setup_of (steps_of_source 1 made)).info.framing 1
+    (settled airs boxes to made made_legal (had_happened airs to said ∙ has_had n bis to said within)).framed in
+    let second = (order airs meets boxes made made_legal 1 m (omega arith) (ungiven m made clean)).in_unit_order to below to_least to_greatest
+    framed clean in
+    in_first_order (given bis (source_calls (steps_of_source 0 made))) (offered airs n bis to said)
+    (offered_numbered order airs meets boxes n bis to said legal within least greatest first_clean) (setup_of (steps_of_source 1 made)) to
+    (shown_since (is_made m) airs 1 m to made)
+    (grind (arith, in_relay_order, air_in, steps_of_source, shown_since, is_made))

@@ -1,7 +1,7 @@
 -- The history of a sink whose groups may have a greater horizon: what it has, what its links bring and what it prints are the
 -- same, where no train was answered `BadGroup 11` (Basic Audio Profile 1.0, section 6.5; Broadcast Audio Scan Service 1.0,
 -- section 3). Lists of steps and of calls have the newest first.
-use Rattle.scenario_laws.proofs.Known.Sources.Steps.Prelude.{ℕ, zero, suc, ◌≡◌, ◌≤◌, List, [], ◌∷◌, length, Option, refl, ◌∙◌, ap, arith, slice_get, Snapshot, done_by, snapshot_of, train_heard, outcome_by, step_by, writes_waiting, drained, repeated, notified_and_read, notified_out, Acts, acts_by, acts_of, notices_waiting, reads_waiting, waiting_of, DelegatorAnswered as Answered, DelegatorStep as Step, delegator_answered as answered, delegator_snapshot_in as snapshot_in, Done, SinkSetup as Setup, LinkCall as Call, link_steps_of as steps_of, link_with_step as with_step}
+use Rattle.scenario_laws.proofs.Known.Sources.Steps.Prelude.{ℕ, zero, suc, ◌≡◌, ◌≤◌, List, [], ◌∷◌, length, Option, refl, ◌∙◌, ap, arith, slice_get, Snapshot, done_by, snapshot_of, train_heard, outcome_by, writes_waiting, drained, repeated, notified_and_read, notified_out, Acts, acts_by, acts_of, notices_waiting, reads_waiting, waiting_of, DelegatorAnswered as Answered, DelegatorStep as Step, delegator_answered as answered, delegator_snapshot_in as snapshot_in, Done, SinkSetup as Setup, LinkCall as Call, link_steps_of as steps_of}
 use Rattle.scenario_laws.proofs.Versions.Trains.{BringsNear, brought_same, with_horizon}
 
 -- ---- what it has
@@ -38,9 +38,6 @@ snapshot_same wider setup steps within quiet = ap (snapshot_in setup.slots) (ans
 abbrev pub AreQuietCalls : Setup → List Call → Type 0
 AreQuietCalls setup calls = AreQuiet setup (steps_of calls)
 
-quiet_before : (setup : Setup) (step : Option Step) (steps : List Step) → AreQuiet setup (with_step step steps) → AreQuiet setup steps
-quiet_before setup step steps quiet = grind arith
-
 by_same : (wider : ℕ) (setup : Setup) (mtu : Option ℕ) (link : ℕ) (call : Call) (before now : List Step) (acts : Acts)
     → snapshot_of (with_horizon wider setup) before ≡ snapshot_of setup before → snapshot_of (with_horizon wider setup) now ≡ snapshot_of setup now
     → acts_by (with_horizon wider setup) mtu link call before now acts ≡ acts_by setup mtu link call before now acts
@@ -50,7 +47,7 @@ pub acts_same : (wider : ℕ) (setup : Setup) (mtu : Option ℕ) (link : ℕ) (c
     → acts_of (with_horizon wider setup) mtu link calls ≡ acts_of setup mtu link calls
 acts_same wider setup mtu link [] within quiet = refl
 acts_same wider setup mtu link (call ∷ earlier) within quiet =
-    let quiet_earlier : AreQuietCalls setup earlier = quiet_before setup (step_by call earlier) (steps_of earlier) quiet in
+    let quiet_earlier : AreQuietCalls setup earlier = grind arith in
     ap (acts_by (with_horizon wider setup) mtu link call (steps_of earlier) (steps_of (call ∷ earlier)))
     (acts_same wider setup mtu link earlier within quiet_earlier)
     ∙ by_same wider setup mtu link call (steps_of earlier) (steps_of (call ∷ earlier)) (acts_of setup mtu link earlier)

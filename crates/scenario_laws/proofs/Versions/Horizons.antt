@@ -1,7 +1,7 @@
 -- A train that a source announces isn't answered `BadGroup 11`: its group passed the group check of the version that its sinks
 -- are of too (Basic Audio Profile 1.0, section 6.5; Core 5.2, volume 6 part B, section 4.4.6). Lists of steps have the newest
 -- first; where a list is called `own` its steps are those of one source.
-use Rattle.scenario_laws.proofs.Known.Sources.{arith, ℕ, ◌≡◌, ◌≤◌, ◌-◌, ◌*◌, ◌/◌, ◌==◌, not, cond, Bool, true, false, List, [], ◌∷◌, Option, None, Some, Ok, refl, sym, subst, unwrap_or, eqb-true, false≢true, ltb-false, not-false, same_Some, MayAnnounce, train_of, IsTrain, Tells, TellsInfo, Endpoint, Horizon, BigInfo, info_of, NoFault, Settings, without_cipher, next_anchor_of, next_of, Step, made_of, own_train, horizon_in, base_of, is_base_too_long, group_refusal, refusal_of, source_refusal, refuse_if, checked_info, cipher_of, group_of, identity_of, is_sending, is_started, no_group, setup_of, Airs, source_calls, chosen_of, chosen_steps, is_of_source, is_unbegun_at, stage_of, steps_of_source, version_of, announced_of, calls_made, source_at, snapshot_in, TrainOctets as Train, told_numbers_of as numbers_of, horizon_of as group_horizon, SinkSetup as Setup, Train as Heard, Lawful, Legal, Permitted, bounds_in, lawful, may_announce, may_be_sent, neither, permitted, sends, settled, within_near, ReadsNear, outcome_near, sink_horizon}
+use Rattle.scenario_laws.proofs.Known.Sources.{arith, ℕ, ◌≡◌, ◌≤◌, ◌-◌, ◌*◌, ◌/◌, ◌==◌, not, cond, Bool, true, false, List, [], ◌∷◌, Option, None, Some, refl, sym, subst, unwrap_or, eqb-true, false≢true, ltb-false, not-false, MayAnnounce, train_of, IsTrain, Tells, TellsInfo, Endpoint, Horizon, BigInfo, NoFault, Settings, without_cipher, next_anchor_of, next_of, Step, made_of, own_train, horizon_in, base_of, is_base_too_long, group_refusal, refusal_of, source_refusal, refuse_if, checked_info, cipher_of, group_of, identity_of, is_sending, is_started, no_group, setup_of, Airs, source_calls, chosen_of, chosen_steps, is_of_source, is_unbegun_at, stage_of, steps_of_source, version_of, announced_of, calls_made, source_at, snapshot_in, TrainOctets as Train, told_numbers_of as numbers_of, horizon_of as group_horizon, SinkSetup as Setup, Train as Heard, Lawful, Legal, Permitted, bounds_in, lawful, may_announce, may_be_sent, neither, permitted, sends, settled, within_near, ReadsNear, outcome_near, sink_horizon}
 use Rattle.scenario_laws.proofs.Versions.Lived.{IsCalm}
 
 -- ---- `scenario` comes first
@@ -115,10 +115,6 @@ reads_near setup train heard broadcast_id base info event anchor same tells with
 
 -- ---- an announced train
 
-its_horizon : (made : Option Settings) (sink : Settings) (horizon : ℕ) → HasHorizon made horizon → made ≡ Some sink
-    → sink.setup.horizon ≡ horizon
-its_horizon made sink horizon has is = subst (λ one. HasHorizon one horizon) is has
-
 pub announced_calm : Announcing → (airs : Airs) (boxes n : ℕ) (earlier : List Step) → Legal airs boxes earlier
     → refusal_of airs boxes earlier (Step.Announce n) ≡ None → IsCalm earlier (Step.Announce n)
 announced_calm laws airs boxes n earlier legal none m made names is =
@@ -136,7 +132,8 @@ announced_calm laws airs boxes n earlier legal none m made names is =
     (laws.is_train (identity_of own).broadcast_id (base_of own) (checked_info own) event anchor may) in
     let reach : group_horizon (checked_info own) ≤ horizon_in (version_of earlier) =
     group_within airs boxes (chosen_of earlier) earlier legal started in
-    let horizon : made.setup.horizon ≡ horizon_in (version_of earlier) = grind (arith, its_horizon (made_of m earlier) made (horizon_in (version_of earlier)) (horizon_made airs boxes m earlier legal) is) in
+    let horizon : made.setup.horizon ≡ horizon_in (version_of earlier) = grind (arith, (subst (λ one. HasHorizon one (horizon_in
+    (version_of earlier))) is (horizon_made airs boxes m earlier legal))) in
     outcome_near made.setup (snapshot_in made (calls_made m earlier)) (own_train (source_at earlier))
     (reads_near made.setup (announced_of own) (own_train (source_at earlier)) (identity_of own).broadcast_id (base_of own)
     (checked_info own) event anchor refl tells (subst (λ most. group_horizon (checked_info own) ≤ most) (sym horizon) reach))

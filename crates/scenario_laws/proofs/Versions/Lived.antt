@@ -1,6 +1,6 @@
 -- The sinks of a scenario in version 2: their history is the same, where no train was answered `BadGroup 11` (Basic Audio Profile
 -- 1.0, section 6.5). Lists of steps and of calls have the newest first.
-use Rattle.scenario_laws.proofs.Known.Sources.{ℕ, ◌≡◌, ◌≤◌, ◌==◌, cond, Bool, true, List, [], ◌∷◌, Option, None, Some, refl, ◌∙◌, ap₂, arith, eqb-true, Settings, born, Step, Source, calls_after, calls_at, calls_by, made_by, made_of, named_by, train_by, calls_made, source_at, the_world, LinkCall as Call, AreQuietCalls, drained_same, quiet_drained, quiet_served, HearsNear, IsQuietHistory, made_with_horizon, at_second, same, second, seconds, sink_grows}
+use Rattle.scenario_laws.proofs.Known.Sources.{ℕ, ◌≡◌, ◌≤◌, ◌==◌, cond, Bool, List, [], ◌∷◌, Option, None, Some, refl, ◌∙◌, ap₂, arith, eqb-true, Settings, born, Step, calls_after, calls_at, made_by, made_of, named_by, train_by, calls_made, source_at, the_world, LinkCall as Call, AreQuietCalls, drained_same, quiet_drained, quiet_served, HearsNear, IsQuietHistory, made_with_horizon, at_second, same, second, seconds, sink_grows}
 
 -- ---- the source that a line means
 
@@ -54,28 +54,16 @@ quiet_if : (b : Bool) (one made : Option Settings) (first calls : List Call) →
     → QuietHistory (cond b one made) (cond b first calls)
 quiet_if b one made first calls is quiet = grind arith
 
-quiet_born : (made : Settings) (mtu : Option ℕ) → AreQuietCalls made.setup (born mtu)
-quiet_born made mtu = grind arith
-
-quiet_chosen : (is_its : Bool) (made : Option Settings) (first calls : List Call) → (is_its ≡ true → QuietHistory made first)
-    → QuietHistory made calls → QuietHistory made (cond is_its first calls)
-quiet_chosen is_its made first calls is quiet = grind arith
-
-quiet_of_made : (source : Source) (step : Step) (made : Option Settings) (calls : List Call) → QuietHistory made calls
-    → ((sink : Settings) → made ≡ Some sink → HearsNear sink calls (train_by source step))
-    → QuietHistory made (calls_by source step made calls)
-quiet_of_made source this made calls quiet near = grind (arith, quiet_served, quiet_drained)
-
 quiet_at : (n : ℕ) (named : Option ℕ) (step : Step) (earlier : List Step) (made : Option Settings) (calls : List Call)
     → QuietHistory made calls
     → ((sink : Settings) → named ≡ Some n → made ≡ Some sink → HearsNear sink calls (train_by (source_at earlier) step))
     → QuietHistory made (calls_at the_world n named step earlier made calls)
-quiet_at n named this earlier made calls quiet near = grind (arith, quiet_chosen, quiet_of_made, eqb-true)
+quiet_at n named this earlier made calls quiet near = grind (arith, eqb-true, quiet_served, quiet_drained)
 
 quiet_after : (n : ℕ) (step : Step) (earlier : List Step) (made : Option Settings) (calls : List Call) → QuietHistory made calls
     → ((sink : Settings) → named_by step ≡ Some n → made ≡ Some sink → HearsNear sink calls (train_by (source_at earlier) step))
     → QuietHistory (made_by n step earlier made) (calls_after the_world n step earlier made calls)
-quiet_after n (Step.Sink sink streams slots mtu) earlier made calls quiet near = grind (arith, quiet_if, born, quiet_born)
+quiet_after n (Step.Sink sink streams slots mtu) earlier made calls quiet near = grind (arith, quiet_if, born)
 quiet_after n (Step.Drop sink) earlier made calls quiet near = quiet_if (sink == n) None made [] calls tt quiet
 quiet_after n this earlier made calls quiet near = quiet_at n (named_by this) this earlier made calls quiet near
 
@@ -91,14 +79,10 @@ is_quiet made other calls wider quiet = record { within = wider.within; quiet = 
 
 -- ---- its history
 
-called_same : (source : Source) (step : Step) (made other : Option Settings) (calls : List Call) → AreWider made other → QuietHistory made calls
-    → calls_by source step other calls ≡ calls_by source step made calls
-called_same source step made other calls wider quiet = grind (arith, drained_same)
-
 at_same : (n : ℕ) (named : Option ℕ) (step : Step) (earlier : List Step) (made other : Option Settings) (calls others : List Call)
     → AreWider made other → QuietHistory made calls
     → others ≡ calls → calls_at the_world n named step (seconds earlier) other others ≡ calls_at the_world n named step earlier made calls
-at_same n named this earlier made other calls others wider quiet same = grind (arith, same, ap₂, source_same, called_same)
+at_same n named this earlier made other calls others wider quiet same = grind (arith, same, ap₂, source_same, drained_same)
 
 pub after_same : (n : ℕ) (step : Step) (earlier : List Step) (made other : Option Settings) (calls others : List Call) → AreWider made other
     → QuietHistory made calls → others ≡ calls

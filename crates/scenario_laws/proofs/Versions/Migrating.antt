@@ -1,5 +1,5 @@
 -- The migration law, over the airs of each stream by its framing: a text and the text in version 2.
-use Rattle.scenario_laws.proofs.Known.Sources.{ℕ, ◌≡◌, ◌⊎◌, ◌+◌, nat_eq, cond, leb, Bool, true, List, [], ◌∷◌, ◌++◌, length, reverse, Option, None, arith, Some, refl, sym, ◌∙◌, ap, subst, inl, inr, append-nil, TextLine, plain, too_long, line_limit, line_of, Account, Accepted, End, Rules, accepted_of, accepted_unless, end_unless, out, out_unless, refused, through, reverse_onto, is_blank, airs_of, Step, Refusal, LineTooLong, a_step, nothing, unsaid, output_said, refusal_said, said_in, steps_of, with_said, has_relay, is_over, is_unbegun_at, stage_of, version_of, end_after, has_end, last_end_after, last_line_after, out_of, transcript_end, transcript_of, units_of, EndsLasting, IsLastingText, NonePrintsHorizon, Airs, MeetAirs, rules_of, MigrationLaw, PrintsHorizon, text_lines, text_lines as lines_of, end_of, migrated, decimal_in, read_of, step_of, first_row_of, row_of, said_after, said_of, seconds}
+use Rattle.scenario_laws.proofs.Known.Sources.{ℕ, ◌≡◌, ◌⊎◌, ◌+◌, nat_eq, cond, leb, Bool, true, List, [], ◌∷◌, ◌++◌, length, reverse, Option, None, arith, refl, sym, ◌∙◌, ap, subst, inl, inr, append-nil, TextLine, plain, too_long, line_limit, line_of, Account, Accepted, End, Rules, accepted_of, accepted_unless, end_unless, out, out_unless, refused, through, reverse_onto, is_blank, airs_of, Step, Refusal, LineTooLong, a_step, nothing, unsaid, output_said, refusal_said, said_in, steps_of, with_said, version_of, end_after, has_end, last_end_after, transcript_end, transcript_of, units_of, EndsLasting, IsLastingText, NonePrintsHorizon, Airs, MeetAirs, rules_of, MigrationLaw, text_lines, text_lines as lines_of, end_of, migrated, decimal_in, read_of, step_of, first_row_of, row_of, said_after, said_of, seconds}
 use Rattle.std.specs.Fmt.{digits as numerals}
 use Rattle.scenario_laws.proofs.Versions.Runs.{Begins, Its, Laws, RunAlike, RunsAlike, Stands, run_alike}
 use Rattle.scenario_laws.proofs.Versions.Texts.{Turned, here, later, first_version, second_version, same_count, text_turn}
@@ -11,10 +11,6 @@ blank_if : (long : Bool) (version : ℕ) (line : List ℕ) → is_blank line ≡
 unfolding read_of
 blank_if long version line blank = grind arith
 
-blank_says : (version : ℕ) (line : List ℕ) → is_blank line ≡ true
-    → (said_in version (line_of line) ≡ nothing) ⊎ (said_in version (line_of line) ≡ unsaid LineTooLong)
-blank_says version line blank = blank_if (leb (length line) line_limit) version line blank
-
 -- a line that both histories accept, and that brings nothing
 skips : (starts : List Account) (history others : List TextLine) (reason reason' : Option Refusal)
     (brought brought' octets octets' : List ℕ) (end end' : End Refusal)
@@ -24,14 +20,6 @@ skips : (starts : List Account) (history others : List TextLine) (reason reason'
     (accepted_unless others reason' all')
 skips starts history others reason reason' brought brought' octets octets' end end' all all' none none' empty empty' alike =
     grind (arith, out_unless, end_unless, accepted_unless)
-
--- a line that both histories refuse
-stops : (starts : List Account) (history : List TextLine) (reason : Option Refusal) (why : Refusal) (octets octets' : List ℕ)
-    (end end' : End Refusal) (all all' : List TextLine)
-    → reason ≡ Some why → RunsAlike (out_unless (Its starts) history reason octets) (out_unless (Its starts) history reason octets')
-    (end_unless history reason end) (end_unless history reason end') (accepted_unless history reason all)
-    (accepted_unless history reason all')
-stops starts history reason why octets octets' end end' all all' is = search arith
 
 lasting_next : (history : List TextLine) (reason : Option Refusal) (end : End Refusal) → reason ≡ None
     → EndsLasting (end_unless history reason end) → EndsLasting end
@@ -93,7 +81,7 @@ turned_alike : Laws → (starts : List Account) (all history lines others : List
     → Turned lines others → RunAlike starts history history lines others
 turned_alike laws starts all history _ _ never begins none accepted lasting (later line lines others blank turned) =
     let it : TextLine = line_of line in
-    elim (blank_says (version_of (said_of history)) line blank) [
+    elim (blank_if (leb (length line) line_limit) (version_of (said_of history)) line blank) [
       | inl says ↦
           let passes : (Its starts).refusal history it ≡ None = ap (refusal_said airs_of (length starts) (steps_of airs_of history)) says in
           let empty : (Its starts).output history it ≡ [] = ap (output_said airs_of starts (steps_of airs_of history)) says in
@@ -105,24 +93,17 @@ turned_alike laws starts all history _ _ never begins none accepted lasting (lat
           (turned_alike laws starts all (it ∷ history) lines others never (begins ∙ sym (reverse_onto it history lines))
           (ap (λ said. with_said said (said_of history)) says ∙ none) (accepted, passes)
           (lasting_next history ((Its starts).refusal history it) (end_of (Its starts) (it ∷ history) lines) passes lasting) turned)
-      | inr says ↦ grind (arith, stops, out, accepted_of, refusal_said, airs_of, length, steps_of)
+      | inr says ↦ grind (arith, out, accepted_of, refusal_said, airs_of, length, steps_of)
     ]
 turned_alike laws starts all history _ _ never begins none accepted lasting (here rest) = search (first_alike)
 
 -- ---- the transcripts
 
-through_if : {L R : Type 0} (rules : Rules L R) (history lines : List L) (line : L) (reason : Option R)
-    → (end_of rules (line ∷ history) lines ≡ through → accepted_of rules (line ∷ history) lines ≡ reverse lines ++ line ∷ history)
-    → end_unless history reason (end_of rules (line ∷ history) lines) ≡ through
-    → accepted_unless history reason (accepted_of rules (line ∷ history) lines) ≡ reverse (line ∷ lines) ++ history
-through_if rules history lines line reason more is = grind (arith, reverse_onto)
-
 -- where a run goes through all its lines, it accepts them all
 through_all : {L R : Type 0} (rules : Rules L R) (history lines : List L) → end_of rules history lines ≡ through
     → accepted_of rules history lines ≡ reverse lines ++ history
 through_all rules history [] is = refl
-through_all rules history (line ∷ lines) is = through_if rules history lines line (rules.refusal history line)
-    (through_all rules (line ∷ history) lines) is
+through_all rules history (line ∷ lines) is = grind (arith, reverse_onto, (through_all rules (line ∷ history) lines))
 
 lasting_before : (end : End Refusal) (over : Bool) (number : ℕ) → EndsLasting (last_end_after end over number) → EndsLasting end
 lasting_before (refused line reason) over number lasting = lasting
@@ -138,13 +119,10 @@ lines_alike : (starts : List Account) (lines others : List TextLine) → length 
     → LinesAlike starts lines others
 lines_alike starts lines others count alike = grind (arith, through, through_all, append-nil, reverse, length, refused)
 
-same_lines : (starts : List Account) (lines others : List TextLine) → others ≡ lines → LinesAlike starts lines others
-same_lines starts lines others same = search arith
-
 pub text_alike : Laws → (starts : List Account) (text : List ℕ) → IsLastingText airs_of starts text
     → LinesAlike starts (text_lines true text) (text_lines true (migrated text))
 text_alike laws starts text lasting = elim (text_turn text) [
-  | inl same ↦ same_lines starts (text_lines true text) (text_lines true (migrated text)) same
+  | inl same ↦ search arith
   | inr turned ↦ search (lines_alike, same_count, turned_alike, lasting_before, end_after, airs_of, has_end, length)
 ]
 
@@ -163,16 +141,11 @@ pub record OneTranscript : Type 0 where
   pub steps : (airs others : Airs) (starts : List Account) (lines : List TextLine) → MeetAirs airs → MeetAirs others
       → Accepted (rules_of airs starts) lines → steps_of airs lines ≡ steps_of others lines
 
--- a `train` step prints the same over all airs
-prints_over : (airs others : Airs) (starts : List Account) (earlier : List TextLine) (line : TextLine)
-    → steps_of airs earlier ≡ steps_of others earlier → PrintsHorizon airs starts earlier line → PrintsHorizon others starts earlier line
-prints_over airs others starts earlier line same prints = search arith
-
 lasting_over : OneTranscript → MeetAirs airs_of → (airs : Airs) (starts : List Account) (text : List ℕ) → MeetAirs airs
     → IsLastingText airs starts text → IsLastingText airs_of starts text
 lasting_over one meet airs starts text meets lasting = record {
   trains = λ earlier line later is accepted prints. lasting.trains earlier line later is
-      (one.accepted airs_of airs starts (line ∷ earlier) meet meets accepted) (grind (arith, prints_over, airs_of));
+      (one.accepted airs_of airs starts (line ∷ earlier) meet meets accepted) (grind (arith, airs_of));
   end = subst EndsLasting (one.end airs airs_of starts (lines_of true text) meets meet) lasting.end;
 }
 

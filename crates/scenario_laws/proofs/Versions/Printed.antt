@@ -1,7 +1,7 @@
 -- What a sink prints whose groups may have a greater horizon, and why a step that names it is refused: the same, where no
 -- train was answered `BadGroup 11` (Basic Audio Profile 1.0, section 6.5; Broadcast Audio Scan Service 1.0, section 3). Lists
 -- of calls have the newest first.
-use Rattle.scenario_laws.proofs.Known.Sources.Steps.Prelude.{ℕ, zero, suc, ◌≡◌, ◌≤◌, List, [], ◌∷◌, ◌++◌, length, Option, None, Some, refl, ◌∙◌, ap, codes, decimal, map, nat_lt, option_map, slice_get, flat_map, range_with_len, option_or, Snapshot, Settings, Train, outcome_by, state_at, value, writes_waiting, repeated, served_out, notified_out, Acts, acts_of, delivered, language, notices_waiting, reads_waiting, reads_of, view_of, waiting_of, Step, NothingWaiting, RecordsTooLong, Label, control_words, on_link, reply_line, sink_line, value_line, Source, record_of, train_by, drain_lines, heard_line, if_there, printed_of, read_line, read_lines, serve_line, serve_lines, show_lines, snapshot_in, tell_line, tell_lines, view_lines, link_named, link_twice, no_link, no_notice, no_read, no_record_room, nothing_waits, refuse_if, refused_by, is_none, LinkCall as Call, link_steps_of as steps_of, plain_word as plain}
+use Rattle.scenario_laws.proofs.Known.Sources.Steps.Prelude.{ℕ, zero, suc, ◌≡◌, ◌≤◌, List, [], ◌∷◌, ◌++◌, length, Option, None, Some, refl, ◌∙◌, ap, codes, decimal, map, nat_lt, option_map, slice_get, flat_map, range_with_len, option_or, Snapshot, Settings, Train, outcome_by, state_at, value, writes_waiting, repeated, served_out, notified_out, Acts, acts_of, delivered, language, notices_waiting, reads_waiting, reads_of, view_of, waiting_of, Step, NothingWaiting, RecordsTooLong, Label, control_words, reply_line, sink_line, value_line, Source, record_of, train_by, drain_lines, heard_line, if_there, printed_of, read_line, read_lines, serve_line, serve_lines, show_lines, snapshot_in, tell_line, tell_lines, view_lines, link_named, link_twice, no_link, no_notice, no_read, no_record_room, nothing_waits, refuse_if, refused_by, is_none, LinkCall as Call, link_steps_of as steps_of}
 use Rattle.pacs_records.specs.Layout.{greatest_value, value as records_value}
 use Rattle.delegator_history.specs.Writes.{reply_of}
 use Rattle.delegator_history.specs.declared.notice.Notice.{Notice}

@@ -1,8 +1,8 @@
 -- A line that version 1 of the scenario language reads, version 2 reads as the same step: each row of version 1 stands in
 -- version 2, where a sink has up to eight slots.
-use Rattle.scenario_laws.proofs.Known.Sources.{ℕ, ◌≡◌, ◌⊎◌, ◌≤◌, cond, Bool, true, List, [], ◌∷◌, Option, None, Some, Result, Err, refl, sym, subst, inl, arith, bytes_eq, nat_eq, le-leb, leb-true, TextLine, ◌>>=◌, LineFault, at_known, at_row, Row, event_rows, first_rows, link_row_of_2, link_rows, row_in, rows_of_2, sink_row, sink_rows, source_rows, tuned_row, drop_row, stop_row, end_row, Step, BadLine, unsaid, said_by, said_in, Left, decimal_in, read_of, step_of, first_row_of, link_row_of, row_of, row_of_2, sink_row_of, source_row_of, Said, IsLater}
+use Rattle.scenario_laws.proofs.Known.Sources.{ℕ, ◌≡◌, ◌⊎◌, ◌≤◌, cond, Bool, List, [], ◌∷◌, Option, None, Some, Result, Err, refl, sym, subst, inl, arith, bytes_eq, nat_eq, le-leb, leb-true, TextLine, ◌>>=◌, LineFault, at_known, at_row, Row, event_rows, first_rows, link_row_of_2, link_rows, row_in, rows_of_2, sink_row, sink_rows, source_rows, tuned_row, drop_row, stop_row, end_row, BadLine, unsaid, said_in, Left, decimal_in, read_of, step_of, first_row_of, link_row_of, row_of, row_of_2, sink_row_of, source_row_of, Said, IsLater}
 use Rattle.scenario_words.specs.declared.fault.LineFault.TheVariants.{BadLine as Misfit}
-use Rattle.scenario_words.specs.Reading.{next_of, taken}
+use Rattle.scenario_words.specs.Reading.{next_of}
 
 -- ---- what is read twice
 
@@ -25,14 +25,10 @@ then_on read f g on = grind arith
 
 -- ---- a number
 
-taken_on : (b c : Bool) (n read : ℕ) (words : List (List ℕ)) → (b ≡ true → c ≡ true)
-    → ReadsOn (taken read words (cond b (Some n) None)) (taken read words (cond c (Some n) None))
-taken_on b c n read words more = grind (arith, cond)
-
 number_on : (near wider : ℕ) (read : ℕ) (words : List (List ℕ)) → near ≤ wider
     → ReadsOn (next_of (decimal_in 1 near) read words) (next_of (decimal_in 1 wider) read words)
 unfolding decimal_in
-number_on near wider read words within = grind (arith, taken_on, leb-true, le-leb)
+number_on near wider read words within = grind (arith, leb-true, le-leb, cond)
 
 -- ---- a row
 
@@ -57,18 +53,13 @@ same_rows (row ∷ rows) = (refl, λ left. inl refl, same_rows rows)
 abbrev KnownOn : Option Row → Option Row → Type 0
 KnownOn here there = (left : Left) → ReadsOn (at_known here left) (at_known there left)
 
-known_if : (b : Bool) (row other : Row) (here there : Option Row) → ((left : Left) → ReadsOn (at_row row left) (at_row other left))
-    → KnownOn here there → KnownOn (cond b (Some row) here) (cond b (Some other) there)
-known_if b row other here there on rest = grind arith
-
 in_rows_on : (first : List ℕ) (rows others : List Row) (here there : Option Row) → RowsOn rows others → KnownOn here there
     → KnownOn (row_in first rows here) (row_in first others there)
 in_rows_on first [] [] here there on rest = rest
 in_rows_on first (row ∷ rows) (other ∷ others) here there on rest =
     subst (λ word. KnownOn (cond (bytes_eq first row.first) (Some row) (row_in first rows here))
     (cond (bytes_eq first word) (Some other) (row_in first others there))) (sym on.0)
-    (known_if (bytes_eq first row.first) row other (row_in first rows here) (row_in first others there) on.1
-    (in_rows_on first rows others here there on.2 rest))
+    (grind (arith, (in_rows_on first rows others here there on.2 rest)))
 in_rows_on first rows others here there on rest = search
 
 first_rows_on : (version : ℕ) → RowsOn (first_rows version) (first_rows 2)
@@ -91,22 +82,16 @@ step_on : (version : ℕ) (line : List ℕ) → ReadsOn (step_of version line) (
 unfolding step_of
 step_on version line = search (then_on, first_on, rows_on)
 
-if_on : {A : Type 0} (b : Bool) (none here there : Result A LineFault) → ReadsOn here there → ReadsOn (cond b none here) (cond b none there)
-if_on b none here there on = grind arith
-
 reads_on : (version : ℕ) (line : List ℕ) → ReadsOn (read_of version line) (read_of 2 line)
 unfolding read_of
-reads_on version line = grind (arith, if_on, first_on, step_on)
+reads_on version line = grind (arith, first_on, step_on)
 
 -- the line isn't of the grammar
 abbrev pub IsUnsaid : Said → Type 0
 IsUnsaid (unsaid (BadLine word)) = Unit {0}
 IsUnsaid _ = ⊥
 
-said_misfit : (read : Result (Option Step) LineFault) → IsMisfit read → IsUnsaid (said_by read)
-said_misfit read is = grind arith
-
 -- a line that is of the grammar of a version says the same in a later one
 pub said_later : (version later : ℕ) (line : TextLine) → IsLater version later
     → (said_in later line ≡ said_in version line) ⊎ IsUnsaid (said_in version line)
-said_later version later line h3 = grind (arith, reads_on, said_misfit)
+said_later version later line h3 = grind (arith, reads_on)

@@ -1,6 +1,6 @@
 -- Why a step of a scenario in version 2 is refused: for the reason of version 1, but where that is BadLine, `BadGroup 11` or
 -- TimeOrder. Lists of steps have the newest first; where a list is called `own` its steps are those of one source.
-use Rattle.scenario_laws.proofs.Known.Sources.{ℕ, ◌≡◌, ◌⊎◌, ◌≤◌, ltb, Bool, true, List, [], ◌∷◌, Option, None, Some, arith, refl, sym, subst, ◌∙◌, ap, ap₂, inl, inr, option_map, option_or, BigInfo, Air, airs_of, Setup, give_fault, Step, Refusal, AfterEnd, Order, Settings, named_by, refused_at, refused_where, refuse_if, box_after, box_of, give_refusal, group_refusal, is_out_of_order, own_refusal, refusal_of, sink_refusal, source_refusal, twin_refusal, setup_of, source_calls, chosen_steps, is_over, version_of, the_world, IsLasting, first_fault, SourceCall as Call, first_same, near_or_horizon, refused_same, relays_same, IsLater, ahead_stays, at_second, calls_same, horizon_grows, is_later, over_same, same, seconds, unbegun_same, airs_same, framed_same, is_ahead, setup_same, with_ahead, LinkCall}
+use Rattle.scenario_laws.proofs.Known.Sources.{ℕ, ◌≡◌, ◌⊎◌, ◌≤◌, ltb, Bool, List, [], ◌∷◌, Option, None, Some, arith, refl, sym, subst, ◌∙◌, ap, ap₂, inl, inr, option_map, option_or, BigInfo, airs_of, give_fault, Step, Refusal, AfterEnd, Order, Settings, named_by, refused_at, refused_where, refuse_if, box_after, box_of, give_refusal, group_refusal, is_out_of_order, own_refusal, refusal_of, sink_refusal, source_refusal, twin_refusal, setup_of, source_calls, chosen_steps, is_over, version_of, the_world, IsLasting, first_fault, first_same, near_or_horizon, refused_same, relays_same, IsLater, ahead_stays, at_second, calls_same, horizon_grows, is_later, over_same, same, seconds, unbegun_same, airs_same, framed_same, is_ahead, setup_same, with_ahead, LinkCall}
 use Rattle.scenario_laws.proofs.Versions.Lived.{AreCalm, AreWider, QuietHistory, is_quiet, history_same, made_wider, quiet_history}
 
 -- the reason is one that version 2 may not have
@@ -29,11 +29,6 @@ group_lasts near wider info within = elim (near_or_horizon (first_fault near inf
 
 -- ---- a unit
 
-give_lasts : (ahead : Bool) (setup : Setup) (calls : List Call) (airs : List Air) (bis : ℕ) (time : Option ℕ) (octets : List ℕ)
-    → (setup.ahead ≡ true → ahead ≡ true) → Lasts (option_map give_refusal (give_fault setup calls airs bis time octets))
-    (option_map give_refusal (give_fault (with_ahead ahead setup) calls airs bis time octets))
-give_lasts ahead setup calls airs bis time octets stays = grind (arith, option_map, give_refusal, ltb, with_ahead, framed_same)
-
 unit_lasts : (own : List Step) (bis : ℕ) (time : Option ℕ) (octets : List ℕ)
     → Lasts (option_map give_refusal (give_fault (setup_of own) (source_calls own) (airs_of (setup_of own) (source_calls own)) bis time
     octets)) (option_map give_refusal (give_fault (setup_of (seconds own)) (source_calls (seconds own))
@@ -47,8 +42,8 @@ unit_lasts own bis time octets =
     (calls_same own)
     ∙ ap (λ airs. option_map give_refusal (give_fault (with_ahead ahead (setup_of own)) (source_calls own) airs bis time octets))
     (airs_same ahead (setup_of own) (source_calls own))))
-    (give_lasts ahead (setup_of own) (source_calls own) (airs_of (setup_of own) (source_calls own)) bis time octets
-    (ahead_stays (version_of own) (version_of (seconds own)) (is_later own)))
+    (grind (arith, option_map, give_refusal, ltb, with_ahead, framed_same, (ahead_stays (version_of own) (version_of (seconds own))
+    (is_later own))))
 
 -- ---- a step of a source
 
@@ -84,9 +79,6 @@ sink_same boxes made step calm = search (box_same, named_same step (named_by ste
 
 -- ---- the order of steps, and both sources
 
-order_same : (made : List Step) (step : Step) → is_out_of_order (seconds made) step ≡ is_out_of_order made step
-order_same made step = grind (arith, unbegun_same, same)
-
 twin_same : (made : List Step) (step : Step) → twin_refusal (seconds made) step ≡ twin_refusal made step
 twin_same made Step.End = refl
 twin_same made _ = search (same, relays_same, box_same)
@@ -102,6 +94,7 @@ step_lasts boxes made step calm =
     let order : Option Refusal = refuse_if (is_out_of_order made step) Order in
     let ended : Option Refusal = refuse_if (is_over made) AfterEnd in
     let twin : Option Refusal = twin_refusal made step in
-    subst (Lasts (refusal_of airs_of boxes made step)) (grind (arith, option_or, refuse_if, own_refusal, airs_of, seconds, over_same, order_same, twin_refusal, sink_same, same, twin_same))
+    subst (Lasts (refusal_of airs_of boxes made step)) (grind (arith, option_or, refuse_if, own_refusal, airs_of, seconds, over_same,
+    twin_refusal, sink_same, same, twin_same, unbegun_same))
     (or_lasts ended _ _ (or_lasts order _ _ (or_lasts sink _ _
     (lasts_or here later twin (source_lasts (version_of made) (version_of (seconds made)) (chosen_steps made) step (is_later made))))))

@@ -1,6 +1,6 @@
 -- A run over the lines behind `scenario 1` and behind `scenario 2`: it brings the same, where the run in version 1 isn't refused
 -- for BadLine, `BadGroup 11` or TimeOrder, and no `train` step in it prints `BadGroup 11`. Histories have the newest line first.
-use Rattle.scenario_laws.proofs.Known.Sources.{ℕ, suc, ◌≡◌, ◌⊎◌, ◌+◌, nat_eq, false, List, [], ◌∷◌, ◌++◌, length, reverse, Option, None, Some, refl, arith, sym, ◌∙◌, ap, ap₂, subst, inl, inr, concat, false≢true, append-nil, none-some, same_Some, TextLine, Account, Horizon, Settings, Train, answer_of, outcome_by, Accepted, End, Rules, accepted_of, accepted_unless, end_unless, number_after, out, out_unless, refused, reverse_onto, airs_of, Step, refusal_line, Refusal, BadLine, sink_line, train_words, given_train, made_of, printed_where, snapshot_in, handed_up, a_step, nothing, unsaid, output_said, refusal_said, rules_of, said_in, steps_of, with_said, is_misplaced, refusal_of, has_relay, is_over, is_unbegun_at, stage_after, stage_of, version_of, calls_made, source_at, EndsLasting, NonePrintsHorizon, PrintsHorizon, horizon_line, end_of, Said, said_after, said_of, SaidNever, line_passes, none_relayed, nothing_else, plain_after, says_no_relay, Legal, LinesInRange, legal, permitted, HearsNear, has_relay_same, is_later, over_same, second, seconds, answer_near as near_or_horizon}
+use Rattle.scenario_laws.proofs.Known.Sources.{ℕ, suc, ◌≡◌, ◌⊎◌, ◌+◌, nat_eq, false, List, [], ◌∷◌, ◌++◌, length, reverse, Option, None, Some, refl, arith, sym, ◌∙◌, ap, ap₂, subst, inl, inr, false≢true, append-nil, none-some, same_Some, TextLine, Account, Horizon, Settings, Train, answer_of, outcome_by, Accepted, End, Rules, accepted_of, accepted_unless, end_unless, number_after, out, out_unless, refused, reverse_onto, airs_of, Step, refusal_line, Refusal, BadLine, given_train, made_of, snapshot_in, handed_up, a_step, nothing, unsaid, output_said, refusal_said, rules_of, said_in, steps_of, with_said, is_misplaced, refusal_of, has_relay, is_over, is_unbegun_at, stage_after, stage_of, version_of, calls_made, source_at, EndsLasting, NonePrintsHorizon, PrintsHorizon, horizon_line, end_of, Said, said_after, said_of, SaidNever, line_passes, none_relayed, nothing_else, plain_after, says_no_relay, Legal, LinesInRange, legal, permitted, HearsNear, has_relay_same, is_later, over_same, second, seconds, answer_near as near_or_horizon}
 use Rattle.delegator_history.specs.declared.train_heard.TrainHeard.TheVariants.{BadGroup as Refused}
 use Rattle.scenario_laws.proofs.Versions.Lived.{AreCalm, IsCalm}
 use Rattle.scenario_laws.proofs.Versions.Outputs.{handed_up_same, output_same}
@@ -95,11 +95,6 @@ happens_later starts history later stands = grind (arith, as_said, has_relay, ha
 line_later : (starts : List Account) (history later : List TextLine) (line : TextLine) → Stands starts history later
     → (said_after later line ≡ said_after history line) ⊎ IsUnsaid (said_after history line)
 line_later starts history later line stands = grind (arith, said_in, version_of, said_later, seconds, is_later)
-
-line_lasts : (starts : List Account) (history later : List TextLine) (line : TextLine) → Stands starts history later
-    → Lasts ((Its starts).refusal history line) ((Its starts).refusal later line)
-line_lasts starts history later line stands =
-    grind (arith, both_last, refusal_said, airs_of, length, seconds, happens, happens_later, same_lasts, unsaid_gone, line_later)
 
 -- a line that isn't refused, of what is said before it
 passes_said : (starts : List Account) (history later : List TextLine) (line : TextLine) → Stands starts history later
@@ -223,7 +218,8 @@ run_alike laws starts lines history later (line ∷ rest) never begins stands la
     ((Its starts).output history line ++ out (Its starts) (line ∷ history) rest) ((Its starts).output later line
     ++ out (Its starts) (line ∷ later) rest) (end_of (Its starts) (line ∷ history) rest) (end_of (Its starts) (line ∷ later) rest)
     (accepted_of (Its starts) (line ∷ history) rest) (accepted_of (Its starts) (line ∷ later) rest) stands
-    (line_lasts starts history later line stands) lasting (λ none on.
+    (grind (arith, both_last, refusal_said, airs_of, length, seconds, happens, happens_later, same_lasts, unsaid_gone,
+    line_later)) lasting (λ none on.
     let prints_not : PrintsHorizon airs_of starts history line → ⊥ = never history line rest begins (stands.accepted, none) in
     run_next starts history later rest line (line_same laws starts history later line stands none prints_not)
     (run_alike laws starts lines (line ∷ history) (line ∷ later) rest never (begins ∙ sym (reverse_onto line history rest))

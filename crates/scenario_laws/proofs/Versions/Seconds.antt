@@ -1,7 +1,7 @@
 -- The steps of a scenario in version 2: `scenario 2` stands for `scenario`. What the steps say that isn't said of the version
 -- stays. Lists of steps have the newest first.
-use Rattle.scenario_laws.proofs.Known.Sources.Steps.Prelude.{ℕ, ◌≡◌, ◌⊎◌, ◌≤◌, cond, Bool, true, List, [], ◌∷◌, Option, refl, sym, ◌∙◌, ap, inl, arith, unwrap_or, option_or, Step, horizon_in, version_given, base_lines, with_base_line, cipher_given, cipher_of, group_given, group_of, ident_of, identity_given, is_ahead_in, phase_given, source_calls, start_given, start_of, with_source_call, Stage, unbegun, running, chosen_given, is_common, is_of_source, is_over, is_source_line, is_over_at, is_unbegun_at, last_given, sinks_made, sinks_made_by, stage_after, stage_of, steps_of_source, version_at, version_of, ◌||◌, list_any, gives_on, had_relay, has_relay, makes_relay, relay_given, relay_of, relays_to, ap₂, range_with_len, air_after, airs_of, pdu_of, stale_of, Setup, framed_calls, pdu_in, setup_of, stale_in, last_given_in as last_of, sink_horizon_of as horizon_of, over, SourceCall as Call, event as perform}
-use Rattle.scenario_laws.proofs.Sources.{horizon_greatest}
+use Rattle.scenario_laws.proofs.Known.Sources.Steps.Prelude.{ℕ, ◌≡◌, ◌⊎◌, ◌≤◌, cond, Bool, true, List, [], ◌∷◌, Option, refl, sym, ◌∙◌, ap, inl, arith, unwrap_or, option_or, Step, horizon_in, version_given, base_lines, with_base_line, cipher_given, cipher_of, group_given, group_of, ident_of, identity_given, is_ahead_in, phase_given, source_calls, start_given, start_of, with_source_call, Stage, unbegun, running, chosen_given, is_common, is_of_source, is_over, is_source_line, is_over_at, is_unbegun_at, last_given, sinks_made, sinks_made_by, stage_of, steps_of_source, version_at, version_of, ◌||◌, list_any, gives_on, had_relay, has_relay, makes_relay, relay_given, relay_of, relays_to, ap₂, range_with_len, air_after, airs_of, stale_of, Setup, framed_calls, setup_of, stale_in, last_given_in as last_of, sink_horizon_of as horizon_of, over, SourceCall as Call, event as perform}
+use Rattle.scenario_laws.proofs.Wholes.{horizon_greatest}
 
 abbrev pub second : Step → Step
 second (Step.Scenario version) = Step.Scenario 2
@@ -118,13 +118,9 @@ unbegun_later (running version) (running later) is = refl
 unbegun_later (over version) (over later) is = refl
 unbegun_later _ _ is = search
 
-stands_after : (stage later : Stage) (step : Step) → StandsLater stage later
-    → StandsLater (stage_after step stage) (stage_after (second step) later)
-stands_after stage later step is = grind (arith, version_later)
-
 stands_later : (made : List Step) → StandsLater (stage_of made) (stage_of (seconds made))
 stands_later [] = tt
-stands_later (step ∷ earlier) = stands_after (stage_of earlier) (stage_of (seconds earlier)) step (stands_later earlier)
+stands_later (step ∷ earlier) = grind (arith, version_later, (stands_later earlier))
 
 pub is_later : (made : List Step) → IsLater (version_of made) (version_of (seconds made))
 is_later made = version_later (stage_of made) (stage_of (seconds made)) (stands_later made)

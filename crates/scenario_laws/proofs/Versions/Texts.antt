@@ -84,10 +84,6 @@ from taken text = lines_from true taken [] text
 abbrev TurnOn : List TextLine → List TextLine → Type 0
 TurnOn lines others = (others ≡ lines) ⊎ Turned lines others
 
-behind_migrated : (line : List ℕ) (lines : List (List ℕ)) → behind (migrated_lines (line ∷ lines))
-    ≡ newline ∷ text_of (migrated_lines (line ∷ lines))
-behind_migrated line lines = grind (arith, is_blank, migrated_line, migrated_lines)
-
 -- behind a blank line, whose end is an octet of the text
 blank_turn : (taken : ℕ) (line : List ℕ) (one other : List ℕ) → is_blank line ≡ true → taken ≤ text_limit
     → (taken < text_limit → TurnOn (from (taken + 1) one) (from (taken + 1) other))
@@ -120,17 +116,12 @@ first_clean = (refl, (refl, (refl, (refl, (refl, (refl, (refl, (refl, (refl, (re
 second_clean : Clean second_version
 second_clean = (refl, (refl, (refl, (refl, (refl, (refl, (refl, (refl, (refl, (refl, tt))))))))))
 
--- lines of as many octets, behind which the texts turn or are the same
-line_turn : (taken : ℕ) (line second one other : List ℕ) → Clean line → Clean second → length second ≡ length line → taken ≤ text_limit
-    → (taken + length line ≤ text_limit → TurnOn (lines_from true (taken + length line) line one) (lines_from true (taken + length line) second other))
-    → TurnOn (from taken (line ++ one)) (from taken (second ++ other))
-line_turn taken line second one other clean clean_too same within turns = grind (arith, cases_lt, text_limit, length, line_past, line_in)
-
 blank_or : (blank : Bool) (taken : ℕ) (line : List ℕ) (lines : List (List ℕ)) → Clean line → taken ≤ text_limit → is_blank line ≡ blank
     → ((taken' : ℕ) → taken' ≤ text_limit → TurnOn (from taken' (text_of lines)) (from taken' (text_of (migrated_lines lines))))
     → TurnOn (from taken (line ++ behind lines)) (from taken (text_of (cond blank (line ∷ migrated_lines lines) (migrated_line line ∷ lines))))
 blank_or blank taken line lines clean within is turns =
-    grind (arith, behind_migrated, line_turn, blank_turn, bytes_eq-Decides, first_clean, second_clean, version_turn)
+    grind (arith, blank_turn, bytes_eq-Decides, first_clean, second_clean, version_turn, cases_lt, text_limit, length, line_past, line_in,
+    is_blank, migrated_line, migrated_lines)
 
 lines_turn : (lines : List (List ℕ)) (taken : ℕ) → AreClean lines → taken ≤ text_limit
     → TurnOn (from taken (text_of lines)) (from taken (text_of (migrated_lines lines)))

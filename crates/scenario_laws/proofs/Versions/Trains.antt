@@ -1,6 +1,5 @@
 -- The group check where a group may have a greater horizon: but for the row of the horizon it finds the same.
-use Rattle.scenario_laws.proofs.Known.Sources.Steps.Prelude.{ℕ, ◌≡◌, ◌⊎◌, ◌≤◌, ltb, cond, Bool, true, false, List, [], ◌∷◌, Option, None, Some, refl, arith, find, false≢true, le-ltb, ltb-true, lt-ltb, GroupFault, BigInfo, faults, has_fault, horizon_of, Result, Ok, Err, Endpoint, Horizon, info_of, TrainHeard, Snapshot, TrainOutcome, Train, answer_of, big_info_in, outcome_by, by_base, by_big_info, by_broadcast_id, by_group, by_info, by_slot, first_fault, SinkSetup as Setup}
-use Rattle.base_grammar.specs.AdReading.{broadcast_id_of}
+use Rattle.scenario_laws.proofs.Known.Sources.Steps.Prelude.{ℕ, ◌≡◌, ◌⊎◌, ◌≤◌, ltb, cond, Bool, true, List, [], ◌∷◌, Option, None, Some, refl, arith, find, false≢true, le-ltb, ltb-true, lt-ltb, GroupFault, BigInfo, faults, has_fault, horizon_of, Result, Ok, Err, Endpoint, Horizon, info_of, TrainHeard, Snapshot, TrainOutcome, Train, answer_of, big_info_in, outcome_by, by_base, by_big_info, by_group, by_info, by_slot, first_fault, SinkSetup as Setup}
 use Rattle.bass_operations.specs.declared.wishes.Wish.{Wish}
 use Rattle.big_info.specs.declared.big_fault.BigFault.{BigFault}
 use Rattle.pacs_records.specs.declared.capability.Capability.{Capability}
@@ -48,13 +47,9 @@ not_past : (holds : Bool) (fault : GroupFault) (rest : Option GroupFault) → Is
     → FoundNear (cond holds (Some fault) rest)
 not_past holds fault rest here later = grind arith
 
-not_horizon : (holds : Bool) (rest : Option GroupFault) → holds ≡ false → FoundNear rest
-    → FoundNear (cond holds (Some GroupFault.Horizon) rest)
-not_horizon holds rest none later = grind (arith, false≢true)
-
 pub within_near : (near : ℕ) (info : BigInfo) → horizon_of info ≤ near → FoundNear (first_fault near info)
 unfolding first_fault
-within_near near info within = grind (arith, not_horizon, ltb, le-ltb, not_past, faults)
+within_near near info within = grind (arith, ltb, le-ltb, not_past, faults, false≢true)
 
 -- ---- either way
 
@@ -78,11 +73,6 @@ BringsNear brought = AnswersNear (answer_of brought)
 
 -- ---- it brings the same
 
-fault_near : (setup : Setup) (capability : Capability) (wishes : List Wish) (slot : ℕ) (train : Train) (base : Endpoint) (info : BigInfo)
-    (encrypted : Bool)
-    (fault : Option GroupFault) → BringsNear (by_group setup capability wishes slot train base info encrypted fault) → FoundNear fault
-fault_near setup capability wishes slot train base info encrypted fault is = grind arith
-
 fault_same : (wider : ℕ) (setup : Setup) (capability : Capability) (wishes : List Wish) (slot : ℕ) (train : Train) (base : Endpoint)
     (info : BigInfo) (encrypted : Bool) (fault : Option GroupFault)
     → by_group (with_horizon wider setup) capability wishes slot train base info encrypted fault
@@ -95,7 +85,9 @@ info_same : (wider : ℕ) (setup : Setup) (capability : Capability) (wishes : Li
     → by_info (with_horizon wider setup) capability wishes slot train base encrypted read
     ≡ by_info setup capability wishes slot train base encrypted read
 info_same wider setup capability wishes slot train base encrypted (Err fault) within is = refl
-info_same wider setup capability wishes slot train base encrypted (Ok info) within is = cc (first_same setup.horizon wider info within (grind (arith, fault_near)), fault_same wider setup capability wishes slot train base info encrypted (first_fault setup.horizon info))
+info_same wider setup capability wishes slot train base encrypted (Ok info) within is =
+    cc (first_same setup.horizon wider info within (grind arith),
+    fault_same wider setup capability wishes slot train base info encrypted (first_fault setup.horizon info))
 
 big_info_same : (wider : ℕ) (setup : Setup) (capability : Capability) (wishes : List Wish) (slot : ℕ) (train : Train) (base : Endpoint)
     (found : Option (List ℕ)) → setup.horizon ≤ wider → BringsNear (by_big_info setup capability wishes slot train base found)
@@ -125,21 +117,8 @@ ReadsNear setup train = (octets : List ℕ) → (info : BigInfo) → big_info_in
 near_if : (b : Bool) (one other : TrainOutcome) → BringsNear one → BringsNear other → BringsNear (cond b one other)
 near_if b one other is also = grind arith
 
-near_info : (setup : Setup) (capability : Capability) (wishes : List Wish) (slot : ℕ) (train : Train) (base : Endpoint) (encrypted : Bool)
-    (read : Result BigInfo BigFault) → ((info : BigInfo) → read ≡ Ok info → FoundNear (first_fault setup.horizon info))
-    → BringsNear (by_info setup capability wishes slot train base encrypted read)
-near_info setup capability wishes slot train base encrypted read near = grind (arith, near_if)
-
-near_slot : (setup : Setup) (snapshot : Snapshot) (train : Train) (found : Option ℕ) → ReadsNear setup train
-    → BringsNear (by_slot setup snapshot train found)
-near_slot setup snapshot train found near = grind (arith, near_if, near_info)
-
-near_id : (setup : Setup) (snapshot : Snapshot) (train : Train) (id : Option (List ℕ)) → ReadsNear setup train
-    → BringsNear (by_broadcast_id setup snapshot train id)
-near_id setup snapshot train id near = grind (arith, near_slot)
-
 pub outcome_near : (setup : Setup) (snapshot : Snapshot) (train : Train) → ReadsNear setup train → BringsNear (outcome_by setup snapshot train)
-outcome_near setup snapshot train near = near_id setup snapshot train (broadcast_id_of train.ext) near
+outcome_near setup snapshot train near = grind (arith, near_if)
 
 -- ---- either way
 

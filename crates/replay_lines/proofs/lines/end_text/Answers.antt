@@ -5,11 +5,11 @@ use Rattle.replay_lines.proofs.lines.end_text.Goals as goal
 pub returns-then-is_over-clause-ends : goal.returns-then-is_over-clause-ends
 returns-then-is_over-clause-ends g c =
     λ starts lines left left' kept accounts e t r.
-    ends_done starts lines left left' kept (g.K.ByteSink.contents c.args.sink.now) c.args.machine.now accounts t r
-    (sym (c.is_over.ensures starts lines accounts r.stands) ∙ c.if-is_over.true)
+    ends_done t r (sym (c.is_over.ensures starts lines accounts r.stands) ∙ c.if-is_over.true)
 
 pub returns-clause-ends : goal.returns-clause-ends
 returns-clause-ends g c =
     λ starts lines left left' kept accounts e t r.
-    ends_no_end starts lines left left' kept (g.K.ByteSink.contents c.args.sink.now) (g.K.ByteSink.contents c.refuse.new.sink) c.args.machine.now accounts c.args.number e t r
-    (sym (c.is_over.ensures starts lines accounts r.stands) ∙ c.if-is_over.false) c.refuse.result c.refuse.ensures.refuses
+    ends_no_end e t r (sym (c.is_over.ensures starts lines accounts r.stands) ∙ c.if-is_over.false)
+        (g.K.ByteSink.contents c.refuse.new.sink)
+    c.refuse.result c.refuse.ensures.refuses

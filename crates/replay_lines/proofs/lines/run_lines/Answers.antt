@@ -1,4 +1,4 @@
-use Rattle.replay_lines.proofs.Prelude.{◌+◌, ◌∙◌, inr, true, Some, ap, map, refl, arith, lines_of, none_run, airs_of, listened}
+use Rattle.replay_lines.proofs.Prelude.{◌∙◌, Some, ap, map, refl, arith, none_run, listened}
 use Rattle.replay_lines.proofs.Endings.{ends_at_once}
 use Rattle.replay_lines.proofs.Hearing.{wanted_told}
 use Rattle.replay_lines.proofs.ReadingOn.{none_within}
@@ -9,33 +9,21 @@ use Rattle.replay_lines.proofs.lines.run_lines.Goals as goal
 
 pub returns-in_default : goal.returns-in_default
 returns-in_default g c =
-    let boxes = map (λ b. (goal.Outlet-dyn g (b.vtable, b.value)).account b.value) c.args.outlets.now.items in
     let left = g.S.ByteSource.left c.args.source.now in
-    let kept = g.K.ByteSink.contents c.args.sink.now in record {
-      ended = wanted_told airs_of boxes boxes left left kept kept g.L.Listener.may_fail (ends_at_once boxes left kept);
-      unassigned = λ text is. none_run boxes (lines_of true text) c.args.outlets.now.items;
-      told = inr (inr (inr (has_none g.L.Listener.row_of (listened g.L.Listener.told g.L.Listener.rows c.args.listener.now c.args.sink.now))));
-      within = none_within left;
-      read_fault = λ e. absurd (cc);
-      no_read_fault = λ e. refl;
-      write_fault = λ e. absurd (cc);
-      no_write_fault = λ e. refl;
-    }
+    let boxes = map (λ b. (goal.Outlet-dyn g (b.vtable, b.value)).account b.value) c.args.outlets.now.items in
+    let ended = wanted_told g.L.Listener.may_fail (ends_at_once boxes left (g.K.ByteSink.contents c.args.sink.now)) in
+    let told = has_none g.L.Listener.row_of (listened g.L.Listener.told g.L.Listener.rows c.args.listener.now c.args.sink.now) in
+    let within = none_within left in
+    grind (arith, none_run)
 
 pub returns-in_default-new : goal.returns-in_default-new
 returns-in_default-new g c =
-    let boxes = map (λ b. (goal.Outlet-dyn g (b.vtable, b.value)).account b.value) c.args.outlets.now.items in
     let left = g.S.ByteSource.left c.args.source.now in
-    let kept = g.K.ByteSink.contents c.args.sink.now in record {
-      ended = wanted_told airs_of boxes boxes left left kept kept g.L.Listener.may_fail (ends_at_once boxes left kept);
-      unassigned = λ text is. none_run boxes (lines_of true text) c.args.outlets.now.items;
-      told = inr (inr (inr (has_none g.L.Listener.row_of (listened g.L.Listener.told g.L.Listener.rows c.args.listener.now c.args.sink.now))));
-      within = none_within left;
-      read_fault = λ e. absurd (cc);
-      no_read_fault = λ e. refl;
-      write_fault = λ e. absurd (cc);
-      no_write_fault = λ e. refl;
-    }
+    let boxes = map (λ b. (goal.Outlet-dyn g (b.vtable, b.value)).account b.value) c.args.outlets.now.items in
+    let ended = wanted_told g.L.Listener.may_fail (ends_at_once boxes left (g.K.ByteSink.contents c.args.sink.now)) in
+    let told = has_none g.L.Listener.row_of (listened g.L.Listener.told g.L.Listener.rows c.args.listener.now c.args.sink.now) in
+    let within = none_within left in
+    grind (arith, none_run)
 
 pub returns-in-Some : goal.returns-in-Some
 returns-in-Some g c =
@@ -43,20 +31,16 @@ returns-in-Some g c =
     let before = map (λ b. (goal.Outlet-dyn g (b.vtable, b.value)).account b.value) c.lines.outlets.items in
     let left = g.S.ByteSource.left c.args.source.now in
     let start = listened g.L.Listener.told g.L.Listener.rows c.args.listener.now c.args.sink.now in record {
-      ended = running_ends g.L.Listener.may_fail c.args.outlets.now.items c.lines.outlets.items starts before
+      ended = running_ends c.lines.invariant.running g.L.Listener.may_fail
           (map (λ b. (goal.Outlet-dyn g (b.vtable, b.value)).account b.value) c.run_line.new.outlets.items)
-          left (g.S.ByteSource.left c.lines.source) (g.S.ByteSource.left c.run_line.new.source)
-          (g.K.ByteSink.contents c.args.sink.now) (g.K.ByteSink.contents c.lines.sink) (g.K.ByteSink.contents c.run_line.new.sink)
-          c.lines.number c.lines.reader c.run_line.new.reader c.lines.machine c.run_line.new.machine c.run_line.result c.in-Some.ending
-          c.lines.invariant.running c.in-Some.is (λ lines. c.run_line.ensures.runs starts lines left (g.K.ByteSink.contents c.args.sink.now));
-      unassigned = unassigned_at c.args.outlets.now.items c.lines.outlets.items c.run_line.new.outlets.items starts before
-          left (g.S.ByteSource.left c.lines.source) (g.K.ByteSink.contents c.args.sink.now) (g.K.ByteSink.contents c.lines.sink)
-          c.lines.number c.lines.reader c.lines.machine c.lines.invariant.running (λ lines. c.run_line.ensures.unassigned starts lines before);
-      told = telling_ends g.L.Listener.row_of left (g.S.ByteSource.left c.lines.source) (g.S.ByteSource.left c.run_line.new.source) start
-          (listened g.L.Listener.told g.L.Listener.rows c.lines.listener c.lines.sink)
-          (listened g.L.Listener.told g.L.Listener.rows c.run_line.new.listener c.run_line.new.sink)
-          c.lines.number c.lines.reader c.run_line.new.reader c.run_line.result c.in-Some.ending c.lines.invariant.telling c.in-Some.is
-          (λ lines. c.run_line.ensures.told lines left start);
+          (g.S.ByteSource.left c.run_line.new.source) (g.K.ByteSink.contents c.run_line.new.sink)
+          c.run_line.new.reader c.run_line.new.machine c.run_line.result
+              (λ lines. c.run_line.ensures.runs starts lines left (g.K.ByteSink.contents c.args.sink.now)) c.in-Some.ending c.in-Some.is;
+      unassigned = unassigned_at c.run_line.new.outlets.items c.lines.invariant.running
+          (λ lines. c.run_line.ensures.unassigned starts lines before);
+      told = telling_ends c.lines.invariant.telling (g.S.ByteSource.left c.run_line.new.source)
+          (listened g.L.Listener.told g.L.Listener.rows c.run_line.new.listener c.run_line.new.sink) c.run_line.new.reader c.run_line.result
+          (λ lines. c.run_line.ensures.told lines left start) c.in-Some.ending c.in-Some.is;
       within = c.run_line.ensures.within left c.lines.invariant.running.lines c.lines.invariant.running.read;
       read_fault = λ e. rw c.lines.invariant.reads at (c.run_line.ensures.read_fault (c.in-Some.is ∙ ap Some e));
       no_read_fault = λ other. c.run_line.ensures.no_read_fault (λ e. other (cc)) ∙ c.lines.invariant.reads;
@@ -76,36 +60,22 @@ lines-init g c = record {
 
 pub lines-preserved : goal.lines-preserved
 lines-preserved g c = record {
-  running = running_more g.L.Listener.may_fail c.args.outlets.now.items c.lines.outlets.items c.run_line.new.outlets.items (map (λ b. (goal.Outlet-dyn g (b.vtable, b.value)).account b.value) c.args.outlets.now.items)
-      (map (λ b. (goal.Outlet-dyn g (b.vtable, b.value)).account b.value) c.lines.outlets.items)
+  running = running_more c.lines.invariant.running g.L.Listener.may_fail
       (map (λ b. (goal.Outlet-dyn g (b.vtable, b.value)).account b.value) c.run_line.new.outlets.items)
-      (g.S.ByteSource.left c.args.source.now) (g.S.ByteSource.left c.lines.source) (g.S.ByteSource.left c.run_line.new.source)
-      (g.K.ByteSink.contents c.args.sink.now) (g.K.ByteSink.contents c.lines.sink) (g.K.ByteSink.contents c.run_line.new.sink)
-      c.lines.number (c.lines.number + 1) c.lines.reader c.run_line.new.reader c.lines.machine c.run_line.new.machine c.run_line.result
-      c.lines.invariant.running refl c.in-None.is
-      (λ lines. c.run_line.ensures.unassigned (map (λ b. (goal.Outlet-dyn g (b.vtable, b.value)).account b.value) c.args.outlets.now.items) lines
-      (map (λ b. (goal.Outlet-dyn g (b.vtable, b.value)).account b.value) c.lines.outlets.items))
+      (g.S.ByteSource.left c.run_line.new.source) (g.K.ByteSink.contents c.run_line.new.sink) c.run_line.new.reader c.run_line.new.machine
+          c.run_line.result
       (λ lines. c.run_line.ensures.runs (map (λ b. (goal.Outlet-dyn g (b.vtable, b.value)).account b.value) c.args.outlets.now.items) lines
-      (g.S.ByteSource.left c.args.source.now) (g.K.ByteSink.contents c.args.sink.now));
-  telling =
-      let start = listened g.L.Listener.told g.L.Listener.rows c.args.listener.now c.args.sink.now in
-      let old = listened g.L.Listener.told g.L.Listener.rows c.lines.listener c.lines.sink in
-      let new = listened g.L.Listener.told g.L.Listener.rows c.run_line.new.listener c.run_line.new.sink in
-      telling_more g.L.Listener.row_of (g.S.ByteSource.left c.args.source.now) (g.S.ByteSource.left c.lines.source) (g.S.ByteSource.left c.run_line.new.source)
-      start old new c.lines.number (c.lines.number + 1) c.lines.reader c.run_line.new.reader c.run_line.result c.lines.invariant.telling refl c.in-None.is
-      (λ lines. c.run_line.ensures.told lines (g.S.ByteSource.left c.args.source.now) start);
+      (g.S.ByteSource.left c.args.source.now) (g.K.ByteSink.contents c.args.sink.now)) c.run_line.new.outlets.items c.in-None.is
+      (λ lines. c.run_line.ensures.unassigned (map (λ b. (goal.Outlet-dyn g (b.vtable, b.value)).account b.value) c.args.outlets.now.items) lines
+      (map (λ b. (goal.Outlet-dyn g (b.vtable, b.value)).account b.value) c.lines.outlets.items));
+  telling = telling_more c.lines.invariant.telling (g.S.ByteSource.left c.run_line.new.source)
+      (listened g.L.Listener.told g.L.Listener.rows c.run_line.new.listener c.run_line.new.sink) c.run_line.new.reader c.run_line.result
+      (λ lines. c.run_line.ensures.told lines (g.S.ByteSource.left c.args.source.now)
+      (listened g.L.Listener.told g.L.Listener.rows c.args.listener.now c.args.sink.now)) c.in-None.is;
   bound = omega (arith, c.in-None.ensures.nearer, c.lines.invariant.bound);
   reads = c.in-None.ensures.no_read_fault (λ e. cc) ∙ c.lines.invariant.reads;
   writes = c.in-None.ensures.no_write_fault (λ e. cc) ∙ c.lines.invariant.writes;
 }
 
 pub run_line-requires : goal.run_line-requires
-run_line-requires g c = record {
-  before = record {
-    starts = map (λ b. (goal.Outlet-dyn g (b.vtable, b.value)).account b.value) c.args.outlets.now.items;
-    accounts = map (λ b. (goal.Outlet-dyn g (b.vtable, b.value)).account b.value) c.lines.outlets.items;
-    lines = c.lines.invariant.running.lines;
-    is_next = c.lines.invariant.running.is_next;
-    stands = c.lines.invariant.running.run.stands;
-  };
-}
+run_line-requires g c = search

@@ -9,8 +9,7 @@ invariant-lines g l = record {
       (map (λ b. (goal.Outlet-dyn g (b.vtable, b.value)).account b.value) l.initial.outlets.items)
       (map (λ b. (goal.Outlet-dyn g (b.vtable, b.value)).account b.value) l.outlets.items)
       (g.S.ByteSource.left l.initial.source) (g.S.ByteSource.left l.source)
-      (g.K.ByteSink.contents l.initial.sink) (g.K.ByteSink.contents l.sink)
-      l.number l.reader l.machine;
+      (g.K.ByteSink.contents l.initial.sink) (g.K.ByteSink.contents l.sink) l.number l.reader l.machine;
   telling : TellingOn g.L.Listener.row_of (g.S.ByteSource.left l.initial.source) (g.S.ByteSource.left l.source)
       (listened g.L.Listener.told g.L.Listener.rows l.initial.listener l.initial.sink) (listened g.L.Listener.told g.L.Listener.rows l.listener l.sink)
       l.number l.reader;

@@ -1,63 +1,42 @@
 use Rattle.std.proofs.Common.{arith}
-use Rattle.replay_lines.proofs.Prelude.{◌∙◌, refl, ap, sym, subst, map, Ok, Err, UnassignedBy, world_of, meaning_of, standing_by, lines_over}
+use Rattle.replay_lines.proofs.Prelude.{◌∙◌, refl, ap, sym, subst, map, Ok, Err, UnassignedBy, meaning_of, standing_by, lines_over}
 use Rattle.bcast_io.specs.declared.document.Document.TheVariants.{Whole, TooLong}
 use Rattle.bcast_io.specs.declared.piece.Unread.TheVariants.{Failed, Memory}
-use Rattle.replay_lines.specs.declared.ending.Ending.TheVariants as endings
 use Rattle.replay_lines.specs.declared.cause.Cause.TheVariants as causes
 use Rattle.replay_lines.proofs.DocumentPromises.{ran_unfailed, read_at, read_toml}
 use Rattle.replay_lines.proofs.Reading.{document_told, whole_is}
 use Rattle.replay_lines.proofs.Refusing.{refused_toml}
-use Rattle.replay_lines.proofs.Unread.{failed_toml, laws_of, wanting_toml}
+use Rattle.replay_lines.proofs.Unread.{failed_toml, laws_at, wanting_toml}
 use Rattle.replay_lines.proofs.mode.run_toml.Goals as goal
 
 pub returns-in-Ok-Whole-clause-promised : goal.returns-in-Ok-Whole-clause-promised
 returns-in-Ok-Whole-clause-promised g c =
-    let boxes = map (λ b. (goal.Outlet-dyn g (b.vtable, b.value)).account b.value) c.args.outlets.now.items in
-    let after = map (λ b. (goal.Outlet-dyn g (b.vtable, b.value)).account b.value) c.run_document.new.outlets.items in
-    let old = world_of g.S.ByteSource.left g.S.ByteSource.faults g.K.ByteSink.contents g.K.ByteSink.faults
-    c.args.source.now c.args.sink.now boxes in
-    let new = world_of g.S.ByteSource.left g.S.ByteSource.faults g.K.ByteSink.contents g.K.ByteSink.faults
-    c.read_document.new.source c.run_document.new.sink after in
     let document = c.in-Ok-Whole.document in
     let is = c.in-Ok-Whole.is ∙ ap Ok c.in-Ok-Whole.field-0-is in
-    read_toml old new (standing_by (meaning_of document)) c.run_document.result
-    (grind (arith, whole_is, read_at))
-    c.run_document.ensures.runs (c.read_document.ensures.none_failed (λ fails. cc))
-    (laws_of old old endings.Memory (c.want_of_memory_at_once.ensures old))
+    read_toml _ _ (standing_by (meaning_of document)) c.run_document.result (grind (arith, whole_is, read_at)) c.run_document.ensures.runs
+    (c.read_document.ensures.none_failed (λ fails. cc)) (laws_at c.want_of_memory_at_once.ensures _)
 
 pub returns-in-Ok-TooLong-clause-promised : goal.returns-in-Ok-TooLong-clause-promised
 returns-in-Ok-TooLong-clause-promised g c =
-    let boxes = map (λ b. (goal.Outlet-dyn g (b.vtable, b.value)).account b.value) c.args.outlets.now.items in
-    let old = world_of g.S.ByteSource.left g.S.ByteSource.faults g.K.ByteSink.contents g.K.ByteSink.faults
-    c.args.source.now c.args.sink.now boxes in
-    let new = world_of g.S.ByteSource.left g.S.ByteSource.faults g.K.ByteSink.contents g.K.ByteSink.faults
-    c.read_document.new.source c.refuse.new.sink boxes in
     let is = c.in-Ok-TooLong.is ∙ ap Ok c.in-Ok-TooLong.field-0-is in
     let put = c.refuse.ensures in
-    refused_toml old new causes.TooLong c.refuse.result
-    (read_at old.left new.left c.read_document.result (Ok TooLong) is c.read_document.ensures.reads)
+    refused_toml _ _ causes.TooLong c.refuse.result (read_at _ _ c.read_document.result (Ok TooLong) is c.read_document.ensures.reads)
     (record { boxes = refl; puts = put.refuses; write_fault = put.write_fault; no_write_fault = put.no_write_fault })
-    (c.read_document.ensures.none_failed (λ fails. cc)) (laws_of old old endings.Memory (c.want_of_memory_at_once.ensures old))
+    (c.read_document.ensures.none_failed (λ fails. cc)) (laws_at c.want_of_memory_at_once.ensures _)
 
 pub returns-in-Err-Failed-clause-promised : goal.returns-in-Err-Failed-clause-promised
 returns-in-Err-Failed-clause-promised g c =
-    let boxes = map (λ b. (goal.Outlet-dyn g (b.vtable, b.value)).account b.value) c.args.outlets.now.items in
-    let old = world_of g.S.ByteSource.left g.S.ByteSource.faults g.K.ByteSink.contents g.K.ByteSink.faults
-    c.args.source.now c.args.sink.now boxes in
     let is = c.in-Err-Failed.is ∙ ap Err c.in-Err-Failed.field-0-is in
-    failed_toml old (g.S.ByteSource.left c.read_document.new.source) (g.S.ByteSource.faults c.read_document.new.source)
-    (read_at old.left (g.S.ByteSource.left c.read_document.new.source) c.read_document.result (Err Failed) is c.read_document.ensures.reads)
-    (c.read_document.ensures.failed is) (laws_of old old endings.Memory (c.want_of_memory_at_once.ensures old))
+    failed_toml _ (g.S.ByteSource.left c.read_document.new.source) (g.S.ByteSource.faults c.read_document.new.source)
+    (read_at _ _ c.read_document.result (Err Failed) is c.read_document.ensures.reads)
+    (c.read_document.ensures.failed is) (laws_at c.want_of_memory_at_once.ensures _)
 
 pub returns-in-Err-Memory-clause-promised : goal.returns-in-Err-Memory-clause-promised
 returns-in-Err-Memory-clause-promised g c =
-    let boxes = map (λ b. (goal.Outlet-dyn g (b.vtable, b.value)).account b.value) c.args.outlets.now.items in
-    let old = world_of g.S.ByteSource.left g.S.ByteSource.faults g.K.ByteSink.contents g.K.ByteSink.faults
-    c.args.source.now c.args.sink.now boxes in
     let is = c.in-Err-Memory.is ∙ ap Err c.in-Err-Memory.field-0-is in
-    wanting_toml old (g.S.ByteSource.left c.read_document.new.source) (g.S.ByteSource.faults c.read_document.new.source)
-    (read_at old.left (g.S.ByteSource.left c.read_document.new.source) c.read_document.result (Err Memory) is c.read_document.ensures.reads)
-    (c.read_document.ensures.none_failed (λ fails. cc)) (laws_of old old endings.Memory (c.want_of_memory_at_once.ensures old))
+    wanting_toml _ (g.S.ByteSource.left c.read_document.new.source) (g.S.ByteSource.faults c.read_document.new.source)
+    (read_at _ _ c.read_document.result (Err Memory) is c.read_document.ensures.reads)
+    (c.read_document.ensures.none_failed (λ fails. cc)) (laws_at c.want_of_memory_at_once.ensures _)
 
 pub returns-in-Ok-Whole-clause-unassigned : goal.returns-in-Ok-Whole-clause-unassigned
 returns-in-Ok-Whole-clause-unassigned g c told airs tells meets =

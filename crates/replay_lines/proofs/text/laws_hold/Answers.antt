@@ -1,22 +1,17 @@
-use Rattle.replay_lines.proofs.Prelude.{length, airs_of, said_after, steps_of}
+use Rattle.replay_lines.proofs.Prelude.{List, ◌∷◌, Account, TextLine, Accepted, rules_of, length, airs_of, said_after, steps_of}
 use Rattle.replay_lines.proofs.OtherAirs.{answered_alike}
 use Rattle.replay_lines.proofs.text.laws_hold.Goals as goal
 
 pub returns : goal.returns
 returns c boxes = record {
-  same = λ airs meets. record {
-    octets = λ starts lines. c.one_transcript.ensures.octets airs_of airs starts lines c.some_airs_meet.ensures meets;
-    end = λ starts lines. c.one_transcript.ensures.end airs_of airs starts lines c.some_airs_meet.ensures meets;
-    units = λ starts lines. c.one_transcript.ensures.units airs_of airs starts lines c.some_airs_meet.ensures meets;
-    out = λ starts lines. c.one_transcript.ensures.out airs_of airs starts lines c.some_airs_meet.ensures meets;
-    lines_end = λ starts lines. c.one_transcript.ensures.lines_end airs_of airs starts lines c.some_airs_meet.ensures meets;
-    accepted = λ starts lines. c.one_transcript.ensures.accepted airs_of airs starts lines c.some_airs_meet.ensures meets;
-    handed = λ starts lines line. c.one_transcript.ensures.handed airs_of airs starts lines line c.some_airs_meet.ensures meets;
-    output = λ starts lines line. c.one_transcript.ensures.output airs_of airs starts lines line c.some_airs_meet.ensures meets;
-    answered = λ starts lines line accepted.
-        answered_alike airs_of airs (length starts) (steps_of airs_of lines) (steps_of airs lines) (said_after lines line)
-        (λ step. c.one_transcript.ensures.answers airs_of airs starts lines step c.some_airs_meet.ensures meets accepted.0) accepted.1;
-  };
+  same = λ airs meets.
+      let met = c.some_airs_meet.ensures in
+      let law = c.one_transcript.ensures in
+      let answered = λ (starts : List Account) (lines : List TextLine) (line : TextLine)
+          (accepted : Accepted (rules_of airs_of starts) (line ∷ lines)).
+      answered_alike airs_of airs (length starts) (steps_of airs_of lines) (steps_of airs lines) (said_after lines line)
+      (λ step. law.answers airs_of airs starts lines step met meets accepted.0) accepted.1 in
+      search (law.octets, law.end, law.units, law.out, law.lines_end, law.accepted, law.handed, law.output, answered);
   meet = c.some_airs_meet.ensures;
   units = c.units_law.ensures boxes;
   order = c.order_law.ensures boxes;

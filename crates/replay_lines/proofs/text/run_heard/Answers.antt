@@ -1,22 +1,14 @@
-use Rattle.replay_lines.proofs.Prelude.{true, map, lines_of, unassigned_run, world_of}
+use Rattle.replay_lines.proofs.Prelude.{[], true, lines_of, unassigned_run}
 use Rattle.replay_lines.proofs.Hearing.{heard_run}
 use Rattle.replay_lines.proofs.text.run_heard.Goals as goal
 
 pub returns-clause-heard : goal.returns-clause-heard
 returns-clause-heard g c =
-    let boxes = map (λ b. (goal.Outlet-dyn g (b.vtable, b.value)).account b.value) c.args.outlets.now.items in
-    let after = map (λ b. (goal.Outlet-dyn g (b.vtable, b.value)).account b.value) c.run_lines.new.outlets.items in
-    let old = world_of g.S.ByteSource.left g.S.ByteSource.faults g.K.ByteSink.contents g.K.ByteSink.faults
-    c.args.source.now c.args.sink.now boxes in
-    let new = world_of g.S.ByteSource.left g.S.ByteSource.faults g.K.ByteSink.contents g.K.ByteSink.faults
-    c.run_lines.new.source c.run_lines.new.sink after in
-    heard_run g.L.Listener.may_fail old new c.run_lines.result c.run_lines.ensures.ended c.run_lines.ensures.within
+    heard_run g.L.Listener.may_fail _ _ c.run_lines.result c.run_lines.ensures.ended c.run_lines.ensures.within
     c.run_lines.ensures.read_fault c.run_lines.ensures.no_read_fault c.run_lines.ensures.write_fault c.run_lines.ensures.no_write_fault
-    (c.laws_hold.ensures boxes)
+    (c.laws_hold.ensures _)
 
 pub returns-clause-unassigned : goal.returns-clause-unassigned
 returns-clause-unassigned g c text airs is meets =
-    let boxes = map (λ b. (goal.Outlet-dyn g (b.vtable, b.value)).account b.value) c.args.outlets.now.items in
-    unassigned_run airs boxes (lines_of true text) c.args.outlets.now.items c.run_lines.new.outlets.items
-    (((c.laws_hold.ensures boxes).same airs meets).accepted boxes)
-    (c.run_lines.ensures.unassigned text is)
+    unassigned_run airs _ (lines_of true text) _ _ (((c.laws_hold.ensures []).same airs meets).accepted _)
+        (c.run_lines.ensures.unassigned text is)

@@ -1,17 +1,8 @@
-use Rattle.replay_steps.proofs.Prelude.{◌≡◌, ℕ, ◌+◌, ◌*◌, ◌∙◌, ap, sym, subst, arith, chosen_steps, setup_of, SinksStand, histories_on_air, add-mul, CountsOn, LosesFrom}
-use Rattle.replay_steps.proofs.Airing.{air_begins, air_ends}
+use Rattle.replay_steps.proofs.Prelude.{◌≡◌, ℕ, ◌+◌, ◌*◌, ◌∙◌, sym, subst, arith, add-mul, CountsOn, LosesFrom}
 use Rattle.replay_steps.proofs.air_steps.hear_all.Goals as goal
 
 pub streams-init : goal.streams-init
-streams-init c =
-    let none : 0 * c.args.grid.subevents ≡ 0 = omega arith in
-    let before : ℕ = c.args.event * c.args.grid.streams * c.args.grid.subevents in
-    let first : before ≡ before + 0 * c.args.grid.subevents = omega (arith, none) in (
-      λ steps on sources sinks. subst (λ n. SinksStand (histories_on_air steps c.args.sink c.args.lose n) c.args.sinks.now) (sym none)
-          (air_begins steps c.args.sink c.args.lose c.args.sinks.now sinks),
-      c.first-losses.ensures.lose,
-      subst (λ n. CountsOn c.args.lose n c.first-losses.result.before) first c.first-losses.ensures.counted,
-    )
+streams-init c = grind arith
 
 pub streams-preserved : goal.streams-preserved
 streams-preserved c =
@@ -28,9 +19,4 @@ streams-preserved c =
     )
 
 pub returns : goal.returns
-returns c steps on sources sinks =
-    let P : ℕ → Type 0 = λ n. SinksStand (histories_on_air steps c.args.sink c.args.lose n) c.streams.sinks in
-    let all : c.streams.stream ≡ c.args.grid.streams = omega arith in
-    let told : c.streams.stream * c.args.grid.subevents ≡ (setup_of (chosen_steps steps)).info.num_bis * (setup_of (chosen_steps steps)).info.nse =
-    ap (λ s. s * c.args.grid.subevents) (all ∙ on.streams_are) ∙ ap (λ s. (setup_of (chosen_steps steps)).info.num_bis * s) on.subevents_are in
-    air_ends steps c.args.sink c.args.lose c.streams.sinks (subst P told (c.streams.invariant.0 steps on sources sinks))
+returns c steps on sources sinks = grind arith

@@ -1,6 +1,5 @@
 use Rattle.replay_steps.proofs.Prelude.{ℕ, List, sym, subst, arith, Step, chosen_steps, unlost}
-use Rattle.replay_steps.proofs.Airing.{none_sent, stream_heard}
-use Rattle.replay_steps.proofs.HeardStreams.{AreHeard, are_heard}
+use Rattle.replay_steps.proofs.Airing.{none_sent, stream_heard, AreHeard, are_heard}
 use Rattle.replay_steps.proofs.air_steps.hear_stream.Goals as goal
 
 pub returns-in_default : goal.returns-in_default

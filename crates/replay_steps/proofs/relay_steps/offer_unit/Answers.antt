@@ -1,4 +1,4 @@
-use Rattle.replay_steps.proofs.Prelude.{◌≡◌, ◌∙◌, Err, ap, refl, subst, sym, Stop, relay_histories, GivesSecond}
+use Rattle.replay_steps.proofs.Prelude.{arith, ◌≡◌, ◌∙◌, ap, refl, sym, relay_histories}
 use Rattle.scenario_sinks.specs.declared.route.Route.{Route}
 use Rattle.replay_steps.proofs.Offering.{routes_after_relays, offer_of, offers_dropped, offers_lost, offers_other, offers_taken}
 use Rattle.replay_steps.proofs.relay_steps.offer_unit.Goals as goal
@@ -24,18 +24,12 @@ returns-in-Ok c steps own route s r =
 
 pub returns-in-Err-Refused : goal.returns-in-Err-Refused
 returns-in-Err-Refused c steps own route s r =
-    let stream : c.args.route.now.bis ≡ own.bis = ap (λ (way : Route). way.bis) route in
     let to : own.to ≡ c.args.route.now.to = sym (ap (λ (way : Route). way.to) route) in
     let offer = offer_of c.args.sink own c.args.unit.now.time c.in-Some.octets.now in
-    offers_dropped steps c.args.sink c.args.route.now.bis own c.args.unit.now c.in-Some.octets.now c.in-Err-Refused.reason c.give_second.new.sources c.args.relays.now c.args.text.now
-    c.drop_unit.new.text c.drop_unit.result (sym (rw c.in-Some.is at c.octets.ensures))
-    (sym c.get.ensures.same ∙ c.if-get.false ∙ c.get-2.ensures.same ∙ stream) stream
-    (subst (λ (stop : Stop). GivesSecond steps offer c.give_second.new.sources (Err stop)) c.in-Err-Refused.field-0-is
-    (c.in-Err-Refused.ensures steps offer to refl s)) r c.drop_unit.ensures
+    grind (arith, offers_dropped, c.in-Err-Refused.ensures steps offer to refl s)
 
 pub returns-in-Err-OutletFault : goal.returns-in-Err-OutletFault
 returns-in-Err-OutletFault c steps own route s r =
     let to : own.to ≡ c.args.route.now.to = sym (ap (λ (way : Route). way.to) route) in
     let offer = offer_of c.args.sink own c.args.unit.now.time c.in-Some.octets.now in
-    subst (λ (stop : Stop). GivesSecond steps offer c.give_second.new.sources (Err stop)) c.in-Err-OutletFault.field-0-is
-    (c.in-Err-OutletFault.ensures steps offer to refl s)
+    grind (arith, c.in-Err-OutletFault.ensures steps offer to refl s)

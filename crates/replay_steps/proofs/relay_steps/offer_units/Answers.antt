@@ -1,5 +1,5 @@
-use Rattle.replay_steps.proofs.Prelude.{[], ◌∷◌, map, take, Some, sym, append-nil, airs_of, after_offers, offered_of, handed_of}
-use Rattle.replay_steps.proofs.Offering.{offers_all, offers_more, offers_stopped}
+use Rattle.replay_steps.proofs.Prelude.{arith, map, take, Some, sym, append-nil, airs_of, after_offers, offered_of, handed_of}
+use Rattle.replay_steps.proofs.Offering.{offers_all, offers_more}
 use Rattle.replay_steps.proofs.relay_steps.offer_units.Goals as goal
 
 pub units-init : goal.units-init
@@ -18,8 +18,7 @@ pub returns-in-Err : goal.returns-in-Err
 returns-in-Err c steps own route s r =
     let before = c.units.invariant.offered steps own route s r in
     let now = after_offers airs_of (offered_of c.args.sink (Some own) (map handed_of (take c.units.unit-index c.args.units.now))) steps in
-    offers_stopped steps now (offered_of c.args.sink (Some own) (map handed_of c.args.units.now)) (offered_of c.args.sink (Some own) (handed_of c.unit-item.result ∷ []))
-    c.offer_unit.new.sources c.offer_unit.new.relays c.args.text.now c.units.text c.offer_unit.new.text c.in-Err.stop (c.in-Err.ensures now own route before.0 before.1)
+    grind (arith, c.in-Err.ensures now own route before.0 before.1)
 
 pub returns : goal.returns
 returns c steps own route s r =

@@ -1,5 +1,5 @@
 use Rattle.scenario_laws.proofs.Known.{Below}
-use Rattle.scenario_laws.proofs.OrderLaw.{order_law_holds}
+use Rattle.scenario_laws.proofs.StartOrder.{order_law_holds}
 use Rattle.scenario_laws.proofs.history_laws.order_law.Goals as goal
 
 pub returns : goal.returns

@@ -1,5 +1,5 @@
 use Rattle.scenario_laws.proofs.Known.Sources.Steps.Prelude.{arith}
-use Rattle.scenario_laws.proofs.OrderLaw.{stays_in_order}
+use Rattle.scenario_laws.proofs.StartOrder.{stays_in_order}
 use Rattle.scenario_laws.proofs.history_laws.steps_keep_order.Goals as goal
 
 pub returns : goal.returns

@@ -1,5 +1,5 @@
 use Rattle.replay_steps.proofs.Prelude.{sym, ◌∙◌}
-use Rattle.replay_steps.proofs.HeardStreams.{unlost_count}
+use Rattle.replay_steps.proofs.Airing.{unlost_count}
 use Rattle.replay_steps.proofs.heard_event.HeardEventStreamEvent.count.Goals as goal
 
 pub returns : goal.returns

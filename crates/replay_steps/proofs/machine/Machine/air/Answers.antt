@@ -1,5 +1,5 @@
-use Rattle.replay_steps.proofs.Prelude.{refl, OnAir, Air}
-use Rattle.replay_steps.proofs.Airing.{air_brings, air_fails, air_meets, reach_fails}
+use Rattle.replay_steps.proofs.Prelude.{arith, refl, OnAir, Air}
+use Rattle.replay_steps.proofs.Airing.{air_brings, air_meets, reach_fails}
 use Rattle.replay_steps.proofs.machine.Machine.air.Goals as goal
 
 pub returns-in-Err : goal.returns-in-Err
@@ -7,9 +7,7 @@ returns-in-Err c boxes version steps stands e =
     reach_fails boxes version c.args.sink steps (Air c.args.sink c.args.lose) c.args.self.now c.in-Err.stop stands (air_brings c.args.sink c.args.lose) e (c.in-Err.ensures steps stands)
 
 pub returns-in_default : goal.returns-in_default
-returns-in_default c boxes version steps stands e =
-    let reach = c.in-Ok.ensures steps stands in
-    (air_fails boxes version c.args.sink c.args.lose steps c.in-Ok.grid e reach (c.in_default.ensures.last steps stands.sources reach.0), stands)
+returns-in_default c boxes version steps stands e = grind (arith, c.in-Ok.ensures steps stands)
 
 pub returns : goal.returns
 returns c boxes version steps stands e =

@@ -1,24 +1,20 @@
-use Rattle.replay_steps.proofs.Prelude.{length, refl, sym, ◌∙◌, source_at, histories_of}
-use Rattle.replay_steps.proofs.SinkLines.{announce_early, announce_fails, announce_meets, announce_nowhere}
+use Rattle.replay_steps.proofs.Prelude.{arith, refl, sym, source_at, histories_of}
+use Rattle.replay_steps.proofs.SinkLines.{announce_meets}
 use Rattle.replay_steps.proofs.machine.Machine.announce.Goals as goal
 
 pub returns-then-not-is_sending : goal.returns-then-not-is_sending
-returns-then-not-is_sending c starts version steps stands e =
-    (announce_early (length starts) version c.args.sink steps e (sym (c.is_sending.ensures steps stands.sources) ∙ c.if-not-is_sending.true), stands, refl)
+returns-then-not-is_sending c starts version steps stands e = grind (arith, c.is_sending.ensures steps stands.sources)
 
 pub returns-then-not-lives : goal.returns-then-not-lives
-returns-then-not-lives c starts version steps stands e = (
-  announce_nowhere (length starts) version c.args.sink steps e (sym (c.is_sending.ensures steps stands.sources) ∙ c.if-not-is_sending.false)
-      (sym (c.lives.ensures (histories_of steps) stands.sinks) ∙ c.if-not-lives.true),
-  stands,
-  refl,
-)
+returns-then-not-lives c starts version steps stands e =
+    grind (arith, c.is_sending.ensures steps stands.sources, c.lives.ensures (histories_of steps) stands.sinks)
 
 pub returns-in-Err : goal.returns-in-Err
 returns-in-Err c starts version steps stands e =
-    announce_fails starts version c.args.sink steps c.args.self.now c.args.text.now c.in-Err.stop stands e
-    (sym (c.is_sending.ensures steps stands.sources) ∙ c.if-not-is_sending.false)
-    (sym (c.lives.ensures (histories_of steps) stands.sinks) ∙ c.if-not-lives.false) (c.in-Err.ensures.announces steps stands.sources)
+    let sends = c.is_sending.ensures steps stands.sources in
+    let lives = c.lives.ensures (histories_of steps) stands.sinks in
+    let none = c.in-Err.ensures.announces steps stands.sources in
+    grind arith
 
 pub returns : goal.returns
 returns c starts version steps stands e =

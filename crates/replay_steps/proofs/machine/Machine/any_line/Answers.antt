@@ -1,5 +1,5 @@
-use Rattle.replay_steps.proofs.Prelude.{Ok, refl, ◌∙◌, ap, steps_of, version_at, airs_of}
-use Rattle.replay_steps.proofs.LineLaws.{line_meets, lines_beside, misfit_meets, none_meets, version_said}
+use Rattle.replay_steps.proofs.Prelude.{arith, Ok, refl, ◌∙◌, ap, version_at}
+use Rattle.replay_steps.proofs.LineLaws.{line_meets, lines_beside, none_meets, version_said}
 use Rattle.replay_steps.proofs.StepLaws.{stands_beside}
 use Rattle.replay_steps.proofs.machine.Machine.any_line.Goals as goal
 
@@ -11,17 +11,10 @@ returns-in-Ok-None-clause-meets g c starts lines stand =
 
 pub returns-in-Err-BadLine-clause-meets : goal.returns-in-Err-BadLine-clause-meets
 returns-in-Err-BadLine-clause-meets g c starts lines stand =
-    misfit_meets starts lines c.args.line.now _ _ _ c.args.text.now _ (lines_beside starts lines _ _ _ refl refl refl refl stand)
-    (c.number-version.ensures ∙ c.version.ensures ∙ ap version_at stand.stands.stage ∙ version_said lines)
-    (rw c.in-Err-BadLine.field-0-is at c.in-Err-BadLine.ensures.reads)
+    grind (arith, c.number-version.ensures ∙ c.version.ensures ∙ ap version_at stand.stands.stage ∙ version_said lines)
 
 pub returns-in-Ok-Some-clause-meets : goal.returns-in-Ok-Some-clause-meets
-returns-in-Ok-Some-clause-meets g c starts lines stand =
-    line_meets starts lines c.args.line.now _ _ _ c.args.text.now _ _ _ _ stand.boxes
-    (c.number-version.ensures ∙ c.version.ensures ∙ ap version_at stand.stands.stage ∙ version_said lines)
-    (c.in-Ok-Some.ensures.reads ∙ ap (λ o. Ok o) c.in-Ok-Some.field-0-is)
-    (c.step.ensures.meets starts (steps_of airs_of lines) (stands_beside _ _ _ refl refl refl refl stand.stands) stand.boxes)
+returns-in-Ok-Some-clause-meets g c starts lines stand = grind (arith, line_meets, version_said, stands_beside)
 
 pub returns-in-Ok-Some-clause-unassigned : goal.returns-in-Ok-Some-clause-unassigned
-returns-in-Ok-Some-clause-unassigned g c starts lines accounts stand =
-    c.step.ensures.unassigned (steps_of airs_of lines) (stands_beside _ _ _ refl refl refl refl stand.stands)
+returns-in-Ok-Some-clause-unassigned g c starts lines accounts stand = grind arith

@@ -1,5 +1,5 @@
 use Rattle.replay_steps.proofs.Prelude.{◌∙◌, ap, refl, sym, running, stage_in, scenario_begins, Scenario}
-use Rattle.replay_steps.proofs.RelaysStay.{relays_stay}
+use Rattle.replay_steps.proofs.Stepping.{relays_stay}
 use Rattle.replay_steps.proofs.StepLaws.{begins}
 use Rattle.replay_steps.proofs.machine.Machine.begin.Goals as goal
 

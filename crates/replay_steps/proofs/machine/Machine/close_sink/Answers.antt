@@ -1,11 +1,9 @@
 use Rattle.replay_steps.proofs.Prelude.{Ok, map, relay_of, closing_of, handed_all, with_close_at, handed_of, relay_histories, arith}
-use Rattle.replay_steps.proofs.Relaying.{offers_lent, offers_stop, sink_relays, sink_stops}
+use Rattle.replay_steps.proofs.Between.{offers_lent, offers_stop, sink_relays}
 use Rattle.replay_steps.proofs.machine.Machine.close_sink.Goals as goal
 
 pub returns-in-Err-clause-closes : goal.returns-in-Err-clause-closes
-returns-in-Err-clause-closes g c steps past components =
-    sink_stops steps past c.args.sink c.args.event c.close_at.new.self c.args.self.now c.args.text.now c.close_at.new.text _ _ c.in-Err.stop
-    (c.in-Err.ensures.closes past components.sinks)
+returns-in-Err-clause-closes g c steps past components = grind (arith, c.in-Err.ensures.closes past components.sinks)
 
 pub returns-in-Err-offer_all-clause-closes : goal.returns-in-Err-offer_all-clause-closes
 returns-in-Err-offer_all-clause-closes g c steps past components =

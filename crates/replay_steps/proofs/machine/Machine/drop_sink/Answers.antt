@@ -1,12 +1,11 @@
-use Rattle.replay_steps.proofs.Prelude.{refl, histories_of, relay_histories}
-use Rattle.replay_steps.proofs.Ending.{drop_ends, drop_fails}
+use Rattle.replay_steps.proofs.Prelude.{arith, refl, histories_of, relay_histories}
+use Rattle.replay_steps.proofs.Ending.{drop_ends}
 use Rattle.replay_steps.proofs.RelayLaws.{dropped_relays}
 use Rattle.replay_steps.proofs.machine.Machine.drop_sink.Goals as goal
 
 pub returns-in-Err : goal.returns-in-Err
 returns-in-Err g c starts version steps stands e boxes =
-    drop_fails starts starts version c.args.sink steps c.args.self.now _ c.args.text.now c.end.new.text c.in-Err.stop stands e refl refl refl
-    (c.in-Err.ensures.answer (histories_of steps) stands.sinks) (c.in-Err.ensures.text (histories_of steps) stands.sinks)
+    grind (arith, c.in-Err.ensures.answer (histories_of steps) stands.sinks, c.in-Err.ensures.text (histories_of steps) stands.sinks)
 
 pub returns : goal.returns
 returns g c starts version steps stands e boxes =

@@ -1,6 +1,6 @@
 use Rattle.replay_steps.proofs.Prelude.{refl, sym, ◌∙◌, ap, arith, length, common_steps, UnitLine}
 use Rattle.scenario_lines.specs.Frequent.{frequent_step}
-use Rattle.replay_steps.proofs.StepLaws.{quiet_as, meets_as, tells_as}
+use Rattle.replay_steps.proofs.StepLaws.{quiet_as, meets_as}
 use Rattle.replay_steps.proofs.machine.Machine.frequent.Goals as goal
 
 pub returns-in-Unit-clause-meets : goal.returns-in-Unit-clause-meets
@@ -16,13 +16,10 @@ returns-in-Event-clause-meets g c starts version steps stands e boxes =
 
 pub returns-in-Air-clause-meets : goal.returns-in-Air-clause-meets
 returns-in-Air-clause-meets g c starts version steps stands e boxes =
-    quiet_as starts _ steps _ _ _ _ _ _ (ap (λ frequent. frequent_step frequent c.args.self.now.spare) c.in-Air.is) refl refl refl refl
-    (c.air.ensures (length starts) version steps stands e)
+    grind (arith, quiet_as, c.air.ensures (length starts) version steps stands e)
 
 pub returns-in-Announce-clause-meets : goal.returns-in-Announce-clause-meets
-returns-in-Announce-clause-meets g c starts version steps stands e boxes =
-    tells_as starts steps _ _ _ _ _ _ _ (ap (λ frequent. frequent_step frequent c.args.self.now.spare) c.in-Announce.is)
-    refl refl refl (c.announce.ensures starts version steps stands e)
+returns-in-Announce-clause-meets g c starts version steps stands e boxes = grind (arith, c.announce.ensures starts version steps stands e)
 
 pub frequent_of_sink-requires-clause-line : goal.frequent_of_sink-requires-clause-line
 frequent_of_sink-requires-clause-line g c = grind (arith, common_steps)

@@ -1,6 +1,5 @@
 use Rattle.replay_steps.proofs.Prelude.{sym, subst, arith, IsSinkLine, common_steps}
 use Rattle.scenario_text.specs.Ranges.{IsInRange}
-use Rattle.replay_steps.proofs.StepLaws.{meets_as}
 use Rattle.replay_steps.proofs.machine.Machine.frequent_of_sink.Goals as goal
 
 pub step_of_sink-step-requires : goal.step_of_sink-step-requires
@@ -14,5 +13,4 @@ sink_line-requires-clause-line c = subst IsSinkLine (sym (c.step_of_sink-step.en
 
 pub returns : goal.returns
 returns c starts accounts version steps stands e =
-    meets_as starts steps _ _ c.sink_line.new.self c.args.text.now c.sink_line.new.text accounts accounts c.sink_line.result
-    (sym (c.step_of_sink-step.ensures c.args.self.now.spare)) (c.sink_line.ensures starts accounts version steps stands e)
+    grind (arith, c.step_of_sink-step.ensures c.args.self.now.spare, c.sink_line.ensures starts accounts version steps stands e)

@@ -1,5 +1,5 @@
-use Rattle.replay_steps.proofs.Prelude.{refl, histories_of, Hear}
-use Rattle.replay_steps.proofs.Airing.{hear_brings, hear_meets, place_fails, reach_fails}
+use Rattle.replay_steps.proofs.Prelude.{arith, refl, histories_of, Hear}
+use Rattle.replay_steps.proofs.Airing.{hear_brings, hear_meets, reach_fails}
 use Rattle.replay_steps.proofs.machine.Machine.hear.Goals as goal
 
 pub returns-in-Err : goal.returns-in-Err
@@ -16,8 +16,4 @@ returns-in-Ok-heard_at c boxes version steps stands e =
     (c.event_back-event.ensures.event steps stands.sources reach.0) refl refl refl (c.hear.ensures (histories_of steps) stands.sinks)
 
 pub returns-in-Err-heard_at : goal.returns-in-Err-heard_at
-returns-in-Err-heard_at c boxes version steps stands e =
-    let reach = c.in-Ok.ensures steps stands in
-    place_fails boxes version c.args.sink c.args.place.back c.args.place.bis c.args.place.subevent steps (Hear c.args.sink c.args.place.back c.args.place.bis c.args.place.subevent)
-    c.args.self.now c.in-Ok.field-0 c.in-Err-heard_at.stop stands
-    (hear_brings c.args.sink c.args.place.back c.args.place.bis c.args.place.subevent) refl e reach (c.in-Err-heard_at.ensures.err steps stands.sources reach.0)
+returns-in-Err-heard_at c boxes version steps stands e = grind (arith, c.in-Ok.ensures steps stands)

@@ -1,5 +1,5 @@
-use Rattle.replay_steps.proofs.Prelude.{refl, length, histories_of, Inject}
-use Rattle.replay_steps.proofs.Airing.{inject_brings, inject_fails, inject_meets, place_fails, quiet_tells, reach_fails}
+use Rattle.replay_steps.proofs.Prelude.{arith, refl, length, histories_of, Inject}
+use Rattle.replay_steps.proofs.Airing.{inject_brings, inject_meets, quiet_tells, reach_fails}
 use Rattle.replay_steps.proofs.machine.Machine.inject.Goals as goal
 
 pub returns-in-Err : goal.returns-in-Err
@@ -9,17 +9,11 @@ returns-in-Err c starts version steps stands e =
     (inject_brings c.args.sink c.args.place.back c.args.place.bis c.args.place.subevent c.args.octets.now) e (c.in-Err.ensures steps stands))
 
 pub returns-in-Err-heard_at : goal.returns-in-Err-heard_at
-returns-in-Err-heard_at c starts version steps stands e =
-    let made = Inject c.args.sink c.args.place.back c.args.place.bis c.args.place.subevent c.args.octets.now in
-    let reach = c.in-Ok.ensures steps stands in
-    quiet_tells starts steps made c.args.self.now c.args.text.now c.in-Err-heard_at.stop refl
-    (place_fails (length starts) version c.args.sink c.args.place.back c.args.place.bis c.args.place.subevent steps made c.args.self.now c.in-Ok.field-0 c.in-Err-heard_at.stop stands
-    (inject_brings c.args.sink c.args.place.back c.args.place.bis c.args.place.subevent c.args.octets.now) refl e reach (c.in-Err-heard_at.ensures.err steps stands.sources reach.0))
+returns-in-Err-heard_at c starts version steps stands e = grind (arith, c.in-Ok.ensures steps stands)
 
 pub returns-in_default : goal.returns-in_default
 returns-in_default c starts version steps stands e =
-    absurd (inject_fails starts version c.args.sink c.chosen-source.result c.event_back-event.result c.args.place.bis c.args.place.subevent c.args.octets.now steps c.hear.new.self
-    c.in-Ok.field-0 (c.in-Ok.ensures steps stands) (c.in_default.ensures (histories_of steps) stands.sinks))
+    grind (arith, c.in-Ok.ensures steps stands, c.in_default.ensures (histories_of steps) stands.sinks)
 
 pub returns-in-Ok-put_heard : goal.returns-in-Ok-put_heard
 returns-in-Ok-put_heard c starts version steps stands e =

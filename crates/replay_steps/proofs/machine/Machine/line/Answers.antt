@@ -1,4 +1,4 @@
-use Rattle.replay_steps.proofs.Prelude.{refl, sym, ◌∙◌, ap, steps_of, stage_in, said_of, version_of, airs_of}
+use Rattle.replay_steps.proofs.Prelude.{arith, refl, sym, ◌∙◌, ap, steps_of, stage_in, said_of, version_of, airs_of}
 use Rattle.replay_steps.proofs.LineLaws.{line_meets, lines_beside}
 use Rattle.replay_steps.proofs.StepLaws.{goes_on_in, meets_step, stands_beside}
 use Rattle.replay_steps.proofs.machine.Machine.line.Goals as goal
@@ -13,8 +13,7 @@ returns-in-Ok-Some-clause-meets g c starts lines stand =
     (c.frequent.ensures.meets starts _ steps (stands_beside _ _ _ refl refl refl refl stand.stands) e stand.boxes))
 
 pub returns-in-Ok-None-clause-meets : goal.returns-in-Ok-None-clause-meets
-returns-in-Ok-None-clause-meets g c starts lines stand =
-    c.any_line-in-Ok-None.ensures.meets starts lines (lines_beside _ _ _ _ _ refl refl refl refl stand)
+returns-in-Ok-None-clause-meets g c starts lines stand = grind arith
 
 pub returns-in-Ok-None-clause-unassigned : goal.returns-in-Ok-None-clause-unassigned
 returns-in-Ok-None-clause-unassigned g c starts lines accounts stand =

@@ -1,12 +1,9 @@
-use Rattle.replay_steps.proofs.Prelude.{sym, ◌∙◌, ap, BigInfo, histories_of}
-use Rattle.replay_steps.proofs.Airing.{no_sink_there}
+use Rattle.replay_steps.proofs.Prelude.{arith, refl, sym, ◌∙◌, histories_of}
 use Rattle.replay_steps.proofs.machine.Machine.reach.Goals as goal
 
 pub returns-then-not-lives : goal.returns-then-not-lives
 returns-then-not-lives c steps stands =
-    no_sink_there steps c.args.sink (c.in-Some.ensures steps stands.sources).0 (sym (c.lives.ensures (histories_of steps) stands.sinks) ∙ c.if-not-lives.true)
+    rw ((c.in-Some.ensures steps stands.sources).0, sym (c.lives.ensures (histories_of steps) stands.sinks) ∙ c.if-not-lives.true) refl
 
 pub returns : goal.returns
-returns c steps stands =
-    let group = c.in-Some.ensures steps stands.sources in
-    (group.0, (ap (λ (i : BigInfo). i.num_bis) group.1, ap (λ (i : BigInfo). i.nse) group.1), sym (c.lives.ensures (histories_of steps) stands.sinks) ∙ c.if-not-lives.false)
+returns c steps stands = grind (arith, c.lives.ensures (histories_of steps) stands.sinks, c.in-Some.ensures steps stands.sources)

@@ -1,9 +1,9 @@
 use Rattle.replay_steps.proofs.Prelude.{refl, histories_of}
-use Rattle.replay_steps.proofs.Stepping.{tuned_early, tuned_meets}
+use Rattle.replay_steps.proofs.Stepping.{tuned_meets}
 use Rattle.replay_steps.proofs.machine.Machine.tuned.Goals as goal
 
 pub returns-in_default : goal.returns-in_default
-returns-in_default c boxes version steps stands e = (tuned_early boxes version c.args.sink c.args.which steps e (c.in_default.ensures steps stands.sources), stands)
+returns-in_default c boxes version steps stands e = (rw (e, c.in_default.ensures steps stands.sources) refl, stands)
 
 pub returns : goal.returns
 returns c boxes version steps stands e =

@@ -1,11 +1,10 @@
-use Rattle.scenario_sources.proofs.Prelude.{refl, sym, ◌∙◌, chosen_steps}
+use Rattle.scenario_sources.proofs.Prelude.{refl, chosen_steps}
 use Rattle.scenario_text.specs.declared.step.Step.TheVariants.{Unit as UnitStep}
-use Rattle.scenario_sources.proofs.Lifting.{answers, chosen_read}
+use Rattle.scenario_sources.proofs.Lifting.{answers}
 use Rattle.scenario_sources.proofs.sources.Sources.give.Goals as goal
 
 pub returns : goal.returns
 returns c version steps stands =
-    let two = sym c.args.self.now.phases.ok.0 ∙ c.args.self.now.two in
-    let here = chosen_read steps c.from.result c.args.self.now c.index_mut.result.now c.from.ensures c.args.self.now.is_one two c.index_mut.ensures.value stands in
-    answers version (UnitStep c.args.bis c.args.time c.args.octets.now) steps c.from.result c.args.self.now _ c.give.new.phase c.give.result (record { line = λ s steps. refl; chooses = refl }) refl
-    c.from.ensures c.args.self.now.is_one two stands (c.give.ensures version (chosen_steps steps) here) refl refl
+    answers c.from.ensures c.index_mut.ensures.value stands _ c.give.new.phase refl refl version
+    (UnitStep c.args.bis c.args.time c.args.octets.now) c.give.result (record { line = λ s steps. refl; chooses = refl }) refl
+    (c.give.ensures version (chosen_steps steps))

@@ -1,4 +1,4 @@
-use Rattle.scenario_sources.proofs.Prelude.{sym, ◌∙◌, chosen_steps, fault_in}
+use Rattle.scenario_sources.proofs.Prelude.{chosen_steps, fault_in}
 use Rattle.scenario_text.specs.declared.step.Step.TheVariants.{Unit as UnitStep}
 use Rattle.scenario_sources.proofs.Lifting.{chosen_read}
 use Rattle.scenario_sources.proofs.Phasing.{lone_relayed}
@@ -6,7 +6,5 @@ use Rattle.scenario_sources.proofs.sources.Sources.relayed.Goals as goal
 
 pub returns : goal.returns
 returns c version steps stands =
-    let two = sym c.args.self.now.phases.ok.0 ∙ c.args.self.now.two in
     lone_relayed (fault_in version (chosen_steps steps) (UnitStep c.args.bis c.args.time c.args.octets.now)) c.relayed_in.result
-    (c.relayed_in.ensures version (chosen_steps steps)
-    (chosen_read steps c.from.result c.args.self.now c.index.result.now c.from.ensures c.args.self.now.is_one two c.index.ensures stands))
+    (c.relayed_in.ensures version (chosen_steps steps) (chosen_read c.from.ensures c.index.ensures stands))

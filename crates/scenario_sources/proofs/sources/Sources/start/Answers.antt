@@ -1,5 +1,5 @@
-use Rattle.scenario_sources.proofs.Prelude.{◌-◌, ◌<◌, length, true, refl, sym, ◌∙◌, ap, arith, chosen_of, chosen_steps, steps_of_source, stage_same, Start, is_described}
-use Rattle.scenario_sources.proofs.Lifting.{answers, chosen_read, is_single, phase_read, same_read, start_refused, start_twice, stands_as, twice_is}
+use Rattle.scenario_sources.proofs.Prelude.{length, true, refl, ◌∙◌, arith, chosen_of, chosen_steps, stage_same, Start, is_described}
+use Rattle.scenario_sources.proofs.Lifting.{answers, chosen_read, is_single, same_read, start_refused, start_twice, stands_as, twice_is}
 use Rattle.scenario_sources.proofs.sources.Sources.start.Goals as goal
 
 pub begin-requires-clause-described : goal.begin-requires-clause-described
@@ -7,32 +7,19 @@ begin-requires-clause-described c = grind (arith, length, same_read, is_describe
 
 pub returns-in-Err : goal.returns-in-Err
 returns-in-Err c version steps h a running stands =
-    let two = sym c.args.self.now.phases.ok.0 ∙ c.args.self.now.two in
     start_refused version c.args.first steps c.args.self.now _ c.in-Err.stop stands refl refl
-    (c.in-Err.ensures.ready version c.args.first (chosen_steps steps) h (chosen_read steps c.from.result c.args.self.now c.index.result.now c.from.ensures c.args.self.now.is_one two c.index.ensures stands))
+    (c.in-Err.ensures.ready version c.args.first (chosen_steps steps) h (chosen_read c.from.ensures c.index.ensures stands))
 
 pub returns-then-is_twice : goal.returns-then-is_twice
 returns-then-is_twice c version steps h a running stands =
-    let two = sym c.args.self.now.phases.ok.0 ∙ c.args.self.now.two in
-    let one = c.args.self.now.is_one in
-    let ready = c.in-Ok.ensures.ready version c.args.first (chosen_steps steps) h (chosen_read steps c.from.result c.args.self.now c.index.result.now c.from.ensures one two c.index.ensures stands) in
-    let below : 1 - c.args.self.now.chosen < 2 = omega arith in
-    let other = phase_read steps (1 - c.args.self.now.chosen) c.from-2.result c.args.self.now.phases.items c.index-2.result.now c.from-2.ensures below two c.index-2.ensures stands.phases in
-    let twice = twice_is steps c.in-Ok.ready.identity (steps_of_source (1 - c.args.self.now.chosen) steps) c.is_twice.result ready.1
-    (ap (λ n. steps_of_source (1 - n) steps) stands.chosen) (c.is_twice.ensures (steps_of_source (1 - c.args.self.now.chosen) steps) other) in
+    let ready = c.in-Ok.ensures.ready version c.args.first (chosen_steps steps) h (chosen_read c.from.ensures c.index.ensures stands) in
+    let twice = twice_is c.from-2.ensures c.index-2.ensures stands ready.1 c.is_twice.ensures in
     (start_twice version c.args.first steps c.is_twice.result ready.0.0 twice c.if-is_twice.true, stands_as steps c.args.self.now _ stands refl refl)
 
 pub returns : goal.returns
 returns c version steps h a running stands =
-    let two = sym c.args.self.now.phases.ok.0 ∙ c.args.self.now.two in
-    let one = c.args.self.now.is_one in
-    let here = chosen_read steps c.from.result c.args.self.now c.index.result.now c.from.ensures one two c.index.ensures stands in
-    let ready = c.in-Ok.ensures.ready version c.args.first (chosen_steps steps) h here in
-    let below : 1 - c.args.self.now.chosen < 2 = omega arith in
-    let other = phase_read steps (1 - c.args.self.now.chosen) c.from-2.result c.args.self.now.phases.items c.index-2.result.now c.from-2.ensures below two c.index-2.ensures stands.phases in
-    let twice = twice_is steps c.in-Ok.ready.identity (steps_of_source (1 - c.args.self.now.chosen) steps) c.is_twice.result ready.1
-    (ap (λ n. steps_of_source (1 - n) steps) stands.chosen) (c.is_twice.ensures (steps_of_source (1 - c.args.self.now.chosen) steps) other) in
-    let before = chosen_read steps c.from-3.result c.args.self.now c.index_mut.result.now c.from-3.ensures one two c.index_mut.ensures.value stands in
-    answers version (Start c.args.first) steps c.from-3.result c.args.self.now _ c.begin.new.phase c.begin.result (record { line = λ s steps. refl; chooses = refl })
-    (is_single c.args.first steps c.is_twice.result twice c.if-is_twice.false) c.from-3.ensures one two stands
-    (c.begin.ensures version (chosen_steps steps) h a (stage_same (chosen_of steps) steps ∙ running) ready.0 before) refl refl
+    let ready = c.in-Ok.ensures.ready version c.args.first (chosen_steps steps) h (chosen_read c.from.ensures c.index.ensures stands) in
+    let twice = twice_is c.from-2.ensures c.index-2.ensures stands ready.1 c.is_twice.ensures in
+    answers c.from-3.ensures c.index_mut.ensures.value stands _ c.begin.new.phase refl refl version (Start c.args.first) c.begin.result
+    (record { line = λ s steps. refl; chooses = refl }) (is_single c.args.first steps c.is_twice.result twice c.if-is_twice.false)
+    (c.begin.ensures version (chosen_steps steps) h a (stage_same (chosen_of steps) steps ∙ running) ready.0)

@@ -1,11 +1,9 @@
-use Rattle.scenario_sources.proofs.Prelude.{refl, sym, ◌∙◌, chosen_steps}
+use Rattle.scenario_sources.proofs.Prelude.{refl, chosen_steps}
 use Rattle.scenario_text.specs.declared.step.Step.TheVariants.{Stop as StopStep}
-use Rattle.scenario_sources.proofs.Lifting.{closes, chosen_read}
+use Rattle.scenario_sources.proofs.Lifting.{closes}
 use Rattle.scenario_sources.proofs.sources.Sources.stop.Goals as goal
 
 pub returns-clause-closes : goal.returns-clause-closes
 returns-clause-closes c version steps stands =
-    let two = sym c.args.self.now.phases.ok.0 ∙ c.args.self.now.two in
-    let here = chosen_read steps c.from.result c.args.self.now c.index_mut.result.now c.from.ensures c.args.self.now.is_one two c.index_mut.ensures.value stands in
-    closes version StopStep steps c.from.result c.args.self.now _ c.stop.new.phase c.stop.result (record { line = λ s steps. refl; chooses = refl }) refl
-    c.from.ensures c.args.self.now.is_one two stands (c.stop.ensures.closes version (chosen_steps steps) here) refl refl
+    closes c.from.ensures c.index_mut.ensures.value stands _ c.stop.new.phase refl refl version StopStep c.stop.result
+    (record { line = λ s steps. refl; chooses = refl }) refl (c.stop.ensures.closes version (chosen_steps steps))

@@ -1,9 +1,7 @@
-use Rattle.scenario_sources.proofs.Prelude.{sym, ◌∙◌, arith, steps_of_source}
+use Rattle.scenario_sources.proofs.Prelude.{arith, steps_of_source}
 use Rattle.scenario_sources.proofs.Lifting.{phase_read}
 use Rattle.scenario_sources.proofs.sources.Sources.taking.Goals as goal
 
 pub returns : goal.returns
 returns c steps stands =
-    let two = sym c.args.self.now.phases.ok.0 ∙ c.args.self.now.two in
-    c.taking_in.ensures (steps_of_source c.args.source steps)
-    (phase_read steps c.args.source c.from.result c.args.self.now.phases.items c.index.result.now c.from.ensures (omega arith) two c.index.ensures stands.phases)
+    c.taking_in.ensures (steps_of_source c.args.source steps) (phase_read c.from.ensures (omega arith) c.index.ensures stands)
