@@ -53,7 +53,7 @@ pub use Rattle.group_sink.specs.Calls.{Call, leave, tune, hear, tick, place}
 pub use Rattle.group_sink.specs.Handing.{bis_of, of_stream, handed_at, handed_since as ticked_since, handed_by as ticked_by_sink}
 pub use Rattle.group_sink.specs.Streams.{stay_on, is_in, stream_calls, streams_of, with_hear, with_tick, closes}
 pub use Rattle.iso_pdu.specs.Encoding.{pdu}
-pub use Rattle.iso_pdu.specs.Layout.{framed, Content, PduIs, Part, start, control, more}
+pub use Rattle.iso_pdu.specs.Layout.{framed, Content, PduIs, Part, start, more}
 pub use Rattle.isoal_base.specs.Air.{Air, pdu_at, Laid, event_at}
 pub use Rattle.isoal_base.specs.Stays.{Stay, opened, close, Call as StayCall, entry_of as entered, hear as stay_hear, heard as stay_heard}
 pub use Rattle.isoal_framed.proofs.Citable.{cases_low, opened_least}
