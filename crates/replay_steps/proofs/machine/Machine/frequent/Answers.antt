@@ -7,7 +7,8 @@ pub returns-in-Unit-clause-meets : goal.returns-in-Unit-clause-meets
 returns-in-Unit-clause-meets g c starts version steps stands e boxes =
     quiet_as starts _ steps _ _ _ _ _ _ (ap (λ frequent. frequent_step frequent c.args.self.now.spare) c.in-Unit.is
     ∙ ap (UnitLine c.in-Unit.bis c.in-Unit.time) (sym c.replace-octets.ensures.value ∙ sym c.as_slice.ensures)) refl refl refl refl
-    (quiet_beside (length starts) steps (UnitLine c.in-Unit.bis c.in-Unit.time c.as_slice.result.now) c.unit-given.new.self _ _ refl refl refl refl
+    (quiet_beside (length starts) steps
+    (UnitLine c.in-Unit.bis c.in-Unit.time c.as_slice.result.now) c.unit-given.new.self _ _ refl refl refl refl
     (c.unit-given.ensures (length starts) version steps (stands_beside _ _ _ refl refl refl refl stands) e))
 
 pub returns-in-Event-clause-meets : goal.returns-in-Event-clause-meets

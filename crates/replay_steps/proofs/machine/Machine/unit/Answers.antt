@@ -10,7 +10,8 @@ returns-then-is_relayed c boxes version steps stands e =
 pub returns-in-Err : goal.returns-in-Err
 returns-in-Err c boxes version steps stands e =
     sources_refuse boxes version steps (UnitLine c.args.bis c.args.time c.args.octets.now) c.args.self.now _ c.in-Err.stop
-    (unit_fault boxes version c.args.bis c.args.time c.args.octets.now steps e (sym (c.is_relayed.ensures steps stands) ∙ c.if-is_relayed.false))
+    (unit_fault boxes version c.args.bis c.args.time c.args.octets.now steps e
+    (sym (c.is_relayed.ensures steps stands) ∙ c.if-is_relayed.false))
     stands refl refl refl (c.in-Err.ensures version steps stands.sources)
 
 pub returns-then-chosen-ne1 : goal.returns-then-chosen-ne1
