@@ -1,5 +1,5 @@
 -- What is said of a source, looked back for: eight facts, of which all else that sinks and lines take of it are functions.
-use Rattle.scenario_laws.proofs.Known.Sources.Steps.Prelude.{arith, ℕ, ◌≡◌, ◌-◌, ◌==◌, ◌||◌, ◌∙◌, not, cond, Bool, false, List, ◌∷◌, Option, None, Some, ap, unwrap_or, option_or, Cipher, BaseLine, Step, base_lines, with_base_line, GroupLine, Phase, absent, cipher_given, cipher_of, group_given, group_of, ident_of, identity_given, is_ahead_in, is_sending_at, no_group, open_event, phase_given, setup_from, source_calls, start_given, start_of, with_source_call, Stage, chosen_of, chosen_steps, is_of_source, is_over_at, last_given, stage_after, stage_of, steps_of_source, version_at, source_at, Setup, events, next_of, Identity, SourceCall}
+use Rattle.scenario_laws.proofs.Known.Sources.Steps.Prelude.{arith, ℕ, ◌≡◌, ◌-◌, ◌==◌, ◌||◌, ◌∙◌, not, cond, Bool, List, ◌∷◌, Option, None, Some, ap, unwrap_or, option_or, Cipher, BaseLine, Step, base_lines, with_base_line, GroupLine, Phase, absent, cipher_given, cipher_of, group_given, group_of, ident_of, identity_given, is_ahead_in, is_sending_at, no_group, open_event, phase_given, setup_from, source_calls, start_given, start_of, with_source_call, Stage, chosen_of, chosen_steps, is_of_source, is_over_at, last_given, stage_after, stage_of, steps_of_source, version_at, source_at, Setup, events, next_of, Identity, SourceCall}
 use Rattle.scenario_laws.proofs.RelayedUnits.Histories.{Told, source_told}
 
 pub record Said : Type 0 where
@@ -96,7 +96,3 @@ pub said_stays : (s : ℕ) (step : Step) (made : List Step) → ((said : Said) �
     → said_of (steps_of_source s (step ∷ made)) ≡ said_of (steps_of_source s made)
 said_stays s step made nothing = cc (stays_if (is_of_source s made step) step (steps_of_source s made) (nothing (said_of (steps_of_source s made))))
 
--- that means another source
-pub said_elsewhere : (s : ℕ) (step : Step) (made : List Step) → is_of_source s made step ≡ false
-    → said_of (steps_of_source s (step ∷ made)) ≡ said_of (steps_of_source s made)
-said_elsewhere s step made other = ap (λ its. said_of (cond its (step ∷ steps_of_source s made) (steps_of_source s made))) other

@@ -44,9 +44,6 @@ none_of_four : (over misplaced out : Bool) (source : Option Refusal) → over �
     → option_or (refuse_if over Refusal.AfterEnd) (option_or (refuse_if (misplaced || out) Refusal.Order) (option_or source None)) ≡ None
 none_of_four over misplaced out source p q r s = rw (p, q, r, s) refl
 
-choosing : (airs : Airs) (boxes source : ℕ) (made : List Step) → Runs made → refusal_of airs boxes made (Step.Source source) ≡ None
-choosing airs boxes source made runs = none_of_four (is_over made) (is_unbegun made) false None runs.goes_on runs.begun refl refl
-
 pub second_false : (a b : Bool) (x y : UnitFault) (z : Option UnitFault) → cond a (Some x) (cond b (Some y) z) ≡ None → b ≡ false
 second_false a b x y z none = grind (arith, none-some)
 
@@ -60,7 +57,7 @@ short airs boxes offer made legal none = grind (arith, neither, not, length, ltb
 pub unless_legal : (airs : Airs) (boxes : ℕ) (reason : Option Refusal) (offer : Offer) (made : List Step) → AreLegal airs boxes made
     → Runs made → dropped_for airs offer made ≡ reason → AreLegal airs boxes (with_relayed_unit_unless reason offer made)
 unless_legal airs boxes reason offer made legal runs is =
-    grind (arith, choosing, short, chosen_of, chosen_below, neither, not, none_of_four, fails_not)
+    grind (arith, short, chosen_of, chosen_below, neither, not, none_of_four, fails_not)
 
 all_legal : (airs : Airs) (boxes : ℕ) (offers : List Offer) (made : List Step) → AreLegal airs boxes made → Runs made
     → AreLegal airs boxes (after_offers airs offers made)

@@ -15,12 +15,11 @@ pub use Rattle.std.specs.Prelude.{unwrap_or, slice_index_or, codes, decimal, sli
 pub use Rattle.std.proofs.lemmas.Slice.Zip.{AllZip-long}
 pub use Rattle.announcement_train.specs.BaseLines.{BaseLine, subgroups_in}
 pub use Rattle.announcement_train.specs.Layout.{IsTrain}
-pub use Rattle.announcement_train.specs.Told.{Tells, TellsInfo, numbers_of as told_numbers_of}
+pub use Rattle.announcement_train.specs.Told.{Tells, TellsInfo}
 pub use Rattle.assistant_machine.specs.Links.{view_of, waiting_of, waits_of, reads_of}
 pub use Rattle.base_grammar.specs.Draft.{IsDraft, last_of, Refuses, is_empty_last, size_fault, opened as draft_opened}
 pub use Rattle.base_grammar.specs.Layout.{endpoint, stands_in, Endpoint, AreNew, EntryFits, IsBase, SubgroupFits, is_lc3, lc3, bis_of as entry_bis_of, encoding as base_encoding}
 pub use Rattle.base_grammar.specs.declared.subgroup.Subgroup.{Subgroup}
-pub use Rattle.bass_operations.specs.Layout.{encoding}
 pub use Rattle.bcast_base.specs.Tries.{◌>>=◌}
 pub use Rattle.bcast_io.specs.TextLines.{TextLine, plain, line_of, too_long, line_limit, newline, text_limit, lines_of as text_lines, past}
 unfoldable pub use Rattle.bcast_io.specs.TextLines.{lines_from}
@@ -79,7 +78,7 @@ pub use Rattle.scenario_history.specs.Boxes.{closing_both, handed_up, SinkUnit, 
 unfoldable pub use Rattle.scenario_history.specs.Boxes.{sink_numbers}
 pub use Rattle.scenario_history.specs.Lines.{a_step, nothing, unsaid, said_by, said_in, steps_of, with_said, refusal_said, rules_of, output_said, handed_said, said_of, Said, handed_on as line_handed_on, said_after}
 pub use Rattle.scenario_history.specs.Output.{close_lines, first_lines, output_of, sums_of, unit_lines, stale_lines, sink_lines}
-pub use Rattle.scenario_history.specs.Refusals.{line_refusal, refusal_of, group_refusal, give_refusal, no_sink, is_misplaced, is_out_of_phase, source_refusal, gives_on, is_relayed, train_ends, counter_ends, air_refusal, is_out_of_order, own_refusal, sink_refusal, twin_refusal, is_relay_beyond, may_relay, relayed_or}
+pub use Rattle.scenario_history.specs.Refusals.{line_refusal, refusal_of, group_refusal, give_refusal, is_misplaced, is_out_of_phase, source_refusal, gives_on, is_relayed, train_ends, counter_ends, air_refusal, is_out_of_order, own_refusal, sink_refusal, twin_refusal, is_relay_beyond, may_relay, relayed_or}
 unfoldable pub use Rattle.scenario_history.specs.Refusals.{has_beyond}
 pub use Rattle.scenario_history.specs.RelayedUnits.{happened, answered_by, handed_of, Answered, Offer, after_offer, after_offers, closes_first, dropped_for, offered_of, offers_at, with_relayed_unit_unless, with_relayed_units, offers_before, units_on, all_answered, offered_to, answered, passed, handed_of as of_sink}
 pub use Rattle.scenario_history.specs.Relays.{has_relay, makes_relay, relay_of, had_relay, relay_given, relays_to, Route}
@@ -129,9 +128,9 @@ pub use Rattle.source_machine.specs.declared.setup.Identity.{Identity}
 pub use Rattle.sync_reference.specs.BigSync.{BigSync}
 pub use Rattle.sync_reference.specs.Reference.{anchor_of, render_of, framed_reference_of, unframed_reference_of}
 pub use Rattle.transcript_text.specs.Lines.{control_line, handed_line, refusal_line}
-pub use Rattle.transcript_text.specs.SinkLines.{Label, reply_line, sink_line, train_words, value_line, control_words}
+pub use Rattle.transcript_text.specs.SinkLines.{Label, reply_line, sink_line, value_line, control_words}
 pub use Rattle.transcript_text.specs.declared.refusal.Refusal.{Refusal}
-pub use Rattle.transcript_text.specs.declared.refusal.Refusal.TheVariants.{NoSuchBis, BaseTooLong, Order, BadLine, NoSuchSink, NotOnAir, AfterEnd, LineTooLong, NothingWaiting, RecordsTooLong}
+pub use Rattle.transcript_text.specs.declared.refusal.Refusal.TheVariants.{NoSuchBis, BaseTooLong, Order, BadLine, NotOnAir, AfterEnd, LineTooLong, NothingWaiting, RecordsTooLong}
 pub use Rattle.unit_outlets.specs.Account.{Account}
 pub use Rattle.unit_outlets.specs.Handed.{Handed, valid, lost}
 pub use Rattle.announcement_train.specs.declared.train.Train.{Train as TrainOctets}
@@ -142,6 +141,6 @@ unfoldable pub use Rattle.iso_pdu.specs.Reading.{read_of as pdu_read_of, parts_f
 pub use Rattle.isoal_base.proofs.Citable.{heard_first}
 pub use Rattle.isoal_base.specs.Hearing.{read_as}
 pub use Rattle.isoal_unframed.specs.State.Windows.{time_of as window_time_of, handed_of as window_handed_of}
-pub use Rattle.scenario_text.proofs.Citable.{nil_octets, cons_octets, text_again}
+pub use Rattle.scenario_text.proofs.Citable.{cons_octets, text_again}
 pub use Rattle.scenario_words.specs.Reading.{Left, at_place}
 unfoldable pub use Rattle.scenario_words.specs.Reading.{decimal_in}
