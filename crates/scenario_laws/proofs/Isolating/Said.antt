@@ -1,5 +1,5 @@
 -- What is said of a source, looked back for: eight facts, of which all else that sinks and lines take of it are functions.
-use Rattle.scenario_laws.proofs.Known.Sources.Steps.Prelude.{arith, ℕ, ◌≡◌, ◌-◌, ◌==◌, ◌||◌, ◌∙◌, not, cond, Bool, List, ◌∷◌, Option, None, Some, ap, unwrap_or, option_or, Cipher, BaseLine, Step, base_lines, with_base_line, GroupLine, Phase, absent, cipher_given, cipher_of, group_given, group_of, ident_of, identity_given, is_ahead_in, is_sending_at, no_group, open_event, phase_given, setup_from, source_calls, start_given, start_of, with_source_call, Stage, chosen_of, chosen_steps, is_of_source, is_over_at, last_given, stage_after, stage_of, steps_of_source, version_at, source_at, Setup, events, next_of, Identity, SourceCall}
+use Rattle.scenario_laws.proofs.Known.Sources.Steps.Prelude.{arith, ℕ, ◌≡◌, ◌∙◌, cond, Bool, List, ◌∷◌, Option, ap, option_or, Cipher, BaseLine, Step, base_lines, with_base_line, GroupLine, Phase, cipher_given, cipher_of, group_given, group_of, ident_of, identity_given, phase_given, source_calls, start_given, start_of, with_source_call, Stage, chosen_of, chosen_steps, is_of_source, last_given, stage_after, stage_of, steps_of_source, source_at, events, Identity, SourceCall}
 use Rattle.scenario_laws.proofs.RelayedUnits.Histories.{Told, source_told}
 
 pub record Said : Type 0 where
@@ -39,27 +39,10 @@ said_after step said = record {
 
 -- ---- what they fix
 
-abbrev setup_in : Said → Setup
-setup_in said = setup_from (unwrap_or said.group no_group) (unwrap_or said.start 0) (is_ahead_in (version_at said.stage))
-
-abbrev next_in : Said → ℕ
-next_in said = next_of (setup_in said) said.calls
-
-abbrev back_in : Said → ℕ → ℕ
-back_in said back = next_in said - 1 - back
-
 abbrev told_in : Said → Told
 told_in s = record { group = s.group; start = s.start; ident = s.ident; cipher = s.cipher; lines = s.lines; performed = events s.calls }
 
-abbrev open_in : Said → Option ℕ
-open_in said =
-    cond (not (is_sending_at (unwrap_or said.phase absent)) || is_over_at said.stage || (events said.calls == 0)) None
-    (Some (back_in said 0))
-
 -- ---- so two lists of steps that say the same of a source have all of it alike
-
-pub open_same : (own own' : List Step) → said_of own ≡ said_of own' → open_event own ≡ open_event own'
-open_same own own' same = ap open_in same
 
 -- ---- what is heard on the air
 

@@ -1,7 +1,7 @@
 -- What is known of sources, by one import; and all that is known of steps.
 pub mod Steps
 unfoldable pub use Steps.*
-pub use Rattle.scenario_laws.proofs.Wholes.{Lawful, Settled, bounds_in, lawful, sends, settled, true_not_false, group_in, are_accepted, checked, takes, hears, no_end, no_group_yet, next_in, next_rises, events_more, Within, within_itself, Extends, within_before, goes}
+pub use Rattle.scenario_laws.proofs.Wholes.{Lawful, Settled, bounds_in, lawful, sends, settled, true_not_false, group_in, are_accepted, checked, takes, hears, no_end, next_in, next_rises, events_more, Within, within_itself, Extends, within_before, goes}
 pub use Rattle.scenario_laws.proofs.Legals.{Legal, LinesInRange, legal, said_legally, end_ticks, event_ticks, is_its, chosen_within}
 pub use Rattle.scenario_laws.proofs.Versions.Seconds.{sink_horizon, at_second, same, second, seconds, sink_grows, has_relay_same, stale_same, chosen_same, over_same, IsLater, relays_same, ahead_stays, calls_same, horizon_grows, is_later, unbegun_same, airs_same, is_ahead, setup_same, with_ahead}
 pub use Rattle.scenario_laws.proofs.Closings.{handed_open, shown_by, shown_if, step_shown, shown_with}

@@ -1,7 +1,7 @@
 -- What is known of steps and lines, and of relayed units, by one import; and all of the prelude.
 pub mod Prelude
 unfoldable pub use Prelude.*
-pub use Rattle.scenario_laws.proofs.Isolating.Said.{open_same, said_grows, said_of as source_said_of, said_stays, source_same, Said as SourceSaid, said_after as source_said_after}
+pub use Rattle.scenario_laws.proofs.Isolating.Said.{said_grows, said_of as source_said_of, said_stays, source_same, Said as SourceSaid, said_after as source_said_after}
 pub use Rattle.scenario_laws.proofs.RelayedUnits.Routes.{nothing_else, Stands, offers_stand, route_had, had_happened, none_now, none_offered, no_offers, SaidNever, none_relayed, plain_after, says_no_relay}
 pub use Rattle.scenario_laws.proofs.Moves.{Brings, PutBy, StaysBy, announced, given_stays, plain_stays, same_if, made_alike, given_is_injected}
 pub use Rattle.scenario_laws.proofs.Isolating.Histories.{Alike, notices_same, waiting_same, alike_itself, ignores, reads_same, repeats, served_grow, told_grow}

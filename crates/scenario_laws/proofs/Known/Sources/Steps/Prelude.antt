@@ -84,7 +84,7 @@ pub use Rattle.scenario_history.specs.RelayedUnits.{happened, answered_by, hande
 pub use Rattle.scenario_history.specs.Relays.{has_relay, makes_relay, relay_of, had_relay, relay_given, relays_to, Route}
 pub use Rattle.scenario_history.specs.Runs.{Accepted, End, accepted_of, accepted_unless, end_unless, out, out_unless, Rules, refused, number_after, through, end_of}
 pub use Rattle.scenario_history.specs.Sinks.{sink_calls, source_after, source_of, with_sink_call, is_of, ticked, ticked_if, heard_on_air, reaches, positions_of, unless_lost, Position, hear_at, ticked_by, position_at, is_lost, moved, sourced, is_of as is_sink}
-pub use Rattle.scenario_history.specs.Source.{is_started, setup_of, source_calls, is_ahead_in, no_group, setup_from, stale_in, open_event, event_back, is_ciphered, is_sending, performed, takes_units, Phase, checked_info, cipher_of, group_of, identity_of, is_absent_at, is_described_at, is_sending_at, GroupLine, phase_of, start_of, was_started_at, pdu_in, absent, cipher_given, end_pdu, group_given, ident_of, identity_given, no_identity, phase_given, start_given, with_source_call, sending, is_heard as source_is_heard}
+pub use Rattle.scenario_history.specs.Source.{is_started, setup_of, source_calls, is_ahead_in, no_group, setup_from, stale_in, open_event, event_back, is_ciphered, is_sending, performed, takes_units, Phase, checked_info, cipher_of, group_of, identity_of, is_absent_at, is_described_at, is_sending_at, GroupLine, phase_of, start_of, was_started_at, pdu_in, cipher_given, end_pdu, group_given, ident_of, identity_given, no_identity, phase_given, start_given, with_source_call, sending, is_heard as source_is_heard}
 pub use Rattle.scenario_history.specs.Steps.{chosen_of, chosen_steps, steps_of_source, version_at, is_of_source, is_over, is_over_at, sinks_made, is_common, is_source_line, is_unbegun_at, stage_of, version_of, chosen_given, last_given, sinks_made_by, Stage, stage_after, unbegun, running, is_unbegun, over}
 pub use Rattle.scenario_history.specs.Transcript.{end_after, out_of, transcript_end, transcript_of, units_of, has_end, last_end_after}
 pub use Rattle.scenario_history.specs.Worlds.{calls_made, source_at, big_sync_on, the_world, announced_of}
