@@ -66,10 +66,11 @@ units_rest : (starts : List Account) (history lines : List TextLine) → (rest :
 units_rest starts history [] = ([], sym (append-nil (handed_up airs_of (steps_of airs_of history))))
 units_rest starts history (line ∷ lines) = by (refusal_at starts history line) (units_rest starts (line ∷ history) lines)
   where
-    by : (why : Option Refusal)
-        → (rest : List SinkUnit) × (handed_up airs_of (steps_of airs_of (accepted_of (rules_of airs_of starts) (line ∷ history) lines))
-        ≡ handed_up airs_of (steps_of airs_of (line ∷ history)) ++ rest) → (rest : List SinkUnit) × (handed_up airs_of (steps_of airs_of
-            (accepted_unless history why (accepted_of (rules_of airs_of starts) (line ∷ history) lines)))
+    by : (why : Option Refusal) → (rest : List SinkUnit)
+        × (handed_up airs_of (steps_of airs_of (accepted_of (rules_of airs_of starts) (line ∷ history) lines))
+        ≡ handed_up airs_of (steps_of airs_of (line ∷ history)) ++ rest)
+        → (rest : List SinkUnit)
+        × (handed_up airs_of (steps_of airs_of (accepted_unless history why (accepted_of (rules_of airs_of starts) (line ∷ history) lines)))
         ≡ handed_up airs_of (steps_of airs_of history) ++ rest)
     by (Some reason) more = ([], sym (append-nil (handed_up airs_of (steps_of airs_of history))))
     by None more = (handed_on airs_of history line ++ more.0, more.1 ∙ ap (λ us. us ++ more.0) (handed_line airs_of history line)

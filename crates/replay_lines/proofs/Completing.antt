@@ -50,11 +50,7 @@ module _ (old new : World) where
 
     no_refusal : (line : ℕ) (reason : Refusal) → DidOver airs_of (endings.Refused line reason) old new
         → transcript_end airs_of old.boxes (lines_of true text) ≡ through → ⊥
-    no_refusal line reason e is =
-        let rest = rest_of text old.left new.left e.0.text e.0.over tells e.0.read in
-        let h : refused line reason ≡ through =
-        sym (ap (λ x. transcript_end airs_of old.boxes (lines_of true x)) rest.1 ∙ e.0.ends_so true rest.0 rest.2) ∙ is in
-        cc
+    no_refusal line reason e is = grind (arith, rest_of, refused, through)
 
     room_at : (ending : Ending) → DidOver airs_of ending old new → RoomForText airs_of old.boxes text → ending ≢ endings.OutletFault
     room_at ending e room is = grind (arith, no_room_for, failed_in)

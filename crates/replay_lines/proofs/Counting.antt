@@ -1,6 +1,6 @@
 -- The counts of the boxes, by how a run ended.
 use Rattle.std.proofs.Common.{arith}
-use Rattle.replay_lines.proofs.Prelude.{◌≢◌, World, DidOver, ℕ, List, [], reverse, Option, inl, inr, ◌⊎◌, TextLine, Account, airs_of, handed_on, units_of, CountsStay, OneCounts, failed_one, none_counts, one_then, took_stay, Ending, IsCut, Broken, FaultCut, LineFails}
+use Rattle.replay_lines.proofs.Prelude.{◌≢◌, World, DidOver, ℕ, List, [], Option, inl, inr, ◌⊎◌, TextLine, Account, airs_of, handed_on, CountsStay, OneCounts, failed_one, none_counts, one_then, took_stay, Ending, IsCut, Broken, FaultCut, LineFails}
 use Rattle.replay_lines.specs.declared.ending.Ending.TheVariants as endings
 use Rattle.replay_lines.proofs.LineEndings.{box_stops}
 
@@ -18,9 +18,7 @@ stopped_one starts before after history line text told f =
 broken_one : (starts ends : List Account) (left left' kept kept' : Option (List ℕ)) → Broken airs_of starts ends left left' kept kept' → OneCounts starts ends
 broken_one starts ends left left' kept kept' e = elim (broken_counts starts ends left left' kept kept' e) [
   | inl stay ↦ none_counts starts ends stay
-  | inr failed ↦
-      one_then starts failed.accounts ends (took_stay starts failed.accounts (units_of airs_of starts (reverse failed.earlier)) failed.before)
-      (stopped_one starts failed.accounts ends failed.earlier failed.line [] failed.told failed.fails)
+  | inr failed ↦ search (one_then, took_stay, stopped_one)
 ]
 
 module _ (old new : World) where

@@ -1,5 +1,5 @@
 -- How a run of a text ends at a line, by what was run and written before it.
-use Rattle.replay_lines.proofs.Prelude.{◌≡◌, ℕ, ◌+◌, Bool, true, false, List, [], ◌∷◌, ◌++◌, length, reverse, refl, sym, ap, ◌∙◌, arith, Option, Some, length-append, inl, inr, append-nil, length-reverse, reverse-reverse, false≢true, Keeps, TextLine, lines_of, MayFollow, AppendsPrefix, AppendsShort, Appends-then, AppendsPrefix-then, AppendsPrefix-nothing, Consumes-nothing, Account, airs_of, Refusal, NoEnd, refusal_line, through, refused, out, end_of, accepted_of, brought, Accepted, out_accepted, end_accepted, accepted_accepted, is_over, is_over_at, handed_up, took_as, took_history, rules_of, said_of, steps_of, out_of, end_after, last_line_after, last_end_after, has_end, transcript_of, transcript_end, units_of, took_all, Ending, Machine, refusal_at, Done, ReadFaulted, brought_by, Broken, Ended, TextIs, RunTo, Refuses}
+use Rattle.replay_lines.proofs.Prelude.{NoEndCut, ◌≡◌, ℕ, ◌+◌, Bool, true, false, List, [], ◌∷◌, ◌++◌, length, reverse, refl, sym, ap, ◌∙◌, arith, Option, Some, length-append, inl, inr, append-nil, length-reverse, reverse-reverse, false≢true, Keeps, TextLine, lines_of, MayFollow, AppendsPrefix, AppendsShort, Appends-then, AppendsPrefix-then, AppendsPrefix-nothing, Consumes-nothing, Account, airs_of, Refusal, NoEnd, refusal_line, through, refused, out, end_of, accepted_of, brought, Accepted, out_accepted, end_accepted, accepted_accepted, is_over, is_over_at, handed_up, took_history, rules_of, said_of, steps_of, out_of, end_after, last_line_after, last_end_after, has_end, transcript_of, transcript_end, units_of, took_all, Ending, Machine, refusal_at, Done, ReadFaulted, brought_by, Broken, Ended, TextIs, RunTo, Refuses}
 use Rattle.scenario_laws.proofs.RelayedUnits.Citable.{stage_happened}
 use Rattle.replay_lines.specs.declared.ending.Ending.TheVariants as endings
 
@@ -126,37 +126,33 @@ module _ {starts : List Account} {history : List TextLine} {left left' kept mid 
     });
   }
 
+  cut_no_end : (kept' : Option (List ℕ)) → AppendsShort mid kept' (refusal_line number NoEnd)
+      → NoEndCut airs_of starts accounts left left' kept kept'
+  cut_no_end kept' f =
+      let written = Appends-then kept mid kept' (brought (rules_of airs_of starts) history) f.prefix r.written f.appended in
+      grind (arith, no_end_end, no_end_units, out_all starts history r.accepted, length-append, length-reverse,
+      took_history starts accounts history r.stands.boxes)
+
   pub ends_no_end : (kept' : Option (List ℕ)) (ending : Ending) → Refuses number NoEnd mid kept' ending
       → Ended airs_of ending starts accounts left left' kept kept'
   ends_no_end kept' endings.Memory f = broken_no_end kept' f
-  ends_no_end kept' endings.WriteFault f = (
-    broken_no_end kept' (prefix_of_short mid kept' (refusal_line number NoEnd) f),
-    inr (record {
+  ends_no_end kept' endings.WriteFault f =
+      (broken_no_end kept' (prefix_of_short mid kept' (refusal_line number NoEnd) f), inr (cut_no_end kept' f))
+  ends_no_end kept' (endings.Refused line why) f = (
+    record {
       text = t.text;
+      over = true;
       read = t.read;
-      ends_so = no_end_end ∙ ap (λ n. refused n NoEnd) (is_next ∙ ap (λ n. n + 1) (sym (ap length t.whole ∙ length-reverse history)));
-      prefix = brought (rules_of airs_of starts) history ++ f.prefix;
-      written = Appends-then kept mid kept' (brought (rules_of airs_of starts) history) f.prefix r.written f.appended;
-      not_before = omega (arith, ap length (ap (out_of airs_of starts) t.whole ∙ out_all starts history r.accepted), length-append (brought (rules_of airs_of starts) history) f.prefix);
-      boxes = took_as starts accounts _ _ (sym no_end_units) (took_history starts accounts history r.stands.boxes);
-    }),
+      no_end = λ e. refl;
+      ends_so = λ at_end more follows.
+          ap (transcript_end airs_of starts) (same_lines at_end more follows) ∙ no_end_end ∙ sym (λ i. refused (f.0 i) (f.1 i));
+      octets = brought (rules_of airs_of starts) history ++ refusal_line number NoEnd;
+      transcript = λ at_end more follows. ap (transcript_of airs_of starts) (same_lines at_end more follows) ∙ no_end_line;
+      written = Appends-then kept mid kept' (brought (rules_of airs_of starts) history) (refusal_line number NoEnd) r.written f.2;
+      units = handed_up airs_of (steps_of airs_of history);
+      handed = λ at_end more follows. ap (units_of airs_of starts) (same_lines at_end more follows) ∙ no_end_units;
+      boxes = took_history starts accounts history r.stands.boxes;
+    },
+    (λ other. absurd (other f.1)),
   )
-  ends_no_end kept' (endings.Refused line why) f =
-      (
-        record {
-          text = t.text;
-          over = true;
-          read = t.read;
-          no_end = λ e. refl;
-          ends_so = λ at_end more follows.
-              ap (transcript_end airs_of starts) (same_lines at_end more follows) ∙ no_end_end ∙ sym (λ i. refused (f.0 i) (f.1 i));
-          octets = brought (rules_of airs_of starts) history ++ refusal_line number NoEnd;
-          transcript = λ at_end more follows. ap (transcript_of airs_of starts) (same_lines at_end more follows) ∙ no_end_line;
-          written = Appends-then kept mid kept' (brought (rules_of airs_of starts) history) (refusal_line number NoEnd) r.written f.2;
-          units = handed_up airs_of (steps_of airs_of history);
-          handed = λ at_end more follows. ap (units_of airs_of starts) (same_lines at_end more follows) ∙ no_end_units;
-          boxes = took_history starts accounts history r.stands.boxes;
-        },
-        (λ other. absurd (other f.1)),
-      )
   ends_no_end kept' _ f = absurd f

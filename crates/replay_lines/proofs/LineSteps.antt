@@ -49,13 +49,11 @@ pub record Running {A : Type 0} (olds news : List A) (starts accounts : List Acc
 pub running_none : {A : Type 0} (olds : List A) (starts : List Account) (left kept : Option (List ℕ)) (reader : Reading) (machine : Machine)
     → reader ≡ record { ahead = []; part = []; taken = 0; over = false; line = None } → ((start : List Account) → LinesStand start [] machine start)
     → Running olds olds starts starts left left kept kept 1 reader machine
-running_none olds starts left kept reader machine new stands = record {
-  lines = [];
-  is_next = omega arith;
-  read = read_none left reader new;
-  run = record { accepted = tt; written = Appends-nothing kept; stands = stands starts };
-  unassigned = λ box least. refl;
-}
+running_none olds starts left kept reader machine new stands =
+    let read = read_none left reader new in
+    let stand = stands starts in
+    let written = Appends-nothing kept in
+    grind arith
 
 pub bound_none : (reader : Reading) → reader ≡ record { ahead = []; part = []; taken = 0; over = false; line = None } → 1 + lines_left reader ≤ text_limit + 2
 bound_none reader new = let P : Reading → Type 0 = λ r. 1 + lines_left r ≤ text_limit + 2 in subst P (sym new) (omega arith)

@@ -67,12 +67,7 @@ has_none row start = record { counted = tells_none start.told; shown = Appends-n
 
 pub telling_none : (row : ℕ → List ℕ → List ℕ) (left : Option (List ℕ)) (start : Listened) (reader : Reading)
     → reader ≡ record { ahead = []; part = []; taken = 0; over = false; line = None } → TellingOn row left left start start 1 reader
-telling_none row left start reader new = record {
-  lines = [];
-  is_next = omega arith;
-  read = read_none left reader new;
-  has = has_none row start;
-}
+telling_none row left start reader new = grind (arith, read_none left reader new, has_none row start)
 
 -- the next line was run
 module _ {row : ℕ → List ℕ → List ℕ} {left mid : Option (List ℕ)} {start old : Listened} {number : ℕ} {reader : Reading}

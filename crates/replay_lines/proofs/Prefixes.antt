@@ -1,6 +1,6 @@
 -- What the whole lines of a prefix of a text bring is a prefix of what all lines bring.
 use Rattle.std.proofs.Common.{arith}
-use Rattle.replay_lines.proofs.Prelude.{handed_line, handed_on, ◌≡◌, ℕ, ◌+◌, Bool, true, false, cond, List, [], ◌∷◌, ◌++◌, length, refl, sym, ap, ◌∙◌, append_assoc, Option, None, Some, append-nil, MayFollow, TextLine, lines_of, Account, Rules, out, out_unless, accepted_of, accepted_unless, brought_by, Step, SinkUnit, handed_up, rules_of, steps_of, Airs, out_of, end_after, has_end, last_line_after, transcript_of, units_of, Refusal}
+use Rattle.replay_lines.proofs.Prelude.{handed_line, handed_on, ◌≡◌, ℕ, ◌+◌, Bool, true, false, cond, List, [], ◌∷◌, ◌++◌, length, refl, sym, ap, ◌∙◌, append_assoc, Option, None, Some, append-nil, MayFollow, TextLine, lines_of, Account, Rules, out, out_unless, accepted_of, accepted_unless, brought_by, Step, SinkUnit, handed_up, rules_of, steps_of, Airs, end_after, has_end, last_line_after, transcript_of, units_of, Refusal}
 use Rattle.bcast_io.specs.TextLines.{lines_from}
 
 -- ---- lines
@@ -87,18 +87,11 @@ module _ (airs : Airs) (starts : List Account) where
       let all = lines_of true text in
       let later = lines_more 0 [] prefix rest in
       let more = out_more (rules_of airs starts) [] (lines_of false prefix) later.0 in
-      let last = last_line_after (end_after airs starts all) (has_end all) (length all + 1) in (
-        more.0 ++ last,
-        ap (λ octets. octets ++ last) (ap (λ t. out_of airs starts (lines_of true t)) whole ∙ ap (out_of airs starts) later.1 ∙ more.1)
-            ∙ append_assoc (out_of airs starts (lines_of false prefix)) more.0 last,
-      )
+      (more.0 ++ last_line_after (end_after airs starts all) (has_end all) (length all + 1), grind (arith, append_assoc))
 
   pub units_of_more : (over : Bool) (text prefix rest : List ℕ) → text ≡ prefix ++ rest → MayFollow over true rest
       → (more : List SinkUnit) × (units_of airs starts (lines_of true text) ≡ units_of airs starts (lines_of over prefix) ++ more)
   units_of_more true text prefix rest whole follows = ([], grind (arith, append-nil))
   units_of_more false text prefix rest whole follows =
       let later = lines_more 0 [] prefix rest in
-      let more = units_more [] (lines_of false prefix) later.0 in (
-        more.0,
-        ap (λ t. units_of airs starts (lines_of true t)) whole ∙ ap (units_of airs starts) later.1 ∙ more.1,
-      )
+      let more = units_more [] (lines_of false prefix) later.0 in (more.0, rw (whole, later.1) more.1)

@@ -1,5 +1,5 @@
 -- The text that a run took from its source, line by line.
-use Rattle.replay_lines.proofs.Prelude.{◌≡◌, ℕ, ◌+◌, ◌≤◌, Bool, true, false, List, [], ◌∷◌, ◌++◌, length, reverse, refl, sym, ap, ◌∙◌, append_assoc, arith, Option, None, Result, Ok, Err, length-append, append-nil, length-reverse, false≢true, false_from_ne_true, Consumes, IsAtEnd, TextLine, plain, too_long, past, lines_of, Reading, IsSound, IsPast, IsDone, BreaksOff, lines_after, LineRead, Line, LineTooLong, TextTooLong, End, Failed, Consumes-nothing, lines-nothing, lines-unended, lines-end, lines-past_all, reverse_onto, Comes, ReadsAhead, ReadsAtMost, read_limit, ReadTo, TextIs, NextIs}
+use Rattle.replay_lines.proofs.Prelude.{◌≡◌, ℕ, ◌+◌, ◌≤◌, Bool, true, false, List, [], ◌∷◌, ◌++◌, length, reverse, refl, ap, append_assoc, arith, Option, None, Result, Ok, Err, length-append, append-nil, length-reverse, false≢true, false_from_ne_true, Consumes, IsAtEnd, TextLine, plain, too_long, past, lines_of, Reading, IsSound, IsPast, IsDone, BreaksOff, lines_after, LineRead, Line, LineTooLong, TextTooLong, End, Failed, Consumes-nothing, lines-nothing, lines-unended, lines-end, lines-past_all, reverse_onto, Comes, ReadsAhead, ReadsAtMost, read_limit, ReadTo, TextIs, NextIs}
 use Rattle.std.specs.Prelude.{IfOk, OnErr}
 use Rattle.bcast_io.specs.TextLines.{lines_from}
 use Rattle.bcast_io.specs.State.Reading.{Took}
@@ -62,25 +62,13 @@ least_last taken (x ∷ xs) = omega (arith, ap length (lines-end taken (x ∷ xs
 pub read_past : (left mid left' : Option (List ℕ)) (lines : List TextLine) (old new : Reading)
     → ReadTo left mid lines old → old.over ≡ false → Took old new mid left' [] → IsPast new → IsSound new → (new.over ≡ true → IsAtEnd left')
     → Comes left left' lines past × ReadsAhead left left' (length lines + 1)
-read_past left mid left' lines old new r going t is sound end = (
-  record {
-    text = (r.passed ++ t.reads.octets) ++ new.ahead;
-    over = new.over;
-    read = record { consumed = consumed_more left mid left' lines old new [] r t; at_end = end };
-    lines = grind (arith, lines_of, append_assoc, begins_more, reverse, lines-past_all, length-append);
-  },
-  record {
-    upto = r.passed ++ t.reads.octets;
-    ahead = new.ahead;
-    consumed = consumed_more left mid left' lines old new [] r t;
-    least = sound.least;
-    within =
-        let law = begins_more left mid left' lines old new [] r going t true [] (λ over. (refl, refl)) in
-        let all : lines_of true (r.passed ++ t.reads.octets) ≡ reverse lines ++ lines_from true new.taken new.part [] =
-        ap (lines_of true) (sym (append-nil (r.passed ++ t.reads.octets))) ∙ law in
-        omega (arith, ap length all, length-append (reverse lines) (lines_from true new.taken new.part []), length-reverse lines, least_last new.taken new.part);
-  },
-)
+read_past left mid left' lines old new r going t is sound end =
+    let consumed = consumed_more left mid left' lines old new [] r t in
+    let begins = begins_more left mid left' lines old new [] r going t in
+    let least = sound.least in
+    let within : length (lines_of true (r.passed ++ t.reads.octets)) ≤ length lines + 1 =
+    grind (arith, append-nil, begins true [] (λ over. (refl, refl)), length-append, length-reverse, least_last) in
+    (grind (arith, lines_of, append_assoc, begins, reverse, lines-past_all, length-append), search)
 
 pub read_end : (left mid left' : Option (List ℕ)) (lines : List TextLine) (old new : Reading)
     → ReadTo left mid lines old → IsDone old new → Consumes mid left' [] → IsAtEnd left' → TextIs left left' lines true

@@ -140,11 +140,14 @@ before_first steps past event number d unit within are source sink =
 regroup_units : (prefix d here others : List SinkUnit) → (prefix ++ (d ++ here)) ++ others ≡ (prefix ++ d) ++ (here ++ others)
 regroup_units prefix d here others = simp append_assoc
 
-regroup_lines : (lines own here dropped others : List ℕ) → (lines ++ ((own ++ here) ++ dropped)) ++ others ≡ (lines ++ own) ++ ((here ++ dropped) ++ others)
+regroup_lines : (lines own here dropped others : List ℕ)
+    → (lines ++ ((own ++ here) ++ dropped)) ++ others ≡ (lines ++ own) ++ ((here ++ dropped) ++ others)
 regroup_lines lines own here dropped others = simp append_assoc
 
-pub first_fails : (steps : List Step) (past : Histories) (event : ℕ) (text told : List ℕ) (before after : List Account) → FirstFails steps past event text told before after
-    → CloseFails (units_below past event 8) (answered airs_of (offers_below steps past event 8) steps) (lines_below steps past event 8) text told before after
+pub first_fails : (steps : List Step) (past : Histories) (event : ℕ) (text told : List ℕ) (before after : List Account)
+    → FirstFails steps past event text told before after
+    → CloseFails (units_below past event 8) (answered airs_of (offers_below steps past event 8) steps)
+    (lines_below steps past event 8) text told before after
 first_fails steps past event text told before after f =
     let number : ℕ = f.number in
     let d : List SinkUnit = f.fails.done in
@@ -170,7 +173,8 @@ first_fails steps past event text told before after f =
       lines = f.fails.lines ∙ append_assoc text lines (unit_lines d) ∙ ap (λ l. text ++ l) (sym is);
       behind = (unit_lines (f.fails.unit ∷ f.fails.rest) ++ dropped) ++ other_lines;
       prefix = range_about (λ n. lines_at steps past n event) number f.within
-          ∙ ap (λ us. (lines ++ (us ++ dropped)) ++ other_lines) (ap unit_lines f.fails.split ∙ lines_append d (f.fails.unit ∷ f.fails.rest))
+          ∙ ap (λ us. (lines ++ (us ++ dropped)) ++ other_lines)
+          (ap unit_lines f.fails.split ∙ lines_append d (f.fails.unit ∷ f.fails.rest))
           ∙ regroup_lines lines (unit_lines d) (unit_lines (f.fails.unit ∷ f.fails.rest)) dropped other_lines
           ∙ ap (λ l. l ++ ((unit_lines (f.fails.unit ∷ f.fails.rest) ++ dropped) ++ other_lines)) (sym is);
       box = subst (λ accounts. TookAt f.fails.unit.box f.fails.octets accounts after (Err Failed)) (sym (accounts_append prefix d before)) f.fails.box;
@@ -188,7 +192,8 @@ before_second : (first d : List SinkUnit) (answers : List Answered) (unit : Sink
 before_second first d answers unit are_first are source =
     grind (arith, first_lines, cond, filter, unit_lines, second_apart, filter-append, first_left, second_kept)
 
-pub second_fails : (first us : List SinkUnit) (answers : List Answered) (text mid told : List ℕ) (before between after : List Account) → AreFrom 0 first → AreFrom 1 us
+pub second_fails : (first us : List SinkUnit) (answers : List Answered) (text mid told : List ℕ) (before between after : List Account)
+    → AreFrom 0 first → AreFrom 1 us
     → mid ≡ text ++ first_lines first answers → between ≡ accounts_after before first → BoxFails us mid told between after
     → CloseFails (first ++ us) answers (first_lines first answers ++ unit_lines us) text told before after
 second_fails first us answers text mid told before between after are_first are_second prefix accounts f =

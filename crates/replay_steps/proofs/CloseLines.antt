@@ -111,16 +111,20 @@ abbrev asks : List Step → Histories → ℕ → ℕ → List Offer
 asks steps past event m = offers_of steps past m event
 
 -- other sinks answer for themselves
-answers_other : (steps : List Step) (past : Histories) (event n start count : ℕ) (now : List Step) → ((m : ℕ) → start ≤ m → m < start + count → m ≢ n)
+answers_other : (steps : List Step) (past : Histories) (event n start count : ℕ) (now : List Step)
+    → ((m : ℕ) → start ≤ m → m < start + count → m ≢ n)
     → filter (of_sink n) (answered airs_of (flat_map (asks steps past event) (range_with_len start count)) now) ≡ []
 answers_other steps past event n start zero now other = refl
 answers_other steps past event n start (suc count) now other =
     let here : List Offer = asks steps past event start in
     let rest : List Offer = flat_map (asks steps past event) (range_with_len (start + 1) count) in
     let then : List Step = after_offers airs_of here now in
-    let less = answers_other steps past event n (start + 1) count then (λ m least below. other m (omega (arith, least)) (omega (arith, below))) in
+    let less = answers_other steps past event n (start + 1) count then
+    (λ m least below. other m (omega (arith, least)) (omega (arith, below))) in
     let its = sink_answers n start (relay_of start steps) (handed_all (closing_of start 0 event past)) now in
-    grind (arith, answered_append here rest now, filter-append (of_sink n) (answered airs_of here now) (answered airs_of rest then), ne_eqb start n (other start (omega arith) (omega arith)))
+    let apart = ne_eqb start n (other start (omega arith) (omega arith)) in
+    let both = filter-append (of_sink n) (answered airs_of here now) (answered airs_of rest then) in
+    grind (arith, answered_append here rest now)
 
 -- of what becomes of all that the sinks' relays offer the part of one
 pub answers_of : (steps : List Step) (past : Histories) (event n : ℕ) → n < 8
@@ -133,12 +137,16 @@ answers_of steps past event n below =
     let then : List Step = after_offers airs_of before steps in
     let one = answers_other steps past event n 0 n steps (λ m least less same. omega (arith, less, same)) in
     let two = sink_answers n n (relay_of n steps) (handed_all (closing_of n 0 event past)) then in
-    let three = answers_other steps past event n (n + 1) (7 - n) (after_offers airs_of own then) (λ m least less same. omega (arith, least, same)) in
-    ap (λ all. filter (of_sink n) (answered airs_of all steps)) (range_about (asks steps past event) n below ∙ append_assoc before own later)
-    ∙ ap (filter (of_sink n)) (answered_append before (own ++ later) steps ∙ ap (λ l. answered airs_of before steps ++ l) (answered_append own later then))
+    let three = answers_other steps past event n (n + 1) (7 - n) (after_offers airs_of own then)
+    (λ m least less same. omega (arith, least, same)) in
+    ap (λ all. filter (of_sink n) (answered airs_of all steps))
+    (range_about (asks steps past event) n below ∙ append_assoc before own later)
+    ∙ ap (filter (of_sink n))
+    (answered_append before (own ++ later) steps ∙ ap (λ l. answered airs_of before steps ++ l) (answered_append own later then))
     ∙ grind (
       arith,
-      filter-append (of_sink n) (answered airs_of before steps) (answered airs_of own then ++ answered airs_of later (after_offers airs_of own then)),
+      filter-append (of_sink n) (answered airs_of before steps)
+      (answered airs_of own then ++ answered airs_of later (after_offers airs_of own then)),
       filter-append (of_sink n) (answered airs_of own then) (answered airs_of later (after_offers airs_of own then)),
       append-nil (answered airs_of own then),
       eq-eqb n n refl,

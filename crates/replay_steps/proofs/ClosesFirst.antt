@@ -1,5 +1,5 @@
 -- A step that closes the open event of source 0, by what the close of each sink made of the components.
-use Rattle.replay_steps.proofs.Prelude.{ℕ, ◌≡◌, ◌==◌, cond, false, List, ◌∷◌, ◌++◌, refl, sym, ◌∙◌, ap, subst, Option, None, Some, range_with_len, Account, airs_of, Step, SinkUnit, closing, handed_by, Answered, Offer, after_offers, answered, answered_by, closes_first, offered_of, offers_at, with_relayed_units, close_lines, output_of, is_of, ticked_if, open_event, chosen_of, chosen_steps, steps_of_source, left_by_offers, flat_same, closing_of, handed_all, Histories, with_close, SinksStand, Sinks, stands_same, RelaysStand, SourcesStand, Machine, ComponentsStand, Stands, histories_of, relay_histories, lines_below, offers_below, offers_of, stage_in, arith, Bool, [], not, option_map, list_any, option_or, Refusal, after_offer, dropped_for, with_relayed_unit_unless, gives_on, source_refusal, refuse_if, relay_given, relays_to, takes_units, chosen_given, is_of_source, stage_of, version_at, version_of, Relays, Sources, lent}
+use Rattle.replay_steps.proofs.Prelude.{ℕ, ◌≡◌, ◌==◌, cond, false, List, ◌∷◌, ◌++◌, refl, sym, ◌∙◌, ap, subst, Option, None, Some, range_with_len, Account, airs_of, Step, SinkUnit, closing, handed_by, Answered, Offer, after_offers, answered, answered_by, closes_first, offered_of, offers_at, with_relayed_units, close_lines, output_of, is_of, ticked_if, open_event, chosen_of, chosen_steps, steps_of_source, left_by_offers, flat_same, closing_of, handed_all, Histories, with_close, SinksStand, Sinks, stands_same, RelaysStand, SourcesStand, Machine, ComponentsStand, Stands, histories_of, relay_histories, lines_below, offers_below, offers_of, stage_in, arith, [], not, option_map, list_any, option_or, Refusal, after_offer, dropped_for, with_relayed_unit_unless, gives_on, source_refusal, refuse_if, relay_given, relays_to, takes_units, chosen_given, is_of_source, stage_of, version_of, Relays, Sources, lent}
 use Rattle.replay_steps.proofs.CloseLines.{first_printed, lines_closed, offers_closed, offers_same, units_are, units_closed}
 use Rattle.replay_steps.proofs.Stepping.{GoesOn, minds_relays, relays_as}
 use Rattle.replay_steps.proofs.Offering.{SaySame, sources_as}
@@ -19,15 +19,8 @@ record Apart (made : Step) (late early : List Step) : Type 0 where
   same : SaySame early (made ∷ late)
   second : steps_of_source 1 early ≡ steps_of_source 1 late
 
-own_past : (made : Step) (steps : List Step) (s : ℕ) (hit : Bool) → is_of_source s steps made ≡ hit
-    → steps_of_source s (made ∷ steps) ≡ cond hit (made ∷ steps_of_source s steps) (steps_of_source s steps)
-own_past made steps s hit is = ap (λ b. cond b (made ∷ steps_of_source s steps) (steps_of_source s steps)) is
-
-not_second : (made : Step) (steps : List Step) → MeansOne made → chosen_of steps ≡ 0 → is_of_source 1 steps made ≡ false
-not_second made steps means is = means.line 1 steps ∙ ap (λ c. c == 1) is
-
 apart_first : (made : Step) (steps : List Step) → MeansOne made → chosen_of steps ≡ 0 → Apart made steps (made ∷ steps)
-apart_first made steps means is = grind (arith, version_at, own_past, not_second)
+apart_first made steps means is = grind arith
 
 dropped_same : (made : Step) (late early : List Step) (offer : Offer) → Apart made late early → dropped_for airs_of offer early ≡ dropped_for airs_of offer late
 dropped_same made late early offer apart = grind (arith, option_or, refuse_if, not, takes_units, source_refusal, airs_of)
@@ -51,7 +44,8 @@ answers_apart : (made : Step) (late early : List Step) (offers : List Offer) →
     → answered airs_of offers early ≡ answered airs_of offers late
 answers_apart made late early [] means apart = refl
 answers_apart made late early (offer ∷ offers) means apart =
-    grind (arith, answers_apart made (after_offer airs_of offer late) (after_offer airs_of offer early) offers means (apart_offer made late early offer means apart))
+    let after = apart_offer made late early offer means apart in
+    grind (arith, answers_apart made (after_offer airs_of offer late) (after_offer airs_of offer early) offers means after)
 
 -- ---- what is answered, and what the components stand for
 
@@ -157,9 +151,11 @@ sinks_behind made tail steps offers closed sinks closes is open_is stands =
     subst (λ (p : Histories). SinksStand p sinks) (sym (closes.past late))
     (grind (arith, with_close, open_event, chosen_steps, histories_of, stands_same, ticked_if, is_of))
 
-pub first_stands : (made : Step) (tail : List Step → List ℕ) (steps : List Step) (closed : Option ℕ) (old new : Machine) → ClosesOpen made tail → Stands steps old
+pub first_stands : (made : Step) (tail : List Step → List ℕ) (steps : List Step) (closed : Option ℕ) (old new : Machine)
+    → ClosesOpen made tail → Stands steps old
     → chosen_of steps ≡ 0 → closed ≡ open_event (chosen_steps steps) → new.stage ≡ old.stage
-    → ComponentsStand (after_offers airs_of (offers_closed (made ∷ steps) (histories_of steps) closed) (made ∷ steps)) (with_close 0 closed (histories_of steps)) new
+    → ComponentsStand (after_offers airs_of (offers_closed (made ∷ steps) (histories_of steps) closed) (made ∷ steps))
+    (with_close 0 closed (histories_of steps)) new
     → Stands (made ∷ with_relayed_units airs_of steps made) new
 first_stands made tail steps closed old new closes stands is open_is stage components =
     let own : closed ≡ open_event (steps_of_source 0 steps) = open_first steps closed is open_is in

@@ -34,8 +34,10 @@ second_stands : (made : Step) (tail : List Step → List ℕ) (steps : List Step
 second_stands made tail steps closed old new closes stands is open_is stage components = grind arith
 
 -- the close of such a step, by what it says
-did_as : (steps : List Step) (made : Step) (units : List SinkUnit) (answers : List Answered) (lines : List ℕ) (one other : Type 0) (text told : List ℕ) (before after : List Account)
-    (r : Result (Unit {0}) Stop) → CloseSays steps made units answers lines → (one → other) → Did units answers lines one text told before after r
+did_as : (steps : List Step) (made : Step) (units : List SinkUnit) (answers : List Answered) (lines : List ℕ) (one other : Type 0)
+    (text told : List ℕ) (before after : List Account)
+    (r : Result (Unit {0}) Stop) → CloseSays steps made units answers lines → (one → other)
+    → Did units answers lines one text told before after r
     → Did (handed_by airs_of steps made) (answered_by airs_of steps made) (close_lines airs_of steps made) other text told before after r
 did_as steps made units answers lines one other text told before after r says then d = grind arith
 
@@ -45,10 +47,13 @@ unfolding sink_numbers
 nothing_printed = refl
 
 -- what became of a close of the open event of the chosen source
-close_did : (made : Step) (tail : List Step → List ℕ) (closes : ClosesOpen made tail) (steps : List Step) (closed : Option ℕ) → closed ≡ open_event (chosen_steps steps)
-    → (source : ℕ) (old new : Machine) (text told : List ℕ) (before after : List Account) (r : Result (Unit {0}) Stop) → Stands steps old → source ≡ chosen_of steps
+close_did : (made : Step) (tail : List Step → List ℕ) (closes : ClosesOpen made tail) (steps : List Step) (closed : Option ℕ)
+    → closed ≡ open_event (chosen_steps steps)
+    → (source : ℕ) (old new : Machine) (text told : List ℕ) (before after : List Account) (r : Result (Unit {0}) Stop) → Stands steps old
+    → source ≡ chosen_of steps
     → source < 2 → new.stage ≡ old.stage → Closes (made ∷ steps) (histories_of steps) source closed new text told before after r
-    → Did (handed_by airs_of steps made) (answered_by airs_of steps made) (close_lines airs_of steps made) (Stands (made ∷ with_relayed_units airs_of steps made) new)
+    → Did (handed_by airs_of steps made) (answered_by airs_of steps made) (close_lines airs_of steps made)
+    (Stands (made ∷ with_relayed_units airs_of steps made) new)
     text told before after r
 close_did made tail closes steps closed is zero old new text told before after r stands chosen within stage m =
     did_as steps made _ _ _ _ _ text told before after r (first_says made tail steps closed closes (sym chosen) is)
@@ -61,14 +66,16 @@ close_did made tail closes steps closed is (suc zero) old new text told before a
     (ComponentsStand (made ∷ steps) (with_close 1 closed (histories_of steps)) new) text told before after r) nothing_printed
     (second_did (made ∷ steps) (histories_of steps) closed [] [] new text text told before before after r tt
     (sym (append-nil text) ∙ ap (λ l. text ++ l) (sym nothing_printed)) refl m))
-close_did made tail closes steps closed is (suc (suc s)) old new text told before after r stands chosen within stage m = absurd (omega (arith, within))
+close_did made tail closes steps closed is (suc (suc s)) old new text told before after r stands chosen within stage m =
+    absurd (omega (arith, within))
 
 -- ---- what the step prints behind its lines
 
 -- the sinks closed the event, and relays offered what they handed up
 pub record Closed (starts : List Account) (steps : List Step) (made : Step) (new : Machine) (text told : List ℕ) (before after : List Account) : Type 0 where
   pub passes : phase_line airs_of (length starts) steps made ≡ None
-  pub did : Did (handed_by airs_of steps made) (answered_by airs_of steps made) (close_lines airs_of steps made) (Stands (made ∷ with_relayed_units airs_of steps made) new)
+  pub did : Did (handed_by airs_of steps made) (answered_by airs_of steps made) (close_lines airs_of steps made)
+      (Stands (made ∷ with_relayed_units airs_of steps made) new)
       text told before after (Ok tt)
 
 pub closed_meets : (made : Step) (tail : List Step → List ℕ) (starts : List Account) (steps : List Step) (new : Machine) (text told last : List ℕ) (before after : List Account)
@@ -76,14 +83,18 @@ pub closed_meets : (made : Step) (tail : List Step → List ℕ) (starts : List 
 closed_meets made tail starts steps new text told last before after closes all lines = grind (arith, append_assoc)
 
 -- all units went to their boxes, and memory ran out as more was printed
-pub closed_wants : (made : Step) (starts : List Account) (steps : List Step) (new : Machine) (text told : List ℕ) (before after : List Account)
+pub closed_wants : (made : Step) (starts : List Account) (steps : List Step) (new : Machine) (text told : List ℕ)
+    (before after : List Account)
     → Closed starts steps made new text told before after → Meets starts steps made new text told before after (Err Memory)
-closed_wants made starts steps new text told before after all =
-    inr (all.passes, record { done = handed_by airs_of steps made; rest = []; split = sym (append-nil (handed_by airs_of steps made)); boxes = all.did.3 })
+closed_wants made starts steps new text told before after all = inr (
+  all.passes,
+  record { done = handed_by airs_of steps made; rest = []; split = sym (append-nil (handed_by airs_of steps made)); boxes = all.did.3 },
+)
 
 -- ---- the sources took the step, and then the event is closed
 
-module _ {made : Step} {tail : List Step → List ℕ} (closes : ClosesOpen made tail) {steps : List Step} {old : Machine} (stands : Stands steps old)
+module _ {made : Step} {tail : List Step → List ℕ} (closes : ClosesOpen made tail) {steps : List Step} {old : Machine}
+    (stands : Stands steps old)
     {taken : Sources} (sources : SourcesStand (made ∷ steps) taken) where
 
   components_then : ComponentsStand (made ∷ steps) (histories_of steps) (record old { sources = taken })
@@ -92,12 +103,15 @@ module _ {made : Step} {tail : List Step → List ℕ} (closes : ClosesOpen made
 
   -- the boxes that no sink took
   pub others_stay : {A : Type 0} (boxes after : List A)
-      → ((late : List Step) (past : Histories) → ComponentsStand late past (record old { sources = taken }) → UnassignedSame past boxes after)
+      → ((late : List Step) (past : Histories) → ComponentsStand late past (record old { sources = taken })
+      → UnassignedSame past boxes after)
       → (box : ℕ) → sinks_made steps ≤ box → slice_get after box ≡ slice_get boxes box
   others_stay boxes after others = unassigned_in steps boxes after (others (made ∷ steps) (histories_of steps) components_then)
 
-  module _ {version : ℕ} (e : stage_of steps ≡ running version) (passes : fault_of version steps made ≡ None) {source : ℕ} {closed : Option ℕ}
-      (opened : is_over (chosen_steps steps) ≡ false → closed ≡ open_event (chosen_steps steps)) (chosen : source ≡ chosen_of steps) (within : source < 2)
+  module _ {version : ℕ} (e : stage_of steps ≡ running version)
+      (passes : fault_of version steps made ≡ None) {source : ℕ} {closed : Option ℕ}
+      (opened : is_over (chosen_steps steps) ≡ false → closed ≡ open_event (chosen_steps steps)) (chosen : source ≡ chosen_of steps)
+      (within : source < 2)
       (starts : List Account) (new : Machine) (text told : List ℕ) (before after : List Account) where
 
     pub closed_by : new.stage ≡ old.stage
@@ -105,16 +119,21 @@ module _ {made : Step} {tail : List Step → List ℕ} (closes : ClosesOpen made
         → Closes late past source closed new text told before after (Ok tt)) → Closed starts steps made new text told before after
     closed_by stage m = record {
       passes = fault_line made tail (length starts) version steps closes e ∙ passes;
-      did = close_did made tail closes steps closed (opened (not_over (chosen_of steps) version steps e)) source old new text told before after (Ok tt) stands chosen within
+      did = close_did made tail closes steps closed (opened (not_over (chosen_of steps) version steps e)) source old new text told
+          before after (Ok tt) stands chosen within
           stage (m (made ∷ steps) (histories_of steps) components_then);
     }
 
-    pub stops_by : (there : Machine) (stop : Stop) → new.stage ≡ old.stage → ((late : List Step) (past : Histories) → ComponentsStand late past (record old { sources = taken })
-        → Closes late past source closed new text told before after (Err stop)) → Meets starts steps made there text told before after (Err stop)
+    pub stops_by : (there : Machine) (stop : Stop) → new.stage ≡ old.stage
+        → ((late : List Step) (past : Histories) → ComponentsStand late past (record old { sources = taken })
+        → Closes late past source closed new text told before after (Err stop))
+        → Meets starts steps made there text told before after (Err stop)
     stops_by there stop stage m =
-        stops_meet starts steps made there _ [] _ _ (tail steps) text told before after stop (fault_line made tail (length starts) version steps closes e ∙ passes)
+        stops_meet starts steps made there _ [] _ _ (tail steps) text told before after stop
+        (fault_line made tail (length starts) version steps closes e ∙ passes)
         (sym (append-nil (handed_by airs_of steps made))) refl (closes.output starts steps)
-        (close_did made tail closes steps closed (opened (not_over (chosen_of steps) version steps e)) source old new text told before after (Err stop) stands chosen within
+        (close_did made tail closes steps closed (opened (not_over (chosen_of steps) version steps e)) source old new text told before after
+        (Err stop) stands chosen within
         stage (m (made ∷ steps) (histories_of steps) components_then))
 
     -- a step that prints nothing behind the lines of the close
@@ -122,12 +141,15 @@ module _ {made : Step} {tail : List Step → List ℕ} (closes : ClosesOpen made
         → ((late : List Step) (past : Histories) → ComponentsStand late past (record old { sources = taken })
         → Closes late past source closed new text told before after r) → Meets starts steps made new text told before after r
     closes_meet (Ok x) none stage m =
-        closed_meets made tail starts steps new text told told before after closes (closed_by stage m) (sym (append-nil told) ∙ ap (λ l. told ++ l) (sym none))
+        closed_meets made tail starts steps new text told told before after closes (closed_by stage m)
+        (sym (append-nil told) ∙ ap (λ l. told ++ l) (sym none))
     closes_meet (Err stop) none stage m = stops_by new stop stage m
 
 -- the sources refused it
-pub step_refused : {made : Step} {tail : List Step → List ℕ} {steps : List Step} {old : Machine} (starts : List Account) (version : ℕ) (taken : Sources) (text : List ℕ)
-    (accounts : List Account) (stop : Stop) → ClosesOpen made tail → Stands steps old → stage_of steps ≡ running version → sources.Answers version steps made taken (Err stop)
+pub step_refused : {made : Step} {tail : List Step → List ℕ} {steps : List Step} {old : Machine} (starts : List Account) (version : ℕ)
+    (taken : Sources) (text : List ℕ)
+    (accounts : List Account) (stop : Stop) → ClosesOpen made tail → Stands steps old → stage_of steps ≡ running version
+    → sources.Answers version steps made taken (Err stop)
     → Meets starts steps made (record old { sources = taken }) text text accounts accounts (Err stop)
 step_refused {made} {tail} {steps} {old} starts version taken text accounts stop closes stands e c = grind arith
 

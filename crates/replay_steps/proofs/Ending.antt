@@ -78,22 +78,29 @@ abbrev end_sums : List Account → List Step → List ℕ
 end_sums starts steps = sums_of starts (handed_up airs_of steps ++ closing_both airs_of steps) steps
 
 -- a box stopped the close of source 0, or memory ran out
-pub first_stops : (starts : List Account) (version : ℕ) (steps : List Step) (first second : Option ℕ) (new : Machine) (text told : List ℕ) (before after : List Account) (stop : Stop)
+pub first_stops : (starts : List Account) (version : ℕ) (steps : List Step) (first second : Option ℕ) (new : Machine) (text told : List ℕ)
+    (before after : List Account) (stop : Stop)
     → stage_of steps ≡ running version → Opens steps first second → Closes steps (histories_of steps) 0 first new text told before after (Err stop)
     → Meets starts steps End new text told before after (Err stop)
 first_stops starts version steps first second new text told before after stop e opens c =
-    stops_meet starts steps End new _ (closing airs_of 1 steps) _ _ (unit_lines (closing airs_of 1 steps) ++ end_sums starts steps) text told before after stop
-    (end_passes (length starts) version steps e) (ap (λ us. us ++ closing airs_of 1 steps) (units_are steps first opens.one)) (end_offers steps first second opens)
+    stops_meet starts steps End new _ (closing airs_of 1 steps) _ _
+    (unit_lines (closing airs_of 1 steps) ++ end_sums starts steps) text told before after stop
+    (end_passes (length starts) version steps e) (ap (λ us. us ++ closing airs_of 1 steps) (units_are steps first opens.one))
+    (end_offers steps first second opens)
     (ap (λ l. l ++ (unit_lines (closing airs_of 1 steps) ++ end_sums starts steps)) (end_lines steps first second opens))
     (first_did steps (histories_of steps) first new text told before after (Err stop) c)
 
 -- source 0 was closed, and then the close of source 1 is called
-abbrev pub BothDid : List Step → (first second : Option ℕ) → Machine → (text told : List ℕ) → (before after : List Account) → Result (Unit {0}) Stop → Type 0
+abbrev pub BothDid : List Step → (first second : Option ℕ) → Machine → (text told : List ℕ) → (before after : List Account)
+    → Result (Unit {0}) Stop → Type 0
 BothDid steps first second new text told before after r =
-    Did (closing_both airs_of steps) (answered_by airs_of steps End) (first_lines (closing airs_of 0 steps) (answered_by airs_of steps End) ++ unit_lines (closing airs_of 1 steps))
-    (ComponentsStand (after_relays steps first) (with_close 1 second (with_close 0 first (histories_of steps))) new) text told before after r
+    Did (closing_both airs_of steps) (answered_by airs_of steps End)
+    (first_lines (closing airs_of 0 steps) (answered_by airs_of steps End) ++ unit_lines (closing airs_of 1 steps))
+    (ComponentsStand (after_relays steps first) (with_close 1 second (with_close 0 first (histories_of steps))) new)
+    text told before after r
 
-pub both_did : (steps : List Step) (first second : Option ℕ) (mid new : Machine) (text told last : List ℕ) (before between after : List Account) (r : Result (Unit {0}) Stop)
+pub both_did : (steps : List Step) (first second : Option ℕ) (mid new : Machine) (text told last : List ℕ)
+    (before between after : List Account) (r : Result (Unit {0}) Stop)
     → Opens steps first second → Closes steps (histories_of steps) 0 first mid text told before between (Ok tt)
     → ((late : List Step) (past : Histories) → ComponentsStand late past mid → Closes late past 1 second new told last between after r)
     → BothDid steps first second new text last before after r
@@ -102,20 +109,26 @@ both_did steps first second mid new text told last before between after r opens 
     let ones : List SinkUnit = closing airs_of 0 steps in
     let answers : List Answered = answered_by airs_of steps End in
     let left : Histories = with_close 0 first (histories_of steps) in
-    subst (λ us. Did (ones ++ us) answers (first_lines ones answers ++ unit_lines us) (ComponentsStand (after_relays steps first) (with_close 1 second left) new)
-    text last before after r) (second_units steps first second opens)
-    (second_did (after_relays steps first) left second ones answers new text told last before between after r (from_first steps first second opens)
-    (one.2 ∙ ap (λ l. text ++ l) (sym (end_lines steps first second opens))) (one.3 ∙ ap (accounts_after before) (sym (units_are steps first opens.one)))
+    let stands : Type 0 = ComponentsStand (after_relays steps first) (with_close 1 second left) new in
+    subst (λ us. Did (ones ++ us) answers (first_lines ones answers ++ unit_lines us) stands text last before after r) (second_units steps first second opens)
+    (second_did (after_relays steps first) left second ones answers new text told last before between after r
+    (from_first steps first second opens)
+    (one.2 ∙ ap (λ l. text ++ l) (sym (end_lines steps first second opens)))
+    (one.3 ∙ ap (accounts_after before) (sym (units_are steps first opens.one)))
     (closes (after_relays steps first) left one.1))
 
-pub second_stops : (starts : List Account) (version : ℕ) (steps : List Step) (first second : Option ℕ) (new : Machine) (text last : List ℕ) (before after : List Account) (stop : Stop)
-    → stage_of steps ≡ running version → BothDid steps first second new text last before after (Err stop) → Meets starts steps End new text last before after (Err stop)
+pub second_stops : (starts : List Account) (version : ℕ) (steps : List Step) (first second : Option ℕ) (new : Machine) (text last : List ℕ)
+    (before after : List Account) (stop : Stop)
+    → stage_of steps ≡ running version → BothDid steps first second new text last before after (Err stop)
+    → Meets starts steps End new text last before after (Err stop)
 second_stops starts version steps first second new text last before after stop e d =
     grind (arith, stops_meet, end_passes, append-nil, append_assoc)
 
 -- memory ran out as the sums were put
-pub sums_stop : (starts : List Account) (version : ℕ) (steps : List Step) (first second : Option ℕ) (new : Machine) (text told : List ℕ) (before after : List Account)
-    → stage_of steps ≡ running version → BothDid steps first second new text told before after (Ok tt) → Meets starts steps End new text told before after (Err Memory)
+pub sums_stop : (starts : List Account) (version : ℕ) (steps : List Step) (first second : Option ℕ) (new : Machine) (text told : List ℕ)
+    (before after : List Account)
+    → stage_of steps ≡ running version → BothDid steps first second new text told before after (Ok tt)
+    → Meets starts steps End new text told before after (Err Memory)
 sums_stop starts version steps first second new text told before after e d = grind (arith, end_passes, append-nil)
 
 end_sinks : (steps late : List Step) (first second : Option ℕ) (offers : List Offer) (sinks : Sinks) → late ≡ after_offers airs_of offers steps → Opens steps first second
@@ -149,7 +162,8 @@ end_meets starts version steps first second new text told last before after e bo
     let lines : List ℕ = first_lines (closing airs_of 0 steps) (answered_by airs_of steps End) in
     let more : List ℕ = unit_lines (closing airs_of 1 steps) in
     let accounts : after ≡ accounts_after starts (handed_up airs_of steps ++ closing_both airs_of steps) =
-    c.3 ∙ ap (λ a. accounts_after a (closing_both airs_of steps)) boxes.accounts_are ∙ sym (accounts_append (handed_up airs_of steps) (closing_both airs_of steps) starts) in
+    c.3 ∙ ap (λ a. accounts_after a (closing_both airs_of steps)) boxes.accounts_are
+    ∙ sym (accounts_append (handed_up airs_of steps) (closing_both airs_of steps) starts) in
     let puts : sums_where after (λ n. box_of n steps) sink_numbers ≡ end_sums starts steps = grind (arith, sums_same starts steps (handed_up airs_of steps ++ closing_both airs_of steps) sink_numbers boxes.room) in (
       end_passes (length starts) version steps e,
       end_stands version steps first second new e opens stage c.1,

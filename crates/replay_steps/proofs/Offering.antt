@@ -1,5 +1,5 @@
 -- Units that relays offer to source 1, by what they make of the sources, of the relays and of the text.
-use Rattle.replay_steps.proofs.Prelude.{ℕ, ◌≡◌, ◌≢◌, ◌<◌, ◌≤◌, ◌+◌, List, [], ◌∷◌, ◌++◌, length, map, take, get_or, not, refl, sym, ◌∙◌, ap, subst, append_assoc, append-nil, arith, eq-eqb, ne_eqb, option_map, slice_get, Option, None, Some, Result, Ok, Err, option_or, map-append, take_all, take_more, flat_map-append, Handed, airs_of, Refusal, Stop, Refused, OutletFault, Memory, Step, Source, Answered, Offer, after_offer, after_offers, answered, offered_of, units_on, valid_on, with_relayed_unit, answer_line, source_refusal, refuse_if, Route, takes_units, chosen_of, steps_of_source, version_of, Relays, RelaysStand, handed_as, handed_of, Answers, Sources, SourcesStand, lent, relay_histories, Drops, GivesSecond, OffersMeet, answer_lines, AudioUnit, UnitLine, LentRoute, octets_of}
+use Rattle.replay_steps.proofs.Prelude.{ℕ, ◌≡◌, ◌≢◌, ◌<◌, ◌≤◌, ◌+◌, List, [], ◌∷◌, ◌++◌, length, map, take, get_or, not, refl, sym, ap, subst, append_assoc, append-nil, arith, eq-eqb, ne_eqb, option_map, slice_get, Option, None, Some, Result, Ok, Err, option_or, map-append, take_all, take_more, flat_map-append, Handed, airs_of, Refusal, Stop, Refused, OutletFault, Memory, Step, Source, Answered, Offer, after_offer, after_offers, answered, offered_of, units_on, valid_on, with_relayed_unit, answer_line, source_refusal, refuse_if, Route, takes_units, chosen_of, steps_of_source, version_of, Relays, RelaysStand, handed_as, handed_of, Answers, Sources, SourcesStand, lent, relay_histories, Drops, GivesSecond, OffersMeet, answer_lines, AudioUnit, UnitLine, LentRoute, octets_of}
 use Rattle.scenario_sinks.specs.RelayHistories as pasts
 use Rattle.scenario_sinks.specs.declared.gathered.HandedUnit.{HandedUnit}
 use Rattle.replay_steps.proofs.Stepping.{or_none}
@@ -44,10 +44,13 @@ pub none_offered : (steps : List Step) (offers : List Offer) (sources : Sources)
     → SourcesStand steps sources → RelaysStand (relay_histories steps) relays → OffersMeet steps offers sources relays text text (Ok tt)
 none_offered steps offers sources relays text none s r = grind (arith, append-nil)
 
-lost_unit : (n : ℕ) (route : Route) (bis time : ℕ) (octets : Option (List ℕ)) → octets ≡ None → offered_of n (Some route) (handed_as bis time octets ∷ []) ≡ []
+-- a unit that is lost isn't offered, nor is one of another stream
+pub lost_unit : (n : ℕ) (route : Route) (bis time : ℕ) (octets : Option (List ℕ)) → octets ≡ None
+    → offered_of n (Some route) (handed_as bis time octets ∷ []) ≡ []
 lost_unit n route bis time octets none = ap (λ o. offered_of n (Some route) (handed_as bis time o ∷ [])) none
 
-other_unit : (n : ℕ) (route : Route) (bis time : ℕ) (octets : List ℕ) → bis ≢ route.bis → offered_of n (Some route) (handed_as bis time (Some octets) ∷ []) ≡ []
+pub other_unit : (n : ℕ) (route : Route) (bis time : ℕ) (octets : List ℕ) → bis ≢ route.bis
+    → offered_of n (Some route) (handed_as bis time (Some octets) ∷ []) ≡ []
 other_unit n route bis time octets other = rw (ne_eqb bis route.bis other) refl
 
 -- the unit of a relay's stream
@@ -58,24 +61,9 @@ own_unit : (n : ℕ) (route : Route) (bis time : ℕ) (octets : List ℕ) → bi
     → offered_of n (Some route) (handed_as bis time (Some octets) ∷ []) ≡ offer_of n route time octets ∷ []
 own_unit n route bis time octets same = rw (eq-eqb bis route.bis same) refl
 
--- a unit that is lost isn't offered
-pub offers_lost : (steps : List Step) (n : ℕ) (own : Route) (unit : HandedUnit) (sources : Sources) (relays : Relays) (text : List ℕ) → octets_of unit ≡ None
-    → SourcesStand steps sources → RelaysStand (relay_histories steps) relays
-    → OffersMeet steps (offered_of n (Some own) (handed_of unit ∷ [])) sources relays text text (Ok tt)
-offers_lost steps n own unit sources relays text none s r =
-    none_offered steps (offered_of n (Some own) (handed_of unit ∷ [])) sources relays text (lost_unit n own unit.bis unit.time (octets_of unit) none) s r
-
-valid_as : (n : ℕ) (own : Route) (unit : HandedUnit) (octets : List ℕ) → octets_of unit ≡ Some octets
+pub valid_as : (n : ℕ) (own : Route) (unit : HandedUnit) (octets : List ℕ) → octets_of unit ≡ Some octets
     → offered_of n (Some own) (handed_of unit ∷ []) ≡ offered_of n (Some own) (handed_as unit.bis unit.time (Some octets) ∷ [])
 valid_as n own unit octets is = ap (λ o. offered_of n (Some own) (handed_as unit.bis unit.time o ∷ [])) is
-
--- nor is one of another stream
-pub offers_other : (steps : List Step) (n : ℕ) (own : Route) (unit : HandedUnit) (octets : List ℕ) (sources : Sources) (relays : Relays) (text : List ℕ)
-    → octets_of unit ≡ Some octets → unit.bis ≢ own.bis → SourcesStand steps sources → RelaysStand (relay_histories steps) relays
-    → OffersMeet steps (offered_of n (Some own) (handed_of unit ∷ [])) sources relays text text (Ok tt)
-offers_other steps n own unit octets sources relays text is other s r =
-    none_offered steps (offered_of n (Some own) (handed_of unit ∷ [])) sources relays text
-    (valid_as n own unit octets is ∙ other_unit n own unit.bis unit.time octets other) s r
 
 -- the relays once source 1 was given the unit
 pub routes_after_relays : (offer : Offer) (to : ℕ) (steps : List Step) (held : Relays) → offer.route.to ≡ to

@@ -10,7 +10,8 @@ use Rattle.replay_steps.proofs.Stepping.{relays_as}
 
 pub dropped_relays : (n : ℕ) (steps : List Step) (held : Relays) → RelaysStand (without n (relay_histories steps)) held → RelaysStand (relay_histories (Drop n ∷ steps)) held
 dropped_relays n steps held stands =
-    relays_as (without n (relay_histories steps)) (relay_histories (Drop n ∷ steps)) held (λ m. grind arith) (λ bis. refl) (λ bis. refl) stands
+    relays_as (without n (relay_histories steps)) (relay_histories (Drop n ∷ steps)) held (λ m. grind arith) (λ bis. refl)
+    (λ bis. refl) stands
 
 -- ---- a `unit` line
 
@@ -21,10 +22,6 @@ pub unit_fault : (boxes version bis : ℕ) (time : Option ℕ) (octets : List �
 unit_fault boxes version bis time octets steps e free = grind arith
 
 -- ---- why a `relay` line is refused
-
-pub relay_fault : (boxes version n bis to : ℕ) (steps : List Step) → stage_of steps ≡ running version
-    → phase_line airs_of boxes steps (Relay n bis to) ≡ relay_refusal steps n bis to
-relay_fault boxes version n bis to steps e = rw e refl
 
 -- ---- the relay is made
 
@@ -40,4 +37,4 @@ pub relay_meets : (boxes version n bis to : ℕ) (steps : List Step) (old new : 
     → relay_refusal steps n bis to ≡ None → new.stage ≡ old.stage → new.sources ≡ old.sources → new.sinks ≡ old.sinks
     → RelaysStand (with_relay n bis to (relay_histories steps)) new.relays → Quiet boxes steps (Relay n bis to) new (Ok tt)
 relay_meets boxes version n bis to steps old new stands e none stage same sinks held =
-    grind (arith, relay_fault, sources_stay, named_says, if_same, calls_stay, relays_as)
+    grind (arith, sources_stay, named_says, if_same, calls_stay, relays_as)

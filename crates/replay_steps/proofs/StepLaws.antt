@@ -1,13 +1,9 @@
 -- Each step by its own clause.
-use Rattle.replay_steps.proofs.Prelude.{◌≡◌, ℕ, cond, List, [], ◌∷◌, length, map, false, Result, Ok, refl, sym, ap, append-nil, length-map, Account, airs_of, Step, Scenario, is_over, running, stage_of, unbegun, handed_by, handed_up, after_offers, closes_first, offers_at, with_relayed_units, output_of, is_relayed, line_refusal, boxes_stay, Machine, Stop, Stands, BoxesStand, Quiet, Tells, Meets, StepMeets, phase_line, arith}
+use Rattle.replay_steps.proofs.Prelude.{◌≡◌, ℕ, List, [], ◌∷◌, length, map, false, Result, Ok, refl, sym, append-nil, length-map, Account, airs_of, Step, Scenario, is_over, running, stage_of, unbegun, handed_by, handed_up, closes_first, output_of, is_relayed, line_refusal, boxes_stay, Machine, Stop, Stands, BoxesStand, Quiet, Tells, Meets, StepMeets, phase_line, arith}
 
 pub boxes_counted : {A : Type 0} (f : A → Account) (items : List A) (starts : List Account) (steps : List Step) (n : ℕ) → n ≡ length items
     → BoxesStand starts steps (map f items) → n ≡ length starts
 boxes_counted f items starts steps n is boxes = grind (arith, length-map, length, boxes_stay, handed_up, airs_of, map)
-
--- before a step that closes no event of source 0 there are no relayed units
-pub no_relayed_units : (steps : List Step) (made : Step) → closes_first steps made ≡ false → with_relayed_units airs_of steps made ≡ steps
-no_relayed_units steps made alone = ap (λ hit. after_offers airs_of (cond hit (offers_at airs_of steps) []) steps) alone
 
 -- the memory that is kept for the octets of later units is no part of what the machine stands for
 pub stands_beside : (steps : List Step) (machine new : Machine) → new.stage ≡ machine.stage → new.sources ≡ machine.sources → new.sinks ≡ machine.sinks
@@ -26,7 +22,7 @@ meets_beside starts steps made machine new text told before after r stage source
 pub quiet_meets : (starts : List Account) (boxes : ℕ) (steps : List Step) (made : Step) (new : Machine) (text : List ℕ) (accounts : List Account) (r : Result (Unit {0}) Stop)
     → boxes ≡ length starts → output_of airs_of starts steps made ≡ [] → handed_by airs_of steps made ≡ [] → closes_first steps made ≡ false
     → Quiet boxes steps made new r → Meets starts steps made new text text accounts accounts r
-quiet_meets starts boxes steps made new text accounts r count output handed alone q = grind (arith, no_relayed_units, append-nil)
+quiet_meets starts boxes steps made new text accounts r count output handed alone q = grind (arith, append-nil)
 
 pub tells_meets : (starts : List Account) (steps : List Step) (made : Step) (new : Machine) (text told : List ℕ) (accounts : List Account) (r : Result (Unit {0}) Stop)
     → handed_by airs_of steps made ≡ [] → closes_first steps made ≡ false → is_relayed steps made ≡ false

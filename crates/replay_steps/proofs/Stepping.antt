@@ -86,8 +86,10 @@ brought steps made old new stands nothing on stage same minds held heard = recor
 
 -- ---- a step of the sources alone
 
-pub sources_refuse : (boxes version : ℕ) (steps : List Step) (made : Step) (old new : Machine) (stop : Stop) → phase_line airs_of boxes steps made ≡ fault_of version steps made
-    → Stands steps old → new.stage ≡ old.stage → new.sinks ≡ old.sinks → new.relays ≡ old.relays → sources.Answers version steps made new.sources (Err stop)
+pub sources_refuse : (boxes version : ℕ) (steps : List Step) (made : Step) (old new : Machine) (stop : Stop)
+    → phase_line airs_of boxes steps made ≡ fault_of version steps made
+    → Stands steps old → new.stage ≡ old.stage → new.sinks ≡ old.sinks → new.relays ≡ old.relays
+    → sources.Answers version steps made new.sources (Err stop)
     → Quiet boxes steps made new (Err stop)
 sources_refuse boxes version steps made old new stop is stands stage same held a = grind arith
 
@@ -104,7 +106,8 @@ sources_meet boxes version steps made old new (Ok x) on past stands e stage same
   },
 )
 sources_meet boxes version steps made old new (Err stop) on past stands e stage same minds held a =
-    sources_refuse boxes version steps made old new stop (as_step boxes steps made minds ∙ source_fault boxes version steps made on e) stands stage same held a
+    sources_refuse boxes version steps made old new stop
+    (as_step boxes steps made minds ∙ source_fault boxes version steps made on e) stands stage same held a
 
 -- ---- a step of the sinks alone
 
@@ -114,7 +117,8 @@ pub sinks_meet : (boxes : ℕ) (steps : List Step) (made : Step) (fault : Option
     → sinks.Tunes fault (histories_of steps) next new.sinks r → Quiet boxes steps made new r
 sinks_meet boxes steps made fault next old new (Ok x) stands is nothing on past stage same minds held a =
     (as_step boxes steps made minds ∙ is ∙ a.0, brought steps made old new stands nothing on stage same minds held (rw past a.1))
-sinks_meet boxes steps made fault next old new (Err stop) stands is nothing on past stage same minds held a = grind (arith, as_step, sinks_stand)
+sinks_meet boxes steps made fault next old new (Err stop) stands is nothing on past stage same minds held a =
+    grind (arith, as_step, sinks_stand)
 
 -- ---- sink
 
@@ -139,7 +143,8 @@ make_meets boxes version n streams slots horizon mtu steps old new r stands e is
     let fault : Option Refusal = not_made (box_of n steps) (sinks_made steps) boxes in
     let next : Histories = with_sink n (made_with streams slots horizon mtu) (histories_of steps) in
     sinks_meet boxes steps (Sink n streams slots mtu) fault next old new r stands (rw e (or_none fault)) (sink_says n streams slots mtu) refl
-    (ap (λ h. with_sink n (made_with streams slots h mtu) (histories_of steps)) (ap horizon_in (version_said steps ∙ ap version_at e) ∙ sym is)) stage same refl held
+    (ap (λ h. with_sink n (made_with streams slots h mtu) (histories_of steps))
+    (ap horizon_in (version_said steps ∙ ap version_at e) ∙ sym is)) stage same refl held
     (grind arith)
 
 -- ---- tuned

@@ -8,7 +8,6 @@ use Rattle.announcement_train.specs.PlainBase.{plain_entry, plain_subgroup}
 use Rattle.announcement_train.proofs.Citable.{plain_is_small, adds_to_last, describes_last}
 use Rattle.big_info.specs.Layout.{CipherIs}
 use Rattle.ltv_codec.proofs.Citable.{are_read}
-use Rattle.source_machine.specs.declared.fault.AnnounceFault.{AnnounceFault}
 use Rattle.scenario_laws.proofs.Wholes.{Allowed, Lawful, Settled, bounds_in, not_yet, sends, settled, true_not_false}
 use Rattle.base_grammar.specs.declared.fault.DraftFault.{DraftFault}
 
@@ -129,9 +128,6 @@ tellable airs (step ∷ own) lawful = tellable_after airs own step (tellable air
 
 -- ---- what it announces
 
-counts : (b : Bool) (fault : AnnounceFault) → cond b (Some fault) None ≡ None → b ≡ false
-counts b fault none = grind (arith, none-some)
-
 pub may_announce : (airs : Airs) (own : List Step) → Lawful airs own → not (is_sending own) ≡ false → train_ends (announce_fault (setup_of own) (source_calls own)) ≡ None
     → MayAnnounce (identity_of own).broadcast_id (base_of own) (checked_info own) (next_of (setup_of own) (source_calls own)) (next_anchor_of (setup_of own) (source_calls own))
 may_announce airs own lawful is_its none =
@@ -145,6 +141,6 @@ may_announce airs own lawful is_its none =
           (tells.draft (group_line own).delay tells.delay) (tells.full started) (tells.short started);
       widths = assumption;
       cipher = tells.cipher;
-      count = grind (arith, leb-false, next_of, setup_of, source_calls, counts, leb, announce_fault, none-some);
+      count = grind (arith, leb-false, next_of, setup_of, source_calls, leb, announce_fault, none-some);
       late = omega (arith, origin);
     }

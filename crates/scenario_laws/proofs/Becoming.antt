@@ -1,5 +1,5 @@
 -- What a step makes of the group that a sink is on: the sink stays there, or is on none then, or the step puts it on one.
-use Rattle.scenario_laws.proofs.Known.Sources.{arith, ℕ, ◌≡◌, ◌⊎◌, ◌==◌, cond, true, false, List, [], ◌∷◌, None, Some, refl, sym, ◌∙◌, ap, inl, inr, cases_Bool, tune, BigSync, Step, chosen_of, chosen_steps, Airs, sink_calls, source_of, big_sync_on, handed_by, closed_by, is_given, is_made, is_tuned, place, Legal, Permitted, PutBy, StaysBy, announced, given_stays, plain_stays, air_place, end_place, same_place, tick_if_place, next_in}
+use Rattle.scenario_laws.proofs.Known.Sources.{arith, ℕ, ◌≡◌, ◌⊎◌, ◌==◌, cond, true, false, List, [], ◌∷◌, None, Some, refl, sym, ◌∙◌, ap, inl, inr, cases_Bool, tune, BigSync, Step, chosen_of, chosen_steps, Airs, sink_calls, source_of, big_sync_on, handed_by, closed_by, is_given, is_made, is_tuned, place, Legal, Permitted, PutBy, StaysBy, announced, given_stays, plain_stays, air_place, same_place, tick_if_place, next_in}
 use Rattle.scenario_laws.proofs.Announced.{as_by_hand, Announcing}
 use Rattle.delegator_machine.specs.Groups as machine
 
@@ -87,7 +87,7 @@ becomes airs n (Step.Announce sink) earlier ungiven = elim (announced airs n sin
     }))
   ]
 ]
-becomes airs n step earlier ungiven = search (kept, same_place, air_place, tick_if_place, end_place, stayed, given_stays, plain_stays)
+becomes airs n step earlier ungiven = search (kept, same_place, air_place, tick_if_place, stayed, given_stays, plain_stays)
 
 -- the group's first event is the source's next one
 pub puts_first : Announcing → (airs : Airs) (boxes n : ℕ) (step : Step) (earlier : List Step) → Legal airs boxes earlier → Permitted airs boxes earlier step

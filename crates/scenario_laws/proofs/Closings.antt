@@ -1,5 +1,5 @@
 -- Of all that is handed up by a step, what is of one sink and one source.
-use Rattle.scenario_laws.proofs.Known.Sources.Steps.{ℕ, ◌≡◌, ◌≢◌, ◌≤◌, ◌+◌, ◌==◌, ◌&&◌, cond, eqb, not, Bool, true, false, List, [], ◌∷◌, ◌++◌, map, Option, None, Some, refl, ◌∙◌, ap, arith, inl, inr, is_some, flat_map, range_with_len, cases_eq, cond-false, cond-true, eq-eqb, ne_eqb, eqb-true, false≢true, and_right, not-false, append-nil, none-some, Handed, Call, handed_at, Step, NoSuchSink, made_of, chosen_of, steps_of_source, open_event, Airs, is_of, sink_calls, source_of, with_sink_call, SinkUnit, box_after, box_of, closing_at, closing_by, closing_in, handed_by, no_sink, of_sink, place, closing, sink_numbers, Permitted, fails_not, permitted, unmoved, air_place, end_place, same_place, tick_if_place}
+use Rattle.scenario_laws.proofs.Known.Sources.Steps.{ℕ, ◌≡◌, ◌≢◌, ◌≤◌, ◌+◌, ◌==◌, ◌&&◌, cond, eqb, Bool, true, false, List, [], ◌∷◌, ◌++◌, map, Option, None, Some, refl, ◌∙◌, ap, arith, inl, inr, is_some, flat_map, range_with_len, cases_eq, cond-false, cond-true, eq-eqb, ne_eqb, eqb-true, false≢true, and_right, append-nil, none-some, Handed, Call, handed_at, Step, made_of, chosen_of, steps_of_source, open_event, Airs, is_of, sink_calls, source_of, with_sink_call, SinkUnit, box_after, box_of, closing_at, closing_by, closing_in, handed_by, of_sink, place, closing, sink_numbers, Permitted, permitted, air_place, same_place, tick_if_place}
 use Rattle.scenario_laws.proofs.Legals.{Legal}
 use Rattle.scenario_laws.proofs.RelayedUnits.Offered.{flat_one, handed_append, not_handed, not_closing}
 
@@ -15,13 +15,10 @@ unmade n (Step.Sink sink streams slots mtu ∷ earlier) none = grind (arith, non
 unmade n (Step.Drop sink ∷ earlier) none = grind (arith, (unmade n earlier))
 unmade n (_ ∷ earlier) none = unmade n earlier none
 
-has_box : (sink : ℕ) (earlier : List Step) → no_sink sink earlier ≡ None → is_some (box_of sink earlier) ≡ true
-has_box sink earlier none = not-false (is_some (box_of sink earlier)) (fails_not (not (is_some (box_of sink earlier))) NoSuchSink none)
-
 housed_after : (airs : Airs) (boxes n : ℕ) (step : Step) (earlier : List Step) (calls : List Call) → Permitted airs boxes earlier step → (box_of n earlier ≡ None → place calls ≡ None)
     → box_after n step earlier (box_of n earlier) ≡ None → place (with_sink_call airs n step earlier calls) ≡ None
 housed_after airs boxes n step earlier calls permits before none =
-    grind (arith, has_box, same_place, air_place, tick_if_place, end_place, unmoved, unmade, none-some, is_none, eqb-true)
+    grind (arith, same_place, air_place, tick_if_place, unmade, none-some, is_none, eqb-true)
 
 housed : (airs : Airs) (boxes n : ℕ) (made : List Step) → Legal airs boxes made → box_of n made ≡ None → place (sink_calls airs n made) ≡ None
 housed airs boxes n [] legal none = refl

@@ -1,5 +1,5 @@
 -- Each PDU that a sink hears on a stream of its group is the source's own at its payload number, where none is injected.
-use Rattle.scenario_laws.proofs.Known.Sources.{ℕ, zero, suc, ◌≡◌, ◌≢◌, ◌<◌, ◌≤◌, ◌+◌, ◌*◌, ◌/◌, ◌%◌, ◌&&◌, ◌||◌, ◌==◌, cond, ltb, leb, Bool, true, false, List, [], ◌∷◌, Option, Some, refl, sym, ◌∙◌, ap, subst, arith, inl, inr, AllByRecursion, div-lt_iff_lt-mul, and_parts, eqb-true, eqb-false, ltb-false, leb-false, false≢true, mod_below, none-some, Bounds, Content, pdu, laid, payload_number, AreAirs, Airs, Setup, events, next_of, air_fault, Call, tune, hear, BigSync, stay_on, stream_calls, Step, NotOnAir, chosen_of, chosen_steps, steps_of_source, setup_of, source_calls, performed, event_back, is_started, pdu_in, open_event, MeetAirs, position_at, is_lost, is_of, hear_at, unless_lost, heard_on_air, reaches, sink_calls, source_of, positions_of, ticked_if, big_sync_on, air_refusal, injected_since, is_injected, is_tuned, SourceCall, Legal, Permitted, fails_not, maps_none, permitted, Lawful, are_accepted, bounds_in, group_in, lawful, settled, Within, within_before, StaysBy, announced, given_stays, plain_stays, StayCall}
+use Rattle.scenario_laws.proofs.Known.Sources.{ℕ, zero, suc, ◌≡◌, ◌≢◌, ◌<◌, ◌≤◌, ◌+◌, ◌*◌, ◌/◌, ◌%◌, ◌||◌, ◌==◌, cond, ltb, leb, Bool, true, false, List, [], ◌∷◌, Option, Some, refl, sym, subst, arith, inl, inr, AllByRecursion, div-lt_iff_lt-mul, eqb-true, eqb-false, ltb-false, leb-false, false≢true, mod_below, none-some, Bounds, Content, pdu, laid, payload_number, AreAirs, Airs, Setup, events, next_of, air_fault, Call, tune, hear, BigSync, stay_on, stream_calls, Step, NotOnAir, chosen_of, chosen_steps, steps_of_source, setup_of, source_calls, performed, event_back, is_started, pdu_in, open_event, MeetAirs, position_at, is_lost, is_of, hear_at, unless_lost, heard_on_air, reaches, sink_calls, source_of, positions_of, ticked_if, big_sync_on, air_refusal, injected_since, is_injected, is_tuned, SourceCall, Legal, Permitted, fails_not, maps_none, permitted, Lawful, are_accepted, bounds_in, group_in, lawful, settled, Within, within_before, StaysBy, announced, given_stays, plain_stays, StayCall}
 use Rattle.scenario_laws.proofs.Announced.{Announcing}
 use Rattle.scenario_laws.proofs.Stays.{IsOn, OnSource, begins_calls, last_not, on_before, on_source, rest_not}
 
@@ -77,10 +77,6 @@ pub record OnAir (own : List Step) (back bis subevent : ℕ) : Type 0 where
 
 -- ---- step by step
 
--- what reaches a sink is of its source
-reached : (sink n s c : ℕ) (source : Option ℕ) → ((sink == n) && is_of c source) ≡ true → source ≡ Some s → s ≡ c
-reached sink n s c source is there = cc (eqb-true s c (ap (is_of c) (sym there) ∙ (and_parts (sink == n) (is_of c source) is).1))
-
 -- what is known before a step of a sink on a group of the source
 pub record Ready (airs : Airs) (laid : ℕ → Content) (tuning : BigSync) (bis : ℕ) (own : List Step) (calls : List Call) : Type 0 where
   pub all : AllOwn laid tuning bis calls
@@ -89,7 +85,7 @@ pub record Ready (airs : Airs) (laid : ℕ → Content) (tuning : BigSync) (bis 
 
 sent_by : (airs : Airs) (laid : ℕ → Content) (tuning : BigSync) (bis s n sink : ℕ) (earlier : List Step) (calls : List Call) → source_of n earlier ≡ Some s
     → reaches sink n earlier ≡ true → Ready airs laid tuning bis (steps_of_source s earlier) calls → Ready airs laid tuning bis (chosen_steps earlier) calls
-sent_by airs laid tuning bis s n sink earlier calls there mine ready = grind (arith, laid, steps_of_source, reached, chosen_of, source_of)
+sent_by airs laid tuning bis s n sink earlier calls there mine ready = grind (arith, laid, steps_of_source, chosen_of, source_of)
 
 stays_own : (airs : Airs) (laid : ℕ → Content) (tuning : BigSync) (n bis : ℕ) (step : Step) (earlier : List Step) (injected : Bool)
     → cond (is_tuned n earlier step) (is_injected n step) (is_injected n step || injected) ≡ false → StaysBy airs n step earlier

@@ -2,7 +2,7 @@
 pub mod Sources
 unfoldable pub use Sources.*
 pub use Rattle.scenario_laws.proofs.Stays.{IsOn, begins_next, last_not, on_before, rest_not, OnSource, TunedTo, on_source, none_given, on_since_made, BeginsBy, not_in_stay, begins_to, IsThere, first_next}
-pub use Rattle.scenario_laws.proofs.Closes.{stay_within, Climb, climb_on, made_nothing, mine_in, stay_if, climbs, event_of, prefix, prefix_of, its_prefix, open_before, open_if, stay_prefix, climb_from, closes_rise, climb_up}
+pub use Rattle.scenario_laws.proofs.Closes.{stay_within, Climb, climb_on, made_nothing, mine_in, stay_if, climbs, event_of, prefix, prefix_of, its_prefix, open_before, stay_prefix, climb_from, closes_rise, climb_up}
 pub use Rattle.scenario_laws.proofs.Announced.{Announcing}
 pub use Rattle.scenario_laws.proofs.Below.{Below}
 pub use Rattle.scenario_laws.proofs.Hears.{WholeSends, its_airs, all_own, Own, SendsOwn}

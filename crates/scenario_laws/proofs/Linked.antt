@@ -1,8 +1,7 @@
 -- The history of a sink of any lines: what its links write is octets, and it has at most eight slots.
-use Rattle.scenario_laws.proofs.Known.Sources.Steps.{arith, ℕ, ◌≡◌, ◌≢◌, ◌<◌, false, List, [], ◌∷◌, Option, Some, refl, ne_eqb, TextLine, Settings, NoneNotifies, notified_and_read, is_forged, read_waits, state, view, AreOctets, made_of, steps_of, Airs, calls_made, the_world, SinkSetup as Setup, LinkCall as Call, history_happened, made_happened, zero, suc, ◌==◌, cond, Bool, AllByRecursion, append-nil, none-some, encoding, born, repeated, IsAsked, Step, IsInRange, World, history_of, calls_after, made_by, a_step, with_said, nil_octets, cons_octets, Said, said_of}
+use Rattle.scenario_laws.proofs.Known.Sources.Steps.{arith, ℕ, ◌≡◌, ◌≢◌, ◌<◌, false, List, [], ◌∷◌, Option, Some, refl, ne_eqb, TextLine, Settings, NoneNotifies, notified_and_read, is_forged, read_waits, state, view, AreOctets, made_of, steps_of, Airs, calls_made, the_world, SinkSetup as Setup, LinkCall as Call, history_happened, made_happened, zero, suc, ◌==◌, cond, Bool, AllByRecursion, append-nil, none-some, born, repeated, IsAsked, Step, IsInRange, World, history_of, calls_after, made_by, a_step, with_said, cons_octets, Said, said_of}
 use Rattle.scenario_laws.specs.Links.{AgreementLaw, Agrees}
 use Rattle.scenario_laws.proofs.Legals.{LinesInRange, InRange, in_range}
-use Rattle.bcast_base.specs.Encoding.{IsOctets}
 use Rattle.bass_operations.specs.declared.operation.Operation.TheVariants as operations
 
 -- ---- steps of lines
@@ -38,14 +37,11 @@ repeats : (count : ℕ) (call : Call) (calls : List Call) → IsAsked call → A
 repeats zero call calls is before = before
 repeats (suc count) call calls is before = (is, repeats count call calls is before)
 
-remove_octets : (source_id : ℕ) → source_id < 256 → IsOctets (encoding (operations.Remove source_id))
-remove_octets source_id small = cons_octets 5 (source_id ∷ []) (omega arith) (cons_octets source_id [] small nil_octets)
-
 octets_called : (world : World) (n : ℕ) (step : Step) (earlier : List Step) (made : Option Settings) (calls : List Call) → IsInRange step
     → AreOctets calls → AreOctets (calls_after world n step earlier made calls)
 octets_called world n (Step.Sink sink streams slots mtu) earlier made calls ranged before = octets_if (sink == n) (born mtu) calls
     (grind arith) before
-octets_called world n step earlier made calls ranged before = grind (arith, octets_if, remove_octets, repeats, cons_octets, append-nil)
+octets_called world n step earlier made calls ranged before = grind (arith, octets_if, repeats, cons_octets, append-nil)
 
 pub history_octets : (world : World) (n : ℕ) (steps : List Step) → Ranged steps → AreOctets (history_of world n steps)
 history_octets world n [] ranged = tt

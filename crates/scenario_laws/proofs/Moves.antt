@@ -56,10 +56,6 @@ made_alike n one other step = cc
 pub given_is_injected : (n : ℕ) (step : Step) → is_injected n step ≡ false → is_given n step ≡ false
 given_is_injected n _ clean = grind arith
 
--- of a sink that doesn't live
-pub unmoved : (n : ℕ) (named : Option ℕ) (step : Step) (earlier : List Step) (calls : List Call) → made_of n earlier ≡ None → moved n named step earlier calls ≡ calls
-unmoved n named step earlier calls none = grind (arith, same_if)
-
 -- a train that is given to another sink
 pub given_stays : (airs : Airs) (n sink time : ℕ) (ext adv acad : List ℕ) (earlier : List Step) → (sink == n) ≡ false → StaysBy airs n (Step.Train sink time ext adv acad) earlier
 given_stays airs n sink time ext adv acad earlier other = search arith

@@ -1,5 +1,5 @@
 -- The group that the receivers of a sink are on, before a line of the air and after it: the same.
-use Rattle.scenario_laws.proofs.Known.Sources.Steps.Prelude.{ℕ, zero, suc, ◌≡◌, cond, Bool, List, Option, refl, ◌∙◌, arith, Call, hear, Step, Airs, heard_on_air, ticked_if, unless_lost, ◌==◌, true, false, [], ◌∷◌, None, Some, sym, ap, subst, false≢true, none-some, same_Some, with_step, Snapshot, sync_to_group, train_heard, Settings, Train, BigSync, snapshot_goes_on, tune, stepped, has_group, Source, given_train, calls_at, made_of, own_train, big_sync_of, received_by, train_by, snapshot_in, sink_calls, with_sink_call, calls_made, source_at, the_world, place, link_steps_of as steps_of, moved, LinkCall}
+use Rattle.scenario_laws.proofs.Known.Sources.Steps.Prelude.{ℕ, zero, suc, ◌≡◌, cond, Bool, List, Option, refl, arith, Call, hear, Step, Airs, heard_on_air, ticked_if, unless_lost, ◌==◌, true, false, [], ◌∷◌, None, Some, sym, ap, subst, false≢true, none-some, same_Some, with_step, Snapshot, sync_to_group, train_heard, Settings, Train, BigSync, snapshot_goes_on, tune, stepped, has_group, Source, given_train, calls_at, made_of, own_train, big_sync_of, received_by, train_by, snapshot_in, sink_calls, with_sink_call, calls_made, source_at, the_world, place, link_steps_of as steps_of, moved, LinkCall}
 use Rattle.delegator_machine.proofs.Citable.{comes_on}
 
 pub same_place : (mine : Bool) (more calls : List Call) → place more ≡ place calls → place (cond mine more calls) ≡ place calls
@@ -14,10 +14,6 @@ air_place airs own lose (suc i) calls = search (lost_place, air_place airs own l
 
 pub tick_if_place : (mine : Bool) (last_open : Option ℕ) (calls : List Call) → place (ticked_if mine last_open calls) ≡ place calls
 tick_if_place mine last_open calls = grind arith
-
--- at `end`
-pub end_place : (second first : Bool) (second_open first_open : Option ℕ) (calls : List Call) → place (ticked_if second second_open (ticked_if first first_open calls)) ≡ place calls
-end_place second first second_open first_open calls = tick_if_place second second_open (ticked_if first first_open calls) ∙ tick_if_place first first_open calls
 
 -- ---- where the history of a sink says that it is on no group, its receivers are on none
 
@@ -95,7 +91,7 @@ off_after airs n (Step.Train sink time ext adv acad) earlier calls before =
     moved_off (sink == n) (source_at earlier) (Step.Train sink time ext adv acad) (made_of n earlier) (calls_made n earlier)
     (stepped (train_heard (given_train (source_at earlier) time ext adv acad)) ∷ calls_made n earlier) _ calls refl
     (λ m big_sync made_is brought. train_comes m (given_train (source_at earlier) time ext adv acad) (calls_made n earlier) big_sync brought) before
-off_after airs n step earlier calls before = search (gone_off, hear_off, air_place, tick_if_place, end_place, plain_off)
+off_after airs n step earlier calls before = search (gone_off, hear_off, air_place, tick_if_place, plain_off)
 
 pub nowhere : (airs : Airs) (n : ℕ) (made : List Step) → Nowhere (made_of n made) (calls_made n made) (sink_calls airs n made)
 nowhere airs n [] = λ m is off. absurd (none-some m is)

@@ -1,5 +1,5 @@
 -- The units law of a stay.
-use Rattle.scenario_laws.proofs.Known.{ℕ, zero, suc, ◌≡◌, ◌≤◌, ◌+◌, ◌-◌, ◌==◌, cond, ltb, Bool, false, List, [], ◌∷◌, ◌++◌, length, Option, Some, refl, sym, ◌∙◌, ap, subst, inl, inr, arith, slice_get, AllByRecursion, Contains, eq-eqb, eqb-true, ltb-false, append-nil, none-some, BigInfo, Bounds, Account, Handed, before_event, lay, lays, begun, handed, Struck, air_at, slots_of, Airs, Call, tune, hear, BigSync, of_stream, stay_on, streams_of, member_is, Step, chosen_of, chosen_steps, steps_of_source, open_event, setup_of, source_calls, MeetAirs, heard_on_air, is_of, reaches, sink_calls, source_of, positions_of, ticked, ticked_if, unless_lost, big_sync_on, SinkUnit, handed_by, steps_of, IsStayStruck, UnitsLaw, any_since, calls_on, handed_since, injected_since, is_given, is_tuned, of_sink, StreamCall, unframed_accept as accept, unframed_accepted as accepted, SourceCall, source_stream, place, ticked_since, Below, Legal, legal, maps_none, Lawful, Settled, bounds_in, lawful, no_group_yet, settled, within_itself, StaysBy, announced, given_stays, plain_stays, BeginsBy, IsOn, IsThere, OnSource, first_next, last_not, none_given, on_before, on_source, rest_not, all_own, stay_within, handed_open, shown_by, shown_with, step_shown, second_false, chosen_within, end_ticks, event_ticks, all_append, PutsBy, handed_append, one_of}
+use Rattle.scenario_laws.proofs.Known.{ℕ, zero, suc, ◌≡◌, ◌≤◌, ◌+◌, ◌-◌, ◌==◌, cond, ltb, Bool, false, List, [], ◌∷◌, ◌++◌, length, Option, Some, refl, sym, ◌∙◌, ap, subst, inl, inr, arith, slice_get, AllByRecursion, Contains, eq-eqb, eqb-true, ltb-false, append-nil, none-some, BigInfo, Bounds, Account, Handed, before_event, lay, lays, begun, handed, Struck, air_at, slots_of, Airs, Call, tune, hear, BigSync, of_stream, stay_on, streams_of, member_is, Step, chosen_of, chosen_steps, steps_of_source, open_event, setup_of, source_calls, MeetAirs, heard_on_air, is_of, reaches, sink_calls, source_of, positions_of, ticked, ticked_if, unless_lost, big_sync_on, SinkUnit, handed_by, steps_of, IsStayStruck, UnitsLaw, any_since, calls_on, handed_since, injected_since, is_given, is_tuned, of_sink, StreamCall, unframed_accept as accept, unframed_accepted as accepted, source_stream, place, ticked_since, Below, Legal, legal, maps_none, Lawful, Settled, bounds_in, lawful, settled, within_itself, StaysBy, announced, given_stays, plain_stays, BeginsBy, IsOn, IsThere, OnSource, first_next, last_not, none_given, on_before, on_source, rest_not, all_own, stay_within, handed_open, shown_by, shown_with, step_shown, second_false, chosen_within, end_ticks, event_ticks, all_append, PutsBy, handed_append, one_of}
 use Rattle.scenario_laws.proofs.FromSources.{sends_own, from_source}
 use Rattle.scenario_laws.proofs.FramedStays.{framed_law, taken_within}
 
@@ -30,17 +30,13 @@ short_units most (lay ∷ earlier) all = short_units most earlier all
 one_short : (most : ℕ) (units : List (List ℕ)) (i : ℕ) (unit : List ℕ) → AllByRecursion (λ unit. length unit ≤ most) units → slice_get units i ≡ Some unit → length unit ≤ most
 one_short most units i unit all is = one_of (λ (u : List ℕ). length u ≤ most) units i unit all is
 
-short_none : (most : ℕ) (info : BigInfo) (bis : ℕ) (calls : List SourceCall) → calls ≡ [] → Short most (source_stream info bis calls)
-short_none most info bis calls none = subst (λ all. Short most (source_stream info bis all)) (sym none) tt
-
 abbrev ShortIn : ℕ → List Step → Type 0
 ShortIn bis own = Short (setup_of own).info.max_sdu (source_stream (setup_of own).info bis (source_calls own))
 
 short_of : (airs : Airs) (bis : ℕ) (own : List Step) → Lawful airs own → ShortIn bis own
 short_of airs bis [] legal = tt
 short_of airs bis (step ∷ own) legal =
-    grind (arith, short_none, no_group_yet, maps_none, length, ltb-false, second_false, ltb, short_if, short_lays,
-    (settled airs own legal.0), (short_of airs bis own legal.0))
+    grind (arith, maps_none, length, ltb-false, second_false, ltb, short_if, short_lays, (settled airs own legal.0), (short_of airs bis own legal.0))
 
 pub slot_short : (airs : Airs) (bis : ℕ) (own : List Step) → Lawful airs own → (event slot : ℕ) (unit : List ℕ)
     → slots_of (setup_of own) (source_calls own) bis event slot ≡ Some unit → length unit ≤ (setup_of own).info.max_sdu

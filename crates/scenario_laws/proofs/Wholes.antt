@@ -1,6 +1,6 @@
 -- The steps of one source of a scenario of which no line was refused: its group stands before its start, it takes calls only
 -- behind it, and what fixes it stays.
-use Rattle.scenario_laws.proofs.Known.Sources.Steps.{ℕ, ◌≡◌, ◌≤◌, cond, Bool, true, false, List, [], ◌∷◌, ◌++◌, refl, sym, ◌∙◌, arith, append_assoc, Setup, give, events, next_of, Step, is_of_source, steps_of_source, is_started, setup_of, source_calls, Airs, SourceCall, event as perform, permitted, ◌⊎◌, ◌||◌, ◌&&◌, ◌==◌, not, Option, None, ap, subst, inl, inr, unwrap_or, cases_Bool, eqb-true, false≢true, or_parts, not-false, none-some, Group, Bounds, NoFault, FitsWidths, without_cipher, IsChecked, IsInRange, BaseTooLong, stage_same, chosen_of, is_common, is_source_line, is_unbegun_at, stage_of, version_of, checked_info, cipher_of, group_of, is_absent_at, is_described_at, is_sending, no_group, takes_units, phase_of, start_of, AreAccepted, is_base_too_long, counter_ends, group_refusal, is_misplaced, is_out_of_phase, source_refusal, refuse_if, horizon_in, first_fault, source_is_heard as is_heard, Permitted, maps_none, neither, may_be_sent}
+use Rattle.scenario_laws.proofs.Known.Sources.Steps.{ℕ, ◌≡◌, ◌≤◌, cond, Bool, true, false, List, [], ◌∷◌, ◌++◌, refl, sym, ◌∙◌, arith, append_assoc, Setup, give, events, next_of, Step, is_of_source, steps_of_source, is_started, setup_of, source_calls, Airs, SourceCall, event as perform, permitted, ◌⊎◌, ◌||◌, ◌&&◌, ◌==◌, not, Option, None, ap, subst, inl, inr, unwrap_or, cases_Bool, eqb-true, false≢true, or_parts, not-false, none-some, Group, Bounds, NoFault, FitsWidths, without_cipher, IsChecked, IsInRange, BaseTooLong, stage_same, chosen_of, is_common, is_source_line, is_unbegun_at, stage_of, version_of, checked_info, cipher_of, group_of, is_described_at, is_sending, no_group, takes_units, phase_of, start_of, AreAccepted, is_base_too_long, counter_ends, group_refusal, is_misplaced, is_out_of_phase, source_refusal, refuse_if, horizon_in, first_fault, source_is_heard as is_heard, Permitted, maps_none, neither, may_be_sent}
 use Rattle.scenario_laws.proofs.Legals.{Legal}
 use Rattle.big_info.proofs.Citable.{bounds_of, no_fault_within}
 use Rattle.source_machine.specs.declared.fault.EventFault.{EventFault}
@@ -14,9 +14,6 @@ true_not_false b holds fails = false≢true (sym fails ∙ holds)
 
 pub sends : (own : List Step) → not (is_sending own) ≡ false → is_started own ≡ true
 sends own is = grind (arith, false≢true, phase_of)
-
-pub no_group_yet : (own : List Step) → not (is_absent_at (phase_of own)) ≡ false → is_started own ≡ false
-no_group_yet own is = grind (arith, false≢true, phase_of)
 
 pub takes : (own : List Step) → not (takes_units own) ≡ false → is_started own ≡ true
 takes own is = sends own (grind arith)
@@ -78,7 +75,7 @@ begins own before is = grind (arith, cases_Bool, is_started, true_not_false, is_
 
 settled_after : (airs : Airs) (own : List Step) (step : Step) → Settled own → Allowed airs own step → Settled (step ∷ own)
 settled_after airs own (Step.Group framing origin delay iso sdu max_sdu max_pdu num_bis bn nse irc pto sub spacing phy) before allows =
-    grind (arith, false≢true, no_group_yet)
+    grind (arith, false≢true)
 settled_after airs own (Step.Start first) before allows = record {
   widths = before.widths;
   uncoded = before.uncoded;
@@ -101,7 +98,7 @@ settled airs [] legal = grind (arith, false≢true)
 settled airs (step ∷ own) legal = settled_after airs own step (settled airs own legal.0) legal.1
 
 pub setup_stays : (airs : Airs) (own : List Step) (step : Step) → Settled own → Allowed airs own step → is_started own ≡ true → setup_of (step ∷ own) ≡ setup_of own
-setup_stays airs own step is allows started = grind (arith, true_not_false, no_group_yet, not_yet, begins)
+setup_stays airs own step is allows started = grind (arith, true_not_false, not_yet, begins)
 
 -- the group of a source that was started
 abbrev pub group_in : (own : List Step) → Settled own → is_started own ≡ true → Group
@@ -126,7 +123,7 @@ no_end fault none = grind (arith, none-some)
 pub are_accepted : (airs : Airs) (own : List Step) → Lawful airs own → AreAccepted airs (setup_of own) (source_calls own)
 are_accepted airs [] legal = tt
 are_accepted airs (step ∷ own) legal =
-    grind (arith, no_group_yet, not_yet, maps_none, no_end, begins, (settled airs own legal.0), (are_accepted airs own legal.0))
+    grind (arith, not_yet, maps_none, no_end, begins, (settled airs own legal.0), (are_accepted airs own legal.0))
 
 -- ---- the steps of a source so far, as a part of all its steps: what fixes it is the same, and its calls are the first of all
 
@@ -150,8 +147,7 @@ extends_before whole own _ more = more
 within_if : (airs : Airs) (setup : Setup) (whole : List SourceCall) (own : List Step) (step : Step) (is_its : Bool) → Lawful airs own → (is_its ≡ true → Allowed airs own step)
     → Within setup whole (cond is_its (step ∷ own) own) → Within setup whole own
 within_if airs setup whole own this true legal allows within = record {
-  setup_is = λ started. sym (setup_stays airs own this (settled airs own legal) (allows refl) started) ∙ within.setup_is (grind (arith,
-  true_not_false, no_group_yet, (allows refl)));
+  setup_is = λ started. sym (setup_stays airs own this (settled airs own legal) (allows refl) started) ∙ within.setup_is (grind (arith, true_not_false, (allows refl)));
   calls = extends_before whole own this within.calls;
 }
 within_if airs setup whole own this false legal allows within = within
@@ -178,7 +174,7 @@ pub record Goes (before after : List Step) : Type 0 where
   pub setup_is : setup_of after ≡ setup_of before
 
 goes_if : (airs : Airs) (own : List Step) (step : Step) (is_its : Bool) → Lawful airs own → (is_its ≡ true → Allowed airs own step) → is_started own ≡ true → Goes own (cond is_its (step ∷ own) own)
-goes_if airs own this is_its legal allows started = grind (arith, setup_stays, settled, true_not_false, no_group_yet)
+goes_if airs own this is_its legal allows started = grind (arith, setup_stays, settled, true_not_false)
 
 pub goes : (airs : Airs) (boxes s : ℕ) (earlier : List Step) (step : Step) → Legal airs boxes (step ∷ earlier) → is_started (steps_of_source s earlier) ≡ true
     → Goes (steps_of_source s earlier) (steps_of_source s (step ∷ earlier))

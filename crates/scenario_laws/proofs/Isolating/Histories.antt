@@ -13,9 +13,6 @@ pub record Alike (setup : Setup) (mtu : Option ℕ) (a b : List Call) : Type 0 w
 pub alike_itself : (setup : Setup) (mtu : Option ℕ) (a : List Call) → Alike setup mtu a a
 alike_itself setup mtu a = search arith
 
-pub alike_then : (setup : Setup) (mtu : Option ℕ) (a b c : List Call) → Alike setup mtu a b → Alike setup mtu b c → Alike setup mtu a c
-alike_then setup mtu a b c first second = search arith
-
 pub waiting_same : (setup : Setup) (mtu : Option ℕ) (link : ℕ) (a b : List Call) → Alike setup mtu a b
     → writes_waiting link a ≡ writes_waiting link b
 waiting_same setup mtu link a b same = cc (same.served link, same.written link)

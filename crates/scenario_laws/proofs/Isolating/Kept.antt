@@ -1,6 +1,6 @@
 -- A step that both lists of steps have keeps what they have alike of a sink and a source, where it means this source if it is a
 -- source line.
-use Rattle.scenario_laws.proofs.Known.Sources.{ℕ, ◌≡◌, ◌≢◌, true, false, List, ◌∷◌, is_some, arith, option_or, cases_eq, ne_eqb, Call, Step, box_of, handed_by, handed_up, is_of, reaches, sink_calls, source_of, ticked_by, ticked_if, open_event, Airs, chosen_given, chosen_of, is_source_line, steps_of_source, calls_made, source_at, made_of, version_given, units_by, closing, Sourced, cond_same, history_grows, sourced_same, said_grows, HistoriesAlike, Same, chosen_alike, horizon_alike, source_alike, kept_took, both_alike, closing_alike, opens_alike, units_append}
+use Rattle.scenario_laws.proofs.Known.Sources.{ℕ, ◌≡◌, ◌≢◌, true, false, List, ◌∷◌, is_some, arith, option_or, ne_eqb, Step, box_of, handed_by, handed_up, is_of, sink_calls, source_of, Airs, chosen_given, chosen_of, is_source_line, calls_made, source_at, made_of, version_given, units_by, closing, Sourced, cond_same, history_grows, sourced_same, said_grows, HistoriesAlike, Same, chosen_alike, horizon_alike, source_alike, kept_took, both_alike, closing_alike, units_append}
 
 -- the step means this source, where it is a source line
 abbrev pub Means : ℕ → List Step → Step → Type 0
@@ -27,19 +27,6 @@ apart_grows : (airs : Airs) (s n : ℕ) (step : Step) (made others : List Step) 
 apart_grows airs s n step made others means same t other = grind (arith, ne_eqb)
 
 -- ---- what its receivers took
-
-ticks_alike : (airs : Airs) (s n t : ℕ) (made others : List Step) (calls calls' : List Call) → Same airs s n made others → calls ≡ calls'
-    → ticked_by t n made calls ≡ ticked_by t n others calls'
-ticks_alike airs s n t made others calls calls' same took =
-    grind (arith, cases_eq, ticked_if, is_of, open_event, steps_of_source, source_of, opens_alike)
-
-closes_alike : (airs : Airs) (s n : ℕ) (made others : List Step) → Same airs s n made others
-    → ticked_by (chosen_of made) n made (sink_calls airs n made) ≡ ticked_by (chosen_of others) n others (sink_calls airs n others)
-closes_alike airs s n made others same = grind (arith, ticked_by, sink_calls, chosen_alike, ticks_alike, chosen_of)
-
-reaches_alike : (airs : Airs) (s n sink : ℕ) (made others : List Step) → Same airs s n made others
-    → reaches sink n made ≡ reaches sink n others
-reaches_alike airs s n sink made others same = cc (chosen_alike airs s n made others same, same.source)
 
 calls_grow : (airs : Airs) (s n : ℕ) (step : Step) (made others : List Step) → Means s made step → Same airs s n made others
     → HistoriesAlike (made_of n (step ∷ made)) (calls_made n (step ∷ made)) (calls_made n (step ∷ others))

@@ -1,6 +1,6 @@
 -- A step that is left out changes nothing of the sink and of the source: it names another sink, or it means another source and puts
 -- the sink on no train and no group.
-use Rattle.scenario_laws.proofs.Known.Sources.{ℕ, ◌≡◌, cond, not, Bool, true, List, [], ◌∷◌, Option, None, arith, subst, false≢true, append-nil, Settings, Call, Step, box_of, handed_by, is_of, sink_calls, source_of, Airs, chosen_given, steps_of_source, calls_made, made_of, version_given, units_by, is_other, sink_in, ◌≢◌, ◌==◌, ◌&&◌, false, Some, refl, ap, and_right, ne_eqb, cond-false, train_heard, TrainOutcome, Train, big_sync_in, ticked_if, open_event, chosen_of, chosen_steps, is_source_line, source_at, Source, given_train, calls_by, own_train, follows, follows_by, received_by, train_by, puts, alike_itself, alike_then, ignores, SourceSaid as Said, source_said_after as said_after, source_said_of as said_of, said_stays, said_elsewhere, HistoriesAlike, Same, left_took, units_append, closing_none, same_if, LinkCall}
+use Rattle.scenario_laws.proofs.Known.Sources.{ℕ, ◌≡◌, cond, not, Bool, true, List, [], ◌∷◌, Option, None, arith, false≢true, append-nil, Settings, Call, Step, box_of, handed_by, is_of, sink_calls, source_of, Airs, chosen_given, steps_of_source, calls_made, made_of, version_given, units_by, is_other, sink_in, ◌≢◌, ◌==◌, ◌&&◌, false, Some, refl, ap, and_right, ne_eqb, cond-false, train_heard, TrainOutcome, Train, big_sync_in, ticked_if, open_event, chosen_of, chosen_steps, is_source_line, source_at, Source, given_train, calls_by, own_train, follows, follows_by, received_by, train_by, puts, alike_itself, ignores, SourceSaid as Said, source_said_after as said_after, source_said_of as said_of, said_stays, HistoriesAlike, Same, left_took, units_append, closing_none, same_if, LinkCall}
 
 -- ---- what a step leaves
 
@@ -18,17 +18,11 @@ pub record Leaves (airs : Airs) (s n : ℕ) (step : Step) (made : List Step) : T
 pub lives_itself : (made : Option Settings) (a : List LinkCall) → HistoriesAlike made a a
 lives_itself made a = grind (arith, alike_itself)
 
-pub lives_equal : (made : Option Settings) (a b : List LinkCall) → a ≡ b → HistoriesAlike made a b
-lives_equal made a b is = subst (HistoriesAlike made a) is (lives_itself made a)
-
 pub left_out : (airs : Airs) (s n : ℕ) (step : Step) (made others : List Step) → Leaves airs s n step made → Same airs s n made others
     → Same airs s n (step ∷ made) others
-left_out airs s n step made others leaves same = grind (arith, alike_then, units_append, append-nil, left_took)
+left_out airs s n step made others leaves same = grind (arith, units_append, append-nil, left_took)
 
 -- ---- another sink is named
-
-pass : {A : Type 0} (hit : Bool) (x y : A) → not hit ≡ true → cond hit x y ≡ y
-pass hit x y other = grind (arith, false≢true)
 
 pub record Quiet (step : Step) : Type 0 where
   pub chosen : chosen_given step ≡ None
@@ -40,12 +34,9 @@ pub record Quiet (step : Step) : Type 0 where
 quiet : (n : ℕ) (step : Step) → is_other n (sink_in step) ≡ true → Quiet step
 quiet n step other = grind (arith, false≢true)
 
-box_other : (n : ℕ) (step : Step) (made : List Step) → is_other n (sink_in step) ≡ true → box_of n (step ∷ made) ≡ box_of n made
-box_other n step made other = grind (arith, pass)
-
 pub another_sink : (airs : Airs) (s n : ℕ) (step : Step) (made : List Step) → is_other n (sink_in step) ≡ true → Leaves airs s n step made
 another_sink airs s n step made other =
-    grind (arith, quiet, said_stays, lives_equal, box_other, pass, false≢true)
+    grind (arith, quiet, said_stays, false≢true)
 
 -- ---- a line that means another source, and puts the sink on no train and no group, changes nothing of the sink and of the source
 
@@ -75,7 +66,7 @@ history_stays n (Step.Announce sink) made is not =
     train_lives (sink == n) (source_at made) (own_train (source_at made)) (made_of n made) (calls_made n made) not
 history_stays n (Step.Train sink time ext adv acad) made is not =
     train_lives (sink == n) (source_at made) (given_train (source_at made) time ext adv acad) (made_of n made) (calls_made n made) not
-history_stays n _ made is not = search (lives_equal, cond-false, same_if, false≢true, lives_itself (made_of n made) (calls_made n made))
+history_stays n _ made is not = search (cond-false, same_if, false≢true, lives_itself (made_of n made) (calls_made n made))
 
 -- ---- its receivers, where it isn't of the source that the line means
 
@@ -98,4 +89,4 @@ calls_stay airs n _ made is not apart =
 pub elsewhere : (airs : Airs) (s n : ℕ) (step : Step) (made : List Step) → is_source_line step ≡ true → chosen_of made ≢ s
     → puts n made step ≡ false → is_of (chosen_of made) (source_of n made) ≡ false → Leaves airs s n step made
 elsewhere airs s n step made is other not apart =
-    grind (arith, said_elsewhere, and_right, ne_eqb, history_stays, not, cond-false, calls_stay, false≢true, closing_none)
+    grind (arith, and_right, ne_eqb, history_stays, not, cond-false, calls_stay, false≢true, closing_none)

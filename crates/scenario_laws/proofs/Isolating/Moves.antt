@@ -1,6 +1,6 @@
 -- What a line makes of two histories of the sink that it names which come to the same: of the histories, of the receivers, and of the
 -- source that the sink is of.
-use Rattle.scenario_laws.proofs.Known.Sources.Steps.Prelude.{ℕ, ◌≡◌, cond, Bool, true, List, [], ◌∷◌, Option, None, Some, subst, arith, Settings, Train, outcome_by, born, Step, is_source_line, calls_made, source_at, the_world, Source, calls_at, calls_by, made_of, named_by, follows, follows_by, source_by, train_by, LinkCall as Call, moved}
+use Rattle.scenario_laws.proofs.Known.Sources.Steps.Prelude.{ℕ, ◌≡◌, cond, Bool, true, List, [], ◌∷◌, Option, None, Some, subst, arith, Settings, Train, outcome_by, born, Step, is_source_line, calls_made, source_at, the_world, Source, calls_at, calls_by, made_of, named_by, follows, follows_by, source_by, train_by, LinkCall as Call}
 use Rattle.scenario_laws.proofs.Isolating.Histories.{Alike, alike_itself, drains, grows}
 use Rattle.scenario_laws.proofs.Isolating.Same.{HistoriesAlike}
 use Rattle.bass_operations.specs.declared.operation.Operation.TheVariants as operations
@@ -47,14 +47,6 @@ history_grows n step earlier others sourced sink_same same =
 
 pub cond_same : {A : Type 0} (hit : Bool) (x x' y y' : A) → x ≡ x' → y ≡ y' → cond hit x y ≡ cond hit x' y'
 cond_same hit x x' y y' then otherwise = cc
-
--- over two lists of steps
-pub moved_same : (n : ℕ) (named : Option ℕ) (line : Step) (earlier others : List Step) (calls calls' : List sinks.Call)
-    → Sourced line (source_at earlier) (source_at others) → made_of n earlier ≡ made_of n others
-    → HistoriesAlike (made_of n earlier) (calls_made n earlier) (calls_made n others)
-    → HistoriesAlike (made_of n earlier) (calls_made n (line ∷ earlier)) (calls_made n (line ∷ others)) → calls ≡ calls'
-    → moved n named line earlier calls ≡ moved n named line others calls'
-moved_same n named line earlier others calls calls' sourced sink_same before later took = grind (arith, cond_same, train_by)
 
 -- ---- the source that the sink is of
 

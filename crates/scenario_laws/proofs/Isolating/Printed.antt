@@ -1,5 +1,5 @@
 -- What a step that both lists of steps have prints of the sink, of its assistants and of the source.
-use Rattle.scenario_laws.proofs.Known.Sources.{ℕ, zero, suc, ◌≡◌, ◌∙◌, List, ◌++◌, length, map, Option, refl, ap, arith, codes, decimal, option_map, slice_get, range_with_len, Settings, Train, answer_of, outcome_by, state_at, value, writes_waiting, served_out, notified_out, language, notices_waiting, reads_waiting, view_of, Step, Label, reply_line, sink_line, train_words, value_line, Source, drain_lines, heard_line, if_there, printed_where, read_line, read_lines, replied, serve_line, serve_lines, show_lines, stated, tell_line, tell_lines, view_lines, was_read, ◌==◌, not, false, concat, eqb-true, not-false, Airs, calls_made, source_at, made_of, lines_by, is_other, sink_in, LinkCall as Call, Alike, notices_same, reads_same, repeats, served_grow, told_grow, waiting_same, Sourced, HistoriesAlike, Same, both_alike}
+use Rattle.scenario_laws.proofs.Known.Sources.{ℕ, zero, suc, ◌≡◌, ◌∙◌, List, ◌++◌, length, map, Option, refl, ap, arith, codes, decimal, option_map, slice_get, range_with_len, Settings, state_at, value, writes_waiting, served_out, notified_out, language, notices_waiting, reads_waiting, view_of, Step, Label, reply_line, value_line, Source, drain_lines, if_there, printed_where, read_line, read_lines, replied, serve_line, serve_lines, stated, tell_line, tell_lines, view_lines, was_read, ◌==◌, not, false, concat, eqb-true, not-false, Airs, calls_made, source_at, made_of, lines_by, is_other, sink_in, LinkCall as Call, Alike, notices_same, reads_same, repeats, served_grow, told_grow, waiting_same, Sourced, HistoriesAlike, Same, both_alike}
 use Rattle.scenario_laws.proofs.Isolating.Kept.{Means, chosen_closing, sourced}
 
 -- ---- one call on a link
@@ -65,26 +65,18 @@ drain_same label made link a b same =
 
 -- ---- states and views
 
-shown_same : (sink : ℕ) (made : Settings) (a b : List Call) → Alike made.setup made.mtu a b
-    → show_lines sink made a ≡ show_lines sink made b
-shown_same sink made a b same = grind (arith, same.snapshot, same.acts 0)
-
 views_same : (sink link : ℕ) (made : Settings) (a b : List Call) → Alike made.setup made.mtu a b
     → view_lines sink link made a ≡ view_lines sink link made b
 views_same sink link made a b same = grind (arith, map, value_line, codes, decimal, value, view_of, language, range_with_len)
 
 -- ---- trains
 
-train_same : (sink : ℕ) (made : Settings) (a b : List Call) (train : Train) → Alike made.setup made.mtu a b
-    → heard_line sink made a train ≡ heard_line sink made b train
-train_same sink made a b train same = ap (λ snapshot. sink_line sink (train_words (answer_of (outcome_by made.setup snapshot train)))) same.snapshot
-
 -- ---- what a line prints that names the sink
 
 pub printed_same : (line : Step) (source source' : Source) (made made' : Option Settings) (a b : List Call) → Sourced line source source'
     → made ≡ made' → HistoriesAlike made a b → printed_where source line made a ≡ printed_where source' line made' b
 printed_same line source source' made made' a b sourced sinks_same same =
-    grind (arith, serve_same, tell_same, read_line_same, drain_same, shown_same, train_same, views_same)
+    grind (arith, serve_same, tell_same, read_line_same, drain_same, views_same)
 
 -- ---- what a step prints that is kept: the same over both lists of steps
 

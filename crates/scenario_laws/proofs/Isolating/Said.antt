@@ -1,7 +1,6 @@
 -- What is said of a source, looked back for: eight facts, of which all else that sinks and lines take of it are functions.
-use Rattle.scenario_laws.proofs.Known.Sources.Steps.Prelude.{arith, ℕ, zero, suc, ◌≡◌, ◌-◌, ◌%◌, ◌^◌, ◌==◌, ◌||◌, ◌∙◌, not, cond, Bool, false, List, ◌∷◌, Option, None, Some, ap, unwrap_or, option_or, Cipher, Call, hear, control, pdu, BaseLine, Step, base_lines, with_base_line, hear_at, heard_on_air, is_lost, position_at, unless_lost, GroupLine, Phase, absent, cipher_given, cipher_of, end_pdu, event_back, group_given, Airs, stale_of, group_of, ident_of, identity_given, is_ahead_in, is_sending_at, no_group, open_event, phase_given, setup_from, setup_of, source_calls, stale_in, start_given, start_of, with_source_call, Stage, chosen_of, chosen_steps, is_of_source, is_over_at, last_given, stage_after, stage_of, steps_of_source, version_at, source_at, Setup, events, next_of, Identity, SourceCall, event as perform}
+use Rattle.scenario_laws.proofs.Known.Sources.Steps.Prelude.{arith, ℕ, ◌≡◌, ◌∙◌, cond, Bool, List, ◌∷◌, Option, ap, option_or, Cipher, BaseLine, Step, base_lines, with_base_line, GroupLine, Phase, cipher_given, cipher_of, group_given, group_of, ident_of, identity_given, phase_given, source_calls, start_given, start_of, with_source_call, Stage, chosen_of, chosen_steps, is_of_source, last_given, stage_after, stage_of, steps_of_source, source_at, events, Identity, SourceCall}
 use Rattle.scenario_laws.proofs.RelayedUnits.Histories.{Told, source_told}
-use Rattle.iso_pdu.specs.Control.{terminate}
 
 pub record Said : Type 0 where
   pub stage : Stage
@@ -40,48 +39,12 @@ said_after step said = record {
 
 -- ---- what they fix
 
-abbrev setup_in : Said → Setup
-setup_in said = setup_from (unwrap_or said.group no_group) (unwrap_or said.start 0) (is_ahead_in (version_at said.stage))
-
-abbrev next_in : Said → ℕ
-next_in said = next_of (setup_in said) said.calls
-
-abbrev back_in : Said → ℕ → ℕ
-back_in said back = next_in said - 1 - back
-
 abbrev told_in : Said → Told
 told_in s = record { group = s.group; start = s.start; ident = s.ident; cipher = s.cipher; lines = s.lines; performed = events s.calls }
 
-abbrev open_in : Said → Option ℕ
-open_in said =
-    cond (not (is_sending_at (unwrap_or said.phase absent)) || is_over_at said.stage || (events said.calls == 0)) None
-    (Some (back_in said 0))
-
 -- ---- so two lists of steps that say the same of a source have all of it alike
 
-pub open_same : (own own' : List Step) → said_of own ≡ said_of own' → open_event own ≡ open_event own'
-open_same own own' same = ap open_in same
-
-pub stale_same : (airs : Airs) (own own' : List Step) → said_of own ≡ said_of own' → stale_in airs own ≡ stale_in airs own'
-stale_same airs own own' same = ap (λ said. stale_of (setup_in said) said.calls (airs (setup_in said) (perform ∷ said.calls))) same
-
-pub end_same : (own own' : List Step) (reason : ℕ) → said_of own ≡ said_of own' → end_pdu own reason ≡ end_pdu own' reason
-end_same own own' reason same = ap (λ said. pdu (control (terminate reason (next_in said % 2 ^ 16)))) same
-
 -- ---- what is heard on the air
-
-heard_one : (airs : Airs) (own own' : List Step) (lose i : ℕ) (calls : List Call) → said_of own ≡ said_of own'
-    → unless_lost (is_lost (setup_of own).info (event_back own 0) lose (position_at (setup_of own).info i))
-    (hear_at airs own (event_back own 0) (position_at (setup_of own).info i)) calls
-    ≡ unless_lost (is_lost (setup_of own').info (event_back own' 0) lose (position_at (setup_of own').info i))
-    (hear_at airs own' (event_back own' 0) (position_at (setup_of own').info i)) calls
-heard_one airs own own' lose i calls same = grind (arith, unless_lost, is_lost, hear)
-
-heard_first : (airs : Airs) (own own' : List Step) (lose count : ℕ) (calls calls' : List Call) → said_of own ≡ said_of own' → calls ≡ calls'
-    → heard_on_air airs own lose count calls ≡ heard_on_air airs own' lose count calls'
-heard_first airs own own' lose zero calls calls' same took = took
-heard_first airs own own' lose (suc i) calls calls' same took =
-    cc (heard_one airs own own' lose i (heard_on_air airs own lose i calls) same, heard_first airs own own' lose i calls calls' same took)
 
 -- ---- the chosen source
 
@@ -116,7 +79,3 @@ pub said_stays : (s : ℕ) (step : Step) (made : List Step) → ((said : Said) �
     → said_of (steps_of_source s (step ∷ made)) ≡ said_of (steps_of_source s made)
 said_stays s step made nothing = cc (stays_if (is_of_source s made step) step (steps_of_source s made) (nothing (said_of (steps_of_source s made))))
 
--- that means another source
-pub said_elsewhere : (s : ℕ) (step : Step) (made : List Step) → is_of_source s made step ≡ false
-    → said_of (steps_of_source s (step ∷ made)) ≡ said_of (steps_of_source s made)
-said_elsewhere s step made other = ap (λ its. said_of (cond its (step ∷ steps_of_source s made) (steps_of_source s made))) other

@@ -1,5 +1,5 @@
 -- The units that a sink hands up as an event is closed: of the source that it is of alone, whatever other sinks do.
-use Rattle.scenario_laws.proofs.Known.Sources.Steps.{ℕ, ◌≡◌, ◌==◌, ◌∙◌, cond, Bool, false, List, [], ◌∷◌, ◌++◌, map, Option, None, Some, is_some, refl, arith, ap, flat_map, cases_eq, eq-eqb, false≢true, ne_eqb, map-append, filter-append, Handed, Call, Step, SinkUnit, box_of, closing_at, closing_both, closing_by, closing_in, is_of, sink_calls, source_of, open_event, Airs, steps_of_source, units_by, closing, open_same, Same}
+use Rattle.scenario_laws.proofs.Known.Sources.Steps.{ℕ, ◌≡◌, ◌==◌, ◌∙◌, cond, Bool, false, List, [], ◌∷◌, ◌++◌, map, Option, None, Some, is_some, refl, arith, ap, flat_map, cases_eq, eq-eqb, false≢true, ne_eqb, map-append, filter-append, Handed, Call, Step, SinkUnit, box_of, closing_at, closing_both, closing_by, closing_in, is_of, sink_calls, source_of, open_event, Airs, steps_of_source, units_by, closing, Same}
 use Rattle.scenario_laws.proofs.RelayedUnits.Printed.{flat_same}
 
 -- ---- lists
@@ -63,14 +63,10 @@ closing_none airs t n last_open made apart =
 hands_alike : (airs : Airs) (s n : ℕ) (made others : List Step) → Same airs s n made others → HandsAlike airs n made others
 hands_alike airs s n made others same = record { calls = same.calls; source = same.source; boxed = same.boxed }
 
-pub opens_alike : (airs : Airs) (s n t : ℕ) (made others : List Step) → t ≡ s → Same airs s n made others
-    → open_event (steps_of_source t made) ≡ open_event (steps_of_source t others)
-opens_alike airs s n t made others its same = cc (its, open_same (steps_of_source s made) (steps_of_source s others) same.own, its)
-
 pub closing_alike : (airs : Airs) (s n t : ℕ) (made others : List Step) → Same airs s n made others
     → units_by n (closing airs t made) ≡ units_by n (closing airs t others)
 closing_alike airs s n t made others same =
-    grind (arith, cases_eq, units_by, closing_at, opens_alike, closing_same, open_event, steps_of_source, hands_alike, closing_none, is_of)
+    grind (arith, cases_eq, units_by, closing_at, closing_same, open_event, steps_of_source, hands_alike, closing_none, is_of)
 
 pub both_alike : (airs : Airs) (s n : ℕ) (made others : List Step) → Same airs s n made others
     → units_by n (closing_both airs made) ≡ units_by n (closing_both airs others)

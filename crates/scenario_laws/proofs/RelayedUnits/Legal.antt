@@ -1,6 +1,6 @@
 -- Lines of which none was refused give steps of which none is: relayed units are steps that source 1 takes, and what closes an event of
 -- source 0 is permitted behind them as before.
-use Rattle.scenario_laws.proofs.Known.Sources.Steps.Prelude.{ℕ, ◌≡◌, ◌≤◌, ◌||◌, ◌∙◌, not, cond, Bool, true, false, List, [], ◌∷◌, length, leb, ltb, Option, None, Some, refl, ap, arith, option_or, eqb-true, false≢true, ltb-false, none-some, IsInRange, Step, Airs, UnitFault, Refusal, fails_not, maps_none, permitted, is_misplaced, refusal_of, refuse_if, setup_of, chosen_of, chosen_steps, is_over, is_over_at, is_unbegun, is_unbegun_at, stage_of, steps_of_source, Offer, after_offer, after_offers, closes_first, dropped_for, happened, offers_at, with_relayed_unit_unless, with_relayed_units, AreLegal, AreSaidLegally, neither}
+use Rattle.scenario_laws.proofs.Known.Sources.Steps.Prelude.{ℕ, ◌≡◌, ◌≤◌, ◌∙◌, not, cond, Bool, true, false, List, [], ◌∷◌, length, leb, ltb, Option, None, Some, refl, ap, arith, eqb-true, false≢true, ltb-false, none-some, IsInRange, Step, Airs, UnitFault, Refusal, fails_not, maps_none, permitted, is_misplaced, refusal_of, setup_of, chosen_of, chosen_steps, is_over, is_over_at, is_unbegun, is_unbegun_at, stage_of, steps_of_source, Offer, after_offer, after_offers, closes_first, dropped_for, happened, offers_at, with_relayed_unit_unless, with_relayed_units, AreLegal, AreSaidLegally, neither}
 use Rattle.scenario_laws.proofs.RelayedUnits.Left.{left_by_offers}
 use Rattle.scenario_laws.proofs.RelayedUnits.One.{line_passes}
 
@@ -40,13 +40,6 @@ chosen_below airs boxes [] legal = omega arith
 chosen_below airs boxes (Step.Source source ∷ earlier) legal = legal.2
 chosen_below airs boxes (this ∷ earlier) legal = chosen_below airs boxes earlier legal.0
 
-none_of_four : (over misplaced out : Bool) (source : Option Refusal) → over ≡ false → misplaced ≡ false → out ≡ false → source ≡ None
-    → option_or (refuse_if over Refusal.AfterEnd) (option_or (refuse_if (misplaced || out) Refusal.Order) (option_or source None)) ≡ None
-none_of_four over misplaced out source p q r s = rw (p, q, r, s) refl
-
-choosing : (airs : Airs) (boxes source : ℕ) (made : List Step) → Runs made → refusal_of airs boxes made (Step.Source source) ≡ None
-choosing airs boxes source made runs = none_of_four (is_over made) (is_unbegun made) false None runs.goes_on runs.begun refl refl
-
 pub second_false : (a b : Bool) (x y : UnitFault) (z : Option UnitFault) → cond a (Some x) (cond b (Some y) z) ≡ None → b ≡ false
 second_false a b x y z none = grind (arith, none-some)
 
@@ -60,7 +53,7 @@ short airs boxes offer made legal none = grind (arith, neither, not, length, ltb
 pub unless_legal : (airs : Airs) (boxes : ℕ) (reason : Option Refusal) (offer : Offer) (made : List Step) → AreLegal airs boxes made
     → Runs made → dropped_for airs offer made ≡ reason → AreLegal airs boxes (with_relayed_unit_unless reason offer made)
 unless_legal airs boxes reason offer made legal runs is =
-    grind (arith, choosing, short, chosen_of, chosen_below, neither, not, none_of_four, fails_not)
+    grind (arith, short, chosen_of, chosen_below, neither, not, fails_not)
 
 all_legal : (airs : Airs) (boxes : ℕ) (offers : List Offer) (made : List Step) → AreLegal airs boxes made → Runs made
     → AreLegal airs boxes (after_offers airs offers made)

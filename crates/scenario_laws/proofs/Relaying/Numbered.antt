@@ -1,5 +1,5 @@
 -- Of what was offered those units pass that weren't dropped, in order: so what is in the order of the one is in the order of the other.
-use Rattle.scenario_laws.proofs.Known.Sources.Steps.Prelude.{ℕ, zero, suc, ◌≡◌, ◌<◌, ◌≤◌, ◌+◌, ◌-◌, Bool, true, false, cond, List, [], ◌∷◌, length, map, slice_get, Some, refl, arith, slice_index, AllZip, Contains, filter, length-map, iso_us_of, sync_delay_of, Air, accepted, Setup, framed_calls, Handed, Step, setup_of, source_calls, Airs, steps_of_source, AreSaidLegally, InUnitOrder, IsOfUnit, Answered, all_answered, happened, offered_to, RelayLaw, offered, InRelayOrder, IsOfOffered, ◌∙◌, ◌++◌, Option, None, sym, ap, map-append, none-some, same_Some, slice_get-map, of_stream, accept, event, given, give, lost, valid, InSourceOrder, IsGiven, is_valid, valid_in, units_on, is_none, Unit as AudioUnit, SourceCall as Call, passed, FramedCall, AllZip-long}
+use Rattle.scenario_laws.proofs.Known.Sources.Steps.Prelude.{ℕ, zero, suc, ◌≡◌, ◌<◌, ◌+◌, ◌-◌, Bool, true, false, cond, List, [], ◌∷◌, length, map, slice_get, Some, refl, arith, slice_index, AllZip, Contains, filter, length-map, iso_us_of, sync_delay_of, Air, accepted, Setup, framed_calls, Handed, Step, setup_of, source_calls, Airs, steps_of_source, AreSaidLegally, InUnitOrder, IsOfUnit, Answered, all_answered, happened, offered_to, RelayLaw, offered, InRelayOrder, IsOfOffered, ◌∙◌, ◌++◌, Option, None, sym, ap, map-append, none-some, same_Some, slice_get-map, of_stream, accept, event, given, give, lost, valid, InSourceOrder, IsGiven, is_valid, valid_in, units_on, is_none, Unit as AudioUnit, SourceCall as Call, passed, FramedCall, AllZip-long}
 use Rattle.std.proofs.lemmas.List.Kept.{AllPairs-from_increasing}
 use Rattle.scenario_laws.proofs.RelayedUnits.Left.{event_accepts_none}
 
@@ -38,16 +38,12 @@ zip_map f x2 x3 each xs ys all = search
 
 -- ---- one unit
 
-rendered : (anchor sync sdu iso delay time : ℕ) → time ≤ anchor
-    → anchor + sync + sdu + iso - (anchor - time) + delay ≡ time + (sync + sdu + iso + delay)
-rendered anchor sync sdu iso delay time ready = omega (arith, ready)
-
 of_offered : (setup : Setup) (calls : List Call) (to : ℕ) (answers : List Answered) (units : List AudioUnit)
     → accepted (framed_calls setup to calls) ≡ passed answers → map (λ (answer : Answered). answer.offer.unit) answers ≡ units
     → (air : Air) (number : ℕ) (entry : Handed) → IsOfUnit setup calls to air number entry
     → IsOfOffered setup to units (place (λ (answer : Answered). is_none answer.reason) answers number) entry
 of_offered setup calls to answers units passes offers air number entry of_unit =
-    grind (arith, slice_get, place_gets, rendered, sync_delay_of, iso_us_of)
+    grind (arith, slice_get, place_gets, sync_delay_of, iso_us_of)
 
 pub in_relay_order : ((boxes : ℕ) → RelayLaw boxes) → (airs : Airs) (boxes : ℕ) (said : List Step) → AreSaidLegally airs boxes said
     → (n bis to : ℕ) → Contains said (Step.Relay n bis to) → (air : Air) (entries : List Handed)

@@ -1,7 +1,7 @@
 -- A train that a source announces isn't answered `BadGroup 11`: its group passed the group check of the version that its sinks
 -- are of too (Basic Audio Profile 1.0, section 6.5; Core 5.2, volume 6 part B, section 4.4.6). Lists of steps have the newest
 -- first; where a list is called `own` its steps are those of one source.
-use Rattle.scenario_laws.proofs.Known.Sources.{arith, ℕ, ◌≡◌, ◌≤◌, ◌-◌, ◌*◌, ◌/◌, ◌==◌, not, cond, Bool, true, false, List, [], ◌∷◌, Option, None, Some, refl, sym, subst, unwrap_or, eqb-true, false≢true, ltb-false, not-false, MayAnnounce, train_of, IsTrain, Tells, TellsInfo, Endpoint, Horizon, BigInfo, NoFault, Settings, without_cipher, next_anchor_of, next_of, Step, made_of, own_train, horizon_in, base_of, is_base_too_long, group_refusal, refusal_of, source_refusal, refuse_if, checked_info, cipher_of, group_of, identity_of, is_sending, is_started, no_group, setup_of, Airs, source_calls, chosen_of, chosen_steps, is_of_source, is_unbegun_at, stage_of, steps_of_source, version_of, announced_of, calls_made, source_at, snapshot_in, TrainOctets as Train, told_numbers_of as numbers_of, horizon_of as group_horizon, SinkSetup as Setup, Train as Heard, Lawful, Legal, Permitted, bounds_in, lawful, may_announce, may_be_sent, neither, permitted, sends, settled, within_near, ReadsNear, outcome_near, sink_horizon}
+use Rattle.scenario_laws.proofs.Known.Sources.{arith, ℕ, ◌≡◌, ◌≤◌, ◌-◌, ◌==◌, not, cond, Bool, true, false, List, [], ◌∷◌, Option, None, Some, refl, sym, subst, unwrap_or, eqb-true, false≢true, ltb-false, not-false, MayAnnounce, train_of, IsTrain, Tells, TellsInfo, Endpoint, Horizon, BigInfo, NoFault, Settings, without_cipher, next_anchor_of, next_of, Step, made_of, own_train, horizon_in, base_of, is_base_too_long, group_refusal, refusal_of, source_refusal, refuse_if, checked_info, cipher_of, group_of, identity_of, is_sending, is_started, no_group, setup_of, Airs, source_calls, chosen_of, chosen_steps, is_of_source, is_unbegun_at, stage_of, steps_of_source, version_of, announced_of, calls_made, source_at, snapshot_in, TrainOctets as Train, horizon_of as group_horizon, SinkSetup as Setup, Train as Heard, Lawful, Legal, Permitted, bounds_in, lawful, may_announce, may_be_sent, neither, permitted, sends, settled, within_near, ReadsNear, outcome_near, sink_horizon}
 use Rattle.scenario_laws.proofs.Versions.Lived.{IsCalm}
 
 -- ---- `scenario` comes first
@@ -99,19 +99,11 @@ pub record Announcing : Type 0 where
   pub is_read : (train : Train) (broadcast_id : List ℕ) (base : Endpoint) (info : BigInfo) (event anchor : ℕ) → 1 ≤ info.bn
       → IsTrain broadcast_id base info event anchor train → Tells train broadcast_id base info event anchor
 
-horizon_by : (nse bn pto irc : ℕ) → ℕ
-horizon_by nse bn pto irc = pto * (nse / bn - irc)
-
--- groups with the same numbers have one horizon
-same_group_horizon : (one other : BigInfo) → numbers_of one ≡ numbers_of other → group_horizon one ≡ group_horizon other
-unfolding horizon_by
-same_group_horizon one other same = grind arith
-
 reads_near : (setup : Setup) (train : Train) (heard : Heard) (broadcast_id : List ℕ) (base : Endpoint) (info : BigInfo) (event anchor : ℕ)
     → heard.acad ≡ train.acad → Tells train broadcast_id base info event anchor → group_horizon info ≤ setup.horizon → ReadsNear setup heard
 reads_near setup train heard broadcast_id base info event anchor same tells within octets its found is =
     let told : TellsInfo train.acad tells.read = tells.info_is in
-    within_near setup.horizon its (grind (arith, same_group_horizon))
+    within_near setup.horizon its (grind arith)
 
 -- ---- an announced train
 

@@ -1,6 +1,6 @@
 -- Why a step of a scenario in version 2 is refused: for the reason of version 1, but where that is BadLine, `BadGroup 11` or
 -- TimeOrder. Lists of steps have the newest first; where a list is called `own` its steps are those of one source.
-use Rattle.scenario_laws.proofs.Known.Sources.{ℕ, ◌≡◌, ◌⊎◌, ◌≤◌, ltb, Bool, List, [], ◌∷◌, Option, None, Some, arith, refl, sym, subst, ◌∙◌, ap, ap₂, inl, inr, option_map, option_or, BigInfo, airs_of, give_fault, Step, Refusal, AfterEnd, Order, Settings, named_by, refused_at, refused_where, refuse_if, box_after, box_of, give_refusal, group_refusal, is_out_of_order, own_refusal, refusal_of, sink_refusal, source_refusal, twin_refusal, setup_of, source_calls, chosen_steps, is_over, version_of, the_world, IsLasting, first_fault, first_same, near_or_horizon, refused_same, relays_same, IsLater, ahead_stays, at_second, calls_same, horizon_grows, is_later, over_same, same, seconds, unbegun_same, airs_same, framed_same, is_ahead, setup_same, with_ahead, LinkCall}
+use Rattle.scenario_laws.proofs.Known.Sources.{ℕ, ◌≡◌, ◌⊎◌, ◌≤◌, ltb, Bool, List, [], ◌∷◌, Option, None, Some, arith, refl, sym, subst, ◌∙◌, ap, ap₂, inl, inr, option_map, option_or, BigInfo, airs_of, give_fault, Step, Refusal, AfterEnd, Order, Settings, named_by, refused_at, refused_where, refuse_if, box_after, box_of, give_refusal, group_refusal, is_out_of_order, own_refusal, refusal_of, sink_refusal, source_refusal, twin_refusal, setup_of, source_calls, chosen_steps, is_over, version_of, the_world, IsLasting, first_fault, first_same, near_or_horizon, refused_same, relays_same, IsLater, ahead_stays, at_second, calls_same, horizon_grows, is_later, over_same, same, seconds, unbegun_same, airs_same, is_ahead, setup_same, with_ahead, LinkCall}
 use Rattle.scenario_laws.proofs.Versions.Lived.{AreCalm, AreWider, QuietHistory, is_quiet, history_same, made_wider, quiet_history}
 
 -- the reason is one that version 2 may not have
@@ -42,7 +42,7 @@ unit_lasts own bis time octets =
     (calls_same own)
     ∙ ap (λ airs. option_map give_refusal (give_fault (with_ahead ahead (setup_of own)) (source_calls own) airs bis time octets))
     (airs_same ahead (setup_of own) (source_calls own))))
-    (grind (arith, option_map, give_refusal, ltb, with_ahead, framed_same, (ahead_stays (version_of own) (version_of (seconds own))
+    (grind (arith, option_map, give_refusal, ltb, with_ahead, (ahead_stays (version_of own) (version_of (seconds own))
     (is_later own))))
 
 -- ---- a step of a source

@@ -1,12 +1,12 @@
 -- A run over the lines behind `scenario 1` and behind `scenario 2`: it brings the same, where the run in version 1 isn't refused
 -- for BadLine, `BadGroup 11` or TimeOrder, and no `train` step in it prints `BadGroup 11`. Histories have the newest line first.
-use Rattle.scenario_laws.proofs.Known.Sources.{ℕ, suc, ◌≡◌, ◌⊎◌, ◌+◌, nat_eq, false, List, [], ◌∷◌, ◌++◌, length, reverse, Option, None, Some, refl, arith, sym, ◌∙◌, ap, ap₂, subst, inl, inr, false≢true, append-nil, none-some, same_Some, TextLine, Account, Horizon, Settings, Train, answer_of, outcome_by, Accepted, End, Rules, accepted_of, accepted_unless, end_unless, number_after, out, out_unless, refused, reverse_onto, airs_of, Step, refusal_line, Refusal, BadLine, given_train, made_of, snapshot_in, handed_up, a_step, nothing, unsaid, output_said, refusal_said, rules_of, said_in, steps_of, with_said, is_misplaced, refusal_of, has_relay, is_over, is_unbegun_at, stage_after, stage_of, version_of, calls_made, source_at, EndsLasting, NonePrintsHorizon, PrintsHorizon, horizon_line, end_of, Said, said_after, said_of, SaidNever, line_passes, none_relayed, nothing_else, plain_after, says_no_relay, Legal, LinesInRange, legal, permitted, HearsNear, has_relay_same, is_later, over_same, second, seconds, answer_near as near_or_horizon}
+use Rattle.scenario_laws.proofs.Known.Sources.{ℕ, suc, ◌≡◌, ◌⊎◌, ◌+◌, nat_eq, false, List, [], ◌∷◌, ◌++◌, length, reverse, Option, None, Some, refl, arith, sym, ◌∙◌, ap, ap₂, subst, inl, inr, false≢true, append-nil, none-some, same_Some, TextLine, Account, Horizon, Settings, Train, answer_of, outcome_by, Accepted, End, Rules, accepted_of, accepted_unless, end_unless, number_after, out, out_unless, refused, reverse_onto, airs_of, Step, refusal_line, Refusal, given_train, made_of, snapshot_in, handed_up, a_step, nothing, unsaid, output_said, refusal_said, rules_of, said_in, steps_of, with_said, is_misplaced, refusal_of, has_relay, is_over, is_unbegun_at, stage_after, stage_of, version_of, calls_made, source_at, EndsLasting, NonePrintsHorizon, PrintsHorizon, horizon_line, end_of, Said, said_after, said_of, SaidNever, line_passes, none_relayed, nothing_else, plain_after, says_no_relay, Legal, LinesInRange, legal, permitted, HearsNear, has_relay_same, is_later, over_same, second, seconds, answer_near as near_or_horizon}
 use Rattle.delegator_history.specs.declared.train_heard.TrainHeard.TheVariants.{BadGroup as Refused}
 use Rattle.scenario_laws.proofs.Versions.Lived.{AreCalm, IsCalm}
 use Rattle.scenario_laws.proofs.Versions.Outputs.{handed_up_same, output_same}
 use Rattle.scenario_laws.proofs.Versions.Horizons.{Announcing, announced_calm}
 use Rattle.scenario_laws.proofs.Versions.Reading.{IsUnsaid, said_later}
-use Rattle.scenario_laws.proofs.Versions.Refused.{IsGone, Lasts, step_lasts}
+use Rattle.scenario_laws.proofs.Versions.Refused.{Lasts, step_lasts}
 
 -- the rules of a scenario with these boxes
 abbrev pub Its : List Account → Rules TextLine Refusal
@@ -19,21 +19,14 @@ pub record Laws : Type 0 where
 
 -- ---- what a line says
 
-unsaid_gone : (boxes : ℕ) (made : List Step) (said : Said) → IsUnsaid said → IsGone (refusal_said airs_of boxes made said)
-unsaid_gone boxes made (unsaid (BadLine word)) is = λ lasting. lasting
-unsaid_gone boxes made said is = search
-
-both_last : (one one' two two' : Option Refusal) → one' ≡ one → two' ≡ two → Lasts one two → Lasts one' two'
-both_last one one' two two' same same' lasts = subst (λ r. Lasts r two') (sym same) (subst (Lasts one) (sym same') lasts)
-
 same_lasts : (boxes : ℕ) (made : List Step) (said : Said) → has_relay made ≡ false → AreCalm made
     → Lasts (refusal_said airs_of boxes made said) (refusal_said airs_of boxes (seconds made) said)
-same_lasts boxes made (a_step this) plain calm = search (both_last, seconds, none_relayed, has_relay_same, step_lasts)
+same_lasts boxes made (a_step this) plain calm = search (seconds, none_relayed, has_relay_same, step_lasts)
 same_lasts boxes made said plain calm = inl refl
 
 said_same : (boxes : ℕ) (made : List Step) (said later : Said) → (later ≡ said) ⊎ IsUnsaid said
     → refusal_said airs_of boxes made said ≡ None → later ≡ said
-said_same boxes made said later h4 none = grind (arith, unsaid_gone, none-some)
+said_same boxes made said later h4 none = grind (arith, none-some)
 
 -- ---- trains that are given
 
@@ -218,8 +211,7 @@ run_alike laws starts lines history later (line ∷ rest) never begins stands la
     ((Its starts).output history line ++ out (Its starts) (line ∷ history) rest) ((Its starts).output later line
     ++ out (Its starts) (line ∷ later) rest) (end_of (Its starts) (line ∷ history) rest) (end_of (Its starts) (line ∷ later) rest)
     (accepted_of (Its starts) (line ∷ history) rest) (accepted_of (Its starts) (line ∷ later) rest) stands
-    (grind (arith, both_last, refusal_said, airs_of, length, seconds, happens, happens_later, same_lasts, unsaid_gone,
-    line_later)) lasting (λ none on.
+    (grind (arith, refusal_said, airs_of, length, seconds, happens, happens_later, same_lasts, line_later)) lasting (λ none on.
     let prints_not : PrintsHorizon airs_of starts history line → ⊥ = never history line rest begins (stands.accepted, none) in
     run_next starts history later rest line (line_same laws starts history later line stands none prints_not)
     (run_alike laws starts lines (line ∷ history) (line ∷ later) rest never (begins ∙ sym (reverse_onto line history rest))

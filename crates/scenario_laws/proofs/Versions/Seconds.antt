@@ -1,6 +1,6 @@
 -- The steps of a scenario in version 2: `scenario 2` stands for `scenario`. What the steps say that isn't said of the version
 -- stays. Lists of steps have the newest first.
-use Rattle.scenario_laws.proofs.Known.Sources.Steps.Prelude.{ℕ, ◌≡◌, ◌⊎◌, ◌≤◌, cond, Bool, true, List, [], ◌∷◌, Option, refl, sym, ◌∙◌, ap, inl, arith, unwrap_or, option_or, Step, horizon_in, version_given, base_lines, with_base_line, cipher_given, cipher_of, group_given, group_of, ident_of, identity_given, is_ahead_in, phase_given, source_calls, start_given, start_of, with_source_call, Stage, unbegun, running, chosen_given, is_common, is_of_source, is_over, is_source_line, is_over_at, is_unbegun_at, last_given, sinks_made, sinks_made_by, stage_of, steps_of_source, version_at, version_of, ◌||◌, list_any, gives_on, had_relay, has_relay, makes_relay, relay_given, relay_of, relays_to, ap₂, range_with_len, air_after, airs_of, stale_of, Setup, framed_calls, setup_of, stale_in, last_given_in as last_of, sink_horizon_of as horizon_of, over, SourceCall as Call, event as perform}
+use Rattle.scenario_laws.proofs.Known.Sources.Steps.Prelude.{ℕ, ◌≡◌, ◌⊎◌, ◌≤◌, cond, Bool, true, List, [], ◌∷◌, Option, refl, sym, ◌∙◌, ap, inl, arith, unwrap_or, option_or, Step, horizon_in, version_given, base_lines, with_base_line, cipher_given, cipher_of, group_given, group_of, ident_of, identity_given, is_ahead_in, phase_given, source_calls, start_given, start_of, with_source_call, Stage, unbegun, running, chosen_given, is_common, is_of_source, is_over, is_source_line, is_over_at, is_unbegun_at, last_given, sinks_made, sinks_made_by, stage_of, steps_of_source, version_at, version_of, ◌||◌, list_any, gives_on, had_relay, has_relay, makes_relay, relay_given, relay_of, relays_to, ap₂, range_with_len, air_after, airs_of, stale_of, Setup, setup_of, stale_in, last_given_in as last_of, sink_horizon_of as horizon_of, over, SourceCall as Call, event as perform}
 use Rattle.scenario_laws.proofs.Wholes.{horizon_greatest}
 
 abbrev pub second : Step → Step
@@ -196,12 +196,8 @@ of_calls f stays own = cc (ap₂ f (setup_same own) (calls_same own), stays (is_
 
 -- ---- its airs
 
-pub framed_same : (ahead : Bool) (setup : Setup) (bis : ℕ) (calls : List Call)
-    → framed_calls (with_ahead ahead setup) bis calls ≡ framed_calls setup bis calls
-framed_same ahead setup bis calls = search
-
 pub airs_same : (ahead : Bool) (setup : Setup) (calls : List Call) → airs_of (with_ahead ahead setup) calls ≡ airs_of setup calls
-airs_same ahead setup calls = grind (arith, air_after, framed_same, range_with_len)
+airs_same ahead setup calls = grind (arith, air_after, range_with_len)
 
 pub stale_same : (own : List Step) → stale_in airs_of (seconds own) ≡ stale_in airs_of own
 stale_same own =

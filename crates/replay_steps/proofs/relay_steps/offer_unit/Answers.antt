@@ -1,17 +1,19 @@
 use Rattle.replay_steps.proofs.Prelude.{arith, ◌≡◌, ◌∙◌, ap, refl, sym, relay_histories}
 use Rattle.scenario_sinks.specs.declared.route.Route.{Route}
-use Rattle.replay_steps.proofs.Offering.{routes_after_relays, offer_of, offers_dropped, offers_lost, offers_other, offers_taken}
+use Rattle.replay_steps.proofs.Offering.{lost_unit, none_offered, offer_of, offers_dropped, offers_taken, other_unit, routes_after_relays, valid_as}
 use Rattle.replay_steps.proofs.relay_steps.offer_unit.Goals as goal
 
 pub returns-in_default : goal.returns-in_default
 returns-in_default c steps own route s r =
-    offers_lost steps c.args.sink own c.args.unit.now c.args.sources.now c.args.relays.now c.args.text.now (sym (rw c.in_default.is at c.octets.ensures)) s r
+    none_offered steps _ c.args.sources.now c.args.relays.now c.args.text.now
+    (lost_unit c.args.sink own c.args.unit.now.bis c.args.unit.now.time _ (sym (rw c.in_default.is at c.octets.ensures))) s r
 
 pub returns-then-get : goal.returns-then-get
 returns-then-get c steps own route s r =
     let stream : c.args.route.now.bis ≡ own.bis = ap (λ (way : Route). way.bis) route in
-    offers_other steps c.args.sink own c.args.unit.now c.in-Some.octets.now c.args.sources.now c.args.relays.now c.args.text.now (sym (rw c.in-Some.is at c.octets.ensures))
-    (λ same. c.if-get.true (c.get.ensures.same ∙ same ∙ sym stream ∙ sym c.get-2.ensures.same)) s r
+    none_offered steps _ c.args.sources.now c.args.relays.now c.args.text.now
+    (valid_as c.args.sink own c.args.unit.now c.in-Some.octets.now (sym (rw c.in-Some.is at c.octets.ensures))
+    ∙ other_unit c.args.sink own _ _ _ (λ same. c.if-get.true (c.get.ensures.same ∙ same ∙ sym stream ∙ sym c.get-2.ensures.same))) s r
 
 pub returns-in-Ok : goal.returns-in-Ok
 returns-in-Ok c steps own route s r =

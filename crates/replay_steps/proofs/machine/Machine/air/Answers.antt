@@ -4,7 +4,8 @@ use Rattle.replay_steps.proofs.machine.Machine.air.Goals as goal
 
 pub returns-in-Err : goal.returns-in-Err
 returns-in-Err c boxes version steps stands e =
-    reach_fails boxes version c.args.sink steps (Air c.args.sink c.args.lose) c.args.self.now c.in-Err.stop stands (air_brings c.args.sink c.args.lose) e (c.in-Err.ensures steps stands)
+    reach_fails boxes version c.args.sink steps (Air c.args.sink c.args.lose) c.args.self.now c.in-Err.stop stands
+    (air_brings c.args.sink c.args.lose) e (c.in-Err.ensures steps stands)
 
 pub returns-in_default : goal.returns-in_default
 returns-in_default c boxes version steps stands e = grind (arith, c.in-Ok.ensures steps stands)

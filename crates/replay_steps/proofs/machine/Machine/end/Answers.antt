@@ -13,7 +13,8 @@ returns-in-Err-clause-meets g c starts steps stands e boxes =
 pub returns-in-Err-close-clause-meets : goal.returns-in-Err-close-clause-meets
 returns-in-Err-close-clause-meets g c starts steps stands e boxes =
     second_stops starts _ steps c.open-first.result c.open-second.result _ _ _ _ _ c.in-Err-close.stop e
-    (both_did steps _ _ c.close.new.self c.close-2.new.self c.args.text.now c.close.new.text c.close-2.new.text _ _ _ (Err c.in-Err-close.stop)
+    (both_did steps _ _ c.close.new.self c.close-2.new.self c.args.text.now c.close.new.text c.close-2.new.text _ _ _
+    (Err c.in-Err-close.stop)
     (opens_at e (c.open-first.ensures.event steps stands.sources) (c.open-second.ensures.event steps stands.sources))
     (c.in-Ok.ensures.closes steps (histories_of steps) (record { sources = stands.sources; sinks = stands.sinks; relays = stands.relays }))
     c.in-Err-close.ensures.closes)
@@ -44,21 +45,24 @@ returns-in-Err-clause-unassigned g c steps stands =
 
 pub returns-in-Err-close-clause-unassigned : goal.returns-in-Err-close-clause-unassigned
 returns-in-Err-close-clause-unassigned g c steps stands =
-    let components : ComponentsStand steps (histories_of steps) _ = record { sources = stands.sources; sinks = stands.sinks; relays = stands.relays } in
+    let components : ComponentsStand steps (histories_of steps) _ =
+    record { sources = stands.sources; sinks = stands.sinks; relays = stands.relays } in
     unassigned_then steps _ _ _ (unassigned_in steps _ _ (c.close.ensures.others steps (histories_of steps) components))
     (unassigned_in steps _ _ (c.close-2.ensures.others _ _
     (first_did steps (histories_of steps) _ _ _ _ _ _ (Ok tt) (c.in-Ok.ensures.closes steps (histories_of steps) components)).1))
 
 pub returns-in-Ok-sums-clause-unassigned : goal.returns-in-Ok-sums-clause-unassigned
 returns-in-Ok-sums-clause-unassigned g c steps stands =
-    let components : ComponentsStand steps (histories_of steps) _ = record { sources = stands.sources; sinks = stands.sinks; relays = stands.relays } in
+    let components : ComponentsStand steps (histories_of steps) _ =
+    record { sources = stands.sources; sinks = stands.sinks; relays = stands.relays } in
     unassigned_then steps _ _ _ (unassigned_in steps _ _ (c.close.ensures.others steps (histories_of steps) components))
     (unassigned_in steps _ _ (c.close-2.ensures.others _ _
     (first_did steps (histories_of steps) _ _ _ _ _ _ (Ok tt) (c.in-Ok.ensures.closes steps (histories_of steps) components)).1))
 
 pub returns-in-Err-sums-clause-unassigned : goal.returns-in-Err-sums-clause-unassigned
 returns-in-Err-sums-clause-unassigned g c steps stands =
-    let components : ComponentsStand steps (histories_of steps) _ = record { sources = stands.sources; sinks = stands.sinks; relays = stands.relays } in
+    let components : ComponentsStand steps (histories_of steps) _ =
+    record { sources = stands.sources; sinks = stands.sinks; relays = stands.relays } in
     unassigned_then steps _ _ _ (unassigned_in steps _ _ (c.close.ensures.others steps (histories_of steps) components))
     (unassigned_in steps _ _ (c.close-2.ensures.others _ _
     (first_did steps (histories_of steps) _ _ _ _ _ _ (Ok tt) (c.in-Ok.ensures.closes steps (histories_of steps) components)).1))

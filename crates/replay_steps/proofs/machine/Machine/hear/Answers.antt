@@ -4,7 +4,8 @@ use Rattle.replay_steps.proofs.machine.Machine.hear.Goals as goal
 
 pub returns-in-Err : goal.returns-in-Err
 returns-in-Err c boxes version steps stands e =
-    reach_fails boxes version c.args.sink steps (Hear c.args.sink c.args.place.back c.args.place.bis c.args.place.subevent) c.args.self.now c.in-Err.stop stands
+    reach_fails boxes version c.args.sink steps
+    (Hear c.args.sink c.args.place.back c.args.place.bis c.args.place.subevent) c.args.self.now c.in-Err.stop stands
     (hear_brings c.args.sink c.args.place.back c.args.place.bis c.args.place.subevent) e (c.in-Err.ensures steps stands)
 
 pub returns-in-Ok-heard_at : goal.returns-in-Ok-heard_at

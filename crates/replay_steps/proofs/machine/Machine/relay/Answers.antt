@@ -39,4 +39,5 @@ returns c boxes version steps stands e =
     let second = c.in-Some-taking.ensures steps stands.sources in
     let lives = c.lives.ensures (histories_of steps) stands.sinks in
     relay_meets boxes version c.args.sink c.args.bis c.args.to steps c.args.self.now _ stands e
-    (grind (arith, c.is_taken.ensures (relay_histories steps) stands.relays)) refl refl refl (c.relay.ensures (relay_histories steps) stands.relays)
+    (grind (arith, c.is_taken.ensures (relay_histories steps) stands.relays)) refl refl refl
+    (c.relay.ensures (relay_histories steps) stands.relays)

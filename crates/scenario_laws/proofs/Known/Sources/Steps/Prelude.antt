@@ -15,12 +15,11 @@ pub use Rattle.std.specs.Prelude.{unwrap_or, slice_index_or, codes, decimal, sli
 pub use Rattle.std.proofs.lemmas.Slice.Zip.{AllZip-long}
 pub use Rattle.announcement_train.specs.BaseLines.{BaseLine, subgroups_in}
 pub use Rattle.announcement_train.specs.Layout.{IsTrain}
-pub use Rattle.announcement_train.specs.Told.{Tells, TellsInfo, numbers_of as told_numbers_of}
+pub use Rattle.announcement_train.specs.Told.{Tells, TellsInfo}
 pub use Rattle.assistant_machine.specs.Links.{view_of, waiting_of, waits_of, reads_of}
 pub use Rattle.base_grammar.specs.Draft.{IsDraft, last_of, Refuses, is_empty_last, size_fault, opened as draft_opened}
 pub use Rattle.base_grammar.specs.Layout.{endpoint, stands_in, Endpoint, AreNew, EntryFits, IsBase, SubgroupFits, is_lc3, lc3, bis_of as entry_bis_of, encoding as base_encoding}
 pub use Rattle.base_grammar.specs.declared.subgroup.Subgroup.{Subgroup}
-pub use Rattle.bass_operations.specs.Layout.{encoding}
 pub use Rattle.bcast_base.specs.Tries.{◌>>=◌}
 pub use Rattle.bcast_io.specs.TextLines.{TextLine, plain, line_of, too_long, line_limit, newline, text_limit, lines_of as text_lines, past}
 unfoldable pub use Rattle.bcast_io.specs.TextLines.{lines_from}
@@ -53,7 +52,7 @@ pub use Rattle.group_sink.specs.Calls.{Call, leave, tune, hear, tick, place}
 pub use Rattle.group_sink.specs.Handing.{bis_of, of_stream, handed_at, handed_since as ticked_since, handed_by as ticked_by_sink}
 pub use Rattle.group_sink.specs.Streams.{stay_on, is_in, stream_calls, streams_of, with_hear, with_tick, closes}
 pub use Rattle.iso_pdu.specs.Encoding.{pdu}
-pub use Rattle.iso_pdu.specs.Layout.{framed, Content, PduIs, Part, start, control, more}
+pub use Rattle.iso_pdu.specs.Layout.{framed, Content, PduIs, Part, start, more}
 pub use Rattle.isoal_base.specs.Air.{Air, pdu_at, Laid, event_at}
 pub use Rattle.isoal_base.specs.Stays.{Stay, opened, close, Call as StayCall, entry_of as entered, hear as stay_hear, heard as stay_heard}
 pub use Rattle.isoal_framed.proofs.Citable.{cases_low, opened_least}
@@ -79,13 +78,13 @@ pub use Rattle.scenario_history.specs.Boxes.{closing_both, handed_up, SinkUnit, 
 unfoldable pub use Rattle.scenario_history.specs.Boxes.{sink_numbers}
 pub use Rattle.scenario_history.specs.Lines.{a_step, nothing, unsaid, said_by, said_in, steps_of, with_said, refusal_said, rules_of, output_said, handed_said, said_of, Said, handed_on as line_handed_on, said_after}
 pub use Rattle.scenario_history.specs.Output.{close_lines, first_lines, output_of, sums_of, unit_lines, stale_lines, sink_lines}
-pub use Rattle.scenario_history.specs.Refusals.{line_refusal, refusal_of, group_refusal, give_refusal, no_sink, is_misplaced, is_out_of_phase, source_refusal, gives_on, is_relayed, train_ends, counter_ends, air_refusal, is_out_of_order, own_refusal, sink_refusal, twin_refusal, is_relay_beyond, may_relay, relayed_or}
+pub use Rattle.scenario_history.specs.Refusals.{line_refusal, refusal_of, group_refusal, give_refusal, is_misplaced, is_out_of_phase, source_refusal, gives_on, is_relayed, train_ends, counter_ends, air_refusal, is_out_of_order, own_refusal, sink_refusal, twin_refusal, is_relay_beyond, may_relay, relayed_or}
 unfoldable pub use Rattle.scenario_history.specs.Refusals.{has_beyond}
 pub use Rattle.scenario_history.specs.RelayedUnits.{happened, answered_by, handed_of, Answered, Offer, after_offer, after_offers, closes_first, dropped_for, offered_of, offers_at, with_relayed_unit_unless, with_relayed_units, offers_before, units_on, all_answered, offered_to, answered, passed, handed_of as of_sink}
 pub use Rattle.scenario_history.specs.Relays.{has_relay, makes_relay, relay_of, had_relay, relay_given, relays_to, Route}
 pub use Rattle.scenario_history.specs.Runs.{Accepted, End, accepted_of, accepted_unless, end_unless, out, out_unless, Rules, refused, number_after, through, end_of}
 pub use Rattle.scenario_history.specs.Sinks.{sink_calls, source_after, source_of, with_sink_call, is_of, ticked, ticked_if, heard_on_air, reaches, positions_of, unless_lost, Position, hear_at, ticked_by, position_at, is_lost, moved, sourced, is_of as is_sink}
-pub use Rattle.scenario_history.specs.Source.{is_started, setup_of, source_calls, is_ahead_in, no_group, setup_from, stale_in, open_event, event_back, is_ciphered, is_sending, performed, takes_units, Phase, checked_info, cipher_of, group_of, identity_of, is_absent_at, is_described_at, is_sending_at, GroupLine, phase_of, start_of, was_started_at, pdu_in, absent, cipher_given, end_pdu, group_given, ident_of, identity_given, no_identity, phase_given, start_given, with_source_call, sending, is_heard as source_is_heard}
+pub use Rattle.scenario_history.specs.Source.{is_started, setup_of, source_calls, is_ahead_in, no_group, setup_from, stale_in, open_event, event_back, is_ciphered, is_sending, performed, takes_units, Phase, checked_info, cipher_of, group_of, identity_of, is_absent_at, is_described_at, is_sending_at, GroupLine, phase_of, start_of, was_started_at, pdu_in, cipher_given, end_pdu, group_given, ident_of, identity_given, no_identity, phase_given, start_given, with_source_call, sending, is_heard as source_is_heard}
 pub use Rattle.scenario_history.specs.Steps.{chosen_of, chosen_steps, steps_of_source, version_at, is_of_source, is_over, is_over_at, sinks_made, is_common, is_source_line, is_unbegun_at, stage_of, version_of, chosen_given, last_given, sinks_made_by, Stage, stage_after, unbegun, running, is_unbegun, over}
 pub use Rattle.scenario_history.specs.Transcript.{end_after, out_of, transcript_end, transcript_of, units_of, has_end, last_end_after}
 pub use Rattle.scenario_history.specs.Worlds.{calls_made, source_at, big_sync_on, the_world, announced_of}
@@ -129,9 +128,9 @@ pub use Rattle.source_machine.specs.declared.setup.Identity.{Identity}
 pub use Rattle.sync_reference.specs.BigSync.{BigSync}
 pub use Rattle.sync_reference.specs.Reference.{anchor_of, render_of, framed_reference_of, unframed_reference_of}
 pub use Rattle.transcript_text.specs.Lines.{control_line, handed_line, refusal_line}
-pub use Rattle.transcript_text.specs.SinkLines.{Label, reply_line, sink_line, train_words, value_line, control_words}
+pub use Rattle.transcript_text.specs.SinkLines.{Label, reply_line, sink_line, value_line, control_words}
 pub use Rattle.transcript_text.specs.declared.refusal.Refusal.{Refusal}
-pub use Rattle.transcript_text.specs.declared.refusal.Refusal.TheVariants.{NoSuchBis, BaseTooLong, Order, BadLine, NoSuchSink, NotOnAir, AfterEnd, LineTooLong, NothingWaiting, RecordsTooLong}
+pub use Rattle.transcript_text.specs.declared.refusal.Refusal.TheVariants.{NoSuchBis, BaseTooLong, Order, BadLine, NotOnAir, AfterEnd, LineTooLong, NothingWaiting, RecordsTooLong}
 pub use Rattle.unit_outlets.specs.Account.{Account}
 pub use Rattle.unit_outlets.specs.Handed.{Handed, valid, lost}
 pub use Rattle.announcement_train.specs.declared.train.Train.{Train as TrainOctets}
@@ -142,6 +141,6 @@ unfoldable pub use Rattle.iso_pdu.specs.Reading.{read_of as pdu_read_of, parts_f
 pub use Rattle.isoal_base.proofs.Citable.{heard_first}
 pub use Rattle.isoal_base.specs.Hearing.{read_as}
 pub use Rattle.isoal_unframed.specs.State.Windows.{time_of as window_time_of, handed_of as window_handed_of}
-pub use Rattle.scenario_text.proofs.Citable.{nil_octets, cons_octets, text_again}
+pub use Rattle.scenario_text.proofs.Citable.{cons_octets, text_again}
 pub use Rattle.scenario_words.specs.Reading.{Left, at_place}
 unfoldable pub use Rattle.scenario_words.specs.Reading.{decimal_in}
