@@ -146,7 +146,7 @@ answers_of steps past event n below =
     ∙ grind (
       arith,
       filter-append (of_sink n) (answered airs_of before steps)
-      (answered airs_of own then ++ answered airs_of later (after_offers airs_of own then)),
+          (answered airs_of own then ++ answered airs_of later (after_offers airs_of own then)),
       filter-append (of_sink n) (answered airs_of own then) (answered airs_of later (after_offers airs_of own then)),
       append-nil (answered airs_of own then),
       eq-eqb n n refl,

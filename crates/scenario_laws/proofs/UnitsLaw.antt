@@ -137,8 +137,14 @@ since_after airs boxes s n (Step.Announce sink) earlier tuning legal least withi
 since_after airs boxes s n (Step.Train sink time ext adv acad) earlier tuning legal least within is since =
     stays_since airs boxes s n (Step.Train sink time ext adv acad) earlier tuning (grind (arith, given_stays, last_not, is_tuned, any_since, is_given)) refl is since
 since_after airs boxes s n step earlier tuning legal least within is since =
-    search (still_since airs boxes s n step earlier tuning legal least within, gone_since, more_since, closed_since_by airs s n earlier,
-    stays_since airs boxes s n step earlier tuning, plain_stays airs n step earlier)
+    search (
+      still_since airs boxes s n step earlier tuning legal least within,
+      gone_since,
+      more_since,
+      closed_since_by airs s n earlier,
+      stays_since airs boxes s n step earlier tuning,
+      plain_stays airs n step earlier,
+    )
 
 pub since : (airs : Airs) (boxes s n : ℕ) (made : List Step) (tuning : BigSync) → Legal airs boxes made → s ≤ 1 → n ≤ 7 → IsOn airs s n made tuning → Since airs s n made
 since airs boxes s n [] tuning legal least within is = refl

@@ -54,8 +54,12 @@ its_step airs boxes s earlier step permits ranged is =
 pub lawful : (airs : Airs) (boxes s : ℕ) (made : List Step) → Legal airs boxes made → Lawful airs (steps_of_source s made)
 lawful airs boxes s [] legal = tt
 lawful airs boxes s (step ∷ earlier) legal =
-    grind (arith, (lawful airs boxes s earlier legal.0), (its_step airs boxes s earlier step
-    (permitted airs boxes earlier step legal.1) legal.2))
+    grind (
+      arith,
+      (lawful airs boxes s earlier legal.0),
+      (its_step airs boxes s earlier step
+          (permitted airs boxes earlier step legal.1) legal.2),
+    )
 
 pub horizon_greatest : (second : Bool) → cond second 31 15 ≤ 31
 horizon_greatest second = grind arith

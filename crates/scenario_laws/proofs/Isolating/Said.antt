@@ -78,4 +78,3 @@ stays_if is_its this own same = grind arith
 pub said_stays : (s : ℕ) (step : Step) (made : List Step) → ((said : Said) → said_after step said ≡ said)
     → said_of (steps_of_source s (step ∷ made)) ≡ said_of (steps_of_source s made)
 said_stays s step made nothing = cc (stays_if (is_of_source s made step) step (steps_of_source s made) (nothing (said_of (steps_of_source s made))))
-
