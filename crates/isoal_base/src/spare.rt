@@ -38,6 +38,7 @@ impl SpareOctets {
 
     /// The same octets, in the memory of a string that was kept where there is one; that string is no longer kept. No octets
     /// take no new memory.
+    #[inline(always)]
     pub fn copy(&mut self, from: &[u8]) -> Result<Octets, Memory>
         ensures copied { MatchResult result (λ octets. octets ≡ from.now) (λ _. 0 < length from.now) }
         ensures one_less { self.new ≡ self.old - 1 }

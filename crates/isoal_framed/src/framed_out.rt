@@ -85,6 +85,7 @@ impl FramedOut {
         self.accept(time, None, octets)
     }
 
+    #[inline(always)]
     fn accept(&mut self, time: u64, limit: Option<u64>, octets: &[u8]) -> Result<(), PutFault>
         ensures may_wait { OnOk result (MayWait self.old limit time octets.now) }
         ensures ok { OnOk result (self.new ≡ with_unit self.old time octets.now) }

@@ -24,6 +24,7 @@ pub(crate) fn valid<T: UnitTaker>(
 }
 
 /// Tells that a unit is lost, unless the taker has refused one before.
+#[inline(never)]
 pub(crate) fn lost<T: UnitTaker>(
     so_far: Result<(), TakerFault>,
     taker: &mut T,

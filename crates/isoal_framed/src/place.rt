@@ -144,6 +144,7 @@ impl Places {
     }
 
     /// Takes the first place out, and puts it back, empty, at the end.
+    #[inline(always)]
     pub(crate) fn turn(&mut self)
         requires { 0 < length self.old.ring.items }
         ensures places { length self.new.ring.items ≡ length self.old.ring.items }

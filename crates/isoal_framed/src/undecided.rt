@@ -67,6 +67,7 @@ impl UndecidedRun {
     }
 
     /// Takes a further segment: it goes on with the run, where there is one.
+    #[inline(always)]
     pub(crate) fn go_on<T: UnitTaker>(
         &mut self,
         bis: Bis,
