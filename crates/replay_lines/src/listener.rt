@@ -84,6 +84,10 @@ impl<K: ByteSink> Listener<K> for Silent {
 
     #[inline(always)]
     fn write(&self, octets: &[u8], sink: &mut K) -> Result<(), SinkFault> {
+        // Most lines print nothing.
+        if octets.is_empty() {
+            return Ok(());
+        }
         write_whole(sink, octets)
     }
 

@@ -174,11 +174,8 @@ fn unit(
     let Ok(time) = words.time() else {
         return Ok(None);
     };
-    match words.octets_over(alloc, spare, 4_095) {
-        Ok(octets) => {
-            *spare = octets;
-            Ok(Some(Frequent::Unit { bis, time }))
-        }
+    match words.octets_into(alloc, spare, 4_095) {
+        Ok(()) => Ok(Some(Frequent::Unit { bis, time })),
         Err(LineFault::BadLine { word: _ }) => Ok(None),
         Err(LineFault::Memory) => Err(Memory),
     }

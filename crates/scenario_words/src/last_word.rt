@@ -1,5 +1,5 @@
 //! The octets of the last word of a line, read into memory that was used before.
-ghost use Rattle.std.specs.Prelude.{◌≡◌, ◌≤◌, Ok, Err, length, IfOk, IfSome, IsErr, IsNone};
+ghost use Rattle.std.specs.Prelude.{◌≡◌, ◌≤◌, Ok, Err, length, IfOk, IsErr, IsTrue, false};
 ghost use Rattle.scenario_words.specs.declared.fault.LineFault.TheVariants.{Memory as NoMemory};
 ghost use Rattle.scenario_words.specs.Reading.{GivesNext, SpellsNext, next, octets_in};
 
@@ -11,32 +11,46 @@ use std::alloc::Global;
 use std::mem;
 
 impl<'a> Cursor<'a> {
-    /// All that is left of the line, read as one word that spells one octet or more and at most `most`, into the memory of `spare`, which
-    /// is given away. Where it spells none such, the answer is None, and no word is read.
-    fn last_octets_over(
+    /// All that is left of the line, read as one word that spells one octet or more and at most `most`, in the place of `spare`. Where it
+    /// spells none such, the answer is false, and no word is read.
+    fn last_octets_into(&mut self, spare: &mut Octets, most: usize) -> Result<bool, Memory>
+        ensures last { IfOk result (λ found. IsTrue found →
+            (next (octets_in most) self.old ≡ Ok (spare.new, self.new)) × (length spare.new ≤ most)) }
+        ensures other { IfOk result (λ found. found ≡ false → self.new ≡ self.old) }
+        ensures memory { IsErr result → SpellsNext (next (octets_in most) self.old) }
+    {
+        let Some(rest) = self.rest else {
+            return Ok(false);
+        };
+        if !octets_over(spare, rest, most)? {
+            return Ok(false);
+        }
+        self.rest = None;
+        self.read += 1;
+        Ok(true)
+    }
+
+    /// The same as `octets`, in the place of `spare`, and in its memory where the word is the last of its line. After a fault nothing is
+    /// said of `spare`.
+    #[tactic(auto, using(crate::proofs::NextWords::fits, crate::proofs::NextWords::misfits, crate::proofs::NextWords::spells))]
+    pub fn octets_into(
         &mut self,
         alloc: Global,
         spare: &mut Octets,
         most: usize,
-    ) -> Result<Option<Octets>, Memory>
-        ensures last { IfOk result (λ found. IfSome found (λ octets.
-            (next (octets_in most) self.old ≡ Ok (octets, self.new)) × (length octets ≤ most))) }
-        ensures other { IfOk result (λ found. IsNone found → self.new ≡ self.old) }
-        ensures memory { IsErr result → SpellsNext (next (octets_in most) self.old) }
+    ) -> Result<(), LineFault>
+        ensures range { IfOk result (λ _. length spare.new ≤ most) }
+        ensures gives { GivesNext (λ _. spare.new) result self.new (next (octets_in most) self.old) }
+        ensures memory { result ≡ Err NoMemory → SpellsNext (next (octets_in most) self.old) }
     {
-        let Some(rest) = self.rest else {
-            return Ok(None);
-        };
-        if !octets_over(spare, rest, most)? {
-            return Ok(None);
+        if self.last_octets_into(spare, most)? {
+            return Ok(());
         }
-        self.rest = None;
-        self.read += 1;
-        Ok(Some(mem::replace(spare, Octets::new(alloc))))
+        *spare = self.octets(alloc, most)?;
+        Ok(())
     }
 
     /// The same as `octets`, into the memory of `spare` where the word is the last of its line; then it is given away.
-    #[tactic(auto, using(crate::proofs::NextWords::fits, crate::proofs::NextWords::misfits, crate::proofs::NextWords::spells))]
     pub fn octets_over(
         &mut self,
         alloc: Global,
@@ -47,9 +61,7 @@ impl<'a> Cursor<'a> {
         ensures gives { GivesNext (λ n. n) result self.new (next (octets_in most) self.old) }
         ensures memory { result ≡ Err NoMemory → SpellsNext (next (octets_in most) self.old) }
     {
-        if let Some(last) = self.last_octets_over(alloc, spare, most)? {
-            return Ok(last);
-        }
-        self.octets(alloc, most)
+        self.octets_into(alloc, spare, most)?;
+        Ok(mem::replace(spare, Octets::new(alloc)))
     }
 }
