@@ -179,6 +179,10 @@ fn cell_of(is_end: bool, count: u8) -> Cell
 fn empty(cells: &mut [Cell])
     ensures { cells.new ≡ replicate (length cells.old) Empty }
 {
+    if cells.len() == 1 {
+        cells[0] = Cell::Empty;
+        return;
+    }
     for cell in cells.iter_mut() {
         *cell = Cell::Empty;
     }
