@@ -65,8 +65,17 @@ events_fine boxes made calls state x (suc count) a sent most =
     let other = drawn (next_state (next_state state)) in
     let calls2 = give 2 None (unit_of (x + 1)) ∷ give 1 None (unit_of (x + 1)) ∷ calls in
     let few : events calls ≤ 100000 = omega (arith, sent.performed, most) in
-    let sent5 : Sent (event ∷ calls2) (x + 1) = grind (arith, suc-eq-add-one, event_near, nat_eq, events, stream_calls, info_said,
-        accept_near, unit_of) in
+    let sent5 : Sent (event ∷ calls2) (x + 1) = grind (
+      arith,
+      suc-eq-add-one,
+      event_near,
+      nat_eq,
+      events,
+      stream_calls,
+      info_said,
+      accept_near,
+      unit_of,
+    ) in
     then_unit boxes a 1 (x + 1) (omega arith) (omega arith) sent.first λ a1.
     then_unit boxes a1 2 (x + 1) (omega arith) (omega arith) sent.second λ a2.
     then_fine boxes a2 kinds.Event event_plain (event_fine boxes _ _ a2 (event_given calls2 few)) λ a3.
@@ -104,12 +113,12 @@ pub all_fine : (boxes seed events : ℕ) → 2 ≤ boxes → events ≤ 100000 �
 all_fine boxes seed events two most =
     let at_start : At tuned_steps [] = grind arith in
     let sent : Sent (give 2 None (unit_of 0) ∷ give 1 None (unit_of 0) ∷ []) 0 = record
-        { performed = refl; first = omega arith; second = omega arith } in
+    { performed = refl; first = omega arith; second = omega arith } in
     let units : AllFine boxes tuned_steps (kinds.Unit 1 None (unit_of 0) ∷ kinds.Unit 2 None (unit_of 0) ∷ event_steps seed 0 events) =
     then_unit boxes at_start 1 0 (omega arith) (omega arith) (omega arith) λ a1.
     then_unit boxes a1 2 0 (omega arith) (omega arith) (omega arith) λ a2.
     events_fine boxes (kinds.Unit 2 None (unit_of 0) ∷ kinds.Unit 1 None (unit_of 0) ∷ tuned_steps)
-        (give 2 None (unit_of 0) ∷ give 1 None (unit_of 0) ∷ [])
+    (give 2 None (unit_of 0) ∷ give 1 None (unit_of 0) ∷ [])
     seed 0 events a2 sent (omega (arith, most)) in
     let first = first_sink boxes false (lt-leb boxes 0 (omega (arith, two))) in
     let second = second_sink boxes false (lt-leb boxes 1 (omega (arith, two))) in

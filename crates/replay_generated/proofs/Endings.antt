@@ -63,7 +63,7 @@ module _ (reads : Reads) (starts : List Account) where
       → FailsAt (length starts) made steps n reason → end_of (rules_of airs_of starts) history (map plain lines) ≡ refused number reason
   all_refused history made zero number (line ∷ lines) (next ∷ later) reason is are unrelayed say fails =
       refused_next history made line next are unrelayed fails.0 say.0 (map plain lines) reason fails.1
-          ∙ ap (λ k. refused k reason) (omega arith)
+      ∙ ap (λ k. refused k reason) (omega arith)
   all_refused history made (suc n) number (line ∷ lines) (next ∷ later) reason is are unrelayed say fails =
       accepted_next history made line next are unrelayed fails.0.0 say.0 (map plain lines) fails.0.1
       ∙ all_refused (plain line ∷ history) (next ∷ made) n number lines later reason (omega arith)
@@ -96,15 +96,35 @@ module _ (reads : Reads) (starts : List Account) where
         fails n number is at =
             last_of (refused number NoOutlet)
             (all_refused [] [] n number (generated_lines seed events) (made_steps seed events) NoOutlet (omega arith) refl refl
-                (all_say seed events) at)
+            (all_say seed events) at)
 
         by_count : (n : ℕ) → length starts ≡ n → n < 2 → transcript_end airs_of starts (lines_made seed events) ≡ refused (length starts + 3) NoOutlet
         by_count zero is less =
-            fails 2 3 refl ((refl, refl), ((refl, refl), (refl, first_sink (length starts) true
-                (le-leb (length starts) 0 (omega (arith, is)))))) ∙ ap (λ n. refused (n + 3) NoOutlet) (sym is)
+            fails 2 3 refl (
+              (refl, refl),
+              (
+                (refl, refl),
+                (
+                  refl,
+                  first_sink (length starts) true
+                      (le-leb (length starts) 0 (omega (arith, is))),
+                ),
+              ),
+            ) ∙ ap (λ n. refused (n + 3) NoOutlet) (sym is)
         by_count (suc zero) is less =
-            fails 3 4 refl ((refl, refl), ((refl, refl), ((refl, first_sink (length starts) false
-                (lt-leb (length starts) 0 (omega (arith, is)))),
-            (refl, second_sink (length starts) true (le-leb (length starts) 1 (omega (arith, is)))))))
+            fails 3 4 refl (
+              (refl, refl),
+              (
+                (refl, refl),
+                (
+                  (
+                    refl,
+                    first_sink (length starts) false
+                        (lt-leb (length starts) 0 (omega (arith, is))),
+                  ),
+                  (refl, second_sink (length starts) true (le-leb (length starts) 1 (omega (arith, is)))),
+                ),
+              ),
+            )
             ∙ ap (λ n. refused (n + 3) NoOutlet) (sym is)
         by_count (suc (suc n)) is less = absurd (omega arith)

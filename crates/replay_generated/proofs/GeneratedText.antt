@@ -36,8 +36,11 @@ text_read : (taken : ℕ) (lines : List (List ℕ)) → AllShort line_limit line
 text_read taken [] all fits = lines-nothing true taken
 text_read taken (line ∷ lines) all fits =
     let long = first_long line lines in
-    rw (line_read taken [] line (text_of lines) all.0.0 (omega (arith, long)), line_short line all.0.1,
-    text_read (taken + length line + 1) lines all.1 (omega (arith, long)))
+    rw (
+      line_read taken [] line (text_of lines) all.0.0 (omega (arith, long)),
+      line_short line all.0.1,
+      text_read (taken + length line + 1) lines all.1 (omega (arith, long)),
+    )
 
 -- ---- tests of closed lines
 
@@ -84,8 +87,14 @@ unit_shape bis x small = grind (arith, joined, codes, digits, unit_of, decimal_d
 
 unit_short : (bis x : ℕ) → bis < 10 → Unended (unit_line bis x) × (length (unit_line bis x) ≡ 209)
 unit_short bis x small =
-    rw (unit_shape bis x small) (grind (arith, unended_append, unended, decimal_unended, encoded 100 (x % 256) (omega arith),
-        length-append))
+    rw (unit_shape bis x small) (grind (
+      arith,
+      unended_append,
+      unended,
+      decimal_unended,
+      encoded 100 (x % 256) (omega arith),
+      length-append,
+    ))
 
 air_shape : (sink lose : ℕ) → sink < 10 → lose < 10 → air_line sink lose ≡ codes "air " ++ (48 + sink) ∷ 32 ∷ (48 + lose) ∷ []
 unfolding air_line
@@ -102,8 +111,16 @@ events_short : (state x count : ℕ) → AllShort line_limit (made.lines_from st
 unfolding made.lines_from
 events_short state x zero = (all_short line_limit (codes "end" ∷ []) refl, refl)
 events_short state x (suc count) =
-    grind (arith, length-append, events_short (next_state (next_state state)) (x + 1) count, unit_short, air_short, drawn_small, unended
-        (codes "event") refl)
+    grind (
+      arith,
+      length-append,
+      events_short (next_state (next_state state)) (x + 1) count,
+      unit_short,
+      air_short,
+      drawn_small,
+      unended
+          (codes "event") refl,
+    )
 
 short_append : (most : ℕ) (xs ys : List (List ℕ)) → AllShort most xs → AllShort most ys → AllShort most (xs ++ ys)
 short_append most [] ys h k = k

@@ -38,8 +38,17 @@ close_whole steps made = grind (arith, chosen_of, closing, airs_of, first_whole,
 
 output_whole : (starts : List Account) (steps : List Step) (made : Step) → IsWhole (output_of airs_of starts steps made)
 output_whole starts steps kinds.Event = search (whole_append, close_whole, all_whole, line_whole)
-output_whole starts steps made = search (whole_append, close_whole, line_whole, first_whole, units_whole, all_whole, sum_whole,
-    sink_lines_whole, whole_none)
+output_whole starts steps made = search (
+  whole_append,
+  close_whole,
+  line_whole,
+  first_whole,
+  units_whole,
+  all_whole,
+  sum_whole,
+  sink_lines_whole,
+  whole_none,
+)
 
 pub said_whole : (starts : List Account) (steps : List Step) (said : Said) → IsWhole (output_said airs_of starts steps said)
 said_whole starts steps said = grind (arith, output_whole, whole_none)

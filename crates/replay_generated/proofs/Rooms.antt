@@ -9,7 +9,7 @@ failed_in starts ends lines o =
     let us : List SinkUnit = units_of airs_of starts (reverse o.earlier) in
     let more = units_line starts o.earlier o.line o.later o.accepted.0 o.accepted.1 in
     failure starts ends o.accounts us (handed_on airs_of o.earlier o.line) (f.rest ++ more.0) (units_of airs_of starts lines) [] o.told
-        o.before f (ap (units_of airs_of starts) o.comes ∙ grind (arith, handed_on, airs_of, units_all, append_assoc))
+    o.before f (ap (units_of airs_of starts) o.comes ∙ grind (arith, handed_on, airs_of, units_all, append_assoc))
 
 pub no_room : (starts ends : List Account) (lines : List TextLine) → BoxFailed airs_of starts ends lines → RoomFor starts (units_of airs_of starts lines) → ⊥
 no_room starts ends lines o room = no_room_for starts ends (units_of airs_of starts lines) (failed_in starts ends lines o) room

@@ -62,28 +62,33 @@ module _ (starts : List Account) (history : List TextLine) (accepted : Accepted 
 
 units_rest : (starts : List Account) (history lines : List TextLine) → (rest : List SinkUnit)
     × (handed_up airs_of (steps_of airs_of (accepted_of (rules_of airs_of starts) history lines))
-        ≡ handed_up airs_of (steps_of airs_of history) ++ rest)
+    ≡ handed_up airs_of (steps_of airs_of history) ++ rest)
 units_rest starts history [] = ([], sym (append-nil (handed_up airs_of (steps_of airs_of history))))
 units_rest starts history (line ∷ lines) = by (refusal_at starts history line) (units_rest starts (line ∷ history) lines)
   where
     by : (why : Option Refusal)
         → (rest : List SinkUnit) × (handed_up airs_of (steps_of airs_of (accepted_of (rules_of airs_of starts) (line ∷ history) lines))
         ≡ handed_up airs_of (steps_of airs_of (line ∷ history)) ++ rest) → (rest : List SinkUnit) × (handed_up airs_of (steps_of airs_of
-            (accepted_unless history why (accepted_of (rules_of airs_of starts) (line ∷ history) lines)))
+        (accepted_unless history why (accepted_of (rules_of airs_of starts) (line ∷ history) lines)))
         ≡ handed_up airs_of (steps_of airs_of history) ++ rest)
     by (Some reason) more = ([], sym (append-nil (handed_up airs_of (steps_of airs_of history))))
-    by None more = (handed_on airs_of history line ++ more.0, more.1 ∙ ap (λ us. us ++ more.0) (handed_line airs_of history line)
-        ∙ simp append_assoc)
+    by None more = (
+      handed_on airs_of history line ++ more.0,
+      more.1 ∙ ap (λ us. us ++ more.0) (handed_line airs_of history line)
+          ∙ simp append_assoc,
+    )
 
 -- the units of an accepted line come behind those of the history
 pub units_line : (starts : List Account) (history : List TextLine) (line : TextLine) (later : List TextLine)
     → Accepted (rules_of airs_of starts) history → refusal_at starts history line ≡ None → (rest : List SinkUnit)
     × (units_of airs_of starts (reverse history ++ line ∷ later)
-        ≡ (handed_up airs_of (steps_of airs_of history) ++ handed_on airs_of history line) ++ rest)
+    ≡ (handed_up airs_of (steps_of airs_of history) ++ handed_on airs_of history line) ++ rest)
 units_line starts history line later accepted none =
-    let more = units_rest starts (line ∷ history) later in
-    (more.0, units_then starts history accepted (line ∷ later)
-        ∙ rw none (more.1 ∙ ap (λ us. us ++ more.0) (handed_line airs_of history line)))
+    let more = units_rest starts (line ∷ history) later in (
+      more.0,
+      units_then starts history accepted (line ∷ later)
+          ∙ rw none (more.1 ∙ ap (λ us. us ++ more.0) (handed_line airs_of history line)),
+    )
 
 -- ---- what the boxes took
 
@@ -179,7 +184,7 @@ module _ {A : Type 0} {olds news : List A} {starts accounts : List Account} {lin
           split = ap (units_of airs_of starts) split_at ∙ more.1 ∙ ap (λ us. (before ++ us) ++ more.0) cut.1.split ∙ simp append_assoc;
           boxes = took_at starts (accounts_after starts (before ++ cut.1.done)) ends (before ++ cut.1.done)
               (cut.1.boxes ∙ ap (λ a. accounts_after a cut.1.done) r.run.stands.boxes.accounts_are
-                  ∙ sym (accounts_append before cut.1.done starts)) (took_all starts (before ++ cut.1.done));
+              ∙ sym (accounts_append before cut.1.done starts)) (took_all starts (before ++ cut.1.done));
         }
 
     -- the line was run
@@ -209,7 +214,7 @@ module _ {A : Type 0} {olds news : List A} {starts accounts : List Account} {lin
 module _ {starts : List Account} {history : List TextLine} {machine : Machine} {before : List Account} {counts : Counts} (line : TextLine)
     (new : Machine)
     (after : List Account) (text told : List ℕ) (result : Result (Unit {0}) Stop) (run : RunTo starts history counts machine before)
-        (cleared : text ≡ [])
+    (cleared : text ≡ [])
     (meets : LinesStand starts history machine before → LineMeets starts history line new text told before after result) where
   met : (r : Result (Unit {0}) Stop) → result ≡ r → LineMeets starts history line new [] told before after r
   met r is = meets_at starts history line new text told before after result r cleared is (meets run.stands)

@@ -62,14 +62,33 @@ all_say seed events =
     let scenario : LineIs 1 scenario_step (codes "scenario 1") = row_says rows.scenario_row (1 ▸ tt) refl refl refl refl (omega arith) in
     let group : LineIs 1 group_step (codes "group unframed 20000 40000 8 10000 100 100 2 1 3 2 1 600 1800 1") =
     row_says rows.group_row (0 ▸ 20000 ▸ 40000 ▸ 8 ▸ 10000 ▸ 100 ▸ 100 ▸ 2 ▸ 1 ▸ 3 ▸ 2 ▸ 1 ▸ 600 ▸ 1800 ▸ 1 ▸ tt) refl refl refl refl
-        (omega arith) in
+    (omega arith) in
     let sink : LineIs 1 (sink_step 0) (codes "sink 0 1 1") = row_says (rows.sink_row 1) (0 ▸ 1 ▸ 1 ▸ None ▸ tt) refl refl refl refl
-        (omega arith) in
+    (omega arith) in
     let other : LineIs 1 (sink_step 1) (codes "sink 1 1 1") = row_says (rows.sink_row 1) (1 ▸ 1 ▸ 1 ▸ None ▸ tt) refl refl refl refl
-        (omega arith) in
+    (omega arith) in
     let start : LineIs 1 (kinds.Start 0) (codes "start 0") = row_says rows.start_row (0 ▸ tt) refl refl refl refl (omega arith) in
     let tuned : LineIs 1 (tuned_step 0 1) (codes "tuned 0 1") = row_says rows.tuned_row (0 ▸ 1 ▸ tt) refl refl refl refl (omega arith) in
     let second : LineIs 1 (tuned_step 1 2) (codes "tuned 1 2") = row_says rows.tuned_row (1 ▸ 2 ▸ tt) refl refl refl refl (omega arith) in
-    let units = unit_says 1 0 (omega arith) (omega arith) in
-    (scenario, (group, (sink, (other, (start, (tuned, (second,
-        (units, (unit_says 2 0 (omega arith) (omega arith), events_say seed 0 events)))))))))
+    let units = unit_says 1 0 (omega arith) (omega arith) in (
+      scenario,
+      (
+        group,
+        (
+          sink,
+          (
+            other,
+            (
+              start,
+              (
+                tuned,
+                (
+                  second,
+                  (units, (unit_says 2 0 (omega arith) (omega arith), events_say seed 0 events)),
+                ),
+              ),
+            ),
+          ),
+        ),
+      ),
+    )

@@ -32,18 +32,18 @@ module _ (old new : World) where
     failed_in : DidOver airs_of endings.OutletFault old new → Failure old.boxes new.boxes (units_of airs_of old.boxes (lines_of true text))
     failed_in o =
         let stops = box_stops old.boxes o.accounts new.boxes o.earlier o.line (out_of airs_of old.boxes (reverse o.earlier)) o.told
-            o.fails in
+        o.fails in
         let f = stops.1 in
         let us : List SinkUnit = units_of airs_of old.boxes (reverse o.earlier) in
         let r = rest_of text old.left new.left o.comes.text o.comes.over tells o.comes.read in
         let at = o.comes.lines true r.0 r.2 in
         let more = units_more airs_of old.boxes [] (reverse (o.line ∷ o.earlier)) at.0 in
         failure old.boxes new.boxes o.accounts us (handed_on airs_of o.earlier o.line) (f.rest ++ more.0)
-            (units_of airs_of old.boxes (lines_of true text))
+        (units_of airs_of old.boxes (lines_of true text))
         [] stops.0 o.before f (ap (λ t. units_of airs_of old.boxes (lines_of true t)) r.1
-            ∙ ap (units_of airs_of old.boxes) (at.1 ∙ sym (reverse_onto o.line o.earlier at.0))
+        ∙ ap (units_of airs_of old.boxes) (at.1 ∙ sym (reverse_onto o.line o.earlier at.0))
         ∙ more.1 ∙ ap (λ all. all ++ more.0) (units_added old.boxes o.earlier o.line o.accepted ∙ ap (λ all. us ++ all) f.split)
-            ∙ simp append_assoc)
+        ∙ simp append_assoc)
 
     no_failure : DidOver airs_of endings.OutletFault old new → NoneFailed old.boxes new.boxes → ⊥
     no_failure e none = let f = failed_in e in none f.place f.first f.after f.was f.is f.rose

@@ -76,8 +76,14 @@ pub ends_done : {starts : List Account} {history : List TextLine} {left left' ke
     → TextIs left left' history true → RunTo starts history kept kept' machine accounts → is_over (steps_of airs_of history) ≡ true
     → Done airs_of starts accounts left left' kept kept'
 ends_done {starts = starts} {history = history} {accounts = accounts} t r over =
-    grind (arith, ends_through starts history r.accepted true over, writes_through starts history r.accepted true over, append-nil,
-    units_all starts history r.accepted, took_history starts accounts history r.stands.boxes)
+    grind (
+      arith,
+      ends_through starts history r.accepted true over,
+      writes_through starts history r.accepted true over,
+      append-nil,
+      units_all starts history r.accepted,
+      took_history starts accounts history r.stands.boxes,
+    )
 
 pub ends_faulted : {starts : List Account} {history : List TextLine} {left left' kept kept' : Option (List ℕ)} {machine : Machine}
     {accounts : List Account}
@@ -97,7 +103,7 @@ ends_at_once starts left kept = record {
 -- NoEnd
 module _ {starts : List Account} {history : List TextLine} {left left' kept mid : Option (List ℕ)} {machine : Machine}
     {accounts : List Account} {number : ℕ} (is_next : number ≡ length history + 1) (t : TextIs left left' history true)
-        (r : RunTo starts history kept mid machine accounts) (not_over : is_over (steps_of airs_of history) ≡ false) where
+    (r : RunTo starts history kept mid machine accounts) (not_over : is_over (steps_of airs_of history) ≡ false) where
   no_end_line : transcript_of airs_of starts (lines_of true t.text) ≡ brought (rules_of airs_of starts) history ++ refusal_line number NoEnd
   no_end_line = rw (t.whole, is_next) (writes_through starts history r.accepted false not_over)
 
@@ -141,22 +147,21 @@ module _ {starts : List Account} {history : List TextLine} {left left' kept mid 
       boxes = took_as starts accounts _ _ (sym no_end_units) (took_history starts accounts history r.stands.boxes);
     }),
   )
-  ends_no_end kept' (endings.Refused line why) f =
-      (
-        record {
-          text = t.text;
-          over = true;
-          read = t.read;
-          no_end = λ e. refl;
-          ends_so = λ at_end more follows.
-              ap (transcript_end airs_of starts) (same_lines at_end more follows) ∙ no_end_end ∙ sym (λ i. refused (f.0 i) (f.1 i));
-          octets = brought (rules_of airs_of starts) history ++ refusal_line number NoEnd;
-          transcript = λ at_end more follows. ap (transcript_of airs_of starts) (same_lines at_end more follows) ∙ no_end_line;
-          written = Appends-then kept mid kept' (brought (rules_of airs_of starts) history) (refusal_line number NoEnd) r.written f.2;
-          units = handed_up airs_of (steps_of airs_of history);
-          handed = λ at_end more follows. ap (units_of airs_of starts) (same_lines at_end more follows) ∙ no_end_units;
-          boxes = took_history starts accounts history r.stands.boxes;
-        },
-        (λ other. absurd (other f.1)),
-      )
+  ends_no_end kept' (endings.Refused line why) f = (
+    record {
+      text = t.text;
+      over = true;
+      read = t.read;
+      no_end = λ e. refl;
+      ends_so = λ at_end more follows.
+          ap (transcript_end airs_of starts) (same_lines at_end more follows) ∙ no_end_end ∙ sym (λ i. refused (f.0 i) (f.1 i));
+      octets = brought (rules_of airs_of starts) history ++ refusal_line number NoEnd;
+      transcript = λ at_end more follows. ap (transcript_of airs_of starts) (same_lines at_end more follows) ∙ no_end_line;
+      written = Appends-then kept mid kept' (brought (rules_of airs_of starts) history) (refusal_line number NoEnd) r.written f.2;
+      units = handed_up airs_of (steps_of airs_of history);
+      handed = λ at_end more follows. ap (units_of airs_of starts) (same_lines at_end more follows) ∙ no_end_units;
+      boxes = took_history starts accounts history r.stands.boxes;
+    },
+    (λ other. absurd (other f.1)),
+  )
   ends_no_end kept' _ f = absurd f

@@ -9,7 +9,7 @@ use Rattle.replay_lines.proofs.RefusalLaws.{never_no_end}
 -- the units before one went to their boxes, and the box of that one failed
 pub box_stops : (starts before after : List Account) (history : List TextLine) (line : TextLine) (text told : List ℕ)
     → LineFails airs_of starts history line text told before after → (lines : List ℕ)
-        × BoxFails (handed_on airs_of history line) [] lines before after
+    × BoxFails (handed_on airs_of history line) [] lines before after
 box_stops starts before after history line text told f =
     box_fails (handed_on airs_of history line) (answered_on airs_of history line) (output_at starts history line) text told before after f
 
@@ -131,28 +131,32 @@ module _ {starts : List Account} {history : List TextLine} {line : TextLine} {le
   ends_write kept' after octets p cut s =
       let so_far = brought (rules_of airs_of starts) history in (
         ends_broken kept' after octets p cut (prefix_of_short mid kept' octets s),
-        inl (number, record {
-          text = c.text;
-          over = c.over;
-          read = c.read;
-          earlier = history;
-          last = line;
-          later = now.0;
-          lines = now.1 ∙ reverse_onto line history now.0;
-          number = is_next;
-          accepted = run.accepted;
-          prefix = so_far ++ s.prefix;
-          written = Appends-then kept mid kept' so_far s.prefix run.written s.appended;
-          not_before = omega (arith, ap length (out_all starts history run.accepted), length-append so_far s.prefix);
-          longer = omega (arith, ap length p.brings, length-append {A = ℕ}, ap length s.whole, s.some);
-          boxes = record {
-            accounts = before;
-            before = grind (arith, units_all, took_history);
-            units = p.units;
-            added = p.adds;
-            prefix = p.took;
-          };
-        }, ahead),
+        inl (
+          number,
+          record {
+            text = c.text;
+            over = c.over;
+            read = c.read;
+            earlier = history;
+            last = line;
+            later = now.0;
+            lines = now.1 ∙ reverse_onto line history now.0;
+            number = is_next;
+            accepted = run.accepted;
+            prefix = so_far ++ s.prefix;
+            written = Appends-then kept mid kept' so_far s.prefix run.written s.appended;
+            not_before = omega (arith, ap length (out_all starts history run.accepted), length-append so_far s.prefix);
+            longer = omega (arith, ap length p.brings, length-append {A = ℕ}, ap length s.whole, s.some);
+            boxes = record {
+              accounts = before;
+              before = grind (arith, units_all, took_history);
+              units = p.units;
+              added = p.adds;
+              prefix = p.took;
+            };
+          },
+          ahead,
+        ),
       )
 
   -- ---- a refusal
@@ -207,7 +211,7 @@ module _ {starts : List Account} {history : List TextLine} {line : TextLine} {le
       let cut : CutShort (handed_on airs_of history line) before after = all_cut before after (handed_on airs_of history line) took in
       let output = output_at starts history line in
       ends_broken kept' after output (part_on after output [] none (sym (append-nil output)) (inl cut)) (inl cut)
-          (prefix_of_short mid kept' output p)
+      (prefix_of_short mid kept' output p)
   step_put kept' new after none stands took (Some _) p = absurd p
 
   -- the box of a unit of the line failed, and what came before the unit was put
@@ -216,7 +220,7 @@ module _ {starts : List Account} {history : List TextLine} {line : TextLine} {le
     abbrev part_told : Partway starts history line before after told
     part_told =
         part_on after told f.behind none (f.prefix ∙ ap (λ xs. xs ++ f.behind) (sym f.lines))
-            (inr (box_stops starts before after history line [] told f))
+        (inr (box_stops starts before after history line [] told f))
 
     -- writing what comes before the unit was cut short
     fault_cut : AppendsShort mid kept' told → FaultCut airs_of starts after left left' kept kept'
@@ -251,7 +255,7 @@ module _ {starts : List Account} {history : List TextLine} {line : TextLine} {le
       → Broken airs_of starts after left left' kept mid
   step_memory after (inl same) =
       subst (λ a. Broken airs_of starts a left left' kept mid) (sym same)
-          (ends_broken mid before [] part_none (inl (none_cut before part_none.units)) (prefix_none mid []))
+      (ends_broken mid before [] part_none (inl (none_cut before part_none.units)) (prefix_none mid []))
   step_memory after (inr cut) =
       ends_broken mid after [] (part_on after [] (output_at starts history line) cut.0 refl (inl cut.1)) (inl cut.1) (prefix_none mid [])
 

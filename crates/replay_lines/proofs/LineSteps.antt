@@ -16,7 +16,7 @@ line_ahead is_next r = ahead_at (omega arith) (ahead_of r)
 module _ {starts : List Account} {history : List TextLine} {left left' kept mid : Option (List ℕ)} {machine : Machine}
     {accounts : List Account} {number : ℕ}
     (is_next : number ≡ length history + 1) (run : RunTo starts history kept mid machine accounts) (kept' : Option (List ℕ))
-        (ending : Ending) where
+    (ending : Ending) where
   pub line_past : Comes left left' history past × ReadsAhead left left' (length history + 1)
       → Refuses number refusals.TextTooLong mid kept' ending → Ended airs_of ending starts accounts left left' kept kept'
   line_past n f = ends_refusal is_next n.0 (ahead_at (sym is_next) n.1) run kept' refusals.TextTooLong refl ending f
@@ -63,7 +63,7 @@ bound_none reader new = let P : Reading → Type 0 = λ r. 1 + lines_left r ≤ 
 -- the next line was run, or the run ended at it
 module _ {A : Type 0} {olds mids : List A} {starts before : List Account} {left mid kept put : Option (List ℕ)} {number : ℕ} {old : Reading}
     {machine : Machine} (r : Running olds mids starts before left mid kept put number old machine) (may_fail : Bool) (after : List Account)
-        (left' kept' : Option (List ℕ)) (new : Reading) (machine' : Machine) (result : Option Ending)
+    (left' kept' : Option (List ℕ)) (new : Reading) (machine' : Machine) (result : Option Ending)
     (runs : (lines : List TextLine) → number ≡ length lines + 1 → ReadTo left mid lines old → RunTo starts lines kept put machine before
     → LineRuns may_fail starts lines left left' kept kept' new machine' after result) where
   pub running_more : (news : List A) → result ≡ None

@@ -40,7 +40,7 @@ module _ (row : ℕ → List ℕ → List ℕ) (left left' : Option (List ℕ)) 
       → HasTold row start new (tellings (line ∷ lines)) → StepTold row left left' start new (line ∷ lines) result
   told_at line number result comes is_next at has =
       let upto : ToldUpTo row left left' start new number = record
-          { earlier = lines; line = line; comes = comes; is_next = is_next; has = has } in
+      { earlier = lines; line = line; comes = comes; is_next = is_next; has = has } in
       grind arith
 
   -- it ended behind the last line
@@ -77,7 +77,7 @@ telling_none row left start reader new = record {
 -- the next line was run
 module _ {row : ℕ → List ℕ → List ℕ} {left mid : Option (List ℕ)} {start old : Listened} {number : ℕ} {reader : Reading}
     (t : TellingOn row left mid start old number reader) (left' : Option (List ℕ)) (new : Listened) (reader' : Reading)
-        (result : Option Ending)
+    (result : Option Ending)
     (told : (lines : List TextLine) → number ≡ length lines + 1 → ReadTo left mid lines reader → HasTold row start old (tellings lines)
     → LineTold row left left' start new lines reader' result) where
   pub telling_more : result ≡ None → TellingOn row left left' start new (number + 1) reader'

@@ -57,7 +57,7 @@ module _ (airs : Airs) (starts : List Account) where
       by_refusal : (why : Option Refusal) → (rest : List SinkUnit)
           × (handed_up airs (steps_after airs starts (line ∷ history) lines) ≡ handed_up airs (steps_of airs (line ∷ history)) ++ rest)
           → (rest : List SinkUnit) × (handed_up airs (steps_unless airs starts history line why lines)
-              ≡ handed_up airs (steps_of airs history) ++ rest)
+          ≡ handed_up airs (steps_of airs history) ++ rest)
       by_refusal (Some reason) more = ([], sym (append-nil (handed_up airs (steps_of airs history))))
       by_refusal None more = (
         handed_on airs history line ++ more.0,

@@ -34,17 +34,28 @@ module _ (old new : World) (ending : Ending) where
       (ended_counts old new ending e other) in
       let boxes = λ (airs : Airs) (meets : MeetAirs airs) (text : List ℕ) (is : old.left ≡ Some text) (whole : IsWhole ending).
       took_as old.boxes new.boxes _ _ ((laws.same airs meets).units old.boxes (lines_of true text))
-          (ended_whole old new text is ending e whole) in
+      (ended_whole old new text is ending e whole) in
       let complete = λ (airs : Airs) (meets : MeetAirs airs) (text : List ℕ) (is : old.left ≡ Some text).
       complete_as airs_of airs (laws.same airs meets) old.boxes new.boxes old.left new.left old.taken new.taken text
       old.reads new.reads old.writes new.writes ending (ended_complete old new text is ending e read write) in
       let ahead = λ (airs : Airs) (meets : MeetAirs airs).
       ahead_as airs_of airs (laws.same airs meets) old.boxes new.boxes old.left new.left old.taken new.taken ending
-          (ended_ahead old new ending e) in
+      (ended_ahead old new ending e) in
       let meet : (airs : Airs) × MeetAirs airs = (airs_of, laws.meet) in
       assumption (
-        at endings.Done, refusal, read_fault, write_fault, at endings.OutletFault, at endings.Memory, counts, ended_one old new ending e,
-        boxes, complete, ahead, meet, one_of old.boxes laws,
+        at endings.Done,
+        refusal,
+        read_fault,
+        write_fault,
+        at endings.OutletFault,
+        at endings.Memory,
+        counts,
+        ended_one old new ending e,
+        boxes,
+        complete,
+        ahead,
+        meet,
+        one_of old.boxes laws,
       )
 
 -- memory ran out before anything was read

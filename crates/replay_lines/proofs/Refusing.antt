@@ -18,8 +18,13 @@ module _ (old new : World) (cause : Cause) (result : TomlEnding) (document : Doc
   }
 
   written_of : Appends old.taken new.taken (cause_line cause) → Written (Err cause) old new
-  written_of written airs meets = record { standing = refused_for cause; document = document; ends_so = refl; written = written;
-      boxes = took_none }
+  written_of written airs meets = record {
+    standing = refused_for cause;
+    document = document;
+    ends_so = refl;
+    written = written;
+    boxes = took_none;
+  }
 
   complete_at : (airs : Airs) → TomlComplete airs (refused_for cause) old.boxes new.boxes old.reads new.reads old.writes new.writes result
   complete_at airs = grind (arith, put)
@@ -27,6 +32,6 @@ module _ (old new : World) (cause : Cause) (result : TomlEnding) (document : Doc
   pub refused_toml : new.reads ≡ old.reads → DocumentLaws old.boxes → FromToml old new result
   refused_toml reads laws =
       let told = λ (text : List ℕ) (tells : old.left ≡ Some text). document_told old.left new.left text tells (refused_for cause)
-          document in
+      document in
       let prefix = prefix_read old.left new.left (refused_for cause) document in
       grind (arith, cut_of, written_of, none_counts, took_stay, took_none, complete_at, told)

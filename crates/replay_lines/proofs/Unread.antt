@@ -17,7 +17,7 @@ laws_of old new ending p = assumption one_over
 pub laws_at : ((old : World) → Promised old old endings.Memory) → (boxes : List Account) → DocumentLaws boxes
 laws_at promised boxes =
     let old : World = record { left = None; reads = 0; taken = None; writes = 0; boxes = boxes } in laws_of old old endings.Memory
-        (promised old)
+    (promised old)
 
 -- nothing was put
 pub nothing_put : (kept : Option (List ℕ)) (octets : List ℕ) → AppendsPrefix kept kept octets

@@ -85,7 +85,6 @@ closed_wants made starts steps new text told before after all =
 
 module _ {made : Step} {tail : List Step → List ℕ} (closes : ClosesOpen made tail) {steps : List Step} {old : Machine} (stands : Stands steps old)
     {taken : Sources} (sources : SourcesStand (made ∷ steps) taken) where
-
   components_then : ComponentsStand (made ∷ steps) (histories_of steps) (record old { sources = taken })
   components_then =
       record { sources = sources; sinks = stands.sinks; relays = relays_stay steps made old.relays closes.minds stands.relays }
@@ -99,7 +98,6 @@ module _ {made : Step} {tail : List Step → List ℕ} (closes : ClosesOpen made
   module _ {version : ℕ} (e : stage_of steps ≡ running version) (passes : fault_of version steps made ≡ None) {source : ℕ} {closed : Option ℕ}
       (opened : is_over (chosen_steps steps) ≡ false → closed ≡ open_event (chosen_steps steps)) (chosen : source ≡ chosen_of steps) (within : source < 2)
       (starts : List Account) (new : Machine) (text told : List ℕ) (before after : List Account) where
-
     pub closed_by : new.stage ≡ old.stage
         → ((late : List Step) (past : Histories) → ComponentsStand late past (record old { sources = taken })
         → Closes late past source closed new text told before after (Ok tt)) → Closed starts steps made new text told before after

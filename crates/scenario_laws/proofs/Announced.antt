@@ -63,8 +63,17 @@ pub announced_tuning : Announcing → (airs : Airs) (boxes n : ℕ) (earlier : L
     → by_numbers big_sync ≡ big_sync_on (chosen_steps earlier) big_sync.which
 announced_tuning laws airs boxes n earlier made big_sync legal permits is =
     let legal_own : Lawful airs (chosen_steps earlier) = lawful airs boxes (chosen_of earlier) earlier legal in
-    grind (arith, unwrap_or, group_of, no_group, subgroups_of, (settled airs (chosen_steps earlier) legal_own), (tellable airs
-    (chosen_steps earlier) legal_own), (announced_on laws airs boxes n earlier made big_sync legal permits is))
+    grind (
+      arith,
+      unwrap_or,
+      group_of,
+      no_group,
+      subgroups_of,
+      (settled airs (chosen_steps earlier) legal_own),
+      (tellable airs
+          (chosen_steps earlier) legal_own),
+      (announced_on laws airs boxes n earlier made big_sync legal permits is),
+    )
 
 -- ---- a stay that an announced train begins is the one that `tuned` would begin with the same streams, which are the group's
 
@@ -81,8 +90,16 @@ none_beyond : (num_bis which : ℕ) → which < 2 ^ num_bis → has_beyond num_b
 unfolding has_beyond
 none_beyond num_bis which small =
     none_of (λ bis. ltb num_bis bis) (is_in which) (range_with_len 1 31)
-    (λ bis in_set. elim (cases_Bool (ltb num_bis bis)) [ inl above ↦ absurd (grind (arith, pow-le-pow_right, div-eq_of_lt, false≢true,
-    (ltb-true num_bis bis above))) | inr within ↦ within ])
+    (λ bis in_set. elim (cases_Bool (ltb num_bis bis)) [
+      | inl above ↦ absurd (grind (
+        arith,
+        pow-le-pow_right,
+        div-eq_of_lt,
+        false≢true,
+        (ltb-true num_bis bis above),
+      ))
+      | inr within ↦ within
+    ])
 
 -- ---- as by hand
 
@@ -93,5 +110,5 @@ as_by_hand laws airs boxes n sink earlier big_sync legal permits brings =
     let permits_it : Permitted airs boxes earlier (Step.Announce n) = subst (λ m. Permitted airs boxes earlier (Step.Announce m)) (eqb-true sink n brings.0) permits in (
       announced_tuning laws airs boxes n earlier brings.1.made big_sync legal permits_it brings.1.is,
       none_beyond (setup_of (chosen_steps earlier)).info.num_bis big_sync.which
-      ((announced_on laws airs boxes n earlier brings.1.made big_sync legal permits_it brings.1.is).within),
+          ((announced_on laws airs boxes n earlier brings.1.made big_sync legal permits_it brings.1.is).within),
     )

@@ -117,8 +117,22 @@ tellable_after airs own (Step.Bis bis config) before allows =
     let idle : is_started own ≡ false = not_yet own (not (has_subgroup own)) allows.in_phase in
     search (not_started, adds_next own bis config before allows.ranged parts.1 new.1)
 tellable_after airs own (Step.Start first) before allows =
-    grind (arith, or_parts, not, is_described_at, phase_of, is_last_bare, fails_not, is_base_too_long, neither, group_refusal, horizon_in,
-    checked_info, refuse_if, false≢true)
+    grind (
+      arith,
+      or_parts,
+      not,
+      is_described_at,
+      phase_of,
+      is_last_bare,
+      fails_not,
+      is_base_too_long,
+      neither,
+      group_refusal,
+      horizon_in,
+      checked_info,
+      refuse_if,
+      false≢true,
+    )
 tellable_after airs own Step.Stop before allows = grind (arith, phase_of, sends, false≢true)
 tellable_after airs own (Step.Terminate reason) before allows = grind (arith, phase_of, sends, false≢true)
 tellable_after airs own _ before allows = assumption

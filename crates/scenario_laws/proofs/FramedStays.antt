@@ -8,8 +8,21 @@ pub each_sent : (info : BigInfo) (air : Air) (units : List Sent) (number : ℕ) 
     → pdu_at info.bn air number ≡ Some (pdu (framed (parts_at units number)))
 each_sent info [] units number some are below = absurd (omega (arith, below))
 each_sent info (entry ∷ earlier) units number some are below = elim (cases_eq (length earlier) (number / info.bn)) [
-  | inl here ↦ grind (arith, option_and_then, slice_get, cond, event_at, eq-eqb, length, div-add-mod', get-range, pdu, framed, parts_at,
-  mod_below)
+  | inl here ↦ grind (
+    arith,
+    option_and_then,
+    slice_get,
+    cond,
+    event_at,
+    eq-eqb,
+    length,
+    div-add-mod',
+    get-range,
+    pdu,
+    framed,
+    parts_at,
+    mod_below,
+  )
   | inr apart ↦
       ap (λ b. option_and_then (λ (event : Laid). slice_get event.pdus (number % info.bn)) (cond b (Some entry.event) (event_at earlier (number / info.bn)))) (ne_eqb (length earlier)
       (number / info.bn) apart) ∙ each_sent info earlier units number some are.0 (omega (arith, below, apart))

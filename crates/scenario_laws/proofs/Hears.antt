@@ -103,8 +103,20 @@ own_after : (airs : Airs) (laid : ℕ → Content) (tuning : BigSync) (boxes s n
 own_after airs laid tuning boxes s n bis (Step.Tuned sink which) earlier injected permits least there clean ready =
     put_own laid tuning bis (sink == n) injected (big_sync_on (chosen_steps earlier) which) (sink_calls airs n earlier) clean (λ none. (ready none).all)
 own_after airs laid tuning boxes s n bis (Step.Hear sink back stream subevent) earlier injected permits least there clean ready =
-    let at : OnAir (chosen_steps earlier) back stream subevent = grind (arith, air_fault, setup_of, source_calls, maps_none, air_refusal,
-    none-some, ltb, leb, events, ltb-false, leb-false) in
+    let at : OnAir (chosen_steps earlier) back stream subevent = grind (
+      arith,
+      air_fault,
+      setup_of,
+      source_calls,
+      maps_none,
+      air_refusal,
+      none-some,
+      ltb,
+      leb,
+      events,
+      ltb-false,
+      leb-false,
+    ) in
     mine_own laid tuning bis (reaches sink n earlier) _ (sink_calls airs n earlier) (ready clean).all
     (λ mine. let now = sent_by airs laid tuning bis s n sink earlier (sink_calls airs n earlier) there mine (ready clean) in
     hear_own laid tuning bis (event_back (chosen_steps earlier) back) stream subevent _ (sink_calls airs n earlier) now.all

@@ -105,5 +105,9 @@ FollowsBy airs n sink earlier =
 
 pub announced : (airs : Airs) (n sink : ℕ) (earlier : List Step) → StaysBy airs n (Step.Announce sink) earlier ⊎ (FollowsBy airs n sink earlier ⊎ PutBy airs n sink earlier)
 announced airs n sink earlier =
-    grind (arith, follows, (by_made (source_at earlier) sink (calls_made n earlier) (calls_made n (Step.Announce sink ∷ earlier))
-    (made_of n earlier) (sink_calls airs n earlier) (source_of n earlier) (nowhere airs n earlier)))
+    grind (
+      arith,
+      follows,
+      (by_made (source_at earlier) sink (calls_made n earlier) (calls_made n (Step.Announce sink ∷ earlier))
+          (made_of n earlier) (sink_calls airs n earlier) (source_of n earlier) (nowhere airs n earlier)),
+    )

@@ -39,8 +39,20 @@ ShortIn bis own = Short (setup_of own).info.max_sdu (source_stream (setup_of own
 short_of : (airs : Airs) (bis : ℕ) (own : List Step) → Lawful airs own → ShortIn bis own
 short_of airs bis [] legal = tt
 short_of airs bis (step ∷ own) legal =
-    grind (arith, short_none, no_group_yet, maps_none, length, ltb-false, second_false, ltb, short_if, short_lays,
-    (settled airs own legal.0), (short_of airs bis own legal.0))
+    grind (
+      arith,
+      short_none,
+      no_group_yet,
+      maps_none,
+      length,
+      ltb-false,
+      second_false,
+      ltb,
+      short_if,
+      short_lays,
+      (settled airs own legal.0),
+      (short_of airs bis own legal.0),
+    )
 
 pub slot_short : (airs : Airs) (bis : ℕ) (own : List Step) → Lawful airs own → (event slot : ℕ) (unit : List ℕ)
     → slots_of (setup_of own) (source_calls own) bis event slot ≡ Some unit → length unit ≤ (setup_of own).info.max_sdu
@@ -141,8 +153,14 @@ since_after airs boxes s n (Step.Announce sink) earlier tuning legal least withi
 since_after airs boxes s n (Step.Train sink time ext adv acad) earlier tuning legal least within is since =
     stays_since airs boxes s n (Step.Train sink time ext adv acad) earlier tuning (grind (arith, given_stays, last_not, is_tuned, any_since, is_given)) refl is since
 since_after airs boxes s n step earlier tuning legal least within is since =
-    search (still_since airs boxes s n step earlier tuning legal least within, gone_since, more_since, closed_since_by airs s n earlier,
-    stays_since airs boxes s n step earlier tuning, plain_stays airs n step earlier)
+    search (
+      still_since airs boxes s n step earlier tuning legal least within,
+      gone_since,
+      more_since,
+      closed_since_by airs s n earlier,
+      stays_since airs boxes s n step earlier tuning,
+      plain_stays airs n step earlier,
+    )
 
 pub since : (airs : Airs) (boxes s n : ℕ) (made : List Step) (tuning : BigSync) → Legal airs boxes made → s ≤ 1 → n ≤ 7 → IsOn airs s n made tuning → Since airs s n made
 since airs boxes s n [] tuning legal least within is = refl

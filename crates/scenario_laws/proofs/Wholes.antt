@@ -57,8 +57,12 @@ its_step airs boxes s earlier step permits ranged is =
 pub lawful : (airs : Airs) (boxes s : ℕ) (made : List Step) → Legal airs boxes made → Lawful airs (steps_of_source s made)
 lawful airs boxes s [] legal = tt
 lawful airs boxes s (step ∷ earlier) legal =
-    grind (arith, (lawful airs boxes s earlier legal.0), (its_step airs boxes s earlier step
-    (permitted airs boxes earlier step legal.1) legal.2))
+    grind (
+      arith,
+      (lawful airs boxes s earlier legal.0),
+      (its_step airs boxes s earlier step
+          (permitted airs boxes earlier step legal.1) legal.2),
+    )
 
 pub horizon_greatest : (second : Bool) → cond second 31 15 ≤ 31
 horizon_greatest second = grind arith
@@ -150,8 +154,12 @@ extends_before whole own _ more = more
 within_if : (airs : Airs) (setup : Setup) (whole : List SourceCall) (own : List Step) (step : Step) (is_its : Bool) → Lawful airs own → (is_its ≡ true → Allowed airs own step)
     → Within setup whole (cond is_its (step ∷ own) own) → Within setup whole own
 within_if airs setup whole own this true legal allows within = record {
-  setup_is = λ started. sym (setup_stays airs own this (settled airs own legal) (allows refl) started) ∙ within.setup_is (grind (arith,
-  true_not_false, no_group_yet, (allows refl)));
+  setup_is = λ started. sym (setup_stays airs own this (settled airs own legal) (allows refl) started) ∙ within.setup_is (grind (
+    arith,
+    true_not_false,
+    no_group_yet,
+    (allows refl),
+  ));
   calls = extends_before whole own this within.calls;
 }
 within_if airs setup whole own this false legal allows within = within

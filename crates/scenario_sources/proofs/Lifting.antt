@@ -59,8 +59,17 @@ module _ {steps : List Step} {at : ℕ} {old : Sources} {was : Phase} (same : at
   lifted : (made : Step) → MeansChosen made → PhaseIs (made ∷ chosen_steps steps) phase → SourcesStand (made ∷ steps) new
   lifted made means after =
       let two : length old.phases.items ≡ 2 = sym old.phases.ok.0 ∙ old.two in
-      grind (arith, chosen_of, length, chosen_stays, slice_set, set_at (λ n. steps_of_source n (made ∷ steps)), own_grows, other_stays,
-          cases_eq)
+      grind (
+        arith,
+        chosen_of,
+        length,
+        chosen_stays,
+        slice_set,
+        set_at (λ n. steps_of_source n (made ∷ steps)),
+        own_grows,
+        other_stays,
+        cases_eq,
+      )
 
   -- it is the same
   again : PhaseIs (chosen_steps steps) phase → SourcesStand steps new
@@ -79,8 +88,12 @@ module _ {steps : List Step} {at : ℕ} {old : Sources} {was : Phase} (same : at
       → (PhaseIs (chosen_steps steps) was → state.Terminates version (chosen_steps steps) reason phase r)
       → Terminates version steps reason new r
   terminates version reason (Ok x) b =
-      let is = b here in (fault_same version steps (Terminate reason) refl None is.0, lifted (Terminate reason) (grind arith) is.1, is.2,
-          is.3)
+      let is = b here in (
+        fault_same version steps (Terminate reason) refl None is.0,
+        lifted (Terminate reason) (grind arith) is.1,
+        is.2,
+        is.3,
+      )
   terminates version reason (Err (Refused cause)) b =
       (fault_same version steps (Terminate reason) refl (Some cause) (b here).0, again (b here).1)
   terminates version reason (Err _) b = b here
@@ -104,7 +117,7 @@ module _ {steps : List Step} {at : ℕ} {old : Sources} {was : Phase} (same : at
 pub twice_is : {steps : List Step} {at : ℕ} {sources : Sources} {phase : Phase} {own : Identity} {twice : Bool} → at ≡ 1 - sources.chosen
     → phase ≡ get_or sources.phases.items at phase → SourcesStand steps sources → own ≡ identity_of (chosen_steps steps)
     → ((other : List Step) → PhaseIs other phase → twice ≡ (is_started other && are_twins own (identity_of other))) → twice
-        ≡ is_ident_twice steps
+    ≡ is_ident_twice steps
 twice_is {steps = steps} {sources = sources} same read stands is twice =
     let other = twice (steps_of_source (1 - sources.chosen) steps) (phase_read same (omega arith) read stands) in
     let at = stands.chosen in

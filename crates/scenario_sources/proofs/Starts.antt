@@ -71,8 +71,14 @@ pub start_long : (version first horizon : ℕ) (own : List Step) (said : Describ
     → bare ≡ is_empty_last (last_of said.base.subgroups) → bare ≡ false → None ≡ group_refusal (first_fault horizon said.info)
     → long ≡ is_long (finish_fault said.base) → long ≡ true → fault_in version own (Start first) ≡ Some BaseTooLong
 start_long version first horizon own said bare long h is e f g l t =
-    grind (arith, bare_own own said bare is.1 e, base_is own said is.1, too_long (line_of said) (subgroups_of own), draft_is own said is.1,
-    start_fault version first horizon own said None h is)
+    grind (
+      arith,
+      bare_own own said bare is.1 e,
+      base_is own said is.1,
+      too_long (line_of said) (subgroups_of own),
+      draft_is own said is.1,
+      start_fault version first horizon own said None h is,
+    )
 
 -- ---- it may be started
 
@@ -85,8 +91,13 @@ pub may_start_said : (version first horizon : ℕ) (own : List Step) (said : Des
 may_start_said version first horizon own said bare long has h is e f g l n k t =
     let closed : is_last_bare own ≡ false = sym (bare_own own said bare is.1 e) ∙ f in
     let some : has_subgroup own ≡ true = sym (has_own own said has is.1 k) ∙ t in
-    grind (arith, base_is own said is.1, long_said (line_of said) (subgroups_of own), draft_is own said is.1,
-    start_fault version first horizon own said None h is closed g)
+    grind (
+      arith,
+      base_is own said is.1,
+      long_said (line_of said) (subgroups_of own),
+      draft_is own said is.1,
+      start_fault version first horizon own said None h is closed g,
+    )
 
 no_subgroups : (group : GroupLine) (ss : List Subgroup) → is_some (last_of ss) ≡ false → base_from group ss ≡ plain_base_of group.delay group.info.num_bis
 no_subgroups group ss none = grind (arith, false≢true, has_last)
@@ -97,8 +108,13 @@ pub may_start_plain : (version first horizon : ℕ) (own : List Step) (said : De
 may_start_plain version first horizon own said bare has base few h is e f g k n b =
     let closed : is_last_bare own ≡ false = sym (bare_own own said bare is.1 e) ∙ f in
     let none : has_subgroup own ≡ false = sym (has_own own said has is.1 k) ∙ n in
-    grind (arith, base_is own said is.1, none_said (line_of said) (subgroups_of own) few none,
-    no_subgroups (line_of said) (subgroups_of own) none, start_fault version first horizon own said None h is closed g)
+    grind (
+      arith,
+      base_is own said is.1,
+      none_said (line_of said) (subgroups_of own) few none,
+      no_subgroups (line_of said) (subgroups_of own) none,
+      start_fault version first horizon own said None h is closed g,
+    )
 
 -- ---- it begins
 
@@ -130,8 +146,13 @@ bad_refusal horizon info fault is other = grind arith
 pub group_fails : (version first horizon : ℕ) (own : List Step) (said : Described) (plain : Option Endpoint) (fault : ConfigureFault) (stop : Stop) → horizon ≡ horizon_in version
     → DescribedSo own said → MayStart version first own plain → ConfigureFails horizon said.info fault → StartStops fault stop → Begins first own (Err stop)
 group_fails version first horizon own said plain (Misfit fault) (Refused reason) h is may fails g =
-    grind (arith, passes version first own is.0 may.0, bad_refusal horizon said.info fault fails.first fails.other, checked_is own said
-        is.1)
+    grind (
+      arith,
+      passes version first own is.0 may.0,
+      bad_refusal horizon said.info fault fails.first fails.other,
+      checked_is own said
+          is.1,
+    )
 group_fails version first horizon own said plain fault stop h is may fails g = search (false≢true, none-some)
 
 -- the BASE that it begins with

@@ -102,8 +102,13 @@ pub ignores : (setup : Setup) (mtu : Option ℕ) (train : Train) (a : List Call)
 ignores setup mtu train a not =
     let snapshot : Snapshot = snapshot_of setup (steps_of a) in
     let more : List Call = Call.stepped (train_heard train) ∷ a in
-    let now : snapshot_of setup (steps_of more) ≡ snapshot = grind (arith, snapshot_goes_on, train_heard, outcome_by,
-    false≢true) in record {
+    let now : snapshot_of setup (steps_of more) ≡ snapshot = grind (
+      arith,
+      snapshot_goes_on,
+      train_heard,
+      outcome_by,
+      false≢true,
+    ) in record {
       snapshot = now;
       joined = λ link. refl;
       written = λ link. refl;

@@ -152,8 +152,12 @@ pub none_now : (airs : Airs) (to : ℕ) (made : List Step) (step : Step) → had
 none_now airs to made step none =
     filter_none (λ (answer : Answered). answer.offer.route.to == to) (answered_by airs made step)
     (λ k d within. false_from_ne_true _ (λ its.
-    let had = route_had _ made _ ((answers_of airs (Stands made) (offers_before airs made step) made (grind (arith, closes_first,
-    offers_at, offers_stand))) k d within) in
+    let had = route_had _ made _ ((answers_of airs (Stands made) (offers_before airs made step) made (grind (
+      arith,
+      closes_first,
+      offers_at,
+      offers_stand,
+    ))) k d within) in
     false≢true (sym none ∙ ap (λ bis. had_relay bis made) (sym (eqb-true _ to its)) ∙ had)))
 
 -- relayed units make no relay

@@ -171,7 +171,12 @@ numbered_units setup calls bis air entries order =
           (omega (arith, last, long));
       gives = λ k unit is.
           let found = zip_get (IsOfUnit setup calls bis air) shown order.numbers all (index k) (shown (valid 0 unit.time unit.octets))
-          order.each (place_gets is_valid shown all (shown (valid 0 unit.time unit.octets)) k (grind (arith, units_are, slice_get-map,
-          valid, units_on))) in
+          order.each (place_gets is_valid shown all (shown (valid 0 unit.time unit.octets)) k (grind (
+            arith,
+            units_are,
+            slice_get-map,
+            valid,
+            units_on,
+          ))) in
           of_unit setup calls bis air (slice_index order.numbers (index k)) found.one unit found.holds found.is;
     }

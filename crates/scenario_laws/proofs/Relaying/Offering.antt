@@ -14,8 +14,13 @@ boxed : (airs : Airs) (boxes n : ℕ) (route : Route) (made : List Step) → Are
     → is_some (box_of n made) ≡ true
 boxed airs boxes n route [] legal is = absurd (none-some route is)
 boxed airs boxes n route (Step.Relay sink bis to ∷ earlier) legal is =
-    grind (arith, is_some, (eqb-true sink n), ((is_free airs boxes earlier sink bis to legal.1).living),
-    (boxed airs boxes n route earlier legal.0))
+    grind (
+      arith,
+      is_some,
+      (eqb-true sink n),
+      ((is_free airs boxes earlier sink bis to legal.1).living),
+      (boxed airs boxes n route earlier legal.0),
+    )
 boxed airs boxes n route (Step.Drop sink ∷ earlier) legal is = search (dropped_boxed, boxed airs boxes n route earlier legal.0)
 boxed airs boxes n route (Step.Sink sink streams slots mtu ∷ earlier) legal is =
     grind (arith, (boxed airs boxes n route earlier legal.0 is))

@@ -42,8 +42,16 @@ unit_lasts own bis time octets =
     (calls_same own)
     ∙ ap (λ airs. option_map give_refusal (give_fault (with_ahead ahead (setup_of own)) (source_calls own) airs bis time octets))
     (airs_same ahead (setup_of own) (source_calls own))))
-    (grind (arith, option_map, give_refusal, ltb, with_ahead, framed_same, (ahead_stays (version_of own) (version_of (seconds own))
-    (is_later own))))
+    (grind (
+      arith,
+      option_map,
+      give_refusal,
+      ltb,
+      with_ahead,
+      framed_same,
+      (ahead_stays (version_of own) (version_of (seconds own))
+          (is_later own)),
+    ))
 
 -- ---- a step of a source
 
@@ -94,7 +102,19 @@ step_lasts boxes made step calm =
     let order : Option Refusal = refuse_if (is_out_of_order made step) Order in
     let ended : Option Refusal = refuse_if (is_over made) AfterEnd in
     let twin : Option Refusal = twin_refusal made step in
-    subst (Lasts (refusal_of airs_of boxes made step)) (grind (arith, option_or, refuse_if, own_refusal, airs_of, seconds, over_same,
-    twin_refusal, sink_same, same, twin_same, unbegun_same))
+    subst (Lasts (refusal_of airs_of boxes made step)) (grind (
+      arith,
+      option_or,
+      refuse_if,
+      own_refusal,
+      airs_of,
+      seconds,
+      over_same,
+      twin_refusal,
+      sink_same,
+      same,
+      twin_same,
+      unbegun_same,
+    ))
     (or_lasts ended _ _ (or_lasts order _ _ (or_lasts sink _ _
     (lasts_or here later twin (source_lasts (version_of made) (version_of (seconds made)) (chosen_steps made) step (is_later made))))))

@@ -218,8 +218,19 @@ run_alike laws starts lines history later (line ∷ rest) never begins stands la
     ((Its starts).output history line ++ out (Its starts) (line ∷ history) rest) ((Its starts).output later line
     ++ out (Its starts) (line ∷ later) rest) (end_of (Its starts) (line ∷ history) rest) (end_of (Its starts) (line ∷ later) rest)
     (accepted_of (Its starts) (line ∷ history) rest) (accepted_of (Its starts) (line ∷ later) rest) stands
-    (grind (arith, both_last, refusal_said, airs_of, length, seconds, happens, happens_later, same_lasts, unsaid_gone,
-    line_later)) lasting (λ none on.
+    (grind (
+      arith,
+      both_last,
+      refusal_said,
+      airs_of,
+      length,
+      seconds,
+      happens,
+      happens_later,
+      same_lasts,
+      unsaid_gone,
+      line_later,
+    )) lasting (λ none on.
     let prints_not : PrintsHorizon airs_of starts history line → ⊥ = never history line rest begins (stands.accepted, none) in
     run_next starts history later rest line (line_same laws starts history later line stands none prints_not)
     (run_alike laws starts lines (line ∷ history) (line ∷ later) rest never (begins ∙ sym (reverse_onto line history rest))

@@ -120,8 +120,22 @@ blank_or : (blank : Bool) (taken : ℕ) (line : List ℕ) (lines : List (List �
     → ((taken' : ℕ) → taken' ≤ text_limit → TurnOn (from taken' (text_of lines)) (from taken' (text_of (migrated_lines lines))))
     → TurnOn (from taken (line ++ behind lines)) (from taken (text_of (cond blank (line ∷ migrated_lines lines) (migrated_line line ∷ lines))))
 blank_or blank taken line lines clean within is turns =
-    grind (arith, blank_turn, bytes_eq-Decides, first_clean, second_clean, version_turn, cases_lt, text_limit, length, line_past, line_in,
-    is_blank, migrated_line, migrated_lines)
+    grind (
+      arith,
+      blank_turn,
+      bytes_eq-Decides,
+      first_clean,
+      second_clean,
+      version_turn,
+      cases_lt,
+      text_limit,
+      length,
+      line_past,
+      line_in,
+      is_blank,
+      migrated_line,
+      migrated_lines,
+    )
 
 lines_turn : (lines : List (List ℕ)) (taken : ℕ) → AreClean lines → taken ≤ text_limit
     → TurnOn (from taken (text_of lines)) (from taken (text_of (migrated_lines lines)))

@@ -86,8 +86,10 @@ info_same : (wider : ℕ) (setup : Setup) (capability : Capability) (wishes : Li
     ≡ by_info setup capability wishes slot train base encrypted read
 info_same wider setup capability wishes slot train base encrypted (Err fault) within is = refl
 info_same wider setup capability wishes slot train base encrypted (Ok info) within is =
-    cc (first_same setup.horizon wider info within (grind arith),
-    fault_same wider setup capability wishes slot train base info encrypted (first_fault setup.horizon info))
+    cc (
+      first_same setup.horizon wider info within (grind arith),
+      fault_same wider setup capability wishes slot train base info encrypted (first_fault setup.horizon info),
+    )
 
 big_info_same : (wider : ℕ) (setup : Setup) (capability : Capability) (wishes : List Wish) (slot : ℕ) (train : Train) (base : Endpoint)
     (found : Option (List ℕ)) → setup.horizon ≤ wider → BringsNear (by_big_info setup capability wishes slot train base found)

@@ -11,7 +11,7 @@ pub returns-in-Err-clause-runs : goal.returns-in-Err-clause-runs
 returns-in-Err-clause-runs g c =
     λ starts lines left kept e read run.
     ended_told airs_of starts _ left _ kept _ g.L.Listener.may_fail endings.ReadFault
-        (ends_faulted (rw c.in-Err.is at (c.read_next.ensures.next left lines read)) run)
+    (ends_faulted (rw c.in-Err.is at (c.read_next.ensures.next left lines read)) run)
 
 pub returns-in-Ok-End-clause-runs : goal.returns-in-Ok-End-clause-runs
 returns-in-Ok-End-clause-runs g c =
@@ -20,7 +20,7 @@ returns-in-Ok-End-clause-runs g c =
     let left' = g.S.ByteSource.left c.read_next.new.source in
     ended_told airs_of starts boxes left left' kept (g.K.ByteSink.contents c.end_text.new.sink) g.L.Listener.may_fail c.end_text.result
     (c.end_text.ensures.ends starts lines left left' kept boxes e
-        (rw (c.in-Ok-End.is ∙ ap Ok c.in-Ok-End.field-0-is) at (c.read_next.ensures.next left lines read)) run)
+    (rw (c.in-Ok-End.is ∙ ap Ok c.in-Ok-End.field-0-is) at (c.read_next.ensures.next left lines read)) run)
 
 pub returns-in-Ok-TextTooLong-clause-runs : goal.returns-in-Ok-TextTooLong-clause-runs
 returns-in-Ok-TextTooLong-clause-runs g c =
@@ -29,7 +29,7 @@ returns-in-Ok-TextTooLong-clause-runs g c =
     let kept' = g.K.ByteSink.contents c.refuse.new.sink in
     ended_told airs_of starts boxes left (g.S.ByteSource.left c.read_next.new.source) kept kept' g.L.Listener.may_fail c.refuse.result
     (line_past e run kept' c.refuse.result (rw (c.in-Ok-TextTooLong.is ∙ ap Ok c.in-Ok-TextTooLong.field-0-is) at
-        (c.read_next.ensures.next left lines read)) c.refuse.ensures.refuses)
+    (c.read_next.ensures.next left lines read)) c.refuse.ensures.refuses)
 
 pub returns-in-Ok-LineTooLong-clause-runs : goal.returns-in-Ok-LineTooLong-clause-runs
 returns-in-Ok-LineTooLong-clause-runs g c =
@@ -39,14 +39,14 @@ returns-in-Ok-LineTooLong-clause-runs g c =
     let kept' = g.K.ByteSink.contents put.new.sink in
     ended_told airs_of starts boxes left (g.S.ByteSource.left c.read_next.new.source) kept kept' g.L.Listener.may_fail put.result
     (line_long e run kept' put.result (rw (c.in-Ok-LineTooLong.is ∙ ap Ok c.in-Ok-LineTooLong.field-0-is) at
-        (c.read_next.ensures.next left lines read)) put.ensures.refuses)
+    (c.read_next.ensures.next left lines read)) put.ensures.refuses)
 
 pub returns-in-Ok-Line-clause-runs : goal.returns-in-Ok-Line-clause-runs
 returns-in-Ok-Line-clause-runs g c =
     λ starts lines left kept e read run.
     let left' = g.S.ByteSource.left c.read_next.new.source in
     let at = line_read c.line.result.now (rw (c.in-Ok-Line.is ∙ ap Ok c.in-Ok-Line.field-0-is) at
-        (c.read_next.ensures.next left lines read)) c.line.ensures.value in
+    (c.read_next.ensures.next left lines read)) c.line.ensures.value in
     step_line g.L.Listener.may_fail starts lines (plain c.line.result.now) left left' kept (g.K.ByteSink.contents c.hear_step.new.sink)
     c.read_next.new.reader c.hear_step.new.machine _ c.hear_step.result at
     (c.hear_step.ensures.runs starts lines left left' kept e (comes_of at) (line_ahead e at) run)
@@ -98,7 +98,7 @@ returns-in-Ok-Line-clause-told g c =
     let left' = g.S.ByteSource.left c.read_next.new.source in
     let new = listened g.L.Listener.told g.L.Listener.rows c.hear_step.new.listener c.hear_step.new.sink in
     let at = line_read c.line.result.now (rw (c.in-Ok-Line.is ∙ ap Ok c.in-Ok-Line.field-0-is) at
-        (c.read_next.ensures.next left lines read))
+    (c.read_next.ensures.next left lines read))
     c.line.ensures.value in
     told_line g.L.Listener.row_of left left' start new lines (plain c.line.result.now) c.read_next.new.reader c.hear_step.result at
     (c.hear_step.ensures.told lines left left' start e (comes_of at) has)

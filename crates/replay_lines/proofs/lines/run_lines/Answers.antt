@@ -35,7 +35,7 @@ returns-in-Some g c =
           (map (λ b. (goal.Outlet-dyn g (b.vtable, b.value)).account b.value) c.run_line.new.outlets.items)
           (g.S.ByteSource.left c.run_line.new.source) (g.K.ByteSink.contents c.run_line.new.sink)
           c.run_line.new.reader c.run_line.new.machine c.run_line.result
-              (λ lines. c.run_line.ensures.runs starts lines left (g.K.ByteSink.contents c.args.sink.now)) c.in-Some.ending c.in-Some.is;
+          (λ lines. c.run_line.ensures.runs starts lines left (g.K.ByteSink.contents c.args.sink.now)) c.in-Some.ending c.in-Some.is;
       unassigned = unassigned_at c.run_line.new.outlets.items c.lines.invariant.running
           (λ lines. c.run_line.ensures.unassigned starts lines before);
       told = telling_ends c.lines.invariant.telling (g.S.ByteSource.left c.run_line.new.source)
@@ -63,7 +63,7 @@ lines-preserved g c = record {
   running = running_more c.lines.invariant.running g.L.Listener.may_fail
       (map (λ b. (goal.Outlet-dyn g (b.vtable, b.value)).account b.value) c.run_line.new.outlets.items)
       (g.S.ByteSource.left c.run_line.new.source) (g.K.ByteSink.contents c.run_line.new.sink) c.run_line.new.reader c.run_line.new.machine
-          c.run_line.result
+      c.run_line.result
       (λ lines. c.run_line.ensures.runs (map (λ b. (goal.Outlet-dyn g (b.vtable, b.value)).account b.value) c.args.outlets.now.items) lines
       (g.S.ByteSource.left c.args.source.now) (g.K.ByteSink.contents c.args.sink.now)) c.run_line.new.outlets.items c.in-None.is
       (λ lines. c.run_line.ensures.unassigned (map (λ b. (goal.Outlet-dyn g (b.vtable, b.value)).account b.value) c.args.outlets.now.items) lines

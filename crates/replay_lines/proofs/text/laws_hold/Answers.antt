@@ -8,7 +8,7 @@ returns c boxes = record {
       let met = c.some_airs_meet.ensures in
       let law = c.one_transcript.ensures in
       let answered = λ (starts : List Account) (lines : List TextLine) (line : TextLine)
-          (accepted : Accepted (rules_of airs_of starts) (line ∷ lines)).
+      (accepted : Accepted (rules_of airs_of starts) (line ∷ lines)).
       answered_alike airs_of airs (length starts) (steps_of airs_of lines) (steps_of airs lines) (said_after lines line)
       (λ step. law.answers airs_of airs starts lines step met meets accepted.0) accepted.1 in
       search (law.octets, law.end, law.units, law.out, law.lines_end, law.accepted, law.handed, law.output, answered);

@@ -11,4 +11,4 @@ returns-clause-promised g c =
 pub returns-clause-unassigned : goal.returns-clause-unassigned
 returns-clause-unassigned g c text airs is meets =
     unassigned_run airs _ (lines_of true text) _ _ (((c.laws_hold.ensures []).same airs meets).accepted _)
-        (c.run_lines.ensures.unassigned text is)
+    (c.run_lines.ensures.unassigned text is)
