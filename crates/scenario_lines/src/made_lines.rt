@@ -129,11 +129,7 @@ impl Lines {
 
     /// The next line as the step that it says in each version, where it gives a unit behind the first ones, or is an event or what a
     /// sink hears of it. None for each other line, which is left. The octets of a unit come in the memory of `spare`.
-    pub fn next_step(
-        &mut self,
-        alloc: Global,
-        spare: &mut Octets,
-    ) -> Result<Option<Step>, Memory>
+    pub fn next_step(&mut self, alloc: Global, spare: &mut Octets) -> Result<Option<Step>, Memory>
         ensures says { IfOk result (λ next. IfSome next (λ step. NextSays step self.old self.new)) }
         ensures in_range { IfOk result (λ next. IfSome next IsInRange) }
         ensures left { result ≡ Ok None → self.new ≡ self.old }
