@@ -1,5 +1,6 @@
 pub mod Answers
 pub mod Making
+pub mod Operates
 pub mod Origins
 pub mod SinkHistory
 pub mod SinkLines
