@@ -41,8 +41,33 @@ impl<'a> Cursor<'a> {
         Ok(true)
     }
 
-    /// The same as `octets`, in the place of `spare` and in its memory. After a fault nothing is said of `spare`.
+    /// The same as `octets_into`, for any word; a function of its own, so that `octets_into` is short where it is called.
+    #[inline(never)]
     #[tactic(auto, using(crate::proofs::NextWords::fits, crate::proofs::NextWords::misfits, crate::proofs::NextWords::spells, crate::proofs::OneWord::octets_range))]
+    fn any_octets_into(
+        &mut self,
+        alloc: Global,
+        spare: &mut Octets,
+        most: usize,
+    ) -> Result<(), LineFault>
+        ensures range { IfOk result (λ _. length spare.new ≤ most) }
+        ensures gives { GivesNext (λ _. spare.new) result self.new (next (octets_in most) self.old) }
+        ensures memory { result ≡ Err NoMemory → SpellsNext (next (octets_in most) self.old) }
+    {
+        let word = self.word()?;
+        if octets_over(spare, word, most)? {
+            return Ok(());
+        }
+        match octets_of(alloc, word, most)? {
+            Some(octets) => {
+                keep(spare, octets);
+                Ok(())
+            }
+            None => Err(LineFault::from(self.misfit())),
+        }
+    }
+
+    /// The same as `octets`, in the place of `spare` and in its memory. After a fault nothing is said of `spare`.
     pub fn octets_into(
         &mut self,
         alloc: Global,
@@ -56,17 +81,7 @@ impl<'a> Cursor<'a> {
         if self.last_octets_into(spare, most)? {
             return Ok(());
         }
-        let word = self.word()?;
-        if octets_over(spare, word, most)? {
-            return Ok(());
-        }
-        match octets_of(alloc, word, most)? {
-            Some(octets) => {
-                keep(spare, octets);
-                Ok(())
-            }
-            None => Err(LineFault::from(self.misfit())),
-        }
+        self.any_octets_into(alloc, spare, most)
     }
 
     /// The same as `octets`, into the memory of `spare`, which is given away with them.
