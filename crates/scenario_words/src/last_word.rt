@@ -41,10 +41,11 @@ impl<'a> Cursor<'a> {
         Ok(true)
     }
 
-    /// The same as `octets_into`, for any word; a function of its own, so that `octets_into` is short where it is called.
+    /// The same as `octets_into`, for a word that mostly isn't the last of its line. It is a function of its own, so that `octets_into` is
+    /// short where it is called.
     #[inline(never)]
     #[tactic(auto, using(crate::proofs::NextWords::fits, crate::proofs::NextWords::misfits, crate::proofs::NextWords::spells, crate::proofs::OneWord::octets_range))]
-    fn any_octets_into(
+    pub fn inner_octets_into(
         &mut self,
         alloc: Global,
         spare: &mut Octets,
@@ -81,7 +82,7 @@ impl<'a> Cursor<'a> {
         if self.last_octets_into(spare, most)? {
             return Ok(());
         }
-        self.any_octets_into(alloc, spare, most)
+        self.inner_octets_into(alloc, spare, most)
     }
 
     /// The same as `octets`, into the memory of `spare`, which is given away with them.
