@@ -1,5 +1,6 @@
 pub mod Citable
 pub mod Stepping
+pub mod SinkCalling
 pub mod SinkLines
 pub mod Airing
 pub mod Losing
@@ -9,6 +10,7 @@ pub mod StepLaws
 pub mod LineLaws
 pub mod Unassigned
 pub mod Offering
+pub mod Operating
 pub mod CloseLines
 pub mod RelayLaws
 pub mod ClosesFirst

@@ -1,7 +1,8 @@
 -- A line by its step.
-use Rattle.replay_steps.proofs.Prelude.{◌≡◌, ℕ, ◌≤◌, List, [], ◌∷◌, ◌++◌, length, inl, inr, None, Some, Result, Ok, Err, refl, sym, ◌∙◌, ap, subst, arith, TextLine, plain, Account, airs_of, happened, with_relayed_units, append-nil, read_of, Step, sinks_made, sinks_made_by, version_at, version_of, hands_alike, left_by_relayed_units, stage_happened, passes_both, accounts_after, handed_by, handed_up, is_relayed, a_step, said_of, steps_of, said_by, said_after, with_said, refusal_said, output_said, handed_said, Machine, Stop, OutletFault, Memory, Stands, BoxesStand, StepMeets, accounts_append, Airs, SinkUnit, Took, handed_happened, Said, handed_on, took_all}
+use Rattle.replay_steps.proofs.Prelude.{◌≡◌, ℕ, ◌≤◌, List, [], ◌∷◌, ◌++◌, length, inl, inr, None, Some, Result, Ok, Err, refl, sym, ◌∙◌, ap, subst, arith, TextLine, plain, Account, airs_of, happened, with_relayed_units, append-nil, read_of, Step, sinks_made, sinks_made_by, version_at, version_of, hands_alike, left_by_relayed_units, stage_happened, stage_of, running, passes_both, accounts_after, handed_by, handed_up, is_relayed, a_step, said_of, steps_of, said_by, said_after, with_said, refusal_said, output_said, handed_said, Machine, Stop, OutletFault, Memory, Stands, BoxesStand, Meets, StepMeets, accounts_append, Airs, SinkUnit, Took, handed_happened, Said, handed_on, took_all}
 use Rattle.scenario_history.specs.Refusals.{refusal_of}
 use Rattle.replay_steps.specs.LineMeets.{LineMeets, LinesStand}
+use Rattle.replay_steps.proofs.StepLaws.{goes_on_in, meets_step}
 
 room_stays : (boxes : ℕ) (earlier : List Step) (made : Step) → refusal_of airs_of boxes earlier made ≡ None → sinks_made earlier ≤ boxes → sinks_made (made ∷ earlier) ≤ boxes
 room_stays boxes earlier _ e room = grind arith
@@ -54,6 +55,17 @@ pub line_meets : (starts : List Account) (lines : List TextLine) (line : List �
     → StepMeets starts (steps_of airs_of lines) made new text told before after r → LineMeets starts lines (plain line) new text told before after r
 line_meets starts lines line version made new text told before after r boxes is reads m =
     said_meets starts lines (plain line) made new text told before after r boxes (ap (λ v. said_by (read_of v line)) (sym is) ∙ ap said_by reads) m
+
+-- a line that says a step where the scenario began and isn't over, by what the step does, which hands up nothing
+pub runs_line : (starts accounts : List Account) (version : ℕ) (lines : List TextLine) (line : List ℕ) (machine new : Machine) (text told : List ℕ) (made : Step)
+    (r : Result (Unit {0}) Stop) → LinesStand starts lines machine accounts → stage_of (steps_of airs_of lines) ≡ running version
+    → ((version : ℕ) → read_of version line ≡ Ok (Some made))
+    → ((accounts : List Account) → Meets starts (steps_of airs_of lines) made new text told accounts accounts r)
+    → LineMeets starts lines (plain line) new text told accounts accounts r
+runs_line starts accounts version lines line machine new text told made r stand e reads m =
+    let steps : List Step = steps_of airs_of lines in
+    line_meets starts lines line (version_of (said_of lines)) made new text told accounts accounts r stand.boxes refl (reads (version_of (said_of lines)))
+    (meets_step starts steps made new text told accounts accounts r (goes_on_in version steps e) (m accounts))
 
 -- ---- lines that say no step
 

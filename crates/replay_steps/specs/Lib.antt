@@ -2,6 +2,7 @@ pub mod Versions
 pub mod Machines
 pub mod Failing
 pub mod Meets
+pub mod Operations
 pub mod LineMeets
 pub mod Airing
 pub mod Losing

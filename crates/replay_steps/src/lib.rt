@@ -8,6 +8,7 @@ mod heard_event;
 mod line_steps;
 mod losses;
 mod machine;
+mod operations;
 mod questions;
 mod relay_steps;
 mod sink_steps;

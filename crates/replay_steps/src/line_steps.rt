@@ -1,9 +1,12 @@
 //! The steps of a sink's control and of its links.
 ghost use Rattle.std.specs.Prelude.{◌≡◌, ◌≤◌, ℕ, List, Some};
 ghost use Rattle.unit_outlets.specs.Account.{Account};
+ghost use Rattle.bass_operations.specs.Layout.{encoding};
+ghost use Rattle.bass_operations.specs.declared.operation.Operation.{Operation};
 ghost use Rattle.scenario_text.specs.Ranges.{IsInRange};
 ghost use Rattle.scenario_text.specs.declared.step.Step.{Step as Said};
 ghost use Rattle.scenario_text.specs.declared.step.Step.TheVariants.{Announce};
+ghost use Rattle.scenario_lines.specs.Operations.{operation_step};
 ghost use Rattle.scenario_history.specs.Steps.{running, stage_of};
 ghost use Rattle.scenario_history.specs.Worlds.{source_at};
 ghost use Rattle.sink_history.specs.History.{named_by};
@@ -11,6 +14,7 @@ ghost use Rattle.scenario_sink.specs.Origins.{IsFrom};
 ghost use Rattle.scenario_sink.specs.SinkLines.{IsSinkLine};
 ghost use Rattle.replay_steps.specs.Machines.{Stands};
 ghost use Rattle.replay_steps.specs.Meets.{Meets, Tells};
+ghost use Rattle.replay_steps.specs.Operations.{HasLine};
 
 use crate::machine::Machine;
 use bcast_base::Octets;
@@ -42,6 +46,16 @@ impl Machine {
         let sink = sink_of(&step);
         let origin = self.origin();
         self.sinks.line(sink, step, origin, text)
+    }
+
+    /// A line that says an operation, whose octets were read: `add`, `modify`, `remove` or `code`.
+    pub(crate) fn operate(&mut self, sink: u8) -> Result<(), Stop>
+        requires { sink ≤ 7 }
+        ensures { (starts accounts : List Account) (version : ℕ) (steps : List Said) (op : Operation) (text : List ℕ) → HasLine op
+            → self.old.operation ≡ encoding op → Stands steps self.old → stage_of steps ≡ running version
+            → Meets starts steps (operation_step sink op) self.new text text accounts accounts result }
+    {
+        self.sinks.operate(sink, self.operation.as_slice())
     }
 
     /// `announce`: hands a sink the train of the chosen source for its next event.

@@ -5,12 +5,15 @@ ghost use Rattle.scenario_text.specs.Lines.{LineIs};
 ghost use Rattle.scenario_text.specs.Ranges.{IsInRange};
 ghost use Rattle.scenario_text.specs.declared.step.Step.{Step as Said};
 ghost use Rattle.scenario_lines.specs.Frequent.{frequent_step};
+ghost use Rattle.scenario_sink.specs.SinkCalls.{call_step};
 ghost use Rattle.scenario_sink.specs.SinkLines.{IsSinkLine};
 
+use crate::operations::read_of_source;
 use crate::source_steps::give;
 use crate::version::Stage;
 use bcast_base::{Memory, Octets};
-use scenario_lines::{Frequent, LineFault, read_frequent, read_line_over};
+use scenario_lines::{Frequent, LineFault, OperationRoom, read_frequent, read_line_over};
+use scenario_sink::SinkCall;
 use scenario_sinks::{Relays, Sinks};
 use scenario_sources::Sources;
 use scenario_text::{Step, a_line_says_one_step};
@@ -29,6 +32,8 @@ pub struct Machine {
     pub(crate) relays: Relays,
     /// The memory of the octets of an earlier unit, for those of the next.
     pub(crate) spare: Octets,
+    /// The memory in which the lines of operations are read.
+    pub(crate) operation: OperationRoom,
 }
 
 impl Machine {
@@ -51,6 +56,7 @@ impl Machine {
             sinks: Sinks::new(alloc)?,
             relays: Relays::new(),
             spare: Octets::new(alloc),
+            operation: OperationRoom::new(alloc),
         })
     }
 
@@ -83,7 +89,7 @@ impl Machine {
         };
         match read_frequent(self.alloc, &mut self.spare, line) {
             Ok(Some(frequent)) => self.frequent(frequent, outlets, text),
-            Ok(None) => self.any_line(line, outlets, text),
+            Ok(None) => self.other_line(line, outlets, text),
             Err(Memory) => Err(Stop::Memory),
         }
     }
@@ -119,7 +125,7 @@ impl Machine {
     }
 
     /// The same for a line of a sink's first link, or of the loss of its train. It stands alone, so that the others take no room for
-    /// its step.
+    /// what it does.
     #[inline(never)]
     fn frequent_of_sink(&mut self, frequent: Frequent, text: &mut Octets) -> Result<(), Stop>
         requires range { IsInRange (frequent_step frequent self.old.spare) }
@@ -127,8 +133,32 @@ impl Machine {
         ensures { (starts accounts : List Account) (version : ℕ) (steps : List Said) → Stands steps self.old → stage_of steps ≡ running version
             → Meets starts steps (frequent_step frequent self.old.spare) self.new text.old text.new accounts accounts result }
     {
-        let step = step_of_sink(frequent);
-        self.sink_line(step, text)
+        let (sink, call) = call_of(frequent);
+        self.sinks.call(sink, call, text)
+    }
+
+    /// Runs a line that is none of these, where the scenario began and didn't end.
+    #[inline(never)]
+    fn other_line(
+        &mut self,
+        line: &[u8],
+        outlets: &mut Vec<Box<dyn Outlet>>,
+        text: &mut Octets,
+    ) -> Result<(), Stop>
+        requires { length line.now < 2 ^ 64 }
+        ensures meets { (starts : List Account) (version : ℕ) (lines : List TextLine)
+            → LinesStand starts lines self.old (map account outlets.old.items) → stage_of (steps_of airs_of lines) ≡ running version
+            → LineMeets starts lines (plain line.now) self.new text.old text.new (map account outlets.old.items)
+            (map account outlets.new.items) result }
+        ensures unassigned { (starts : List Account) (lines : List TextLine) (accounts : List Account)
+            → LinesStand starts lines self.old accounts
+            → UnassignedSame (steps_of airs_of lines) outlets.old.items outlets.new.items }
+    {
+        match read_of_source(self.alloc, &mut self.operation, line) {
+            Ok(Some(sink)) => self.operate(sink),
+            Ok(None) => self.any_line(line, outlets, text),
+            Err(Memory) => Err(Stop::Memory),
+        }
     }
 
     /// Runs a line of any kind, as `line` does.
@@ -193,16 +223,16 @@ impl Machine {
     }
 }
 
-/// The step of a line of a sink's first link, or of the loss of its train.
-fn step_of_sink(frequent: Frequent) -> Step
+/// A line of a sink's first link, or of the loss of its train: the sink that it names, and what it says.
+fn call_of(frequent: Frequent) -> (u8, SinkCall)
     requires { IsSinkLine (frequent_step frequent []) }
-    ensures { (octets : List ℕ) → result ≡ frequent_step frequent octets }
+    ensures { (octets : List ℕ) → frequent_step frequent octets ≡ call_step result.1 result.0 }
 {
     match frequent {
-        Frequent::Serve { sink } => Step::Serve { sink },
-        Frequent::Tell { sink } => Step::Tell { sink },
-        Frequent::Drain { sink } => Step::Drain { sink },
-        Frequent::Lose { sink } => Step::Lose { sink },
+        Frequent::Serve { sink } => (sink, SinkCall::Serve),
+        Frequent::Tell { sink } => (sink, SinkCall::Tell),
+        Frequent::Drain { sink } => (sink, SinkCall::Drain),
+        Frequent::Lose { sink } => (sink, SinkCall::Lose),
         Frequent::Unit { .. }
         | Frequent::Event
         | Frequent::Air { .. }

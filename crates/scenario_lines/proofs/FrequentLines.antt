@@ -82,7 +82,7 @@ takes_onward (other ∷ places) read words all = absurd all
 
 -- ---- a first word and the words behind it
 
-all_whole : (r : Result (Step × Left) LineFault) (made : Step) (after : Left) → r ≡ Ok (made, after) → after.words ≡ []
+pub all_whole : (r : Result (Step × Left) LineFault) (made : Step) (after : Left) → r ≡ Ok (made, after) → after.words ≡ []
     → ((r >>= whole) >>= λ step. Ok (Some step)) ≡ Ok (Some made)
 all_whole r made after is none = rw is (rw none refl)
 
@@ -112,7 +112,7 @@ event_read version line is = ap (read_of version) ((bytes_eq-Decides line (codes
 
 -- ---- what was read
 
-none_more : (words : List (List ℕ)) (more : Bool) → (IsTrue more ↔ (words ≢ [])) → more ≡ false → words ≡ []
+pub none_more : (words : List (List ℕ)) (more : Bool) → (IsTrue more ↔ (words ≢ [])) → more ≡ false → words ≡ []
 none_more [] more h e = refl
 none_more (word ∷ words) more h e = grind arith
 

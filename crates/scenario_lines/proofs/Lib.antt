@@ -3,6 +3,7 @@ mod FrequentLines
 mod LowFirst
 mod MadeSteps
 mod NextLines
+mod OperationLines
 mod Putting
 mod Rows
 mod Said

@@ -54,7 +54,7 @@ pub fn read_frequent(
 
 /// What stands behind these octets, where a line begins with them.
 #[inline(always)]
-fn behind<'a>(name: &[u8], line: &'a [u8]) -> Option<&'a [u8]>
+pub(crate) fn behind<'a>(name: &[u8], line: &'a [u8]) -> Option<&'a [u8]>
     ensures { IfSome result (λ words. name.now ++ words.now ≡ line.now) }
 {
     let count = name.len();

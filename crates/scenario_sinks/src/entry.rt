@@ -8,23 +8,26 @@ ghost use Rattle.scenario_sinks.specs.State.Entries.{EntryHears, EntryRuns, Entr
 ghost use Rattle.scenario_sinks.specs.State.Standing.{EntryIs};
 ghost use Rattle.scenario_history.specs.Sinks as histories;
 ghost use Rattle.scenario_text.specs.Ranges.{IsInRange};
-ghost use Rattle.scenario_text.specs.declared.step.Step.TheVariants.{Announce};
+ghost use Rattle.scenario_text.specs.declared.step.Step.{Step as Said};
+ghost use Rattle.scenario_text.specs.declared.step.Step.TheVariants.{Announce, Train};
 ghost use Rattle.delegator_history.specs.Trains.{Settings};
 ghost use Rattle.sink_history.specs.History.{Source};
 ghost use Rattle.sink_history.specs.Output.{state_where};
 ghost use Rattle.scenario_sink.specs.Making.{LineMakes};
+ghost use Rattle.scenario_sink.specs.Operates.{Operates};
 ghost use Rattle.scenario_sink.specs.Origins.{IsFrom};
+ghost use Rattle.scenario_sink.specs.SinkCalls.{call_step};
 ghost use Rattle.scenario_sink.specs.SinkHistory.{SinkHistory, after_tuning, hearing_event, receiving};
 ghost use Rattle.scenario_sink.specs.SinkLines.{IsSinkLine};
 ghost use Rattle.scenario_sink.specs.State.Stands.{IsSink};
 
 use crate::beyond::is_beyond;
 use crate::sink::{Sink, is_of};
-use announcement_train::Train;
+use announcement_train::Train as Announced;
 use bcast_base::{Bis, Memory, Octets};
 use isoal_base::Hearing;
 use radio_schedule::StreamEvent;
-use scenario_sink::Origin;
+use scenario_sink::{Origin, SinkCall};
 use scenario_text::Step;
 use sync_reference::BigSync;
 use transcript_text::{Refusal, Stop};
@@ -81,6 +84,54 @@ pub(crate) fn run_entry(
     run(sink, step, origin, text)
 }
 
+/// Runs a line on the sink of an entry that says the operation of these octets.
+pub(crate) fn operate_entry(entry: &mut Option<Sink>, octets: &[u8]) -> Result<(), Stop>
+    ensures { (source : Source) (step : Said) (box : Option ℕ) (made : Option Settings) (own : Option ℕ) (calls_made : List links.Call)
+        (received : List Call) (text : List ℕ) → Operates step octets.now
+        → EntryIs box made own calls_made received (Some entry.old)
+        → EntryRuns box made own calls_made received source step entry.new text text result }
+{
+    let Some(sink) = entry else {
+        return Err(Stop::Refused(Refusal::NoSuchSink));
+    };
+    operate(sink, octets)
+}
+
+/// Runs a line on a sink that says the operation of these octets.
+fn operate(sink: &mut Sink, octets: &[u8]) -> Result<(), Stop>
+    ensures makes { (source : Source) (step : Said) (past : SinkHistory) (text : List ℕ) → Operates step octets.now → IsSink past sink.old.living
+        → LineMakes source step past text text sink.new.living result }
+    ensures outlet { sink.new.outlet ≡ sink.old.outlet }
+{
+    sink.living.put_operation(octets)
+}
+
+/// Runs a line on the sink of an entry, which has this number.
+pub(crate) fn call_entry(
+    entry: &mut Option<Sink>,
+    call: SinkCall,
+    number: u8,
+    text: &mut Octets,
+) -> Result<(), Stop>
+    ensures { (source : Source) (box : Option ℕ) (made : Option Settings) (own : Option ℕ) (calls_made : List links.Call) (received : List Call)
+        → EntryIs box made own calls_made received (Some entry.old)
+        → EntryRuns box made own calls_made received source (call_step call number) entry.new text.old text.new result }
+{
+    let Some(sink) = entry else {
+        return Err(Stop::Refused(Refusal::NoSuchSink));
+    };
+    make_call(sink, call, number, text)
+}
+
+/// Runs a line on a sink of this number.
+fn make_call(sink: &mut Sink, call: SinkCall, number: u8, text: &mut Octets) -> Result<(), Stop>
+    ensures makes { (source : Source) (past : SinkHistory) → IsSink past sink.old.living
+        → LineMakes source (call_step call number) past text.old text.new sink.new.living result }
+    ensures outlet { sink.new.outlet ≡ sink.old.outlet }
+{
+    sink.living.call(call, number, text)
+}
+
 /// Runs a line on a sink.
 fn run(sink: &mut Sink, step: Step, origin: Origin, text: &mut Octets) -> Result<(), Stop>
     requires range { IsInRange step }
@@ -92,12 +143,55 @@ fn run(sink: &mut Sink, step: Step, origin: Origin, text: &mut Octets) -> Result
     sink.living.line(step, origin, text)
 }
 
+/// Hands the sink of an entry, which has this number, a train that is given by its octets.
+pub(crate) fn train_entry(
+    entry: &mut Option<Sink>,
+    number: u8,
+    origin: Origin,
+    time: u64,
+    ext: &[u8],
+    adv: &[u8],
+    acad: &[u8],
+    text: &mut Octets,
+) -> Result<(), Stop>
+    requires { time ≤ 2 ^ 61 }
+    ensures { (source : Source) (box : Option ℕ) (made : Option Settings) (own : Option ℕ) (calls_made : List links.Call) (received : List Call)
+        → IsFrom origin source
+        → EntryIs box made own calls_made received (Some entry.old)
+        → EntryRuns box made own calls_made received source (Train number time ext.now adv.now acad.now) entry.new text.old text.new result }
+{
+    let Some(sink) = entry else {
+        return Err(Stop::Refused(Refusal::NoSuchSink));
+    };
+    give(sink, number, origin, time, ext, adv, acad, text)
+}
+
+/// Hands a sink of this number a train that is given by its octets.
+fn give(
+    sink: &mut Sink,
+    number: u8,
+    origin: Origin,
+    time: u64,
+    ext: &[u8],
+    adv: &[u8],
+    acad: &[u8],
+    text: &mut Octets,
+) -> Result<(), Stop>
+    requires { time ≤ 2 ^ 61 }
+    ensures makes { (source : Source) (past : SinkHistory) → IsFrom origin source → IsSink past sink.old.living
+        → LineMakes source (Train number time ext.now adv.now acad.now) past text.old text.new sink.new.living result }
+    ensures outlet { sink.new.outlet ≡ sink.old.outlet }
+{
+    sink.living
+        .train(number, origin, time, ext, adv, acad, text)
+}
+
 /// Hands the sink of an entry, which has this number, the train of its source.
 pub(crate) fn announce_entry(
     entry: &mut Option<Sink>,
     number: u8,
     origin: Origin,
-    train: &Train,
+    train: &Announced,
     text: &mut Octets,
 ) -> Result<(), Stop>
     requires { train.now.time ≤ 2 ^ 61 }
@@ -117,7 +211,7 @@ fn tell(
     sink: &mut Sink,
     number: u8,
     origin: Origin,
-    train: &Train,
+    train: &Announced,
     text: &mut Octets,
 ) -> Result<(), Stop>
     requires { train.now.time ≤ 2 ^ 61 }

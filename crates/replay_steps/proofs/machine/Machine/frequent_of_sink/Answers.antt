@@ -1,16 +1,28 @@
-use Rattle.replay_steps.proofs.Prelude.{sym, subst, arith, IsSinkLine, common_steps}
+use Rattle.replay_steps.proofs.Prelude.{refl, subst, arith, common_steps, source_at, histories_of}
 use Rattle.scenario_text.specs.Ranges.{IsInRange}
+use Rattle.scenario_lines.specs.Frequent.{frequent_step}
+use Rattle.scenario_sink.specs.SinkCalls.{call_step}
+use Rattle.replay_steps.proofs.SinkCalling.{in_range, is_line, names}
+use Rattle.replay_steps.proofs.SinkLines.{closes_none_by, gives_none_by, line_meets, nothing_handed_by}
+use Rattle.replay_steps.proofs.StepLaws.{meets_as, tells_meets}
 use Rattle.replay_steps.proofs.machine.Machine.frequent_of_sink.Goals as goal
 
-pub step_of_sink-step-requires : goal.step_of_sink-step-requires
-step_of_sink-step-requires c = grind (arith, common_steps)
+pub call_of-sink-requires : goal.call_of-sink-requires
+call_of-sink-requires c = grind (arith, common_steps)
 
-pub sink_line-requires-clause-range : goal.sink_line-requires-clause-range
-sink_line-requires-clause-range c = subst IsInRange (sym (c.step_of_sink-step.ensures c.args.self.now.spare)) c.requires.range
-
-pub sink_line-requires-clause-line : goal.sink_line-requires-clause-line
-sink_line-requires-clause-line c = subst IsSinkLine (sym (c.step_of_sink-step.ensures c.args.self.now.spare)) c.requires.line
+pub call-requires : goal.call-requires
+call-requires c =
+    in_range c.call_of-sink.result.1 c.call_of-sink.result.0 (subst IsInRange (c.call_of-sink.ensures c.args.self.now.spare) c.requires.range)
 
 pub returns : goal.returns
 returns c starts accounts version steps stands e =
-    grind (arith, c.step_of_sink-step.ensures c.args.self.now.spare, c.sink_line.ensures starts accounts version steps stands e)
+    let sink = c.call_of-sink.result.0 in
+    let call = c.call_of-sink.result.1 in
+    let said = call_step call sink in
+    let line = is_line call sink in
+    meets_as starts steps (frequent_step c.args.frequent c.args.self.now.spare) said _ c.args.text.now c.call.new.text accounts accounts c.call.result
+    (c.call_of-sink.ensures c.args.self.now.spare)
+    (tells_meets starts steps said _ c.args.text.now c.call.new.text accounts c.call.result (nothing_handed_by steps said line) (closes_none_by steps said line)
+    (gives_none_by steps said line)
+    (line_meets starts version sink steps said c.args.self.now _ c.args.text.now c.call.new.text c.call.result stands e line (names call sink) refl refl refl
+    (c.call.ensures (histories_of steps) (source_at steps) stands.sinks)))

@@ -13,8 +13,9 @@ returns-in-Ok-Some-clause-meets g c starts lines stand =
     (c.frequent.ensures.meets starts _ steps (stands_beside _ _ _ refl refl refl refl stand.stands) e stand.boxes))
 
 pub returns-in-Ok-None-clause-meets : goal.returns-in-Ok-None-clause-meets
-returns-in-Ok-None-clause-meets g c starts lines stand = grind arith
+returns-in-Ok-None-clause-meets g c starts lines stand =
+    c.other_line.ensures.meets starts _ lines (lines_beside _ _ _ _ _ refl refl refl refl stand) (sym stand.stands.stage ∙ ap stage_in c.in-Running.is)
 
 pub returns-in-Ok-None-clause-unassigned : goal.returns-in-Ok-None-clause-unassigned
 returns-in-Ok-None-clause-unassigned g c starts lines accounts stand =
-    c.any_line-in-Ok-None.ensures.unassigned starts lines accounts (lines_beside _ _ _ _ _ refl refl refl refl stand)
+    c.other_line.ensures.unassigned starts lines accounts (lines_beside _ _ _ _ _ refl refl refl refl stand)
