@@ -46,7 +46,10 @@ impl Delegator {
             (setup : Setup) (calls : List Call) → StandsFor setup calls self.old
             → OnErr result (is_followed (outcome_by setup (snapshot_of setup (steps_of calls)) train) ≡ true) }
     {
-        let outcome = self.scan.bring(address_type, sid, ext, adv, acad, now)?;
+        let kept = &mut self.kept;
+        let outcome = self
+            .scan
+            .bring(kept, address_type, sid, ext, adv, acad, now)?;
         let made = receivers_of(&self.sink, outcome.big_sync())?;
         let heard = self.scan.follow(outcome)?;
         join(&mut self.sink, made);
