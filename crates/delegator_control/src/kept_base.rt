@@ -8,19 +8,31 @@ use base_grammar::{Base, BaseFault, decode_base};
 use bcast_base::{Memory, Octets};
 use std::alloc::Global;
 
-/// The BASE that was read last, with its octets. A source announces the same one again and again, and then it isn't read anew. It is no
-/// part of what a Scan Delegator stands for.
+/// The BASE that was read last, with its octets, or nothing. A source announces the same one again and again, and then it isn't read anew.
+/// It stands beside a Scan Delegator, and is no part of what that stands for.
 #[derive(Drop)]
 pub struct KeptBase {
+    /// Whether a BASE is kept at all.
+    keeps: bool,
     octets: Octets,
     base: Option<Base>,
     ghost read: { ForSome base (λ base. base_of octets ≡ Ok base) },
 }
 
 impl KeptBase {
-    /// No BASE. It takes no memory.
+    /// No BASE so far. It takes no memory.
     pub fn new(alloc: Global) -> KeptBase {
         KeptBase {
+            keeps: true,
+            octets: Octets::new(alloc),
+            base: None,
+        }
+    }
+
+    /// No BASE, and none is kept. It takes no memory.
+    pub(crate) fn never(alloc: Global) -> KeptBase {
+        KeptBase {
+            keeps: false,
             octets: Octets::new(alloc),
             base: None,
         }
@@ -39,10 +51,13 @@ impl KeptBase {
         }
     }
 
-    /// Keeps the BASE that the octets are, in place of the one before. After want of memory none is kept.
+    /// Keeps the BASE that the octets are, in place of the one before, where one is kept at all. After want of memory none is.
     pub(crate) fn keep(&mut self, octets: &[u8], base: Base) -> Result<(), Memory>
         requires { base_of octets.now ≡ Ok base }
     {
+        if !self.keeps {
+            return Ok(());
+        }
         self.base = None;
         self.octets.clear();
         self.octets.append(octets)?;

@@ -28,10 +28,15 @@ use delegator_history::TrainHeard;
 const ENCRYPTED_BIG_INFO: usize = 57;
 
 impl ScanDelegator {
+    /// For `bring`, where no BASE is to be kept. It takes no memory.
+    pub fn keeps_none(&self) -> KeptBase {
+        KeptBase::never(self.alloc)
+    }
+
     /// What a train brings that is heard at `now` in µs: the first answer that holds (Basic Audio Profile 1.0, sections
     /// 3.7.2 and 6.5), and the group that the sink joins where it is OnGroup. Nothing changes before it is followed. Memory is
     /// wanted only where what the train announces as BASE is one, so with none of the first four answers. Its BASE is kept for the next
-    /// train.
+    /// train, as `kept` says.
     pub fn bring(
         &self,
         kept: &mut KeptBase,

@@ -23,7 +23,7 @@ ghost use Rattle.delegator_machine.specs.State.Halves.{StandsFor, settings_of};
 use crate::numbers::by_numbers;
 use bcast_base::{Bis, BisSet, Memory, Octets};
 use big_info::{Group, Limits};
-use delegator_control::{KeptBase, ScanDelegator};
+use delegator_control::ScanDelegator;
 use delegator_history::{ControlHeard, Notice, Reply};
 use group_sink::GroupSink;
 use isoal_base::Hearing;
@@ -39,7 +39,6 @@ use unit_outlets::{TakerFault, UnitTaker};
 pub struct Delegator {
     pub(crate) scan: ScanDelegator,
     pub(crate) sink: GroupSink,
-    pub(crate) kept: KeptBase,
 }
 
 impl Model for Delegator {
@@ -84,7 +83,6 @@ impl Delegator {
         Ok(Delegator {
             scan,
             sink: GroupSink::new(alloc),
-            kept: KeptBase::new(alloc),
         })
     }
 
