@@ -4,6 +4,7 @@
 
 mod control;
 mod following;
+mod kept_base;
 mod operations;
 mod place;
 mod scan_delegator;
@@ -13,4 +14,5 @@ mod trains;
 mod values;
 mod whereabouts;
 
+pub use kept_base::KeptBase;
 pub use scan_delegator::ScanDelegator;

@@ -14,9 +14,10 @@ ghost use Rattle.delegator_control.specs.Following.{has_base, is_followed};
 ghost use Rattle.delegator_control.specs.State.Brings.{train_of, IsOutcome};
 ghost use Rattle.delegator_control.specs.State.Machines.{machine, moved, StandsFor};
 
+use crate::kept_base::KeptBase;
 use crate::scan_delegator::ScanDelegator;
 use crate::train::{Train, base_octets, big_info_octets};
-use base_grammar::{Base, BaseFault, broadcast_id, decode_base};
+use base_grammar::{Base, BaseFault, broadcast_id};
 use bass_operations::Wishes;
 use bcast_base::{BisSet, Memory};
 use big_info::{BigInfo, Group, check_group_within, decode_big_info};
@@ -27,11 +28,18 @@ use delegator_history::TrainHeard;
 const ENCRYPTED_BIG_INFO: usize = 57;
 
 impl ScanDelegator {
+    /// For `bring`, where no BASE is to be kept. It takes no memory.
+    pub fn keeps_none(&self) -> KeptBase {
+        KeptBase::never(self.alloc)
+    }
+
     /// What a train brings that is heard at `now` in µs: the first answer that holds (Basic Audio Profile 1.0, sections
     /// 3.7.2 and 6.5), and the group that the sink joins where it is OnGroup. Nothing changes before it is followed. Memory is
-    /// wanted only where what the train announces as BASE is one, so with none of the first four answers.
+    /// wanted only where what the train announces as BASE is one, so with none of the first four answers. Its BASE is kept for the next
+    /// train, as `kept` says.
     pub fn bring(
         &self,
+        kept: &mut KeptBase,
         address_type: u8,
         sid: u8,
         ext: &[u8],
@@ -45,14 +53,15 @@ impl ScanDelegator {
         ensures memory { OnErr result (has_base (outcome_by (machine self.now).setup (machine self.now).snapshot
             (record { address_type = address_type; sid = sid; ext = ext.now; adv = adv.now; acad = acad.now; now = now })) ≡ true) }
     {
-        self.bring_train(&Train {
+        let train = Train {
             address_type,
             sid,
             ext,
             adv,
             acad,
             heard_at: now,
-        })
+        };
+        self.bring_train(kept, &train)
     }
 
     /// Follows the train that has this outcome for the sink as it is. Memory is wanted with none of the first four answers; the sink
@@ -71,7 +80,7 @@ impl ScanDelegator {
     }
 
     // By the source that it is of.
-    fn bring_train(&self, train: &Train<'_>) -> Result<TrainOutcome, Memory>
+    fn bring_train(&self, kept: &mut KeptBase, train: &Train<'_>) -> Result<TrainOutcome, Memory>
         requires { train.now.heard_at ≤ 2 ^ 61 }
         ensures outcome { IfOk result (λ outcome. outcome_of outcome
             ≡ outcome_by (machine self.now).setup (machine self.now).snapshot (train_of train.now)) }
@@ -90,11 +99,16 @@ impl ScanDelegator {
         let Some(slot) = found else {
             return Ok(TrainOutcome::Ignored(TrainHeard::NotWanted));
         };
-        self.bring_wanted(slot, train)
+        self.bring_wanted(kept, slot, train)
     }
 
     // By the place of the sink, where the slot wants the train.
-    fn bring_wanted(&self, slot: u8, train: &Train<'_>) -> Result<TrainOutcome, Memory>
+    fn bring_wanted(
+        &self,
+        kept: &mut KeptBase,
+        slot: u8,
+        train: &Train<'_>,
+    ) -> Result<TrainOutcome, Memory>
         requires time { train.now.heard_at ≤ 2 ^ 61 }
         requires within { slot < vec_len self.now.slots }
         requires filled { is_some (entry_at self.now.slots.items slot) ≡ true }
@@ -112,12 +126,13 @@ impl ScanDelegator {
         let Some(held) = &self.slots[usize::from(slot)] else {
             unreachable!()
         };
-        self.bring_base(slot, held.wishes(), train)
+        self.bring_base(kept, slot, held.wishes(), train)
     }
 
     // By the octets that are announced as BASE.
     fn bring_base(
         &self,
+        kept: &mut KeptBase,
         slot: u8,
         wishes: &Wishes,
         train: &Train<'_>,
@@ -133,8 +148,12 @@ impl ScanDelegator {
         let Some(octets) = base_octets(train.adv) else {
             return Ok(heard_so(slot, TrainHeard::NoBase, None));
         };
-        match decode_base(self.alloc, octets) {
-            Ok(base) => self.bring_big_info(slot, wishes, train, &base),
+        match kept.take(self.alloc, octets) {
+            Ok(base) => {
+                let outcome = self.bring_big_info(slot, wishes, train, &base)?;
+                kept.keep(octets, base)?;
+                Ok(outcome)
+            }
             Err(fault) => bad_base(slot, fault),
         }
     }

@@ -15,6 +15,7 @@ ghost use Rattle.delegator_machine.specs.Trains.{train_of};
 use crate::delegator::Delegator;
 use crate::numbers::by_numbers;
 use bcast_base::Memory;
+use delegator_control::KeptBase;
 use delegator_history::TrainHeard;
 use group_sink::{GroupReceivers, GroupSink};
 use sync_reference::BigSync;
@@ -46,7 +47,37 @@ impl Delegator {
             (setup : Setup) (calls : List Call) → StandsFor setup calls self.old
             → OnErr result (is_followed (outcome_by setup (snapshot_of setup (steps_of calls)) train) ≡ true) }
     {
-        let outcome = self.scan.bring(address_type, sid, ext, adv, acad, now)?;
+        let mut kept = self.scan.keeps_none();
+        self.train_keeping(&mut kept, address_type, sid, ext, adv, acad, now)
+    }
+
+    /// The same, where a BASE that is kept of an earlier train isn't read again, and the BASE of this one takes its place.
+    pub fn train_keeping(
+        &mut self,
+        kept: &mut KeptBase,
+        address_type: u8,
+        sid: u8,
+        ext: &[u8],
+        adv: &[u8],
+        acad: &[u8],
+        now: u64,
+    ) -> Result<TrainHeard, Memory>
+        requires { now ≤ 2 ^ 61 }
+        ensures answer { let train : Train = train_of address_type sid ext.now adv.now acad.now now in
+            (setup : Setup) (calls : List Call) → StandsFor setup calls self.old
+            → IfOk result (λ heard. heard ≡ answer_of (outcome_by setup (snapshot_of setup (steps_of calls)) train)) }
+        ensures stands { let train : Train = train_of address_type sid ext.now adv.now acad.now now in
+            (setup : Setup) (calls : List Call) → StandsFor setup calls self.old
+            → OnOk result (StandsFor setup (control (train_heard train) ∷ calls) self.new) }
+        ensures settings { settings_of self.new ≡ settings_of self.old }
+        ensures err { OnErr result (self.new ≡ self.old) }
+        ensures memory { let train : Train = train_of address_type sid ext.now adv.now acad.now now in
+            (setup : Setup) (calls : List Call) → StandsFor setup calls self.old
+            → OnErr result (is_followed (outcome_by setup (snapshot_of setup (steps_of calls)) train) ≡ true) }
+    {
+        let outcome = self
+            .scan
+            .bring(kept, address_type, sid, ext, adv, acad, now)?;
         let made = receivers_of(&self.sink, outcome.big_sync())?;
         let heard = self.scan.follow(outcome)?;
         join(&mut self.sink, made);

@@ -1,11 +1,11 @@
 //! The steps of a sink's control and of its links.
-ghost use Rattle.std.specs.Prelude.{◌≡◌, ◌≤◌, ℕ, List, Some};
+ghost use Rattle.std.specs.Prelude.{◌≡◌, ◌≤◌, ◌^◌, ℕ, List, Some};
 ghost use Rattle.unit_outlets.specs.Account.{Account};
 ghost use Rattle.bass_operations.specs.Layout.{encoding};
 ghost use Rattle.bass_operations.specs.declared.operation.Operation.{Operation};
 ghost use Rattle.scenario_text.specs.Ranges.{IsInRange};
 ghost use Rattle.scenario_text.specs.declared.step.Step.{Step as Said};
-ghost use Rattle.scenario_text.specs.declared.step.Step.TheVariants.{Announce};
+ghost use Rattle.scenario_text.specs.declared.step.Step.TheVariants.{Announce, Train};
 ghost use Rattle.scenario_lines.specs.Operations.{operation_step};
 ghost use Rattle.scenario_history.specs.Steps.{running, stage_of};
 ghost use Rattle.scenario_history.specs.Worlds.{source_at};
@@ -18,6 +18,7 @@ ghost use Rattle.replay_steps.specs.Operations.{HasLine};
 
 use crate::machine::Machine;
 use bcast_base::Octets;
+use scenario_lines::TrainHead;
 use scenario_sink::Origin;
 use scenario_text::Step;
 use transcript_text::{Refusal, Stop};
@@ -56,6 +57,22 @@ impl Machine {
             → Meets starts steps (operation_step sink op) self.new text text accounts accounts result }
     {
         self.sinks.operate(sink, self.operation.as_slice())
+    }
+
+    /// `train`: hands a sink the train whose octets were read, as one of the chosen source.
+    pub(crate) fn hear_train(&mut self, head: TrainHead, text: &mut Octets) -> Result<(), Stop>
+        requires sink { head.sink ≤ 7 }
+        requires time { head.time ≤ 2 ^ 61 }
+        ensures { (starts accounts : List Account) (version : ℕ) (steps : List Said) → Stands steps self.old → stage_of steps ≡ running version
+            → Meets starts steps (Train head.sink head.time self.old.train.ext self.old.train.adv self.old.train.acad) self.new text.old text.new
+            accounts accounts result }
+    {
+        let origin = self.origin();
+        let ext = self.train.ext();
+        let adv = self.train.adv();
+        let acad = self.train.acad();
+        self.sinks
+            .train(head.sink, origin, head.time, ext, adv, acad, text)
     }
 
     /// `announce`: hands a sink the train of the chosen source for its next event.

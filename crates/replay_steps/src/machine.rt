@@ -12,7 +12,9 @@ use crate::operations::read_of_source;
 use crate::source_steps::give;
 use crate::version::Stage;
 use bcast_base::{Memory, Octets};
-use scenario_lines::{Frequent, LineFault, OperationRoom, read_frequent, read_line_over};
+use scenario_lines::{
+    Frequent, LineFault, OperationRoom, TrainRoom, read_frequent, read_line_over, read_train,
+};
 use scenario_sink::SinkCall;
 use scenario_sinks::{Relays, Sinks};
 use scenario_sources::Sources;
@@ -34,6 +36,8 @@ pub struct Machine {
     pub(crate) spare: Octets,
     /// The memory in which the lines of operations are read.
     pub(crate) operation: OperationRoom,
+    /// The memory in which the lines of trains are read.
+    pub(crate) train: TrainRoom,
 }
 
 impl Machine {
@@ -57,6 +61,7 @@ impl Machine {
             relays: Relays::new(),
             spare: Octets::new(alloc),
             operation: OperationRoom::new(alloc),
+            train: TrainRoom::new(alloc),
         })
     }
 
@@ -156,6 +161,30 @@ impl Machine {
     {
         match read_of_source(self.alloc, &mut self.operation, line) {
             Ok(Some(sink)) => self.operate(sink),
+            Ok(None) => self.later_line(line, outlets, text),
+            Err(Memory) => Err(Stop::Memory),
+        }
+    }
+
+    /// Runs a line that is no operation either, as `other_line` does.
+    #[inline(never)]
+    fn later_line(
+        &mut self,
+        line: &[u8],
+        outlets: &mut Vec<Box<dyn Outlet>>,
+        text: &mut Octets,
+    ) -> Result<(), Stop>
+        requires { length line.now < 2 ^ 64 }
+        ensures meets { (starts : List Account) (version : ℕ) (lines : List TextLine)
+            → LinesStand starts lines self.old (map account outlets.old.items) → stage_of (steps_of airs_of lines) ≡ running version
+            → LineMeets starts lines (plain line.now) self.new text.old text.new (map account outlets.old.items)
+            (map account outlets.new.items) result }
+        ensures unassigned { (starts : List Account) (lines : List TextLine) (accounts : List Account)
+            → LinesStand starts lines self.old accounts
+            → UnassignedSame (steps_of airs_of lines) outlets.old.items outlets.new.items }
+    {
+        match read_train(self.alloc, &mut self.train, line) {
+            Ok(Some(head)) => self.hear_train(head, text),
             Ok(None) => self.any_line(line, outlets, text),
             Err(Memory) => Err(Stop::Memory),
         }

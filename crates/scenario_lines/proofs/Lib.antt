@@ -10,3 +10,4 @@ mod Said
 mod SinkWords
 mod StepLines
 mod Taking
+mod TrainLines

@@ -4,10 +4,10 @@ use Rattle.scenario_words.proofs.Prelude.{eqb-true, nat_eq, ◌≡◌, ◌+◌, 
 use Rattle.scenario_words.proofs.DigitPairs.{both_digits}
 use Rattle.scenario_words.specs.Reading.{octets_in}
 
-no_space_at : (octet : ℕ) (b : Bool) → nat_eq octet 32 ≡ b → is_hex_digit octet ≡ true → b ≡ false
+pub no_space_at : (octet : ℕ) (b : Bool) → nat_eq octet 32 ≡ b → is_hex_digit octet ≡ true → b ≡ false
 no_space_at octet b e digit = grind (arith, eqb-true)
 
-digits_one : (line : List ℕ) → list_all is_hex_digit line ≡ true → words_of line ≡ line ∷ []
+pub digits_one : (line : List ℕ) → list_all is_hex_digit line ≡ true → words_of line ≡ line ∷ []
 digits_one [] all = refl
 digits_one (x ∷ line) all =
     let both = both_digits (is_hex_digit x) (list_all is_hex_digit line) all in

@@ -1,3 +1,4 @@
+mod Arrays
 pub mod Citable
 pub mod CitableValues
 pub mod Decimals

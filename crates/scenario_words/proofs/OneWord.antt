@@ -3,7 +3,7 @@ use Rattle.scenario_words.proofs.Prelude.{leb, nat_eq, eqb-true, ◌≡◌, ◌�
 use Rattle.std.proofs.Math.Seq.{take-append_seam}
 use Rattle.std.specs.Option.{option_map}
 use Rattle.scenario_words.proofs.DigitPairs.{spelled}
-use Rattle.scenario_words.specs.Reading.{decimal_in, framing_in, time_in, octets_in, exact_in, number_in, list_in}
+use Rattle.scenario_words.specs.Reading.{decimal_in, framing_in, time_in, octets_in, exact_in, list_in}
 use Rattle.ltv_codec.specs.declared.fault.LtvBad.{LtvBad}
 use Rattle.scenario_words.proofs.Decimals.{AreDigits, own}
 
@@ -159,14 +159,6 @@ pub array_length : (count : ℕ) (word bytes : List ℕ) → decode_of word ≡ 
 array_length count word bytes ok same = let len = (decode_of-ok word bytes ok).2 in omega arith
 
 -- ---- a number in octets
-
-pub no_number : (count : ℕ) (word : List ℕ) → None ≡ exact_in count word → None ≡ number_in count word
-unfolding number_in
-no_number count word e = rw (← e) refl
-
-pub a_number : (count n : ℕ) (word octets : List ℕ) → Some octets ≡ exact_in count word → n ≡ sum_from 0 octets → Some n ≡ number_in count word
-unfolding number_in
-a_number count n word octets e is = rw (← e, is) refl
 
 pub number_below_width : (count n : ℕ) (word octets : List ℕ) → Some octets ≡ exact_in count word → n ≡ sum_from 0 octets → n < 2 ^ (8 * count)
 unfolding exact_in

@@ -1,5 +1,7 @@
 -- The pairs of words that are left of a line, read one after the other into the octets of their subgroups.
-use Rattle.scenario_words.proofs.Prelude.{◌≡◌, ◌≢◌, ◌≤◌, ◌<◌, ℕ, ◌+◌, ◌-◌, List, [], ◌∷◌, ◌++◌, length, Ok, Err, refl, ap, sym, ◌∙◌, arith, length-append, number-length, Wish, LineFault, BadLine, FindsOrWants, Left, told, wish_of, all_wishes_of, wishes_octets, next as word_next}
+use Rattle.scenario_words.proofs.Prelude.{◌≡◌, ◌≢◌, ◌≤◌, ◌<◌, ℕ, ◌+◌, ◌-◌, ◌/◌, List, [], ◌∷◌, ◌++◌, length, Ok, Err, refl, ap, sym, ◌∙◌, arith, length-append, number-length, Wish, LineFault, BadLine, FindsOrWants, Left, told, wish_of, all_wishes_of, wishes_octets, next as word_next}
+use Rattle.std.proofs.Common.{append_assoc, w32}
+use Rattle.std.specs.Int.{to_le_bytes}
 use Rattle.std.proofs.lemmas.Bool.{lt-leb}
 use Rattle.std.proofs.lemmas.Grind.{flat_map-append}
 use Rattle.std.specs.List.{flat_map}
@@ -35,6 +37,22 @@ length-groups [] = refl
 length-groups (wish ∷ wishes) =
     let others = length-groups wishes in
     length-group wish.bis_sync wish.metadata (groups_octets wishes) ∙ ap (λ n. 5 + length wish.metadata + n) others
+
+-- ---- one subgroup
+
+-- the octets of a number as std has them are its octets with the least first
+pub four_low_first : (n : ℕ) → to_le_bytes w32 n ≡ number 4 n
+unfolding number
+four_low_first n =
+    let at2 : n / 256 / 256 ≡ n / 65536 = omega arith in
+    let at3 : n / 65536 / 256 ≡ n / 16777216 = omega arith in
+    rw (at2, at3) refl
+
+-- a subgroup is put in two pieces
+pub group_put : (groups first whole metadata : List ℕ) (bits a b c d : ℕ) → number 4 bits ≡ a ∷ b ∷ c ∷ d ∷ [] → first ≡ groups ++ (a ∷ b ∷ c ∷ d ∷ length metadata ∷ [])
+    → whole ≡ first ++ metadata → whole ≡ groups ++ subgroup (record { bits = bits; metadata = metadata })
+group_put groups first whole metadata bits a b c d octets put is =
+    rw (is, put, octets) (append_assoc groups (a ∷ b ∷ c ∷ d ∷ length metadata ∷ []) metadata)
 
 -- a pair is read, and its subgroup put
 pub pair_read : (old middle new : Left) (bits : ℕ) (metadata groups next : List ℕ) → word_next (number_in 4) old ≡ Ok (bits, middle) → word_next (octets_in 255) middle ≡ Ok (metadata, new)

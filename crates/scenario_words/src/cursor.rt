@@ -2,7 +2,7 @@ ghost use Rattle.std.specs.Prelude.{◌≡◌, ◌≤◌, ◌^◌, ◌<◌, ◌+
 ghost use Rattle.std.specs.Prelude.{None, Ok, Err, length, IfOk, IfSome, IsErr, IsNone, IsTrue, ◌≢◌, ◌↔◌};
 ghost use Rattle.scenario_words.specs.declared.fault.LineFault.TheVariants.{Memory as NoMemory};
 ghost use Rattle.scenario_words.specs.Reading.{GivesNext, ReadsNext, SpellsNext, Left, next, any_word};
-ghost use Rattle.scenario_words.specs.Reading.{decimal_in, framing_in, octets_in, exact_in, number_in, list_in};
+ghost use Rattle.scenario_words.specs.Reading.{decimal_in, framing_in, octets_in, list_in};
 ghost use Rattle.scenario_words.specs.Reading.{wish_of, wishes_of, all_wishes_of, perhaps_of, rising_of, with_stream as stream_in, ended};
 ghost use Rattle.bass_operations.specs.Layout.{MetadataFits};
 ghost use Rattle.ltv_codec.specs.Reading.{bad_of};
@@ -12,7 +12,7 @@ ghost use Rattle.scenario_words.specs.Rests.{words_after, octets_after};
 
 use crate::fault::{LineFault, Misfit};
 use crate::first_word::split_word;
-use crate::word::{array_of, framing_of, list_of, number_of, octets_of};
+use crate::word::{framing_of, list_of, octets_of};
 use bass_operations::{Wish, Wishes};
 use bcast_base::{Bis, BisSet, Memory, Octets};
 use std::alloc::Global;
@@ -218,49 +218,6 @@ impl<'a> Cursor<'a> {
             Some(octets) => Ok(octets),
             None => Err(LineFault::from(self.misfit())),
         }
-    }
-
-    /// Exactly `N` octets as pairs of hexadecimal digits.
-    #[tactic(auto, using(crate::proofs::NextWords::fits, crate::proofs::NextWords::misfit, crate::proofs::OneWord::exact_length))]
-    pub fn array<const N: usize>(&mut self) -> Result<[u8; N], Misfit>
-        requires { 0 < N }
-        ensures range { IfOk result (λ octets. length octets ≡ N) }
-        ensures gives { ReadsNext (λ n. n) result self.new (next (exact_in N) self.old) }
-    {
-        let word = self.word()?;
-        match array_of(word) {
-            Some(octets) => Ok(octets),
-            None => Err(self.misfit()),
-        }
-    }
-
-    /// The number in exactly `N` octets, the least octet first.
-    #[tactic(auto, using(crate::proofs::NextWords::fits, crate::proofs::NextWords::misfit))]
-    fn little<const N: usize>(&mut self) -> Result<u64, Misfit>
-        requires some { 0 < N }
-        requires few { N ≤ 8 }
-        ensures range { IfOk result (λ n. n < 2 ^ (8 * N)) }
-        ensures gives { ReadsNext (λ n. n) result self.new (next (number_in N) self.old) }
-    {
-        let word = self.word()?;
-        match number_of::<N>(word) {
-            Some(n) => Ok(n),
-            None => Err(self.misfit()),
-        }
-    }
-
-    /// The number in 2 octets.
-    pub fn two_octets(&mut self) -> Result<u16, Misfit>
-        ensures { ReadsNext (λ n. n) result self.new (next (number_in 2) self.old) }
-    {
-        Ok(self.little::<2>()? as u16)
-    }
-
-    /// The number in 4 octets.
-    pub fn four_octets(&mut self) -> Result<u32, Misfit>
-        ensures { ReadsNext (λ n. n) result self.new (next (number_in 4) self.old) }
-    {
-        Ok(self.little::<4>()? as u32)
     }
 
     /// An LTV list of at most `most` octets. Memory comes only where the word spells an octet.

@@ -1,6 +1,8 @@
 //! The first word of what is left of a line.
 ghost use Rattle.std.specs.Prelude.{◌≡◌, ◌≤◌, ◌<◌, ◌∷◌, ◌↔◌, ℕ, IfSome, IsTrue, length, slice_index, take};
-ghost use Rattle.std.specs.Prelude.{decimal as decimal_text};
+ghost use Rattle.std.specs.Prelude.{decimal as decimal_text, true};
+ghost use Rattle.std.specs.List.{list_all};
+ghost use Rattle.hex.specs.Hex.{is_hex_digit};
 ghost use Rattle.std.specs.Int.{IsInRange};
 ghost use Rattle.std.specs.Str.Parse.{digits_value};
 ghost use Rattle.memchr.specs.Find.{IsFirstByte, is_byte};
@@ -87,6 +89,29 @@ pub(crate) fn short_number(line: &[u8], most: usize) -> Option<(u64, Option<&[u8
     }
     if line[end] == b' ' {
         Some((n, Some(&line[end + 1..])))
+    } else {
+        None
+    }
+}
+
+/// The octets of a word of so many pairs of digits, where the line begins with one, and what is left behind that word; `None` where no
+/// word of so many octets ends there.
+#[inline(always)]
+#[tactic(auto, using(crate::proofs::Arrays::digits_before_space, crate::proofs::Arrays::digits_alone))]
+pub(crate) fn pairs_in_front(line: &[u8], pairs: usize) -> Option<(&[u8], Option<&[u8]>)>
+    ensures word { IfSome result (λ found. list_all is_hex_digit found.0.now ≡ true
+        → words_of line.now ≡ found.0.now ∷ words_after found.1) }
+    ensures shorter { IfSome result (λ found. octets_after found.1 ≤ length line.now) }
+{
+    if line.len() / 2 < pairs {
+        return None;
+    }
+    let end = 2 * pairs;
+    if end == line.len() {
+        return Some((line, None));
+    }
+    if line[end] == b' ' {
+        Some((&line[..end], Some(&line[end + 1..])))
     } else {
         None
     }

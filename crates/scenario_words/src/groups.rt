@@ -1,5 +1,6 @@
 //! The pairs of words of an operation, read straight into the octets of its subgroups.
-ghost use Rattle.std.specs.Prelude.{◌≡◌, ◌≢◌, ◌++◌, [], Ok, Err, IfOk, IfErr};
+ghost use Rattle.std.specs.Prelude.{◌≡◌, ◌≢◌, ◌≤◌, ◌++◌, [], length, Ok, Err, IfOk, IfErr, OnOk};
+ghost use Rattle.bcast_base.specs.Encoding.{number};
 ghost use Rattle.bcast_base.specs.Subgroups.{subgroup};
 ghost use Rattle.bcast_base.specs.Tries.{FindsOrWants};
 ghost use Rattle.bass_operations.specs.Layout.{group_of};
@@ -11,11 +12,30 @@ ghost use Rattle.scenario_words.specs.Reading.{all_wishes_of, told, wish_of, wis
 
 use crate::cursor::Cursor;
 use crate::fault::LineFault;
-use bcast_base::{Octets, put_subgroup};
+use bcast_base::{Memory, Octets};
 use std::alloc::Global;
 
 /// The most pairs of words of a line.
 const MOST_WISHES: u8 = 31;
+
+/// The octets of BIS_Sync, the least first.
+#[tactic(auto, using(crate::proofs::PairGroups::four_low_first))]
+fn four_octets(bits: u32) -> [u8; 4]
+    ensures { result ≡ number 4 bits }
+{
+    bits.to_le_bytes()
+}
+
+/// Puts a subgroup behind others, in two pieces. Where memory runs out, nothing is said of them.
+#[tactic(auto, using(crate::proofs::PairGroups::group_put))]
+fn put_group(groups: &mut Octets, bits: u32, metadata: &[u8]) -> Result<(), Memory>
+    requires { length metadata.now ≤ 255 }
+    ensures { OnOk result (groups.new ≡ groups.old ++ subgroup (record { bits = bits; metadata = metadata.now })) }
+{
+    let [a, b, c, d] = four_octets(bits);
+    groups.append(&[a, b, c, d, metadata.len() as u8])?;
+    groups.append(metadata)
+}
 
 impl<'a> Cursor<'a> {
     /// A pair of words, put as a subgroup behind others. Its metadata is read in the memory of `metadata`.
@@ -31,7 +51,7 @@ impl<'a> Cursor<'a> {
     {
         let bits = self.four_octets()?;
         self.octets_into(alloc, metadata, 255)?;
-        put_subgroup(groups, bits, metadata.as_slice())?;
+        put_group(groups, bits, metadata.as_slice())?;
         Ok(())
     }
 

@@ -2,6 +2,7 @@
 //! a value; and words that are printed, texts, decimals and octets as digits, with one space between each two.
 #![tactic(auto)]
 
+mod array_words;
 mod cursor;
 mod decimal;
 mod digits;

@@ -1,11 +1,11 @@
-ghost use Rattle.std.specs.Prelude.{◌≡◌, ◌≤◌, ◌<◌, ◌^◌, ◌*◌, ◌/◌, ◌%◌, true, Some, IfOk, IfSome, IsErr, IsTrue, bytes_eq, length};
+ghost use Rattle.std.specs.Prelude.{◌≡◌, ◌≤◌, ◌<◌, ◌/◌, ◌%◌, true, Some, IfOk, IfSome, IsErr, IsTrue, bytes_eq, length};
 ghost use Rattle.std.specs.List.{list_all};
 ghost use Rattle.hex.specs.Hex.{is_hex_digit};
-ghost use Rattle.scenario_words.specs.Reading.{SpellsSome, decimal_in, framing_in, time_in, octets_in, exact_in, number_in, list_in};
+ghost use Rattle.scenario_words.specs.Reading.{SpellsSome, decimal_in, framing_in, time_in, octets_in, exact_in, list_in};
 
 use crate::decimal::decimal;
 use crate::digits::{are_pairs, decode, decode_over};
-use bcast_base::{Memory, Octets, read_le};
+use bcast_base::{Memory, Octets};
 use ltv_codec::check_ltvs;
 use std::alloc::Global;
 
@@ -129,20 +129,6 @@ pub fn list_of(alloc: Global, word: &[u8], most: usize) -> Result<Option<Octets>
     match check_ltvs(octets.as_slice()) {
         Ok(()) => Ok(Some(octets)),
         Err(_bad) => Ok(None),
-    }
-}
-
-/// The number in exactly `N` octets, the least octet first.
-#[tactic(auto, using(crate::proofs::OneWord::no_number, crate::proofs::OneWord::a_number))]
-pub fn number_of<const N: usize>(word: &[u8]) -> Option<u64>
-    requires some { 0 < N }
-    requires few { N ≤ 8 }
-    ensures exact { result ≡ number_in N word.now }
-    ensures range { IfSome result (λ n. n < 2 ^ (8 * N)) }
-{
-    match array_of::<N>(word) {
-        Some(octets) => Some(read_le(&octets)),
-        None => None,
     }
 }
 

@@ -14,8 +14,8 @@ returns-in-Ok-Some-clause-meets g c starts version lines stand e =
 
 pub returns-in-Ok-None-clause-meets : goal.returns-in-Ok-None-clause-meets
 returns-in-Ok-None-clause-meets g c starts version lines stand e =
-    c.any_line.ensures.meets starts lines (lines_beside _ _ _ _ _ refl refl refl refl stand)
+    c.later_line.ensures.meets starts version lines (lines_beside _ _ _ _ _ refl refl refl refl stand) e
 
 pub returns-in-Ok-None-clause-unassigned : goal.returns-in-Ok-None-clause-unassigned
 returns-in-Ok-None-clause-unassigned g c starts lines accounts stand =
-    c.any_line.ensures.unassigned starts lines accounts (lines_beside _ _ _ _ _ refl refl refl refl stand)
+    c.later_line.ensures.unassigned starts lines accounts (lines_beside _ _ _ _ _ refl refl refl refl stand)

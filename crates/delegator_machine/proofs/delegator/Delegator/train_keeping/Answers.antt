@@ -2,7 +2,7 @@ use Rattle.std.proofs.Common.{arith}
 use Rattle.delegator_machine.proofs.Prelude.{◌≡◌, ◌∙◌, option_copied, sym, ap, subst, Train, outcome_by, done_by_outcome, big_sync_in, is_followed, on_any_err, machine, moved, steps_of, Halves, StandsFor}
 use Rattle.delegator_choices.specs.State.Brings.{outcome_of}
 use Rattle.delegator_machine.proofs.Trains.{base_followed, followed_so, joined_followed, stands_trained}
-use Rattle.delegator_machine.proofs.delegator.Delegator.train.Goals as goal
+use Rattle.delegator_machine.proofs.delegator.Delegator.train_keeping.Goals as goal
 
 pub returns-clause-stands : goal.returns-clause-stands
 returns-clause-stands c setup calls stands =
