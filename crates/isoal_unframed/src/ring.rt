@@ -264,6 +264,7 @@ fn held(cells: &[Cell], max_sdu: usize) -> usize
 }
 
 /// Hands a unit, or tells that it is lost.
+#[inline(always)]
 fn hand<T: UnitTaker>(
     taker: &mut T,
     bis: Bis,
