@@ -7,6 +7,7 @@ pub mod DigitPairs
 pub mod FirstNumber
 mod Fitting
 mod Given
+mod PairGroups
 pub mod LastWord
 pub mod MoreWords
 pub mod NextWords

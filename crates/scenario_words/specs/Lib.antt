@@ -2,6 +2,7 @@ pub mod Digits
 pub mod Fitting
 pub mod Prefixes
 pub mod Given
+pub mod Groups
 pub mod Joined
 pub mod Lines
 pub mod Places

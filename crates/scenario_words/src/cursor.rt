@@ -75,6 +75,16 @@ impl<'a> Cursor<'a> {
         }
     }
 
+    /// The words of a line behind its first word, which counts as read.
+    pub fn behind_first(words: &'a [u8]) -> Cursor<'a>
+        ensures { result ≡ record { words = words_of words.now; read = 1 } }
+    {
+        Cursor {
+            rest: Some(words),
+            read: 1,
+        }
+    }
+
     /// The fault of the word that was read last.
     pub(crate) fn misfit(&self) -> Misfit
         ensures { result.word ≡ self.now.read - 1 }

@@ -7,6 +7,7 @@ mod decimal;
 mod digits;
 mod fault;
 mod first_word;
+mod groups;
 mod last_word;
 mod laws;
 mod number_words;

@@ -104,6 +104,7 @@ fn are_octets(word: &[u8], most: usize) -> bool
 
 /// At most `most` octets as pairs of hexadecimal digits, of which one is there at least, in the place of others and in their memory. For
 /// any other word the answer is false, and the others stay.
+#[inline(always)]
 #[tactic(auto, using(crate::proofs::OneWord::pairs_read, crate::proofs::OneWord::pairs_spell))]
 pub fn octets_over(octets: &mut Octets, word: &[u8], most: usize) -> Result<bool, Memory>
     ensures gives { IfOk result (λ fits. IsTrue fits → octets_in most word.now ≡ Some octets.new) }
