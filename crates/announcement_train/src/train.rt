@@ -1,10 +1,12 @@
-ghost use Rattle.std.specs.Prelude.{◌≡◌, ◌≤◌, ◌<◌, ◌*◌, ◌^◌, ℕ, List, length, IfOk};
+ghost use Rattle.std.specs.Prelude.{◌≡◌, ◌≤◌, ◌<◌, ◌*◌, ◌^◌, ◌++◌, ℕ, List, length, IfOk};
 ghost use Rattle.ltv_codec.specs.Layout.{structure};
+ghost use Rattle.base_grammar.specs.Ad.{broadcast_audio_announcement};
+ghost use Rattle.base_grammar.specs.Layout.{BaseIs};
 ghost use Rattle.big_info.specs.Layout.{Encodes};
 ghost use Rattle.big_info.specs.Widths.{FitsWidths};
-ghost use Rattle.announcement_train.specs.Layout.{IsTrain, announced, info_ad, lead, service_ad};
+ghost use Rattle.announcement_train.specs.Layout.{IsTrain, announced, basic_audio_announcement, info_ad, lead, service_ad};
 
-use base_grammar::{Base, encode_base, write_ad};
+use base_grammar::{Base, put_base, write_ad};
 use bcast_base::{Memory, Octets, put_number};
 use big_info::{BigInfo, encode_big_info};
 use std::alloc::Global;
@@ -52,25 +54,43 @@ impl Train {
         requires anchor { lead ≤ anchor }
         ensures { IfOk result (λ train. IsTrain broadcast_id base.now info.now event anchor train) }
     {
-        let base = encode_base(alloc, base)?;
         Ok(Train {
             time: anchor - LEAD,
-            ext: service_list(alloc, BROADCAST_AUDIO_ANNOUNCEMENT, &broadcast_id)?,
-            adv: service_list(alloc, BASIC_AUDIO_ANNOUNCEMENT, base.as_slice())?,
+            ext: id_list(alloc, &broadcast_id)?,
+            adv: base_list(alloc, base)?,
             acad: info_list(alloc, info, event)?,
         })
     }
 }
 
-/// An AD list of one structure: Service Data of this UUID.
-fn service_list(alloc: Global, uuid: u16, content: &[u8]) -> Result<Octets, Memory>
-    requires { length content.now ≤ 252 }
-    ensures { IfOk result (λ octets. octets ≡ structure (service_ad uuid content.now)) }
+/// An AD list of one structure: the Broadcast_ID.
+fn id_list(alloc: Global, broadcast_id: &[u8; 3]) -> Result<Octets, Memory>
+    ensures { IfOk result (λ octets. octets ≡ structure (service_ad broadcast_audio_announcement broadcast_id.now)) }
 {
-    let mut octets = Octets::of(Vec::with_capacity(alloc, content.len() + 4)?);
-    octets.append(&[content.len() as u8 + 3, SERVICE_DATA])?;
+    let mut octets = service_begun(alloc, BROADCAST_AUDIO_ANNOUNCEMENT, broadcast_id.len())?;
+    octets.append(broadcast_id)?;
+    Ok(octets)
+}
+
+/// An AD list of one structure: the BASE.
+fn base_list(alloc: Global, base: &Base) -> Result<Octets, Memory>
+    ensures { IfOk result (λ octets. (encoded : List ℕ) × BaseIs base.now encoded
+        × (octets ≡ structure (service_ad basic_audio_announcement encoded))) }
+{
+    let count = base.octet_count();
+    let mut octets = service_begun(alloc, BASIC_AUDIO_ANNOUNCEMENT, count)?;
+    put_base(&mut octets, base)?;
+    Ok(octets)
+}
+
+/// The begin of an AD list of one structure, which is Service Data of this UUID: what stands before a content of so many octets.
+fn service_begun(alloc: Global, uuid: u16, count: usize) -> Result<Octets, Memory>
+    requires { count ≤ 252 }
+    ensures { IfOk result (λ octets. (content : List ℕ) → length content ≡ count → octets ++ content ≡ structure (service_ad uuid content)) }
+{
+    let mut octets = Octets::of(Vec::with_capacity(alloc, count + 4)?);
+    octets.append(&[count as u8 + 3, SERVICE_DATA])?;
     put_number(&mut octets, u64::from(uuid), 2)?;
-    octets.append(content)?;
     Ok(octets)
 }
 

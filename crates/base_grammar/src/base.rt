@@ -1,7 +1,9 @@
-ghost use Rattle.std.specs.Prelude.{◌≡◌, ◌<◌, length, slice_get, is_some, Some, IfSome};
-ghost use Rattle.base_grammar.specs.Layout.{endpoint, indices, stands_in, IsBase};
+ghost use Rattle.std.specs.Prelude.{◌≡◌, ◌<◌, ◌≤◌, length, slice_get, is_some, Some, IfSome};
+ghost use Rattle.base_grammar.specs.Layout.{encoding, endpoint, indices, stands_in, IsBase};
 
+use crate::draft_steps::ROOM;
 use crate::effective::{Effective, effective_in};
+use crate::room::size_within;
 use crate::subgroup::Subgroup;
 use bcast_base::Bis;
 use std::marker::Model;
@@ -43,6 +45,14 @@ impl Base {
         ensures base { IsBase self.now }
     {
         self.delay
+    }
+
+    /// How many octets it has.
+    pub fn octet_count(&self) -> usize
+        ensures count { result ≡ length (encoding self.now) }
+        ensures most { result ≤ 252 }
+    {
+        4 + size_within(ROOM, self.as_slice())
     }
 
     /// How many subgroups there are.

@@ -27,4 +27,4 @@ pub use laws::{fault_is_at_cut, read_is_base};
 pub use parts::encode_parts;
 pub use reading::decode_base;
 pub use subgroup::{BaseEntry, Entries, Subgroup, is_lc3_codec};
-pub use writing::encode_base;
+pub use writing::{encode_base, put_base};

@@ -1,5 +1,5 @@
 //! How many octets are left of some room behind an encoding.
-ghost use Rattle.std.specs.Prelude.{◌-◌, ◌≤◌, length};
+ghost use Rattle.std.specs.Prelude.{◌≡◌, ◌-◌, ◌≤◌, length};
 ghost use Rattle.std.specs.List.{flat_map};
 ghost use Rattle.std.specs.Option.{SomeIff};
 ghost use Rattle.base_grammar.specs.Layout.{entry, subgroup};
@@ -46,4 +46,15 @@ pub(crate) fn behind_subgroups(room: usize, subgroups: &[Subgroup]) -> Option<us
         left = behind_subgroup(left, subgroup)?;
     }
     Some(left)
+}
+
+// How many octets subgroups have that don't pass the room.
+pub(crate) fn size_within(room: usize, subgroups: &[Subgroup]) -> usize
+    requires { length (flat_map subgroup subgroups.now) ≤ room }
+    ensures { result ≡ length (flat_map subgroup subgroups.now) }
+{
+    match behind_subgroups(room, subgroups) {
+        Some(left) => room - left,
+        None => unreachable!(),
+    }
 }

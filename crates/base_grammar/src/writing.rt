@@ -14,6 +14,14 @@ pub fn encode_base(alloc: Global, base: &Base) -> Result<Octets, Memory>
     encode_fields(alloc, base.delay(), base.as_slice())
 }
 
+/// Puts the octets of a BASE at the end, which `octet_count` counts.
+pub fn put_base(out: &mut Octets, base: &Base) -> Result<(), Memory>
+    ensures base { OnOk result (BaseIs base.now (encoding base.now)) }
+    ensures put { OnOk result (out.new ≡ out.old ++ encoding base.now) }
+{
+    put_fields(out, base.delay(), base.as_slice())
+}
+
 // The octets of these fields, which are few enough for a BASE.
 pub(crate) fn encode_fields(
     alloc: Global,
@@ -25,12 +33,22 @@ pub(crate) fn encode_fields(
     ensures { IfOk result (λ octets. octets ≡ encoding (endpoint delay subgroups.now)) }
 {
     let mut out = Octets::new(alloc);
-    put_number(&mut out, u64::from(delay), 3)?;
+    put_fields(&mut out, delay, subgroups)?;
+    Ok(out)
+}
+
+// Puts these octets at the end.
+fn put_fields(out: &mut Octets, delay: u32, subgroups: &[Subgroup]) -> Result<(), Memory>
+    requires delay { delay < 2 ^ 24 }
+    requires few { length (flat_map subgroup subgroups.now) ≤ 248 }
+    ensures { OnOk result (out.new ≡ out.old ++ encoding (endpoint delay subgroups.now)) }
+{
+    put_number(out, u64::from(delay), 3)?;
     out.push(subgroups.len() as u8)?;
     for subgroup in subgroups {
-        put_subgroup(&mut out, subgroup)?;
+        put_subgroup(out, subgroup)?;
     }
-    Ok(out)
+    Ok(())
 }
 
 // Puts the octets of a subgroup at the end.

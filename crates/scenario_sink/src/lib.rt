@@ -11,8 +11,10 @@ mod served;
 mod settings;
 mod shows;
 mod sink;
+mod sink_call;
 mod trains;
 mod writes;
 
 pub use origin::Origin;
 pub use sink::LinkedSink;
+pub use sink_call::SinkCall;

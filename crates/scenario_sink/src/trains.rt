@@ -83,8 +83,9 @@ impl LinkedSink {
         Ok(heard)
     }
 
-    /// `train`: hears a train that is given by its octets.
-    pub(crate) fn train(
+    /// `train`: hears a train that is given by its octets, at this time in µs (Basic Audio Profile 1.0, sections 3.7.2 and 6.5). It is
+    /// never refused.
+    pub fn train(
         &mut self,
         sink: u8,
         origin: Origin,

@@ -1,10 +1,13 @@
 //! What is put behind the writes that wait on a link.
-ghost use Rattle.std.specs.Prelude.{◌≡◌, ◌∷◌, true, None, Some, OnOk};
+ghost use Rattle.std.specs.Prelude.{◌≡◌, ◌∷◌, ℕ, List, true, None, Some, OnOk};
 ghost use Rattle.std.specs.Option.{option_or};
 ghost use Rattle.bass_operations.specs.Layout.{MetadataFits, encoding, wishes_of};
+ghost use Rattle.scenario_text.specs.declared.step.Step.{Step};
 ghost use Rattle.sink_history.specs.Calls.{asked, is_joined};
+ghost use Rattle.sink_history.specs.History.{Source};
 ghost use Rattle.sink_history.specs.Refusals.{no_link};
-ghost use Rattle.scenario_sink.specs.Making.{Quietly, stayed};
+ghost use Rattle.scenario_sink.specs.Making.{LineMakes, Quietly, stayed};
+ghost use Rattle.scenario_sink.specs.Operates.{Operates};
 ghost use Rattle.scenario_sink.specs.SinkHistory.{SinkHistory};
 ghost use Rattle.scenario_sink.specs.State.Stands.{IsSink};
 
@@ -34,6 +37,25 @@ impl LinkedSink {
             → Quietly None (Unit {0}) history (stayed (asked 0 (encoding op.now) ∷ history.calls_made) history) self.new result }
     {
         let octets = encode_operation(self.alloc, op)?;
+        self.put_write(0, octets)?;
+        Ok(())
+    }
+
+    /// Runs a line that says the operation of these octets, `add`, `modify`, `remove` or `code`, as `line` does: puts the octets behind
+    /// the writes that wait on link 0. It is never refused.
+    pub fn put_operation(&mut self, octets: &[u8]) -> Result<(), Stop>
+        ensures { (source : Source) (step : Step) (history : SinkHistory) (text : List ℕ) → Operates step octets.now → IsSink history self.old
+            → LineMakes source step history text text self.new result }
+    {
+        self.put_copy(octets)
+    }
+
+    /// Puts the same octets behind the writes that wait on link 0.
+    fn put_copy(&mut self, octets: &[u8]) -> Result<(), Stop>
+        ensures { (history : SinkHistory) → IsSink history self.old
+            → Quietly None (Unit {0}) history (stayed (asked 0 octets.now ∷ history.calls_made) history) self.new result }
+    {
+        let octets = Octets::copy(self.alloc, octets)?;
         self.put_write(0, octets)?;
         Ok(())
     }

@@ -8,11 +8,13 @@ ghost use Rattle.scenario_sinks.specs.State.Entries.{EntryHears, EntryRuns, Entr
 ghost use Rattle.scenario_sinks.specs.State.Standing.{EntryIs};
 ghost use Rattle.scenario_history.specs.Sinks as histories;
 ghost use Rattle.scenario_text.specs.Ranges.{IsInRange};
+ghost use Rattle.scenario_text.specs.declared.step.Step.{Step as Said};
 ghost use Rattle.scenario_text.specs.declared.step.Step.TheVariants.{Announce};
 ghost use Rattle.delegator_history.specs.Trains.{Settings};
 ghost use Rattle.sink_history.specs.History.{Source};
 ghost use Rattle.sink_history.specs.Output.{state_where};
 ghost use Rattle.scenario_sink.specs.Making.{LineMakes};
+ghost use Rattle.scenario_sink.specs.Operates.{Operates};
 ghost use Rattle.scenario_sink.specs.Origins.{IsFrom};
 ghost use Rattle.scenario_sink.specs.SinkHistory.{SinkHistory, after_tuning, hearing_event, receiving};
 ghost use Rattle.scenario_sink.specs.SinkLines.{IsSinkLine};
@@ -79,6 +81,28 @@ pub(crate) fn run_entry(
         return Err(Stop::Refused(Refusal::NoSuchSink));
     };
     run(sink, step, origin, text)
+}
+
+/// Runs a line on the sink of an entry that says the operation of these octets.
+pub(crate) fn operate_entry(entry: &mut Option<Sink>, octets: &[u8]) -> Result<(), Stop>
+    ensures { (source : Source) (step : Said) (box : Option ℕ) (made : Option Settings) (own : Option ℕ) (calls_made : List links.Call)
+        (received : List Call) (text : List ℕ) → Operates step octets.now
+        → EntryIs box made own calls_made received (Some entry.old)
+        → EntryRuns box made own calls_made received source step entry.new text text result }
+{
+    let Some(sink) = entry else {
+        return Err(Stop::Refused(Refusal::NoSuchSink));
+    };
+    operate(sink, octets)
+}
+
+/// Runs a line on a sink that says the operation of these octets.
+fn operate(sink: &mut Sink, octets: &[u8]) -> Result<(), Stop>
+    ensures makes { (source : Source) (step : Said) (past : SinkHistory) (text : List ℕ) → Operates step octets.now → IsSink past sink.old.living
+        → LineMakes source step past text text sink.new.living result }
+    ensures outlet { sink.new.outlet ≡ sink.old.outlet }
+{
+    sink.living.put_operation(octets)
 }
 
 /// Runs a line on a sink.

@@ -1,15 +1,17 @@
 //! The lines of a sink's control and of its links.
-ghost use Rattle.std.specs.Prelude.{◌≡◌, ◌≤◌, ◌^◌};
+ghost use Rattle.std.specs.Prelude.{◌≡◌, ◌≤◌, ◌^◌, ℕ, List};
 ghost use Rattle.scenario_sinks.specs.Histories.{Histories};
 ghost use Rattle.scenario_sinks.specs.SinkLines.{SinkLineMakes};
 ghost use Rattle.scenario_sinks.specs.State.Standing.{SinksStand};
 ghost use Rattle.scenario_text.specs.Ranges.{IsInRange};
+ghost use Rattle.scenario_text.specs.declared.step.Step.{Step as Said};
 ghost use Rattle.scenario_text.specs.declared.step.Step.TheVariants.{Announce};
 ghost use Rattle.sink_history.specs.History.{Source};
+ghost use Rattle.scenario_sink.specs.Operates.{Operates};
 ghost use Rattle.scenario_sink.specs.Origins.{IsFrom};
 ghost use Rattle.scenario_sink.specs.SinkLines.{IsSinkLine};
 
-use crate::entry::{announce_entry, run_entry};
+use crate::entry::{announce_entry, operate_entry, run_entry};
 use crate::sinks::Sinks;
 use announcement_train::Train;
 use bcast_base::Octets;
@@ -37,6 +39,16 @@ impl Sinks {
             → SinkLineMakes past sink source step self.new text.old text.new result }
     {
         run_entry(&mut self.entries[usize::from(sink)], step, origin, text)
+    }
+
+    /// Runs a line that names the sink of this number and says the operation of these octets, as `line` does: it prints nothing. It is
+    /// refused with NoSuchSink where no sink of this number lives.
+    pub fn operate(&mut self, sink: u8, octets: &[u8]) -> Result<(), Stop>
+        requires { sink ≤ 7 }
+        ensures { (past : Histories) (source : Source) (step : Said) (text : List ℕ) → Operates step octets.now → SinksStand past self.old
+            → SinkLineMakes past sink source step self.new text text result }
+    {
+        operate_entry(&mut self.entries[usize::from(sink)], octets)
     }
 
     /// `announce`: puts the train of a source at the end of the text, hands it to the sink of this number, and puts the answer

@@ -1,6 +1,6 @@
 use Rattle.base_grammar.proofs.Prelude.{arith, subgroup}
 use Rattle.base_grammar.proofs.Sizes.{subgroups_few, item_small}
-use Rattle.base_grammar.proofs.writing.encode_fields.Goals as goal
+use Rattle.base_grammar.proofs.writing.put_fields.Goals as goal
 
 pub overflow_cast-subgroups : goal.overflow_cast-subgroups
 overflow_cast-subgroups c = omega (arith, subgroups_few c.args.subgroups.now, c.requires.few)

@@ -1,0 +1,13 @@
+use Rattle.std.proofs.Common.{arith}
+use Rattle.scenario_sink.proofs.Prelude.{err_from_is_err_and, asked, stayed}
+use Rattle.scenario_sink.proofs.Histories.{first_joined}
+use Rattle.scenario_sink.proofs.sink.LinkedSink.put_copy.Goals as goal
+
+pub returns : goal.returns
+returns c history lives = grind (arith, stayed, asked, first_joined)
+
+pub returns-in_err-octets : goal.returns-in_err-octets
+returns-in_err-octets c history lives = grind (arith, err_from_is_err_and)
+
+pub returns-in_err-put_write : goal.returns-in_err-put_write
+returns-in_err-put_write c history lives = grind (arith, err_from_is_err_and)
