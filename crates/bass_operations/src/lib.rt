@@ -12,6 +12,6 @@ mod writing;
 pub use fault::OpFault;
 pub use laws::{fault_is_cause, read_is_operation, twice_is_lowest};
 pub use operation::{AddSource, ModifySource, Operation};
-pub use reading::decode_operation;
+pub use reading::{decode_operation, decode_operation_over};
 pub use wishes::{Wish, Wishes};
 pub use writing::encode_operation;

@@ -12,6 +12,7 @@ use crate::scanning::{are_wishes, check_wishes, read_wishes};
 use crate::wishes::Wishes;
 use bcast_base::{array_at, number_at, octet_at};
 use std::alloc::Global;
+use std::mem::swap;
 
 // Places of fields that may have a reserved value: behind the opcode of an Add Source its address type, its SID behind an
 // address of 6 octets, and PA_Sync behind a Broadcast_ID of 3; in a Modify Source PA_Sync behind the Source_ID.
@@ -36,12 +37,28 @@ pub fn decode_operation(alloc: Global, from: &[u8]) -> Result<Operation, OpFault
     ensures only { (op : Operation) → OpIs op from.now → Answers told result (Ok op) }
     ensures fault { IfErr result (λ fault. IsFault fault from.now) }
 {
-    read_operation(alloc, from)
+    let mut spare = Wishes::new(alloc);
+    read_operation(alloc, &mut spare, from)
+}
+
+/// Reads an operation as `decode_operation` does. Its wishes are in the memory of earlier ones, which are given away.
+pub fn decode_operation_over(
+    alloc: Global,
+    spare: &mut Wishes,
+    from: &[u8],
+) -> Result<Operation, OpFault>
+    ensures exact { Answers told result (op_of from.now) }
+    ensures layout { IfOk result (λ op. OpIs op from.now) }
+    ensures metadata { IfOk result (λ op. MetadataFits (wishes_of op)) }
+    ensures only { (op : Operation) → OpIs op from.now → Answers told result (Ok op) }
+    ensures fault { IfErr result (λ fault. IsFault fault from.now) }
+{
+    read_operation(alloc, spare, from)
 }
 
 // By the opcode.
 #[tactic(auto, unfolding(crate::specs::Reading::op_in))]
-fn read_operation(alloc: Global, from: &[u8]) -> Result<Operation, OpFault>
+fn read_operation(alloc: Global, spare: &mut Wishes, from: &[u8]) -> Result<Operation, OpFault>
     ensures exact { Answers told result (op_of from.now) }
     ensures memory { IfErr result (λ fault. WantsFor fault (op_of from.now)) }
 {
@@ -51,8 +68,8 @@ fn read_operation(alloc: Global, from: &[u8]) -> Result<Operation, OpFault>
     match *opcode {
         0 if rest.is_empty() => Ok(Operation::ScanStopped),
         1 if rest.is_empty() => Ok(Operation::ScanStarted),
-        2 => read_add(alloc, from, rest),
-        3 => read_modify(alloc, from, rest),
+        2 => read_add(alloc, spare, from, rest),
+        3 => read_modify(alloc, spare, from, rest),
         4 => code_at(rest).ok_or(OpFault::Length),
         5 => remove_at(rest).ok_or(OpFault::Length),
         0 | 1 => Err(OpFault::Length),
@@ -61,7 +78,12 @@ fn read_operation(alloc: Global, from: &[u8]) -> Result<Operation, OpFault>
 }
 
 // Add Source, the octets behind the opcode.
-fn read_add(alloc: Global, from: &[u8], rest: &[u8]) -> Result<Operation, OpFault>
+fn read_add(
+    alloc: Global,
+    spare: &mut Wishes,
+    from: &[u8],
+    rest: &[u8],
+) -> Result<Operation, OpFault>
     requires { from.now ≡ 2 ∷ rest.now }
     ensures exact { Answers told result (judged (add_in rest.now)) }
     ensures memory { IfErr result (λ fault. WantsFor fault (judged (add_in rest.now))) }
@@ -76,12 +98,18 @@ fn read_add(alloc: Global, from: &[u8], rest: &[u8]) -> Result<Operation, OpFaul
         return Err(OpFault::Rfu { place });
     }
     check_wishes(from, count, subgroups)?;
-    add.wishes = read_wishes(alloc, count, subgroups)?;
+    swap(&mut add.wishes, spare);
+    read_wishes(alloc, &mut add.wishes, count, subgroups)?;
     Ok(Operation::Add(add))
 }
 
 // Modify Source, the octets behind the opcode.
-fn read_modify(alloc: Global, from: &[u8], rest: &[u8]) -> Result<Operation, OpFault>
+fn read_modify(
+    alloc: Global,
+    spare: &mut Wishes,
+    from: &[u8],
+    rest: &[u8],
+) -> Result<Operation, OpFault>
     requires { from.now ≡ 3 ∷ rest.now }
     ensures exact { Answers told result (judged (modify_in rest.now)) }
     ensures memory { IfErr result (λ fault. WantsFor fault (judged (modify_in rest.now))) }
@@ -98,7 +126,8 @@ fn read_modify(alloc: Global, from: &[u8], rest: &[u8]) -> Result<Operation, OpF
         });
     }
     check_wishes(from, count, subgroups)?;
-    modify.wishes = read_wishes(alloc, count, subgroups)?;
+    swap(&mut modify.wishes, spare);
+    read_wishes(alloc, &mut modify.wishes, count, subgroups)?;
     Ok(Operation::Modify(modify))
 }
 

@@ -1,5 +1,5 @@
 //! The subgroups of an operation, looked through where they lie before any memory is taken.
-ghost use Rattle.std.specs.Prelude.{◌≡◌, ◌≤◌, ◌<◌, length, is_some, true, IfOk, OnErr, Some};
+ghost use Rattle.std.specs.Prelude.{◌≡◌, ◌≤◌, ◌<◌, ◌+◌, ◌∷◌, ◌++◌, [], length, max, take, is_some, true, OnOk, OnErr, Some};
 ghost use Rattle.std.specs.Result.{result_err};
 ghost use Rattle.bcast_base.specs.Subgroups.{reserved_in};
 ghost use Rattle.bass_operations.specs.Reading.{wishes_in, first_fault};
@@ -39,26 +39,61 @@ pub(crate) fn check_wishes(whole: &[u8], count: u8, octets: &[u8]) -> Result<(),
     Ok(())
 }
 
-// The wishes of so many subgroups. Memory is wanted only where there is one.
-pub(crate) fn read_wishes(alloc: Global, count: u8, octets: &[u8]) -> Result<Wishes, Memory>
+// Puts the wishes of so many subgroups in the place of earlier ones, in their memory. Memory is wanted only where there is one.
+pub(crate) fn read_wishes(
+    alloc: Global,
+    wishes: &mut Wishes,
+    count: u8,
+    octets: &[u8],
+) -> Result<(), Memory>
     requires { is_some (wishes_in count octets.now) ≡ true }
-    ensures gives { IfOk result (λ wishes. wishes_in count octets.now ≡ Some wishes) }
+    ensures gives { OnOk result (wishes_in count octets.now ≡ Some wishes.new) }
     ensures memory { OnErr result (0 < count) }
 {
-    let mut wishes = Wishes::new(alloc);
+    let most = usize::from(count);
+    wishes.truncate(most);
     let mut rest = octets;
-    'subgroups: for _ in 0..count {
+    'subgroups: for place in 0..most {
         let Some((group, after)) = subgroup_at(rest) else {
             unreachable!()
         };
-        let metadata = Octets::copy(alloc, group.metadata)?;
-        wishes.push(Wish {
-            bis_sync: group.bits,
-            metadata,
-        })?;
+        put_wish(alloc, wishes, place, group.bits, group.metadata)?;
         rest = after;
     }
-    Ok(wishes)
+    Ok(())
+}
+
+// Puts what is wanted of a subgroup at a place: in the memory of what stands there, or at the end.
+fn put_wish(
+    alloc: Global,
+    wishes: &mut Wishes,
+    place: usize,
+    bits: u32,
+    metadata: &[u8],
+) -> Result<(), Memory>
+    requires here { place ≤ length wishes.old }
+    requires few { place < 255 }
+    ensures put { OnOk result (take (place + 1) wishes.new
+        ≡ take place wishes.old ++ record { bis_sync = bits; metadata = metadata.now } ∷ []) }
+    ensures count { OnOk result (length wishes.new ≡ max (length wishes.old) (place + 1)) }
+{
+    if place == wishes.count() {
+        let metadata = Octets::copy(alloc, metadata)?;
+        return wishes.push(Wish {
+            bis_sync: bits,
+            metadata,
+        });
+    }
+    let empty = Wish {
+        bis_sync: bits,
+        metadata: Octets::new(alloc),
+    };
+    let mut wish = wishes.replace(place, empty);
+    wish.bis_sync = bits;
+    wish.metadata.clear();
+    wish.metadata.append(metadata)?;
+    wishes.replace(place, wish);
+    Ok(())
 }
 
 // The lowest stream index that stands in two of so many subgroups.

@@ -1,4 +1,4 @@
-ghost use Rattle.std.specs.Prelude.{◌≡◌, ◌<◌, ◌≤◌, ◌++◌, ◌∷◌, [], length, slice_get, Some, OnOk, OnErr};
+ghost use Rattle.std.specs.Prelude.{◌≡◌, ◌<◌, ◌≤◌, ◌++◌, ◌∷◌, [], length, slice_get, slice_set, take, Some, OnOk, OnErr};
 
 use bcast_base::{Items, Memory, Octets};
 use std::alloc::Global;
@@ -63,6 +63,22 @@ impl Wishes {
         ensures { slice_get self.now i ≡ Some result.now }
     {
         self.list.item(i)
+    }
+
+    // Puts a wish in the place of the one at place `i`, from 0, which is the answer. It takes no memory.
+    pub(crate) fn replace(&mut self, i: usize, item: Wish) -> Wish
+        requires { i < length self.old }
+        ensures was { slice_get self.old i ≡ Some result }
+        ensures is { self.new ≡ slice_set self.old i item }
+    {
+        self.list.replace(i, item)
+    }
+
+    // Keeps the first `count` wishes, or all where there are fewer. It takes no memory.
+    pub(crate) fn truncate(&mut self, count: usize)
+        ensures { self.new ≡ take count self.old }
+    {
+        self.list.truncate(count);
     }
 
     // The wishes in order.

@@ -54,6 +54,13 @@ impl Slot {
         self.pa_sync
     }
 
+    /// What is wanted of each subgroup; the slot is given up.
+    pub fn into_wishes(self) -> Wishes
+        ensures { result ≡ self.wanted.wishes }
+    {
+        self.wishes
+    }
+
     /// What is wanted of each subgroup.
     pub fn wishes(&self) -> &Wishes
         ensures { result.now ≡ self.now.wanted.wishes }

@@ -1,9 +1,12 @@
 -- When two values of a slot are apart, so that a notice is put.
 use Rattle.std.proofs.Common.{arith}
-use Rattle.delegator_control.proofs.Prelude.{ℕ, ◌≡◌, ◌≢◌, Bool, true, List, [], ◌∷◌, drop, get_or, Option, Some, refl, ap, not, option_map, if◌then◌else◌, append_cancel_left, encoding, Notice, change, Entry, Status, received, value}
+use Rattle.delegator_control.proofs.Prelude.{ℕ, ◌≡◌, ◌≢◌, Bool, true, List, [], ◌∷◌, ◌++◌, ◌-◌, ◌∙◌, length, slice_get, drop, get_or, Option, Some, None, refl, sym, ap, not, append_assoc, option_map, if◌then◌else◌, append_cancel_left, encoding, Notice, change, Entry, Status, received, value}
 use Rattle.std.specs.Str.{bytes_eq}
 use Rattle.std.proofs.Math.Bool.{beq}
+use Rattle.std.proofs.lemmas.List.{append_cancel_right, length-append}
 use Rattle.std.proofs.lemmas.Slice.Eq.{bytes_eq-Decides}
+use Rattle.std.specs.Borrow.{Bor}
+use Rattle.std.specs.Option.{MatchOption}
 
 abbrev pub one : ℕ → List ℕ → List Notice
 one slot value = record { slot = slot; value = value } ∷ []
@@ -29,3 +32,29 @@ synced_anew slot before now entry apart = told slot (encoding (received before e
 pub emptied : (slot : ℕ) (status : Status) (held : Option Entry) (entry : Entry) → held ≡ Some entry
     → change slot (value (option_map (received status) held)) [] ≡ one slot []
 emptied slot status held entry is = ap (λ (e : Option Entry). change slot (value (option_map (received status) e)) []) is
+
+-- ---- octets that end with some, behind one that counts them
+
+abbrev pub Strips : List ℕ → List ℕ → Option (Bor (List ℕ)) → Type 0
+Strips octets counted found = MatchOption found ((front : List ℕ) → octets ≢ front ++ counted) (λ x. octets ≡ x.now ++ counted)
+
+pub never_stripped : (octets counted front : List ℕ) (found : Option (Bor (List ℕ))) → Strips octets counted found → found ≡ None
+    → octets ≡ front ++ length counted ∷ counted → ⊥
+never_stripped octets counted front None strips is same = strips (front ++ length counted ∷ []) (same ∙ sym (append_assoc front (length counted ∷ []) counted))
+never_stripped octets counted front (Some x) strips is same = absurd cc
+
+at_end : (front : List ℕ) (n : ℕ) → slice_get (front ++ n ∷ []) (length front) ≡ Some n
+at_end [] n = refl
+at_end (x ∷ front) n = at_end front n
+
+last_is : (front : List ℕ) (n : ℕ) → slice_get (front ++ n ∷ []) (length (front ++ n ∷ []) - 1) ≡ Some n
+last_is front n =
+    let many : length (front ++ n ∷ []) - 1 ≡ length front = omega (arith, length-append front (n ∷ [])) in
+    ap (λ (k : ℕ). slice_get (front ++ n ∷ []) k) many ∙ at_end front n
+
+pub last_counts : (octets counted front found : List ℕ) → octets ≡ found ++ counted → octets ≡ front ++ length counted ∷ counted
+    → slice_get found (length found - 1) ≡ Some (length counted)
+last_counts octets counted front found stripped same =
+    let is : found ≡ front ++ length counted ∷ [] =
+    append_cancel_right found (front ++ length counted ∷ []) counted (sym stripped ∙ same ∙ sym (append_assoc front (length counted ∷ []) counted)) in
+    ap (λ (xs : List ℕ). slice_get xs (length xs - 1)) is ∙ last_is front (length counted)

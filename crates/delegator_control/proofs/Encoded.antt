@@ -31,13 +31,13 @@ pub one_laid : (place : ℕ) (bits : List ℕ) (wishes : List Wish) (wish : Wish
     ≡ subgroup (record { bits = get_or bits place 0; metadata = wish.metadata }) ++ groups_laid (place + 1) bits (drop (place + 1) wishes)
 one_laid place bits wishes wish is = ap (groups_laid place bits) (drop_get wishes place wish is) ∙ first_laid place bits wish (drop (place + 1) wishes)
 
--- they end with the metadata of the last
+-- they end with the metadata of the last, behind the octet that counts it
 last_laid : (place : ℕ) (bits : List ℕ) (wishes : List Wish) (n : ℕ) (wish : Wish) → suc n ≡ length wishes → slice_get wishes n ≡ Some wish
-    → (prefix : List ℕ) × (groups_laid place bits wishes ≡ prefix ++ wish.metadata)
+    → (prefix : List ℕ) × (groups_laid place bits wishes ≡ prefix ++ length wish.metadata ∷ wish.metadata)
 last_laid place bits [] n wish many is = absurd cc
 last_laid place bits (first ∷ []) zero wish many is =
     let same : first ≡ wish = cc in
-    let prefix : List ℕ = number 4 (get_or bits place 0) ++ length wish.metadata ∷ [] in (
+    let prefix : List ℕ = number 4 (get_or bits place 0) in (
       prefix,
       grind (arith, groups_laid, first_laid, append-nil, subgroup, get_or, append_assoc, length),
     )
@@ -48,15 +48,15 @@ last_laid place bits (first ∷ second ∷ wishes) (suc n) wish many is =
     let others = last_laid (place + 1) bits (second ∷ wishes) n wish fewer is in
     let group : List ℕ = subgroup (record { bits = get_or bits place 0; metadata = first.metadata }) in (
       group ++ others.0,
-      first_laid place bits first (second ∷ wishes) ∙ ap (λ octets. group ++ octets) others.1 ∙ sym (append_assoc group others.0 wish.metadata),
+      first_laid place bits first (second ∷ wishes) ∙ ap (λ octets. group ++ octets) others.1 ∙ sym (append_assoc group others.0 (length wish.metadata ∷ wish.metadata)),
     )
 
 pub ends_so : (status : Status) (entry : Entry) (n : ℕ) (wish : Wish) → suc n ≡ length entry.wanted.wishes → slice_get entry.wanted.wishes n ≡ Some wish
-    → (prefix : List ℕ) × (encoding (received status entry) ≡ prefix ++ wish.metadata)
+    → (prefix : List ℕ) × (encoding (received status entry) ≡ prefix ++ length wish.metadata ∷ wish.metadata)
 ends_so status entry n wish many is =
     let prefix : List ℕ = laid (prefix_fields (fields_of (received status entry)) (length entry.wanted.wishes)) in
     let groups = last_laid 0 status.bits entry.wanted.wishes n wish many is in
-    (prefix ++ groups.0, sym (in_two status entry) ∙ ap (λ octets. prefix ++ octets) groups.1 ∙ sym (append_assoc prefix groups.0 wish.metadata))
+    (prefix ++ groups.0, sym (in_two status entry) ∙ ap (λ octets. prefix ++ octets) groups.1 ∙ sym (append_assoc prefix groups.0 (length wish.metadata ∷ wish.metadata)))
 
 pub metadata_at : (wishes : List Wish) (place : ℕ) (wish : Wish) → AllByRecursion (λ wish. length wish.metadata ≤ 255) wishes → slice_get wishes place ≡ Some wish
     → length wish.metadata < 256

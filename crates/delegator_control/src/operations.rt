@@ -1,5 +1,5 @@
 //! What operations that were read do to a sink.
-ghost use Rattle.std.specs.Prelude.{◌≡◌, ◌<◌, ◌+◌, ◌&&◌, ℕ, List, drop, length, nat_lt, vec_len, Some, Ok};
+ghost use Rattle.std.specs.Prelude.{◌≡◌, ◌<◌, ◌+◌, ◌&&◌, ℕ, List, drop, length, nat_lt, slice_set, vec_len, Some, Ok};
 ghost use Rattle.bass_operations.specs.declared.operation.Operation.TheVariants as ops;
 ghost use Rattle.delegator_history.specs.Snapshots.{Snapshot, entry_at};
 ghost use Rattle.delegator_history.specs.Steps.{modified, place_given, same_streams};
@@ -19,6 +19,7 @@ use bass_operations::{AddSource, ModifySource, Operation, Wishes};
 use bcast_base::{Memory, Octets};
 use delegator_choices::{Slot, Sought, find_slot, refused, unused_id};
 use delegator_history::{Cause, Reply, Source};
+use std::mem::replace;
 
 /// The most octets of a value: those of an attribute.
 const GREATEST_VALUE: usize = 512;
@@ -89,7 +90,7 @@ impl ScanDelegator {
             return Ok(refused(Cause::StillSynced));
         }
         put_notice(&mut self.waiting, slot, Octets::new(self.alloc))?;
-        self.slots[usize::from(slot)] = None;
+        self.set_slot(slot, None);
         Ok(Reply::Accepted)
     }
 
@@ -147,8 +148,23 @@ impl ScanDelegator {
         let before = status_after(&self.place, slot, Move::Stay);
         let held = &self.slots[usize::from(slot)];
         note_value(self.alloc, &mut self.waiting, slot, held, &before, after)?;
-        self.slots[usize::from(slot)] = Some(filled);
+        self.set_slot(slot, Some(filled));
         Ok(true)
+    }
+
+    // Fills a slot, or empties it. The memory of what was wanted of the source that it had is kept for the next operation.
+    fn set_slot(&mut self, slot: u8, now: Option<Slot>)
+        requires { slot < vec_len self.old.slots }
+        ensures slots { self.new.slots.items ≡ slice_set self.old.slots.items slot now }
+        ensures rest { machine self.new
+            ≡ record (machine self.old) { snapshot = record (machine self.old).snapshot { slots = self.new.slots.items } } }
+        ensures waiting { self.new.waiting.items ≡ self.old.waiting.items }
+        ensures place { self.new.place ≡ self.old.place }
+    {
+        let held = replace(&mut self.slots[usize::from(slot)], now);
+        if let Some(held) = held {
+            self.spare = held.into_wishes();
+        }
     }
 }
 

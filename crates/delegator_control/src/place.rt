@@ -176,6 +176,9 @@ pub(crate) fn make_move(place: &mut Place, moves: Move)
     ensures { (snapshot : Snapshot) → standing place.new snapshot
         ≡ placed (place_by (place_of place.old) moves) None None (standing place.old snapshot) }
 {
+    if let Move::Stay = moves {
+        return;
+    }
     let old = replace(place, Place::Idle(SinkIdle));
     *place = match moves {
         Move::Stay => old,

@@ -6,7 +6,7 @@ ghost use Rattle.delegator_control.specs.State.Places.{IsWithin};
 use crate::control::{heard_control, leaves};
 use crate::place::{Move, Place, SinkIdle, join, make_move};
 use crate::values::{note_standing, status_after, value_as};
-use bass_operations::{decode_operation, read_is_operation};
+use bass_operations::{Wishes, decode_operation_over, read_is_operation};
 use bcast_base::{Memory, Octets};
 use big_info::Limits;
 use delegator_choices::{Slot, cause_of, refused};
@@ -27,6 +27,8 @@ pub struct ScanDelegator {
     pub(crate) capability: Capability,
     pub(crate) waiting: VecDeque<Notice>,
     pub(crate) mtu: Option<u16>,
+    /// What was wanted of a slot that was filled anew or emptied. Its memory is used for the next operation.
+    pub(crate) spare: Wishes,
     ghost reach: { limits.horizon ≤ 31 },
     ghost few: { vec_len slots ≤ 8 },
     ghost within: { IsWithin place (vec_len slots) },
@@ -86,6 +88,7 @@ impl ScanDelegator {
             },
             waiting: VecDeque::new(alloc),
             mtu: None,
+            spare: Wishes::new(alloc),
         })
     }
 
@@ -178,7 +181,7 @@ impl ScanDelegator {
         ensures memory { OnErr result (wants_memory (machine self.old).snapshot (op_of write.now) ≡ true) }
     {
         read_is_operation();
-        match decode_operation(self.alloc, write) {
+        match decode_operation_over(self.alloc, &mut self.spare, write) {
             Ok(op) => self.operate(op),
             Err(fault) => match cause_of(fault) {
                 Some(cause) => Ok(refused(cause)),

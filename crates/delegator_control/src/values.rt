@@ -1,6 +1,6 @@
 //! The values of slots, and the notices of their changes.
-ghost use Rattle.std.specs.Prelude.{◌≡◌, ◌≢◌, ◌<◌, ◌≤◌, ◌+◌, ◌++◌, ◌∷◌, [], drop, length, if◌then◌else◌, get_or, option_map};
-ghost use Rattle.std.specs.Prelude.{None, IfOk, IsSome, IsTrue, OnOk, OnErr};
+ghost use Rattle.std.specs.Prelude.{ℕ, List, ◌≡◌, ◌≢◌, ◌<◌, ◌≤◌, ◌+◌, ◌++◌, ◌∷◌, [], drop, length, if◌then◌else◌, get_or, option_map};
+ghost use Rattle.std.specs.Prelude.{None, true, IfOk, IsSome, IsTrue, OnOk, OnErr};
 ghost use Rattle.std.specs.List.{AllByRecursion};
 ghost use Rattle.receive_state.specs.Layout.{encoding};
 ghost use Rattle.delegator_history.specs.Notices.{change};
@@ -228,7 +228,7 @@ pub(crate) fn note_value(
     }
 }
 
-/// The same of a slot that was filled. Where the metadata at the end changes, the value that it had is not looked at.
+/// The same of a slot that was filled. Where the metadata at the end changes, or its length, the value that it had is not looked at.
 fn note_refilled(
     alloc: Global,
     waiting: &mut VecDeque<Notice>,
@@ -248,7 +248,8 @@ fn note_refilled(
     note(waiting, slot, &was, now)
 }
 
-/// The octets end otherwise than the value of the slot, however the sink stands to it: not with the last metadata.
+/// The octets end otherwise than the value of the slot, however the sink stands to it: not with the last metadata behind the
+/// octet that counts it.
 fn ends_otherwise(octets: &Octets, slot: &Slot) -> bool
     ensures { IsTrue result → (status : StatusSeen) → encoding (received status slot.now) ≢ octets.now }
 {
@@ -258,7 +259,20 @@ fn ends_otherwise(octets: &Octets, slot: &Slot) -> bool
         return false;
     }
     let last = wishes.item(count - 1);
-    !octets.as_slice().ends_with(last.metadata.as_slice())
+    !ends_counted(octets.as_slice(), last.metadata.as_slice())
+}
+
+/// Whether the octets end with these, behind one octet that counts them.
+fn ends_counted(octets: &[u8], counted: &[u8]) -> bool
+    ensures { (front : List ℕ) → octets.now ≡ front ++ length counted.now ∷ counted.now → result ≡ true }
+{
+    let Some(front) = octets.strip_suffix(counted) else {
+        return false;
+    };
+    match front.last() {
+        None => false,
+        Some(count) => usize::from(*count) == counted.len(),
+    }
 }
 
 /// Puts the notice of a slot whose value changes at the end. After want of memory nothing changed.

@@ -4,6 +4,7 @@ pub mod CutStates
 pub mod CutSteps
 pub mod Cuts
 pub mod Fits
+pub mod Fronts
 pub mod HeadTails
 pub mod Heads
 pub mod HeadsFound

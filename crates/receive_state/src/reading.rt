@@ -206,10 +206,8 @@ fn own_state(
       groups = state.groups;
     }) }
 {
-    let mut address = [0; 6];
-    address.copy_from_slice(lent.address);
-    let mut broadcast_id = [0; 3];
-    broadcast_id.copy_from_slice(lent.broadcast_id);
+    let address = array_of(lent.address);
+    let broadcast_id = array_of(lent.broadcast_id);
     let encryption = own_encryption(lent.encryption, lent.bad_code);
     let groups = read_groups(alloc, spare, lent.count, lent.groups)?;
     Ok(ReceiveState {
@@ -222,6 +220,17 @@ fn own_state(
         encryption,
         groups,
     })
+}
+
+// The octets as an array; there are so many.
+fn array_of<const N: usize>(octets: &[u8]) -> [u8; N]
+    requires { length octets.now ≡ N }
+    ensures { result ≡ octets.now }
+{
+    let Some(array) = octets.first_chunk::<N>() else {
+        unreachable!()
+    };
+    *array
 }
 
 // What is told of the key.

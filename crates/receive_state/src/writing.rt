@@ -45,18 +45,35 @@ pub fn begin_state(
     ensures prefix { IfOk result (λ octets. octets ≡ laid (prefix_fields (fields_of state.now) count)) }
     ensures code { OnOk result (length (code_of state.now.encryption) ≡ code_width (number_of state.now.encryption)) }
 {
-    let address = state.address;
-    let broadcast_id = state.broadcast_id;
     let mut out = Octets::of(Vec::with_capacity(alloc, room)?);
-    out.push(state.source_id)?;
-    out.push(state.address_type)?;
-    out.append(&address)?;
-    out.push(state.sid)?;
-    out.append(&broadcast_id)?;
-    out.push(state.pa_sync_state)?;
+    out.append(&front_of(state))?;
     put_encryption(&mut out, &state.encryption)?;
     out.push(count)?;
     Ok(out)
+}
+
+// The octets before BIG_Encryption.
+fn front_of(state: &ReceiveState) -> [u8; 13]
+    ensures { result ≡ state.now.source_id ∷ state.now.address_type ∷ (state.now.address
+        ++ state.now.sid ∷ (state.now.broadcast_id ++ state.now.pa_sync_state ∷ [])) }
+{
+    let [a, b, c, d, e, f] = state.address;
+    let [g, h, i] = state.broadcast_id;
+    [
+        state.source_id,
+        state.address_type,
+        a,
+        b,
+        c,
+        d,
+        e,
+        f,
+        state.sid,
+        g,
+        h,
+        i,
+        state.pa_sync_state,
+    ]
 }
 
 // Puts BIG_Encryption at the end, and the Bad_Code where there is one.

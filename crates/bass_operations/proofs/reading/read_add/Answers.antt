@@ -19,12 +19,12 @@ check_wishes-requires c = add_tail c.args.from.now c.args.rest.now c.in-Some.add
 pub returns-in_err-check_wishes-clause-exact : goal.returns-in_err-check_wishes-clause-exact
 returns-in_err-check_wishes-clause-exact c = grind (arith, err_from_is_err_and, add_wishes_fault)
 
-pub returns-in_err-add-clause-exact : goal.returns-in_err-add-clause-exact
-returns-in_err-add-clause-exact c = grind (arith, err_from_is_err_and, add_is_operation)
+pub returns-in_err-read_wishes-clause-exact : goal.returns-in_err-read_wishes-clause-exact
+returns-in_err-read_wishes-clause-exact c = grind (arith, err_from_is_err_and, add_is_operation)
 
-pub returns-in_err-add-clause-memory : goal.returns-in_err-add-clause-memory
-returns-in_err-add-clause-memory c = grind (arith, err_from_is_err_and, add_wants)
+pub returns-in_err-read_wishes-clause-memory : goal.returns-in_err-read_wishes-clause-memory
+returns-in_err-read_wishes-clause-memory c = grind (arith, err_from_is_err_and, add_wants)
 
 pub returns-clause-exact : goal.returns-clause-exact
-returns-clause-exact c = add_done c.args.from.now c.args.rest.now c.in-Some.add c.in-Some.count c.in-Some.subgroups.now c.in_ok-add.field-0 (λ i. omega (arith, c.type_inv.from i)) c.requires
-    c.in-Some.ensures c.in_ok-add.ensures.gives c.in_default-reserved_in_add.ensures c.in_ok-check_wishes.ensures
+returns-clause-exact c = add_done c.args.from.now c.args.rest.now c.in-Some.add c.in-Some.count c.in-Some.subgroups.now c.read_wishes.new.wishes (λ i. omega (arith, c.type_inv.from i)) c.requires
+    c.in-Some.ensures c.in_ok-read_wishes.ensures.gives c.in_default-reserved_in_add.ensures c.in_ok-check_wishes.ensures

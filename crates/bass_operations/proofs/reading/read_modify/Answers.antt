@@ -22,19 +22,19 @@ returns-in_err-check_wishes-clause-exact c =
     (λ i. omega (arith, c.type_inv.from i)) c.requires c.in-Some.ensures (sym c.are_wishes.ensures ∙ c.if-not-are_wishes.false)
     (sym (unreserved c.in-Some.modify.pa_sync c.if-modify-gt2.false)) c.in_err-check_wishes.ensures)
 
-pub returns-in_err-modify-clause-exact : goal.returns-in_err-modify-clause-exact
-returns-in_err-modify-clause-exact c =
-    let p = err_from_is_err_and c.from_residual-in_err-modify.result c.from_residual-in_err-modify.ensures.1 in
+pub returns-in_err-read_wishes-clause-exact : goal.returns-in_err-read_wishes-clause-exact
+returns-in_err-read_wishes-clause-exact c =
+    let p = err_from_is_err_and c.from_residual-in_err-read_wishes.result c.from_residual-in_err-read_wishes.ensures.1 in
     rw (p.1, p.2) (modify_is_operation c.args.from.now c.args.rest.now c.in-Some.modify c.in-Some.count c.in-Some.subgroups.now (λ i. omega (arith, c.type_inv.from i)) c.requires
     c.in-Some.ensures (sym c.are_wishes.ensures ∙ c.if-not-are_wishes.false) (sym (unreserved c.in-Some.modify.pa_sync c.if-modify-gt2.false)) c.in_ok-check_wishes.ensures)
 
-pub returns-in_err-modify-clause-memory : goal.returns-in_err-modify-clause-memory
-returns-in_err-modify-clause-memory c =
-    let p = err_from_is_err_and c.from_residual-in_err-modify.result c.from_residual-in_err-modify.ensures.1 in
+pub returns-in_err-read_wishes-clause-memory : goal.returns-in_err-read_wishes-clause-memory
+returns-in_err-read_wishes-clause-memory c =
+    let p = err_from_is_err_and c.from_residual-in_err-read_wishes.result c.from_residual-in_err-read_wishes.ensures.1 in
     rw (p.1, p.2) (modify_wants c.args.from.now c.args.rest.now c.in-Some.modify c.in-Some.count c.in-Some.subgroups.now (λ i. omega (arith, c.type_inv.from i)) c.requires
     c.in-Some.ensures (sym c.are_wishes.ensures ∙ c.if-not-are_wishes.false) (sym (unreserved c.in-Some.modify.pa_sync c.if-modify-gt2.false)) c.in_ok-check_wishes.ensures
-    c.in_err-modify.ensures.memory)
+    c.in_err-read_wishes.ensures.memory)
 
 pub returns-clause-exact : goal.returns-clause-exact
-returns-clause-exact c = modify_done c.args.from.now c.args.rest.now c.in-Some.modify c.in-Some.count c.in-Some.subgroups.now c.in_ok-modify.field-0 (λ i. omega (arith, c.type_inv.from i)) c.requires
-    c.in-Some.ensures c.in_ok-modify.ensures.gives (sym (unreserved c.in-Some.modify.pa_sync c.if-modify-gt2.false)) c.in_ok-check_wishes.ensures
+returns-clause-exact c = modify_done c.args.from.now c.args.rest.now c.in-Some.modify c.in-Some.count c.in-Some.subgroups.now c.read_wishes.new.wishes (λ i. omega (arith, c.type_inv.from i)) c.requires
+    c.in-Some.ensures c.in_ok-read_wishes.ensures.gives (sym (unreserved c.in-Some.modify.pa_sync c.if-modify-gt2.false)) c.in_ok-check_wishes.ensures

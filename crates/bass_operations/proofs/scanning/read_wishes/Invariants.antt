@@ -1,7 +1,11 @@
-use Rattle.bass_operations.proofs.Prelude.{◌≡◌, ◌-◌, length}
+use Rattle.bass_operations.proofs.Prelude.{◌≡◌, ◌-◌, ◌≤◌, length, take}
 use Rattle.bass_operations.specs.Reading.{wishes_in}
 use Rattle.bass_operations.proofs.Loops.{with_prefix}
 use Rattle.bass_operations.proofs.scanning.read_wishes.Given as goal
 
 abbrev pub invariant-subgroups : goal.invariant-subgroups
-invariant-subgroups l = (with_prefix l.wishes (wishes_in (l.count - l.counter) l.rest) ≡ wishes_in l.count l.octets) × (length l.wishes ≡ l.counter)
+invariant-subgroups l = record {
+  read : with_prefix (take l.place l.wishes) (wishes_in (l.count - l.place) l.rest) ≡ wishes_in l.count l.octets;
+  some : l.place ≤ length l.wishes;
+  most : length l.wishes ≤ l.count;
+}

@@ -1,6 +1,4 @@
-use Rattle.delegator_control.proofs.Prelude.{◌≡◌, ◌-◌, ◌++◌, ◌∙◌, List, Some, length, slice_get, suc, true, false, ap, sym, subst, arith, not, Wish}
-use Rattle.std.proofs.lemmas.Slice.Eq.{ends_is}
-use Rattle.std.proofs.lemmas.Bool.Decides.{Decides-eqb}
+use Rattle.delegator_control.proofs.Prelude.{◌≡◌, ◌-◌, ◌++◌, ◌∷◌, ◌∙◌, List, Some, length, slice_get, suc, true, false, ap, sym, subst, arith, not, Wish}
 use Rattle.delegator_control.proofs.Encoded.{ends_so}
 use Rattle.delegator_control.proofs.values.ends_otherwise.Goals as goal
 
@@ -12,8 +10,8 @@ returns c is status same =
     let last : slice_get wishes (c.count-count.result - 1) ≡ Some c.item-last.result.now =
     subst (λ (ws : List Wish). slice_get ws (c.count-count.result - 1) ≡ Some c.item-last.result.now) c.wishes-wishes.ensures c.item-last.ensures in
     let ends = ends_so status c.args.slot.now (c.count-count.result - 1) c.item-last.result.now many last in
-    let does : c.ends_with.result ≡ true =
-    (ends_is Decides-eqb c.as_slice.result.now c.as_slice-2.result.now c.ends_with.result c.ends_with.ensures.value).1 ends.0
-    (c.as_slice.ensures ∙ sym same ∙ ends.1 ∙ ap (λ octets. ends.0 ++ octets) (sym c.as_slice-2.ensures)) in
+    let does : c.ends_counted.result ≡ true =
+    c.ends_counted.ensures ends.0
+    (c.as_slice.ensures ∙ sym same ∙ ends.1 ∙ ap (λ metadata. ends.0 ++ length metadata ∷ metadata) (sym c.as_slice-2.ensures)) in
     let not_so : true ≡ false = sym is ∙ ap not does in
     cc

@@ -1,4 +1,4 @@
-use Rattle.delegator_control.proofs.Prelude.{◌≡◌, ◌<◌, ◌++◌, ◌∙◌, length, set, get_or, ap, sym, subst, refl, Some, None, nat_lt, option_map, get_or_read_under, encoding, change, received, value, Machine, machine}
+use Rattle.delegator_control.proofs.Prelude.{◌≡◌, ◌<◌, ◌++◌, ◌∙◌, length, get_or, ap, sym, subst, refl, None, nat_lt, option_map, get_or_read_under, encoding, change, received, value, Machine, machine}
 use Rattle.delegator_control.proofs.scan_delegator.ScanDelegator.put.Goals as goal
 
 pub returns-then-is_too_long-clause-puts : goal.returns-then-is_too_long-clause-puts
@@ -17,6 +17,12 @@ returns-clause-puts c =
     get_or_read_under m.snapshot.slots c.from.result m.setup.slots c.index-held.result.now None c.index-held.ensures below c.args.self.now.slots.ok.0
     ∙ ap (λ k. get_or m.snapshot.slots k None) c.from.ensures in (
       sym (ap (λ v. nat_lt 512 (length v)) now) ∙ sym c.is_too_long.ensures ∙ c.if-is_too_long.false,
-      ap (λ k. set c.args.self.now.slots.items k (Some c.args.filled)) c.from-2.ensures,
-      c.in_ok-note_value.ensures.ok ∙ (λ i. m.waiting ++ change c.args.slot (value (option_map (received (was i)) (entry i))) (now i)),
+      c.set_slot.ensures.slots,
+      c.set_slot.ensures.waiting ∙ c.in_ok-note_value.ensures.ok ∙ (λ i. m.waiting ++ change c.args.slot (value (option_map (received (was i)) (entry i))) (now i)),
     )
+
+pub returns-clause-rest : goal.returns-clause-rest
+returns-clause-rest c =
+    let m : Machine = machine c.args.self.now in
+    c.set_slot.ensures.rest
+    ∙ (λ i. record m { snapshot = record m.snapshot { slots = c.set_slot.new.self.slots.items }; waiting = sym c.set_slot.ensures.waiting i })

@@ -1,5 +1,5 @@
 use Rattle.std.proofs.Common.{arith}
-use Rattle.delegator_control.proofs.Prelude.{ℕ, ◌≡◌, ◌<◌, ◌∙◌, set, ap, sym, subst, refl, Option, Some, None, true, false, IfSome, is_none, err_from_is_err_and, Remove, slot_with, held_slot, Machine, machine, status_at}
+use Rattle.delegator_control.proofs.Prelude.{ℕ, ◌≡◌, ◌<◌, ◌∙◌, ap, sym, subst, Option, Some, true, false, IfSome, is_none, err_from_is_err_and, Remove, slot_with, held_slot, Machine, machine, status_at}
 use Rattle.delegator_history.specs.declared.replies.Cause.TheVariants as causes
 use Rattle.delegator_control.proofs.Apart.{emptied, one}
 use Rattle.delegator_control.proofs.Serving.{refused, remove_unknown, remove_synced, remove_accepted}
@@ -25,9 +25,9 @@ returns c =
     let found : slot_with c.args.source_id m.snapshot.slots ≡ Some c.in-Some.slot = sym c.find_slot-found.ensures.first ∙ c.in-Some.is in
     let held = held_slot c.args.source_id m.snapshot.slots c.in-Some.slot found in
     let within : c.in-Some.slot < m.setup.slots = subst (λ (o : Option ℕ). IfSome o (λ s. s < m.setup.slots)) c.in-Some.is c.find_slot-found.ensures.within in
-    remove_accepted m _ c.args.source_id c.in-Some.slot held.0 _ _ found held.1 (sym c.is_on.ensures ∙ c.if-is_on.false) within
-    (subst (λ n. c.in-Some.slot < n) c.args.self.now.slots.ok.0 within) refl
-    (ap (λ k. set m.snapshot.slots k None) c.from.ensures)
+    remove_accepted m _ c.args.source_id c.in-Some.slot held.0 c.set_slot.new.self.slots.items c.put_notice.new.waiting.items found held.1
+    (sym c.is_on.ensures ∙ c.if-is_on.false) within (subst (λ n. c.in-Some.slot < n) c.args.self.now.slots.ok.0 within) c.set_slot.ensures.rest
+    c.set_slot.ensures.slots
     (grind (arith, one, emptied, status_at))
 
 pub returns-in_err-put_notice : goal.returns-in_err-put_notice
