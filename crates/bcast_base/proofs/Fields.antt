@@ -1,8 +1,8 @@
 -- A field that is read is the field that was written, and what was written is read again.
-use Rattle.bcast_base.proofs.Prelude.{◌≡◌, ℕ, zero, suc, ◌+◌, ◌-◌, ◌*◌, ◌/◌, ◌%◌, ◌^◌, ◌<◌, ◌≤◌, Bool, false, cond, ltb, List, [], ◌∷◌, ◌++◌, length, take, drop, Some, None, refl, sym, ap, subst, ◌∙◌, append_assoc, arith, take_at, drop_at, take-append-drop, length-append, length-take, get_or-drop, get_or-take, get_or_past, pow-add, sum_from, octet_in, octets_in, number_in, counted_in, Takes, IsOctets, octet, counted}
+use Rattle.bcast_base.proofs.Prelude.{◌≡◌, ℕ, zero, suc, ◌+◌, ◌-◌, ◌*◌, ◌/◌, ◌%◌, ◌^◌, ◌<◌, ◌≤◌, Bool, false, cond, ltb, List, [], ◌∷◌, ◌++◌, length, take, drop, Some, None, refl, sym, ap, subst, ◌∙◌, append_assoc, arith, take_at, drop_at, take-append-drop, length-append, length-take, get_or, get_or-drop, get_or-take, get_or_past, pow-add, sum_from, octet_in, octets_in, number_in, counted_in, Takes, IsOctets, octet, counted}
 use Rattle.std.proofs.lemmas.Bool.{cases_lt, ltb-false, le-ltb}
 use Rattle.std.proofs.lemmas.Option.{some_pair_parts}
-use Rattle.std.specs.Int.{w64, to_le_bytes}
+use Rattle.std.specs.Int.{w32, w64, to_le_bytes}
 use Rattle.bcast_base.proofs.Places.{sum_from-cons}
 use Rattle.bcast_base.specs.Encoding.{number}
 
@@ -100,6 +100,24 @@ pub prefix_of_eight : (k value : ℕ) → k ≤ 8 → take k (to_le_bytes w64 va
 prefix_of_eight k value h =
     let e : 8 ≡ k + (8 - k) = omega arith in
     ap (take k) (eight_octets value) ∙ ap (λ (n : ℕ). take k (number n value)) e ∙ take_number k (8 - k) value
+
+four_octets : (value : ℕ) → to_le_bytes w32 value ≡ number 4 value
+unfolding number
+four_octets value = grind arith
+
+four_of : (octets rest : List ℕ) → length octets ≡ 4 → get_or octets 0 0 ∷ get_or octets 1 0 ∷ get_or octets 2 0 ∷ get_or octets 3 0 ∷ rest ≡ octets ++ rest
+four_of [] rest is = absurd cc
+four_of (a ∷ []) rest is = absurd cc
+four_of (a ∷ b ∷ []) rest is = absurd cc
+four_of (a ∷ b ∷ c ∷ []) rest is = absurd cc
+four_of (a ∷ b ∷ c ∷ d ∷ []) rest is = refl
+four_of (a ∷ b ∷ c ∷ d ∷ e ∷ more) rest is = absurd cc
+
+-- four octets of a number one by one, and what stands behind them
+pub one_by_one : (value : ℕ) (octets rest : List ℕ) → octets ≡ to_le_bytes w32 value → get_or octets 0 0 ∷ get_or octets 1 0 ∷ get_or octets 2 0 ∷ get_or octets 3 0 ∷ rest ≡ number 4 value ++ rest
+one_by_one value octets rest is =
+    let same : octets ≡ number 4 value = is ∙ four_octets value in
+    rw same (four_of (number 4 value) rest (number-length 4 value))
 
 -- the octets of a number are those that encode it
 pub number_once : (k value : ℕ) (octets : List ℕ) → IsOctets octets → length octets ≡ k → value ≡ sum_from 0 octets → octets ≡ number k value

@@ -1,9 +1,8 @@
-ghost use Rattle.std.specs.Prelude.{◌≡◌, ◌≤◌, ◌<◌, ◌++◌, length, take, IsTrue, OnOk, OnErr};
+ghost use Rattle.std.specs.Prelude.{◌≡◌, ◌≤◌, ◌<◌, ◌++◌, length, IsTrue, OnOk, OnErr};
 ghost use Rattle.bcast_base.specs.Reading.{Gives};
 ghost use Rattle.bcast_base.specs.Subgroups.{Subgroup, subgroup, subgroup_in, reserved_in, is_reserved};
 
 use crate::reading::{counted_at, number_at, place_of};
-use crate::writing::{put_counted, put_number};
 use crate::{Memory, Octets};
 
 /// A subgroup of an operation or of a receive state, lent from the octets that encode it (Broadcast Audio Scan Service 1.0,
@@ -59,19 +58,11 @@ pub fn put_subgroup(out: &mut Octets, bits: u32, metadata: &[u8]) -> Result<(), 
     ensures err { OnErr result (out.new ≡ out.old) }
 {
     let before = out.as_slice().len();
-    let put = put_fields(out, bits, metadata);
+    let [a, b, c, d] = bits.to_le_bytes();
+    out.append(&[a, b, c, d, metadata.len() as u8])?;
+    let put = out.append(metadata);
     if put.is_err() {
         out.truncate(before);
     }
     put
-}
-
-// Puts the fields of a subgroup at the end, or a prefix of them where memory runs out.
-fn put_fields(out: &mut Octets, bits: u32, metadata: &[u8]) -> Result<(), Memory>
-    requires { length metadata.now < 256 }
-    ensures ok { OnOk result (out.new ≡ out.old ++ subgroup (record { bits = bits; metadata = metadata.now })) }
-    ensures err { OnErr result (take (length out.old) out.new ≡ out.old) }
-{
-    put_number(out, u64::from(bits), 4)?;
-    put_counted(out, metadata)
 }

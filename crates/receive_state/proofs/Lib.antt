@@ -4,7 +4,6 @@ pub mod CutStates
 pub mod CutSteps
 pub mod Cuts
 pub mod Fits
-pub mod Fronts
 pub mod HeadTails
 pub mod Heads
 pub mod HeadsFound

@@ -45,21 +45,10 @@ pub fn begin_state(
     ensures prefix { IfOk result (λ octets. octets ≡ laid (prefix_fields (fields_of state.now) count)) }
     ensures code { OnOk result (length (code_of state.now.encryption) ≡ code_width (number_of state.now.encryption)) }
 {
-    let mut out = Octets::of(Vec::with_capacity(alloc, room)?);
-    out.append(&front_of(state))?;
-    put_encryption(&mut out, &state.encryption)?;
-    out.push(count)?;
-    Ok(out)
-}
-
-// The octets before BIG_Encryption.
-fn front_of(state: &ReceiveState) -> [u8; 13]
-    ensures { result ≡ state.now.source_id ∷ state.now.address_type ∷ (state.now.address
-        ++ state.now.sid ∷ (state.now.broadcast_id ++ state.now.pa_sync_state ∷ [])) }
-{
     let [a, b, c, d, e, f] = state.address;
     let [g, h, i] = state.broadcast_id;
-    [
+    let mut out = Octets::of(Vec::with_capacity(alloc, room)?);
+    out.append(&[
         state.source_id,
         state.address_type,
         a,
@@ -73,22 +62,24 @@ fn front_of(state: &ReceiveState) -> [u8; 13]
         h,
         i,
         state.pa_sync_state,
-    ]
+        number_of(&state.encryption),
+    ])?;
+    if let Encryption::BadCode(code) = &state.encryption {
+        out.append(code)?;
+    }
+    out.push(count)?;
+    Ok(out)
 }
 
-// Puts BIG_Encryption at the end, and the Bad_Code where there is one.
-fn put_encryption(out: &mut Octets, encryption: &Encryption) -> Result<(), Memory>
-    ensures fields { OnOk result (out.new ≡ out.old ++ number_of encryption.now ∷ code_of encryption.now) }
-    ensures width { OnOk result (length (code_of encryption.now) ≡ code_width (number_of encryption.now)) }
+// BIG_Encryption.
+fn number_of(encryption: &Encryption) -> u8
+    ensures { result ≡ number_of encryption.now }
 {
     match encryption {
-        Encryption::None => out.push(0),
-        Encryption::CodeRequired => out.push(1),
-        Encryption::Decrypting => out.push(2),
-        Encryption::BadCode(code) => {
-            out.push(3)?;
-            out.append(code)
-        }
+        Encryption::None => 0,
+        Encryption::CodeRequired => 1,
+        Encryption::Decrypting => 2,
+        Encryption::BadCode(_code) => 3,
     }
 }
 
