@@ -78,22 +78,22 @@ fn put_wish(
     ensures count { OnOk result (length wishes.new ≡ max (length wishes.old) (place + 1)) }
 {
     if place == wishes.count() {
-        let metadata = Octets::copy(alloc, metadata)?;
-        return wishes.push(Wish {
-            bis_sync: bits,
-            metadata,
-        });
+        return push_wish(alloc, wishes, bits, metadata);
     }
-    let empty = Wish {
+    wishes.set(place, bits, metadata)
+}
+
+// Puts what is wanted of a subgroup at the end.
+#[inline(never)]
+fn push_wish(alloc: Global, wishes: &mut Wishes, bits: u32, metadata: &[u8]) -> Result<(), Memory>
+    requires { length wishes.old < 255 }
+    ensures { OnOk result (wishes.new ≡ wishes.old ++ record { bis_sync = bits; metadata = metadata.now } ∷ []) }
+{
+    let metadata = Octets::copy(alloc, metadata)?;
+    wishes.push(Wish {
         bis_sync: bits,
-        metadata: Octets::new(alloc),
-    };
-    let mut wish = wishes.replace(place, empty);
-    wish.bis_sync = bits;
-    wish.metadata.clear();
-    wish.metadata.append(metadata)?;
-    wishes.replace(place, wish);
-    Ok(())
+        metadata,
+    })
 }
 
 // The lowest stream index that stands in two of so many subgroups.

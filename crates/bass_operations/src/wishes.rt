@@ -65,13 +65,14 @@ impl Wishes {
         self.list.item(i)
     }
 
-    // Puts a wish in the place of the one at place `i`, from 0, which is the answer. It takes no memory.
-    pub(crate) fn replace(&mut self, i: usize, item: Wish) -> Wish
+    // Sets the wish at place `i`, from 0, in its memory. All other wishes stay.
+    pub(crate) fn set(&mut self, i: usize, bits: u32, metadata: &[u8]) -> Result<(), Memory>
         requires { i < length self.old }
-        ensures was { slice_get self.old i ≡ Some result }
-        ensures is { self.new ≡ slice_set self.old i item }
+        ensures ok { OnOk result (self.new ≡ slice_set self.old i (record { bis_sync = bits; metadata = metadata.now })) }
     {
-        self.list.replace(i, item)
+        let wish = self.list.item_mut(i);
+        wish.bis_sync = bits;
+        wish.metadata.set(metadata)
     }
 
     // Keeps the first `count` wishes, or all where there are fewer. It takes no memory.

@@ -1,10 +1,11 @@
-ghost use Rattle.std.specs.Prelude.{◌≡◌, ◌<◌, ◌++◌, ◌∷◌, [], length, slice_get, slice_set, take, Some, OnOk, OnErr};
+ghost use Rattle.std.specs.Prelude.{◌≡◌, ◌<◌, ◌++◌, ◌∷◌, [], length, slice_get, take, Some, OnOk, OnErr};
+ghost use Rattle.std.specs.Borrow.{sem};
+ghost use Rattle.bcast_base.specs.Lending.{LendsItem};
 
 use crate::memory::Memory;
 use crate::octets::Octets;
 use std::alloc::Global;
 use std::marker::Model;
-use std::mem::replace;
 
 /// A list that keeps the allocator that it was made with. Places count from 0.
 #[derive(Drop)]
@@ -38,15 +39,6 @@ impl<T: Drop> Items<T> {
         Ok(self.items.push(item)?)
     }
 
-    /// Puts an item in the place of the one at place `i`, from 0, which is the answer. It takes no memory.
-    pub fn replace(&mut self, i: usize, item: T) -> T
-        requires { i < length self.old }
-        ensures was { slice_get self.old i ≡ Some result }
-        ensures is { self.new ≡ slice_set self.old i item }
-    {
-        replace(&mut self.items[i], item)
-    }
-
     /// Keeps the first `count` items, or all where there are fewer. It takes no memory.
     pub fn truncate(&mut self, count: usize)
         ensures { self.new ≡ take count self.old }
@@ -67,6 +59,15 @@ impl<T: Drop> Items<T> {
         ensures { slice_get self.now i ≡ Some result.now }
     {
         &self.items[i]
+    }
+
+    /// The item at place `i`, from 0, to be written to.
+    pub fn item_mut(&mut self, i: usize) -> &mut T
+        requires { i < length self.old }
+        ensures* lends { sem 𝓛 (LendsItem T.row self.entry i result) }
+        ensures value { slice_get self.old i ≡ Some result.now }
+    {
+        &mut self.items[i]
     }
 
     /// The items in order.

@@ -88,6 +88,19 @@ impl Octets {
         self.octets.clear();
     }
 
+    /// Makes them these octets, in the memory that they have where it is enough. No octets take none.
+    pub fn set(&mut self, from: &[u8]) -> Result<(), Memory>
+        ensures ok { OnOk result (self.new ≡ from.now) }
+        ensures memory { OnErr result (0 < length from.now) }
+    {
+        if self.octets.len() == from.len() {
+            self.octets.as_mut_slice().copy_from_slice(from);
+            return Ok(());
+        }
+        self.octets.clear();
+        Ok(self.octets.extend_from_slice(from)?)
+    }
+
     /// The same octets in memory of the same allocator. No octets take none.
     pub fn copy_again(&self) -> Result<Octets, Memory>
         ensures { MatchResult result (λ octets. octets ≡ self.now) (λ _. 0 < length self.now) }

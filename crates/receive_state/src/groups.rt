@@ -8,7 +8,6 @@ use crate::fields::{ShortAt, octet_of, octets_of};
 use crate::state::{GroupState, GroupStates};
 use bcast_base::{Memory, Octets, subgroup_at};
 use std::alloc::Global;
-use std::mem::replace;
 
 // The octets behind so many subgroups at the front of `octets`, the last octets of `whole`, or the place of the field that
 // passes the end.
@@ -36,29 +35,28 @@ fn group_end<'a>(whole: &[u8], octets: &'a [u8]) -> Result<&'a [u8], ShortAt>
     Ok(rest)
 }
 
-// What is told of so many subgroups, in the memory of earlier ones, which are given away.
+// Puts what is told of so many subgroups in the place of earlier ones, in their memory. Memory is wanted only where there is one.
 pub(crate) fn read_groups(
     alloc: Global,
-    spare: &mut GroupStates,
+    groups: &mut GroupStates,
     count: u8,
     octets: &[u8],
-) -> Result<GroupStates, Memory>
+) -> Result<(), Memory>
     requires { is_some (subgroups_in count octets.now) ≡ true }
-    ensures ok { IfOk result (λ groups. groups_of count octets.now ≡ Some groups) }
+    ensures ok { OnOk result (groups_of count octets.now ≡ Some groups.new) }
     ensures err { OnErr result (0 < count) }
 {
     let most = usize::from(count);
-    let mut groups = replace(spare, GroupStates::new(alloc));
     groups.truncate(most);
     let mut rest = octets;
     'groups: for place in 0..most {
         let Some((group, after)) = subgroup_at(rest) else {
             unreachable!()
         };
-        put_group(alloc, &mut groups, place, group.bits, group.metadata)?;
+        put_group(alloc, groups, place, group.bits, group.metadata)?;
         rest = after;
     }
-    Ok(groups)
+    Ok(())
 }
 
 // Puts what is told of a subgroup at a place: in the memory of what stands there, or at the end.
@@ -75,20 +73,26 @@ fn put_group(
     ensures count { OnOk result (length groups.new ≡ max (length groups.old) (place + 1)) }
 {
     if place == groups.count() {
-        let metadata = Octets::copy(alloc, metadata)?;
-        return groups.push(GroupState {
-            bis_sync_state: bits,
-            metadata,
-        });
+        return push_group(alloc, groups, bits, metadata);
     }
-    let empty = GroupState {
-        bis_sync_state: bits,
-        metadata: Octets::new(alloc),
-    };
-    let mut group = groups.replace(place, empty);
+    let group = groups.item_mut(place);
     group.bis_sync_state = bits;
-    group.metadata.clear();
-    group.metadata.append(metadata)?;
-    groups.replace(place, group);
-    Ok(())
+    group.metadata.set(metadata)
+}
+
+// Puts what is told of a subgroup at the end.
+#[inline(never)]
+fn push_group(
+    alloc: Global,
+    groups: &mut GroupStates,
+    bits: u32,
+    metadata: &[u8],
+) -> Result<(), Memory>
+    ensures { OnOk result (groups.new ≡ groups.old ++ record { bis_sync_state = bits; metadata = metadata.now } ∷ []) }
+{
+    let metadata = Octets::copy(alloc, metadata)?;
+    groups.push(GroupState {
+        bis_sync_state: bits,
+        metadata,
+    })
 }

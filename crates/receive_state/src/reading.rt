@@ -13,6 +13,7 @@ use crate::groups::{groups_end, read_groups};
 use crate::state::{Encryption, GroupStates, ReceiveState};
 use bcast_base::{Memory, place_of, reserved_subgroup};
 use std::alloc::Global;
+use std::mem::replace;
 
 // Places of fields that may have a reserved value: the address type behind the Source_ID, the SID behind an address of 6
 // octets, PA_Sync_State behind a Broadcast_ID of 3, and BIG_Encryption.
@@ -183,6 +184,7 @@ fn reserved_in_head(lent: &LentState<'_>) -> Option<usize>
 }
 
 // The state in memory of its own.
+#[inline(always)]
 fn own_state(
     alloc: Global,
     spare: &mut GroupStates,
@@ -206,20 +208,38 @@ fn own_state(
       groups = state.groups;
     }) }
 {
-    let address = array_of(lent.address);
-    let broadcast_id = array_of(lent.broadcast_id);
-    let encryption = own_encryption(lent.encryption, lent.bad_code);
-    let groups = read_groups(alloc, spare, lent.count, lent.groups)?;
-    Ok(ReceiveState {
+    read_groups(alloc, spare, lent.count, lent.groups)?;
+    Ok(with_groups(lent, replace(spare, GroupStates::new(alloc))))
+}
+
+// The state of these fields and subgroups.
+#[inline(always)]
+fn with_groups(lent: &LentState<'_>, groups: GroupStates) -> ReceiveState
+    requires address { length lent.now.address.now ≡ 6 }
+    requires broadcast_id { length lent.now.broadcast_id.now ≡ 3 }
+    requires bad_code { length lent.now.bad_code.now ≡ code_width lent.now.encryption }
+    requires encryption { lent.now.encryption ≤ 3 }
+    ensures { result ≡ record {
+      source_id = lent.now.source_id;
+      address_type = lent.now.address_type;
+      address = lent.now.address.now;
+      sid = lent.now.sid;
+      broadcast_id = lent.now.broadcast_id.now;
+      pa_sync_state = lent.now.pa_sync_state;
+      encryption = encryption_of lent.now.encryption lent.now.bad_code.now;
+      groups = groups;
+    } }
+{
+    ReceiveState {
         source_id: lent.source_id,
         address_type: lent.address_type,
-        address,
+        address: array_of(lent.address),
         sid: lent.sid,
-        broadcast_id,
+        broadcast_id: array_of(lent.broadcast_id),
         pa_sync_state: lent.pa_sync_state,
-        encryption,
+        encryption: own_encryption(lent.encryption, lent.bad_code),
         groups,
-    })
+    }
 }
 
 // The octets as an array; there are so many.
