@@ -9,6 +9,7 @@ ghost use Rattle.scenario_sink.specs.State.Untold.{its_mtu};
 
 use bcast_base::{Bis, Memory};
 use big_info::Limits;
+use delegator_control::KeptBase;
 use delegator_machine::Delegator;
 use isoal_base::Hearing;
 use multi_assist::Links;
@@ -30,6 +31,8 @@ pub struct LinkedSink {
     pub(crate) links: Links,
     pub(crate) slots: u8,
     pub(crate) source: Option<u8>,
+    /// The BASE of the last train.
+    pub(crate) kept: KeptBase,
     ghost fits: { delegator.scan.setup.slots ≡ slots },
     ghost few: { slots ≤ 8 },
 }
@@ -73,6 +76,7 @@ impl LinkedSink {
             links,
             slots,
             source: None,
+            kept: KeptBase::new(alloc),
         })
     }
 

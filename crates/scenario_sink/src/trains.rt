@@ -72,9 +72,15 @@ impl LinkedSink {
         ensures lives { (source : Source) (history : SinkHistory) → IsFrom origin source → IsSink history self.old
             → OnOk result (IsSink (after_line source (steps.Train 0 now ext.now adv.now acad.now) history) self.new) }
     {
-        let heard = self
-            .delegator
-            .train(origin.address_type, origin.sid, ext, adv, acad, now)?;
+        let heard = self.delegator.train_keeping(
+            &mut self.kept,
+            origin.address_type,
+            origin.sid,
+            ext,
+            adv,
+            acad,
+            now,
+        )?;
         self.gather()?;
         if !is_followed(&heard) {
             return Ok(heard);

@@ -25,8 +25,8 @@ returns-then-not-is_followed-clause-lives c source history from lives =
       stands = of_source (if follows (outcome_by history.made.setup (snapshot_in history.made history.calls_made) given) then Some source.number else history.source)
           (after_call (stepped (train_heard given)) history) _ _ (c.in_ok-gather.ensures.stands (stepped (train_heard given)) history
           (steps (train_heard given) history c.args.self.now.delegator _ _ refl tt lives.stands
-          (subst (λ t. StandsFor history.made.setup (control (train_heard t) ∷ took.taken) c.train.new.self) train
-          (c.in_ok-heard.ensures.stands history.made.setup took.taken took.stands)) c.train.ensures.settings));
+          (subst (λ t. StandsFor history.made.setup (control (train_heard t) ∷ took.taken) c.train_keeping.new.self) train
+          (c.in_ok-heard.ensures.stands history.made.setup took.taken took.stands)) c.train_keeping.ensures.settings));
       source_is = c.gather.ensures.source ∙ lives.source_is ∙ ap (λ b. if b then Some source.number else history.source) followed;
     }
 
@@ -49,7 +49,7 @@ returns-clause-lives c source history from lives =
       stands = of_source (if follows (outcome_by history.made.setup (snapshot_in history.made history.calls_made) given) then Some source.number else history.source)
           (after_call (stepped (train_heard given)) history) _ _ (c.in_ok-gather.ensures.stands (stepped (train_heard given)) history
           (steps (train_heard given) history c.args.self.now.delegator _ _ refl tt lives.stands
-          (subst (λ t. StandsFor history.made.setup (control (train_heard t) ∷ took.taken) c.train.new.self) train
-          (c.in_ok-heard.ensures.stands history.made.setup took.taken took.stands)) c.train.ensures.settings));
+          (subst (λ t. StandsFor history.made.setup (control (train_heard t) ∷ took.taken) c.train_keeping.new.self) train
+          (c.in_ok-heard.ensures.stands history.made.setup took.taken took.stands)) c.train_keeping.ensures.settings));
       source_is = ap Some (sym from.number_is) ∙ ap (λ b. if b then Some source.number else history.source) followed;
     }
