@@ -1,4 +1,4 @@
-ghost use Rattle.std.specs.Prelude.{◌≡◌, ◌≤◌, ◌++◌, ◌∷◌, [], length, map, Option, IfOk, IfSome, IsSome, MatchResult, OnOk};
+ghost use Rattle.std.specs.Prelude.{◌≡◌, ◌≤◌, ◌++◌, length, map, Option, IfOk, IfSome, IsSome, MatchResult, OnOk};
 ghost use Rattle.std.specs.List.{flat_map, AllByRecursion};
 ghost use Rattle.std.specs.Option.{option_copied};
 ghost use Rattle.bcast_base.specs.Layout.{laid};
@@ -11,6 +11,9 @@ use std::alloc::Global;
 
 /// The octets that are taken for a state at once: more than most have.
 const ROOM: usize = 64;
+
+/// The place, in octets from 0, of a Bad_Code. Where there is none, the number of subgroups stands there.
+const BAD_CODE_PLACE: usize = 14;
 
 /// The octets of a receive state that fits, or none where there is no source (Broadcast Audio Scan Service 1.0, section
 /// 3.2). No source takes no memory.
@@ -45,9 +48,9 @@ pub fn begin_state(
     ensures prefix { IfOk result (λ octets. octets ≡ laid (prefix_fields (fields_of state.now) count)) }
     ensures code { OnOk result (length (code_of state.now.encryption) ≡ code_width (number_of state.now.encryption)) }
 {
+    let mut out = Octets::of(Vec::with_capacity(alloc, room)?);
     let [a, b, c, d, e, f] = state.address;
     let [g, h, i] = state.broadcast_id;
-    let mut out = Octets::of(Vec::with_capacity(alloc, room)?);
     out.append(&[
         state.source_id,
         state.address_type,
@@ -63,11 +66,13 @@ pub fn begin_state(
         i,
         state.pa_sync_state,
         number_of(&state.encryption),
+        count,
     ])?;
     if let Encryption::BadCode(code) = &state.encryption {
+        out.truncate(BAD_CODE_PLACE);
         out.append(code)?;
+        out.push(count)?;
     }
-    out.push(count)?;
     Ok(out)
 }
 
