@@ -231,3 +231,14 @@ pdu-is content = grind (arith, llid, payload_of, end, fragment, framed, control,
 
 pub read_of-pdu : (max_pdu : ℕ) (content : Content) → length (payload_of content) ≤ max_pdu → read_of max_pdu (pdu content) ≡ Ok content
 read_of-pdu max_pdu content h = read_of-layout max_pdu content (pdu content) (pdu-is content, omega arith)
+
+-- ---- a framed PDU that was read
+
+pub read_long : (max_pdu : ℕ) (octets : List ℕ) (content : Content) → read_of max_pdu octets ≡ Ok content → 2 ≤ length octets
+unfolding read_of
+read_long max_pdu [] content e = grind arith
+read_long max_pdu (header ∷ []) content e = grind arith
+read_long max_pdu (header ∷ count ∷ payload) content e = omega arith
+
+pub read_parts : (max_pdu : ℕ) (octets : List ℕ) (parts : List Part) → read_of max_pdu octets ≡ Ok (framed parts) → parts_of (drop 2 octets) ≡ Ok parts
+read_parts max_pdu octets parts e = grind (arith, drop, parts_of, framed, read_of-encoded, parts_from-layout)

@@ -1,7 +1,8 @@
-ghost use Rattle.std.specs.Prelude.{◌≡◌, ◌<◌, ◌≤◌, ◌-◌, length, take, drop, slice_index, Some, None, IfOk, IfErr};
+ghost use Rattle.std.specs.Prelude.{◌≡◌, ◌<◌, ◌≤◌, ◌-◌, length, take, drop, slice_index, ℕ, List, Some, None, Ok, IfOk, IfErr};
+ghost use Rattle.iso_pdu.specs.Layout.{Part, framed};
 ghost use Rattle.std.specs.Result.{result_err};
 ghost use Rattle.bcast_base.specs.Numbers.{sum_from};
-ghost use Rattle.iso_pdu.specs.Reading.{part_at, fault_at, parts_from, parts_of, IsPassed};
+ghost use Rattle.iso_pdu.specs.Reading.{part_at, fault_at, parts_from, parts_of, read_of, IsPassed};
 ghost use Rattle.iso_pdu.specs.State.Views.{part_of};
 
 use crate::fault::PduFault;
@@ -50,6 +51,16 @@ impl<'a> Segments<'a> {
         check_segments(payload)?;
         Ok(Segments { rest: payload })
     }
+
+    /// The segments of a framed PDU that was read before. Its faults are not looked for again.
+    pub fn of_read(pdu: &'a [u8]) -> Segments<'a>
+        requires { (max_pdu : ℕ) × (parts : List Part) × (read_of max_pdu pdu.now ≡ Ok (framed parts)) }
+        ensures { (max_pdu : ℕ) (parts : List Part) → read_of max_pdu pdu.now ≡ Ok (framed parts) → result ≡ parts }
+    {
+        Segments {
+            rest: behind_header(pdu),
+        }
+    }
 }
 
 impl<'a> Iterator for Segments<'a> {
@@ -71,6 +82,14 @@ impl<'a> Iterator for Segments<'a> {
         self.rest = others;
         Some(segment)
     }
+}
+
+// What stands behind the header and the Length of a PDU.
+fn behind_header(pdu: &[u8]) -> &[u8]
+    requires { 2 ≤ length pdu.now }
+    ensures { result.now ≡ drop 2 pdu.now }
+{
+    &pdu[2..]
 }
 
 // The first fault of the segments.

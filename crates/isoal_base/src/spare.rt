@@ -67,6 +67,10 @@ pub(crate) fn refill(octets: &mut Octets, from: &[u8]) -> Result<(), Memory>
     ensures ok { OnOk result (octets.new ≡ from.now) }
     ensures memory { OnErr result (0 < length from.now) }
 {
+    if octets.as_slice().len() == from.len() {
+        octets.as_mut_slice().copy_from_slice(from);
+        return Ok(());
+    }
     octets.clear();
     octets.append(from)
 }

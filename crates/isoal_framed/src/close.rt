@@ -1,5 +1,5 @@
 //! The tokens of an event, number by number.
-ghost use Rattle.std.specs.Prelude.{◌≡◌, ◌≤◌, ◌<◌, ◌+◌, ◌^◌, ◌++◌, length, map, take, drop, replicate, vec_len, None};
+ghost use Rattle.std.specs.Prelude.{◌≡◌, ◌≤◌, ◌<◌, ◌+◌, ◌^◌, ◌++◌, length, nat_lt, is_some, map, take, drop, replicate, vec_len, None};
 ghost use Rattle.std.specs.List.{flat_map};
 ghost use Rattle.isoal_base.specs.Hearing.{read_as};
 ghost use Rattle.isoal_framed.specs.Tokens.{segmented, token_of, tokens_of};
@@ -12,7 +12,7 @@ ghost use Rattle.isoal_framed.specs.State.Windows.{HandsOn, CausedOn};
 use crate::store::Store;
 use crate::stream::Stream;
 use crate::undecided::UndecidedRun;
-use iso_pdu::{Pdu, Segments, read_pdu};
+use iso_pdu::Segments;
 use unit_outlets::{TakerFault, UnitTaker};
 
 /// Takes the tokens of the first `count` places, which are numbers of this event, and puts these places, empty, at the
@@ -46,7 +46,6 @@ pub(crate) fn take_places<T: UnitTaker>(
             stream,
             event,
             store.places.first(),
-            stream.group.info.max_pdu,
             &mut store.undecided,
             handed,
             taker,
@@ -61,27 +60,26 @@ fn take_pdu<T: UnitTaker>(
     stream: &Stream,
     event: u64,
     pdu: &[u8],
-    max_pdu: u8,
     undecided: &mut UndecidedRun,
     so_far: Result<(), TakerFault>,
     taker: &mut T,
 ) -> Result<(), TakerFault>
     requires first { stream.now.first ≤ event }
     requires event { event < 2 ^ 39 }
+    requires read { is_some (read_as segmented stream.now.group.info.max_pdu pdu.now) ≡ nat_lt 0 (length pdu.now) }
     ensures room { vec_len undecided.new.octets ≡ vec_len undecided.old.octets }
     ensures run { run_in undecided.new ≡ run_after (vec_len undecided.old.octets) (run_in undecided.old)
-        (tokens_of (stay_of stream.now) event (read_as segmented max_pdu pdu.now)) }
+        (tokens_of (stay_of stream.now) event (read_as segmented stream.now.group.info.max_pdu pdu.now)) }
     ensures hands { HandsOn (hands (vec_len undecided.old.octets) stream.now.bis (run_in undecided.old)
-        (tokens_of (stay_of stream.now) event (read_as segmented max_pdu pdu.now)))
+        (tokens_of (stay_of stream.now) event (read_as segmented stream.now.group.info.max_pdu pdu.now)))
         so_far (T.calls taker.old) (T.calls taker.new) result }
     ensures cause { CausedOn so_far (T.counts taker.old) (T.counts taker.new) result }
 {
-    match read_pdu(pdu, max_pdu) {
-        Ok(Pdu::Framed(segments)) => take_segments(
-            stream, event, segments, undecided, so_far, taker,
-        ),
-        _ => undecided.miss(stream.bis, so_far, taker),
+    if pdu.is_empty() {
+        return undecided.miss(stream.bis, so_far, taker);
     }
+    let segments = Segments::of_read(pdu);
+    take_segments(stream, event, segments, undecided, so_far, taker)
 }
 
 /// Takes segments, one behind the other.

@@ -135,7 +135,8 @@ impl Places {
     /// What is kept at the first place.
     pub(crate) fn first(&self) -> &[u8]
         requires { 0 < length self.now.ring.items }
-        ensures { read_as segmented self.now.max_pdu result.now ≡ slice_index_or (kept_of self.now) 0 None }
+        ensures kept { read_as segmented self.now.max_pdu result.now ≡ slice_index_or (kept_of self.now) 0 None }
+        ensures read { is_some (read_as segmented self.now.max_pdu result.now) ≡ nat_lt 0 (length result.now) }
     {
         match self.ring.get(0) {
             Some(place) => place.pdu(),
