@@ -23,7 +23,7 @@ least_some : (sent count : ℕ) → 1 ≤ count → overhead sent + 1 ≤ least_
 least_some sent count some = grind (arith, cond-false, ne_eqb)
 
 -- the tests of the greedy filling, each with what it leads to
-short : (anchor room sent : ℕ) (unit : Timed) → room < least_room sent (length unit.octets) → act_for anchor room sent unit ≡ ends
+pub short : (anchor room sent : ℕ) (unit : Timed) → room < least_room sent (length unit.octets) → act_for anchor room sent unit ≡ ends
 short anchor room sent unit below = search (cond-true, lt-ltb)
 
 roomy_is : (anchor room sent : ℕ) (unit : Timed) → least_room sent (length unit.octets) ≤ room

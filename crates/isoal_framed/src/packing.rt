@@ -14,6 +14,9 @@ use iso_pdu::FramedPdu;
 use isoal_base::LaidPdus;
 use std::collections::VecDeque;
 
+/// How many octets every segment takes besides those of its unit, at the least.
+const LEAST_OVERHEAD: u8 = 2;
+
 /// An event that is being laid: the PDU that is filled, how many units of the queue are wholly sent or left out, how many
 /// octets of the next one are sent, and the times of the units left out.
 #[derive(Drop)]
@@ -35,10 +38,14 @@ fn put_next(queue: &VecDeque<Unit>, anchor: u64, packing: &mut Packing) -> Resul
         → length queue.now.items - packing.new.past + room_in packing.new.pdu < length queue.now.items - packing.old.past + room_in
         packing.old.pdu) }
 {
+    let room = packing.pdu.room();
+    if room < LEAST_OVERHEAD {
+        return Ok(false);
+    }
     let Some(unit) = due(queue, packing.past) else {
         return Ok(false);
     };
-    match next_act(unit, packing.sent, anchor, packing.pdu.room()) {
+    match next_act(unit, packing.sent, anchor, room) {
         Next::Ends => Ok(false),
         Next::LeavesOut => {
             packing.stale.push(unit.time)?;
