@@ -1,8 +1,10 @@
--- The places of a window: filled with empty ones, and turned by one.
-use Rattle.isoal_framed.proofs.Prelude.{is_some, true, Some, subst, false≢true, lt-ltb, ℕ, suc, ◌≡◌, ◌+◌, ◌-◌, ◌<◌, ◌≤◌, List, [], ◌∷◌, ◌++◌, map, length, take, drop, replicate, get_or, Option, None, ◌⊎◌, inl, inr, refl, sym, ap, ◌∙◌, arith, append_assoc, length-append, flat_map, slice_get, none-some, slice_get-get_or, map-append, drop-map, length-map, length-replicate, length-drop, replicate-append-replicate, drop-append-le, drop-drop, read_as, segmented}
-use Rattle.std.proofs.Math.Seq.{drop-cons}
+-- The places of a window: filled with empty ones, cleared one by one, and turned.
+use Rattle.isoal_framed.proofs.Prelude.{is_some, true, Some, subst, false≢true, lt-ltb, ℕ, ◌≡◌, ◌+◌, ◌-◌, ◌<◌, List, [], ◌∷◌, ◌++◌, map, length, take, drop, replicate, get_or, Option, None, inl, inr, refl, sym, ap, ◌∙◌, arith, append_assoc, length-append, flat_map, slice_get, none-some, map-append, drop-map, length-map, length-replicate, replicate-append-replicate, take-append-drop, read_as, segmented}
+use Rattle.std.proofs.Math.ListN.{set}
+use Rattle.std.proofs.lemmas.Grind.{drop_more_same}
+use Rattle.std.proofs.lemmas.List.{drop_more, drop-set-lt, get_or-drop, get_or-set_same, length-set, take-map, take-set, take_more}
 use Rattle.std.proofs.lemmas.List.Elements.{All-push}
-use Rattle.std.proofs.lemmas.Option.{get_or_from_slice_get}
+use Rattle.std.proofs.lemmas.Option.{get_or_from_slice_get, slice_get_cases}
 use Rattle.std.specs.List.{All}
 use Rattle.circular_buffer.specs.Buffer.{keep_last}
 use Rattle.iso_pdu.specs.Reading.{read_of}
@@ -33,47 +35,62 @@ filled_more entry items item capacity n before below here =
 pub filled_count : {A B : Type 0} (entry : A → Option B) (items : List A) (n : ℕ) → map entry items ≡ replicate n None → length items ≡ n
 filled_count entry items n is = sym (length-map items entry) ∙ ap length is ∙ length-replicate n None
 
-pub turned : {A B : Type 0} (entry : A → Option B) (items : List A) (item : A) (capacity : ℕ) → length items ≡ capacity → 0 < capacity → entry item ≡ None
-    → map entry (keep_last capacity (drop 1 items ++ item ∷ [])) ≡ drop 1 (map entry items) ++ None ∷ []
-turned entry items item capacity full some here = grind (arith, length-drop, kept_last, map-append, drop-map)
+-- an item below the length is there
+pub not_there : {A : Type 0} (items : List A) (index : ℕ) → index < length items → slice_get items index ≡ None → ⊥
+not_there items index below none = elim (slice_get_cases items index).1 [
+  | inl there ↦ none-some there.0 (sym none ∙ there.2)
+  | inr past ↦ absurd (omega arith)
+]
 
--- after several turns
-pub turned_more : {A : Type 0} (was now next : List (Option A)) (n count : ℕ) → now ≡ drop n was ++ replicate n None → n < length was
-    → next ≡ drop 1 now ++ None ∷ [] → next ≡ drop (n + 1) was ++ replicate (n + 1) None
-turned_more was now next n count before below after =
-    let some : 1 ≤ length (drop n was) = omega (arith, length-drop n was) in
-    after ∙ ap (λ xs. drop 1 xs ++ None ∷ []) before
-    ∙ ap (λ xs. xs ++ None ∷ []) (drop-append-le 1 (drop n was) (replicate n None) some)
-    ∙ append_assoc (drop 1 (drop n was)) (replicate n None) (None ∷ [])
-    ∙ ap (λ xs. xs ++ (replicate n None ++ None ∷ [])) (drop-drop 1 n was)
-    ∙ ap (λ xs. drop (n + 1) was ++ xs) (replicate-append-replicate n 1 None)
+-- ---- a ring whose first places were put at the end
+
+as_many : {A : Type 0} (was now : List A) (n : ℕ) → now ≡ drop n was ++ take n was → length now ≡ length was
+as_many was now n is =
+    omega (arith, ap length is, length-append (drop n was) (take n was), ap length (take-append-drop n was), length-append (take n was) (drop n was))
+
+pub none_out : {A : Type 0} (was now : List A) (n : ℕ) → now ≡ drop n was ++ take n was → n < length was → slice_get now 0 ≡ None → ⊥
+none_out was now n is below none = not_there now 0 (omega (arith, as_many was now n is)) none
+
+-- one more is put at the end
+pub turned_more : {A : Type 0} (was now : List A) (n capacity : ℕ) (item : A) → now ≡ drop n was ++ take n was → n < length was → length was ≡ capacity
+    → slice_get now 0 ≡ Some item → keep_last capacity (drop 1 now ++ item ∷ []) ≡ drop (n + 1) was ++ take (n + 1) was
+turned_more was now n capacity item before below full first =
+    let split : now ≡ get_or was n item ∷ (drop (n + 1) was ++ take n was) = before ∙ ap (λ xs. xs ++ take n was) (drop_more was n item below) in
+    let same : get_or was n item ≡ item = sym (ap (λ xs. get_or xs 0 item) split) ∙ get_or_from_slice_get now 0 item item first in
+    ap (λ xs. keep_last capacity (drop 1 xs ++ item ∷ [])) split
+    ∙ kept_last (drop (n + 1) was ++ take n was) item capacity (omega (arith, ap length split, as_many was now n before))
+    ∙ append_assoc (drop (n + 1) was) (take n was) (item ∷ [])
+    ∙ ap (λ x. drop (n + 1) was ++ (take n was ++ x ∷ [])) (sym same)
+    ∙ ap (λ xs. drop (n + 1) was ++ xs) (sym (take_more was n item below))
+
+-- what is kept at the places
+pub kept_turned : {A B : Type 0} (entry : A → B) (was now : List A) (n : ℕ) → now ≡ drop n was ++ take n was
+    → map entry now ≡ drop n (map entry was) ++ take n (map entry was)
+kept_turned entry was now n is = grind (arith, map-append, drop-map, take-map)
+
+-- ---- places that are cleared one by one
+
+-- one place more is cleared
+pub cleared_more : {A : Type 0} (now : List (Option A)) (n : ℕ) → take n now ≡ replicate n None → n < length now
+    → take (n + 1) (set now n None) ≡ replicate (n + 1) None
+cleared_more now n before below =
+    take_more (set now n None) n None (rw length-set below)
+    ∙ ap (λ xs. xs ++ get_or (set now n None) n None ∷ []) (take-set now n None ∙ before)
+    ∙ ap (λ x. replicate n None ++ x ∷ []) (get_or-set_same now n None None below)
+    ∙ replicate-append-replicate n 1 None
 
 -- the first of what is left
-pub first_left : {A : Type 0} (was now : List (Option A)) (n : ℕ) → now ≡ drop n was ++ replicate n None → n < length was
-    → get_or now 0 None ≡ get_or was n None
-first_left was now n before below = cc (drop-cons was n None below)
+pub first_left : {A : Type 0} (was now : List (Option A)) (n : ℕ) → drop n now ≡ drop n was → get_or now n None ≡ get_or was n None
+first_left was now n same = let none : n + 0 ≡ n = omega arith in cc (get_or-drop n now 0 None, get_or-drop n was 0 None)
+
+-- and what is left behind it
+pub left_behind : {A : Type 0} (was now : List (Option A)) (n : ℕ) → drop n now ≡ drop n was → drop (n + 1) (set now n None) ≡ drop (n + 1) was
+left_behind was now n same = drop-set-lt (n + 1) now n None (omega arith) ∙ drop_more_same now was n same
 
 -- what is left to take, from its first on
 pub left_more : {A B : Type 0} (tokens : Option A → List B) (was : List (Option A)) (n count left : ℕ) → n < length was → count ≡ left + 1
     → flat_map tokens (take count (drop n was)) ≡ tokens (get_or was n None) ++ flat_map tokens (take left (drop (n + 1) was))
-left_more tokens was n count left below is =
-    let more : left + 1 ≡ suc left = omega arith in
-    let next : suc n ≡ n + 1 = omega arith in
-    ap (λ k. flat_map tokens (take k (drop n was))) (is ∙ more)
-    ∙ ap (λ xs. flat_map tokens (take (suc left) xs)) (drop-cons was n None below)
-    ∙ ap (λ k. tokens (get_or was n None) ++ flat_map tokens (take left (drop k was))) next
-
-cases_item : {A : Type 0} (items : List A) → (items ≡ []) ⊎ ((x : A) × (rest : List A) × (items ≡ x ∷ rest))
-cases_item [] = inl refl
-cases_item (x ∷ items) = inr (x, items, refl)
-
--- an item below the length is there
-pub not_there : {A : Type 0} (items : List A) (index : ℕ) → index < length items → slice_get items index ≡ None → ⊥
-not_there items index below none =
-    elim (cases_item items) [
-      | inl nothing ↦ (let short : length items ≡ 0 = ap length nothing in absurd (omega arith))
-      | inr first ↦ none-some (get_or items index first.0) (sym none ∙ slice_get-get_or items index first.0 below)
-    ]
+left_more tokens was n count left below is = grind (arith, drop_more)
 
 -- ---- what stands at a place is a framed PDU, or nothing
 
@@ -89,8 +106,3 @@ pdu_there max_pdu count octets (x ∷ pdu) same long framed =
 pub all_last : {A : Type 0} (P : A → Type 0) (items : List A) (item : A) (capacity : ℕ) → length items < capacity → All P items → P item
     → All P (keep_last capacity (items ++ item ∷ []))
 all_last P items item capacity room all here = subst (All P) (sym (kept_last items item capacity room)) (All-push P items item all here)
-
--- an item that was read
-pub item_has : {A : Type 0} (P : A → Type 0) (items : List A) (index : ℕ) (item : A) → index < length items → slice_get items index ≡ Some item
-    → All P items → P item
-item_has P items index item below is all = subst P (get_or_from_slice_get items index item item is) (all index item below)

@@ -41,17 +41,18 @@ pub(crate) fn take_places<T: UnitTaker>(
     ensures cause { CausedOn (Ok tt) (T.counts taker.old) (T.counts taker.new) result }
 {
     let mut handed = Ok(());
-    'places: for _ in 0..count {
+    'places: for index in 0..count {
         handed = take_pdu(
             stream,
             event,
-            store.places.first(),
+            store.places.at(usize::from(index)),
             &mut store.undecided,
             handed,
             taker,
         );
-        store.places.turn();
+        store.places.clear(usize::from(index));
     }
+    store.places.turn(count);
     handed
 }
 

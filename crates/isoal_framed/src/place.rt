@@ -132,29 +132,46 @@ impl Places {
         }
     }
 
-    /// What is kept at the first place.
-    pub(crate) fn first(&self) -> &[u8]
-        requires { 0 < length self.now.ring.items }
-        ensures kept { read_as segmented self.now.max_pdu result.now ≡ slice_index_or (kept_of self.now) 0 None }
+    /// What is kept at this place.
+    pub(crate) fn at(&self, index: usize) -> &[u8]
+        requires { index < length self.now.ring.items }
+        ensures kept { read_as segmented self.now.max_pdu result.now ≡ slice_index_or (kept_of self.now) index None }
         ensures read { is_some (read_as segmented self.now.max_pdu result.now) ≡ nat_lt 0 (length result.now) }
     {
-        match self.ring.get(0) {
+        match self.ring.get(index) {
             Some(place) => place.pdu(),
             None => &[],
         }
     }
 
-    /// Takes the first place out, and puts it back, empty, at the end.
+    /// Keeps nothing more at this place.
     #[inline(always)]
-    pub(crate) fn turn(&mut self)
-        requires { 0 < length self.old.ring.items }
+    pub(crate) fn clear(&mut self, index: usize)
+        requires { index < length self.old.ring.items }
         ensures places { length self.new.ring.items ≡ length self.old.ring.items }
         ensures max_pdu { self.new.max_pdu ≡ self.old.max_pdu }
-        ensures kept { kept_of self.new ≡ drop 1 (kept_of self.old) ++ None ∷ [] }
+        ensures kept { kept_of self.new ≡ slice_set (kept_of self.old) index None }
     {
-        if let Some(mut place) = self.ring.pop_front() {
+        if let Some(place) = self.ring.get_mut(index) {
             place.clear();
-            let _ = self.ring.push_back(place);
+        }
+    }
+
+    /// Takes so many places out at the front, and puts them back at the end.
+    #[inline(always)]
+    pub(crate) fn turn(&mut self, count: u8)
+        requires { count ≤ length self.old.ring.items }
+        ensures places { length self.new.ring.items ≡ length self.old.ring.items }
+        ensures max_pdu { self.new.max_pdu ≡ self.old.max_pdu }
+        ensures kept { kept_of self.new ≡ drop count (kept_of self.old) ++ take count (kept_of self.old) }
+    {
+        if usize::from(count) == self.ring.len() {
+            return;
+        }
+        'places: for _ in 0..count {
+            if let Some(place) = self.ring.pop_front() {
+                let _ = self.ring.push_back(place);
+            }
         }
     }
 }
