@@ -1,5 +1,5 @@
 -- What the loop of `replay` does at a line, put together.
-use Rattle.replay_lines.proofs.Prelude.{◌≡◌, ℕ, ◌+◌, ◌≤◌, Bool, false, List, [], ◌∷◌, length, refl, sym, subst, arith, Option, None, Some, Ok, TextLine, plain, too_long, past, text_limit, Reading, lines_left, Line, LineTooLong, TextTooLong, Account, airs_of, Ending, Machine, steps_of, UnassignedSame, unassigned_line, LinesStand, Comes, ReadsAhead, Ended, as_told, ReadTo, NextIs, RunTo, Refuses, StepHeard, LineRuns, Appends-nothing}
+use Rattle.replay_lines.proofs.Prelude.{◌≡◌, ◌≢◌, ℕ, ◌+◌, ◌≤◌, Bool, false, true, List, [], ◌∷◌, length, refl, sym, subst, arith, Option, None, Some, Ok, TextLine, plain, too_long, past, text_limit, Reading, lines_left, LineRead, Line, LineTooLong, TextTooLong, End, Account, airs_of, Ending, Machine, steps_of, UnassignedSame, unassigned_line, LinesStand, Comes, ReadsAhead, Ended, as_told, ReadTo, TextIs, NextIs, RunTo, Refuses, StepHeard, LineRuns, Appends-nothing}
 use Rattle.transcript_text.specs.declared.refusal.Refusal.TheVariants as refusals
 use Rattle.replay_lines.proofs.ReadingOn.{read_none, comes_of, ahead_of}
 use Rattle.replay_lines.proofs.LineEndings.{ends_refusal}
@@ -29,6 +29,14 @@ module _ {starts : List Account} {history : List TextLine} {left left' kept mid 
 pub line_read : {left left' : Option (List ℕ)} {history : List TextLine} {reader : Reading} (lent : List ℕ)
     → NextIs left left' history reader (Ok Line) → reader.line ≡ Some lent → ReadTo left left' (plain lent ∷ history) reader
 line_read lent n is = grind (arith, plain)
+
+-- no other read is left than the end of the text
+pub ended_at : {left left' : Option (List ℕ)} {history : List TextLine} (reader : Reading) (read : LineRead)
+    → NextIs left left' history reader (Ok read) → read ≢ Line → read ≢ TextTooLong → read ≢ LineTooLong → TextIs left left' history true
+ended_at reader End next no_line no_past no_long = next
+ended_at reader Line next no_line no_past no_long = absurd (no_line refl)
+ended_at reader TextTooLong next no_line no_past no_long = absurd (no_past refl)
+ended_at reader LineTooLong next no_line no_past no_long = absurd (no_long refl)
 
 pub step_line : (may_fail : Bool) (starts : List Account) (history : List TextLine) (line : TextLine) (left left' kept kept' : Option (List ℕ)) (reader : Reading) (machine : Machine) (accounts : List Account)
     (result : Option Ending) → ReadTo left left' (line ∷ history) reader → StepHeard may_fail starts (line ∷ history) left left' kept kept' machine accounts result

@@ -4,7 +4,7 @@ ghost use Rattle.std.specs.Prelude.{Ok, length, map, true, IfNone, IfOk, OnOk, O
 ghost use Rattle.std.specs.Io.KnownBytes.{Keeps};
 ghost use Rattle.bcast_base.specs.Counts.{Rose};
 ghost use Rattle.bcast_io.specs.TextLines.{TextLine, lines_of, plain};
-ghost use Rattle.bcast_io.specs.State.Reading.{lines_left};
+ghost use Rattle.bcast_io.specs.State.Reading.{Reading, lines_left};
 ghost use Rattle.bcast_io.specs.State.Answering.{GoesOn};
 ghost use Rattle.unit_outlets.specs.Account.{Account};
 ghost use Rattle.source_machine.specs.Airs.{airs_of};
@@ -106,22 +106,6 @@ fn run_line<S: ByteSource, K: ByteSink, L: Listener<K>>(
     ensures no_write_fault { result ≢ Some Ending.WriteFault → K.faults sink.new ≡ K.faults sink.old }
 {
     match read_next(reader, source) {
-        Err(Failed) => Some(Ending::ReadFault),
-        Ok(LineRead::End) => Some(end_text(number, machine, text, listener, sink)),
-        Ok(LineRead::TextTooLong) => Some(refuse(
-            number,
-            Refusal::TextTooLong,
-            text,
-            listener,
-            sink,
-        )),
-        Ok(LineRead::LineTooLong) => Some(refuse(
-            number,
-            Refusal::LineTooLong,
-            text,
-            listener,
-            sink,
-        )),
         Ok(LineRead::Line) => hear_step(
             number,
             reader.line(),
@@ -131,6 +115,38 @@ fn run_line<S: ByteSource, K: ByteSink, L: Listener<K>>(
             listener,
             outlets,
         ),
+        Ok(read) => Some(end_reading(number, read, machine, text, listener, sink)),
+        Err(Failed) => Some(Ending::ReadFault),
+    }
+}
+
+/// Ends the run where no further line was lent: the text ends there, or it or its next line is too long.
+#[inline(never)]
+fn end_reading<K: ByteSink, L: Listener<K>>(
+    number: u64,
+    read: LineRead,
+    machine: &Machine,
+    text: &mut Octets,
+    listener: &L,
+    sink: &mut K,
+) -> Ending
+    requires no_line { read ≢ LineRead.Line }
+    ensures ends { (starts : List Account) (lines : List TextLine) (left left' kept : Option (List ℕ)) (accounts : List Account)
+        (reader : Reading) → number ≡ length lines + 1
+        → NextIs left left' lines reader (Ok read) → RunTo starts lines kept (K.contents sink.old) machine.now accounts
+        → Ended airs_of result starts accounts left left' kept (K.contents sink.new) }
+    ensures told { (lines : List TextLine) (left left' : Option (List ℕ)) (start : Listened) (reader : Reading) → number ≡ length lines + 1
+        → NextIs left left' lines reader (Ok read)
+        → HasTold L.row_of start (listened L.told L.rows listener.now sink.old) (tellings lines)
+        → Told L.row_of left left' start (listened L.told L.rows listener.now sink.new) result }
+    ensures never_read_fault { result ≢ Ending.ReadFault }
+    ensures write_fault { result ≡ Ending.WriteFault → Rose (K.faults sink.old) (K.faults sink.new) }
+    ensures no_write_fault { result ≢ Ending.WriteFault → K.faults sink.new ≡ K.faults sink.old }
+{
+    match read {
+        LineRead::TextTooLong => refuse(number, Refusal::TextTooLong, text, listener, sink),
+        LineRead::LineTooLong => refuse(number, Refusal::LineTooLong, text, listener, sink),
+        _ => end_text(number, machine, text, listener, sink),
     }
 }
 
