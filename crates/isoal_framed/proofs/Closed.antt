@@ -1,6 +1,5 @@
 -- The tokens of the closed events: a hear changes nothing of them, and a close adds those of an event.
-use Rattle.isoal_framed.proofs.Prelude.{ℕ, zero, suc, ◌≡◌, ◌+◌, ◌-◌, ◌*◌, ◌/◌, ◌≤◌, ◌<◌, List, [], ◌∷◌, ◌++◌, map, take, None, replicate, refl, sym, ap, ◌∙◌, arith, append_assoc, flat_map, range_with_len, add-mul, div-lt_iff_lt-mul, append-nil, Stay, hear, close, opened, window_of, read_as, heard_same, entry_outside, map_part, stands_new, stands_hear, stands_close, heard_in, event_tokens, closed_tokens, decided, gained, undecided_in, segmented, tokens_of, undecided_run, hands, Window, Stands, after_hear, after_close, tokens_in, owed}
-use Rattle.std.proofs.Math.Seq.{drop-append_seam}
+use Rattle.isoal_framed.proofs.Prelude.{ℕ, zero, suc, ◌≡◌, ◌+◌, ◌-◌, ◌*◌, ◌/◌, ◌≤◌, ◌<◌, List, [], ◌∷◌, ◌++◌, map, take, None, replicate, refl, sym, ap, ◌∙◌, arith, append_assoc, flat_map, range_with_len, add-mul, div-lt_iff_lt-mul, append-nil, Stay, hear, close, opened, window_of, read_as, heard_same, entry_outside, map_part, stands_new, stands_hear, stands_close, heard_in, event_tokens, closed_tokens, decided, gained, undecided_in, segmented, tokens_of, undecided_run, hands, Window, Stands, after_hear, after_close, tokens_in, owed, drop-append_seam}
 use Rattle.std.proofs.lemmas.List.Folds.{flat_map-map}
 use Rattle.big_info.specs.Bounds.{Bounds}
 use Rattle.isoal_base.specs.Stays.{Call}

@@ -52,22 +52,15 @@ cut_after max_sdu prefix (piece ∷ run) first = elim (cases_Bool (leb (length (
 ]
 
 -- what the fate tells, behind a prefix
-record WholeAfter (max_sdu : ℕ) (prefix : List ℕ) (run : List Piece) (octets : List ℕ) : Type 0 where
-  before : List Piece
-  last : List ℕ
-  others : List Piece
-  run_is : run ≡ before ++ record { complete = true; octets = last } ∷ others
-  first : NoneComplete before
-  octets_are : octets ≡ prefix ++ (joined before ++ last)
-  fits : length octets ≤ max_sdu
+abbrev WholeAfter : ℕ → List ℕ → List Piece → List ℕ → Type 0
+WholeAfter max_sdu prefix run octets =
+    (before : List Piece) × (last : List ℕ) × (others : List Piece) × (run ≡ before ++ record { complete = true; octets = last } ∷ others)
+    × NoneComplete before × (octets ≡ prefix ++ (joined before ++ last)) × (length octets ≤ max_sdu)
 
-record LongAfter (max_sdu : ℕ) (prefix : List ℕ) (run : List Piece) : Type 0 where
-  before : List Piece
-  last : Piece
-  others : List Piece
-  run_is : run ≡ before ++ last ∷ others
-  first : NoneComplete before
-  passes : max_sdu < length (prefix ++ (joined before ++ last.octets))
+abbrev LongAfter : ℕ → List ℕ → List Piece → Type 0
+LongAfter max_sdu prefix run =
+    (before : List Piece) × (last : Piece) × (others : List Piece) × (run ≡ before ++ last ∷ others)
+    × NoneComplete before × (max_sdu < length (prefix ++ (joined before ++ last.octets)))
 
 abbrev Tells : ℕ → List ℕ → List Piece → Bool → Fate → Type 0
 Tells max_sdu prefix run followed (whole octets) = WholeAfter max_sdu prefix run octets
@@ -76,52 +69,32 @@ Tells max_sdu prefix run followed (undecided octets) = (octets ≡ prefix ++ joi
 
 more_told : (max_sdu : ℕ) (prefix : List ℕ) (piece : Piece) (run : List Piece) (followed : Bool) (fate : Fate) → piece.complete ≡ false
     → Tells max_sdu (prefix ++ piece.octets) run followed fate → Tells max_sdu prefix (piece ∷ run) followed fate
-more_told max_sdu prefix piece run followed (whole octets) goes_on told = record {
-  before = piece ∷ told.before;
-  last = told.last;
-  others = told.others;
-  run_is = ap (λ xs. piece ∷ xs) told.run_is;
-  first = (goes_on, told.first);
-  octets_are = told.octets_are ∙ behind prefix piece.octets (joined told.before) told.last;
-  fits = told.fits;
-}
-more_told max_sdu prefix piece run followed broken goes_on (inl long) = inl (record {
-  before = piece ∷ long.before;
-  last = long.last;
-  others = long.others;
-  run_is = ap (λ xs. piece ∷ xs) long.run_is;
-  first = (goes_on, long.first);
-  passes = subst (λ xs. max_sdu < length xs) (behind prefix piece.octets (joined long.before) long.last.octets) long.passes;
-})
+more_told max_sdu prefix piece run followed (whole octets) goes_on (before, last, others, run_is, first, is, fits) =
+    (piece ∷ before, last, others, ap (λ xs. piece ∷ xs) run_is, (goes_on, first), is ∙ behind prefix piece.octets (joined before) last, fits)
+more_told max_sdu prefix piece run followed broken goes_on (inl (before, last, others, run_is, first, passes)) =
+    let over : max_sdu < length (prefix ++ ((piece.octets ++ joined before) ++ last.octets)) =
+    subst (λ xs. max_sdu < length xs) (behind prefix piece.octets (joined before) last.octets) passes in
+    inl (piece ∷ before, last, others, ap (λ xs. piece ∷ xs) run_is, (goes_on, first), over)
 more_told max_sdu prefix piece run followed broken goes_on (inr cut) = inr ((goes_on, cut.0), cut.1)
 more_told max_sdu prefix piece run followed (undecided octets) goes_on told = grind (arith, append_assoc)
+
+whole_first : (max_sdu : ℕ) (prefix : List ℕ) (piece : Piece) (run : List Piece) → piece.complete ≡ true → length (prefix ++ piece.octets) ≤ max_sdu
+    → WholeAfter max_sdu prefix (piece ∷ run) (prefix ++ piece.octets)
+whole_first max_sdu prefix piece run complete fits =
+    ([], piece.octets, run, ap (λ flag. record { complete = flag; octets = piece.octets } ∷ run) complete, tt, refl, fits)
 
 tells : (max_sdu : ℕ) (prefix : List ℕ) (run : List Piece) (followed : Bool) → Tells max_sdu prefix run followed (fate_after max_sdu prefix run followed)
 tells max_sdu prefix [] true = inr (tt, refl)
 tells max_sdu prefix [] false = (sym (append-nil prefix), refl)
 tells max_sdu prefix (piece ∷ run) followed = elim (cases_Bool (leb (length (prefix ++ piece.octets)) max_sdu)) [
-  | inr over ↦ subst (Tells max_sdu prefix (piece ∷ run) followed) (sym (stops max_sdu prefix piece run followed over)) (inl (record {
-    before = [];
-    last = piece;
-    others = run;
-    run_is = refl;
-    first = tt;
-    passes = leb-false (length (prefix ++ piece.octets)) max_sdu over;
-  }))
+  | inr over ↦ subst (Tells max_sdu prefix (piece ∷ run) followed) (sym (stops max_sdu prefix piece run followed over))
+      (inl ([], piece, run, refl, tt, leb-false (length (prefix ++ piece.octets)) max_sdu over))
   | inl fits ↦ elim (cases_Bool piece.complete) [
     | inl complete ↦ subst (Tells max_sdu prefix (piece ∷ run) followed)
         (sym (cond-true (leb (length (prefix ++ piece.octets)) max_sdu)
         (cond piece.complete (whole (prefix ++ piece.octets)) (fate_after max_sdu (prefix ++ piece.octets) run followed)) broken fits
         ∙ cond-true piece.complete (whole (prefix ++ piece.octets)) (fate_after max_sdu (prefix ++ piece.octets) run followed) complete))
-        (record {
-          before = [];
-          last = piece.octets;
-          others = run;
-          run_is = ap (λ flag. record { complete = flag; octets = piece.octets } ∷ run) complete;
-          first = tt;
-          octets_are = refl;
-          fits = leb-true (length (prefix ++ piece.octets)) max_sdu fits;
-        })
+        (whole_first max_sdu prefix piece run complete (leb-true (length (prefix ++ piece.octets)) max_sdu fits))
     | inr goes_on ↦ subst (Tells max_sdu prefix (piece ∷ run) followed)
         (sym (goes max_sdu prefix piece run followed goes_on (leb-true (length (prefix ++ piece.octets)) max_sdu fits)))
         (more_told max_sdu prefix piece run followed (fate_after max_sdu (prefix ++ piece.octets) run followed) goes_on
@@ -147,7 +120,7 @@ apart_broken octets is = cc
 told_is : (max_sdu : ℕ) (run : List Piece) (followed : Bool) (fate : Fate) → fate_of max_sdu run followed ≡ fate
     → Tells max_sdu [] run followed fate → FateIs max_sdu run followed fate
 told_is max_sdu run followed (whole octets) is told = search
-told_is max_sdu run followed broken is (inl long) = grind arith
+told_is max_sdu run followed broken is (inl long) = inl search
 told_is max_sdu run followed broken is (inr cut) = inr cut
 told_is max_sdu run followed (undecided octets) is told = (
   λ unit other. apart_whole unit octets (sym (is_whole max_sdu run followed unit other) ∙ is),

@@ -68,10 +68,7 @@ one_more : (info : BigInfo) (units : List Timed) (anchor : ℕ) (earlier own : L
     → Filled info units anchor earlier (suc n) (next_act info.max_pdu units anchor (own ++ earlier) ∷ own)
 one_more info units anchor earlier own n most (filling, count) going =
     let not_all : pdus_ended own ≡ info.bn → ⊥ = (λ all. false≢true (sym going ∙ eq-eqb (pdus_ended own) info.bn all)) in
-    let less : pdus_ended own < info.bn = grind arith in (
-      search (one_act, next_comes),
-      grind arith,
-    )
+    let less : pdus_ended own < info.bn = grind arith in (search (one_act, next_comes), grind arith)
 
 filled_is : (info : BigInfo) (units : List Timed) (anchor : ℕ) (earlier : List Act) (n : ℕ) → 1 ≤ info.bn → 2 ≤ info.max_pdu → DueIsLeft units earlier
     → Filled info units anchor earlier n (filled info units anchor earlier n)

@@ -1,6 +1,5 @@
 -- Units that are handed one by one, up to the taker's first fault.
-use Rattle.isoal_framed.proofs.Prelude.{◌+◌, List, ◌++◌, length, take, Result, Ok, Err, arith, append_assoc, length-append, take-append-le, Handed, Counts, HandsOver, TakerFault, HandsOn, CausedOn}
-use Rattle.std.proofs.Math.Seq.{take-append-add}
+use Rattle.isoal_framed.proofs.Prelude.{◌+◌, List, ◌++◌, length, take, Result, Ok, Err, arith, append_assoc, length-append, take-append-le, Handed, Counts, HandsOver, TakerFault, HandsOn, CausedOn, take-append-add}
 
 -- units, and then more
 over_then : (first second : List Handed) (old now new : List Handed) (middle result : Result (Unit {0}) TakerFault)

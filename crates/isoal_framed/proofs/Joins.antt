@@ -42,12 +42,7 @@ joins max_sdu bis (missing ∷ tokens) =
     }
 joins max_sdu bis (goes_on complete part ∷ tokens) =
     let all : Joins max_sdu bis tokens = joins max_sdu bis tokens in
-    record {
-      none = all.none;
-      none_run = all.none_run;
-      some = grind (arith, hands_piece);
-      some_run = grind (arith, run_piece);
-    }
+    record { none = all.none; none_run = all.none_run; some = grind (arith, hands_piece); some_run = grind (arith, run_piece) }
 joins max_sdu bis (starts begun complete part ∷ tokens) =
     let all : Joins max_sdu bis tokens = joins max_sdu bis tokens in
     let here : units max_sdu bis (starts begun complete part ∷ tokens) ≡ hands max_sdu bis None (starts begun complete part ∷ tokens) = grind (arith, hands_piece) in

@@ -2,10 +2,10 @@
 pub use Rattle.std.proofs.Common.{ℕ, zero, suc, ◌≡◌, ◌+◌, ◌-◌, ◌*◌, ◌/◌, ◌<◌, ◌≤◌, inl, inr, true, false, Bool, List, [], ◌∷◌, ◌++◌, length, drop, Option, Some, None, refl, sym, ap, ◌∙◌, subst, arith, append_assoc, length-drop, map, take, replicate, get_or, ◌⊎◌, length-append, cond, eqb, ◌&&◌, Result, Ok, vec_len, is_some, leb, Err, ltb, lit<, lit≤}
 pub use Rattle.std.proofs.Math.Nat.{add-mul, div-lt_iff_lt-mul, le-div_iff_mul-le}
 pub use Rattle.std.proofs.lemmas.Bool.{cond-true, cond-false, true≢false, false≢true, cases_Bool, leb-true, leb-false, le-leb, lt-leb, eqb-true, eq-eqb, ne_eqb, cases_order, lt-ltb, le-ltb, and_right, and_from, and_left, cases_eq}
-pub use Rattle.std.proofs.lemmas.List.{length-map, drop-append-le, drop-drop, append-nil, length-take, map-append, drop-map, length-replicate, replicate-append-replicate, take-append-le, take-append-drop, take_all, map-set}
-pub use Rattle.std.proofs.lemmas.Option.{none-some, slice_get_past, slice_get_within, slice_get-get_or, same_Some}
+pub use Rattle.std.proofs.lemmas.List.{length-map, drop-append-le, drop-drop, append-nil, length-take, map-append, drop-map, length-replicate, replicate-append-replicate, take-append-le, take-append-drop, take_all, map-set, drop_more, drop-set-lt, get_or-drop, get_or-set_same, length-set, take-map, take-set, take_more}
+pub use Rattle.std.proofs.lemmas.Option.{none-some, slice_get_past, slice_get_within, slice_get-get_or, same_Some, get_or_from_slice_get, slice_get_cases}
 pub use Rattle.std.proofs.lemmas.Result.{on_ok_weaker, IfOk-weaker}
-pub use Rattle.std.specs.List.{flat_map, range_with_len, slice_get}
+pub use Rattle.std.specs.List.{flat_map, range_with_len, slice_get, All}
 pub use Rattle.big_info.specs.declared.info.BigInfo.{BigInfo}
 pub use Rattle.iso_pdu.specs.Encoding.{pdu}
 pub use Rattle.iso_pdu.specs.Layout.{framed, Part, more, start}
@@ -32,3 +32,7 @@ pub use Rattle.isoal_framed.specs.Tokens.{tokens_of, segmented, Token, missing, 
 pub use Rattle.isoal_framed.specs.Units.{Fate, whole, broken, fate_after, Run, undecided_run, Piece, undecided, NoneComplete, joined, IsWhole, IsTooLong, IsCut, FateIs, fate_of, run_on, is_followed, handed_of, run_of, units}
 pub use Rattle.unit_outlets.specs.Handed.{Handed, Counts, valid, lost, HandsOver}
 pub use Rattle.unit_outlets.specs.declared.fault.TakerFault.{TakerFault}
+pub use Rattle.std.proofs.lemmas.Grind.{drop_more_same, flat_map-append}
+pub use Rattle.std.proofs.lemmas.List.Elements.{All-push, All-set}
+pub use Rattle.isoal_framed.specs.State.Entries.{IsPduOrNothing}
+pub use Rattle.std.proofs.Math.Seq.{take-append-add, take-add, drop-append_seam}

@@ -1,14 +1,8 @@
 -- The places of a window: filled with empty ones, cleared one by one, and turned.
-use Rattle.isoal_framed.proofs.Prelude.{is_some, true, Some, subst, false≢true, lt-ltb, ℕ, ◌≡◌, ◌+◌, ◌-◌, ◌<◌, List, [], ◌∷◌, ◌++◌, map, length, take, drop, replicate, get_or, Option, None, inl, inr, refl, sym, ap, ◌∙◌, arith, append_assoc, length-append, flat_map, slice_get, none-some, map-append, drop-map, length-map, length-replicate, replicate-append-replicate, take-append-drop, read_as, segmented}
+use Rattle.isoal_framed.proofs.Prelude.{is_some, true, Some, subst, false≢true, lt-ltb, ℕ, ◌≡◌, ◌+◌, ◌-◌, ◌<◌, List, [], ◌∷◌, ◌++◌, map, length, take, drop, replicate, get_or, Option, None, inl, inr, refl, sym, ap, ◌∙◌, arith, append_assoc, length-append, flat_map, slice_get, none-some, map-append, drop-map, length-map, length-replicate, replicate-append-replicate, take-append-drop, read_as, segmented, drop_more_same, drop_more, drop-set-lt, get_or-drop, get_or-set_same, length-set, take-map, take-set, take_more, All-push, get_or_from_slice_get, slice_get_cases, All, IsPduOrNothing}
 use Rattle.std.proofs.Math.ListN.{set}
-use Rattle.std.proofs.lemmas.Grind.{drop_more_same}
-use Rattle.std.proofs.lemmas.List.{drop_more, drop-set-lt, get_or-drop, get_or-set_same, length-set, take-map, take-set, take_more}
-use Rattle.std.proofs.lemmas.List.Elements.{All-push}
-use Rattle.std.proofs.lemmas.Option.{get_or_from_slice_get, slice_get_cases}
-use Rattle.std.specs.List.{All}
 use Rattle.circular_buffer.specs.Buffer.{keep_last}
 use Rattle.iso_pdu.specs.Reading.{read_of}
-use Rattle.isoal_framed.specs.State.Entries.{IsPduOrNothing}
 
 empty : (max_pdu : ℕ) → read_as segmented max_pdu [] ≡ None
 unfolding read_of

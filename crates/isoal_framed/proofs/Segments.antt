@@ -1,6 +1,5 @@
 -- What an act adds to the units that were sent: a start, a further segment, a unit left out, the end of a PDU.
-use Rattle.isoal_framed.proofs.Prelude.{ℕ, ◌≡◌, ◌+◌, ◌-◌, ◌*◌, ◌<◌, ◌≤◌, inr, true, false, Bool, List, [], ◌∷◌, ◌++◌, length, take, drop, Option, Some, None, refl, sym, ◌∙◌, subst, arith, length-append, slice_get, cond-true, cond-false, eq-eqb, ne_eqb, false≢true, append-nil, length-take, take_all, slice_get_within, Part, start, more, part_of, Laying, Timed, Act, carries, leaves_out, ends, Comes, IsSegment, place_of, overhead, least_room, done, sent, room, IsTimed, AreOf, Sent, octets_in, parts_at}
-use Rattle.std.proofs.Math.Seq.{take-add}
+use Rattle.isoal_framed.proofs.Prelude.{ℕ, ◌≡◌, ◌+◌, ◌-◌, ◌*◌, ◌<◌, ◌≤◌, inr, true, false, Bool, List, [], ◌∷◌, ◌++◌, length, take, drop, Option, Some, None, refl, sym, ◌∙◌, subst, arith, length-append, slice_get, cond-true, cond-false, eq-eqb, ne_eqb, false≢true, append-nil, length-take, take_all, slice_get_within, Part, start, more, part_of, Laying, Timed, Act, carries, leaves_out, ends, Comes, IsSegment, place_of, overhead, least_room, done, sent, room, IsTimed, AreOf, Sent, octets_in, parts_at, take-add}
 use Rattle.std.proofs.Math.Bool.{and-true}
 use Rattle.isoal_framed.specs.Struck.{behind}
 use Rattle.isoal_framed.proofs.Stays.{carried_past}

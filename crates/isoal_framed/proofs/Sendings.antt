@@ -1,6 +1,5 @@
 -- How the units that acts have sent stand for these acts, and what later calls leave of it.
-use Rattle.isoal_framed.proofs.Prelude.{ℕ, zero, suc, ◌≡◌, ◌+◌, ◌-◌, ◌<◌, ◌≤◌, ◌⊎◌, inl, inr, true, false, Bool, ◌&&◌, List, [], ◌∷◌, ◌++◌, length, take, Option, Some, None, refl, sym, ap, ◌∙◌, subst, arith, slice_get, cond-false, ne_eqb, and_right, append-nil, length-take, none-some, slice_get_past, slice_get_within, Part, more, Laying, Timed, Act, done, sent, room, IsTimed, IsOf, AreOf, Sent, Fit, octets_in, carried, is_last, parts_at}
-use Rattle.std.proofs.lemmas.Grind.{flat_map-append}
+use Rattle.isoal_framed.proofs.Prelude.{ℕ, zero, suc, ◌≡◌, ◌+◌, ◌-◌, ◌<◌, ◌≤◌, ◌⊎◌, inl, inr, true, false, Bool, ◌&&◌, List, [], ◌∷◌, ◌++◌, length, take, Option, Some, None, refl, sym, ap, ◌∙◌, subst, arith, slice_get, cond-false, ne_eqb, and_right, append-nil, length-take, none-some, slice_get_past, slice_get_within, Part, more, Laying, Timed, Act, done, sent, room, IsTimed, IsOf, AreOf, Sent, Fit, octets_in, carried, is_last, parts_at, flat_map-append}
 use Rattle.isoal_framed.specs.Struck.{behind}
 use Rattle.isoal_framed.proofs.Stays.{carried_past}
 use Rattle.isoal_framed.proofs.Carried.{carried_here, carried_later}

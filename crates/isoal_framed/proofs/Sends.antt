@@ -105,12 +105,7 @@ air_sends : (info : BigInfo) (calls : List Call) (acts : List Act) (air : Air) �
 air_sends info [] acts air wide fits is =
     let count : length air ≡ 0 = ap length is.1 in
     let start_number : length air * info.bn ≡ 0 = ap (λ n. n * info.bn) count ∙ omega arith in
-    record {
-      closed = [];
-      opened = None;
-      sending = grind (arith, sent);
-      events = subst (λ a. EventsAre info a []) (sym is.1) tt;
-    }
+    record { closed = []; opened = None; sending = grind (arith, sent); events = subst (λ a. EventsAre info a []) (sym is.1) tt }
 air_sends info (accept time octets ∷ calls) acts air wide fits is =
     let rest : Aired info (layings_of calls) (accepted calls) acts air =
     air_sends info calls acts air wide (λ i unit there. fits i unit (get_more (accepted calls) (record { time = time; octets = octets }) i unit there)) is in

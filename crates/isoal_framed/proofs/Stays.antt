@@ -95,10 +95,7 @@ carried_rest first (suc (suc count)) number offset (octets ∷ segments) whole s
     ∙ ap (λ from. carried from None (drop (suc count) segments) whole number) sum
 
 -- from a number on at which a stay begins: what is left of a unit that goes on there, and the units that begin later
-record From (stay : Stay) (heard : ℕ → Bool) (closed from : ℕ) (units : List Sent) : Type 0 where
-  segments : List (List ℕ)
-  whole : Bool
-  others : List Sent
+record Left (stay : Stay) (heard : ℕ → Bool) (closed from : ℕ) (units : List Sent) (segments : List (List ℕ)) (whole : Bool) (others : List Sent) : Type 0 where
   same : (number : ℕ) → from ≤ number → parts_at units number ≡ carried from None segments whole number ++ parts_at others number
   order : segments ≡ [] → InOrder from closed others
   later : 1 ≤ length segments → InOrder (from + length segments - 1) closed others
@@ -106,61 +103,32 @@ record From (stay : Stay) (heard : ℕ → Bool) (closed from : ℕ) (units : Li
   entries : flat_map (entry_of stay heard closed) units ≡ flat_map (entry_of stay heard closed) others
   fit : Fit stay.info.max_sdu units → Fit stay.info.max_sdu others
 
+abbrev From : Stay → (ℕ → Bool) → ℕ → ℕ → List Sent → Type 0
+From stay heard closed from units = (segments : List (List ℕ)) × (whole : Bool) × (others : List Sent) × Left stay heard closed from units segments whole others
+
 from_here : (stay : Stay) (heard : ℕ → Bool) (closed from : ℕ) → ((number : ℕ) → number < from → heard number ≡ false)
     → (q : ℕ) → (units : List Sent) → InOrder q closed units → From stay heard closed from units
-from_here stay heard closed from before q [] order = record {
-  segments = [];
-  whole = true;
-  others = [];
-  same = λ number least. refl;
-  order = λ none. tt;
-  later = λ some. tt;
-  last = λ part some. absurd (true≢false part);
-  entries = refl;
-  fit = λ fit. tt;
-}
+from_here stay heard closed from before q [] order = ([], true, [], grind (arith, true≢false))
 from_here stay heard closed from before q (unit ∷ units) order = elim (cases_low from unit.first) [
-  | inl later ↦ record {
-    segments = [];
-    whole = true;
-    others = unit ∷ units;
-    same = λ number least. refl;
-    order = λ none. (later, order.1, order.2, order.3);
-    later = λ some. absurd (omega arith);
-    last = λ part some. absurd (true≢false part);
-    entries = refl;
-    fit = λ fit. fit;
-  }
+  | inl later ↦ ([], true, unit ∷ units, grind (arith, true≢false))
   | inr earlier ↦
       (let none : entry_of stay heard closed unit ≡ [] = entry_missed stay heard closed unit (before unit.first earlier) in
       let rest : From stay heard closed from units = from_here stay heard closed from before (behind unit - 1) units order.3 in
       elim (cases_low (behind unit) from) [
-        | inl past ↦ record {
-          segments = rest.segments;
-          whole = rest.whole;
-          others = rest.others;
-          same = grind (arith, carried_past);
-          order = rest.order;
-          later = rest.later;
-          last = rest.last;
-          entries = ap (λ xs. xs ++ flat_map (entry_of stay heard closed) units) none ∙ rest.entries;
-          fit = λ fit. rest.fit fit.1;
-        }
+        | inl past ↦ (rest.0, rest.1, rest.2, grind (arith, carried_past))
         | inr over ↦
             (let sum : unit.first + (from - unit.first) ≡ from = omega arith in
             let left : length (drop (from - unit.first) unit.segments) ≡ length unit.segments - (from - unit.first) = length-drop (from - unit.first) unit.segments in
             let end : from + length (drop (from - unit.first) unit.segments) ≡ behind unit = omega arith in
-            record {
-              segments = drop (from - unit.first) unit.segments;
-              whole = unit.whole;
-              others = units;
+            let here : Left stay heard closed from (unit ∷ units) (drop (from - unit.first) unit.segments) unit.whole units = record {
               same = grind (arith, carried_rest);
               order = λ nothing. absurd (let empty : length (drop (from - unit.first) unit.segments) ≡ 0 = ap length nothing in omega arith);
               later = λ some. subst (λ last. InOrder (last - 1) closed units) (sym end) order.3;
               last = λ part some. ((order.2 part).0, subst (λ last. closed ≤ last) (sym end) (order.2 part).1);
               entries = ap (λ xs. xs ++ flat_map (entry_of stay heard closed) units) none;
               fit = λ fit. fit.1;
-            })
+            } in
+            (drop (from - unit.first) unit.segments, unit.whole, units, here))
       ])
 ]
 
@@ -176,8 +144,8 @@ struck_is stay units laid calls some order within fit source =
     (λ number before. ap is_some (none_before stay calls number some before)) 0 units (order_less 0 laid (closed_end stay calls) units within order) in
     units_are stay.info.max_sdu stay.bis (closed_tokens stay calls)
     ∙ ap (hands stay.info.max_sdu stay.bis None) (tokens_are stay units calls some source
-    ∙ toks_same stay (is_heard stay calls) (stay.first * stay.info.bn) (stay.first * stay.info.bn) [] here.segments true here.whole units here.others
-    (stay.first * stay.info.bn) ((opened stay calls - stay.first) * stay.info.bn) here.same)
+    ∙ toks_same stay (is_heard stay calls) (stay.first * stay.info.bn) (stay.first * stay.info.bn) [] here.0 true here.1 units here.2
+    (stay.first * stay.info.bn) ((opened stay calls - stay.first) * stay.info.bn) here.3.same)
     ∙ shown_from stay (is_heard stay calls) (closed_end stay calls) ((opened stay calls - stay.first) * stay.info.bn) (stay.first * stay.info.bn) count
-    here.segments here.whole here.others here.order here.later here.last (here.fit fit)
-    ∙ sym here.entries
+    here.0 here.1 here.2 here.3.order here.3.later here.3.last (here.3.fit fit)
+    ∙ sym here.3.entries

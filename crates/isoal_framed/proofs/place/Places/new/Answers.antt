@@ -1,7 +1,5 @@
-use Rattle.isoal_framed.proofs.Prelude.{sym, ap, subst, arith}
-use Rattle.std.specs.List.{All}
+use Rattle.isoal_framed.proofs.Prelude.{sym, ap, subst, arith, All, IsPduOrNothing}
 use Rattle.isoal_framed.specs.declared.place.Place.{Place}
-use Rattle.isoal_framed.specs.State.Entries.{IsPduOrNothing}
 use Rattle.isoal_framed.proofs.Rings.{all_last, nothing_read, nothing_there, filled_more, filled_count}
 use Rattle.isoal_framed.proofs.place.Places.new.Goals as goal
 

@@ -1,7 +1,5 @@
-use Rattle.isoal_framed.proofs.Prelude.{◌≡◌, map, replicate, None, entry_in}
-use Rattle.std.specs.List.{All}
+use Rattle.isoal_framed.proofs.Prelude.{◌≡◌, map, replicate, None, entry_in, All, IsPduOrNothing}
 use Rattle.isoal_framed.specs.declared.place.Place.{Place}
-use Rattle.isoal_framed.specs.State.Entries.{IsPduOrNothing}
 use Rattle.isoal_framed.proofs.place.Places.new.Given as goal
 
 abbrev pub invariant-places : goal.invariant-places

@@ -1,7 +1,5 @@
-use Rattle.isoal_framed.proofs.Prelude.{arith, map-set, entry_in}
-use Rattle.std.proofs.lemmas.List.Elements.{All-set}
+use Rattle.isoal_framed.proofs.Prelude.{arith, map-set, entry_in, All-set, IsPduOrNothing}
 use Rattle.isoal_framed.specs.declared.place.Place.{Place}
-use Rattle.isoal_framed.specs.State.Entries.{IsPduOrNothing}
 use Rattle.isoal_framed.proofs.Rings.{not_there, pdu_there}
 use Rattle.isoal_framed.proofs.place.Places.put.Goals as goal
 
