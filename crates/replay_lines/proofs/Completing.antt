@@ -1,6 +1,5 @@
 -- Which endings come, and what the boxes took of a text that its source tells.
-use Rattle.std.proofs.Common.{arith}
-use Rattle.replay_lines.proofs.Prelude.{◌≡◌, ◌≢◌, ℕ, Bool, true, List, [], ◌∷◌, ◌++◌, reverse, sym, ap, ◌∙◌, append_assoc, Option, Some, append-nil, Consumes, MayFollow, reverse_onto, World, DidOver, lines_of, Rose, airs_of, Refusal, through, refused, SinkUnit, Took, handed_on, out_of, transcript_end, units_of, Ending, TextRead, IsWhole, AheadOf, NoneFailed, RoomForText, Complete, Failure, failure, no_room_for, took_as}
+use Rattle.replay_lines.proofs.Prelude.{◌≡◌, ◌≢◌, ℕ, Bool, true, List, [], ◌∷◌, ◌++◌, reverse, sym, ap, ◌∙◌, append_assoc, Option, Some, append-nil, Consumes, MayFollow, reverse_onto, World, DidOver, lines_of, Rose, airs_of, Refusal, through, refused, SinkUnit, Took, handed_on, out_of, transcript_end, units_of, Ending, TextRead, IsWhole, AheadOf, NoneFailed, RoomForText, Complete, Failure, failure, no_room_for, took_as, arith}
 use Rattle.replay_lines.specs.declared.ending.Ending.TheVariants as endings
 use Rattle.replay_lines.proofs.LineEndings.{box_stops, units_added}
 use Rattle.replay_lines.proofs.Prefixes.{units_more}

@@ -1,6 +1,5 @@
 -- The counts of the boxes, by how a run ended.
-use Rattle.std.proofs.Common.{arith}
-use Rattle.replay_lines.proofs.Prelude.{◌≢◌, World, DidOver, ℕ, List, [], Option, inl, inr, ◌⊎◌, TextLine, Account, airs_of, handed_on, CountsStay, OneCounts, failed_one, none_counts, one_then, took_stay, Ending, IsCut, Broken, FaultCut, LineFails}
+use Rattle.replay_lines.proofs.Prelude.{◌≢◌, World, DidOver, ℕ, List, [], Option, inl, inr, ◌⊎◌, TextLine, Account, airs_of, handed_on, CountsStay, OneCounts, failed_one, none_counts, one_then, took_stay, Ending, IsCut, Broken, FaultCut, LineFails, arith}
 use Rattle.replay_lines.specs.declared.ending.Ending.TheVariants as endings
 use Rattle.replay_lines.proofs.LineEndings.{box_stops}
 

@@ -1,6 +1,5 @@
 -- What is promised of a document that was read.
-use Rattle.std.proofs.Common.{arith}
-use Rattle.replay_lines.proofs.Prelude.{◌≡◌, ◌≢◌, ℕ, List, Option, Some, Result, Ok, Err, ReadsDocument, Unread, Promised, World, Ending, Account, DocumentIs, DocumentLaws, FromToml, TomlEnding, Standing, refused_for, stands_for, cause_line, DocumentRuns, over_text}
+use Rattle.replay_lines.proofs.Prelude.{◌≡◌, ◌≢◌, ℕ, List, Option, Some, Result, Ok, Err, ReadsDocument, Unread, Promised, World, Ending, Account, DocumentIs, DocumentLaws, FromToml, TomlEnding, Standing, refused_for, stands_for, cause_line, DocumentRuns, over_text, arith}
 use Rattle.bcast_io.specs.declared.document.Document.{Document}
 use Rattle.replay_lines.specs.declared.ending.Ending.TheVariants as endings
 use Rattle.replay_lines.proofs.Refusing.{refused_toml}

@@ -1,6 +1,5 @@
 -- What a listener changes at a line: nothing where it goes on, and where it fails the run ends before the line.
-use Rattle.std.proofs.Common.{arith}
-use Rattle.replay_lines.proofs.Prelude.{◌≡◌, ◌≢◌, ◌+◌, length, ReadsAhead, Bool, false, true, List, refl, ap, inl, Option, ℕ, Appends, Keeps, Rose, TextLine, Account, airs_of, Airs, Machine, Ending, Ended, Heard, as_told, Broken, Comes, ReadsAtMost, read_limit, RunTo, StepRuns, StepHeard, Laws, World}
+use Rattle.replay_lines.proofs.Prelude.{◌≡◌, ◌≢◌, ◌+◌, length, ReadsAhead, Bool, false, true, List, refl, ap, inl, Option, ℕ, Appends, Keeps, Rose, TextLine, Account, airs_of, Airs, Machine, Ending, Ended, Heard, as_told, Broken, Comes, ReadsAtMost, read_limit, RunTo, StepRuns, StepHeard, Laws, World, arith}
 use Rattle.replay_lines.specs.declared.ending.Ending.TheVariants as endings
 use Rattle.replay_lines.proofs.LineEndings.{step_memory}
 use Rattle.replay_lines.proofs.Promises.{promised_run}

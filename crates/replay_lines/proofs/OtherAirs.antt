@@ -1,8 +1,6 @@
 -- What a run did over one air it did over any other that gives the same transcripts.
-use Rattle.std.proofs.Common.{arith}
-use Rattle.replay_lines.proofs.Prelude.{◌≡◌, ℕ, Bool, true, List, [], ◌∷◌, reverse, refl, sym, subst, ◌∙◌, Option, None, inl, inr, ◌⊎◌, Appends, TextLine, lines_of, Account, Step, Refusal, Accepted, Said, a_step, nothing, unsaid, refusal_said, rules_of, Airs, out_of, answered_said, took_as, Ending, CountsStay, AheadOf, Complete, Ended, IsCut, RoomForText, RoomFor, Same, Broken, CutAt, Done, FaultCut, LineFails, NoEndCut, OutletFaulted, ReadFaulted, RefusedAt, WriteCut, brought_by}
+use Rattle.replay_lines.proofs.Prelude.{◌≡◌, ℕ, Bool, true, List, [], ◌∷◌, reverse, refl, sym, subst, ◌∙◌, Option, None, inl, inr, ◌⊎◌, Appends, TextLine, lines_of, Account, Step, Refusal, Accepted, Said, a_step, nothing, unsaid, refusal_said, rules_of, Airs, out_of, answered_said, took_as, Ending, CountsStay, AheadOf, Complete, Ended, IsCut, RoomForText, RoomFor, Same, Broken, CutAt, Done, FaultCut, LineFails, NoEndCut, OutletFaulted, ReadFaulted, RefusedAt, WriteCut, brought_by, arith, line_refusal}
 use Rattle.scenario_history.specs.RelayedUnits.{answered_by}
-use Rattle.scenario_history.specs.Refusals.{line_refusal}
 use Rattle.replay_lines.specs.declared.ending.Ending.TheVariants as endings
 
 -- the same becomes of the units that relays offer before a line, where it does before each step that isn't refused

@@ -1,6 +1,5 @@
 -- What the whole lines of a prefix of a text bring is a prefix of what all lines bring.
-use Rattle.std.proofs.Common.{arith}
-use Rattle.replay_lines.proofs.Prelude.{handed_line, handed_on, ◌≡◌, ℕ, ◌+◌, Bool, true, false, cond, List, [], ◌∷◌, ◌++◌, length, refl, sym, ap, ◌∙◌, append_assoc, Option, None, Some, append-nil, MayFollow, TextLine, lines_of, Account, Rules, out, out_unless, accepted_of, accepted_unless, brought_by, Step, SinkUnit, handed_up, rules_of, steps_of, Airs, end_after, has_end, last_line_after, transcript_of, units_of, Refusal}
+use Rattle.replay_lines.proofs.Prelude.{handed_line, handed_on, ◌≡◌, ℕ, ◌+◌, Bool, true, false, cond, List, [], ◌∷◌, ◌++◌, length, refl, sym, ap, ◌∙◌, append_assoc, Option, None, Some, append-nil, MayFollow, TextLine, lines_of, Account, Rules, out, out_unless, accepted_of, accepted_unless, brought_by, Step, SinkUnit, handed_up, rules_of, steps_of, Airs, end_after, has_end, last_line_after, transcript_of, units_of, Refusal, arith}
 use Rattle.bcast_io.specs.TextLines.{lines_from}
 
 -- ---- lines

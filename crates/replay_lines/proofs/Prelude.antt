@@ -49,3 +49,5 @@ pub use Rattle.transcript_text.specs.declared.refusal.Refusal.{Refusal}
 pub use Rattle.transcript_text.specs.declared.refusal.Refusal.TheVariants.{NoEnd, NoSuchSink}
 pub use Rattle.transcript_text.specs.declared.stop.Stop.TheVariants.{Memory, Refused, OutletFault}
 pub use Rattle.unit_outlets.specs.Account.{Account}
+pub use Rattle.std.specs.Prelude.{IfOk, OnErr, not, is_some}
+pub use Rattle.scenario_history.specs.Refusals.{no_sink, relayed_or, sink_refusal, source_refusal, twin_refusal, refusal_of, line_refusal}

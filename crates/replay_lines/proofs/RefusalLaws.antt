@@ -1,13 +1,10 @@
 -- No line is refused as NoEnd, which is the refusal of a text.
-use Rattle.std.proofs.Common.{arith}
-use Rattle.replay_lines.proofs.Prelude.{◌≡◌, ◌≢◌, ℕ, Bool, List, length, Option, None, Some, Result, TextLine, plain, too_long, past, Account, airs_of, Refusal, NoSuchSink, NoEnd, Step, version_of, box_of, said_by, said_of, steps_of, refusal_said, refusal_at}
-use Rattle.std.specs.Prelude.{not, is_some}
+use Rattle.replay_lines.proofs.Prelude.{◌≡◌, ◌≢◌, ℕ, Bool, List, length, Option, None, Some, Result, TextLine, plain, too_long, past, Account, airs_of, Refusal, NoSuchSink, NoEnd, Step, version_of, box_of, said_by, said_of, steps_of, refusal_said, refusal_at, arith, not, is_some, no_sink, relayed_or, sink_refusal, source_refusal, twin_refusal, refusal_of}
 use Rattle.std.specs.Option.{option_or}
 use Rattle.sink_history.specs.History.{World}
 use Rattle.sink_history.specs.Refusals.{refusal_of as refusal_of_sink, refuse_if}
 use Rattle.scenario_text.specs.declared.step.Step.TheVariants as kinds
 use Rattle.scenario_words.specs.declared.fault.LineFault.{LineFault}
-use Rattle.scenario_history.specs.Refusals.{no_sink, relayed_or, sink_refusal, source_refusal, twin_refusal, refusal_of}
 
 abbrev OtherThan : Option Refusal → Type 0
 OtherThan None = Unit {0}

@@ -1,6 +1,5 @@
 -- What is promised of a document that is refused before any line of it is run.
-use Rattle.std.proofs.Common.{arith}
-use Rattle.replay_lines.proofs.Prelude.{ℕ, Some, Airs, ◌≡◌, List, [], refl, Err, inl, Appends, AppendsPrefix, World, Took, took_all, none_counts, took_stay, DocumentIs, Cut, DocumentLaws, FromToml, TomlComplete, TomlEnding, Written, refused_for, cause_line, RefusesDocument}
+use Rattle.replay_lines.proofs.Prelude.{ℕ, Some, Airs, ◌≡◌, List, [], refl, Err, inl, Appends, AppendsPrefix, World, Took, took_all, none_counts, took_stay, DocumentIs, Cut, DocumentLaws, FromToml, TomlComplete, TomlEnding, Written, refused_for, cause_line, RefusesDocument, arith}
 use Rattle.replay_lines.specs.declared.cause.Cause.{Cause}
 use Rattle.replay_lines.proofs.Reading.{document_told, prefix_read}
 

@@ -1,25 +1,17 @@
-use Rattle.replay_lines.proofs.Prelude.{Some, past, too_long, listened, tellings}
+use Rattle.replay_lines.proofs.Prelude.{arith, Some, past, too_long, listened, tellings}
 use Rattle.replay_lines.proofs.LineSteps.{ended_at, line_past, line_long}
 use Rattle.replay_lines.proofs.Listening.{has_kept, told_at, told_text}
 use Rattle.replay_lines.proofs.ReadingOn.{comes_of}
 use Rattle.replay_lines.proofs.lines.end_reading.Goals as goal
 
 pub returns-in-TextTooLong-clause-ends : goal.returns-in-TextTooLong-clause-ends
-returns-in-TextTooLong-clause-ends g c =
-    λ starts lines left left' kept accounts reader e next run.
-    line_past e run (g.K.ByteSink.contents c.refuse.new.sink) c.refuse.result (rw c.in-TextTooLong.is at next) c.refuse.ensures.refuses
+returns-in-TextTooLong-clause-ends g c starts lines left left' kept accounts reader e next run = grind (arith, line_past)
 
 pub returns-in-LineTooLong-clause-ends : goal.returns-in-LineTooLong-clause-ends
-returns-in-LineTooLong-clause-ends g c =
-    λ starts lines left left' kept accounts reader e next run.
-    let put = c.refuse-in-LineTooLong in
-    line_long e run (g.K.ByteSink.contents put.new.sink) put.result (rw c.in-LineTooLong.is at next) put.ensures.refuses
+returns-in-LineTooLong-clause-ends g c starts lines left left' kept accounts reader e next run = grind (arith, line_long)
 
 pub returns-in_default-clause-ends : goal.returns-in_default-clause-ends
-returns-in_default-clause-ends g c =
-    λ starts lines left left' kept accounts reader e next run.
-    c.end_text.ensures.ends starts lines left left' kept accounts e
-    (ended_at reader c.args.read next c.requires.no_line c.in_default.not-TextTooLong c.in_default.not-LineTooLong) run
+returns-in_default-clause-ends g c starts lines left left' kept accounts reader e next run = grind (arith, ended_at)
 
 pub returns-in-TextTooLong-clause-told : goal.returns-in-TextTooLong-clause-told
 returns-in-TextTooLong-clause-told g c =
@@ -41,11 +33,4 @@ returns-in-LineTooLong-clause-told g c =
     (has_kept g.L.Listener.row_of start old (g.L.Listener.rows put.new.sink) (tellings lines) has put.ensures.rows)
 
 pub returns-in_default-clause-told : goal.returns-in_default-clause-told
-returns-in_default-clause-told g c =
-    λ lines left left' start reader e next has.
-    let old = listened g.L.Listener.told g.L.Listener.rows c.args.listener.now c.args.sink.now in
-    let new = listened g.L.Listener.told g.L.Listener.rows c.args.listener.now c.end_text.new.sink in
-    told_text g.L.Listener.row_of left left' start new lines c.end_text.result
-    (ended_at reader c.args.read next c.requires.no_line c.in_default.not-TextTooLong c.in_default.not-LineTooLong)
-    c.end_text.ensures.behind
-    (has_kept g.L.Listener.row_of start old (g.L.Listener.rows c.end_text.new.sink) (tellings lines) has c.end_text.ensures.rows)
+returns-in_default-clause-told g c lines left left' start reader e next has = grind (arith, listened, tellings, ended_at, has_kept, told_text)

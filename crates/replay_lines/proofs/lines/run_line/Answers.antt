@@ -1,4 +1,4 @@
-use Rattle.replay_lines.proofs.Prelude.{◌∙◌, ap, map, Ok, plain, airs_of, listened}
+use Rattle.replay_lines.proofs.Prelude.{arith, ◌∙◌, ap, map, Ok, plain, airs_of, listened}
 use Rattle.replay_lines.proofs.Endings.{ends_faulted}
 use Rattle.replay_lines.proofs.Hearing.{ended_told}
 use Rattle.replay_lines.proofs.LineSteps.{line_read, line_ahead, step_line}
@@ -33,13 +33,7 @@ returns-in-Ok-Line-clause-runs g c =
     (c.hear_step.ensures.runs starts lines left left' kept e (comes_of at) (line_ahead e at) run)
 
 pub returns-in-Err-clause-told : goal.returns-in-Err-clause-told
-returns-in-Err-clause-told g c =
-    λ lines left start e read has.
-    record {
-      lines = lines;
-      text = rw c.in-Err.is at (c.read_next.ensures.next left lines read);
-      has = has;
-    }
+returns-in-Err-clause-told g c lines left start e read has = grind arith
 
 pub returns-in-Ok-clause-told : goal.returns-in-Ok-clause-told
 returns-in-Ok-clause-told g c =

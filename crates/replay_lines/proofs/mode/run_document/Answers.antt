@@ -1,5 +1,4 @@
-use Rattle.std.proofs.Common.{arith}
-use Rattle.replay_lines.proofs.Prelude.{◌∙◌, ap, sym, subst, map, Some, UnassignedBy, meaning_of, refused_for, stands_for, standing_by, lines_over}
+use Rattle.replay_lines.proofs.Prelude.{map, meaning_of, refused_for, stands_for, standing_by, lines_over, arith}
 use Rattle.replay_lines.proofs.DocumentPromises.{runs_as, runs_text, wanting_at_once}
 use Rattle.replay_lines.proofs.mode.run_document.Goals as goal
 
@@ -7,11 +6,7 @@ pub returns-in-Ok-clause-runs : goal.returns-in-Ok-clause-runs
 returns-in-Ok-clause-runs g c = grind (arith, map, runs_as, standing_by, meaning_of, stands_for, runs_text)
 
 pub returns-in-Ok-clause-unassigned : goal.returns-in-Ok-clause-unassigned
-returns-in-Ok-clause-unassigned g c airs meets =
-    let boxes = map (λ b. (goal.Outlet-dyn g (b.vtable, b.value)).account b.value) c.args.outlets.now.items in
-    subst (λ standing. UnassignedBy airs boxes (lines_over standing) c.args.outlets.now.items c.run_text.new.outlets.items)
-    (sym (ap standing_by (ap meaning_of (sym c.as_slice.ensures) ∙ c.in-Ok.ensures.ok)))
-    (c.run_text.ensures.unassigned c.in-Ok.text airs (ap (λ s. Some s.left) c.new-source.ensures) meets)
+returns-in-Ok-clause-unassigned g c airs meets = grind (arith, map, meaning_of, standing_by, lines_over)
 
 pub returns-in-Err-BadToml-clause-runs : goal.returns-in-Err-BadToml-clause-runs
 returns-in-Err-BadToml-clause-runs g c = grind (arith, map, runs_as, standing_by, meaning_of, refused_for)

@@ -1,5 +1,4 @@
-use Rattle.std.proofs.Common.{arith}
-use Rattle.replay_lines.proofs.Prelude.{◌∙◌, refl, ap, sym, subst, map, Ok, Err, UnassignedBy, meaning_of, standing_by, lines_over}
+use Rattle.replay_lines.proofs.Prelude.{◌∙◌, refl, ap, sym, subst, map, Ok, Err, UnassignedBy, meaning_of, standing_by, lines_over, arith}
 use Rattle.bcast_io.specs.declared.document.Document.TheVariants.{Whole, TooLong}
 use Rattle.bcast_io.specs.declared.piece.Unread.TheVariants.{Failed, Memory}
 use Rattle.replay_lines.specs.declared.cause.Cause.TheVariants as causes
