@@ -1,8 +1,7 @@
 -- The units that begin at a number that is heard, and at one that is not.
 use Rattle.isoal_framed.proofs.Prelude.{ℕ, suc, ◌≡◌, ◌+◌, ◌-◌, ◌/◌, ◌<◌, ◌≤◌, inl, inr, true, false, Bool, ◌&&◌, cond, List, [], ◌∷◌, ◌++◌, map, length, Option, Some, None, refl, sym, ap, ◌∙◌, subst, arith, length-append, flat_map, cases_Bool, cases_order, and_from, and_left, cond-true, cond-false, le-leb, and_right, append-nil, none-some, valid, Stay, Token, starts, token_of, time_of, Run, hands, hands_joined, run_joined, Fit, Sent, octets_in, is_last, parts_at, InOrder, entry_of}
 use Rattle.isoal_framed.specs.Struck.{behind}
-use Rattle.isoal_framed.proofs.Carried.{carried_here, carried_later, none_here, toks, toks_same, toks_none}
-use Rattle.isoal_framed.proofs.Entries.{scan, scan_run, entry_heard, entry_missed, scan_end}
+use Rattle.isoal_framed.proofs.Entries.{scan, scan_run, entry_heard, entry_missed, scan_end, carried_here, carried_later, none_here, toks, toks_same, toks_none}
 
 -- what an octet string adds to a run that has room for it
 pub joined_fits : (max_sdu bis time : ℕ) (octets : List ℕ) → length octets ≤ max_sdu

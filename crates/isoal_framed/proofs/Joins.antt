@@ -1,5 +1,5 @@
--- What the tokens hand one by one is what the list of them decides.
-use Rattle.isoal_framed.proofs.Prelude.{ℕ, ◌≡◌, ◌≤◌, true, cond, Bool, List, [], ◌∷◌, ◌++◌, length, Option, Some, None, refl, ap, ◌+◌, take, arith, append_assoc, length-append, cond-true, le-leb, length-take, Handed, valid, lost, Token, starts, goes_on, missing, Fate, whole, broken, Run, run_on, is_followed, fate_after, handed_of, run_of, units, undecided_run, hands_at, hands_joined, run_at, hands, run_after}
+-- What the tokens hand one by one is what the list of them decides, and they are taken one behind the other.
+use Rattle.isoal_framed.proofs.Prelude.{ℕ, ◌≡◌, ◌≤◌, true, cond, Bool, List, [], ◌∷◌, ◌++◌, length, Option, Some, None, refl, ap, ◌+◌, take, arith, append_assoc, length-append, cond-true, le-leb, length-take, Handed, valid, lost, Token, starts, goes_on, missing, Fate, whole, broken, Run, run_on, is_followed, fate_after, handed_of, run_of, units, undecided_run, hands_at, hands_joined, run_at, hands, run_after, Result, sym, subst, append-nil, Counts, TakerFault, HandsOn, CausedOn, Ok, Err, take-append-le, HandsOver, take-append-add}
 use Rattle.std.specs.Option.{option_or}
 
 -- behind a start whose run so far has these octets
@@ -88,3 +88,51 @@ start_hands max_sdu bis run time complete octets = grind arith
 pub joined_valid : (max_sdu bis time at : ℕ) (items part all : List ℕ) (complete : Bool) → all ≡ take at items ++ part → at + length part ≤ max_sdu
     → complete ≡ true → hands_joined max_sdu bis time complete (take at items ++ part) ≡ valid bis time all ∷ []
 joined_valid max_sdu bis time at items part all complete is room last = grind (arith, length-append, length-take, cond-true, le-leb)
+
+-- ---- tokens that are taken one behind the other
+
+-- units, and then more
+over_then : (first second : List Handed) (old now new : List Handed) (middle result : Result (Unit {0}) TakerFault)
+    → HandsOver first old now middle → HandsOn second middle now new result → HandsOver (first ++ second) old new result
+over_then first second old now new (Ok x) (Ok y) before after = cc (append_assoc old first second)
+over_then first second old now new (Ok x) (Err fault) before after = (
+  length first + after.0,
+  (omega (arith, length-append first second)),
+  cc (after.2, append_assoc old first (take after.0 second), take-append-add first second after.0),
+)
+over_then first second old now new (Err fault) result before after = grind (arith, length-append, take-append-le)
+
+pub hands_then : (first second : List Handed) (old now new : List Handed) (so_far middle result : Result (Unit {0}) TakerFault)
+    → HandsOn first so_far old now middle → HandsOn second middle now new result → HandsOn (first ++ second) so_far old new result
+hands_then first second old now new so_far middle result before after = grind (arith, over_then)
+
+pub caused_then : (old now new : Counts) (so_far middle result : Result (Unit {0}) TakerFault)
+    → CausedOn so_far old now middle → CausedOn middle now new result → CausedOn so_far old new result
+caused_then old now new so_far middle result before after = grind arith
+
+pub record Walked (max_sdu bis : ℕ) (first now : Option Run) (all rest : List Token)
+    (so_far handed : Result (Unit {0}) TakerFault) (old new : List Handed) (before after : Counts) : Type 0 where
+  pub runs : run_after max_sdu now rest ≡ run_after max_sdu first all
+  pub taken : List Handed
+  pub units : taken ++ hands max_sdu bis now rest ≡ hands max_sdu bis first all
+  pub hands_on : HandsOn taken so_far old new handed
+  pub cause : CausedOn so_far before after handed
+
+pub walked_more : (max_sdu bis : ℕ) (first now next : Option Run) (all rest tokens others : List Token)
+    (so_far handed result : Result (Unit {0}) TakerFault) (old now_calls new : List Handed) (before middle after : Counts)
+    → Walked max_sdu bis first now all rest so_far handed old now_calls before middle
+    → rest ≡ tokens ++ others → next ≡ run_after max_sdu now tokens
+    → HandsOn (hands max_sdu bis now tokens) handed now_calls new result → CausedOn handed middle after result
+    → Walked max_sdu bis first next all others so_far result old new before after
+walked_more max_sdu bis first now next all rest tokens others so_far handed result old now_calls new before middle after walked is run_is step cause =
+    grind (arith, run_append, append_assoc, hands_append, hands_then, caused_then)
+
+pub walked_token : (max_sdu bis : ℕ) (first now next : Option Run) (all rest others : List Token) (token : Token)
+    (so_far handed result : Result (Unit {0}) TakerFault) (old now_calls new : List Handed) (before middle after : Counts)
+    → Walked max_sdu bis first now all rest so_far handed old now_calls before middle
+    → rest ≡ token ∷ others → next ≡ run_at max_sdu now token
+    → HandsOn (hands_at max_sdu bis now token) handed now_calls new result → CausedOn handed middle after result
+    → Walked max_sdu bis first next all others so_far result old new before after
+walked_token max_sdu bis first now next all rest others token so_far handed result old now_calls new before middle after walked is run_is step cause =
+    walked_more max_sdu bis first now next all rest (token ∷ []) others so_far handed result old now_calls new before middle after walked is run_is
+    (subst (λ units. HandsOn units handed now_calls new result) (sym (append-nil (hands_at max_sdu bis now token))) step) cause

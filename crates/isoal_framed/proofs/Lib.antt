@@ -1,14 +1,11 @@
 mod Prelude
 mod Begun
-mod Carried
 mod Closed
 mod Entries
 mod Fates
 mod Filling
 mod Greedy
-mod Handing
 mod Joins
-mod Only
 mod Packings
 mod Rings
 mod Segments
@@ -17,5 +14,4 @@ mod Sendings
 mod Sends
 mod Stays
 mod Struck
-mod Walks
 pub mod Citable

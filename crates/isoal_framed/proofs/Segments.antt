@@ -3,7 +3,7 @@ use Rattle.isoal_framed.proofs.Prelude.{ℕ, ◌≡◌, ◌+◌, ◌-◌, ◌*�
 use Rattle.std.proofs.Math.Bool.{and-true}
 use Rattle.isoal_framed.specs.Struck.{behind}
 use Rattle.isoal_framed.proofs.Stays.{carried_past}
-use Rattle.isoal_framed.proofs.Carried.{carried_before, carried_here}
+use Rattle.isoal_framed.proofs.Entries.{carried_before, carried_here}
 use Rattle.isoal_framed.proofs.Sendings.{chain_more, Open, are_more, are_snoc, take_next, octets_snoc, get_same, taken_before, Sending, at_least}
 use Rattle.isoal_framed.proofs.Sendings.{Stable, parts_last, fit_more, snoc_before, snoc_here, chain_past, Grown}
 

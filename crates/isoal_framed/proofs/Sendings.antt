@@ -2,7 +2,7 @@
 use Rattle.isoal_framed.proofs.Prelude.{ℕ, zero, suc, ◌≡◌, ◌+◌, ◌-◌, ◌<◌, ◌≤◌, ◌⊎◌, inl, inr, true, false, Bool, ◌&&◌, List, [], ◌∷◌, ◌++◌, length, take, Option, Some, None, refl, sym, ap, ◌∙◌, subst, arith, slice_get, cond-false, ne_eqb, and_right, append-nil, length-take, none-some, slice_get_past, slice_get_within, Part, more, Laying, Timed, Act, done, sent, room, IsTimed, IsOf, AreOf, Sent, Fit, octets_in, carried, is_last, parts_at, flat_map-append}
 use Rattle.isoal_framed.specs.Struck.{behind}
 use Rattle.isoal_framed.proofs.Stays.{carried_past}
-use Rattle.isoal_framed.proofs.Carried.{carried_here, carried_later}
+use Rattle.isoal_framed.proofs.Entries.{carried_here, carried_later}
 
 -- units that are wholly sent, and the one that is partly sent
 abbrev pub all : List Sent → Option Sent → List Sent

@@ -4,8 +4,7 @@ use Rattle.isoal_base.specs.Stays.{Call}
 use Rattle.isoal_framed.specs.Struck.{behind}
 use Rattle.isoal_framed.proofs.Closed.{flat_same, opened_least}
 use Rattle.isoal_framed.proofs.Joins.{units_are}
-use Rattle.isoal_framed.proofs.Carried.{tok, toks, toks_same, carried_later}
-use Rattle.isoal_framed.proofs.Entries.{entry_missed}
+use Rattle.isoal_framed.proofs.Entries.{entry_missed, tok, toks, toks_same, carried_later}
 use Rattle.isoal_framed.proofs.Struck.{shown_from}
 use Rattle.isoal_framed.proofs.Greedy.{cases_low}
 

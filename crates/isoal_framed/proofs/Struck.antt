@@ -1,8 +1,7 @@
 -- What the tokens of a stay decide are the entries of the units that were sent.
 use Rattle.isoal_framed.proofs.Prelude.{ℕ, zero, suc, ◌≡◌, ◌+◌, ◌-◌, ◌/◌, ◌<◌, ◌≤◌, inl, inr, true, false, Bool, ◌&&◌, List, [], ◌∷◌, ◌++◌, map, length, Option, Some, None, refl, sym, ap, ◌∙◌, subst, arith, append_assoc, length-append, flat_map, cases_Bool, and_right, append-nil, none-some, valid, Stay, Token, goes_on, missing, token_of, Run, hands, run_joined, Fit, Sent, octets_in, is_last, parts_at, InOrder, entry_of}
 use Rattle.isoal_framed.proofs.Begun.{joined_fits, Shown, same_none, run_inj, goes_shown, begun_heard, begun_missed}
-use Rattle.isoal_framed.proofs.Carried.{carried_here, carried_later, none_here, toks, toks_same, tok_heard, tok_missing, toks_first, toks_none}
-use Rattle.isoal_framed.proofs.Entries.{scan, scan_heard, scan_missing, scan_open, no_entries, scan_run, scan_end}
+use Rattle.isoal_framed.proofs.Entries.{scan, scan_heard, scan_missing, scan_open, no_entries, scan_run, scan_end, carried_here, carried_later, none_here, toks, toks_same, tok_heard, tok_missing, toks_first, toks_none}
 
 -- where no number is closed any more
 zero_shown : (stay : Stay) (heard : ℕ → Bool) (closed from : ℕ) (segments : List (List ℕ)) (whole : Bool) (run : Option Run) (units : List Sent) → closed ≤ from

@@ -1,4 +1,4 @@
-use Rattle.isoal_framed.proofs.Only.{one_air}
+use Rattle.isoal_framed.proofs.Greedy.{one_air}
 use Rattle.isoal_framed.proofs.air_laws.one_framed_air.Goals as goal
 
 pub returns : goal.returns

@@ -1,6 +1,6 @@
 use Rattle.isoal_framed.proofs.Prelude.{◌≡◌, ◌<◌, ◌+◌, ◌-◌, ◌∙◌, length, take, drop, get_or, None, Ok, vec_len, arith, flat_map, length-map, read_as, segmented, tokens_of, run_in, hands, run_after, entry_in, kept_of, stay_of}
 use Rattle.isoal_framed.proofs.Rings.{cleared_more, first_left, left_behind, left_more}
-use Rattle.isoal_framed.proofs.Walks.{walked_more}
+use Rattle.isoal_framed.proofs.Joins.{walked_more}
 use Rattle.isoal_framed.proofs.close.take_places.Goals as goal
 
 pub places-preserved : goal.places-preserved

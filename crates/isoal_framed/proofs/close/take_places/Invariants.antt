@@ -1,5 +1,5 @@
 use Rattle.isoal_framed.proofs.Prelude.{◌≡◌, ◌-◌, length, take, drop, replicate, None, Ok, vec_len, flat_map, tokens_of, run_in, kept_of, stay_of}
-use Rattle.isoal_framed.proofs.Walks.{Walked}
+use Rattle.isoal_framed.proofs.Joins.{Walked}
 use Rattle.isoal_framed.proofs.close.take_places.Given as goal
 
 abbrev pub invariant-places : goal.invariant-places

@@ -1,5 +1,5 @@
 use Rattle.isoal_framed.proofs.Prelude.{◌≡◌, map, vec_len, token_of, run_in, stay_of}
-use Rattle.isoal_framed.proofs.Walks.{Walked}
+use Rattle.isoal_framed.proofs.Joins.{Walked}
 use Rattle.isoal_framed.proofs.close.take_segments.Given as goal
 
 abbrev pub invariant-segments : goal.invariant-segments

@@ -1,6 +1,5 @@
 use Rattle.isoal_framed.proofs.Prelude.{arith}
-use Rattle.isoal_framed.proofs.Handing.{hands_then, caused_then}
-use Rattle.isoal_framed.proofs.Joins.{start_hands}
+use Rattle.isoal_framed.proofs.Joins.{start_hands, hands_then, caused_then}
 use Rattle.isoal_framed.proofs.undecided.UndecidedRun.start.Goals as goal
 
 pub returns-clause-hands : goal.returns-clause-hands
