@@ -3,7 +3,7 @@ use Rattle.replay_steps.proofs.Prelude.{◌≡◌, ◌≤◌, ℕ, List, Some, g
 use Rattle.bass_operations.specs.Layout.{encoding}
 use Rattle.bass_operations.specs.declared.operation.Operation.{Operation}
 use Rattle.bass_operations.specs.declared.operation.Operation.TheVariants.{ScanStopped, ScanStarted}
-use Rattle.scenario_lines.specs.Operations.{operation_step}
+use Rattle.recurring_lines.specs.Operations.{operation_step}
 use Rattle.replay_steps.specs.Operations.{HasLine}
 use Rattle.scenario_sink.specs.Operates.{Operates}
 

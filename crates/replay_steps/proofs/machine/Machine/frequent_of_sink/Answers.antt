@@ -1,6 +1,6 @@
 use Rattle.replay_steps.proofs.Prelude.{refl, subst, arith, common_steps, source_at, histories_of}
 use Rattle.scenario_text.specs.Ranges.{IsInRange}
-use Rattle.scenario_lines.specs.Frequent.{frequent_step}
+use Rattle.recurring_lines.specs.Frequent.{frequent_step}
 use Rattle.scenario_sink.specs.SinkCalls.{call_step}
 use Rattle.replay_steps.proofs.SinkCalling.{in_range, is_line, names}
 use Rattle.replay_steps.proofs.SinkLines.{closes_none_by, gives_none_by, line_meets, nothing_handed_by}

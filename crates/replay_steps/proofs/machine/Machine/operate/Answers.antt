@@ -1,5 +1,5 @@
 use Rattle.replay_steps.proofs.Prelude.{refl, ◌∙◌, source_at, histories_of}
-use Rattle.scenario_lines.specs.Operations.{operation_step}
+use Rattle.recurring_lines.specs.Operations.{operation_step}
 use Rattle.replay_steps.proofs.Operating.{is_line, names, operates}
 use Rattle.replay_steps.proofs.SinkLines.{closes_none_by, gives_none_by, line_meets, nothing_handed_by}
 use Rattle.replay_steps.proofs.StepLaws.{tells_meets}
