@@ -1,8 +1,5 @@
 -- What a close of a source did, whether an event of it was open or none.
-use Rattle.replay_steps.proofs.Prelude.{ℕ, ◌≡◌, List, [], ◌∷◌, ◌++◌, refl, sym, ◌∙◌, subst, append-nil, Option, None, Some, Result, Ok, Err, range_with_len, Account, airs_of, Stop, Refused, OutletFault, Memory, Step, SinkUnit, accounts_after, Answered, after_offers, answered, first_lines, unit_lines, closings_at, CutShort, Histories, with_close, hands_stop, Machine, printed_before, Meets, phase_line, handed_by, answered_by, output_of, inl, inr, ap, append_assoc, accounts_append, hands_then, length, Closes, FirstMeets, ComponentsStand, arith, sink_numbers}
-use Rattle.std.specs.Prelude.{OnOk}
-use Rattle.scenario_sinks.specs.Handing.{Hands}
-use Rattle.replay_steps.specs.Meets.{Becomes}
+use Rattle.replay_steps.proofs.Prelude.{ℕ, ◌≡◌, List, [], ◌∷◌, ◌++◌, refl, sym, ◌∙◌, subst, append-nil, Option, None, Some, Result, Ok, Err, range_with_len, Account, airs_of, Stop, Refused, OutletFault, Memory, Step, SinkUnit, accounts_after, Answered, after_offers, answered, first_lines, unit_lines, closings_at, CutShort, Histories, with_close, hands_stop, Machine, printed_before, Meets, phase_line, handed_by, answered_by, output_of, inl, inr, ap, append_assoc, accounts_append, hands_then, length, Closes, FirstMeets, ComponentsStand, arith, sink_numbers, OnOk, Hands, Becomes}
 use Rattle.replay_steps.proofs.BoxStops.{AreFrom, first_fails, from_closings, second_fails}
 use Rattle.replay_steps.proofs.CloseLines.{lines_closed, offers_closed, units_closed}
 

@@ -1,9 +1,8 @@
 -- The lines that say an operation.
-use Rattle.replay_steps.proofs.Prelude.{◌≡◌, ◌≤◌, ℕ, List, Some, get_or, ap, arith, named_by, IsSinkLine}
+use Rattle.replay_steps.proofs.Prelude.{◌≡◌, ◌≤◌, ℕ, List, Some, get_or, ap, arith, named_by, IsSinkLine, operation_step}
 use Rattle.bass_operations.specs.Layout.{encoding}
 use Rattle.bass_operations.specs.declared.operation.Operation.{Operation}
 use Rattle.bass_operations.specs.declared.operation.Operation.TheVariants.{ScanStopped, ScanStarted}
-use Rattle.scenario_lines.specs.Operations.{operation_step}
 use Rattle.replay_steps.specs.Operations.{HasLine}
 use Rattle.scenario_sink.specs.Operates.{Operates}
 

@@ -1,4 +1,5 @@
 -- What the proofs of this crate use of `std` and of the crates below it, by one import.
+unfoldable pub use Rattle.scenario_history.specs.Boxes.{sink_numbers}
 pub use Rattle.std.proofs.Common.{◌≡◌, ℕ, ◌+◌, ◌*◌, ◌%◌, ◌<◌, ◌^◌, sym, ◌∙◌, ap, subst, arith, ◌==◌, List, [], ◌∷◌, true, false, if◌then◌else◌, unwrap_or, refl, Option, None, Some, Result, Ok, Err, ◌-◌, nat_lt, Bool, cond, ◌++◌, ap₂, inl, inr, append_assoc, append-nil, eq-eqb, ne_eqb, le-ltb, lt-ltb, slice_get, zero, suc, ◌≤◌, ◌&&◌, not, option_map, is_none, is_some, length, map, ◌≢◌, ◌||◌, take, ◌⊎◌, eqb-true, length-append, slice_set, IsTrue, reverse, get_or, set, replicate, get_or-set_other, get_or-set_same, length-set}
 pub use Rattle.std.proofs.Math.Nat.{add-mul}
 pub use Rattle.std.proofs.lemmas.Bool.{cases_eq, and_parts, not-false, and_left, and_right, cases_lt}
@@ -9,7 +10,7 @@ pub use Rattle.std.proofs.lemmas.List.Elements.{filter-append}
 pub use Rattle.std.proofs.lemmas.Nat.{div-mul-add, mod-mul-add}
 pub use Rattle.std.specs.List.{flat_map, range_with_len, list_all, list_any, filter, concat}
 pub use Rattle.std.specs.Option.{option_or}
-pub use Rattle.std.specs.Prelude.{slice_index_or, sum}
+pub use Rattle.std.specs.Prelude.{slice_index_or, sum, OnOk}
 pub use Rattle.bcast_base.specs.declared.unit.Unit.{Unit as AudioUnit}
 pub use Rattle.bcast_io.specs.TextLines.{TextLine, plain}
 pub use Rattle.big_info.specs.declared.info.BigInfo.{BigInfo}
@@ -21,14 +22,13 @@ pub use Rattle.replay_steps.specs.Between.{FirstBetween, with_closes_below}
 pub use Rattle.replay_steps.specs.Failing.{CloseFails, printed_before}
 pub use Rattle.replay_steps.specs.Losing.{LosesFrom, lost_at, unlost, CountsOn}
 pub use Rattle.replay_steps.specs.Machines.{Stands, histories_of, relay_histories, lent}
-pub use Rattle.replay_steps.specs.Meets.{Quiet, phase_line, Tells, BoxesStand, Meets, StepMeets}
+pub use Rattle.replay_steps.specs.Meets.{Quiet, phase_line, Tells, BoxesStand, Meets, StepMeets, Becomes}
 pub use Rattle.replay_steps.specs.Relaying.{FirstMeets, ComponentsStand, SinkMeets, answer_lines, lines_at, lines_below, offers_below, offers_of, units_below, OffersMeet, Closes, GivesSecond, Drops, FirstFails}
 pub use Rattle.replay_steps.specs.Unassigned.{UnassignedBy, UnassignedRun}
 pub use Rattle.replay_steps.specs.Versions.{stage_in, number_of}
 pub use Rattle.replay_steps.specs.declared.machine.Machine.{Machine}
 pub use Rattle.scenario_history.proofs.Citable.{took_all, box_was_made, valid_append, accepted_accepted, stage_same, octets_add_up, units_add_up, boxes_stay}
 pub use Rattle.scenario_history.specs.Boxes.{box_of, SinkUnit, accounts_after, closing_by, Took, valid_for, handed_up, closing, closing_at, handed_by, closing_in, Holds, RoomFor, onto_valid, with_units, account_at, closing_both}
-unfoldable pub use Rattle.scenario_history.specs.Boxes.{sink_numbers}
 pub use Rattle.scenario_history.specs.Lines.{Said, a_step, said_of, steps_of, said_after, handed_said, with_said, handed_on, rules_of, said_by, refusal_said, output_said}
 pub use Rattle.scenario_history.specs.Output.{unit_lines, close_lines, first_lines, output_of, stale_lines, dropped_lines, sink_lines, answer_line, sum_if, sums_of}
 pub use Rattle.scenario_history.specs.Refusals.{no_sink, phase_refusal, relayed_or, sink_refusal, source_refusal, no_place, is_relayed, gives_on, is_misplaced, air_refusal, line_refusal, relay_refusal}
@@ -42,7 +42,7 @@ pub use Rattle.scenario_laws.proofs.RelayedUnits.Citable.{left_by_offers, flat_w
 pub use Rattle.scenario_sink.specs.SinkLines.{IsSinkLine}
 pub use Rattle.scenario_sinks.proofs.Citable.{accounts_append, hands_stop, hands_then, stands_same, lines_append}
 pub use Rattle.scenario_sinks.specs.Closing.{closing_of, handed_all, closings_at, ClosesAt}
-pub use Rattle.scenario_sinks.specs.Handing.{BoxFails, CutShort}
+pub use Rattle.scenario_sinks.specs.Handing.{BoxFails, CutShort, Hands}
 pub use Rattle.scenario_sinks.specs.Histories.{Histories, with_close, with_close_at, without, with_sink, with_tuning, with_line, with_heard}
 pub use Rattle.scenario_sinks.specs.Refusals.{not_made, not_tuned, not_living}
 pub use Rattle.scenario_sinks.specs.RelayHistories.{is_idle, with_relay}
@@ -60,7 +60,7 @@ pub use Rattle.scenario_sources.specs.State.Standing.{SourcesStand}
 pub use Rattle.scenario_sources.specs.declared.sources.Sources.{Sources}
 pub use Rattle.scenario_text.specs.Steps.{read_of}
 pub use Rattle.scenario_text.specs.declared.step.Step.{Step}
-pub use Rattle.scenario_text.specs.declared.step.Step.TheVariants.{End, Scenario, Sink, Source, Tuned, Air, Hear, Inject, Meta, Bis, Cipher, Drop, Relay, Ident, Subgroup, Start, Announce, Unit as UnitLine}
+pub use Rattle.scenario_text.specs.declared.step.Step.TheVariants.{End, Scenario, Sink, Source, Tuned, Air, Hear, Inject, Meta, Bis, Cipher, Drop, Relay, Ident, Subgroup, Start, Announce, Unit as UnitLine, Train}
 pub use Rattle.sink_history.specs.History.{made_of, named_by, version_given, horizon_in}
 pub use Rattle.sink_history.specs.Refusals.{refuse_if, refusal_of, refused_at, refused_where}
 pub use Rattle.source_machine.specs.Airs.{airs_of, Airs}
@@ -74,3 +74,7 @@ pub use Rattle.unit_outlets.specs.Account.{Account}
 pub use Rattle.unit_outlets.specs.Handed.{Handed, valid}
 pub use Rattle.unit_outlets.specs.Took.{TookAt}
 pub use Rattle.unit_outlets.specs.declared.fault.OutletFault.TheVariants.{Failed}
+pub use Rattle.recurring_lines.specs.Operations.{operation_step}
+pub use Rattle.scenario_text.specs.Ranges.{IsInRange}
+pub use Rattle.scenario_sink.specs.SinkCalls.{call_step}
+pub use Rattle.recurring_lines.specs.Frequent.{frequent_step}

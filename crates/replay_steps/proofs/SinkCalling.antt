@@ -1,7 +1,5 @@
 -- The lines of a sink that come again and again.
-use Rattle.replay_steps.proofs.Prelude.{◌≡◌, ℕ, ◌≤◌, Some, arith, named_by, IsSinkLine}
-use Rattle.scenario_text.specs.Ranges.{IsInRange}
-use Rattle.scenario_sink.specs.SinkCalls.{call_step}
+use Rattle.replay_steps.proofs.Prelude.{◌≡◌, ℕ, ◌≤◌, Some, arith, named_by, IsSinkLine, IsInRange, call_step}
 use Rattle.scenario_sink.specs.declared.sink_call.SinkCall.{SinkCall}
 
 pub is_line : (call : SinkCall) (sink : ℕ) → IsSinkLine (call_step call sink)

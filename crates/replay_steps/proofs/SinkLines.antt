@@ -1,8 +1,9 @@
 -- The lines of a sink's control and of its links.
-use Rattle.replay_steps.proofs.Prelude.{◌≡◌, ℕ, List, [], ◌∷◌, false, is_some, refl, ◌∙◌, ap, Option, None, Some, Result, Ok, length, concat, Account, airs_of, Stop, Step, Announce, End, Stage, chosen_steps, running, stage_after, stage_of, box_of, handed_by, output_of, sink_lines, phase_refusal, calls_made, source_at, the_world, made_of, named_by, refused_at, refused_where, refusal_of, IsSinkLine, AnnouncesAs, SaysNothing, Histories, with_line, Machine, Stands, histories_of, Tells, closes_first, is_relayed, arith}
+use Rattle.replay_steps.proofs.Prelude.{◌≡◌, ℕ, List, [], ◌∷◌, false, is_some, refl, ◌∙◌, ap, Option, None, Some, Result, Ok, length, concat, Account, airs_of, Stop, Step, Announce, End, Stage, chosen_steps, running, stage_after, stage_of, box_of, handed_by, output_of, sink_lines, phase_refusal, calls_made, source_at, the_world, made_of, named_by, refused_at, refused_where, refusal_of, IsSinkLine, AnnouncesAs, SaysNothing, Histories, with_line, Machine, Stands, histories_of, Tells, Meets, closes_first, is_relayed, arith}
 use Rattle.announcement_train.specs.declared.train.Train.{Train as Announced}
 use Rattle.sink_history.specs.Output.{printed_at, printed_where}
 use Rattle.scenario_sinks.specs.SinkLines.{SinkLineMakes}
+use Rattle.replay_steps.proofs.StepLaws.{tells_meets}
 use Rattle.replay_steps.proofs.Stepping.{brought, sinks_stand, beside, minds_relays}
 
 -- ---- what such a line says
@@ -31,14 +32,11 @@ line_minds : (made : Step) → IsSinkLine made → minds_relays made ≡ false
 line_minds made line = grind arith
 
 -- it closes no event, and gives no unit
-pub closes_none_by : (steps : List Step) (made : Step) → IsSinkLine made → closes_first steps made ≡ false
+closes_none_by : (steps : List Step) (made : Step) → IsSinkLine made → closes_first steps made ≡ false
 closes_none_by steps made line = grind arith
 
-pub gives_none_by : (steps : List Step) (made : Step) → IsSinkLine made → is_relayed steps made ≡ false
+gives_none_by : (steps : List Step) (made : Step) → IsSinkLine made → is_relayed steps made ≡ false
 gives_none_by steps made line = (beside made (line_minds made line)).none steps
-
-pub nothing_handed_by : (steps : List Step) (made : Step) → IsSinkLine made → handed_by airs_of steps made ≡ []
-nothing_handed_by steps made line = (line_runs made line).handed steps
 
 -- ---- what it prints
 
@@ -57,15 +55,17 @@ named_meets : (starts : List Account) (n : ℕ) (steps : List Step) (made : Step
 named_meets starts n steps made old new text told r stands is nothing on past output stage same minds held m =
     grind (arith, brought, sinks_stand)
 
-pub line_meets : (starts : List Account) (version n : ℕ) (steps : List Step) (made : Step) (old new : Machine) (text told : List ℕ) (r : Result (Unit {0}) Stop)
+pub line_meets : (starts accounts : List Account) (version n : ℕ) (steps : List Step) (made : Step) (old new : Machine) (text told : List ℕ) (r : Result (Unit {0}) Stop)
     → Stands steps old → stage_of steps ≡ running version → IsSinkLine made → named_by made ≡ Some n → new.stage ≡ old.stage → new.sources ≡ old.sources
-    → new.relays ≡ old.relays → SinkLineMakes (histories_of steps) n (source_at steps) made new.sinks text told r → Tells starts steps made new text told r
-line_meets starts version n steps made old new text told r stands e line named stage same held m =
+    → new.relays ≡ old.relays → SinkLineMakes (histories_of steps) n (source_at steps) made new.sinks text told r
+    → Meets starts steps made new text told accounts accounts r
+line_meets starts accounts version n steps made old new text told r stands e line named stage same held m =
     let runs = line_runs made line in
-    named_meets starts n steps made old new text told r stands
+    tells_meets starts steps made new text told accounts r (runs.handed steps) (closes_none_by steps made line) (gives_none_by steps made line)
+    (named_meets starts n steps made old new text told r stands
     (runs.refusal (length starts) version steps e ∙ ap (refused_at the_world steps made) named) (line_says made line) (runs.stage (stage_of steps))
     (runs.past steps ∙ ap (λ o. with_named o made steps) named)
-    (line_prints starts steps made line ∙ ap (λ o. concat (printed_at the_world steps made o)) named) stage same (line_minds made line) held m
+    (line_prints starts steps made line ∙ ap (λ o. concat (printed_at the_world steps made o)) named) stage same (line_minds made line) held m)
 
 -- ---- announce
 

@@ -6,7 +6,7 @@ ghost use Rattle.bass_operations.specs.declared.operation.Operation.{Operation};
 ghost use Rattle.scenario_text.specs.Ranges.{IsInRange};
 ghost use Rattle.scenario_text.specs.declared.step.Step.{Step as Said};
 ghost use Rattle.scenario_text.specs.declared.step.Step.TheVariants.{Announce, Train};
-ghost use Rattle.scenario_lines.specs.Operations.{operation_step};
+ghost use Rattle.recurring_lines.specs.Operations.{operation_step};
 ghost use Rattle.scenario_history.specs.Steps.{running, stage_of};
 ghost use Rattle.scenario_history.specs.Worlds.{source_at};
 ghost use Rattle.sink_history.specs.History.{named_by};
@@ -18,7 +18,7 @@ ghost use Rattle.replay_steps.specs.Operations.{HasLine};
 
 use crate::machine::Machine;
 use bcast_base::Octets;
-use scenario_lines::TrainHead;
+use recurring_lines::TrainHead;
 use scenario_sink::Origin;
 use scenario_text::Step;
 use transcript_text::{Refusal, Stop};

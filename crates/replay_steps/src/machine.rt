@@ -4,7 +4,7 @@ ghost use Rattle.unit_outlets.specs.Account.{Account};
 ghost use Rattle.scenario_text.specs.Lines.{LineIs};
 ghost use Rattle.scenario_text.specs.Ranges.{IsInRange};
 ghost use Rattle.scenario_text.specs.declared.step.Step.{Step as Said};
-ghost use Rattle.scenario_lines.specs.Frequent.{frequent_step};
+ghost use Rattle.recurring_lines.specs.Frequent.{frequent_step};
 ghost use Rattle.scenario_sink.specs.SinkCalls.{call_step};
 ghost use Rattle.scenario_sink.specs.SinkLines.{IsSinkLine};
 
@@ -12,9 +12,8 @@ use crate::operations::read_of_source;
 use crate::source_steps::give;
 use crate::version::Stage;
 use bcast_base::{Memory, Octets};
-use scenario_lines::{
-    Frequent, LineFault, OperationRoom, TrainRoom, read_frequent, read_line_over, read_train,
-};
+use recurring_lines::{Frequent, OperationRoom, TrainRoom, read_frequent, read_train};
+use scenario_lines::{LineFault, read_line_over};
 use scenario_sink::SinkCall;
 use scenario_sinks::{Relays, Sinks};
 use scenario_sources::Sources;

@@ -3,11 +3,11 @@ ghost use Rattle.std.specs.Prelude.{◌≡◌, ◌≤◌, ℕ, true, Ok, Some, I
 ghost use Rattle.bass_operations.specs.Layout.{encoding};
 ghost use Rattle.bass_operations.specs.declared.operation.Operation.{Operation};
 ghost use Rattle.scenario_text.specs.Steps.{read_of};
-ghost use Rattle.scenario_lines.specs.Operations.{operation_step};
+ghost use Rattle.recurring_lines.specs.Operations.{operation_step};
 ghost use Rattle.replay_steps.specs.Operations.{HasLine};
 
 use bcast_base::Memory;
-use scenario_lines::{OperationRoom, read_operation};
+use recurring_lines::{OperationRoom, read_operation};
 use std::alloc::Global;
 
 /// Reads a line that says an operation of a source, as `read_operation` does.

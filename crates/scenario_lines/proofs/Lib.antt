@@ -1,13 +1,9 @@
 mod Prelude
-mod FrequentLines
 mod LowFirst
 mod MadeSteps
 mod NextLines
-mod OperationLines
 mod Putting
 mod Rows
 mod Said
-mod SinkWords
 mod StepLines
-mod Taking
-mod TrainLines
+pub mod Taking

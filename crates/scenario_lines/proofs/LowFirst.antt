@@ -1,6 +1,5 @@
 -- The octets of a number as std has them are its octets with the least first.
-use Rattle.scenario_lines.proofs.Prelude.{◌≡◌, ◌/◌, ℕ, w16, w32, refl, arith}
-use Rattle.std.specs.Int.{to_le_bytes}
+use Rattle.scenario_lines.proofs.Prelude.{◌≡◌, ◌/◌, ℕ, w16, w32, refl, arith, to_le_bytes}
 use Rattle.bcast_base.specs.Encoding.{number}
 
 pub two_low_first : (n : ℕ) → to_le_bytes w16 n ≡ number 2 n

@@ -1,8 +1,5 @@
 -- The lines of the generator that say their steps in each version.
-use Rattle.scenario_lines.proofs.Prelude.{◌≡◌, ℕ, zero, suc, ◌<◌, ◌≤◌, ◌%◌, None, List, length, refl, arith, codes, ◌▸◌, Unit, Event, Air, LineIs, unit_row, event_row, air_row, nil_octets, cons_octets, unit_of}
-use Rattle.std.specs.Prelude.{replicate}
-use Rattle.std.proofs.lemmas.List.{length-replicate}
-use Rattle.bcast_base.specs.Encoding.{IsOctets}
+use Rattle.scenario_lines.proofs.Prelude.{ℕ, zero, suc, ◌<◌, ◌≤◌, ◌%◌, None, length, refl, arith, codes, ◌▸◌, Unit, Event, Air, LineIs, unit_row, event_row, air_row, nil_octets, cons_octets, unit_of, replicate, length-replicate, IsOctets}
 use Rattle.scenario_text.specs.Table.{row_of}
 use Rattle.scenario_lines.specs.Generated.{unit_line, air_line}
 use Rattle.scenario_lines.proofs.Said.{row_says}
@@ -19,12 +16,6 @@ unfolding row_of unit_line
 unit_says bis x version least greatest =
     row_says version unit_row (bis ▸ None ▸ unit_of x ▸ tt) refl refl
     ((least, greatest), (tt, ((unit_fits x, same_octets 100 (x % 256) (omega arith)), tt)))
-
--- the same, of an index and of octets that are those
-pub unit_said : (bis x index version : ℕ) (octets : List ℕ) → 1 ≤ bis → bis ≤ 31 → index ≡ bis → octets ≡ unit_of x
-    → LineIs version (Unit index None octets) (unit_line bis x)
-unit_said bis x index version octets least greatest same are =
-    rw (same, are) (unit_says bis x version least greatest)
 
 pub event_says : (version : ℕ) → LineIs version Event (codes "event")
 unfolding row_of

@@ -1,9 +1,5 @@
 -- Words behind words, and the streams of a set, the pairs and the values one after the other.
-use Rattle.scenario_lines.proofs.Prelude.{◌≡◌, ◌≤◌, ◌<◌, ◌+◌, ◌-◌, ℕ, zero, suc, Bool, true, false, cond, nat_eq, List, [], ◌∷◌, ◌++◌, map, drop, get_or, length, Some, decimal, refl, ap, sym, ◌∙◌, append_assoc, arith, all_words_given, next_item, placed_line}
-use Rattle.std.specs.Prelude.{slice_get}
-use Rattle.std.specs.Int.{bit_at}
-use Rattle.std.proofs.lemmas.List.{append-nil, drop_all}
-use Rattle.scenario_words.specs.Joined.{behind}
+use Rattle.scenario_lines.proofs.Prelude.{◌≡◌, ◌<◌, ◌+◌, ◌-◌, ℕ, suc, Bool, true, false, cond, nat_eq, List, [], ◌∷◌, ◌++◌, map, drop, Some, decimal, refl, ap, sym, ◌∙◌, append_assoc, arith, all_words_given, next_item, placed_line, slice_get, bit_at, append-nil, behind, add-one}
 use Rattle.bass_operations.specs.declared.wishes.Wish.{Wish}
 use Rattle.scenario_words.specs.ValueWords.{streams_from, wish_words}
 use Rattle.scenario_words.specs.declared.value.Value.{Value}
@@ -26,69 +22,48 @@ chosen_next false index others = refl
 streams_next : (set index more : ℕ) → streams_words set index (suc more) ≡ streams_words set index 1 ++ streams_words set (index + 1) more
 streams_next set index more = chosen_next (nat_eq (bit_at set (index - 1)) 1) index (streams_from set (index + 1) more)
 
--- the streams from an index on are still to be put
-pub record StreamsLeft (set : ℕ) (initial now : List ℕ) (index : ℕ) : Type 0 where
-  pub so_far : now ++ streams_words set index (32 - index) ≡ initial ++ streams_words set 1 31
+-- ---- one piece after the other
 
-pub stream_put : (set : ℕ) (initial now next : List ℕ) (index : ℕ) → index < 32 → StreamsLeft set initial now index → next ≡ now ++ streams_words set index 1
-    → StreamsLeft set initial next (index + 1)
-stream_put set initial now next index inside left put =
-    let more : ℕ = 31 - index in
-    let here : 32 - index ≡ suc more = omega arith in
-    let there : 32 - (index + 1) ≡ more = omega arith in
-    let split : streams_words set index (32 - index) ≡ streams_words set index 1 ++ streams_words set (index + 1) more =
-    ap (streams_words set index) here ∙ streams_next set index more in
-    record {
-      so_far = ap (λ (n : ℕ). next ++ streams_words set (index + 1) n) there
-          ∙ (ap (λ (l : List ℕ). l ++ streams_words set (index + 1) more) put
-          ∙ (append_assoc now (streams_words set index 1) (streams_words set (index + 1) more) ∙ (ap (λ (l : List ℕ). now ++ l) (sym split) ∙ left.so_far)));
-    }
+-- the pieces from a place on are still to be put
+pub record Left (rest : ℕ → List ℕ) (all initial now : List ℕ) (i : ℕ) : Type 0 where
+  pub so_far : now ++ rest i ≡ initial ++ all
 
-pub streams_put : (set : ℕ) (initial now : List ℕ) (index : ℕ) → 32 ≤ index → StreamsLeft set initial now index → now ≡ initial ++ streams_words set 1 31
-streams_put set initial now index past left =
-    let none : 32 - index ≡ 0 = omega arith in
-    sym (append-nil now) ∙ (ap (λ (n : ℕ). now ++ streams_words set index n) (sym none) ∙ left.so_far)
+pub piece_put : (rest : ℕ → List ℕ) (all initial now next piece : List ℕ) (i : ℕ) → rest i ≡ piece ++ rest (i + 1) → Left rest all initial now i
+    → next ≡ now ++ piece → Left rest all initial next (i + 1)
+piece_put rest all initial now next piece i split left put = record {
+  so_far = ap (λ (l : List ℕ). l ++ rest (i + 1)) put ∙ append_assoc now piece (rest (i + 1)) ∙ ap (λ (l : List ℕ). now ++ l) (sym split) ∙ left.so_far;
+}
 
--- ---- one item after the other
+pub pieces_put : (rest : ℕ → List ℕ) (all initial now : List ℕ) (i : ℕ) → rest i ≡ [] → Left rest all initial now i → now ≡ initial ++ all
+pieces_put rest all initial now i none left = sym (append-nil now) ∙ ap (λ (l : List ℕ). now ++ l) (sym none) ∙ left.so_far
 
-pub got_item : {A : Type 0} (all : List A) (i : ℕ) (item : A) → i < length all → item ≡ get_or all i item → slice_get all i ≡ Some item
-got_item [] i item inside e = absurd (omega arith)
-got_item (first ∷ others) zero item inside e = ap Some (sym e)
-got_item (first ∷ others) (suc i) item inside e = got_item others i item (omega arith) e
+-- the streams from an index on
+abbrev pub streams_left : ℕ → ℕ → List ℕ
+streams_left set index = streams_words set index (32 - index)
 
--- what is written of items is written of one after the other
-pub record InTurn {A : Type 0} (written : List A → List ℕ) : Type 0 where
-  pub none : written [] ≡ []
-  pub first : (item : A) (others : List A) → written (item ∷ others) ≡ written (item ∷ []) ++ written others
-
--- the items from a place on are still to be put
-pub record Left {A : Type 0} (written : List A → List ℕ) (all : List A) (initial now : List ℕ) (i : ℕ) : Type 0 where
-  pub so_far : now ++ written (drop i all) ≡ initial ++ written all
-
-pub item_put : {A : Type 0} (written : List A → List ℕ) → InTurn written → (all : List A) (initial now next : List ℕ) (i : ℕ) (item : A)
-    → slice_get all i ≡ Some item → Left written all initial now i → next ≡ now ++ written (item ∷ []) → Left written all initial next (i + 1)
-item_put written turn all initial now next i item at left put =
-    let others = drop (suc i) all in
-    let split : written (drop i all) ≡ written (item ∷ []) ++ written others = ap written (next_item all i item at) ∙ turn.first item others in
-    let plus : i + 1 ≡ suc i = omega arith in
-    record {
-      so_far = ap (λ (n : ℕ). next ++ written (drop n all)) plus
-          ∙ (ap (λ (l : List ℕ). l ++ written others) put
-          ∙ (append_assoc now (written (item ∷ [])) (written others) ∙ (ap (λ (l : List ℕ). now ++ l) (sym split) ∙ left.so_far)));
-    }
-
-pub items_put : {A : Type 0} (written : List A → List ℕ) → InTurn written → (all : List A) (initial now : List ℕ) (i : ℕ)
-    → length all ≤ i → Left written all initial now i → now ≡ initial ++ written all
-items_put written turn all initial now i past left =
-    sym (append-nil now) ∙ (ap (λ (l : List ℕ). now ++ l) (sym (ap written (drop_all i all past) ∙ turn.none)) ∙ left.so_far)
+pub stream_first : (set index : ℕ) → index < 32 → streams_left set index ≡ streams_words set index 1 ++ streams_left set (index + 1)
+stream_first set index inside =
+    let here : 32 - index ≡ suc (32 - (index + 1)) = omega arith in
+    ap (streams_words set index) here ∙ streams_next set index (32 - (index + 1))
 
 -- ---- pairs, and values
+
+-- what is written of items is written of one after the other
+abbrev pub InTurn : {A : Type 0} → (List A → List ℕ) → Type 0
+InTurn {A} written = (item : A) (others : List A) → written (item ∷ others) ≡ written (item ∷ []) ++ written others
+
+pub item_first : {A : Type 0} (written : List A → List ℕ) → InTurn written → (all : List A) (i : ℕ) (item : A) → slice_get all i ≡ Some item
+    → written (drop i all) ≡ written (item ∷ []) ++ written (drop (i + 1) all)
+item_first written turn all i item at = rw add-one (ap written (next_item all i item at) ∙ turn item (drop (suc i) all))
 
 abbrev pub written_wishes : List Wish → List ℕ
 written_wishes wishes = behind (wish_words wishes)
 
+abbrev pub wishes_left : List Wish → ℕ → List ℕ
+wishes_left wishes i = written_wishes (drop i wishes)
+
 pub wishes_in_turn : InTurn written_wishes
-wishes_in_turn = record { none = refl; first = λ wish others. behind_more (wish_words (wish ∷ [])) (wish_words others) }
+wishes_in_turn wish others = behind_more (wish_words (wish ∷ [])) (wish_words others)
 
 abbrev pub written_values : List Value → List ℕ
 written_values values = behind (given_words values)
@@ -96,12 +71,12 @@ written_values values = behind (given_words values)
 pub value_alone : (value : Value) → written_values (value ∷ []) ≡ behind (words_at (at_place value))
 value_alone value = ap behind (append-nil (words_at (at_place value)))
 
+abbrev pub values_left : List Value → ℕ → List ℕ
+values_left values i = written_values (drop i values)
+
 pub values_in_turn : InTurn written_values
-values_in_turn = record {
-  none = refl;
-  first = λ value others.
-      behind_more (words_at (at_place value)) (given_words others) ∙ ap (λ (l : List ℕ). l ++ written_values others) (sym (value_alone value));
-}
+values_in_turn value others =
+    behind_more (words_at (at_place value)) (given_words others) ∙ ap (λ (l : List ℕ). l ++ written_values others) (sym (value_alone value))
 
 -- values that are put behind a first word
 pub line_put : (first line : List ℕ) (values : List Value) → line ≡ first ++ behind (given_words values) → line ≡ placed_line (placed first values)

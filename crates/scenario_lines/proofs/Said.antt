@@ -1,7 +1,5 @@
 -- The line of a step says it where it fits, and a step that a line says fits.
-use Rattle.scenario_lines.proofs.Prelude.{◌≡◌, ℕ, true, List, Some, subst, Values, AllHaveWords, all_words, is_unspaced, joined_split, unspaced, Step, Row, LineIs, Parts, in_row, parts_of, placed_in, placed_line, PlacedFits, Fits, line_of, all_small, is_word, made, of_table, takes_all_last, all_unspaced, says}
-use Rattle.std.proofs.lemmas.Bool.{and_parts}
-use Rattle.scenario_words.specs.Joined.{joined}
+use Rattle.scenario_lines.proofs.Prelude.{◌≡◌, ℕ, true, List, Some, subst, Values, AllHaveWords, all_words, is_unspaced, joined_split, unspaced, Step, Row, LineIs, Parts, in_row, parts_of, placed_in, placed_line, PlacedFits, Fits, line_of, all_small, is_word, made, of_table, takes_all_last, all_unspaced, says, and_parts, joined}
 use Rattle.scenario_text.specs.Table.{row_of}
 use Rattle.scenario_lines.proofs.StepLines.{said, row_fits}
 use Rattle.scenario_lines.proofs.Rows.{has_row, made_of, row_at}

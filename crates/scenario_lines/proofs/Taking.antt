@@ -1,7 +1,5 @@
 -- Where the next word spells an octet, and where a word is left.
-use Rattle.scenario_lines.proofs.Prelude.{◌≡◌, ◌≢◌, ℕ, true, List, [], ◌∷◌, length, Result, Ok, Err, refl, arith}
-use Rattle.std.proofs.lemmas.Bool.{lt-ltb}
-use Rattle.std.specs.Prelude.{nat_lt}
+use Rattle.scenario_lines.proofs.Prelude.{◌≡◌, ◌≢◌, ℕ, true, List, [], ◌∷◌, length, Result, Ok, Err, refl, arith, lt-ltb, nat_lt}
 use Rattle.scenario_words.specs.declared.fault.LineFault.{LineFault}
 use Rattle.scenario_words.specs.Reading.{Left, SpellsNext}
 use Rattle.scenario_lines.specs.Taking.{spells}

@@ -1,7 +1,5 @@
 pub mod Draws
-pub mod Frequent
 pub mod Generated
 pub mod NextSteps
-pub mod Operations
 pub mod State
 pub mod Taking

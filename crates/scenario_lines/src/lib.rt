@@ -3,30 +3,25 @@
 #![tactic(auto)]
 
 mod first_lines;
-mod frequent;
 mod later_lines;
 mod laws;
 mod made_lines;
 mod made_text;
 mod names;
 mod numbers;
-mod operations;
 mod reading;
 mod sink_lines;
 mod source_lines;
 mod streams;
-mod trains;
 mod values;
 mod wishes;
 mod writing;
 
-pub use frequent::{Frequent, read_frequent};
 pub use laws::a_step_has_a_line_where_it_fits;
 pub use made_lines::Lines;
 pub use made_text::generate;
 pub use names::named_of_sink;
-pub use operations::{OperationRoom, read_operation};
+pub use numbers::two_octets;
 pub use reading::{read_line, read_line_in, read_line_over};
 pub use scenario_words::LineFault;
-pub use trains::{TrainHead, TrainRoom, read_train};
 pub use writing::write_line;

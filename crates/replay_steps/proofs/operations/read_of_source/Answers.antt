@@ -1,4 +1,4 @@
-use Rattle.replay_steps.proofs.Prelude.{sym, ◌∙◌}
+use Rattle.replay_steps.proofs.Prelude.{◌∙◌}
 use Rattle.replay_steps.proofs.operations.read_of_source.Goals as goal
 
 pub returns-clause-reads : goal.returns-clause-reads

@@ -1,10 +1,12 @@
-use Rattle.scenario_lines.proofs.Prelude.{arith}
-use Rattle.scenario_lines.proofs.Putting.{stream_put, streams_put}
+use Rattle.scenario_lines.proofs.Prelude.{◌≡◌, ◌-◌, ap, arith}
+use Rattle.scenario_lines.proofs.Putting.{piece_put, pieces_put, stream_first, streams_left, streams_words}
 use Rattle.scenario_lines.proofs.streams.put_streams.Goals as goal
 
 pub indices-preserved : goal.indices-preserved
 indices-preserved c =
-    stream_put c.args.which c.args.line.now c.indices.line c.put_index.new.line c.indices.index (omega arith) c.indices.invariant c.in_ok-put_index.ensures
+    piece_put (streams_left c.args.which) _ _ c.indices.line _ _ c.indices.index (stream_first c.args.which c.indices.index (omega arith)) c.indices.invariant c.in_ok-put_index.ensures
 
 pub returns : goal.returns
-returns c = streams_put c.args.which c.args.line.now c.indices.line c.indices.index (omega arith) c.indices.invariant
+returns c =
+    let none : 32 - c.indices.index ≡ 0 = omega arith in
+    pieces_put (streams_left c.args.which) _ _ _ c.indices.index (ap (streams_words c.args.which c.indices.index) none) c.indices.invariant

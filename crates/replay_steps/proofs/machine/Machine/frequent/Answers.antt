@@ -1,5 +1,4 @@
-use Rattle.replay_steps.proofs.Prelude.{refl, sym, ◌∙◌, ap, arith, length, common_steps, UnitLine}
-use Rattle.scenario_lines.specs.Frequent.{frequent_step}
+use Rattle.replay_steps.proofs.Prelude.{refl, sym, ◌∙◌, ap, arith, length, common_steps, UnitLine, frequent_step}
 use Rattle.replay_steps.proofs.StepLaws.{quiet_as, meets_as}
 use Rattle.replay_steps.proofs.machine.Machine.frequent.Goals as goal
 

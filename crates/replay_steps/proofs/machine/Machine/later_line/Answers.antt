@@ -1,5 +1,4 @@
-use Rattle.replay_steps.proofs.Prelude.{refl, arith, steps_of, airs_of}
-use Rattle.scenario_text.specs.declared.step.Step.TheVariants.{Train}
+use Rattle.replay_steps.proofs.Prelude.{refl, arith, steps_of, airs_of, Train}
 use Rattle.replay_steps.proofs.LineLaws.{lines_beside, runs_line}
 use Rattle.replay_steps.proofs.StepLaws.{stands_beside}
 use Rattle.replay_steps.proofs.machine.Machine.later_line.Goals as goal

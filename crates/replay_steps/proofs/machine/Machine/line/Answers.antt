@@ -1,4 +1,4 @@
-use Rattle.replay_steps.proofs.Prelude.{arith, refl, sym, ◌∙◌, ap, steps_of, stage_in, said_of, version_of, airs_of}
+use Rattle.replay_steps.proofs.Prelude.{refl, sym, ◌∙◌, ap, steps_of, stage_in, said_of, version_of, airs_of}
 use Rattle.replay_steps.proofs.LineLaws.{line_meets, lines_beside}
 use Rattle.replay_steps.proofs.StepLaws.{goes_on_in, meets_step, stands_beside}
 use Rattle.replay_steps.proofs.machine.Machine.line.Goals as goal

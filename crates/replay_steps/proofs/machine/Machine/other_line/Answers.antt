@@ -1,5 +1,4 @@
-use Rattle.replay_steps.proofs.Prelude.{refl, steps_of, airs_of}
-use Rattle.scenario_lines.specs.Operations.{operation_step}
+use Rattle.replay_steps.proofs.Prelude.{refl, steps_of, airs_of, operation_step}
 use Rattle.replay_steps.proofs.LineLaws.{lines_beside, runs_line}
 use Rattle.replay_steps.proofs.StepLaws.{stands_beside}
 use Rattle.replay_steps.proofs.machine.Machine.other_line.Goals as goal

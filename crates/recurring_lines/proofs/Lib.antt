@@ -1,0 +1,5 @@
+mod Prelude
+mod FrequentLines
+mod OperationLines
+mod SinkWords
+mod TrainLines
