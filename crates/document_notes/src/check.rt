@@ -3,9 +3,9 @@ use crate::forms::{BIS, DOCUMENT, GROUP, IDENT, Key, PAC, SINK, SUBGROUP};
 use crate::kinds::Kind;
 use crate::place::{Place, put_place};
 use bcast_base::{Memory, Octets};
+use note_parts::shown;
 use std::alloc::Global;
 use toml::{Table, Value};
-use unit_notes::shown;
 
 /// Puts the first key at which a document in TOML has not the form of a scenario, and what was expected there.
 pub fn put_no_form(rows: &mut Octets, alloc: Global, document: &[u8]) -> Result<(), Memory> {

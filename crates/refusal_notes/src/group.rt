@@ -1,8 +1,8 @@
 //! Which numbers of a group don't go together.
 use bcast_base::{Memory, Octets};
 use big_info::GroupFault;
+use note_parts::{Numbers, put_note, quotient};
 use scenario_words::Word;
-use unit_notes::{Numbers, put_note, quotient};
 
 /// How many events a payload of such a group may be sent ahead.
 fn horizon(of: &Numbers) -> u64 {

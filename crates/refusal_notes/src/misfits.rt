@@ -2,9 +2,9 @@
 use crate::forms::{FIRST, MOST_OCTETS, PLACES, SECOND};
 use crate::words::word_at;
 use bcast_base::{Memory, Octets};
+use note_parts::{put_note, shown};
 use scenario_words::{Word, put_words};
 use std::alloc::Global;
-use unit_notes::{put_note, shown};
 
 /// A line of the language.
 #[derive(Clone, Copy)]

@@ -1,7 +1,7 @@
 use bcast_base::{Memory, Octets};
+use note_parts::Numbers;
 use scenario_text::Step;
 use scenario_words::{Word, put_words};
-use unit_notes::Numbers;
 
 /// Puts the subevent that a step names, and how many the group with these numbers has.
 pub fn put_subevent(rows: &mut Octets, step: &Step, group: &Numbers) -> Result<(), Memory> {

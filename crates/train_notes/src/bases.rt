@@ -2,8 +2,8 @@
 use base_grammar::BaseFault;
 use bcast_base::{Memory, Octets};
 use ltv_codec::LtvBad;
+use note_parts::put_note;
 use scenario_words::Word;
-use unit_notes::put_note;
 
 /// Puts the fault of octets that are no BASE, with its place in them, from 0.
 pub(crate) fn put_base_fault(rows: &mut Octets, fault: BaseFault) -> Result<(), Memory> {

@@ -9,12 +9,12 @@ use crate::wishes::Wants;
 use base_grammar::{Base, decode_base};
 use bass_operations::Wishes;
 use bcast_base::{Bis, BisSet, Memory, Octets};
+use note_parts::put_note;
 use pacs_records::{Capability, NotTaken, PacRecord, PushFault, Records, takes};
 use replay_steps::Machine;
 use scenario_text::Step;
 use scenario_words::{Word, put_words};
 use std::alloc::Global;
-use unit_notes::put_note;
 
 /// The contexts that are available at first: all.
 const ALL_CONTEXTS: u16 = 0xffff;

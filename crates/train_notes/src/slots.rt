@@ -1,11 +1,11 @@
 //! What the slots of a sink have, which a train is compared with.
 use crate::trains::Identity;
 use bcast_base::{Memory, Octets};
+use note_parts::put_note;
 use receive_state::{ReceiveState, StateFault, decode_state};
 use replay_steps::Machine;
 use scenario_words::Word;
 use std::alloc::Global;
-use unit_notes::put_note;
 
 /// Puts by what each filled slot of a sink is known, where no train is wanted by which it is the same.
 pub fn put_slots(

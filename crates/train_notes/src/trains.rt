@@ -6,10 +6,10 @@ use crate::words::octets_at;
 use base_grammar::{broadcast_id, service_data, structure};
 use bcast_base::{BisSet, Memory, Octets};
 use big_info::{BigInfo, Limits, check_group_within, decode_big_info};
+use note_parts::{Numbers, put_note};
 use refusal_notes::{Source, put_fault};
 use scenario_words::Word;
 use std::alloc::Global;
-use unit_notes::{Numbers, put_note};
 
 /// Of the Basic Audio Announcement Service (Basic Audio Profile 1.0, section 3.7.2.2).
 const BASIC_AUDIO_ANNOUNCEMENT: u16 = 0x1851;

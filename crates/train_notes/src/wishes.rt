@@ -6,12 +6,12 @@ use crate::trains::Identity;
 use crate::words::digit_of;
 use bass_operations::{AddSource, ModifySource, OpFault, Operation, Wishes, decode_operation};
 use bcast_base::{Memory, Octets};
+use note_parts::put_note;
 use refusal_notes::word_at;
 use replay_steps::Machine;
 use scenario_text::Step;
 use scenario_words::Word;
 use std::alloc::Global;
-use unit_notes::put_note;
 
 /// What a write is for.
 #[derive(Clone, Copy)]

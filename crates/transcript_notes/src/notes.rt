@@ -3,6 +3,7 @@ ghost use Rattle.std.specs.Prelude.{◌≡◌, ◌⊎◌, length, take, OnErr, O
 
 use crate::rows::{is_joined, put_row_note};
 use bcast_base::{Memory, Octets};
+use note_parts::put_note;
 use refusal_notes::{
     ABSENT, Source, order_of, put_fault, put_misfit, put_subevent, row_of, word_at,
 };
@@ -13,7 +14,7 @@ use scenario_words::Word;
 use std::alloc::Global;
 use train_notes::{Ears, Train, digit_of, is_ignored, put_compared, put_slots, streams_at};
 use transcript_text::Refusal;
-use unit_notes::{Units, put_note};
+use unit_notes::Units;
 
 /// The notes of the lines of a scenario, line by line. It keeps no step of a line that was run: of each source how far it has come and its
 /// schedule, of each sink what it can take, and of each stream at a sink what became of its units and PDUs.

@@ -1,9 +1,9 @@
 //! Notes of the rows of the transcript that a line brought.
 use crate::answers::{of_dropped, of_forged, of_heard, of_reply, of_train};
 use bcast_base::{Memory, Octets};
+use note_parts::put_note;
 use refusal_notes::word_at;
 use scenario_words::Word;
-use unit_notes::put_note;
 
 /// The meaning of a row, where there is one to tell.
 pub(crate) fn meaning_of(row: &[u8]) -> Option<&'static [u8]> {

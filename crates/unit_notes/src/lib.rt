@@ -9,16 +9,10 @@ mod fate;
 mod ledger;
 mod marks;
 mod moment;
-mod note;
-mod numbers;
 mod pdus;
 mod schedule;
-mod showing;
 mod telling;
 mod unit_row;
 mod units;
 
-pub use note::put_note;
-pub use numbers::{Numbers, quotient};
-pub use showing::shown;
 pub use units::Units;

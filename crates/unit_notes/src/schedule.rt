@@ -1,5 +1,5 @@
 //! What a source sends in which subevent, and when its units are rendered, as its lines said it.
-use crate::numbers::{NONE, Numbers, numbers_of, quotient};
+use note_parts::{NONE, Numbers, numbers_of, quotient};
 use scenario_text::Step;
 
 /// A source, with its times in µs.

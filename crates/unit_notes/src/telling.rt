@@ -3,11 +3,11 @@ use crate::early::put_short;
 use crate::fate::{Fate, Foretold};
 use crate::ledger::Stream;
 use crate::marks::has;
-use crate::note::put_note;
 use crate::schedule::Schedule;
 use crate::unit_row::{UnitRow, unit_in};
 use crate::units::Units;
 use bcast_base::{Memory, Octets};
+use note_parts::put_note;
 use scenario_words::Word;
 
 impl Units {

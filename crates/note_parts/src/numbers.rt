@@ -21,7 +21,7 @@ pub struct Numbers {
 }
 
 /// The numbers before any `group` line.
-pub(crate) const NONE: Numbers = Numbers {
+pub const NONE: Numbers = Numbers {
     iso: 0,
     sdu: 0,
     max_sdu: 0,
@@ -37,7 +37,7 @@ pub(crate) const NONE: Numbers = Numbers {
 };
 
 /// The numbers of a step that is `group`.
-pub(crate) fn numbers_of(step: &Step) -> Option<Numbers> {
+pub fn numbers_of(step: &Step) -> Option<Numbers> {
     match step {
         Step::Group {
             iso,
