@@ -1,3 +1,4 @@
+mod Prelude
 mod Readings
 mod PlainBases
 mod BaseLines

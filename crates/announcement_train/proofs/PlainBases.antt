@@ -1,16 +1,9 @@
 -- The plain BASE has an encoding, and takes each index once.
-use Rattle.std.proofs.Common.{ℕ, zero, suc, ◌≡◌, ◌+◌, ◌*◌, ◌≤◌, ◌||◌, false, eqb, ltb, []}
-use Rattle.std.proofs.Common.{◌∷◌, ◌++◌, map, length, Option, Err, Some, None, refl, sym, ap, ◌∙◌, subst, arith, length-append}
+use Rattle.announcement_train.proofs.Prelude.{ℕ, zero, suc, ◌≡◌, ◌+◌, ◌*◌, ◌≤◌, ◌||◌, false, eqb, ltb, [], ◌∷◌, ◌++◌, map, length, Option, Err, Some, None, refl, sym, ap, ◌∙◌, subst, arith, length-append, cond-false, le-ltb, ne_eqb, append-nil, number-length, Endpoint, endpoint, lc3, bis_of, entry, indices, encoding, stands_in, subgroup, Refuses, entry_fault, finish_fault, size_fault, with_entry, plain_entry, plain_entries, plain_subgroup, plain_base_of}
 use Rattle.std.specs.List.{flat_map, range_with_len}
-use Rattle.std.proofs.lemmas.Bool.{cond-false, le-ltb, ne_eqb}
-use Rattle.std.proofs.lemmas.List.{append-nil}
 use Rattle.bcast_base.specs.Encoding.{number}
-use Rattle.bcast_base.proofs.Citable.{number-length}
-use Rattle.base_grammar.specs.Layout.{Endpoint, endpoint, lc3, bis_of, entry, indices, encoding, stands_in, subgroup}
-use Rattle.base_grammar.specs.Draft.{Refuses, entry_fault, finish_fault, size_fault, with_entry}
 use Rattle.base_grammar.specs.declared.fault.DraftFault.{DraftFault}
 use Rattle.base_grammar.specs.declared.fault.DraftFault.TheVariants.{IndexTwice, Memory, NoBis, TooLong}
-use Rattle.announcement_train.specs.PlainBase.{plain_entry, plain_entries, plain_subgroup, plain_base_of}
 
 -- one more entry
 last_of_range : (start n : ℕ) → map plain_entry (range_with_len start (n + 1)) ≡ map plain_entry (range_with_len start n) ++ plain_entry (start + n) ∷ []

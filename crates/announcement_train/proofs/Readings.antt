@@ -1,20 +1,15 @@
 -- An AD list of one structure is read as that structure.
-use Rattle.std.proofs.Common.{ℕ, ◌≡◌, ◌+◌, ◌*◌, ◌/◌, ◌≤◌, ltb, List, [], ◌∷◌, ◌++◌, length, take, drop, Option, Some, None, Ok, refl, sym, ap, ◌∙◌, arith, length-append}
-use Rattle.std.proofs.lemmas.Bool.{cond-false, le-ltb}
-use Rattle.std.proofs.lemmas.List.{append-nil, length-drop, take_all}
+use Rattle.announcement_train.proofs.Prelude.{ℕ, ◌≡◌, ◌+◌, ◌*◌, ◌/◌, ◌≤◌, ltb, List, [], ◌∷◌, ◌++◌, length, take, drop, Option, Some, None, Ok, refl, sym, ap, ◌∙◌, arith, length-append, cond-false, le-ltb, append-nil, length-drop, take_all, structure, Endpoint, BaseIs, IsTrain, announced, basic_audio_announcement, info_ad, service_ad}
 use Rattle.std.proofs.lemmas.Nat.{div-mul-add}
 use Rattle.bcast_base.specs.Encoding.{number}
 use Rattle.ltv_codec.specs.declared.ltvs.Ltv.{Ltv}
-use Rattle.ltv_codec.specs.Layout.{structure}
 use Rattle.ltv_codec.proofs.Citable.{list_read}
 use Rattle.base_grammar.specs.Ad.{first_service, broadcast_audio_announcement}
 use Rattle.base_grammar.specs.AdReading.{ads_read, ads_of, id_in, id_from, broadcast_id_of}
-use Rattle.base_grammar.specs.Layout.{Endpoint, BaseIs}
 use Rattle.big_info.specs.declared.info.BigInfo.{BigInfo}
 use Rattle.big_info.specs.declared.info.Cipher.{Cipher}
 use Rattle.big_info.specs.Layout.{CipherIs, Encodes}
 use Rattle.announcement_train.specs.declared.train.Train.{Train}
-use Rattle.announcement_train.specs.Layout.{IsTrain, announced, basic_audio_announcement, info_ad, service_ad}
 use Rattle.announcement_train.specs.Told.{Tells, TellsBase, TellsInfo}
 
 one_listed : (ad : Ltv) → length ad.value ≤ 254 → ads_of (structure ad) ≡ Ok (ad ∷ [])

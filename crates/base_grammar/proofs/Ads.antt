@@ -1,11 +1,7 @@
 -- What is read as an AD list is one, and what is one is read so.
-use Rattle.std.proofs.Common.{arith}
-use Rattle.base_grammar.proofs.Prelude.{◌≡◌, ℕ, List, [], ◌∷◌, ◌++◌, length, take, Result, Ok, Err, refl, sym, ap, ◌∙◌, take_at, append-nil, IsOctets, LtvBad, Ltv, IsBad, StandsZero, IsLtvList, AreLtvs, ltvs_of, ltvs_in, list_read, read_list}
-use Rattle.std.specs.Result.{result_unwrap_or}
+use Rattle.base_grammar.proofs.Prelude.{◌≡◌, ℕ, List, [], ◌∷◌, ◌++◌, length, take, Result, Ok, Err, refl, sym, ap, ◌∙◌, take_at, append-nil, IsOctets, LtvBad, Ltv, IsBad, StandsZero, IsLtvList, AreLtvs, ltvs_of, ltvs_in, list_read, read_list, arith, result_unwrap_or, IsEnd, IsAdList, IsAdShort, ads_read, ads_of, ads_in}
 use Rattle.ltv_codec.specs.declared.fault.LtvBad.TheVariants.{ZeroLength, Short}
 use Rattle.ltv_codec.proofs.Citable.{read_bad, bad_read}
-use Rattle.base_grammar.specs.Ad.{IsEnd, IsAdList, IsAdShort}
-use Rattle.base_grammar.specs.AdReading.{ads_read, ads_of, ads_in}
 
 ok_same : (xs ys : List Ltv) → (let r : List Ltv → Result (List Ltv) ℕ = λ zs. Ok zs in r xs ≡ r ys) → xs ≡ ys
 ok_same xs ys e = cc

@@ -1,6 +1,5 @@
 -- Looking through a BASE with a set of the indices that were met finds what reading finds.
-use Rattle.base_grammar.proofs.Prelude.{◌≡◌, ◌≢◌, ◌==◌, ℕ, ◌+◌, ◌<◌, ◌≤◌, ◌↔◌, ◌||◌, Bool, true, false, eqb, List, [], ◌∷◌, ◌++◌, length, map, Option, Some, None, Result, Ok, Err, refl, sym, ap, subst, ◌∙◌, append_assoc, arith, IsTrue, cases_lt, lt-ltb, le-ltb, eqb-true, eqb-false, false_from_ne_true, map_push, list_any-append, octet_in, octets_in, place_in, BaseFault, BaseEntry, Subgroup, Endpoint, is_lc3, bis_of, indices, stands_in, index_fault, Finds, field_at, unless, rest_of, told}
-use Rattle.std.specs.Result.{result_err}
+use Rattle.base_grammar.proofs.Prelude.{◌≡◌, ◌≢◌, ◌==◌, ℕ, ◌+◌, ◌<◌, ◌≤◌, ◌↔◌, ◌||◌, Bool, true, false, eqb, List, [], ◌∷◌, ◌++◌, length, map, Option, Some, None, Result, Ok, Err, refl, sym, ap, subst, ◌∙◌, append_assoc, arith, IsTrue, cases_lt, lt-ltb, le-ltb, eqb-true, eqb-false, false_from_ne_true, map_push, list_any-append, octet_in, octets_in, place_in, BaseFault, BaseEntry, Subgroup, Endpoint, is_lc3, bis_of, indices, stands_in, index_fault, Finds, field_at, unless, rest_of, told, result_err}
 use Rattle.bcast_base.specs.Bis.{Has}
 use Rattle.base_grammar.specs.declared.fault.BaseFault.TheVariants as faults
 use Rattle.base_grammar.specs.Checking.{Seen, Passed, Passes, same_bis, entry_bis, entries_bis, subgroup_bis}

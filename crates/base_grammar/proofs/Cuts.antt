@@ -21,11 +21,11 @@ entry_comes : (whole : List ℕ) (is_list : Bool) (streams subgroups : ℕ) (bef
 unfolding entry_at index_at
 entry_comes whole is_list streams subgroups before rest a =
     comes_then whole (λ bis. due_at bis_config_length is_list streams subgroups (before ++ bis ∷ [])) (λ (e : BaseEntry). entered is_list streams subgroups (before ++ e.bis ∷ []))
-    (index_at whole before rest) (λ bis. run_at whole is_list bis.1 >>= λ config. Ok (record { bis = bis.0; config = config.0 }, config.1))
+    (index_at whole before rest) _
     (ruled_octet_comes whole (due_at bis_index is_list streams subgroups before) rest (index_fault (place_in whole rest) before) a tt refl (λ x. refl))
     (λ bis _ a1.
     comes_then whole (λ (_ : List ℕ). entered is_list streams subgroups (before ++ bis.0 ∷ [])) (λ (e : BaseEntry). entered is_list streams subgroups (before ++ e.bis ∷ []))
-    (run_at whole is_list bis.1) (λ config. Ok (record { bis = bis.0; config = config.0 }, config.1))
+    (run_at whole is_list bis.1) _
     (run_comes whole (due_at bis_config_length is_list streams subgroups (before ++ bis.0 ∷ [])) (λ x. due_at (bis_config x) is_list streams subgroups (before ++ bis.0 ∷ []))
     (entered is_list streams subgroups (before ++ bis.0 ∷ [])) is_list bis.1
     (grind (arith, behind_entry_row, bis_config, bis_config_length)) a1)
@@ -39,16 +39,13 @@ entries_come : (whole : List ℕ) (is_list : Bool) (n subgroups : ℕ) (before r
 unfolding entries_at
 entries_come whole is_list zero subgroups before rest a =
     comes_then whole (λ (e : BaseEntry). entered is_list 1 subgroups (before ++ e.bis ∷ [])) (λ (es : List BaseEntry). grouped is_list subgroups (before ++ map bis_of es))
-    (entry_at whole is_list before rest) (λ first. entries_at whole is_list (before ++ first.0.bis ∷ []) zero first.1 >>= λ others. Ok (first.0 ∷ others.0, others.1))
-    (entry_comes whole is_list 1 subgroups before rest a) (λ first _ a1. a1)
+    (entry_at whole is_list before rest) _ (entry_comes whole is_list 1 subgroups before rest a) (λ first _ a1. a1)
 entries_come whole is_list (suc n) subgroups before rest a =
     comes_then whole (λ (e : BaseEntry). entered is_list (suc (suc n)) subgroups (before ++ e.bis ∷ [])) (λ (es : List BaseEntry). grouped is_list subgroups (before ++ map bis_of es))
-    (entry_at whole is_list before rest) (λ first. entries_at whole is_list (before ++ first.0.bis ∷ []) (suc n) first.1 >>= λ others. Ok (first.0 ∷ others.0, others.1))
-    (entry_comes whole is_list (suc (suc n)) subgroups before rest a)
+    (entry_at whole is_list before rest) _ (entry_comes whole is_list (suc (suc n)) subgroups before rest a)
     (λ first _ a1.
     comes_then whole (λ (es : List BaseEntry). grouped is_list subgroups ((before ++ first.0.bis ∷ []) ++ map bis_of es)) (λ (es : List BaseEntry). grouped is_list subgroups (before ++ map bis_of es))
-    (entries_at whole is_list (before ++ first.0.bis ∷ []) (suc n) first.1) (λ others. Ok (first.0 ∷ others.0, others.1))
-    (entries_come whole is_list n subgroups (before ++ first.0.bis ∷ []) first.1 a1)
+    (entries_at whole is_list (before ++ first.0.bis ∷ []) (suc n) first.1) _ (entries_come whole is_list n subgroups (before ++ first.0.bis ∷ []) first.1 a1)
     (λ others _ a2. subst (λ (bs : List ℕ). At whole (grouped is_list subgroups bs) others.1) (append_assoc before (first.0.bis ∷ []) (map bis_of others.0)) a2))
 
 -- ---- subgroups
@@ -63,33 +60,24 @@ subgroup_comes : (whole : List ℕ) (is_list : Bool) (streams subgroups : ℕ) (
     → Comes whole (subgrouped subgroups before) (subgroup_at whole before rest)
 unfolding subgroup_at streams_at
 subgroup_comes whole is_list streams subgroups before rest a =
-    comes_then whole (λ n. due_at codec_id is_list n subgroups before) (subgrouped subgroups before) (streams_at whole rest)
-    (λ count. field_at whole count.1 (octets_in 5 count.1) >>= λ codec. run_at whole (is_lc3 codec.0) codec.1 >>= λ config. run_at whole true config.1
-    >>= λ metadata. entries_at whole (is_lc3 codec.0) before count.0 metadata.1
-    >>= λ entries. Ok (record { codec = codec.0; config = config.0; metadata = metadata.0; entries = entries.0 }, entries.1))
+    comes_then whole (λ n. due_at codec_id is_list n subgroups before) (subgrouped subgroups before) (streams_at whole rest) _
     (ruled_octet_comes whole (due_at num_bis is_list streams subgroups before) rest (streams_fault (place_in whole rest)) a tt refl (λ x. refl))
     (λ count read a1.
-    comes_then whole (λ codec. due_at config_length (is_lc3 codec) count.0 subgroups before) (subgrouped subgroups before) (field_at whole count.1 (octets_in 5 count.1))
-    (λ codec. run_at whole (is_lc3 codec.0) codec.1 >>= λ config. run_at whole true config.1 >>= λ metadata. entries_at whole (is_lc3 codec.0) before count.0 metadata.1
-    >>= λ entries. Ok (record { codec = codec.0; config = config.0; metadata = metadata.0; entries = entries.0 }, entries.1))
+    comes_then whole (λ codec. due_at config_length (is_lc3 codec) count.0 subgroups before) (subgrouped subgroups before) (field_at whole count.1 (octets_in 5 count.1)) _
     (octets_come whole (due_at codec_id is_list count.0 subgroups before) 5 count.1 a1 tt refl (λ field. refl))
     (λ codec _ a2.
-    comes_then whole (λ (_ : List ℕ). due_at metadata_length (is_lc3 codec.0) count.0 subgroups before) (subgrouped subgroups before) (run_at whole (is_lc3 codec.0) codec.1)
-    (λ config. run_at whole true config.1 >>= λ metadata. entries_at whole (is_lc3 codec.0) before count.0 metadata.1
-    >>= λ entries. Ok (record { codec = codec.0; config = config.0; metadata = metadata.0; entries = entries.0 }, entries.1))
+    comes_then whole (λ (_ : List ℕ). due_at metadata_length (is_lc3 codec.0) count.0 subgroups before) (subgrouped subgroups before) (run_at whole (is_lc3 codec.0) codec.1) _
     (run_comes whole (due_at config_length (is_lc3 codec.0) count.0 subgroups before) (λ x. due_at (config x) (is_lc3 codec.0) count.0 subgroups before)
     (due_at metadata_length (is_lc3 codec.0) count.0 subgroups before) (is_lc3 codec.0) codec.1
     (record { is_due = tt; one = refl; sound = λ p x. refl; counted = λ x. refl; run_due = λ x. tt; long = λ x. refl; rule = λ x p field. refl; behind = λ x field. refl }) a2)
     (λ level2 _ a3.
-    comes_then whole (λ (_ : List ℕ). due_at bis_index (is_lc3 codec.0) count.0 subgroups before) (subgrouped subgroups before) (run_at whole true level2.1)
-    (λ metadata. entries_at whole (is_lc3 codec.0) before count.0 metadata.1 >>= λ entries. Ok (record { codec = codec.0; config = level2.0; metadata = metadata.0; entries = entries.0 }, entries.1))
+    comes_then whole (λ (_ : List ℕ). due_at bis_index (is_lc3 codec.0) count.0 subgroups before) (subgrouped subgroups before) (run_at whole true level2.1) _
     (run_comes whole (due_at metadata_length (is_lc3 codec.0) count.0 subgroups before) (λ x. due_at (metadata x) (is_lc3 codec.0) count.0 subgroups before)
     (due_at bis_index (is_lc3 codec.0) count.0 subgroups before) true level2.1
     (record { is_due = tt; one = refl; sound = λ p x. refl; counted = λ x. refl; run_due = λ x. tt; long = λ x. refl; rule = λ x p field. refl; behind = λ x field. refl }) a3)
     (λ told _ a4.
     let n : count.0 ≡ suc (count.0 - 1) = more_than count.0 (streams_take whole rest count.0 count.1 read).1 in
-    comes_then whole (λ (es : List BaseEntry). grouped (is_lc3 codec.0) subgroups (before ++ map bis_of es)) (subgrouped subgroups before) (entries_at whole (is_lc3 codec.0) before count.0 told.1)
-    (λ entries. Ok (record { codec = codec.0; config = level2.0; metadata = told.0; entries = entries.0 }, entries.1))
+    comes_then whole (λ (es : List BaseEntry). grouped (is_lc3 codec.0) subgroups (before ++ map bis_of es)) (subgrouped subgroups before) (entries_at whole (is_lc3 codec.0) before count.0 told.1) _
     (grind (arith, is_lc3, map, bis_of, entries_come, bis_index))
     (λ entries _ a5. a5)))))
 

@@ -1,9 +1,5 @@
 -- Octets encode one BASE at most, whatever its fields are: what is read of the octets of some parts are these parts.
-use Rattle.base_grammar.proofs.Prelude.{◌≡◌, ℕ, ◌-◌, ◌≤◌, ◌<◌, ◌^◌, true, List, [], ◌∷◌, ◌++◌, length, take, Option, Some, None, SomeIff, Result, Ok, Err, refl, sym, ap, ◌∙◌, append_assoc, arith, lt-ltb, take_at, append_cancel_left, flat_map-cons, flat_map, AllByRecursion, IsOctets, counted, number_again, number_in, BaseFault, BaseEntry, Subgroup, Endpoint, entry, subgroup, encoding, SubgroupFits, BaseIs, TooLong}
-use Rattle.std.proofs.lemmas.Option.{some_pair_parts}
-use Rattle.std.specs.Option.{is_none}
-use Rattle.std.specs.Result.{result_err}
-use Rattle.base_grammar.specs.Layout.{HasCodec}
+use Rattle.base_grammar.proofs.Prelude.{◌≡◌, ℕ, ◌-◌, ◌≤◌, ◌<◌, ◌^◌, true, List, [], ◌∷◌, ◌++◌, length, take, Option, Some, None, SomeIff, Result, Ok, Err, refl, sym, ap, ◌∙◌, append_assoc, arith, lt-ltb, take_at, append_cancel_left, flat_map-cons, flat_map, AllByRecursion, IsOctets, counted, number_again, number_in, BaseFault, BaseEntry, Subgroup, Endpoint, entry, subgroup, encoding, SubgroupFits, BaseIs, TooLong, some_pair_parts, is_none, result_err, HasCodec}
 use Rattle.base_grammar.specs.Reading.{base_of}
 use Rattle.base_grammar.proofs.Again.{base_takes}
 use Rattle.base_grammar.proofs.Sizes.{length-encoding}

@@ -1,6 +1,5 @@
 -- Which indices stand before, as the code asks for them and as reading does.
-use Rattle.std.proofs.Common.{arith}
-use Rattle.base_grammar.proofs.Prelude.{◌≡◌, ◌==◌, ℕ, Bool, ◌||◌, List, [], ◌∷◌, ◌++◌, map, refl, ap, list_any, list_any-append, flat_map-cons, BaseEntry, Subgroup, bis_of, indices, stands_in}
+use Rattle.base_grammar.proofs.Prelude.{◌≡◌, ◌==◌, ℕ, Bool, ◌||◌, List, [], ◌∷◌, ◌++◌, map, refl, ap, list_any, list_any-append, flat_map-cons, BaseEntry, Subgroup, bis_of, indices, stands_in, arith}
 
 -- one of the entries has the index
 abbrev pub in_entries : ℕ → List BaseEntry → Bool

@@ -1,8 +1,6 @@
 -- Looking for Service Data, structure by structure.
-use Rattle.base_grammar.proofs.Prelude.{◌≡◌, ℕ, ◌+◌, List, [], ◌∷◌, ◌++◌, length, Option, Some, None, refl, sym, ap, ◌∙◌, arith, option_or, same_Some, flat_map-cons, IsOctets, counted_in, counted_again, Ltv, structure, IsLtvList, AreLtvs, ltvs_in, list_in, reads}
+use Rattle.base_grammar.proofs.Prelude.{◌≡◌, ℕ, ◌+◌, List, [], ◌∷◌, ◌++◌, length, Option, Some, None, refl, sym, ap, ◌∙◌, arith, option_or, same_Some, flat_map-cons, IsOctets, counted_in, counted_again, Ltv, structure, IsLtvList, AreLtvs, ltvs_in, list_in, reads, service_in, first_service, service_of}
 use Rattle.ltv_codec.specs.Layout.{encoding}
-use Rattle.base_grammar.specs.Ad.{service_in, first_service}
-use Rattle.base_grammar.specs.AdReading.{service_of}
 
 -- the rest is a list in which the first Service Data is that of the whole
 pub record Unfound (uuid : ℕ) (list rest : List ℕ) : Type 0 where

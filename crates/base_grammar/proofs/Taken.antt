@@ -9,9 +9,8 @@ pub run_takes : (whole : List ℕ) (is_list : Bool) (from value rest : List ℕ)
     → Takes from (counted value) rest × IsConfig is_list value
 unfolding run_at
 run_takes whole is_list from value rest fits e =
-    let a = bind_ok (field_at whole from (octet_in from)) (λ count. field_at whole count.1 (octets_in count.0 count.1) >>= λ run. unless (run_fault (place_in whole count.1) is_list run.0) run)
-    (value, rest) e in
-    let b = bind_ok (field_at whole a.0.1 (octets_in a.0.0 a.0.1)) (λ run. unless (run_fault (place_in whole a.0.1) is_list run.0) run) (value, rest) a.2 in
+    let a = bind_ok (field_at whole from (octet_in from)) _ (value, rest) e in
+    let b = bind_ok (field_at whole a.0.1 (octets_in a.0.0 a.0.1)) _ (value, rest) a.2 in
     let g = unless_ok (run_fault (place_in whole a.0.1) is_list b.0.0) b.0 (value, rest) b.2 in
     let count = octet_takes from a.0.0 a.0.1 (field_ok whole from (octet_in from) a.0 a.1) in
     let run = octets_take a.0.0 a.0.1 b.0.0 b.0.1 (field_ok whole a.0.1 (octets_in a.0.0 a.0.1) b.0 b.1) in
@@ -25,7 +24,7 @@ pub index_takes : (whole before from : List ℕ) (bis : ℕ) (rest : List ℕ) �
     → Takes from (octet bis) rest × ((1 ≤ bis) × (bis ≤ 31) × (stands_in before bis ≡ false))
 unfolding index_at
 index_takes whole before from bis rest e =
-    let a = bind_ok (field_at whole from (octet_in from)) (λ x. unless (index_fault (place_in whole from) before x.0) x) (bis, rest) e in
+    let a = bind_ok (field_at whole from (octet_in from)) _ (bis, rest) e in
     let g = unless_ok (index_fault (place_in whole from) before a.0.0) a.0 (bis, rest) a.2 in
     let taken = octet_takes from a.0.0 a.0.1 (field_ok whole from (octet_in from) a.0 a.1) in
     subst (λ (x : ℕ × List ℕ). Takes from (octet x.0) x.1 × ((1 ≤ x.0) × (x.0 ≤ 31) × (stands_in before x.0 ≡ false))) g.1
@@ -52,8 +51,8 @@ entry_takes : (whole : List ℕ) (is_list : Bool) (before from : List ℕ) (x : 
     → EntryTaken is_list before from x.0 x.1
 unfolding entry_at
 entry_takes whole is_list before from x octets e =
-    let a = bind_ok (index_at whole before from) (λ bis. run_at whole is_list bis.1 >>= λ config. Ok (record { bis = bis.0; config = config.0 }, config.1)) x e in
-    let b = bind_ok (run_at whole is_list a.0.1) (λ config. Ok (record { bis = a.0.0; config = config.0 }, config.1)) x a.2 in
+    let a = bind_ok (index_at whole before from) _ x e in
+    let b = bind_ok (run_at whole is_list a.0.1) _ x a.2 in
     let t0 = index_takes whole before from a.0.0 a.0.1 a.1 in
     let t1 = run_takes whole is_list a.0.1 b.0.0 b.0.1 (t0.0.fits octets) b.1 in
     let made : BaseEntry × List ℕ = (record { bis = a.0.0; config = b.0.0 }, b.0.1) in
@@ -71,8 +70,8 @@ entries_take : (whole : List ℕ) (is_list : Bool) (before : List ℕ) (count : 
 unfolding entries_at
 entries_take whole is_list before zero from x octets e = grind (arith, ok_is)
 entries_take whole is_list before (suc n) from x octets e =
-    let a = bind_ok (entry_at whole is_list before from) (λ first. entries_at whole is_list (before ++ first.0.bis ∷ []) n first.1 >>= λ others. Ok (first.0 ∷ others.0, others.1)) x e in
-    let b = bind_ok (entries_at whole is_list (before ++ a.0.0.bis ∷ []) n a.0.1) (λ others. Ok (a.0.0 ∷ others.0, others.1)) x a.2 in
+    let a = bind_ok (entry_at whole is_list before from) _ x e in
+    let b = bind_ok (entries_at whole is_list (before ++ a.0.0.bis ∷ []) n a.0.1) _ x a.2 in
     let first = entry_takes whole is_list before from a.0 octets a.1 in
     let others = entries_take whole is_list (before ++ a.0.0.bis ∷ []) n a.0.1 b.0 (first.taken.fits octets) b.1 in
     let both = Takes-then from (entry a.0.0) a.0.1 (flat_map entry b.0.0) b.0.1 first.taken others.taken in
@@ -91,29 +90,17 @@ pub record SubgroupTaken (before from : List ℕ) (s : Subgroup) (rest : List �
 subgroup_takes : (whole before from : List ℕ) (x : Subgroup × List ℕ) → IsOctets from → subgroup_at whole before from ≡ Ok x → SubgroupTaken before from x.0 x.1
 unfolding subgroup_at
 subgroup_takes whole before from x octets e =
-    let a = bind_ok (streams_at whole from)
-    (λ count. field_at whole count.1 (octets_in 5 count.1) >>= λ codec. run_at whole (is_lc3 codec.0) codec.1 >>= λ config. run_at whole true config.1
-    >>= λ metadata. entries_at whole (is_lc3 codec.0) before count.0 metadata.1
-    >>= λ entries. Ok (record { codec = codec.0; config = config.0; metadata = metadata.0; entries = entries.0 }, entries.1)) x e in
-    let b = bind_ok (field_at whole a.0.1 (octets_in 5 a.0.1))
-    (λ codec. run_at whole (is_lc3 codec.0) codec.1 >>= λ config. run_at whole true config.1 >>= λ metadata. entries_at whole (is_lc3 codec.0) before a.0.0 metadata.1
-    >>= λ entries. Ok (record { codec = codec.0; config = config.0; metadata = metadata.0; entries = entries.0 }, entries.1)) x a.2 in
-    let c = bind_ok (run_at whole (is_lc3 b.0.0) b.0.1)
-    (λ config. run_at whole true config.1 >>= λ metadata. entries_at whole (is_lc3 b.0.0) before a.0.0 metadata.1
-    >>= λ entries. Ok (record { codec = b.0.0; config = config.0; metadata = metadata.0; entries = entries.0 }, entries.1)) x b.2 in
-    let d = bind_ok (run_at whole true c.0.1)
-    (λ metadata. entries_at whole (is_lc3 b.0.0) before a.0.0 metadata.1
-    >>= λ entries. Ok (record { codec = b.0.0; config = c.0.0; metadata = metadata.0; entries = entries.0 }, entries.1)) x c.2 in
-    let f = bind_ok (entries_at whole (is_lc3 b.0.0) before a.0.0 d.0.1) (λ entries. Ok (record { codec = b.0.0; config = c.0.0; metadata = d.0.0; entries = entries.0 }, entries.1)) x d.2 in
+    let a = bind_ok (streams_at whole from) _ x e in
+    let b = bind_ok (field_at whole a.0.1 (octets_in 5 a.0.1)) _ x a.2 in
+    let c = bind_ok (run_at whole (is_lc3 b.0.0) b.0.1) _ x b.2 in
+    let d = bind_ok (run_at whole true c.0.1) _ x c.2 in
+    let f = bind_ok (entries_at whole (is_lc3 b.0.0) before a.0.0 d.0.1) _ x d.2 in
     let t0 = streams_take whole from a.0.0 a.0.1 a.1 in
     let t1 = octets_take 5 a.0.1 b.0.0 b.0.1 (field_ok whole a.0.1 (octets_in 5 a.0.1) b.0 b.1) in
     let t2 = run_takes whole (is_lc3 b.0.0) b.0.1 c.0.0 c.0.1 (t1.0.fits (t0.0.fits octets)) c.1 in
     let t3 = run_takes whole true c.0.1 d.0.0 d.0.1 (t2.0.fits (t1.0.fits (t0.0.fits octets))) d.1 in
     let t4 = entries_take whole (is_lc3 b.0.0) before a.0.0 d.0.1 f.0 (t3.0.fits (t2.0.fits (t1.0.fits (t0.0.fits octets)))) f.1 in
-    let e34 = Takes-then c.0.1 (counted d.0.0) d.0.1 (flat_map entry f.0.0) f.0.1 t3.0 t4.taken in
-    let e24 = Takes-then b.0.1 (counted c.0.0) c.0.1 (counted d.0.0 ++ flat_map entry f.0.0) f.0.1 t2.0 e34 in
-    let e14 = Takes-then a.0.1 b.0.0 b.0.1 (counted c.0.0 ++ (counted d.0.0 ++ flat_map entry f.0.0)) f.0.1 t1.0 e24 in
-    let e04 = Takes-then from (octet a.0.0) a.0.1 (b.0.0 ++ (counted c.0.0 ++ (counted d.0.0 ++ flat_map entry f.0.0))) f.0.1 t0.0 e14 in
+    let e04 = Takes-then _ _ _ _ _ t0.0 (Takes-then _ _ _ _ _ t1.0 (Takes-then _ _ _ _ _ t2.0 (Takes-then _ _ _ _ _ t3.0 t4.taken))) in
     let made : Subgroup × List ℕ = (record { codec = b.0.0; config = c.0.0; metadata = d.0.0; entries = f.0.0 }, f.0.1) in
     let found : SubgroupTaken before from made.0 made.1 = record {
       taken = subst (λ (n : ℕ). Takes from (n ∷ (b.0.0 ++ (counted c.0.0 ++ (counted d.0.0 ++ flat_map entry f.0.0)))) f.0.1) (sym t4.many) e04;
@@ -139,8 +126,8 @@ subgroups_take : (whole before : List ℕ) (count : ℕ) (from : List ℕ) (x : 
 unfolding subgroups_at
 subgroups_take whole before zero from x octets e = grind (arith, ok_is)
 subgroups_take whole before (suc n) from x octets e =
-    let a = bind_ok (subgroup_at whole before from) (λ first. subgroups_at whole (before ++ map bis_of first.0.entries) n first.1 >>= λ others. Ok (first.0 ∷ others.0, others.1)) x e in
-    let b = bind_ok (subgroups_at whole (before ++ map bis_of a.0.0.entries) n a.0.1) (λ others. Ok (a.0.0 ∷ others.0, others.1)) x a.2 in
+    let a = bind_ok (subgroup_at whole before from) _ x e in
+    let b = bind_ok (subgroups_at whole (before ++ map bis_of a.0.0.entries) n a.0.1) _ x a.2 in
     let first = subgroup_takes whole before from a.0 octets a.1 in
     let others = subgroups_take whole (before ++ map bis_of a.0.0.entries) n a.0.1 b.0 (first.taken.fits octets) b.1 in
     let both = Takes-then from (subgroup a.0.0) a.0.1 (flat_map subgroup b.0.0) b.0.1 first.taken others.taken in
@@ -164,10 +151,9 @@ pub record FieldsTaken (from : List ℕ) (v : Endpoint) : Type 0 where
 pub fields_take : (whole : List ℕ) (v : Endpoint) → IsOctets whole → fields_of whole ≡ Ok v → FieldsTaken whole v
 unfolding fields_of
 fields_take whole v fits e =
-    let a = bind_ok (field_at whole whole (number_in 3 whole))
-    (λ delay. count_at whole delay.1 >>= λ count. subgroups_at whole [] count.0 count.1 >>= λ subgroups. ended whole subgroups.1 (endpoint delay.0 subgroups.0)) v e in
-    let b = bind_ok (count_at whole a.0.1) (λ count. subgroups_at whole [] count.0 count.1 >>= λ subgroups. ended whole subgroups.1 (endpoint a.0.0 subgroups.0)) v a.2 in
-    let c = bind_ok (subgroups_at whole [] b.0.0 b.0.1) (λ subgroups. ended whole subgroups.1 (endpoint a.0.0 subgroups.0)) v b.2 in
+    let a = bind_ok (field_at whole whole (number_in 3 whole)) _ v e in
+    let b = bind_ok (count_at whole a.0.1) _ v a.2 in
+    let c = bind_ok (subgroups_at whole [] b.0.0 b.0.1) _ v b.2 in
     let made : Endpoint = record { delay = a.0.0; subgroups = c.0.0 } in
     let last = ended_ok whole c.0.1 made v c.2 in
     let t0 = number_takes 3 whole a.0.0 a.0.1 fits (field_ok whole whole (number_in 3 whole) a.0 a.1) in

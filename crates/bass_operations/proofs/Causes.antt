@@ -1,6 +1,5 @@
 -- What is wrong with octets, as it is found and as it is told.
-use Rattle.std.proofs.Common.{arith}
-use Rattle.bass_operations.proofs.Prelude.{◌≡◌, ℕ, ◌<◌, ◌≤◌, Bool, true, cond, ltb, List, [], ◌∷◌, length, Option, Some, None, Result, Ok, Err, refl, ap, subst, ◌∙◌, IsOk, IfOk, IfErr, ltb-false, ltb-true, lt-ltb, le-ltb, reserved_from, IsOctets, IsOctets-rest, reserved_first, first_reserved, reserved_none, none_reserved, OpFault, Empty, Opcode, Length, Rfu, BisTwice, Memory, Operation, Wish, AllByRecursion, fields, wishes_of, IsLaid, OpIs, FitsWidths, MetadataFits, WishFits, WantsFor, op_of, judged, fault_of, first_fault, told, Answers, Finds, twice_of}
+use Rattle.bass_operations.proofs.Prelude.{◌≡◌, ℕ, ◌<◌, ◌≤◌, Bool, true, cond, ltb, List, [], ◌∷◌, length, Option, Some, None, Result, Ok, Err, refl, ap, subst, ◌∙◌, IsOk, IfOk, IfErr, ltb-false, ltb-true, lt-ltb, le-ltb, reserved_from, IsOctets, IsOctets-rest, reserved_first, first_reserved, reserved_none, none_reserved, OpFault, Empty, Opcode, Length, Rfu, BisTwice, Memory, Operation, Wish, AllByRecursion, fields, wishes_of, IsLaid, OpIs, FitsWidths, MetadataFits, WishFits, WantsFor, op_of, judged, fault_of, first_fault, told, Answers, Finds, twice_of, arith}
 use Rattle.bass_operations.specs.Faults.{IsFault}
 use Rattle.bass_operations.specs.Reading.{op_in}
 use Rattle.bass_operations.proofs.Judged.{op_laid, laid_read, answered_err, laid_is_judged, read_is}

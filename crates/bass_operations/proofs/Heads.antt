@@ -26,52 +26,22 @@ pub record IsAddHead (from : List ℕ) (x : AddSource × ℕ × List ℕ) : Type
 pub add_head_takes : (from : List ℕ) (x : AddSource × ℕ × List ℕ) → IsOctets from → add_head_in from ≡ Some x → IsAddHead from x
 unfolding add_head_in
 add_head_takes from x h e =
-    let s0 = bind_some (octet_in from)
-    (λ kind. octets_in 6 kind.1 >>= λ address. octet_in address.1 >>= λ sid. octets_in 3 sid.1 >>= λ id. octet_in id.1 >>= λ sync. number_in 2 sync.1 >>= λ interval. octet_in interval.1
-    >>= λ count. Some (record { address_type = kind.0; address = address.0; sid = sid.0; broadcast_id = id.0; pa_sync = sync.0; pa_interval = interval.0; wishes = [] }, count.0, count.1)) x e in
-    let s1 = bind_some (octets_in 6 s0.0.1)
-    (λ address. octet_in address.1 >>= λ sid. octets_in 3 sid.1 >>= λ id. octet_in id.1 >>= λ sync. number_in 2 sync.1 >>= λ interval. octet_in interval.1
-    >>= λ count. Some (
-      record { address_type = s0.0.0; address = address.0; sid = sid.0; broadcast_id = id.0; pa_sync = sync.0; pa_interval = interval.0; wishes = [] },
-      count.0,
-      count.1,
-    )) x s0.2 in
-    let s2 = bind_some (octet_in s1.0.1)
-    (λ sid. octets_in 3 sid.1 >>= λ id. octet_in id.1 >>= λ sync. number_in 2 sync.1 >>= λ interval. octet_in interval.1
-    >>= λ count. Some (record { address_type = s0.0.0; address = s1.0.0; sid = sid.0; broadcast_id = id.0; pa_sync = sync.0; pa_interval = interval.0; wishes = [] }, count.0, count.1)) x s1.2 in
-    let s3 = bind_some (octets_in 3 s2.0.1)
-    (λ id. octet_in id.1 >>= λ sync. number_in 2 sync.1 >>= λ interval. octet_in interval.1
-    >>= λ count. Some (record { address_type = s0.0.0; address = s1.0.0; sid = s2.0.0; broadcast_id = id.0; pa_sync = sync.0; pa_interval = interval.0; wishes = [] }, count.0, count.1)) x s2.2 in
-    let s4 = bind_some (octet_in s3.0.1)
-    (λ sync. number_in 2 sync.1 >>= λ interval. octet_in interval.1
-    >>= λ count. Some (
-      record { address_type = s0.0.0; address = s1.0.0; sid = s2.0.0; broadcast_id = s3.0.0; pa_sync = sync.0; pa_interval = interval.0; wishes = [] },
-      count.0,
-      count.1,
-    )) x s3.2 in
-    let s5 = bind_some (number_in 2 s4.0.1)
-    (λ interval. octet_in interval.1
-    >>= λ count. Some (
-      record { address_type = s0.0.0; address = s1.0.0; sid = s2.0.0; broadcast_id = s3.0.0; pa_sync = s4.0.0; pa_interval = interval.0; wishes = [] },
-      count.0,
-      count.1,
-    )) x s4.2 in
-    let s6 = bind_some (octet_in s5.0.1)
-    (λ count. Some (record { address_type = s0.0.0; address = s1.0.0; sid = s2.0.0; broadcast_id = s3.0.0; pa_sync = s4.0.0; pa_interval = s5.0.0; wishes = [] }, count.0, count.1)) x s5.2 in
+    let s0 = bind_some (octet_in from) _ x e in
+    let s1 = bind_some (octets_in 6 s0.0.1) _ x s0.2 in
+    let s2 = bind_some (octet_in s1.0.1) _ x s1.2 in
+    let s3 = bind_some (octets_in 3 s2.0.1) _ x s2.2 in
+    let s4 = bind_some (octet_in s3.0.1) _ x s3.2 in
+    let s5 = bind_some (number_in 2 s4.0.1) _ x s4.2 in
+    let s6 = bind_some (octet_in s5.0.1) _ x s5.2 in
     let t0 = octet_takes from s0.0.0 s0.0.1 s0.1 in
-    let h0 : IsOctets s0.0.1 = t0.fits h in
     let t1 = octets_take 6 s0.0.1 s1.0.0 s1.0.1 s1.1 in
-    let h1 : IsOctets s1.0.1 = t1.0.fits h0 in
     let t2 = octet_takes s1.0.1 s2.0.0 s2.0.1 s2.1 in
-    let h2 : IsOctets s2.0.1 = t2.fits h1 in
     let t3 = octets_take 3 s2.0.1 s3.0.0 s3.0.1 s3.1 in
-    let h3 : IsOctets s3.0.1 = t3.0.fits h2 in
     let t4 = octet_takes s3.0.1 s4.0.0 s4.0.1 s4.1 in
-    let h4 : IsOctets s4.0.1 = t4.fits h3 in
+    let h4 : IsOctets s4.0.1 = t4.fits (t3.0.fits (t2.fits (t1.0.fits (t0.fits h)))) in
     let t5 = number_takes 2 s4.0.1 s5.0.0 s5.0.1 h4 s5.1 in
     let h5 : IsOctets s5.0.1 = t5.0.fits h4 in
     let t6 = octet_takes s5.0.1 s6.0.0 s6.0.1 s6.1 in
-    let h6 : IsOctets s6.0.1 = t6.fits h5 in
     let parts = t0.parts ∙ ap (λ (z : List ℕ). octet s0.0.0 ++ z)
     (t1.0.parts ∙ ap (λ (z : List ℕ). s1.0.0 ++ z)
     (t2.parts ∙ ap (λ (z : List ℕ). octet s2.0.0 ++ z)
@@ -79,7 +49,7 @@ add_head_takes from x h e =
     let read : AddSource × ℕ × List ℕ =
     (record { address_type = s0.0.0; address = s1.0.0; sid = s2.0.0; broadcast_id = s3.0.0; pa_sync = s4.0.0; pa_interval = s5.0.0; wishes = [] }, s6.0.0, s6.0.1) in
     subst (IsAddHead from) {x = read} (some_is read x s6.2)
-    (record { parts = parts; octets = h6; address = t1.1; broadcast_id = t3.1; pa_interval = t5.1; few = first_fits s5.0.1 s6.0.0 s6.0.1 h5 t6.parts })
+    (record { parts = parts; octets = t6.fits h5; address = t1.1; broadcast_id = t3.1; pa_interval = t5.1; few = first_fits s5.0.1 s6.0.0 s6.0.1 h5 t6.parts })
 
 pub add_head_again : (add : AddSource) (count : ℕ) (tail : List ℕ) → length add.address ≡ 6 → length add.broadcast_id ≡ 3 → add.pa_interval < 2 ^ 16
     → add_head_in (add_before add count tail) ≡ Some (record add { wishes = [] }, count, tail)
@@ -109,26 +79,19 @@ pub record IsModifyHead (from : List ℕ) (x : ModifySource × ℕ × List ℕ) 
 pub modify_head_takes : (from : List ℕ) (x : ModifySource × ℕ × List ℕ) → IsOctets from → modify_head_in from ≡ Some x → IsModifyHead from x
 unfolding modify_head_in
 modify_head_takes from x h e =
-    let s0 = bind_some (octet_in from)
-    (λ source. octet_in source.1 >>= λ sync. number_in 2 sync.1 >>= λ interval. octet_in interval.1
-    >>= λ count. Some (record { source_id = source.0; pa_sync = sync.0; pa_interval = interval.0; wishes = [] }, count.0, count.1)) x e in
-    let s1 = bind_some (octet_in s0.0.1)
-    (λ sync. number_in 2 sync.1 >>= λ interval. octet_in interval.1
-    >>= λ count. Some (record { source_id = s0.0.0; pa_sync = sync.0; pa_interval = interval.0; wishes = [] }, count.0, count.1)) x s0.2 in
-    let s2 = bind_some (number_in 2 s1.0.1)
-    (λ interval. octet_in interval.1 >>= λ count. Some (record { source_id = s0.0.0; pa_sync = s1.0.0; pa_interval = interval.0; wishes = [] }, count.0, count.1)) x s1.2 in
-    let s3 = bind_some (octet_in s2.0.1) (λ count. Some (record { source_id = s0.0.0; pa_sync = s1.0.0; pa_interval = s2.0.0; wishes = [] }, count.0, count.1)) x s2.2 in
+    let s0 = bind_some (octet_in from) _ x e in
+    let s1 = bind_some (octet_in s0.0.1) _ x s0.2 in
+    let s2 = bind_some (number_in 2 s1.0.1) _ x s1.2 in
+    let s3 = bind_some (octet_in s2.0.1) _ x s2.2 in
     let t0 = octet_takes from s0.0.0 s0.0.1 s0.1 in
-    let h0 : IsOctets s0.0.1 = t0.fits h in
     let t1 = octet_takes s0.0.1 s1.0.0 s1.0.1 s1.1 in
-    let h1 : IsOctets s1.0.1 = t1.fits h0 in
+    let h1 : IsOctets s1.0.1 = t1.fits (t0.fits h) in
     let t2 = number_takes 2 s1.0.1 s2.0.0 s2.0.1 h1 s2.1 in
     let h2 : IsOctets s2.0.1 = t2.0.fits h1 in
     let t3 = octet_takes s2.0.1 s3.0.0 s3.0.1 s3.1 in
-    let h3 : IsOctets s3.0.1 = t3.fits h2 in
     let parts = t0.parts ∙ ap (λ (z : List ℕ). octet s0.0.0 ++ z) (t1.parts ∙ ap (λ (z : List ℕ). octet s1.0.0 ++ z) (t2.0.parts ∙ ap (λ (z : List ℕ). number 2 s2.0.0 ++ z) (t3.parts))) in
     let read : ModifySource × ℕ × List ℕ = (record { source_id = s0.0.0; pa_sync = s1.0.0; pa_interval = s2.0.0; wishes = [] }, s3.0.0, s3.0.1) in
-    subst (IsModifyHead from) {x = read} (some_is read x s3.2) (record { parts = parts; octets = h3; pa_interval = t2.1; few = first_fits s2.0.1 s3.0.0 s3.0.1 h2 t3.parts })
+    subst (IsModifyHead from) {x = read} (some_is read x s3.2) (record { parts = parts; octets = t3.fits h2; pa_interval = t2.1; few = first_fits s2.0.1 s3.0.0 s3.0.1 h2 t3.parts })
 
 pub modify_head_again : (modify : ModifySource) (count : ℕ) (tail : List ℕ) → modify.pa_interval < 2 ^ 16
     → modify_head_in (modify_before modify count tail) ≡ Some (record modify { wishes = [] }, count, tail)

@@ -13,8 +13,8 @@ few n h = omega arith
 pub add_laid : (rest : List ℕ) (op : Operation) → IsOctets rest → add_in rest ≡ Some op → IsLaid op (2 ∷ rest)
 unfolding add_in
 add_laid rest op h e =
-    let a = bind_some (add_head_in rest) (λ head. wishes_in head.1 head.2 >>= λ wishes. Some (Add (record head.0 { wishes = wishes }))) op e in
-    let b = bind_some (wishes_in a.0.1 a.0.2) (λ wishes. Some (Add (record a.0.0 { wishes = wishes }))) op a.2 in
+    let a = bind_some (add_head_in rest) _ op e in
+    let b = bind_some (wishes_in a.0.1 a.0.2) _ op a.2 in
     let t = add_head_takes rest a.0 h a.1 in
     let s = wishes_take a.0.1 a.0.2 b.0 t.octets b.1 in
     let parts : rest ≡ add_before a.0.0 (length b.0) (laid (flat_map wish_fields b.0)) =
@@ -26,8 +26,8 @@ add_laid rest op h e =
 pub modify_laid : (rest : List ℕ) (op : Operation) → IsOctets rest → modify_in rest ≡ Some op → IsLaid op (3 ∷ rest)
 unfolding modify_in
 modify_laid rest op h e =
-    let a = bind_some (modify_head_in rest) (λ head. wishes_in head.1 head.2 >>= λ wishes. Some (Modify (record head.0 { wishes = wishes }))) op e in
-    let b = bind_some (wishes_in a.0.1 a.0.2) (λ wishes. Some (Modify (record a.0.0 { wishes = wishes }))) op a.2 in
+    let a = bind_some (modify_head_in rest) _ op e in
+    let b = bind_some (wishes_in a.0.1 a.0.2) _ op a.2 in
     let t = modify_head_takes rest a.0 h a.1 in
     let s = wishes_take a.0.1 a.0.2 b.0 t.octets b.1 in
     let parts : rest ≡ modify_before a.0.0 (length b.0) (laid (flat_map wish_fields b.0)) =
@@ -42,8 +42,8 @@ whole_some read x e = grind arith
 pub code_laid : (rest : List ℕ) (op : Operation) → code_in rest ≡ Some op → IsLaid op (4 ∷ rest)
 unfolding code_in
 code_laid rest op e =
-    let a = bind_some (octet_in rest) (λ source. whole (octets_in 16 source.1) >>= λ code. Some (Code source.0 code)) op e in
-    let b = bind_some (whole (octets_in 16 a.0.1)) (λ code. Some (Code a.0.0 code)) op a.2 in
+    let a = bind_some (octet_in rest) _ op e in
+    let b = bind_some (whole (octets_in 16 a.0.1)) _ op a.2 in
     let t0 = octet_takes rest a.0.0 a.0.1 a.1 in
     let t1 = octets_take 16 a.0.1 b.0 [] (whole_some (octets_in 16 a.0.1) b.0 b.1) in
     let read : Operation = Code a.0.0 b.0 in

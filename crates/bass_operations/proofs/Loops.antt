@@ -154,8 +154,8 @@ pub named_found : (bis count : ℕ) (from : List ℕ) (x : List Subgroup × List
 unfolding named_in subgroups_in
 named_found bis zero from x e = grind (arith, times_named, map, wish_of, some_is)
 named_found bis (suc count) from x e =
-    let a = bind_some (subgroup_in from) (λ first. subgroups_in count first.1 >>= λ others. Some (first.0 ∷ others.0, others.1)) x e in
-    let b = bind_some (subgroups_in count a.0.1) (λ others. Some (a.0.0 ∷ others.0, others.1)) x a.2 in
+    let a = bind_some (subgroup_in from) _ x e in
+    let b = bind_some (subgroups_in count a.0.1) _ x a.2 in
     let rest = named_found bis count a.0.1 b.0 b.1 in
     let read : List Subgroup × List ℕ = (a.0.0 ∷ b.0.0, b.0.1) in
     subst (λ (y : List Subgroup × List ℕ). named_in bis (suc count) from ≡ times_named bis (map wish_of y.0)) (some_is read x b.2)

@@ -27,15 +27,15 @@ started from h a e = grind (arith, is_alone, none_behind)
 code_faultless : (rest : List ℕ) (op : Operation) → code_in rest ≡ Some op → fault_of op ≡ None
 unfolding code_in twice_from
 code_faultless rest op e =
-    let a = bind_some (octet_in rest) (λ source. whole (octets_in 16 source.1) >>= λ code. Some (Code source.0 code)) op e in
-    let b = bind_some (whole (octets_in 16 a.0.1)) (λ code. Some (Code a.0.0 code)) op a.2 in
+    let a = bind_some (octet_in rest) _ op e in
+    let b = bind_some (whole (octets_in 16 a.0.1)) _ op a.2 in
     let read : Operation = Code a.0.0 b.0 in
     subst (λ (o : Operation). fault_of o ≡ None) (some_is read op b.2) refl
 
 remove_faultless : (rest : List ℕ) (op : Operation) → remove_in rest ≡ Some op → fault_of op ≡ None
 unfolding remove_in twice_from
 remove_faultless rest op e =
-    let a = bind_some (whole (octet_in rest)) (λ source. Some (Remove source)) op e in
+    let a = bind_some (whole (octet_in rest)) _ op e in
     let read : Operation = Remove a.0 in
     subst (λ (o : Operation). fault_of o ≡ None) (some_is read op a.2) refl
 

@@ -1,12 +1,8 @@
 -- When two values of a slot are apart, so that a notice is put.
-use Rattle.std.proofs.Common.{arith}
-use Rattle.delegator_control.proofs.Prelude.{ℕ, ◌≡◌, ◌≢◌, Bool, true, List, [], ◌∷◌, ◌++◌, ◌-◌, ◌∙◌, length, slice_get, drop, get_or, Option, Some, None, refl, sym, ap, not, append_assoc, option_map, if◌then◌else◌, append_cancel_left, encoding, Notice, change, Entry, Status, received, value}
+use Rattle.delegator_control.proofs.Prelude.{ℕ, ◌≡◌, ◌≢◌, Bool, true, List, [], ◌∷◌, ◌++◌, ◌-◌, ◌∙◌, length, slice_get, drop, get_or, Option, Some, None, refl, sym, ap, not, append_assoc, option_map, if◌then◌else◌, append_cancel_left, encoding, Notice, change, Entry, Status, received, value, arith, append_cancel_right, length-append, bytes_eq-Decides, MatchOption}
 use Rattle.std.specs.Str.{bytes_eq}
 use Rattle.std.proofs.Math.Bool.{beq}
-use Rattle.std.proofs.lemmas.List.{append_cancel_right, length-append}
-use Rattle.std.proofs.lemmas.Slice.Eq.{bytes_eq-Decides}
 use Rattle.std.specs.Borrow.{Bor}
-use Rattle.std.specs.Option.{MatchOption}
 
 abbrev pub one : ℕ → List ℕ → List Notice
 one slot value = record { slot = slot; value = value } ∷ []

@@ -1,6 +1,5 @@
 -- Which values a step changes, and so its notices.
-use Rattle.std.proofs.Common.{arith}
-use Rattle.delegator_control.proofs.Prelude.{ℕ, ◌≡◌, ◌≢◌, ◌<◌, Bool, true, false, List, [], ◌++◌, length, get_or, set, Option, Some, None, refl, sym, ap, ◌∙◌, subst, option_map, flat_map, range_with_len, eqb-true, ne_eqb, get_or-set_same, get_or-set_other, get_or_default, Notice, change, changes, Entry, Place, Snapshot, idle, on_train, on_group, slot_of, is_slot, is_on, entry_at, place_left, placed, Status, received, status_of, value, value_at, none_change, one_changes, Move, Stay, Off, OffGroup, place_by}
+use Rattle.delegator_control.proofs.Prelude.{ℕ, ◌≡◌, ◌≢◌, ◌<◌, Bool, true, false, List, [], ◌++◌, length, get_or, set, Option, Some, None, refl, sym, ap, ◌∙◌, subst, option_map, flat_map, range_with_len, eqb-true, ne_eqb, get_or-set_same, get_or-set_other, get_or_default, Notice, change, changes, Entry, Place, Snapshot, idle, on_train, on_group, slot_of, is_slot, is_on, entry_at, place_left, placed, Status, received, status_of, value, value_at, none_change, one_changes, Move, Stay, Off, OffGroup, place_by, arith}
 use Rattle.delegator_control.proofs.Encoded.{off_group}
 
 pub away : Status

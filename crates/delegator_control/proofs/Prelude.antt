@@ -1,7 +1,7 @@
 -- What the proofs of this crate use of `std` and of the crates below it, by one import.
 pub use Rattle.std.proofs.Common.{ℕ, ◌≡◌, ◌<◌, Bool, true, false, List, length, Option, Some, None, Result, Ok, Err, refl, ap, arith, ◌∙◌, ◌≢◌, [], ◌∷◌, drop, get_or, sym, zero, suc, ◌+◌, map, replicate, ◌++◌, subst, slice_get, append_assoc, set, ◌-◌, ◌≤◌, ◌/◌}
 pub use Rattle.std.proofs.lemmas.Bool.{eqb-true, ne_eqb, lt-ltb, cond-true, cond-false, eq-eqb, not-false}
-pub use Rattle.std.proofs.lemmas.List.{append-nil, get_or_read_under, append_cancel_left, get_or-set_same, get_or-set_other, get_or_default, length-replicate}
+pub use Rattle.std.proofs.lemmas.List.{append-nil, get_or_read_under, append_cancel_left, get_or-set_same, get_or-set_other, get_or_default, length-replicate, append_cancel_right, length-append}
 pub use Rattle.std.proofs.lemmas.Option.{same_Some}
 pub use Rattle.std.proofs.lemmas.Result.{on_ok_weaker, on_err_weaker, err_from_is_err_and}
 pub use Rattle.std.specs.List.{range_with_len, flat_map, list_any, AllByRecursion}
@@ -47,3 +47,5 @@ pub use Rattle.delegator_history.specs.declared.replies.Reply.TheVariants.{Accep
 pub use Rattle.pacs_records.specs.declared.capability.Capability.{Capability}
 pub use Rattle.pacs_records.specs.declared.record.PacRecord.{PacRecord}
 pub use Rattle.receive_state.specs.Layout.{encoding, fields_of, prefix_fields, group_of}
+pub use Rattle.std.proofs.lemmas.Slice.Eq.{bytes_eq-Decides, strip_suffix_is}
+pub use Rattle.std.specs.Option.{MatchOption, option_or}

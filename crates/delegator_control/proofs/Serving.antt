@@ -1,6 +1,5 @@
 -- The first cause that holds of an operation, and what is done where none does.
-use Rattle.std.proofs.Common.{arith}
-use Rattle.delegator_control.proofs.Prelude.{ℕ, ◌≡◌, ◌<◌, Bool, true, false, List, [], ◌++◌, length, set, Option, Some, None, Ok, refl, sym, ap, ◌∙◌, subst, is_some, is_none, unwrap_or, nat_lt, option_map, if◌then◌else◌, Operation, Add, Modify, Code, Remove, encoding, Notice, Cause, Reply, Accepted, change, changes, Wanted, Entry, Snapshot, is_on, entry_at, Done, added, modified, removed, after, placed, place_given, place_wanted, wanting, received, status_of, state_at, value, value_at, slot_where, has_source, slot_with, empty_slot, least_unused, entry_of, operated, value_written, is_synced, cause_read, reply_by, done_read, Move, Stay, Replies, Machine, moved, place_by, status_at}
+use Rattle.delegator_control.proofs.Prelude.{ℕ, ◌≡◌, ◌<◌, Bool, true, false, List, [], ◌++◌, length, set, Option, Some, None, Ok, refl, sym, ap, ◌∙◌, subst, is_some, is_none, unwrap_or, nat_lt, option_map, if◌then◌else◌, Operation, Add, Modify, Code, Remove, encoding, Notice, Cause, Reply, Accepted, change, changes, Wanted, Entry, Snapshot, is_on, entry_at, Done, added, modified, removed, after, placed, place_given, place_wanted, wanting, received, status_of, state_at, value, value_at, slot_where, has_source, slot_with, empty_slot, least_unused, entry_of, operated, value_written, is_synced, cause_read, reply_by, done_read, Move, Stay, Replies, Machine, moved, place_by, status_at, arith}
 use Rattle.bass_operations.specs.declared.operation.AddSource.{AddSource}
 use Rattle.bass_operations.specs.declared.operation.ModifySource.{ModifySource}
 use Rattle.delegator_history.specs.declared.replies.Cause.TheVariants as causes

@@ -1,9 +1,7 @@
 -- A machine stands for its steps.
-use Rattle.std.proofs.Common.{arith}
-use Rattle.delegator_control.proofs.Prelude.{ℕ, zero, suc, ◌≡◌, ◌+◌, Bool, true, false, map, replicate, List, [], ◌∷◌, ◌++◌, drop, Option, None, refl, sym, ap, ◌∙◌, subst, if◌then◌else◌, range_with_len, append-nil, PacRecord, control_heard, done_heard, done_by_control, Setup, Notice, changes, is_told, mtu_by, mtu_in, waiting, Entry, idle, value_at, Step, notified, mtu_set, done_by, entry_in, snapshot_of, Done, nothing, left, after, snapshot_goes_on, waiting_goes_on, none_change, Machine, StandsFor, moved, step_on}
+use Rattle.delegator_control.proofs.Prelude.{ℕ, zero, suc, ◌≡◌, ◌+◌, Bool, true, false, map, replicate, List, [], ◌∷◌, ◌++◌, drop, Option, None, refl, sym, ap, ◌∙◌, subst, if◌then◌else◌, range_with_len, append-nil, PacRecord, control_heard, done_heard, done_by_control, Setup, Notice, changes, is_told, mtu_by, mtu_in, waiting, Entry, idle, value_at, Step, notified, mtu_set, done_by, entry_in, snapshot_of, Done, nothing, left, after, snapshot_goes_on, waiting_goes_on, none_change, Machine, StandsFor, moved, step_on, arith, option_or}
 use Rattle.delegator_history.specs.declared.train_heard.ControlHeard.{ControlHeard}
 use Rattle.delegator_history.specs.declared.train_heard.ControlHeard.TheVariants as controls
-use Rattle.std.specs.Option.{option_or}
 use Rattle.delegator_history.specs.States.{answered}
 
 pub moved_nothing : (m : Machine) → moved nothing m ≡ m

@@ -1,6 +1,5 @@
 -- A write is an operation that is served, or no operation.
-use Rattle.std.proofs.Common.{arith}
-use Rattle.delegator_control.proofs.Prelude.{ℕ, ◌≡◌, List, Some, OpFault, Finds, op_of, Cause, cause_of_fault, cause_read, done_read, done_by_write, Machine, moved}
+use Rattle.delegator_control.proofs.Prelude.{ℕ, ◌≡◌, List, Some, OpFault, Finds, op_of, Cause, cause_of_fault, cause_read, done_read, done_by_write, Machine, moved, arith}
 use Rattle.bass_operations.specs.Reading.{told}
 use Rattle.delegator_control.proofs.Standing.{moved_nothing}
 

@@ -1,15 +1,8 @@
 -- The air of a source as its calls go on.
-use Rattle.std.proofs.Common.{ℕ, ◌≡◌, ◌<◌, ◌+◌, ◌-◌, min, List, [], ◌∷◌, ◌++◌, length, get_or, arith, ◌∙◌, ap, sym, refl, subst, inl, inr}
+use Rattle.multi_source.proofs.Prelude.{ℕ, ◌≡◌, ◌<◌, ◌+◌, ◌-◌, min, List, [], ◌∷◌, ◌++◌, length, get_or, arith, ◌∙◌, ap, sym, refl, subst, inl, inr, keep_last, Air, OnAir, AreAirs, Sends, airs_of, Setup, Call, event, events, next_of, IsChecked, IsOfGroup, IsOnAir}
 use Rattle.std.proofs.lemmas.Bool.{cases_eq}
 use Rattle.std.proofs.lemmas.List.{get_or-drop, get_or_append_left, get_or-append_right, length-append, length-drop}
-use Rattle.circular_buffer.specs.Buffer.{keep_last}
-use Rattle.isoal_base.specs.Air.{Air}
-use Rattle.radio_schedule.specs.OnAir.{OnAir}
-use Rattle.source_machine.specs.Airs.{AreAirs, Sends, airs_of}
-use Rattle.source_machine.specs.Calls.{Setup, Call, event, events, next_of}
 use Rattle.source_machine.proofs.Citable.{airs_exist, sends_stay}
-use Rattle.source_machine.specs.Setups.{IsChecked}
-use Rattle.multi_source.specs.State.Airs.{IsOfGroup, IsOnAir}
 
 -- the list that is kept behind a new item
 kept_length : {A : Type 0} (xs : List A) (x : A) → length (keep_last 32 (xs ++ x ∷ [])) ≡ min 32 (length xs + 1)

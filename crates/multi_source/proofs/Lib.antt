@@ -1,3 +1,4 @@
+mod Prelude
 mod Airing
 mod Answered
 mod Starting

@@ -1,18 +1,9 @@
 -- A source that was started, in its place beside the other one.
-use Rattle.std.proofs.Common.{ℕ, ◌≡◌, ◌∙◌, [], ◌∷◌, ◌++◌, List, Option, Some, None, ap, sym, refl, subst}
-use Rattle.radio_schedule.specs.OnAir.{OnAir, silence}
-use Rattle.source_machine.specs.Calls.{Setup, Call, event, next_of}
-use Rattle.source_machine.specs.Setups.{Configured, IsChecked, started}
+use Rattle.multi_source.proofs.Prelude.{ℕ, ◌≡◌, ◌∙◌, [], ◌∷◌, ◌++◌, List, Option, Some, None, ap, sym, refl, subst, OnAir, silence, Setup, Call, event, next_of, Configured, IsChecked, started, keep_last, Air, AreAirs, Sends, stale_of, Begun, IsOfGroup, IsOnAir, Sending, Starts}
 use Rattle.source_machine.specs.State.Sources.{Source, StandsFor as SourceStands}
 use Rattle.std.proofs.lemmas.Option.{same_Some}
-use Rattle.circular_buffer.specs.Buffer.{keep_last}
-use Rattle.isoal_base.specs.Air.{Air}
-use Rattle.source_machine.specs.Airs.{AreAirs, Sends, stale_of}
 use Rattle.source_machine.specs.declared.sent.Stale.{Stale}
 use Rattle.source_machine.specs.Faults.{event_fault}
-use Rattle.multi_source.specs.declared.field.Begun.{Begun}
-use Rattle.multi_source.specs.State.Airs.{IsOfGroup, IsOnAir}
-use Rattle.multi_source.specs.State.Fields.{Sending, Starts}
 use Rattle.multi_source.proofs.Airing.{event_on_air, silent}
 
 of_silence : (setup : Setup) (air : OnAir) → air ≡ silence setup.info → IsOfGroup setup air

@@ -1,6 +1,5 @@
 -- What stands at the cut is the fault that is met.
-use Rattle.pacs_records.proofs.Prelude.{◌≡◌, ℕ, zero, suc, ◌<◌, ◌≤◌, ◌⊎◌, Bool, true, eqb, List, [], ◌∷◌, ◌++◌, length, Some, None, Result, Ok, Err, refl, sym, ap, subst, ◌∙◌, append_assoc, arith, inl, inr, flat_map, AllByRecursion, result_err, lt-ltb, le-ltb, ne_eqb, length-append, flat_map-cons, counted, octet_in, octets_in, place_in, octets_again, LtvBad, AreLtvs, bad_of, PacFault, TooLong, Short, Ltv, Trailing, Memory, PacRecord, Fields, to_codec, to_caps_length, to_caps, to_metadata_length, to_metadata, octets_of, next_length, MeetRows, IsNextList, Cut, IsShort, IsNoList, IsTrailing, IsFault, lc3, is_lc3, greatest_value, encoded, value, Fits}
-use Rattle.ltv_codec.proofs.Citable.{bad_read}
+use Rattle.pacs_records.proofs.Prelude.{◌≡◌, ℕ, zero, suc, ◌<◌, ◌≤◌, ◌⊎◌, Bool, true, eqb, List, [], ◌∷◌, ◌++◌, length, Some, None, Result, Ok, Err, refl, sym, ap, subst, ◌∙◌, append_assoc, arith, inl, inr, flat_map, AllByRecursion, result_err, lt-ltb, le-ltb, ne_eqb, length-append, flat_map-cons, counted, octet_in, octets_in, place_in, octets_again, LtvBad, AreLtvs, bad_of, PacFault, TooLong, Short, Ltv, Trailing, Memory, PacRecord, Fields, to_codec, to_caps_length, to_caps, to_metadata_length, to_metadata, octets_of, next_length, MeetRows, IsNextList, Cut, IsShort, IsNoList, IsTrailing, IsFault, lc3, is_lc3, greatest_value, encoded, value, Fits, bad_read}
 use Rattle.pacs_records.specs.Reading.{run_in, record_in, records_in, value_in}
 use Rattle.pacs_records.proofs.Fields.{is_lc3-true, lc3-is, run_again, record_again, records_again}
 use Rattle.pacs_records.proofs.Stops.{NoList, Stop}

@@ -1,6 +1,5 @@
 -- What is read is encoded so, and what is encoded so is read: runs, records and values.
-use Rattle.pacs_records.proofs.Prelude.{◌≡◌, ℕ, zero, suc, ◌+◌, ◌*◌, ◌<◌, ◌≤◌, Bool, true, false, cond, eqb, ltb, List, [], ◌∷◌, ◌++◌, length, Option, Some, None, Result, Ok, Err, refl, sym, ap, subst, ◌∙◌, append_assoc, arith, flat_map, AllByRecursion, IfOk, bytes_eq-Decides, eqb-true, ltb-false, le-ltb, append-nil, nil_from_length, length-append, flat_map-cons, IsOctets, octet, counted, octet_in, octets_in, place_in, Takes, octet_takes, octets_take, octets_again, IsOctets-prefix, Takes-then, ok_is, bind_ok, needed_ok, LtvBad, AreLtvs, bad_of, PacFault, TooLong, Short, Trailing, PacRecord, lc3, is_lc3, greatest_value, encoded, value, Fits, AreRecords, PacIs, ◌>>=◌, Answers, field_at, codec_in, told, checked}
-use Rattle.ltv_codec.proofs.Citable.{reads, are_read}
+use Rattle.pacs_records.proofs.Prelude.{◌≡◌, ℕ, zero, suc, ◌+◌, ◌*◌, ◌<◌, ◌≤◌, Bool, true, false, cond, eqb, ltb, List, [], ◌∷◌, ◌++◌, length, Option, Some, None, Result, Ok, Err, refl, sym, ap, subst, ◌∙◌, append_assoc, arith, flat_map, AllByRecursion, IfOk, bytes_eq-Decides, eqb-true, ltb-false, le-ltb, append-nil, nil_from_length, length-append, flat_map-cons, IsOctets, octet, counted, octet_in, octets_in, place_in, Takes, octet_takes, octets_take, octets_again, IsOctets-prefix, Takes-then, ok_is, bind_ok, needed_ok, LtvBad, AreLtvs, bad_of, PacFault, TooLong, Short, Trailing, PacRecord, lc3, is_lc3, greatest_value, encoded, value, Fits, AreRecords, PacIs, ◌>>=◌, Answers, field_at, codec_in, told, checked, reads, are_read}
 use Rattle.pacs_records.specs.Reading.{run_in, record_in, records_in, value_in}
 
 -- ---- steps of reading
@@ -23,9 +22,8 @@ pub run_takes : (listed : Bool) (whole from : List ℕ) (x : List ℕ × List �
     → Takes from (counted x.0) x.1 × (length x.0 < 256) × (listed ≡ true → AreLtvs x.0)
 unfolding run_in
 run_takes listed whole from x fits e =
-    let a = bind_ok (field_at (place_in whole from) (octet_in from))
-    (λ count. field_at (place_in whole count.1) (octets_in count.0 count.1) >>= λ run. checked (place_in whole count.1) listed (bad_of run.0) run) x e in
-    let b = bind_ok (field_at (place_in whole a.0.1) (octets_in a.0.0 a.0.1)) (λ run. checked (place_in whole a.0.1) listed (bad_of run.0) run) x a.2 in
+    let a = bind_ok (field_at (place_in whole from) (octet_in from)) _ x e in
+    let b = bind_ok (field_at (place_in whole a.0.1) (octets_in a.0.0 a.0.1)) _ x a.2 in
     let t0 = octet_takes from a.0.0 a.0.1 (field_ok (place_in whole from) (octet_in from) a.0 a.1) in
     let t1 = octets_take a.0.0 a.0.1 b.0.0 b.0.1 (field_ok (place_in whole a.0.1) (octets_in a.0.0 a.0.1) b.0 b.1) in
     let g = checked_ok (place_in whole a.0.1) listed (bad_of b.0.0) b.0 x b.2 in
@@ -45,10 +43,9 @@ run_again listed whole run rest h = grind (arith, octets_again, checked, place_i
 pub record_takes : (whole from : List ℕ) (x : PacRecord × List ℕ) → IsOctets from → record_in whole from ≡ Ok x → Takes from (encoded x.0) x.1 × Fits x.0
 unfolding record_in
 record_takes whole from x fits e =
-    let a = bind_ok (codec_in whole from)
-    (λ codec. run_in (is_lc3 codec.0) whole codec.1 >>= λ caps. run_in true whole caps.1 >>= λ metadata. Ok (record { codec = codec.0; caps = caps.0; metadata = metadata.0 }, metadata.1)) x e in
-    let b = bind_ok (run_in (is_lc3 a.0.0) whole a.0.1) (λ caps. run_in true whole caps.1 >>= λ metadata. Ok (record { codec = a.0.0; caps = caps.0; metadata = metadata.0 }, metadata.1)) x a.2 in
-    let c = bind_ok (run_in true whole b.0.1) (λ metadata. Ok (record { codec = a.0.0; caps = b.0.0; metadata = metadata.0 }, metadata.1)) x b.2 in
+    let a = bind_ok (codec_in whole from) _ x e in
+    let b = bind_ok (run_in (is_lc3 a.0.0) whole a.0.1) _ x a.2 in
+    let c = bind_ok (run_in true whole b.0.1) _ x b.2 in
     let t0 = octets_take 5 from a.0.0 a.0.1 (field_ok (place_in whole from) (octets_in 5 from) a.0 a.1) in
     let t1 = run_takes (is_lc3 a.0.0) whole a.0.1 b.0 (t0.0.fits fits) b.1 in
     let t2 = run_takes true whole b.0.1 c.0 (t1.0.fits (t0.0.fits fits)) c.1 in
@@ -75,8 +72,8 @@ pub records_take : (whole : List ℕ) (count : ℕ) (from : List ℕ) (x : List 
 unfolding records_in
 records_take whole zero from x fits e = grind (arith, flat_map, encoded, length, ok_is)
 records_take whole (suc count) from x fits e =
-    let a = bind_ok (record_in whole from) (λ first. records_in whole count first.1 >>= λ others. Ok (first.0 ∷ others.0, others.1)) x e in
-    let b = bind_ok (records_in whole count a.0.1) (λ others. Ok (a.0.0 ∷ others.0, others.1)) x a.2 in
+    let a = bind_ok (record_in whole from) _ x e in
+    let b = bind_ok (records_in whole count a.0.1) _ x a.2 in
     let first = record_takes whole from a.0 fits a.1 in
     let second = records_take whole count a.0.1 b.0 (first.0.fits fits) b.1 in
     let both = Takes-then from (encoded a.0.0) a.0.1 (flat_map encoded b.0.0) b.0.1 first.0 second.0 in
@@ -103,10 +100,9 @@ guard_ended b fault x y e = grind arith
 pub value_takes : (octets : List ℕ) (records : List PacRecord) → IsOctets octets → value_in octets ≡ Ok records → PacIs records octets
 unfolding value_in
 value_takes octets records fits e =
-    let s = guard_ok (ltb greatest_value (length octets)) TooLong
-    (field_at 0 (octet_in octets) >>= λ count. records_in octets count.0 count.1 >>= λ x. cond (eqb (length x.1) 0) (Ok x.0) (Err (Trailing (place_in octets x.1)))) records e in
-    let a = bind_ok (field_at 0 (octet_in octets)) (λ count. records_in octets count.0 count.1 >>= λ x. cond (eqb (length x.1) 0) (Ok x.0) (Err (Trailing (place_in octets x.1)))) records s.1 in
-    let b = bind_ok (records_in octets a.0.0 a.0.1) (λ x. cond (eqb (length x.1) 0) (Ok x.0) (Err (Trailing (place_in octets x.1)))) records a.2 in
+    let s = guard_ok (ltb greatest_value (length octets)) TooLong _ records e in
+    let a = bind_ok (field_at 0 (octet_in octets)) _ records s.1 in
+    let b = bind_ok (records_in octets a.0.0 a.0.1) _ records a.2 in
     let g = guard_ended (eqb (length b.0.1) 0) (Trailing (place_in octets b.0.1)) b.0.0 records b.2 in
     let t0 = octet_takes octets a.0.0 a.0.1 (field_ok 0 (octet_in octets) a.0 a.1) in
     let t1 = records_take octets a.0.0 a.0.1 b.0 (t0.fits fits) b.1 in

@@ -1,6 +1,5 @@
 -- The records one after the other, up to the first that fits.
-use Rattle.std.proofs.Common.{arith}
-use Rattle.pacs_records.proofs.Prelude.{◌≡◌, ◌↔◌, ◌⊎◌, Bool, true, List, [], ◌∷◌, ◌++◌, Option, Some, None, Result, refl, sym, ap, ◌∙◌, inl, inr, option_and_then, Any, OnOk, IfErr, is_none, result_err, list_any, same_Some, Effective, Capability, NotTaken, Codec, PacRecord, FitsStream, IsReason, IsToldReason, reason_of, last_reason, not_taken}
+use Rattle.pacs_records.proofs.Prelude.{◌≡◌, ◌↔◌, ◌⊎◌, Bool, true, List, [], ◌∷◌, ◌++◌, Option, Some, None, Result, refl, sym, ap, ◌∙◌, inl, inr, option_and_then, Any, OnOk, IfErr, is_none, result_err, list_any, same_Some, Effective, Capability, NotTaken, Codec, PacRecord, FitsStream, IsReason, IsToldReason, reason_of, last_reason, not_taken, arith}
 use Rattle.std.proofs.lemmas.List.Folds.{Any-from_list_any, list_any-from_Any}
 use Rattle.pacs_records.specs.Match.{Takes}
 use Rattle.pacs_records.proofs.FirstReasons.{none_is_fit, fit_is_none, some_is_reason, reason_is_some}

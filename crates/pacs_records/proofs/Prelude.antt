@@ -31,3 +31,4 @@ pub use Rattle.pacs_records.specs.declared.fault.PacFault.TheVariants.{TooLong, 
 pub use Rattle.pacs_records.specs.declared.not_taken.NotTaken.{NotTaken}
 pub use Rattle.pacs_records.specs.declared.not_taken.NotTaken.TheVariants.{Codec, Frequency, Duration, FrameOctets, Channels, FramesPerSdu, Location, Context}
 pub use Rattle.pacs_records.specs.declared.record.PacRecord.{PacRecord}
+pub use Rattle.ltv_codec.proofs.Citable.{read_bad, bad_read, reads, are_read}

@@ -1,8 +1,7 @@
 -- A fault is the one at the cut.
-use Rattle.pacs_records.proofs.Prelude.{◌≡◌, ℕ, zero, suc, ◌+◌, ◌<◌, ◌≤◌, ◌⊎◌, Bool, true, false, cond, eqb, ltb, List, [], ◌∷◌, ◌++◌, length, get_or, take, drop, Option, Some, None, Result, Ok, Err, refl, sym, ap, subst, ◌∙◌, append_assoc, arith, inl, inr, IfErr, IsOk, flat_map, AllByRecursion, result_err, ltb-true, ltb-false, same_Some, length-append, flat_map-cons, IsOctets, octet, counted, octet_in, octets_in, place_in, Takes, octet_takes, octets_take, IsOctets-prefix, Takes-then, err_is, ok_no, bind_err, needed_err, LtvBad, AreLtvs, ltvs_of, bad_of, PacFault, TooLong, Short, Ltv, Trailing, Memory, PacRecord, Fields, to_codec, to_caps_length, to_caps, to_metadata_length, to_metadata, octets_of, next_length, MeetRows, IsNextList, Cut, IsFault, lc3, is_lc3, greatest_value, encoded, value, Fits, PacIs, ◌>>=◌, Answers, told, field_at, codec_in, checked}
+use Rattle.pacs_records.proofs.Prelude.{◌≡◌, ℕ, zero, suc, ◌+◌, ◌<◌, ◌≤◌, ◌⊎◌, Bool, true, false, cond, eqb, ltb, List, [], ◌∷◌, ◌++◌, length, get_or, take, drop, Option, Some, None, Result, Ok, Err, refl, sym, ap, subst, ◌∙◌, append_assoc, arith, inl, inr, IfErr, IsOk, flat_map, AllByRecursion, result_err, ltb-true, ltb-false, same_Some, length-append, flat_map-cons, IsOctets, octet, counted, octet_in, octets_in, place_in, Takes, octet_takes, octets_take, IsOctets-prefix, Takes-then, err_is, ok_no, bind_err, needed_err, LtvBad, AreLtvs, ltvs_of, bad_of, PacFault, TooLong, Short, Ltv, Trailing, Memory, PacRecord, Fields, to_codec, to_caps_length, to_caps, to_metadata_length, to_metadata, octets_of, next_length, MeetRows, IsNextList, Cut, IsFault, lc3, is_lc3, greatest_value, encoded, value, Fits, PacIs, ◌>>=◌, Answers, told, field_at, codec_in, checked, read_bad}
 use Rattle.ltv_codec.specs.declared.ltvs.Ltv.{Ltv as Structure}
 use Rattle.ltv_codec.specs.Faults.{IsBad}
-use Rattle.ltv_codec.proofs.Citable.{read_bad}
 use Rattle.pacs_records.specs.Reading.{run_in, record_in, records_in, value_in}
 use Rattle.pacs_records.proofs.Fields.{field_ok, is_lc3-true, lc3-is, run_takes, record_takes, records_take, value_takes}
 
@@ -54,12 +53,11 @@ run_stops : (listed : Bool) (whole from : List ℕ) (fault : PacFault) → IsOct
     ⊎ RunCut listed whole from fault
 unfolding run_in
 run_stops listed whole from fault fits e =
-    elim (bind_err (field_at (place_in whole from) (octet_in from))
-    (λ count. field_at (place_in whole count.1) (octets_in count.0 count.1) >>= λ run. checked (place_in whole count.1) listed (bad_of run.0) run) fault e) [
+    elim (bind_err (field_at (place_in whole from) (octet_in from)) _ fault e) [
       | inl none ↦ grind (arith, field_err, place_in, octet_in, no_octet)
       | inr a ↦
           let t0 = octet_takes from a.0.0 a.0.1 (field_ok (place_in whole from) (octet_in from) a.0 a.1) in
-          inr (elim (bind_err (field_at (place_in whole a.0.1) (octets_in a.0.0 a.0.1)) (λ run. checked (place_in whole a.0.1) listed (bad_of run.0) run) fault a.2) [
+          inr (elim (bind_err (field_at (place_in whole a.0.1) (octets_in a.0.0 a.0.1)) _ fault a.2) [
             | inl none ↦ grind (arith, field_err, place_in, octets_in, too_few)
             | inr b ↦
                 let t1 = octets_take a.0.0 a.0.1 b.0.0 b.0.1 (field_ok (place_in whole a.0.1) (octets_in a.0.0 a.0.1) b.0 b.1) in
@@ -114,19 +112,16 @@ metadata_stop whole codec caps from fault five listed (inr cut) =
 record_stops : (whole from : List ℕ) (fault : PacFault) → IsOctets from → record_in whole from ≡ Err fault → RecordStop whole from fault
 unfolding record_in
 record_stops whole from fault fits e =
-    elim (bind_err (codec_in whole from)
-    (λ codec. run_in (is_lc3 codec.0) whole codec.1 >>= λ caps. run_in true whole caps.1
-    >>= λ metadata. Ok (record { codec = codec.0; caps = caps.0; metadata = metadata.0 }, metadata.1)) fault e) [
+    elim (bind_err (codec_in whole from) _ fault e) [
       | inl none ↦ grind (arith, field_err, place_in, octets_in, to_codec, too_few)
       | inr a ↦
           let t0 = octets_take 5 from a.0.0 a.0.1 (field_ok (place_in whole from) (octets_in 5 from) a.0 a.1) in
-          elim (bind_err (run_in (is_lc3 a.0.0) whole a.0.1)
-          (λ caps. run_in true whole caps.1 >>= λ metadata. Ok (record { codec = a.0.0; caps = caps.0; metadata = metadata.0 }, metadata.1)) fault a.2) [
+          elim (bind_err (run_in (is_lc3 a.0.0) whole a.0.1) _ fault a.2) [
             | inl none ↦ rw t0.0.parts (caps_stop whole a.0.0 a.0.1 fault t0.1 (run_stops (is_lc3 a.0.0) whole a.0.1 fault (t0.0.fits fits) none))
             | inr b ↦
                 let t1 = run_takes (is_lc3 a.0.0) whole a.0.1 b.0 (t0.0.fits fits) b.1 in
                 let both = Takes-then from a.0.0 a.0.1 (counted b.0.0) b.0.1 t0.0 t1.0 in
-                elim (bind_err (run_in true whole b.0.1) (λ metadata. Ok (record { codec = a.0.0; caps = b.0.0; metadata = metadata.0 }, metadata.1)) fault b.2) [
+                elim (bind_err (run_in true whole b.0.1) _ fault b.2) [
                   | inl none ↦ rw both.parts (metadata_stop whole a.0.0 b.0.0 b.0.1 fault t0.1 (λ same. t1.2 (lc3-is a.0.0 same)) (run_stops true whole b.0.1 fault (both.fits fits) none))
                   | inr c ↦ absurd (ok_no (record { codec = a.0.0; caps = b.0.0; metadata = c.0.0 }, c.0.1) fault c.2)
                 ]
@@ -154,13 +149,13 @@ records_stop : (whole : List ℕ) (count : ℕ) (from : List ℕ) (fault : PacFa
 unfolding records_in
 records_stop whole zero from fault fits e = absurd (ok_no ([], from) fault e)
 records_stop whole (suc count) from fault fits e =
-    elim (bind_err (record_in whole from) (λ first. records_in whole count first.1 >>= λ others. Ok (first.0 ∷ others.0, others.1)) fault e) [
+    elim (bind_err (record_in whole from) _ fault e) [
       | inl stopped ↦
           let s = record_stops whole from fault fits stopped in
           record { records = []; fields = s.fields; rest = s.rest; due = omega arith; fit = tt; stop = s.stop; parts = s.parts }
       | inr a ↦
           let first = record_takes whole from a.0 fits a.1 in
-          elim (bind_err (records_in whole count a.0.1) (λ others. Ok (a.0.0 ∷ others.0, others.1)) fault a.2) [
+          elim (bind_err (records_in whole count a.0.1) _ fault a.2) [
             | inl stopped ↦ one_more whole count from fault a.0.0 a.0.1 first.0 first.1 (records_stop whole count a.0.1 fault (first.0.fits fits) stopped)
             | inr b ↦ absurd (ok_no (a.0.0 ∷ b.0.0, b.0.1) fault b.2)
           ]
@@ -216,7 +211,7 @@ guard_err false other read fault e = inr (refl, e)
 behind_count : (octets : List ℕ) (count : ℕ) (from : List ℕ) (fault : PacFault) → length octets ≤ greatest_value → IsOctets octets → Takes octets (octet count) from
     → (records_in octets count from >>= λ x. cond (eqb (length x.1) 0) (Ok x.0) (Err (Trailing (place_in octets x.1)))) ≡ Err fault → IsFault fault octets
 behind_count octets count from fault small fits t e =
-    elim (bind_err (records_in octets count from) (λ x. cond (eqb (length x.1) 0) (Ok x.0) (Err (Trailing (place_in octets x.1)))) fault e) [
+    elim (bind_err (records_in octets count from) _ fault e) [
       | inl stopped ↦ grind (arith, records_stop, records_fault, length, greatest_value)
       | inr b ↦
           let t1 = records_take octets count from b.0 (t.fits fits) b.1 in
@@ -230,12 +225,11 @@ no_count octets small none = grind arith
 pub value_stops : (fault : PacFault) (octets : List ℕ) → IsOctets octets → value_in octets ≡ Err fault → IsFault fault octets
 unfolding value_in
 value_stops fault octets fits e =
-    elim (guard_err (ltb greatest_value (length octets)) TooLong
-    (field_at 0 (octet_in octets) >>= λ count. records_in octets count.0 count.1 >>= λ x. cond (eqb (length x.1) 0) (Ok x.0) (Err (Trailing (place_in octets x.1)))) fault e) [
+    elim (guard_err (ltb greatest_value (length octets)) TooLong _ fault e) [
       | inl (long, same) ↦ rw (← same) (ltb-true _ _ long)
       | inr (short, read) ↦
           let small : length octets ≤ greatest_value = ltb-false _ _ short in
-          elim (bind_err (field_at 0 (octet_in octets)) (λ count. records_in octets count.0 count.1 >>= λ x. cond (eqb (length x.1) 0) (Ok x.0) (Err (Trailing (place_in octets x.1)))) fault read) [
+          elim (bind_err (field_at 0 (octet_in octets)) _ fault read) [
             | inl none ↦ grind (arith, field_err, octet_in, no_count, no_octet)
             | inr a ↦ behind_count octets a.0.0 a.0.1 fault small fits (octet_takes octets a.0.0 a.0.1 (field_ok 0 (octet_in octets) a.0 a.1)) a.2
           ]

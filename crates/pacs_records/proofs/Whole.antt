@@ -1,6 +1,5 @@
 -- The whole value: what is left behind the records, and the records in memory of their own.
-use Rattle.std.proofs.Common.{arith}
-use Rattle.pacs_records.proofs.Prelude.{◌≡◌, ℕ, Bool, true, false, cond, eqb, ltb, List, length, Option, Some, None, Result, Ok, Err, refl, sym, ap, subst, ◌∙◌, IsOk, IfOk, result_err, octet_in, place_in, IsOctets, PacFault, TooLong, Trailing, Memory, PacRecord, greatest_value, ◌>>=◌, Finds, told, field_at, list_of}
+use Rattle.pacs_records.proofs.Prelude.{◌≡◌, ℕ, Bool, true, false, cond, eqb, ltb, List, length, Option, Some, None, Result, Ok, Err, refl, sym, ap, subst, ◌∙◌, IsOk, IfOk, result_err, octet_in, place_in, IsOctets, PacFault, TooLong, Trailing, Memory, PacRecord, greatest_value, ◌>>=◌, Finds, told, field_at, list_of, arith}
 use Rattle.pacs_records.specs.Reading.{records_in, value_in}
 use Rattle.pacs_records.proofs.Fields.{value_again}
 use Rattle.pacs_records.proofs.Stops.{value_stops}

@@ -14,67 +14,13 @@ use Rattle.receive_state.proofs.Heads.{before, before-length, head_takes}
 behind_head : (s : StateFields) (q : ℕ) (tail : List ℕ) → EndsIn q (flat_map subgroup_fields s.groups) tail
     → EndsIn (1 + (1 + (length s.address + (1 + (length s.broadcast_id + (1 + (1 + (length s.bad_code + (1 + (q)))))))))) (fields s) (before s (length s.groups) tail)
 behind_head s q tail ends =
-    let e8 : EndsIn (1 + (q)) (free (octet (length s.groups)) ∷ flat_map subgroup_fields s.groups) (octet (length s.groups) ++ (tail)) =
-    ends_more (free (octet (length s.groups))) (flat_map subgroup_fields s.groups) (q) (tail) ends in
-    let e7 : EndsIn (length s.bad_code + (1 + (q))) (free s.bad_code ∷ free (octet (length s.groups)) ∷ flat_map subgroup_fields s.groups)
-    (s.bad_code ++ (octet (length s.groups) ++ (tail))) =
-    ends_more (free s.bad_code) (free (octet (length s.groups)) ∷ flat_map subgroup_fields s.groups) (1 + (q)) (octet (length s.groups) ++ (tail)) e8 in
-    let e6 : EndsIn (1 + (length s.bad_code + (1 + (q))))
-    (unless (nat_lt 3 s.encryption) (octet s.encryption) ∷ free s.bad_code ∷ free (octet (length s.groups)) ∷ flat_map subgroup_fields s.groups)
-    (octet s.encryption ++ (s.bad_code ++ (octet (length s.groups) ++ (tail)))) =
-    ends_more (unless (nat_lt 3 s.encryption) (octet s.encryption)) (free s.bad_code ∷ free (octet (length s.groups)) ∷ flat_map subgroup_fields s.groups) (length s.bad_code + (1 + (q)))
-    (s.bad_code ++ (octet (length s.groups) ++ (tail))) e7 in
-    let e5 : EndsIn (1 + (1 + (length s.bad_code + (1 + (q)))))
-    (unless (nat_lt 4 s.pa_sync_state) (octet s.pa_sync_state) ∷ unless (nat_lt 3 s.encryption) (octet s.encryption) ∷ free s.bad_code ∷ free (octet (length s.groups))
-    ∷ flat_map subgroup_fields s.groups) (octet s.pa_sync_state ++ (octet s.encryption ++ (s.bad_code ++ (octet (length s.groups) ++ (tail))))) =
-    ends_more (unless (nat_lt 4 s.pa_sync_state) (octet s.pa_sync_state))
-    (unless (nat_lt 3 s.encryption) (octet s.encryption) ∷ free s.bad_code ∷ free (octet (length s.groups)) ∷ flat_map subgroup_fields s.groups) (1 + (length s.bad_code + (1 + (q))))
-    (octet s.encryption ++ (s.bad_code ++ (octet (length s.groups) ++ (tail)))) e6 in
-    let e4 : EndsIn (length s.broadcast_id + (1 + (1 + (length s.bad_code + (1 + (q))))))
-    (free s.broadcast_id ∷ unless (nat_lt 4 s.pa_sync_state) (octet s.pa_sync_state) ∷ unless (nat_lt 3 s.encryption) (octet s.encryption) ∷ free s.bad_code
-    ∷ free (octet (length s.groups)) ∷ flat_map subgroup_fields s.groups)
-    (s.broadcast_id ++ (octet s.pa_sync_state ++ (octet s.encryption ++ (s.bad_code ++ (octet (length s.groups) ++ (tail)))))) =
-    ends_more (free s.broadcast_id)
-    (unless (nat_lt 4 s.pa_sync_state) (octet s.pa_sync_state) ∷ unless (nat_lt 3 s.encryption) (octet s.encryption) ∷ free s.bad_code ∷ free (octet (length s.groups))
-    ∷ flat_map subgroup_fields s.groups) (1 + (1 + (length s.bad_code + (1 + (q))))) (octet s.pa_sync_state ++ (octet s.encryption ++ (s.bad_code ++ (octet (length s.groups) ++ (tail))))) e5 in
-    let e3 : EndsIn (1 + (length s.broadcast_id + (1 + (1 + (length s.bad_code + (1 + (q)))))))
-    (unless (nat_lt 15 s.sid) (octet s.sid) ∷ free s.broadcast_id ∷ unless (nat_lt 4 s.pa_sync_state) (octet s.pa_sync_state) ∷ unless (nat_lt 3 s.encryption) (octet s.encryption)
-    ∷ free s.bad_code ∷ free (octet (length s.groups)) ∷ flat_map subgroup_fields s.groups)
-    (octet s.sid ++ (s.broadcast_id ++ (octet s.pa_sync_state ++ (octet s.encryption ++ (s.bad_code ++ (octet (length s.groups) ++ (tail))))))) =
-    ends_more (unless (nat_lt 15 s.sid) (octet s.sid))
-    (free s.broadcast_id ∷ unless (nat_lt 4 s.pa_sync_state) (octet s.pa_sync_state) ∷ unless (nat_lt 3 s.encryption) (octet s.encryption) ∷ free s.bad_code
-    ∷ free (octet (length s.groups)) ∷ flat_map subgroup_fields s.groups) (length s.broadcast_id + (1 + (1 + (length s.bad_code + (1 + (q))))))
-    (s.broadcast_id ++ (octet s.pa_sync_state ++ (octet s.encryption ++ (s.bad_code ++ (octet (length s.groups) ++ (tail)))))) e4 in
-    let e2 : EndsIn (length s.address + (1 + (length s.broadcast_id + (1 + (1 + (length s.bad_code + (1 + (q))))))))
-    (free s.address ∷ unless (nat_lt 15 s.sid) (octet s.sid) ∷ free s.broadcast_id ∷ unless (nat_lt 4 s.pa_sync_state) (octet s.pa_sync_state)
-    ∷ unless (nat_lt 3 s.encryption) (octet s.encryption) ∷ free s.bad_code ∷ free (octet (length s.groups)) ∷ flat_map subgroup_fields s.groups)
-    (s.address ++ (octet s.sid ++ (s.broadcast_id ++ (octet s.pa_sync_state ++ (octet s.encryption ++ (s.bad_code ++ (octet (length s.groups) ++ (tail)))))))) =
-    ends_more (free s.address) (unless (nat_lt 15 s.sid) (octet s.sid) ∷ free s.broadcast_id ∷ unless (nat_lt 4 s.pa_sync_state) (octet s.pa_sync_state)
-    ∷ unless (nat_lt 3 s.encryption) (octet s.encryption) ∷ free s.bad_code ∷ free (octet (length s.groups)) ∷ flat_map subgroup_fields s.groups)
-    (1 + (length s.broadcast_id + (1 + (1 + (length s.bad_code + (1 + (q)))))))
-    (octet s.sid ++ (s.broadcast_id ++ (octet s.pa_sync_state ++ (octet s.encryption ++ (s.bad_code ++ (octet (length s.groups) ++ (tail))))))) e3 in
-    let e1 : EndsIn (1 + (length s.address + (1 + (length s.broadcast_id + (1 + (1 + (length s.bad_code + (1 + (q)))))))))
-    (unless (nat_lt 1 s.address_type) (octet s.address_type) ∷ free s.address ∷ unless (nat_lt 15 s.sid) (octet s.sid) ∷ free s.broadcast_id
-    ∷ unless (nat_lt 4 s.pa_sync_state) (octet s.pa_sync_state) ∷ unless (nat_lt 3 s.encryption) (octet s.encryption) ∷ free s.bad_code ∷ free (octet (length s.groups))
-    ∷ flat_map subgroup_fields s.groups)
-    (octet s.address_type ++ (s.address ++ (octet s.sid ++ (s.broadcast_id ++ (octet s.pa_sync_state ++ (octet s.encryption ++ (s.bad_code ++ (octet (length s.groups) ++ (tail))))))))) =
-    ends_more (unless (nat_lt 1 s.address_type) (octet s.address_type))
-    (free s.address ∷ unless (nat_lt 15 s.sid) (octet s.sid) ∷ free s.broadcast_id ∷ unless (nat_lt 4 s.pa_sync_state) (octet s.pa_sync_state)
-    ∷ unless (nat_lt 3 s.encryption) (octet s.encryption) ∷ free s.bad_code ∷ free (octet (length s.groups)) ∷ flat_map subgroup_fields s.groups)
-    (length s.address + (1 + (length s.broadcast_id + (1 + (1 + (length s.bad_code + (1 + (q))))))))
-    (s.address ++ (octet s.sid ++ (s.broadcast_id ++ (octet s.pa_sync_state ++ (octet s.encryption ++ (s.bad_code ++ (octet (length s.groups) ++ (tail)))))))) e2 in
-    let e0 : EndsIn (1 + (1 + (length s.address + (1 + (length s.broadcast_id + (1 + (1 + (length s.bad_code + (1 + (q))))))))))
-    (free (octet s.source_id) ∷ unless (nat_lt 1 s.address_type) (octet s.address_type) ∷ free s.address ∷ unless (nat_lt 15 s.sid) (octet s.sid) ∷ free s.broadcast_id
-    ∷ unless (nat_lt 4 s.pa_sync_state) (octet s.pa_sync_state) ∷ unless (nat_lt 3 s.encryption) (octet s.encryption) ∷ free s.bad_code ∷ free (octet (length s.groups))
-    ∷ flat_map subgroup_fields s.groups)
-    (octet s.source_id ++ (octet s.address_type
-    ++ (s.address ++ (octet s.sid ++ (s.broadcast_id ++ (octet s.pa_sync_state ++ (octet s.encryption ++ (s.bad_code ++ (octet (length s.groups) ++ (tail)))))))))) =
-    ends_more (free (octet s.source_id))
-    (unless (nat_lt 1 s.address_type) (octet s.address_type) ∷ free s.address ∷ unless (nat_lt 15 s.sid) (octet s.sid) ∷ free s.broadcast_id
-    ∷ unless (nat_lt 4 s.pa_sync_state) (octet s.pa_sync_state) ∷ unless (nat_lt 3 s.encryption) (octet s.encryption) ∷ free s.bad_code ∷ free (octet (length s.groups))
-    ∷ flat_map subgroup_fields s.groups) (1 + (length s.address + (1 + (length s.broadcast_id + (1 + (1 + (length s.bad_code + (1 + (q)))))))))
-    (octet s.address_type ++ (s.address ++ (octet s.sid ++ (s.broadcast_id ++ (octet s.pa_sync_state ++ (octet s.encryption ++ (s.bad_code ++ (octet (length s.groups) ++ (tail))))))))) e1 in
-    e0
+    ends_more (free (octet s.source_id)) _ _ _
+    (ends_more (unless (nat_lt 1 s.address_type) (octet s.address_type)) _ _ _
+    (ends_more (free s.address) _ _ _
+    (ends_more (unless (nat_lt 15 s.sid) (octet s.sid)) _ _ _
+    (ends_more (free s.broadcast_id) _ _ _
+    (ends_more (unless (nat_lt 4 s.pa_sync_state) (octet s.pa_sync_state)) _ _ _
+    (ends_more (unless (nat_lt 3 s.encryption) (octet s.encryption)) _ _ _ (ends_more (free s.bad_code) _ _ _ (ends_more (free (octet (length s.groups))) _ q tail ends))))))))
 
 in_groups : (whole : List ℕ) (s : StateFields) (count : ℕ) (tail : List ℕ) (p : ℕ) → IsOctets whole → 0 < length whole → head_in whole ≡ Ok (s, count, tail) → end_in whole count tail ≡ Err p
     → IsShort p whole

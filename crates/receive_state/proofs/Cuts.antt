@@ -1,6 +1,5 @@
 -- Octets that end within a field of a list, and what is read of them.
-use Rattle.receive_state.proofs.Prelude.{◌≡◌, ℕ, zero, suc, ◌+◌, ◌-◌, ◌<◌, true, ltb, List, [], ◌∷◌, ◌++◌, length, take, drop, None, refl, sym, ap, ◌∙◌, append_assoc, arith, ◌⊎◌, length-append, Field, laid, octet_in, octets_in, IsOctets, EndsIn}
-use Rattle.std.proofs.lemmas.Bool.{lt-ltb, ltb-true}
+use Rattle.receive_state.proofs.Prelude.{◌≡◌, ℕ, zero, suc, ◌+◌, ◌-◌, ◌<◌, true, ltb, List, [], ◌∷◌, ◌++◌, length, take, drop, None, refl, sym, ap, ◌∙◌, append_assoc, arith, ◌⊎◌, length-append, Field, laid, octet_in, octets_in, IsOctets, EndsIn, lt-ltb, ltb-true}
 
 pub ends_here : (field : Field) (fields : List Field) (part more : List ℕ) → field.octets ≡ part ++ more → 0 < length more → EndsIn 0 (field ∷ fields) part
 ends_here field fields part more e lt = ([], field, fields, part, more, refl, e, lt, refl, refl)

@@ -1,6 +1,5 @@
 -- Which states have an encoding.
-use Rattle.receive_state.proofs.Prelude.{◌≡◌, ◌≤◌, ◌<◌, ◌^◌, ℕ, suc, Bool, true, false, cond, ltb, leb, List, [], ◌∷◌, length, map, Some, refl, ap, arith, ◌&&◌, ◌||◌, not, flat_map, list_all, AllByRecursion, NoneReserved, Fits, subgroup_fields, is_reserved, Encryption, GroupState, ReceiveState, fields_of, group_of, number_of, encoding, group_is_encoded, is_encoded, HasEncoding, HasTypes, StateIs}
-use Rattle.std.proofs.lemmas.Bool.{leb-true, le-leb}
+use Rattle.receive_state.proofs.Prelude.{◌≡◌, ◌≤◌, ◌<◌, ◌^◌, ℕ, suc, Bool, true, false, cond, ltb, leb, List, [], ◌∷◌, length, map, Some, refl, ap, arith, ◌&&◌, ◌||◌, not, flat_map, list_all, AllByRecursion, NoneReserved, Fits, subgroup_fields, is_reserved, Encryption, GroupState, ReceiveState, fields_of, group_of, number_of, encoding, group_is_encoded, is_encoded, HasEncoding, HasTypes, StateIs, leb-true, le-leb}
 
 length-groups : (groups : List GroupState) → length (map group_of groups) ≡ length groups
 length-groups [] = refl

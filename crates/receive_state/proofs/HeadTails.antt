@@ -1,15 +1,17 @@
 -- What is left to read of the head, from each of its fields on.
-use Rattle.std.proofs.Common.{arith}
-use Rattle.receive_state.proofs.Prelude.{◌≡◌, ℕ, List, [], Option, Result, Ok, refl, octet_in, octets_in, StateFields, code_width, ◌>>=◌, needed, field_in}
+use Rattle.receive_state.proofs.Prelude.{◌≡◌, ℕ, List, [], Option, Result, Ok, refl, octet_in, octets_in, StateFields, code_width, ◌>>=◌, needed, field_in, arith}
 use Rattle.receive_state.specs.Reading.{source_in, head_in}
+
+-- what tells the source, and nothing behind it
+abbrev pub source_of : ℕ → ℕ → List ℕ → ℕ → List ℕ → StateFields
+source_of source kind address sid id =
+    record { source_id = source; address_type = kind; address = address; sid = sid; broadcast_id = id; pa_sync_state = 0; encryption = 0; bad_code = []; groups = [] }
 
 abbrev pub sourced : StateFields → List ℕ → Result (StateFields × List ℕ) ℕ
 sourced s rest = Ok (s, rest)
 
 abbrev pub from_id : List ℕ → ℕ → ℕ → List ℕ → ℕ → List ℕ → Result (StateFields × List ℕ) ℕ
-from_id whole source kind address sid rest =
-    field_in whole (octets_in 3) rest
-    >>= λ x. sourced (record { source_id = source; address_type = kind; address = address; sid = sid; broadcast_id = x.0; pa_sync_state = 0; encryption = 0; bad_code = []; groups = [] }) x.1
+from_id whole source kind address sid rest = field_in whole (octets_in 3) rest >>= λ x. sourced (source_of source kind address sid x.0) x.1
 
 abbrev pub from_sid : List ℕ → ℕ → ℕ → List ℕ → List ℕ → Result (StateFields × List ℕ) ℕ
 from_sid whole source kind address rest = field_in whole octet_in rest >>= λ x. from_id whole source kind address x.0 x.1

@@ -1,6 +1,5 @@
 -- States that are read are encoded so, and their first fault is the one that is told.
-use Rattle.receive_state.proofs.Prelude.{◌≡◌, ℕ, ◌<◌, ◌≤◌, List, [], ◌∷◌, ◌++◌, length, map, Option, Some, None, Result, Ok, Err, refl, sym, ap, subst, ◌∙◌, append_assoc, arith, IfOk, append-nil, nil_from_length, flat_map, Field, laid, reserved_from, NoneReserved, place_in, IsOctets, Subgroup, subgroup, subgroup_fields, subgroup_laid, subgroups_take, subgroups_again, reserved_none, none_reserved, StateFault, GroupState, ReceiveState, IsFollowed, StateFields, fields, code_width, number_of, code_of, group_of, fields_of, encoding, IsEncoded, StateIs, subgroups_of, state_of_group, encryption_of, state_from, first_fault, answered, behind, judged, judged_of, lifted, state_of, Answers}
-use Rattle.std.proofs.lemmas.Bool.{ltb-false}
+use Rattle.receive_state.proofs.Prelude.{◌≡◌, ℕ, ◌<◌, ◌≤◌, List, [], ◌∷◌, ◌++◌, length, map, Option, Some, None, Result, Ok, Err, refl, sym, ap, subst, ◌∙◌, append_assoc, arith, IfOk, append-nil, nil_from_length, flat_map, Field, laid, reserved_from, NoneReserved, place_in, IsOctets, Subgroup, subgroup, subgroup_fields, subgroup_laid, subgroups_take, subgroups_again, reserved_none, none_reserved, StateFault, GroupState, ReceiveState, IsFollowed, StateFields, fields, code_width, number_of, code_of, group_of, fields_of, encoding, IsEncoded, StateIs, subgroups_of, state_of_group, encryption_of, state_from, first_fault, answered, behind, judged, judged_of, lifted, state_of, Answers, ltb-false}
 use Rattle.std.proofs.lemmas.Grind.{flat_map-append}
 use Rattle.bcast_base.specs.Subgroups.{subgroups_in}
 use Rattle.receive_state.specs.Reading.{head_in, end_in, told}

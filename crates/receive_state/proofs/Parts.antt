@@ -1,6 +1,5 @@
 -- The parts of subgroups that are read.
-use Rattle.std.proofs.Common.{arith}
-use Rattle.receive_state.proofs.Prelude.{◌≡◌, ℕ, suc, List, ◌∷◌, Option, Some, None, refl, ap, ◌∙◌, number_in, counted_in, Subgroup, bind_some, some_is}
+use Rattle.receive_state.proofs.Prelude.{◌≡◌, ℕ, suc, List, ◌∷◌, Option, Some, None, refl, ap, ◌∙◌, number_in, counted_in, Subgroup, bind_some, some_is, arith}
 use Rattle.bcast_base.specs.Steps.{◌>>=◌}
 use Rattle.bcast_base.specs.Subgroups.{subgroup_in, subgroups_in}
 

@@ -1,6 +1,5 @@
 -- What a state is judged as, by the steps of reading.
-use Rattle.receive_state.proofs.Prelude.{◌≡◌, ℕ, ◌+◌, ◌<◌, Bool, true, false, cond, ltb, eqb, List, [], length, map, Option, Some, None, is_some, Result, Ok, Err, sym, ap, ◌∙◌, arith, IsOk, flat_map, nil_from_length, length-map, reserved_from, place_in, IsOctets, Subgroup, subgroup_fields, reserved_in, subgroups_take, StateFault, Rfu, Trailing, GroupState, ReceiveState, StateFields, fields, groups_of, states_of, state_of_group, state_from, reserved_head, first_fault, answered, judged_of}
-use Rattle.std.proofs.lemmas.Bool.{eqb-true}
+use Rattle.receive_state.proofs.Prelude.{◌≡◌, ℕ, ◌+◌, ◌<◌, Bool, true, false, cond, ltb, eqb, List, [], length, map, Option, Some, None, is_some, Result, Ok, Err, sym, ap, ◌∙◌, arith, IsOk, flat_map, nil_from_length, length-map, reserved_from, place_in, IsOctets, Subgroup, subgroup_fields, reserved_in, subgroups_take, StateFault, Rfu, Trailing, GroupState, ReceiveState, StateFields, fields, groups_of, states_of, state_of_group, state_from, reserved_head, first_fault, answered, judged_of, eqb-true}
 use Rattle.bcast_base.specs.Subgroups.{subgroups_in}
 use Rattle.bcast_base.proofs.Citable.{reserved_found}
 use Rattle.receive_state.specs.Reading.{head_in, end_in}

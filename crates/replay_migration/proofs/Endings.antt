@@ -1,13 +1,6 @@
 -- How a migration ends, by what was read and written.
-use Rattle.std.proofs.Common.{◌≡◌, ℕ, ◌+◌, ◌≤◌, List, [], ◌++◌, length, take, drop, Option, None, Some, Result, Ok, Err, refl, sym, subst, ◌∙◌, inl, inr}
-use Rattle.std.proofs.Common.{arith, length-append, length-drop, length-take-le}
-use Rattle.std.proofs.lemmas.List.{append-nil}
-use Rattle.std.specs.Io.KnownBytes.{Consumes, IsAtEnd, Keeps}
-use Rattle.bcast_io.specs.TextLines.{text_limit}
-use Rattle.bcast_io.specs.Writing.{AppendsPrefix, AppendsShort}
-use Rattle.bcast_io.proofs.Citable.{AppendsPrefix-nothing, Consumes-nothing, Consumes-then}
+use Rattle.replay_migration.proofs.Prelude.{◌≡◌, ℕ, ◌+◌, ◌≤◌, List, [], ◌++◌, length, take, drop, Option, None, Some, Result, Ok, Err, refl, sym, subst, ◌∙◌, inl, inr, arith, length-append, length-drop, length-take-le, append-nil, Consumes, IsAtEnd, Keeps, text_limit, AppendsPrefix, AppendsShort, AppendsPrefix-nothing, Consumes-nothing, Consumes-then, ReadWhole, ReadPast, ReadPart, piece_limit}
 use Rattle.scenario_text.specs.Migrated.{migrated}
-use Rattle.replay_migration.specs.TextRead.{ReadWhole, ReadPast, ReadPart, piece_limit}
 use Rattle.replay_migration.specs.Ended.{Ended, too_long_line}
 use Rattle.replay_migration.specs.State.Pieces.{ReadsOn, ReadsText, Took, TookPast}
 use Rattle.replay_migration.specs.State.Puts.{PutsText, PutsRefusal}

@@ -1,3 +1,4 @@
+mod Prelude
 mod Lines
 mod Endings
 mod Writes

@@ -1,12 +1,8 @@
 -- The lines that end among the octets of a text, and the line that holds the octet past its limit.
-use Rattle.std.proofs.Common.{◌≡◌, ℕ, suc, ◌+◌, ◌<◌, ◌≤◌, Bool, true, false, cond, eqb, List, [], ◌∷◌, ◌++◌, length, take, drop, count_by}
-use Rattle.std.proofs.Common.{refl, sym, ap, ◌∙◌, arith, append_assoc, take-append-drop, length-take-le, length-append, length-drop}
+use Rattle.replay_migration.proofs.Prelude.{◌≡◌, ℕ, suc, ◌+◌, ◌<◌, ◌≤◌, Bool, true, false, cond, eqb, List, [], ◌∷◌, ◌++◌, length, take, drop, count_by, refl, sym, ap, ◌∙◌, arith, append_assoc, take-append-drop, length-take-le, length-append, length-drop, is_byte, lines-past_all, LastIsPast, IsTooLong}
 use Rattle.std.proofs.lemmas.Bool.{lt-leb}
 use Rattle.std.proofs.lemmas.List.Sums.{sum_by-append, sum_by-cons}
-use Rattle.memchr.specs.Find.{is_byte}
 use Rattle.bcast_io.specs.TextLines.{TextLine, newline, past, line_of, lines_from, lines_of, text_limit}
-use Rattle.bcast_io.proofs.Citable.{lines-past_all}
-use Rattle.replay_migration.specs.TextRead.{LastIsPast, IsTooLong}
 
 -- how many of these octets end a line
 abbrev pub ends : List ℕ → ℕ

@@ -1,8 +1,5 @@
 -- A text that is written in three pieces, of which one is cut short.
-use Rattle.std.proofs.Common.{◌≡◌, ℕ, List, ◌++◌, Option, ap, sym, subst, ◌∙◌, append_assoc, arith, length-append}
-use Rattle.std.specs.Io.KnownBytes.{Appends}
-use Rattle.bcast_io.specs.Writing.{AppendsShort}
-use Rattle.bcast_io.proofs.Citable.{Appends-then}
+use Rattle.replay_migration.proofs.Prelude.{◌≡◌, ℕ, List, ◌++◌, Option, ap, sym, subst, ◌∙◌, append_assoc, arith, length-append, Appends, AppendsShort, Appends-then}
 
 -- more was to be written than the piece that was cut short
 cut_before : (a b : Option (List ℕ)) (xs ys : List ℕ) → AppendsShort a b xs → AppendsShort a b (xs ++ ys)

@@ -1,14 +1,8 @@
 -- What boxes took, unit by unit and all together.
-use Rattle.std.proofs.Common.{◌≡◌, ◌≢◌, ℕ, ◌+◌, ◌-◌, zero, suc, Bool, true, false, eqb, List, [], ◌∷◌, ◌++◌, length}
-use Rattle.std.proofs.Common.{map, drop, refl, sym, ap, ◌∙◌, append_assoc, arith, slice_get, slice_set, Option, None, Some, length-append, length-drop, ◌<◌, inl, inr}
+use Rattle.scenario_history.proofs.Prelude.{◌≡◌, ◌≢◌, ℕ, ◌+◌, ◌-◌, zero, suc, Bool, true, false, eqb, List, [], ◌∷◌, ◌++◌, length, map, drop, refl, sym, ap, ◌∙◌, append_assoc, arith, slice_get, slice_set, Option, None, Some, length-append, length-drop, ◌<◌, inl, inr, drop-drop, drop-append-le, sum_by-cons, Account, with_unit, kept_after, Handed, valid, lost, SinkUnit, no_account, account_at, with_handed, accounts_after, onto_valid, valid_for, kept_with, with_units, Took}
 use Rattle.std.specs.Prelude.{slice_index_or, option_map, sum}
-use Rattle.std.proofs.lemmas.List.{drop-drop, drop-append-le}
 use Rattle.std.proofs.lemmas.Bool.Decides.{eqb_tells}
-use Rattle.std.proofs.lemmas.List.Sums.{sum_by-cons}
 use Rattle.circular_buffer.specs.Buffer.{keep_last}
-use Rattle.unit_outlets.specs.Account.{Account, with_unit, kept_after}
-use Rattle.unit_outlets.specs.Handed.{Handed, valid, lost}
-use Rattle.scenario_history.specs.Boxes.{SinkUnit, no_account, account_at, with_handed, accounts_after, onto_valid, valid_for, kept_with, with_units, Took}
 
 -- ---- the newest of a list
 

@@ -1,3 +1,4 @@
+mod Prelude
 mod BoxLaws
 pub mod Citable
 mod Permitted

@@ -1,11 +1,7 @@
 -- What holds of a step that is refused by no reason.
-use Rattle.std.proofs.Common.{ℕ, ◌≡◌, Bool, true, false, List, Option, None, Some, refl, sym}
-use Rattle.std.proofs.lemmas.Bool.{or_parts}
-use Rattle.std.proofs.lemmas.Option.{none-some}
+use Rattle.scenario_history.proofs.Prelude.{ℕ, ◌≡◌, Bool, true, false, List, Option, None, Some, refl, sym, or_parts, none-some, Step, chosen_steps, is_over, stage_of, version_of}
 use Rattle.std.specs.Option.{option_map, option_or}
-use Rattle.scenario_text.specs.declared.step.Step.{Step}
 use Rattle.transcript_text.specs.declared.refusal.Refusal.{Refusal}
-use Rattle.scenario_history.specs.Steps.{chosen_steps, is_over, stage_of, version_of}
 use Rattle.source_machine.specs.Airs.{Airs}
 use Rattle.scenario_history.specs.Refusals.{is_misplaced, is_out_of_order, is_out_of_phase, own_refusal, phase_refusal}
 use Rattle.scenario_history.specs.Refusals.{refusal_of, sink_refusal, source_refusal, twin_refusal}

@@ -1,6 +1,5 @@
 -- A run over an accepted history and what follows it.
-use Rattle.std.proofs.Common.{◌≡◌, ℕ, ◌+◌, List, [], ◌∷◌, ◌++◌, length, reverse, refl, sym, ◌∙◌, ap, append_assoc, Option, None, Some, arith}
-use Rattle.std.proofs.lemmas.List.{append-nil, reverse-append}
+use Rattle.scenario_history.proofs.Prelude.{◌≡◌, ℕ, ◌+◌, List, [], ◌∷◌, ◌++◌, length, reverse, refl, sym, ◌∙◌, ap, append_assoc, Option, None, Some, arith, append-nil, reverse-append}
 use Rattle.scenario_history.specs.Runs.{Rules, End, through, refused, number_after, out, out_unless, end_of, end_unless, brought, Accepted, accepted_of}
 
 pub reverse_onto : {L : Type 0} (line : L) (earlier lines : List L)

@@ -1,8 +1,6 @@
 -- Where the steps of a source stand.
-use Rattle.std.proofs.Common.{ℕ, ◌≡◌, ◌∙◌, Bool, true, false, cond, List, [], ◌∷◌, refl, ap}
-use Rattle.scenario_text.specs.declared.step.Step.{Step}
+use Rattle.scenario_history.proofs.Prelude.{ℕ, ◌≡◌, ◌∙◌, Bool, true, false, cond, List, [], ◌∷◌, refl, ap, Step, is_of_source, stage_after, stage_of, steps_of_source}
 use Rattle.scenario_text.specs.declared.step.Step.TheVariants as steps
-use Rattle.scenario_history.specs.Steps.{is_of_source, stage_after, stage_of, steps_of_source}
 
 -- the scenario of a source's steps stands where that of all steps does
 stage_if : (own : List Step) (step : Step) (is_its : Bool) → stage_of (step ∷ own) ≡ stage_of own → stage_of (cond is_its (step ∷ own) own) ≡ stage_of own

@@ -1,16 +1,8 @@
 -- The sums of the boxes grow by the number and the octets of the valid units that went to each.
-use Rattle.std.proofs.Common.{ℕ, ◌≡◌, ◌<◌, ◌+◌, ◌==◌, ◌∙◌, Bool, true, false, List, [], ◌∷◌, length, map}
+use Rattle.scenario_history.proofs.Prelude.{ℕ, ◌≡◌, ◌<◌, ◌+◌, ◌==◌, ◌∙◌, Bool, true, false, List, [], ◌∷◌, length, map, ne_eqb, cases_eq, sum-map, sum_by-cons, none-some, Account, with_unit, Handed, valid, lost, Step, sinks_made, sinks_made_by, SinkUnit, account_at, no_account, with_handed, accounts_after, onto_valid, valid_for, box_of, box_after}
 use Rattle.std.proofs.Common.{sum, Option, None, Some, arith, refl, sym, ap, inl, inr, eq-eqb, if◌then◌else◌, get_or-set_other, length-set}
-use Rattle.std.proofs.lemmas.Bool.{ne_eqb, cases_eq}
 use Rattle.std.proofs.lemmas.Grind.{get_or-set_at}
-use Rattle.std.proofs.lemmas.List.Sums.{sum-map, sum_by-cons}
-use Rattle.std.proofs.lemmas.Option.{none-some}
-use Rattle.unit_outlets.specs.Account.{Account, with_unit}
-use Rattle.unit_outlets.specs.Handed.{Handed, valid, lost}
-use Rattle.scenario_text.specs.declared.step.Step.{Step}
 use Rattle.scenario_text.specs.declared.step.Step.TheVariants as steps
-use Rattle.scenario_history.specs.Steps.{sinks_made, sinks_made_by}
-use Rattle.scenario_history.specs.Boxes.{SinkUnit, account_at, no_account, with_handed, accounts_after, onto_valid, valid_for, box_of, box_after}
 
 -- no box comes or goes
 pub one_stays : (accounts : List Account) (box : ℕ) (unit : Handed) → length (with_handed accounts box unit) ≡ length accounts

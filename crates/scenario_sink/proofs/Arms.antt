@@ -1,8 +1,6 @@
 -- A line that is one of the lines of a sink.
-use Rattle.std.proofs.Common.{arith}
-use Rattle.scenario_sink.proofs.Prelude.{ℕ, ◌≡◌, List, [], ◌∷◌, None, Result, refl, sym, subst, Source, printed_of, refused_by, LinkedSink, LineMakes, Quietly, SinkHistory, after_line, asked, stayed, Stop}
+use Rattle.scenario_sink.proofs.Prelude.{ℕ, ◌≡◌, List, [], ◌∷◌, None, Result, refl, sym, subst, Source, printed_of, refused_by, LinkedSink, LineMakes, Quietly, SinkHistory, after_line, asked, stayed, Stop, arith, Add, Modify, Remove, Code}
 use Rattle.scenario_text.specs.declared.step.Step.{Step}
-use Rattle.scenario_text.specs.declared.step.Step.TheVariants.{Add, Modify, Remove, Code}
 use Rattle.scenario_sink.specs.Making.{Takes}
 use Rattle.scenario_sink.specs.Operates.{Operates}
 use Rattle.scenario_sink.proofs.Printing.{nothing_put}

@@ -1,6 +1,5 @@
 -- A new sink.
-use Rattle.std.proofs.Common.{arith}
-use Rattle.scenario_sink.proofs.Prelude.{ℕ, ◌≡◌, [], ◌∷◌, List, Option, Some, None, refl, ◌∙◌, subst, slice_index_or, ne_eqb, Halves, StandsFor, mtu_set, Settings, Setup, waiting_goes_on, is_joined, stepped, link_at, linked, mtu_of, slots_of, Linked, joining, Links, SinkHistory, new_sink, OnLink, HasStepped, Stands, after_call, its_mtu}
+use Rattle.scenario_sink.proofs.Prelude.{ℕ, ◌≡◌, [], ◌∷◌, List, Option, Some, None, refl, ◌∙◌, subst, slice_index_or, ne_eqb, Halves, StandsFor, mtu_set, Settings, Setup, waiting_goes_on, is_joined, stepped, link_at, linked, mtu_of, slots_of, Linked, joining, Links, SinkHistory, new_sink, OnLink, HasStepped, Stands, after_call, its_mtu, arith}
 use Rattle.delegator_history.specs.States.{answered}
 use Rattle.group_sink.specs.Calls as sinks
 use Rattle.scenario_sink.proofs.Fresh.{first_holds}

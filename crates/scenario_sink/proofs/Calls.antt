@@ -4,8 +4,7 @@ use Rattle.assistant_machine.specs.Answers.{answer_of}
 use Rattle.assistant_machine.specs.Calls as assistants
 use Rattle.assistant_machine.specs.Views as known
 use Rattle.delegator_machine.specs.Calls as machine
-use Rattle.scenario_sink.proofs.Acts.{acts_joined, acts_read, acts_told, apart_joined, joins, parts}
-use Rattle.scenario_sink.proofs.Acts.{lowest_read, lowest_within, none_read, writes_asked, writes_joined, writes_kept}
+use Rattle.scenario_sink.proofs.Acts.{acts_joined, acts_read, acts_told, apart_joined, joins, parts, lowest_read, lowest_within, none_read, writes_asked, writes_joined, writes_kept}
 use Rattle.scenario_sink.proofs.Assistants.{first_notice, forged_holds, holds_as, put_holds, read_holds, sent_holds, told_holds, waiting_writes}
 use Rattle.scenario_sink.proofs.Fresh.{anew_holds}
 use Rattle.scenario_sink.proofs.Places.{at_it, at_other, lent, lent_elsewhere, lent_same, lent_terms, one_of_four}

@@ -1,6 +1,5 @@
 -- A train synchronizes a sink to itself or to its BIG exactly where it gets none of the first four answers.
-use Rattle.std.proofs.Common.{arith}
-use Rattle.scenario_sink.proofs.Prelude.{ℕ, ◌≡◌, Bool, List, Option, Some, None, Result, refl, if◌then◌else◌, Snapshot, entry_at, is_on_group, wishes_at, TrainOutcome, ignored, heard, taken, Setup, Train, answer_of, are_none, base_in, big_info_in, outcome_by, by_base, by_big_info, by_group, by_info, by_slot, first_candidates, is_elsewhere, is_wanted, slot_where, follows, is_followed}
+use Rattle.scenario_sink.proofs.Prelude.{ℕ, ◌≡◌, Bool, List, Option, Some, None, Result, refl, if◌then◌else◌, Snapshot, entry_at, is_on_group, wishes_at, TrainOutcome, ignored, heard, taken, Setup, Train, answer_of, are_none, base_in, big_info_in, outcome_by, by_base, by_big_info, by_group, by_info, by_slot, first_candidates, is_elsewhere, is_wanted, slot_where, follows, is_followed, arith}
 use Rattle.base_grammar.specs.Layout.{Endpoint}
 use Rattle.bass_operations.specs.declared.wishes.Wish.{Wish}
 use Rattle.big_info.specs.declared.big_fault.BigFault.{BigFault}

@@ -1,7 +1,5 @@
 -- What a forged notice is answered.
-use Rattle.std.proofs.Common.{arith}
-use Rattle.scenario_sink.proofs.Prelude.{◌≡◌, ◌≢◌, Result, Ok, Err, IfErr, IfOk, Memory}
-use Rattle.assistant_machine.specs.Answers.{IsCause}
+use Rattle.scenario_sink.proofs.Prelude.{◌≡◌, ◌≢◌, Result, Ok, Err, IfErr, IfOk, Memory, arith, IsCause}
 use Rattle.assistant_machine.specs.declared.fault.NoticeFault.{NoticeFault}
 use Rattle.assistant_machine.specs.declared.fault.NoticeTaken.{NoticeTaken}
 

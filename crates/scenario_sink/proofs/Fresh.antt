@@ -1,6 +1,5 @@
 -- An assistant that just joined.
-use Rattle.std.proofs.Common.{arith}
-use Rattle.scenario_sink.proofs.Prelude.{ℕ, false, List, [], ◌∷◌, Option, Some, None, refl, Acts, asking, joining, LinkHolds}
+use Rattle.scenario_sink.proofs.Prelude.{ℕ, false, List, [], ◌∷◌, Option, Some, None, refl, Acts, asking, joining, LinkHolds, arith}
 use Rattle.assistant_machine.specs.Calls.{Call, all_asked, limited}
 use Rattle.assistant_machine.specs.State.Assistants.{StandsFor, joined}
 use Rattle.assistant_machine.proofs.Citable.{all_stands, fresh, length_replicate, limited_stands}

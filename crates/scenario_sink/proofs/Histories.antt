@@ -1,6 +1,5 @@
 -- A living sink that took a call.
-use Rattle.std.proofs.Common.{arith}
-use Rattle.scenario_sink.proofs.Prelude.{ℕ, ◌≡◌, true, List, ◌∷◌, Option, None, slice_get, option_map, with_step, Halves, Snapshot, written, Setup, has_group, is_joined, served, writes_waiting, Links, snapshot_in, LinkedSink, stayed, SinkHistory, IsSink, Stands, after_call}
+use Rattle.scenario_sink.proofs.Prelude.{ℕ, ◌≡◌, true, List, ◌∷◌, Option, None, slice_get, option_map, with_step, Halves, Snapshot, written, Setup, has_group, is_joined, served, writes_waiting, Links, snapshot_in, LinkedSink, stayed, SinkHistory, IsSink, Stands, after_call, arith}
 use Rattle.scenario_sink.specs.State.Stands.{given}
 use Rattle.scenario_sink.proofs.Untold.{stays}
 

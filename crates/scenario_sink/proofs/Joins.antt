@@ -1,9 +1,7 @@
 -- Whether an assistant is on a link, and why a line that names the link is refused.
-use Rattle.std.proofs.Common.{arith}
-use Rattle.scenario_sink.proofs.Prelude.{◌≡◌, Bool, true, false, Option, None, Result, Ok, Err, option_or, ◌↔◌, refuse_if, Refusal}
+use Rattle.scenario_sink.proofs.Prelude.{◌≡◌, Bool, true, false, Option, None, Result, Ok, Err, option_or, ◌↔◌, refuse_if, Refusal, arith, LinkTwice}
 use Rattle.multi_assist.specs.declared.fault.LinkFault.{LinkFault}
 use Rattle.multi_assist.specs.declared.fault.LinkFault.TheVariants.{LinkTwice as Twice, Memory as NoMemory}
-use Rattle.transcript_text.specs.declared.refusal.Refusal.TheVariants.{LinkTwice}
 
 -- that the link is joined already
 abbrev pub twice_refusal : Bool → Option Refusal

@@ -1,7 +1,5 @@
 -- A write that is served synchronizes no sink to a BIG, so that a row of them takes it off one at most once.
-use Rattle.std.proofs.Common.{arith}
-use Rattle.scenario_sink.proofs.Prelude.{ℕ, ◌≡◌, false, List, ◌∷◌, slice_get, Option, Some, None, refl, option_map, with_step, snapshot_goes_on, Step, snapshot_of, written, Setup, Call, served, steps_of, writes_waiting, has_group}
-use Rattle.delegator_machine.proofs.Citable.{stays_off}
+use Rattle.scenario_sink.proofs.Prelude.{ℕ, ◌≡◌, false, List, ◌∷◌, slice_get, Option, Some, None, refl, option_map, with_step, snapshot_goes_on, Step, snapshot_of, written, Setup, Call, served, steps_of, writes_waiting, has_group, arith, stays_off}
 use Rattle.group_sink.specs.Calls as sinks
 use Rattle.sink_history.specs.Calls as links
 

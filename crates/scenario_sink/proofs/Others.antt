@@ -1,11 +1,9 @@
 -- A step that none of the arms for a sink's lines took is none of these lines.
-use Rattle.std.proofs.Common.{arith}
-use Rattle.scenario_sink.proofs.Prelude.{ℕ, ◌≡◌, List}
+use Rattle.scenario_sink.proofs.Prelude.{ℕ, ◌≡◌, List, arith, Assist, Apart, AWrite, AServe, ATell, ARead, ADrain, AShow}
 use Rattle.bass_operations.specs.declared.operation.AddSource.{AddSource}
 use Rattle.bass_operations.specs.declared.operation.ModifySource.{ModifySource}
 use Rattle.scenario_text.specs.declared.step.Step.{Step}
 use Rattle.scenario_text.specs.declared.step.Step.TheVariants.{Pac, Locate, Context, Train, Write, Add, Modify, Remove, Code, Serve, Tell, Read, Drain, Show, Lose, Control, Forge}
-use Rattle.scenario_text.specs.declared.step.Step.TheVariants.{Assist, Apart, AWrite, AServe, ATell, ARead, ADrain, AShow}
 use Rattle.scenario_sink.specs.SinkLines.{IsSinkLine}
 
 pub record IsOther (step : Step) : Type 0 where

@@ -53,3 +53,8 @@ pub use Rattle.transcript_text.specs.Labels.{label_of}
 pub use Rattle.transcript_text.specs.SinkLines.{reply_line, value_line, sink_line, train_words, Label, train_line, forged_line, control_words, plain}
 pub use Rattle.transcript_text.specs.declared.refusal.Refusal.{Refusal}
 pub use Rattle.transcript_text.specs.declared.stop.Stop.{Stop}
+pub use Rattle.transcript_text.specs.declared.refusal.Refusal.TheVariants.{RecordsTooLong, NoSuchLink, NothingWaiting, LinkTwice}
+pub use Rattle.assistant_machine.specs.Answers.{IsCause}
+pub use Rattle.delegator_machine.proofs.Citable.{groups_heard, steps_heard, stays_off}
+pub use Rattle.multi_assist.specs.State.Gathering.{Gathers, StandsOn}
+pub use Rattle.scenario_text.specs.declared.step.Step.TheVariants.{Add, Modify, Remove, Code, Assist, Apart, AWrite, AServe, ATell, ARead, ADrain, AShow}

@@ -1,6 +1,5 @@
 -- What is shown of a slot.
-use Rattle.std.proofs.Common.{arith}
-use Rattle.scenario_sink.proofs.Prelude.{ℕ, ◌≡◌, ◌<◌, ◌≤◌, ltb, List, ◌++◌, [], ◌∷◌, Some, None, ◌∙◌, sym, cond-false, cond-true, le-ltb, lt-ltb, concat, codes, decimal, Notice, Settings, Call, state_where, stated, viewed, value_line, slot_lines, SinkHistory}
+use Rattle.scenario_sink.proofs.Prelude.{ℕ, ◌≡◌, ◌<◌, ◌≤◌, ltb, List, ◌++◌, [], ◌∷◌, Some, None, ◌∙◌, sym, cond-false, cond-true, le-ltb, lt-ltb, concat, codes, decimal, Notice, Settings, Call, state_where, stated, viewed, value_line, slot_lines, SinkHistory, arith}
 use Rattle.scenario_sink.proofs.Printing.{two_put}
 
 abbrev pub with_value : ℕ → List ℕ → Notice

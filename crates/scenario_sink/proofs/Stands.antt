@@ -1,11 +1,8 @@
 -- A sink with its links that stands for its past stands for one call more.
-use Rattle.std.proofs.Common.{arith}
-use Rattle.scenario_sink.proofs.Prelude.{ℕ, ◌≡◌, ◌≢◌, Bool, true, false, List, [], ◌∷◌, map, drop, Option, Some, None, refl, sym, ap, ◌∙◌, subst, inl, inr, is_some, cases_eq, append-nil, group_calls, with_step, Halves, StandsFor, settings_of, has_group, Notice, changes, handed_out, is_told, waiting, Snapshot, Step, done_by, snapshot_of, after, Setup, value_at, none_change, snapshot_goes_on, waiting_goes_on, Call, stepped, is_joined, step_by, steps_of, writes_waiting, IsApart, LeavesLink, Acts, acts_of, IsAsked, IsWritten, IsStep, NotifiesLink, link_at, linked, mtu_of, slots_of, Linked, with_notices, Links, snapshot_in, SinkHistory, receiving, hearing_event, LinkHolds, OnLink, HasStepped, LinkIs, Stands, after_call, untold}
+use Rattle.scenario_sink.proofs.Prelude.{ℕ, ◌≡◌, ◌≢◌, Bool, true, false, List, [], ◌∷◌, map, drop, Option, Some, None, refl, sym, ap, ◌∙◌, subst, inl, inr, is_some, cases_eq, append-nil, group_calls, with_step, Halves, StandsFor, settings_of, has_group, Notice, changes, handed_out, is_told, waiting, Snapshot, Step, done_by, snapshot_of, after, Setup, value_at, none_change, snapshot_goes_on, waiting_goes_on, Call, stepped, is_joined, step_by, steps_of, writes_waiting, IsApart, LeavesLink, Acts, acts_of, IsAsked, IsWritten, IsStep, NotifiesLink, link_at, linked, mtu_of, slots_of, Linked, with_notices, Links, snapshot_in, SinkHistory, receiving, hearing_event, LinkHolds, OnLink, HasStepped, LinkIs, Stands, after_call, untold, arith, groups_heard, steps_heard, Gathers, StandsOn}
 use Rattle.delegator_machine.specs.Calls as machine
-use Rattle.delegator_machine.proofs.Citable.{groups_heard, steps_heard}
 use Rattle.group_sink.specs.Calls as sinks
 use Rattle.sink_history.specs.Calls as calls
-use Rattle.multi_assist.specs.State.Gathering.{Gathers, StandsOn}
 use Rattle.scenario_sink.specs.State.Stands.{given}
 use Rattle.scenario_sink.proofs.Acts.{apart_joined, step_joined}
 use Rattle.scenario_sink.proofs.Assistants.{holds_as, told_all}

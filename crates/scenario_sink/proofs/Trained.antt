@@ -1,6 +1,5 @@
 -- A train that a line hands a sink.
-use Rattle.std.proofs.Common.{arith}
-use Rattle.scenario_sink.proofs.Prelude.{ℕ, ◌≡◌, List, ◌∷◌, Some, if◌then◌else◌, train_heard, TrainOutcome, Train, outcome_by, big_sync_in, with_step, Call, stepped, Source, given_train, own_train, follows, snapshot_in, SinkHistory}
+use Rattle.scenario_sink.proofs.Prelude.{ℕ, ◌≡◌, List, ◌∷◌, Some, if◌then◌else◌, train_heard, TrainOutcome, Train, outcome_by, big_sync_in, with_step, Call, stepped, Source, given_train, own_train, follows, snapshot_in, SinkHistory, arith}
 use Rattle.announcement_train.specs.declared.train.Train.{Train as Announced}
 use Rattle.scenario_sink.specs.declared.origin.Origin.{Origin}
 use Rattle.scenario_sink.specs.Origins.{IsFrom}

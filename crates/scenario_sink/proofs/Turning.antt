@@ -1,8 +1,6 @@
 -- What waits first on a link: it is taken, or none waits.
-use Rattle.std.proofs.Common.{arith}
-use Rattle.scenario_sink.proofs.Prelude.{ℕ, ◌≡◌, Bool, true, false, List, ◌++◌, Option, Some, None, Result, Ok, ap, ◌∙◌, is_none, not, option_map, concat, option_or, Call, is_joined, Lines, if_there, refuse_if, LinkedSink, Goes, LinkMakes, Makes, Stays, Turns, answer_if, stayed, SinkHistory, Refusal, Stop}
+use Rattle.scenario_sink.proofs.Prelude.{ℕ, ◌≡◌, Bool, true, false, List, ◌++◌, Option, Some, None, Result, Ok, ap, ◌∙◌, is_none, not, option_map, concat, option_or, Call, is_joined, Lines, if_there, refuse_if, LinkedSink, Goes, LinkMakes, Makes, Stays, Turns, answer_if, stayed, SinkHistory, Refusal, Stop, arith, NoSuchLink, NothingWaiting}
 use Rattle.scenario_sink.proofs.Printing.{one_put}
-use Rattle.transcript_text.specs.declared.refusal.Refusal.TheVariants.{NoSuchLink, NothingWaiting}
 
 -- ---- a call that answers what there was
 

@@ -1,6 +1,5 @@
 -- What a delegator answers is the same without the steps that asked for notices.
-use Rattle.std.proofs.Common.{arith}
-use Rattle.scenario_sink.proofs.Prelude.{ℕ, zero, suc, ◌≡◌, Bool, List, [], ◌∷◌, refl, sym, ap, ◌∙◌, is_told, Step, done_by, snapshot_of, after, Setup, snapshot_goes_on, group_calls, with_leave, Halves, Links, has_group, snapshot_in, SinkHistory, Took, unless_told, untold}
+use Rattle.scenario_sink.proofs.Prelude.{ℕ, zero, suc, ◌≡◌, Bool, List, [], ◌∷◌, refl, sym, ap, ◌∙◌, is_told, Step, done_by, snapshot_of, after, Setup, snapshot_goes_on, group_calls, with_leave, Halves, Links, has_group, snapshot_in, SinkHistory, Took, unless_told, untold, arith}
 use Rattle.delegator_history.specs.States.{notified}
 use Rattle.delegator_machine.specs.Calls as machine
 use Rattle.group_sink.specs.Calls as sinks

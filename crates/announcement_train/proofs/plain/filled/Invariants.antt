@@ -1,5 +1,4 @@
-use Rattle.std.proofs.Common.{◌≡◌}
-use Rattle.announcement_train.specs.PlainBase.{plain_base_of}
+use Rattle.announcement_train.proofs.Prelude.{◌≡◌, plain_base_of}
 use Rattle.announcement_train.proofs.plain.filled.Given as goal
 
 abbrev pub invariant-streams : goal.invariant-streams

@@ -1,6 +1,5 @@
-use Rattle.std.proofs.Common.{ap, sym, ◌∙◌}
+use Rattle.announcement_train.proofs.Prelude.{ap, sym, ◌∙◌, finish_fault}
 use Rattle.std.proofs.lemmas.Option.{none-some}
-use Rattle.base_grammar.specs.Draft.{finish_fault}
 use Rattle.announcement_train.proofs.PlainBases.{plain_finishes}
 use Rattle.announcement_train.proofs.plain.plain_base.Goals as goal
 

@@ -1,5 +1,4 @@
-use Rattle.std.proofs.Common.{sym, ◌∙◌}
-use Rattle.base_grammar.specs.Layout.{encoding}
+use Rattle.announcement_train.proofs.Prelude.{sym, ◌∙◌, encoding}
 use Rattle.announcement_train.proofs.train.base_list.Goals as goal
 
 pub returns : goal.returns

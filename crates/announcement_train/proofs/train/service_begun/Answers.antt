@@ -1,8 +1,5 @@
-use Rattle.std.proofs.Common.{◌≡◌, ◌+◌, ◌++◌, ◌∷◌, ℕ, List, [], ap, length, arith, ◌∙◌, length-append}
+use Rattle.announcement_train.proofs.Prelude.{◌≡◌, ◌+◌, ◌++◌, ◌∷◌, ℕ, List, [], ap, length, arith, ◌∙◌, length-append, number-length, structure, service_ad}
 use Rattle.bcast_base.specs.Encoding.{number}
-use Rattle.bcast_base.proofs.Citable.{number-length}
-use Rattle.ltv_codec.specs.Layout.{structure}
-use Rattle.announcement_train.specs.Layout.{service_ad}
 use Rattle.announcement_train.proofs.train.service_begun.Goals as goal
 
 laid : (uuid count : ℕ) (content : List ℕ) → length content ≡ count → (count + 3) ∷ 22 ∷ (number 2 uuid ++ content) ≡ structure (service_ad uuid content)

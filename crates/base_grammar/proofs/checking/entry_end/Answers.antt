@@ -1,5 +1,4 @@
-use Rattle.std.proofs.Common.{arith}
-use Rattle.base_grammar.proofs.Prelude.{err_from_is_err_and}
+use Rattle.base_grammar.proofs.Prelude.{err_from_is_err_and, arith}
 use Rattle.base_grammar.proofs.Checks.{entry_unindexed, entry_unread, entry_passed}
 use Rattle.base_grammar.proofs.checking.entry_end.Goals as goal
 

@@ -1,5 +1,4 @@
-use Rattle.std.proofs.Common.{arith}
-use Rattle.base_grammar.proofs.Prelude.{err_from_is_err_and}
+use Rattle.base_grammar.proofs.Prelude.{err_from_is_err_and, arith}
 use Rattle.base_grammar.proofs.Checks.{subgroup_uncounted, subgroup_uncoded, subgroup_unconfigured, subgroup_undescribed, subgroup_ends}
 use Rattle.base_grammar.proofs.checking.subgroup_end.Goals as goal
 

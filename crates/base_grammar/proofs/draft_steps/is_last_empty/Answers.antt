@@ -1,5 +1,4 @@
-use Rattle.std.proofs.Common.{arith}
-use Rattle.base_grammar.proofs.Prelude.{eqb, is_empty_last}
+use Rattle.base_grammar.proofs.Prelude.{eqb, is_empty_last, arith}
 use Rattle.base_grammar.proofs.Drafts.{last_at}
 use Rattle.base_grammar.proofs.draft_steps.is_last_empty.Goals as goal
 

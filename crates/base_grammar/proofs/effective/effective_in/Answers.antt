@@ -1,5 +1,4 @@
-use Rattle.std.proofs.Common.{arith}
-use Rattle.base_grammar.proofs.Prelude.{is_lc3}
+use Rattle.base_grammar.proofs.Prelude.{is_lc3, arith}
 use Rattle.base_grammar.proofs.Places.{fits_at, found_fits}
 use Rattle.base_grammar.proofs.effective.effective_in.Goals as goal
 

@@ -1,5 +1,4 @@
-use Rattle.base_grammar.proofs.Prelude.{arith, ap, sym, subst, ◌∙◌, BaseIs, endpoint}
-use Rattle.std.specs.Result.{result_err}
+use Rattle.base_grammar.proofs.Prelude.{arith, ap, sym, subst, ◌∙◌, BaseIs, endpoint, result_err}
 use Rattle.base_grammar.proofs.Encoded.{parts_are, parts_too_long}
 use Rattle.base_grammar.proofs.parts.encode_parts.Goals as goal
 

@@ -1,5 +1,4 @@
-use Rattle.std.proofs.Common.{arith}
-use Rattle.base_grammar.proofs.Prelude.{indices}
+use Rattle.base_grammar.proofs.Prelude.{indices, arith}
 use Rattle.base_grammar.proofs.Loops.{entering_next, entering_failed, entering_done}
 use Rattle.base_grammar.proofs.reading.entries_of.Goals as goal
 

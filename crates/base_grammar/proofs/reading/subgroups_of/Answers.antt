@@ -1,4 +1,4 @@
-use Rattle.std.proofs.Common.{arith}
+use Rattle.base_grammar.proofs.Prelude.{arith}
 use Rattle.base_grammar.proofs.Loops.{grouping_next, grouping_failed, grouping_done}
 use Rattle.base_grammar.proofs.reading.subgroups_of.Goals as goal
 

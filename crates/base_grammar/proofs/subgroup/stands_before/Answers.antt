@@ -1,4 +1,4 @@
-use Rattle.std.proofs.Common.{arith}
+use Rattle.base_grammar.proofs.Prelude.{arith}
 use Rattle.base_grammar.proofs.Indices.{stands-both}
 use Rattle.base_grammar.proofs.subgroup.stands_before.Goals as goal
 

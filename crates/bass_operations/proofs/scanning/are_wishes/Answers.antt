@@ -1,5 +1,4 @@
-use Rattle.std.proofs.Common.{arith}
-use Rattle.bass_operations.proofs.Prelude.{◌∙◌}
+use Rattle.bass_operations.proofs.Prelude.{◌∙◌, arith}
 use Rattle.bass_operations.proofs.Loops.{are_next, are_short, are_end}
 use Rattle.bass_operations.proofs.scanning.are_wishes.Goals as goal
 

@@ -1,5 +1,5 @@
+use Rattle.delegator_control.proofs.Prelude.{strip_suffix_is}
 use Rattle.std.proofs.lemmas.Bool.Decides.{Decides-eqb}
-use Rattle.std.proofs.lemmas.Slice.Eq.{strip_suffix_is}
 use Rattle.delegator_control.proofs.Apart.{never_stripped}
 use Rattle.delegator_control.proofs.values.ends_counted.Goals as goal
 

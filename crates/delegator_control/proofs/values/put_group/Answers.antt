@@ -1,5 +1,4 @@
-use Rattle.std.proofs.Common.{arith}
-use Rattle.delegator_control.proofs.Prelude.{drop, length, append_assoc, subgroup, groups_laid}
+use Rattle.delegator_control.proofs.Prelude.{drop, length, append_assoc, subgroup, groups_laid, arith}
 use Rattle.delegator_control.proofs.Encoded.{metadata_at, one_laid}
 use Rattle.delegator_control.proofs.values.put_group.Goals as goal
 

@@ -1,5 +1,4 @@
-use Rattle.std.proofs.Common.{arith}
-use Rattle.delegator_control.proofs.Prelude.{◌≡◌, ◌++◌, ◌∙◌, length, laid, fields_of, prefix_fields, received, groups_laid, status_seen}
+use Rattle.delegator_control.proofs.Prelude.{◌≡◌, ◌++◌, ◌∙◌, length, laid, fields_of, prefix_fields, received, groups_laid, status_seen, arith}
 use Rattle.delegator_control.proofs.Encoded.{in_two}
 use Rattle.delegator_control.proofs.values.value_filled.Goals as goal
 

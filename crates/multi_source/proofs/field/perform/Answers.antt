@@ -1,6 +1,4 @@
-use Rattle.std.proofs.Common.{subst, ap, Some}
-use Rattle.multi_source.specs.State.Fields.{Sending}
-use Rattle.multi_source.specs.declared.field.Begun.{Begun}
+use Rattle.multi_source.proofs.Prelude.{subst, ap, Some, Sending, Begun}
 use Rattle.multi_source.proofs.Starting.{performed, tells}
 use Rattle.multi_source.proofs.field.perform.Goals as goal
 

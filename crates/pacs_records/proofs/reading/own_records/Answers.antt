@@ -1,4 +1,4 @@
-use Rattle.std.proofs.Common.{arith}
+use Rattle.pacs_records.proofs.Prelude.{arith}
 use Rattle.pacs_records.proofs.Loop.{never_fails, goes_on, list_done}
 use Rattle.pacs_records.proofs.reading.own_records.Goals as goal
 

@@ -1,5 +1,4 @@
-use Rattle.std.proofs.Common.{arith}
-use Rattle.pacs_records.proofs.Prelude.{err_from_is_err_and, rest_of}
+use Rattle.pacs_records.proofs.Prelude.{err_from_is_err_and, rest_of, arith}
 use Rattle.pacs_records.proofs.Loop.{left_next, left_failed, left_done}
 use Rattle.pacs_records.proofs.reading.records_end.Goals as goal
 

@@ -1,5 +1,4 @@
-use Rattle.std.proofs.Common.{arith}
-use Rattle.receive_state.proofs.Prelude.{err_from_is_err_and}
+use Rattle.receive_state.proofs.Prelude.{err_from_is_err_and, arith}
 use Rattle.receive_state.proofs.Loops.{end_next, end_short, end_done}
 use Rattle.receive_state.proofs.groups.groups_end.Goals as goal
 

@@ -1,6 +1,4 @@
-use Rattle.std.proofs.Common.{arith, ◌+◌, ◌<◌, ◌≤◌, take, ap, ◌∙◌, Some}
-use Rattle.std.proofs.lemmas.List.{take_all}
-use Rattle.receive_state.proofs.Prelude.{◌≡◌, ◌++◌, ◌∷◌, [], List, GroupState, Subgroup, state_of_group}
+use Rattle.receive_state.proofs.Prelude.{◌≡◌, ◌++◌, ◌∷◌, [], List, GroupState, Subgroup, state_of_group, arith, ◌+◌, ◌<◌, ◌≤◌, take, ap, ◌∙◌, Some, take_all}
 use Rattle.receive_state.proofs.Loops.{read_next, read_never, read_end}
 use Rattle.receive_state.proofs.groups.read_groups.Goals as goal
 

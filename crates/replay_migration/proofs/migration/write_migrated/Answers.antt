@@ -1,5 +1,4 @@
-use Rattle.std.proofs.Common.{◌∷◌, [], ◌+◌, drop, take}
-use Rattle.std.proofs.lemmas.List.{take_rest}
+use Rattle.replay_migration.proofs.Prelude.{◌∷◌, [], ◌+◌, drop, take, take_rest}
 use Rattle.std.proofs.lemmas.Result.{err_from_is_err_and, on_err_weaker}
 use Rattle.replay_migration.proofs.Writes.{first_short, second_short, third_short}
 use Rattle.replay_migration.proofs.migration.write_migrated.Goals as goal

@@ -1,5 +1,4 @@
-use Rattle.std.proofs.Common.{◌≡◌, ◌+◌, ◌-◌, ◌∙◌, ap, length, arith}
-use Rattle.bcast_io.specs.TextLines.{text_limit}
+use Rattle.replay_migration.proofs.Prelude.{◌≡◌, ◌+◌, ◌-◌, ◌∙◌, ap, length, arith, text_limit}
 use Rattle.replay_migration.proofs.Lines.{ends, too_long}
 use Rattle.replay_migration.proofs.piece.join.Goals as goal
 

@@ -1,6 +1,4 @@
-use Rattle.std.proofs.Common.{◌∙◌, ap, length}
-use Rattle.bcast_io.specs.TextLines.{newline}
-use Rattle.memchr.specs.Find.{is_byte}
+use Rattle.replay_migration.proofs.Prelude.{◌∙◌, ap, length, newline, is_byte}
 use Rattle.memchr.proofs.lemmas.CallerLemmas.{length-places}
 use Rattle.replay_migration.proofs.piece.lines_ended.Goals as goal
 

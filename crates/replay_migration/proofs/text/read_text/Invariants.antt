@@ -1,7 +1,4 @@
-use Rattle.std.proofs.Common.{◌≡◌, ◌≤◌, ◌-◌, length}
-use Rattle.std.specs.Io.KnownBytes.{Consumes}
-use Rattle.bcast_io.specs.TextLines.{text_limit}
-use Rattle.replay_migration.specs.TextRead.{piece_limit}
+use Rattle.replay_migration.proofs.Prelude.{◌≡◌, ◌≤◌, ◌-◌, length, Consumes, text_limit, piece_limit}
 use Rattle.replay_migration.proofs.text.read_text.Given as goal
 
 abbrev pub invariant-pieces : goal.invariant-pieces

@@ -1,5 +1,4 @@
-use Rattle.std.proofs.Common.{arith}
-use Rattle.base_grammar.proofs.Prelude.{finish_fault, endpoint}
+use Rattle.base_grammar.proofs.Prelude.{finish_fault, endpoint, arith}
 use Rattle.base_grammar.proofs.Drafts.{finish_is}
 use Rattle.base_grammar.proofs.draft.BaseDraft.check.Goals as goal
 

@@ -1,5 +1,4 @@
-use Rattle.std.proofs.Common.{arith}
-use Rattle.base_grammar.proofs.Prelude.{sym, refl, finish_fault, endpoint}
+use Rattle.base_grammar.proofs.Prelude.{sym, refl, finish_fault, endpoint, arith}
 use Rattle.base_grammar.proofs.Drafts.{draft_done, finish_is}
 use Rattle.base_grammar.proofs.draft.BaseDraft.finish.Goals as goal
 

@@ -1,5 +1,4 @@
-use Rattle.delegator_control.proofs.Prelude.{◌≡◌, Some, sym, ◌∙◌, ap, arith, base_of}
-use Rattle.std.proofs.lemmas.Slice.Eq.{bytes_eq-Decides}
+use Rattle.delegator_control.proofs.Prelude.{◌≡◌, Some, sym, ◌∙◌, ap, arith, base_of, bytes_eq-Decides}
 use Rattle.delegator_control.proofs.kept_base.KeptBase.take.Goals as goal
 
 pub returns-in-Some : goal.returns-in-Some

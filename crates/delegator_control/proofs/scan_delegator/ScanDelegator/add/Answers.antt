@@ -1,5 +1,4 @@
-use Rattle.std.proofs.Common.{arith}
-use Rattle.delegator_control.proofs.Prelude.{ℕ, ◌≡◌, ◌<◌, ◌∙◌, ap, sym, subst, Option, Some, IfSome, Add, empty_slot, entry_of, Machine, machine, value_at, Stay, written_value}
+use Rattle.delegator_control.proofs.Prelude.{ℕ, ◌≡◌, ◌<◌, ◌∙◌, ap, sym, subst, Option, Some, IfSome, Add, empty_slot, entry_of, Machine, machine, value_at, Stay, written_value, arith}
 use Rattle.delegator_history.specs.declared.replies.Cause.TheVariants as causes
 use Rattle.delegator_control.proofs.Serving.{refused, add_known, add_full, add_refused, add_accepted, puts_no, puts_yes, same_rest}
 use Rattle.delegator_control.proofs.scan_delegator.ScanDelegator.add.Goals as goal

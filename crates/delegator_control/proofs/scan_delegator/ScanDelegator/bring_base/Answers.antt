@@ -1,5 +1,4 @@
-use Rattle.std.proofs.Common.{arith}
-use Rattle.delegator_control.proofs.Prelude.{on_err_weaker, is_ok, base_of, base_in, train_of, machine}
+use Rattle.delegator_control.proofs.Prelude.{on_err_weaker, is_ok, base_of, base_in, train_of, machine, arith}
 use Rattle.delegator_control.proofs.Wanting.{is_read, of_base, on_any_err}
 use Rattle.delegator_control.proofs.scan_delegator.ScanDelegator.bring_base.Goals as goal
 

@@ -1,5 +1,4 @@
-use Rattle.std.proofs.Common.{arith}
-use Rattle.delegator_control.proofs.Prelude.{first_candidates, offset_of, taken, none_set, train_of}
+use Rattle.delegator_control.proofs.Prelude.{first_candidates, offset_of, taken, none_set, train_of, arith}
 use Rattle.delegator_control.proofs.Followed.{by_none, by_some}
 use Rattle.delegator_control.proofs.scan_delegator.ScanDelegator.bring_group.Goals as goal
 

@@ -1,5 +1,4 @@
-use Rattle.std.proofs.Common.{arith}
-use Rattle.delegator_control.proofs.Prelude.{◌<◌, ◌∙◌, ap, sym, subst, Machine, machine}
+use Rattle.delegator_control.proofs.Prelude.{◌<◌, ◌∙◌, ap, sym, subst, Machine, machine, arith}
 use Rattle.delegator_choices.specs.State.Brings.{outcome_of}
 use Rattle.delegator_control.proofs.Followed.{IsNear, is_near, slot_of_outcome}
 use Rattle.delegator_control.proofs.Standing.{moved_nothing}

@@ -1,5 +1,4 @@
-use Rattle.std.proofs.Common.{arith}
-use Rattle.delegator_control.proofs.Prelude.{◌∙◌, ap, sym, Snapshot, slot_of, placed, Machine, machine, place_by}
+use Rattle.delegator_control.proofs.Prelude.{◌∙◌, ap, sym, Snapshot, slot_of, placed, Machine, machine, place_by, arith}
 use Rattle.delegator_control.proofs.Changes.{moves_below}
 use Rattle.delegator_control.proofs.scan_delegator.ScanDelegator.go.Goals as goal
 

@@ -1,5 +1,4 @@
-use Rattle.std.proofs.Common.{arith}
-use Rattle.delegator_control.proofs.Prelude.{machine, moved}
+use Rattle.delegator_control.proofs.Prelude.{machine, moved, arith}
 use Rattle.delegator_control.proofs.Standing.{control_left, control_leaves, control_stays}
 use Rattle.delegator_control.proofs.Wanting.{on_any_err}
 use Rattle.delegator_control.proofs.scan_delegator.ScanDelegator.hear_control.Goals as goal

@@ -1,5 +1,4 @@
-use Rattle.std.proofs.Common.{arith}
-use Rattle.delegator_control.proofs.Prelude.{◌∙◌, sym, Modify, Machine, machine}
+use Rattle.delegator_control.proofs.Prelude.{◌∙◌, sym, Modify, Machine, machine, arith}
 use Rattle.delegator_history.specs.declared.replies.Cause.TheVariants as causes
 use Rattle.delegator_control.proofs.Serving.{refused, modify_unknown}
 use Rattle.delegator_control.proofs.scan_delegator.ScanDelegator.modify.Goals as goal

@@ -1,5 +1,4 @@
-use Rattle.std.proofs.Common.{arith}
-use Rattle.delegator_control.proofs.Prelude.{◌≡◌, ◌<◌, ◌∙◌, length, get_or, ap, sym, subst, Some, None, get_or_read_under, Snapshot, entry_at, slot_of, modified, place_given, placed, value_at, held_slot, Machine, machine, place_by, written_value}
+use Rattle.delegator_control.proofs.Prelude.{◌≡◌, ◌<◌, ◌∙◌, length, get_or, ap, sym, subst, Some, None, get_or_read_under, Snapshot, entry_at, slot_of, modified, place_given, placed, value_at, held_slot, Machine, machine, place_by, written_value, arith}
 use Rattle.delegator_choices.specs.State.Slots.{entry}
 use Rattle.delegator_control.proofs.Changes.{moves_below, none_some}
 use Rattle.delegator_control.proofs.Serving.{wanted_by, modify_refused, modify_accepted, puts_no, puts_yes, same_rest}

@@ -1,5 +1,4 @@
-use Rattle.std.proofs.Common.{arith}
-use Rattle.delegator_control.proofs.Prelude.{◌≡◌, ◌<◌, ◌∙◌, sym, subst, Some, on_ok_weaker, append-nil, slot_of, Machine, machine, status_seen}
+use Rattle.delegator_control.proofs.Prelude.{◌≡◌, ◌<◌, ◌∙◌, sym, subst, Some, on_ok_weaker, append-nil, slot_of, Machine, machine, status_seen, arith}
 use Rattle.delegator_control.proofs.Changes.{moved_none, note_done}
 use Rattle.delegator_control.proofs.scan_delegator.ScanDelegator.note_move.Goals as goal
 

@@ -1,5 +1,4 @@
-use Rattle.std.proofs.Common.{arith}
-use Rattle.delegator_control.proofs.Prelude.{◌≡◌, ◌<◌, sym, subst, None, get_or, option_map, get_or_read_under, on_ok_weaker, change, received, value, Machine, machine, status_seen}
+use Rattle.delegator_control.proofs.Prelude.{◌≡◌, ◌<◌, sym, subst, None, get_or, option_map, get_or_read_under, on_ok_weaker, change, received, value, Machine, machine, status_seen, arith}
 use Rattle.delegator_control.proofs.scan_delegator.ScanDelegator.note_status.Goals as goal
 
 pub returns-clause-ok : goal.returns-clause-ok

@@ -1,5 +1,4 @@
-use Rattle.std.proofs.Common.{arith}
-use Rattle.delegator_control.proofs.Prelude.{◌≡◌, ◌<◌, List, ℕ, sym, subst, None, get_or, option_map, IfOk, get_or_read_under, received, value, Machine, machine}
+use Rattle.delegator_control.proofs.Prelude.{◌≡◌, ◌<◌, List, ℕ, sym, subst, None, get_or, option_map, IfOk, get_or_read_under, received, value, Machine, machine, arith}
 use Rattle.delegator_control.proofs.scan_delegator.ScanDelegator.read_state.Goals as goal
 
 pub returns-clause-value : goal.returns-clause-value

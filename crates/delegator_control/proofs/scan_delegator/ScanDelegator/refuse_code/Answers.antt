@@ -1,5 +1,4 @@
-use Rattle.std.proofs.Common.{arith}
-use Rattle.delegator_control.proofs.Prelude.{reply_by, machine}
+use Rattle.delegator_control.proofs.Prelude.{reply_by, machine, arith}
 use Rattle.delegator_control.proofs.Serving.{code_cause}
 use Rattle.delegator_control.proofs.scan_delegator.ScanDelegator.refuse_code.Goals as goal
 

@@ -1,5 +1,4 @@
-use Rattle.std.proofs.Common.{arith}
-use Rattle.delegator_control.proofs.Prelude.{ℕ, ◌≡◌, ◌<◌, ◌∙◌, ap, sym, subst, Option, Some, true, false, IfSome, is_none, err_from_is_err_and, Remove, slot_with, held_slot, Machine, machine, status_at}
+use Rattle.delegator_control.proofs.Prelude.{ℕ, ◌≡◌, ◌<◌, ◌∙◌, ap, sym, subst, Option, Some, true, false, IfSome, is_none, err_from_is_err_and, Remove, slot_with, held_slot, Machine, machine, status_at, arith}
 use Rattle.delegator_history.specs.declared.replies.Cause.TheVariants as causes
 use Rattle.delegator_control.proofs.Apart.{emptied, one}
 use Rattle.delegator_control.proofs.Serving.{refused, remove_unknown, remove_synced, remove_accepted}

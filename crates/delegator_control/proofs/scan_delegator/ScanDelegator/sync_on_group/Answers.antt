@@ -1,5 +1,4 @@
-use Rattle.std.proofs.Common.{arith}
-use Rattle.delegator_control.proofs.Prelude.{◌++◌, ◌∙◌, ap, sym, Some, None, Snapshot, on_group, slot_of, placed, Machine, machine}
+use Rattle.delegator_control.proofs.Prelude.{◌++◌, ◌∙◌, ap, sym, Some, None, Snapshot, on_group, slot_of, placed, Machine, machine, arith}
 use Rattle.delegator_control.proofs.Changes.{none_some, tuned_changes}
 use Rattle.delegator_control.proofs.scan_delegator.ScanDelegator.sync_on_group.Goals as goal
 

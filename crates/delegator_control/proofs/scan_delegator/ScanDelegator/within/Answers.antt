@@ -1,5 +1,4 @@
-use Rattle.std.proofs.Common.{arith}
-use Rattle.delegator_control.proofs.Prelude.{◌∙◌, ap, length, None, vec_len, length-replicate}
+use Rattle.delegator_control.proofs.Prelude.{◌∙◌, ap, length, None, vec_len, length-replicate, arith}
 use Rattle.delegator_control.proofs.Standing.{stands_new}
 use Rattle.delegator_control.proofs.scan_delegator.ScanDelegator.within.Goals as goal
 

@@ -1,7 +1,4 @@
-use Rattle.std.proofs.Common.{ap, refl, ◌∙◌}
-use Rattle.radio_schedule.specs.OnAir.{silence}
-use Rattle.source_machine.specs.Calls.{Setup}
-use Rattle.source_machine.specs.Setups.{Configured, configured, started}
+use Rattle.multi_source.proofs.Prelude.{ap, refl, ◌∙◌, silence, Setup, Configured, configured, started}
 use Rattle.multi_source.proofs.Starting.{starts}
 use Rattle.multi_source.proofs.field.Field.start.Goals as goal
 

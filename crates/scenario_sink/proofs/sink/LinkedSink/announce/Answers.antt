@@ -1,5 +1,4 @@
-use Rattle.std.proofs.Common.{arith}
-use Rattle.scenario_sink.proofs.Prelude.{◌++◌, ◌∙◌, refl, sym, ap, subst, err_from_is_err_and, answer_of, outcome_by, snapshot_in, sink_line, train_line, train_words, IsSink}
+use Rattle.scenario_sink.proofs.Prelude.{◌++◌, ◌∙◌, refl, sym, ap, subst, err_from_is_err_and, answer_of, outcome_by, snapshot_in, sink_line, train_line, train_words, IsSink, arith}
 use Rattle.scenario_sink.proofs.Printing.{two_put}
 use Rattle.scenario_sink.proofs.Trained.{after_train, announced_train}
 use Rattle.scenario_sink.proofs.sink.LinkedSink.announce.Goals as goal

@@ -1,5 +1,4 @@
-use Rattle.std.proofs.Common.{arith}
-use Rattle.scenario_sink.proofs.Prelude.{None, sym, ◌∙◌, is_joined}
+use Rattle.scenario_sink.proofs.Prelude.{None, sym, ◌∙◌, is_joined, arith}
 use Rattle.scenario_sink.proofs.Calls.{parts_one}
 use Rattle.scenario_sink.proofs.Turning.{no_link, past_link}
 use Rattle.scenario_sink.proofs.sink.LinkedSink.apart.Goals as goal

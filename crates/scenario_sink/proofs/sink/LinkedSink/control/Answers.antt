@@ -1,5 +1,4 @@
-use Rattle.std.proofs.Common.{arith}
-use Rattle.scenario_sink.proofs.Prelude.{◌++◌, refl, ◌∙◌, ap, err_from_is_err_and, Snapshot, stepped, control_words, sink_line}
+use Rattle.scenario_sink.proofs.Prelude.{◌++◌, refl, ◌∙◌, ap, err_from_is_err_and, Snapshot, stepped, control_words, sink_line, arith}
 use Rattle.delegator_history.specs.Controls.{control_heard}
 use Rattle.delegator_history.specs.States.{control_heard as controlled}
 use Rattle.scenario_sink.proofs.Printing.{one_put}

@@ -1,5 +1,4 @@
-use Rattle.std.proofs.Common.{arith}
-use Rattle.scenario_sink.proofs.Prelude.{◌≡◌, ◌++◌, refl, ◌∙◌, ap, err_from_is_err_and, forged_line}
+use Rattle.scenario_sink.proofs.Prelude.{◌≡◌, ◌++◌, refl, ◌∙◌, ap, err_from_is_err_and, forged_line, arith}
 use Rattle.assistant_machine.specs.Answers.{answer_of}
 use Rattle.scenario_sink.proofs.Calls.{Here, forges, here, its_answer, its_assistant}
 use Rattle.scenario_sink.proofs.Forging.{its_answer as the_answer}

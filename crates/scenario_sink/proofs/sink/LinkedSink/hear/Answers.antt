@@ -1,5 +1,4 @@
-use Rattle.std.proofs.Common.{arith}
-use Rattle.scenario_sink.proofs.Prelude.{hear, hearing_of}
+use Rattle.scenario_sink.proofs.Prelude.{hear, hearing_of, arith}
 use Rattle.scenario_sink.proofs.Stands.{receives}
 use Rattle.scenario_sink.proofs.sink.LinkedSink.hear.Goals as goal
 

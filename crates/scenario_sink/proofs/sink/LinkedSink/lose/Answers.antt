@@ -1,5 +1,4 @@
-use Rattle.std.proofs.Common.{arith}
-use Rattle.scenario_sink.proofs.Prelude.{refl, ◌∙◌, err_from_is_err_and, train_lost, stepped}
+use Rattle.scenario_sink.proofs.Prelude.{refl, ◌∙◌, err_from_is_err_and, train_lost, stepped, arith}
 use Rattle.scenario_sink.proofs.Printing.{one_put}
 use Rattle.scenario_sink.proofs.Stands.{steps}
 use Rattle.scenario_sink.proofs.sink.LinkedSink.lose.Goals as goal

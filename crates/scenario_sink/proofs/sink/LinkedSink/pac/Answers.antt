@@ -1,5 +1,4 @@
-use Rattle.std.proofs.Common.{arith}
-use Rattle.scenario_sink.proofs.Prelude.{◌∷◌, ◌++◌, [], length, refl, sym, subst, IsOctets, record_added, Halves, record_of, snapshot_in, Stands}
+use Rattle.scenario_sink.proofs.Prelude.{◌∷◌, ◌++◌, [], length, refl, sym, subst, IsOctets, record_added, Halves, record_of, snapshot_in, Stands, arith}
 use Rattle.ltv_codec.proofs.Citable.{are_read}
 use Rattle.pacs_records.specs.Layout.{value}
 use Rattle.scenario_sink.proofs.Recorded.{has_room, no_room}

@@ -1,5 +1,4 @@
-use Rattle.std.proofs.Common.{arith}
-use Rattle.scenario_sink.proofs.Prelude.{err_from_is_err_and, asked, stayed}
+use Rattle.scenario_sink.proofs.Prelude.{err_from_is_err_and, asked, stayed, arith}
 use Rattle.scenario_sink.proofs.Histories.{first_joined}
 use Rattle.scenario_sink.proofs.sink.LinkedSink.put_copy.Goals as goal
 

@@ -1,5 +1,4 @@
-use Rattle.std.proofs.Common.{arith}
-use Rattle.scenario_sink.proofs.Prelude.{err_from_is_err_and}
+use Rattle.scenario_sink.proofs.Prelude.{err_from_is_err_and, arith}
 use Rattle.scenario_sink.proofs.Histories.{lives_stayed}
 use Rattle.scenario_sink.proofs.sink.LinkedSink.show.Goals as goal
 

@@ -1,5 +1,4 @@
-use Rattle.std.proofs.Common.{arith}
-use Rattle.scenario_sink.proofs.Prelude.{err_from_is_err_and, is_joined}
+use Rattle.scenario_sink.proofs.Prelude.{err_from_is_err_and, is_joined, arith}
 use Rattle.scenario_sink.proofs.Histories.{lives_stayed}
 use Rattle.scenario_sink.proofs.Turning.{no_link, past_link}
 use Rattle.scenario_sink.proofs.sink.LinkedSink.show_on.Goals as goal

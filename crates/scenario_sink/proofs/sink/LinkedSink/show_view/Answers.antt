@@ -1,5 +1,4 @@
-use Rattle.std.proofs.Common.{arith}
-use Rattle.scenario_sink.proofs.Prelude.{codes, decimal, value_line}
+use Rattle.scenario_sink.proofs.Prelude.{codes, decimal, value_line, arith}
 use Rattle.scenario_sink.proofs.Shown.{with_value}
 use Rattle.scenario_sink.proofs.sink.LinkedSink.show_view.Goals as goal
 

@@ -1,5 +1,4 @@
-use Rattle.std.proofs.Common.{arith}
-use Rattle.scenario_sink.proofs.Prelude.{◌∷◌, slice_get, sym, ◌∙◌, is_none, err_from_is_err_and, is_joined, notices_waiting, tell_line, label_of}
+use Rattle.scenario_sink.proofs.Prelude.{◌∷◌, slice_get, sym, ◌∙◌, is_none, err_from_is_err_and, is_joined, notices_waiting, tell_line, label_of, arith}
 use Rattle.sink_history.specs.Calls as calls
 use Rattle.scenario_sink.proofs.Turning.{idle_refusal, no_link, some_wait, turned}
 use Rattle.scenario_sink.proofs.sink.LinkedSink.tell.Goals as goal

@@ -1,5 +1,4 @@
-use Rattle.std.proofs.Common.{arith}
-use Rattle.scenario_sink.proofs.Prelude.{tick}
+use Rattle.scenario_sink.proofs.Prelude.{tick, arith}
 use Rattle.scenario_sink.proofs.Stands.{receives}
 use Rattle.scenario_sink.proofs.sink.LinkedSink.tick.Goals as goal
 

@@ -1,5 +1,4 @@
-use Rattle.std.proofs.Common.{arith}
-use Rattle.scenario_sink.proofs.Prelude.{◌++◌, ◌∙◌, refl, ap, err_from_is_err_and, sink_line, train_words}
+use Rattle.scenario_sink.proofs.Prelude.{◌++◌, ◌∙◌, refl, ap, err_from_is_err_and, sink_line, train_words, arith}
 use Rattle.scenario_sink.proofs.Printing.{one_put}
 use Rattle.scenario_sink.proofs.sink.LinkedSink.train.Goals as goal
 

@@ -1,5 +1,4 @@
-use Rattle.std.proofs.Common.{arith}
-use Rattle.scenario_sink.proofs.Prelude.{hearing_of}
+use Rattle.scenario_sink.proofs.Prelude.{hearing_of, arith}
 use Rattle.scenario_sink.proofs.sink.LinkedSink.would_answer.Goals as goal
 
 pub returns : goal.returns
